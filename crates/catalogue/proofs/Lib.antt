@@ -1,0 +1,17 @@
+pub mod Degrees
+pub mod Differing
+pub mod Entries
+pub mod Holders
+pub mod Interior
+pub mod Mosaics
+pub mod OneTile
+pub mod Places
+pub mod Presence
+pub mod PresentHolders
+pub mod Reading
+pub mod Rising
+pub mod Rows
+pub mod Sampled
+pub mod SeamCounts
+pub mod Sharing
+pub mod Sought

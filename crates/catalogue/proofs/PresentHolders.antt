@@ -1,0 +1,113 @@
+-- The corners of the present tiles that hold a point, in order.
+use Rattle.std.proofs.Common.{◌≡◌, ℕ, ◌+◌, ◌<◌, ◌↔◌, Bool, true, false, cond, ◌&&◌, ◌||◌, IsTrue, List, [], ◌∷◌, length, map, get_or, drop, refl, sym, ◌∙◌, ap, ap₂, subst}
+use Rattle.std.specs.Prelude.{Contains}
+use Rattle.std.specs.List.{filter}
+use Rattle.std.proofs.lemmas.List.{drop_more}
+use Rattle.std.proofs.lemmas.Bool.{and_parts, and_from, false≢true, false_from_ne_true, or_left}
+use Rattle.lattice.specs.Corners.{Place, is_before, same_place}
+use Rattle.lattice.specs.Lattice.{Holds, holds}
+use Rattle.lattice.specs.Mosaic.{Tile, Mosaic, IsMosaic, is_present}
+use Rattle.lattice.specs.declared.point.Point.{Point}
+use Rattle.lattice.proofs.Samples.{holds_is}
+use Rattle.catalogue.specs.Tiles.{corners_of}
+use Rattle.catalogue.specs.Seams.{is_first, present_holders}
+use Rattle.catalogue.proofs.Places.{same_says, same_from, before_not_back}
+use Rattle.catalogue.proofs.Rising.{AllAfter, Rising, Adjacent, rising_from, rising-filter}
+use Rattle.catalogue.proofs.Mosaics.{corner_of}
+use Rattle.catalogue.proofs.Presence.{is_listed, listed_from, listed_says, present-listed, corners_rise}
+use Rattle.catalogue.proofs.OneTile.{corner_is}
+use Rattle.catalogue.proofs.Holders.{itself, not_listed, listed_after}
+
+pub same_tests : (a b : Bool) → (a ≡ true → b ≡ true) → (b ≡ true → a ≡ true) → a ≡ b
+same_tests true b there back = sym (there refl)
+same_tests false true there back = back refl
+same_tests false false there back = refl
+
+listed_self : (x : Place) (xs : List Place) → is_listed x (x ∷ xs) ≡ true
+listed_self x xs = or_left (same_place x x) (is_listed x xs) (same_from x x refl)
+
+listed_tail : (x c : Place) (xs : List Place) → same_place x c ≡ false → is_listed c (x ∷ xs) ≡ true → is_listed c xs ≡ true
+listed_tail x c xs apart listed = sym (ap (λ b. b || is_listed c xs) apart) ∙ listed
+
+-- lists that rise with the same members are the same
+pub same_rising : (xs ys : List Place) → Rising itself xs → Rising itself ys → ((c : Place) → is_listed c xs ≡ is_listed c ys) → xs ≡ ys
+same_rising [] [] xr yr same = refl
+same_rising [] (y ∷ ys) xr yr same = absurd (false≢true (same y ∙ listed_self y ys))
+same_rising (x ∷ xs) [] xr yr same = absurd (false≢true (sym (same x) ∙ listed_self x xs))
+same_rising (x ∷ xs) (y ∷ ys) xr yr same =
+    let heads : x ≡ y = head (same_place x y) refl (same_place y x) refl in
+    ap₂ (λ (z : Place) (zs : List Place). z ∷ zs) heads (same_rising xs ys xr.1 yr.1 (λ c. tail c heads (same_place x c) refl))
+  where
+    head : (b : Bool) → same_place x y ≡ b → (d : Bool) → same_place y x ≡ d → x ≡ y
+    head true e d f = same_says x y e
+    head false e true f = sym (same_says y x f)
+    head false e false f =
+        let y_later : IsTrue (is_before x y) = listed_after x y xs xr.0 (listed_tail x y xs e (same y ∙ listed_self y ys)) in
+        let x_later : IsTrue (is_before y x) = listed_after y x ys yr.0 (listed_tail y x ys f (sym (same x) ∙ listed_self x xs)) in
+        absurd (false≢true (sym (before_not_back x y y_later) ∙ x_later))
+
+    tail : (c : Place) → x ≡ y → (b : Bool) → same_place x c ≡ b → is_listed c xs ≡ is_listed c ys
+    tail c heads true e =
+        let is : x ≡ c = same_says x c e in
+        not_listed c xs (subst (λ d. AllAfter itself d xs) is xr.0) ∙ sym (not_listed c ys (subst (λ d. AllAfter itself d ys) (sym heads ∙ is) yr.0))
+    tail c heads false e =
+        let apart : same_place y c ≡ false = ap (λ d. same_place d c) (sym heads) ∙ e in
+        sym (ap (λ b. b || is_listed c xs) e) ∙ same c ∙ ap (λ b. b || is_listed c ys) apart
+
+pub listed-filter : (f : Place → Bool) (c : Place) (cs : List Place) → is_listed c (filter f cs) ≡ (is_listed c cs && f c)
+listed-filter f c [] = refl
+listed-filter f c (d ∷ ds) = by (f d) refl (same_place d c) refl (listed-filter f c ds)
+  where
+    by : (b : Bool) → f d ≡ b → (s : Bool) → same_place d c ≡ s → is_listed c (filter f ds) ≡ (is_listed c ds && f c)
+        → is_listed c (cond b (d ∷ filter f ds) (filter f ds)) ≡ ((s || is_listed c ds) && f c)
+    by true fd true is rest = rw is (sym (ap f (sym (same_says d c is)) ∙ fd))
+    by true fd false apart rest = rw apart rest
+    by false fd true is rest =
+        let not_here : f c ≡ false = ap f (sym (same_says d c is)) ∙ fd in
+        rest ∙ rw not_here (and_none (is_listed c ds))
+      where
+        and_none : (a : Bool) → (a && false) ≡ false
+        and_none true = refl
+        and_none false = refl
+    by false fd false apart rest = rest
+
+map-filter : (f : Place → Bool) (tiles : List Tile) → map corner_of (filter (λ (t : Tile). f t.corner) tiles) ≡ filter f (map corner_of tiles)
+map-filter f [] = refl
+map-filter f (t ∷ ts) = by (f t.corner) (map-filter f ts)
+  where
+    by : (b : Bool) → map corner_of (filter (λ (x : Tile). f x.corner) ts) ≡ filter f (map corner_of ts)
+        → map corner_of (cond b (t ∷ filter (λ (x : Tile). f x.corner) ts) (filter (λ (x : Tile). f x.corner) ts)) ≡ cond b (t.corner ∷ filter f (map corner_of ts)) (filter f (map corner_of ts))
+    by true rest = ap (λ (cs : List Place). t.corner ∷ cs) rest
+    by false rest = rest
+
+pub holders_filtered : (m : Mosaic) (p : Point) → present_holders m p ≡ filter (λ c. holds m.side c p) (corners_of m)
+holders_filtered m p = map-filter (λ c. holds m.side c p) m.tiles
+
+-- of the corners that hold the point, those whose tile is present
+pub present_holders_are : (m : Mosaic) (p : Point) (cs : List Place) → IsMosaic m → Adjacent itself cs → ((c : Place) → Contains cs c ↔ Holds m.side c p)
+    → present_holders m p ≡ filter (λ c. is_present m c) cs
+present_holders_are m p cs valid in_order exactly =
+    holders_filtered m p
+    ∙ same_rising (filter (λ c. holds m.side c p) (corners_of m)) (filter (λ c. is_present m c) cs)
+    (rising-filter itself (λ c. holds m.side c p) (corners_of m) (corners_rise m valid))
+    (rising-filter itself (λ c. is_present m c) cs (rising_from itself cs in_order))
+    (λ c. listed-filter (λ d. holds m.side d p) c (corners_of m)
+    ∙ same_tests (is_listed c (corners_of m) && holds m.side c p) (is_listed c cs && is_present m c)
+    (λ both.
+    let parts = and_parts (is_listed c (corners_of m)) (holds m.side c p) both in
+    let corner = corner_is m c valid (listed_says c (corners_of m) parts.0) in
+    and_from (is_listed c cs) (is_present m c) (listed_from c cs ((exactly c).1 ((holds_is m.side c p valid.side_low corner).0 parts.1))) (present-listed c m.tiles ∙ parts.0))
+    (λ both.
+    let parts = and_parts (is_listed c cs) (is_present m c) both in
+    let held = (exactly c).0 (listed_says c cs parts.0) in
+    and_from (is_listed c (corners_of m)) (holds m.side c p) (sym (present-listed c m.tiles) ∙ parts.1) ((holds_is m.side c p valid.side_low held.corner).1 held))
+    ∙ sym (listed-filter (λ d. is_present m d) c cs))
+
+-- the first of them, one corner further
+pub first_step : (f : Place → Bool) (c h : Place) (cs : List Place) (i : ℕ) → i < length cs → h ≡ get_or cs i h
+    → is_first c (filter f (drop i cs)) ≡ cond (f h) (same_place h c) (is_first c (filter f (drop (i + 1) cs)))
+first_step f c h cs i within is = ap (λ (l : List Place). is_first c (filter f l)) (drop_more cs i h within ∙ ap (λ (x : Place). x ∷ drop (i + 1) cs) (sym is)) ∙ by (f h)
+  where
+    by : (b : Bool) → is_first c (cond b (h ∷ filter f (drop (i + 1) cs)) (filter f (drop (i + 1) cs))) ≡ cond b (same_place h c) (is_first c (filter f (drop (i + 1) cs)))
+    by true = refl
+    by false = refl

@@ -1,0 +1,52 @@
+-- Lists whose corners rise, by recursion: what the definitions say by places.
+use Rattle.std.proofs.Common.{◌≡◌, ℕ, zero, suc, ◌+◌, ◌<◌, Bool, true, false, cond, not, IsTrue, List, [], ◌∷◌, length, get_or, refl, sym, ◌∙◌, ap, arith}
+use native.Mathlib.Numerals.{unary_clauses}
+use Rattle.std.specs.List.{AllAdjacentBelow, filter}
+use Rattle.std.proofs.lemmas.Bool.{cases_Bool}
+use Rattle.lattice.specs.Corners.{Place, is_before, same_place}
+use Rattle.catalogue.proofs.Places.{before_trans}
+
+module _ {X : Type 0} (key : X → Place) where
+  -- each of the list stands after the place
+  abbrev pub AllAfter : Place → List X → Type 0
+  AllAfter c [] = Unit {0}
+  AllAfter c (x ∷ xs) = IsTrue (is_before c (key x)) × AllAfter c xs
+
+  abbrev pub Rising : List X → Type 0
+  Rising [] = Unit {0}
+  Rising (x ∷ xs) = AllAfter (key x) xs × Rising xs
+
+  abbrev pub Adjacent : List X → Type 0
+  Adjacent xs = AllAdjacentBelow (λ x y. IsTrue (is_before (key x) (key y))) xs (length xs)
+
+  pub after_later : (a b : Place) (xs : List X) → IsTrue (is_before a b) → AllAfter b xs → AllAfter a xs
+  after_later a b [] ab h = tt
+  after_later a b (x ∷ xs) ab h = (before_trans a b (key x) ab h.0, after_later a b xs ab h.1)
+
+  pub rising_from : (xs : List X) → Adjacent xs → Rising xs
+  rising_from [] h = tt
+  rising_from (x ∷ []) h = (tt, tt)
+  rising_from (x ∷ (y ∷ ys)) h =
+      let rest : Rising (y ∷ ys) = rising_from (y ∷ ys) (λ k d below. let later = h (suc k) d (omega arith) in simp unary_clauses (simp unary_clauses at later)) in
+      let first : IsTrue (is_before (key x) (key y)) = h 0 x (omega arith) in
+      ((first, after_later (key x) (key y) ys first rest.0), rest)
+
+  pub adjacent_from : (xs : List X) → Rising xs → Adjacent xs
+  adjacent_from [] h k d below = absurd (omega arith)
+  adjacent_from (x ∷ []) h k d below = absurd (omega arith)
+  adjacent_from (x ∷ (y ∷ ys)) h zero d below = h.0.0
+  adjacent_from (x ∷ (y ∷ ys)) h (suc k) d below = let earlier = adjacent_from (y ∷ ys) h.1 k d (omega arith) in simp unary_clauses (simp unary_clauses at earlier)
+
+  pub after-filter : (p : X → Bool) (c : Place) (xs : List X) → AllAfter c xs → AllAfter c (filter p xs)
+  after-filter p c [] h = tt
+  after-filter p c (x ∷ xs) h = elim (p x) as (λ b. AllAfter c (cond b (x ∷ filter p xs) (filter p xs))) [
+    | true ↦ (h.0, after-filter p c xs h.1)
+    | false ↦ after-filter p c xs h.1
+  ]
+
+  pub rising-filter : (p : X → Bool) (xs : List X) → Rising xs → Rising (filter p xs)
+  rising-filter p [] h = tt
+  rising-filter p (x ∷ xs) h = elim (p x) as (λ b. Rising (cond b (x ∷ filter p xs) (filter p xs))) [
+    | true ↦ (after-filter p (key x) xs h.0, rising-filter p xs h.1)
+    | false ↦ rising-filter p xs h.1
+  ]

@@ -1,0 +1,288 @@
+-- How many points disagree: counted tile by tile, each at the first present tile that holds it.
+use Rattle.std.proofs.Common.{◌≡◌, ℕ, zero, suc, ◌+◌, ◌*◌, ◌<◌, ◌≤◌, ℤ, pos, negsuc, ◌+ℤ◌, Bool, true, false, cond, ◌&&◌, ◌||◌, IsTrue, List, [], ◌∷◌, ◌++◌, length, map, refl, sym, ◌∙◌, ap, ap₂, subst, arith, add-one, add-zero, zero-add, inl, inr}
+use Rattle.std.specs.Prelude.{Option, Some, None, Result, Ok, Err, IfOk, sum_by, count_by, All, nat_lt}
+use Rattle.std.specs.Ordering.{int_eq}
+use Rattle.std.specs.List.{filter}
+use Rattle.std.proofs.lemmas.List.{append-nil, length-append}
+use Rattle.std.proofs.lemmas.List.Sums.{sum_by-append}
+use Rattle.std.proofs.lemmas.List.Elements.{All-head, All-tail}
+use Rattle.std.proofs.lemmas.Bool.{and_parts, and_from, or_left, cases_lt, false≢true, false_from_ne_true, lt-ltb, le-ltb}
+use Rattle.std.proofs.lemmas.Bool.Decides.{Decides-int_eq}
+use Rattle.lattice.specs.Corners.{Place, is_corner, same_place}
+use Rattle.lattice.specs.Lattice.{Holds, holds, index_of, point_of}
+use Rattle.lattice.specs.Mosaic.{Tile, Mosaic, IsMosaic, is_present}
+use Rattle.lattice.specs.Height.{sample_at, differ, disagrees}
+use Rattle.lattice.specs.Ground.{same_point}
+use Rattle.lattice.specs.declared.point.Point.{Point}
+use Rattle.lattice.specs.declared.refusal.Refusal.{Refusal}
+use Rattle.lattice.proofs.Samples.{holds_is, index_of_point_is, point_of_held, point_of_index, index_of_below}
+use Rattle.catalogue.specs.Tiles.{corners_of, corners_before}
+use Rattle.catalogue.specs.Seams.{IsSeamCount, is_first, present_holders, is_own_seam, own_seams_below, seams_of, seams_before}
+use Rattle.catalogue.proofs.Places.{same_says, same_from, same_comm}
+use Rattle.catalogue.proofs.Rising.{AllAfter, Rising}
+use Rattle.catalogue.proofs.Mosaics.{corner_of}
+use Rattle.catalogue.proofs.Presence.{is_listed, corners_rise}
+use Rattle.catalogue.proofs.OneTile.{corners_are}
+use Rattle.catalogue.proofs.Holders.{itself, not_listed}
+use Rattle.catalogue.proofs.PresentHolders.{holders_filtered, listed-filter}
+use Rattle.catalogue.proofs.Rows.{place, named, before-step, before-first, before-row, before-last}
+
+-- ---- the loops' steps
+pub tile_step : (m : Mosaic) (c : Place) (e count new : ℕ) (answer : Bool) → count ≡ own_seams_below m c e → answer ≡ is_own_seam m c (point_of m.side c e)
+    → new ≡ count + cond answer 1 0 → new ≡ own_seams_below m c (e + 1)
+unfolding own_seams_below
+tile_step m c e count new answer so_far told is =
+    rw add-one (is ∙ ap₂ (λ (n : ℕ) (b : Bool). n + cond b 1 0) so_far told)
+
+pub tile_start : (m : Mosaic) (c : Place) → 0 ≡ own_seams_below m c 0
+unfolding own_seams_below
+tile_start m c = refl
+
+module _ (m : Mosaic) (valid : IsMosaic m) (lat lon : ℤ) where
+  seams-next : seams_before m lat (lon +ℤ pos 1) ≡ seams_before m lat lon + sum_by (seams_of m) (cond (is_present m (place lat lon)) (place lat lon ∷ []) [])
+  seams-next =
+      ap (sum_by (seams_of m)) (before-step m valid lat lon (corners_before lat lon (corners_of m)) refl)
+      ∙ sum_by-append (seams_of m) (corners_before lat lon (corners_of m)) (cond (is_present m (place lat lon)) (place lat lon ∷ []) [])
+
+  pub seams_some : (c : Place) → Some c ≡ named m valid lat lon → seams_before m lat (lon +ℤ pos 1) ≡ seams_before m lat lon + seams_of m c
+  seams_some c is = seams-next ∙ by (is_present m (place lat lon)) is
+    where
+      by : (b : Bool) → Some c ≡ cond b (Some (place lat lon)) None → seams_before m lat lon + sum_by (seams_of m) (cond b (place lat lon ∷ []) []) ≡ seams_before m lat lon + seams_of m c
+      by true e = let this : place lat lon ≡ c = cc in ap (λ n. seams_before m lat lon + n) (zero-add (seams_of m (place lat lon)) ∙ ap (seams_of m) this)
+      by false e = absurd (cc)
+
+  pub seams_none : None ≡ named m valid lat lon → seams_before m lat (lon +ℤ pos 1) ≡ seams_before m lat lon
+  seams_none is = seams-next ∙ by (is_present m (place lat lon)) is
+    where
+      by : (b : Bool) → None ≡ cond b (Some (place lat lon)) None → seams_before m lat lon + sum_by (seams_of m) (cond b (place lat lon ∷ []) []) ≡ seams_before m lat lon
+      by true e = absurd (cc)
+      by false e = add-zero (seams_before m lat lon)
+
+-- the tile's count is what its place adds
+pub seams_ok : (m : Mosaic) (valid : IsMosaic m) (lat lon : ℤ) (c : Place) (result : Result ℕ Refusal) → Some c ≡ named m valid lat lon
+    → IfOk result (λ n. n ≡ seams_of m c) → IfOk result (λ n. seams_before m lat (lon +ℤ pos 1) ≡ seams_before m lat lon + n)
+seams_ok m valid lat lon c (Ok n) is counted = seams_some m valid lat lon c is ∙ ap (λ k. seams_before m lat lon + k) (sym counted)
+seams_ok m valid lat lon c (Err r) is counted = tt
+
+-- ---- sums over lists
+sum_by-cons : {X : Type 0} (f : X → ℕ) (x : X) (xs : List X) → sum_by f (x ∷ xs) ≡ f x + sum_by f xs
+sum_by-cons f x xs = sum_by-append f (x ∷ []) xs ∙ ap (λ n. n + sum_by f xs) (zero-add (f x))
+
+count-append : (f : Point → Bool) (xs ys : List Point) → count_by f (xs ++ ys) ≡ count_by f xs + count_by f ys
+count-append f xs ys = sum_by-append (λ (p : Point). cond (f p) 1 0) xs ys
+
+same_point_says : (p q : Point) → same_point p q ≡ true → p ≡ q
+same_point_says p q e =
+    let both = and_parts (int_eq p.y q.y) (int_eq p.x q.x) e in
+    ap₂ (λ (y x : ℤ). record { y = y; x = x }) ((Decides-int_eq p.y q.y).0 both.0) ((Decides-int_eq p.x q.x).0 both.1)
+
+same_point_from : (p q : Point) → p ≡ q → same_point p q ≡ true
+same_point_from p q e = and_from (int_eq p.y q.y) (int_eq p.x q.x) ((Decides-int_eq p.y q.y).1 (ap (λ r. r.y) e)) ((Decides-int_eq p.x q.x).1 (ap (λ r. r.x) e))
+
+-- ---- the points of one tile
+-- those of the first so many points that are chosen
+chosen : (Point → Bool) → (ℕ → Point) → ℕ → List Point
+chosen own at zero = []
+chosen own at (suc e) = chosen own at e ++ cond (own (at e)) (at e ∷ []) []
+
+length-chosen : (m : Mosaic) (c : Place) (k : ℕ) → length (chosen (is_own_seam m c) (point_of m.side c) k) ≡ own_seams_below m c k
+unfolding chosen own_seams_below
+length-chosen m c zero = refl
+length-chosen m c (suc e) =
+    length-append (chosen (is_own_seam m c) (point_of m.side c) e) (cond (is_own_seam m c (point_of m.side c e)) (point_of m.side c e ∷ []) [])
+    ∙ ap₂ (λ (a b : ℕ). a + b) (length-chosen m c e) (one (is_own_seam m c (point_of m.side c e)))
+  where
+    one : (b : Bool) → length (cond b (point_of m.side c e ∷ []) []) ≡ cond b 1 0
+    one true = refl
+    one false = refl
+
+-- 1 where all three hold
+abbrev tally : Bool → Bool → Bool → ℕ
+tally own within early = cond (own && (within && early)) 1 0
+
+tally-late : (own within : Bool) → tally own within false ≡ 0
+tally-late true true = refl
+tally-late true false = refl
+tally-late false within = refl
+
+tally-outside : (own early later : Bool) → tally own false early ≡ tally own false later
+tally-outside true early later = refl
+tally-outside false early later = refl
+
+tally-here : (own : Bool) → 0 + cond own 1 0 ≡ tally own true true
+tally-here true = refl
+tally-here false = refl
+
+-- a point is chosen once, where it is one of the points
+module _ (own : Point → Bool) (at : ℕ → Point) (p : Point) (within : Bool) (i : ℕ) (is_at : within ≡ true → at i ≡ p) where
+  count-one : (e : ℕ) (o : Bool) (s : Bool) → same_point p (at e) ≡ s → count_by (same_point p) (cond o (at e ∷ []) []) ≡ cond (o && s) 1 0
+  count-one e true true is = rw is refl
+  count-one e true false is = rw is refl
+  count-one e false s is = refl
+
+  count-chosen : (k : ℕ) → ((e : ℕ) → e < k → p ≡ at e → (within ≡ true) × (i ≡ e)) → count_by (same_point p) (chosen own at k) ≡ tally (own p) within (nat_lt i k)
+  unfolding chosen
+  count-chosen zero places = sym (ap (tally (own p) within) (le-ltb i 0 (omega arith)) ∙ tally-late (own p) within)
+  count-chosen (suc e) places =
+      count-append (same_point p) (chosen own at e) (cond (own (at e)) (at e ∷ []) [])
+      ∙ by (same_point p (at e)) refl (count-chosen e (λ j below is. places j (omega arith) is))
+    where
+      by : (s : Bool) → same_point p (at e) ≡ s → count_by (same_point p) (chosen own at e) ≡ tally (own p) within (nat_lt i e)
+          → count_by (same_point p) (chosen own at e) + count_by (same_point p) (cond (own (at e)) (at e ∷ []) []) ≡ tally (own p) within (nat_lt i (suc e))
+      by true same rest =
+          let is : p ≡ at e = same_point_says p (at e) same in
+          let place = places e (omega arith) is in
+          let none : count_by (same_point p) (chosen own at e) ≡ 0 = rest ∙ ap (tally (own p) within) (le-ltb i e (omega (arith, place.1))) ∙ tally-late (own p) within in
+          let one : ◌≡◌ {A = ℕ} (count_by (same_point p) (cond (own (at e)) (at e ∷ []) [])) (cond (own p) 1 0) = count-one e (own (at e)) true same ∙ and_yes (own (at e)) ∙ ap (λ (q : Point). cond (own q) 1 0) (sym is) in
+          ap₂ (λ (a b : ℕ). a + b) none one
+          ∙ tally-here (own p)
+          ∙ sym (ap₂ (tally (own p)) place.0 (lt-ltb i (suc e) (omega (arith, place.1))))
+        where
+          and_yes : (o : Bool) → ◌≡◌ {A = ℕ} (cond (o && true) 1 0) (cond o 1 0)
+          and_yes true = refl
+          and_yes false = refl
+      by false other rest =
+          let none : count_by (same_point p) (cond (own (at e)) (at e ∷ []) []) ≡ 0 = count-one e (own (at e)) false other ∙ and_no (own (at e)) in
+          ap₂ (λ (a b : ℕ). a + b) rest none ∙ add-zero (tally (own p) within (nat_lt i e)) ∙ later within refl
+        where
+          and_no : (o : Bool) → ◌≡◌ {A = ℕ} (cond (o && false) 1 0) 0
+          and_no true = refl
+          and_no false = refl
+
+          later : (w : Bool) → within ≡ w → tally (own p) within (nat_lt i e) ≡ tally (own p) within (nat_lt i (suc e))
+          later true held =
+              let apart : i ≡ e → ⊥ = λ here. false≢true (sym other ∙ same_point_from p (at e) (sym (is_at held) ∙ ap at here)) in
+              ap (tally (own p) within) (elim (cases_lt i e) [
+                | inl below ↦ lt-ltb i e below ∙ sym (lt-ltb i (suc e) (omega arith))
+                | inr beyond ↦ le-ltb i e beyond ∙ sym (le-ltb i (suc e) (omega (arith, apart)))
+              ])
+          later false out = rw out (tally-outside (own p) (nat_lt i e) (nat_lt i (suc e)))
+
+-- ---- the points of all tiles
+all_chosen : Mosaic → List Place → List Point
+all_chosen m [] = []
+all_chosen m (c ∷ cs) = chosen (is_own_seam m c) (point_of m.side c) (m.side * m.side) ++ all_chosen m cs
+
+length-all_chosen : (m : Mosaic) (cs : List Place) → length (all_chosen m cs) ≡ sum_by (seams_of m) cs
+unfolding all_chosen
+length-all_chosen m [] = refl
+length-all_chosen m (c ∷ cs) =
+    length-append (chosen (is_own_seam m c) (point_of m.side c) (m.side * m.side)) (all_chosen m cs)
+    ∙ ap₂ (λ (a b : ℕ). a + b) (length-chosen m c (m.side * m.side)) (length-all_chosen m cs)
+    ∙ sym (sum_by-cons (seams_of m) c cs)
+
+module _ (m : Mosaic) (valid : IsMosaic m) (p : Point) where
+  count-tile : (c : Place) → IsTrue (is_corner c) → count_by (same_point p) (chosen (is_own_seam m c) (point_of m.side c) (m.side * m.side)) ≡ cond (is_own_seam m c p && holds m.side c p) 1 0
+  count-tile c corner =
+      count-chosen (is_own_seam m c) (point_of m.side c) p (holds m.side c p) (index_of m.side c p)
+      (λ held. point_of_index m.side c p (of_test held)) (m.side * m.side)
+      (λ e below is. (
+        subst (λ (q : Point). holds m.side c q ≡ true) (sym is) ((holds_is m.side c (point_of m.side c e) valid.side_low corner).1 (point_of_held m.side c e some corner below)),
+        ap (index_of m.side c) is ∙ index_of_point_is m.side c e some corner below,
+      ))
+      ∙ settle (is_own_seam m c p) (holds m.side c p) refl
+    where
+      some : 0 < m.side
+      some = omega (arith, valid.side_low)
+
+      of_test : holds m.side c p ≡ true → Holds m.side c p
+      of_test held = (holds_is m.side c p valid.side_low corner).0 held
+
+      settle : (own w : Bool) → holds m.side c p ≡ w → tally own w (nat_lt (index_of m.side c p) (m.side * m.side)) ≡ cond (own && w) 1 0
+      settle true true held = rw (lt-ltb (index_of m.side c p) (m.side * m.side) (index_of_below m.side c p (of_test held))) refl
+      settle true false out = refl
+      settle false w is = refl
+
+  count-all : (cs : List Place) → All (λ c. IsTrue (is_corner c)) cs → count_by (same_point p) (all_chosen m cs) ≡ sum_by (λ c. cond (is_own_seam m c p && holds m.side c p) 1 0) cs
+  unfolding all_chosen
+  count-all [] corners = refl
+  count-all (c ∷ cs) corners =
+      count-append (same_point p) (chosen (is_own_seam m c) (point_of m.side c) (m.side * m.side)) (all_chosen m cs)
+      ∙ ap₂ (λ (a b : ℕ). a + b) (count-tile c (All-head (λ d. IsTrue (is_corner d)) c cs corners)) (count-all cs (All-tail (λ d. IsTrue (is_corner d)) c cs corners))
+      ∙ sym (sum_by-cons (λ (d : Place). cond (is_own_seam m d p && holds m.side d p) 1 0) c cs)
+
+-- ---- each disagreeing point counts once
+sum-same : (f g : Place → ℕ) → ((c : Place) → f c ≡ g c) → (cs : List Place) → sum_by f cs ≡ sum_by g cs
+sum-same f g same [] = refl
+sum-same f g same (c ∷ cs) = sum_by-cons f c cs ∙ ap₂ (λ (a b : ℕ). a + b) (same c) (sum-same f g same cs) ∙ sym (sum_by-cons g c cs)
+
+sum-nothing : (cs : List Place) → sum_by (λ (c : Place). 0) cs ≡ 0
+sum-nothing [] = refl
+sum-nothing (c ∷ cs) = sum_by-cons (λ (d : Place). 0) c cs ∙ zero-add (sum_by (λ (d : Place). 0) cs) ∙ sum-nothing cs
+
+module _ (f : Place → Bool) (h : Place) where
+  -- 1 at the corner, where it passes the test
+  abbrev at_corner : Place → ℕ
+  at_corner c = cond (same_place h c && f c) 1 0
+
+  sum-unlisted : (cs : List Place) → is_listed h cs ≡ false → sum_by at_corner cs ≡ 0
+  sum-unlisted [] none = refl
+  sum-unlisted (c ∷ cs) none = by (same_place c h) refl none (sum-unlisted cs)
+    where
+      by : (b : Bool) → same_place c h ≡ b → (b || is_listed h cs) ≡ false → (is_listed h cs ≡ false → sum_by at_corner cs ≡ 0) → sum_by at_corner (c ∷ cs) ≡ 0
+      by true same e later = absurd (false≢true (sym e))
+      by false apart e later =
+          let here : at_corner c ≡ 0 = rw (same_comm c h apart) refl in
+          sum_by-cons at_corner c cs ∙ ap₂ (λ (a b : ℕ). a + b) here (later e)
+
+  sum-listed : f h ≡ true → (cs : List Place) → Rising itself cs → is_listed h cs ≡ true → sum_by at_corner cs ≡ 1
+  sum-listed passes [] rising none = absurd (false≢true none)
+  sum-listed passes (c ∷ cs) rising listed = by (same_place c h) refl listed (sum-listed passes cs rising.1)
+    where
+      by : (b : Bool) → same_place c h ≡ b → (b || is_listed h cs) ≡ true → (is_listed h cs ≡ true → sum_by at_corner cs ≡ 1) → sum_by at_corner (c ∷ cs) ≡ 1
+      by true same e later =
+          let is : h ≡ c = sym (same_says c h same) in
+          let here : at_corner c ≡ 1 = rw (same_from h c is, sym (ap f is) ∙ passes) refl in
+          let none : is_listed h cs ≡ false = not_listed h cs (subst (λ d. AllAfter itself d cs) (sym is) rising.0) in
+          sum_by-cons at_corner c cs ∙ ap₂ (λ (a b : ℕ). a + b) here (sum-unlisted cs none)
+      by false apart e later =
+          let here : at_corner c ≡ 0 = rw (same_comm c h apart) refl in
+          sum_by-cons at_corner c cs ∙ ap₂ (λ (a b : ℕ). a + b) here (later e)
+
+some_holder : (n : ℕ) (p : Point) (tiles : List Tile) → differ (map (λ t. sample_at n t p) tiles) ≡ true → (h : Place) × (rest : List Place) × (map corner_of tiles ≡ h ∷ rest)
+some_holder n p [] some = absurd (false≢true some)
+some_holder n p (t ∷ ts) some = (t.corner, map corner_of ts, refl)
+
+module _ (m : Mosaic) (valid : IsMosaic m) (p : Point) where
+  count-own : (b : Bool) → disagrees m p ≡ b → sum_by (λ c. cond (is_own_seam m c p && holds m.side c p) 1 0) (corners_of m) ≡ cond b 1 0
+  count-own false agrees =
+      sum-same (λ c. cond (is_own_seam m c p && holds m.side c p) 1 0) (λ c. 0)
+      (λ c. rw agrees (nothing (is_first c (present_holders m p)) (holds m.side c p))) (corners_of m)
+      ∙ sum-nothing (corners_of m)
+    where
+      nothing : (first within : Bool) → ◌≡◌ {A = ℕ} (cond ((first && false) && within) 1 0) 0
+      nothing true within = refl
+      nothing false within = refl
+  count-own true some =
+      let found = some_holder m.side p (filter (λ t. holds m.side t.corner p) m.tiles) some in
+      let h = found.0 in
+      let holders = found.2 in
+      let both = and_parts (is_listed h (corners_of m)) (holds m.side h p) (
+      sym (listed-filter (λ c. holds m.side c p) h (corners_of m))
+      ∙ ap (is_listed h) (sym (holders_filtered m p) ∙ holders)
+      ∙ or_left (same_place h h) (is_listed h found.1) (same_from h h refl)) in
+      sum-same (λ c. cond (is_own_seam m c p && holds m.side c p) 1 0) (λ c. cond (same_place h c && holds m.side c p) 1 0)
+      (λ c. rw (some, holders) (ap (λ b. cond (b && holds m.side c p) 1 0) (and_yes (same_place h c)))) (corners_of m)
+      ∙ sum-listed (λ c. holds m.side c p) h both.1 (corners_of m) (corners_rise m valid) both.0
+    where
+      and_yes : (b : Bool) → (b && true) ≡ b
+      and_yes true = refl
+      and_yes false = refl
+
+-- the seams of all tiles are the points that disagree
+pub seams_counted : (m : Mosaic) → IsMosaic m → IsSeamCount m (sum_by (seams_of m) (corners_of m))
+seams_counted m valid = record {
+  points = all_chosen m (corners_of m);
+  once = λ p. count-all m valid p (corners_of m) (corners_are m valid) ∙ count-own m valid p (disagrees m p) refl;
+  count = length-all_chosen m (corners_of m);
+}
+
+-- from the first row to the last
+pub seams-first : (m : Mosaic) → IsMosaic m → 0 ≡ seams_before m (negsuc 89) (negsuc 179)
+seams-first m valid = ap (sum_by (seams_of m)) (sym (before-first (corners_of m) (corners_are m valid)))
+
+pub seams-last : (m : Mosaic) → IsMosaic m → seams_before m (pos 90) (negsuc 179) ≡ sum_by (seams_of m) (corners_of m)
+seams-last m valid = ap (sum_by (seams_of m)) (before-last (corners_of m) (corners_are m valid))
+
+pub seams-row : (m : Mosaic) → IsMosaic m → (lat : ℤ) → seams_before m lat (pos 180) ≡ seams_before m (lat +ℤ pos 1) (negsuc 179)
+seams-row m valid lat = ap (sum_by (seams_of m)) (before-row lat (corners_of m) (corners_are m valid))

@@ -1,0 +1,20 @@
+use Rattle.std.proofs.Common.{◌≡◌, drop, Ok, false}
+use Rattle.std.specs.List.{filter_map}
+use Rattle.lattice.specs.declared.height.Height.{Height}
+use Rattle.lattice.specs.Height.{height_of}
+use Rattle.lattice.specs.Ground.{is_height}
+use Rattle.catalogue.specs.Readers.{OnlyReads}
+use Rattle.catalogue.specs.SeamRule.{sample_in}
+use Rattle.catalogue.proofs.Sought.{height_from}
+use Rattle.catalogue.proofs.Reading.{reads_on}
+use Rattle.catalogue.proofs.Holders.{samples_from_holders}
+use Rattle.catalogue.proofs.seam_rule.height.Given as goal
+
+abbrev pub invariant-loop-corner : goal.invariant-loop-corner
+invariant-loop-corner g l = record {
+  reads : OnlyReads {T = Height} g.S.Samples l.fn.samples l.samples (Ok l.found);
+  sought : is_height l.found ≡ false;
+  height : g.S.Samples.is_honest l.samples
+      → height_of (g.S.Samples.mosaic l.fn.samples) l.point
+      ≡ height_from l.found (filter_map (λ c. sample_in (g.S.Samples.mosaic l.fn.samples) c l.point) (drop l.corner-index l.corner-items));
+}

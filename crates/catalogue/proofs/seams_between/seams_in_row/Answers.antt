@@ -1,0 +1,19 @@
+use Rattle.std.proofs.Common.{◌≡◌, ◌+◌, ℤ, pos, negsuc, arith, ap, ap₂, sym, ◌∙◌}
+use Rattle.std.proofs.lemmas.Int.{ints, to_z-of_z}
+use mir.Syntax.{w16}
+use mir.Val.{to_z, of_z}
+use Rattle.catalogue.specs.Seams.{seams_before}
+use Rattle.catalogue.proofs.SeamCounts.{seams-row}
+use Rattle.catalogue.proofs.seams_between.seams_in_row.Goals as goal
+
+pub returns-clause-value : goal.returns-clause-value
+returns-clause-value g c honest_after =
+    let now = c.args.samples.now in
+    let m = g.S.Samples.mosaic now in
+    let valid = g.met.S.Samples.is_mosaic now (c.loop-lon.invariant.reads.honest honest_after) in
+    let lat : to_z w16 (of_z w16 c.args.lat) ≡ c.args.lat = to_z-of_z w16 c.args.lat c.ranges.lat in
+    let lon : to_z w16 c.loop-lon.lon-bits ≡ pos 180 = omega (arith, ints) in
+    sym (seams-row m valid c.args.lat)
+    ∙ ap₂ (λ (y x : ℤ). seams_before m y x) (sym lat) (sym lon)
+    ∙ c.loop-lon.invariant.count honest_after
+    ∙ ap (λ (y : ℤ). seams_before m y (negsuc 179) + c.loop-lon.count) lat

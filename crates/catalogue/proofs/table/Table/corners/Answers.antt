@@ -1,0 +1,12 @@
+use Rattle.std.proofs.Common.{◌≡◌, ap, sym, ◌∙◌, rules}
+use Rattle.std.specs.Map.{keys_of}
+use Rattle.std.proofs.lemmas.Grind.{common_steps}
+use Rattle.lattice.specs.Mosaic.{Mosaic}
+use Rattle.catalogue.specs.Tiles.{corners_of}
+use Rattle.catalogue.proofs.Entries.{corners-tiles_in}
+use Rattle.catalogue.proofs.table.Table.corners.Goals as goal
+
+pub returns-clause-corners : goal.returns-clause-corners
+returns-clause-corners c =
+    let collected : c.in_ok-collect.field-0.items ≡ keys_of c.self.inside.tiles.entries = search rules in
+    collected ∙ sym (corners-tiles_in c.self.inside.tiles.entries) ∙ ap corners_of c.self.view_is

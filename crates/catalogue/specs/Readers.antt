@@ -1,0 +1,23 @@
+-- What a call that reads a `Samples` does to it, and how it may be refused.
+use Rattle.std.specs.Prelude.{◌≡◌, ◌≤◌, Result, IsOk, IfErr, OnOk}
+use Rattle.lattice.specs.declared.refusal.Refusal.{Refusal}
+use Rattle.lattice.specs.declared.refusal.Refusal.TheVariants.{Device}
+use Rattle.catalogue.specs.Reading.{MayRefuse}
+use Rattle.catalogue.specs.declared.samples.Samples.{Ghosts}
+
+-- the call read samples, and did nothing else
+pub record OnlyReads {S T : Type 0} (g : Ghosts S) (old new : S) (result : Result T Refusal) : Type 0 where
+  -- on any disk a refusal is Device, and then the count of failures has risen, or Failed or Damaged
+  pub refusal : IfErr result (MayRefuse (g.failures old) (g.failures new))
+  -- where it is ready and honest, only the disk refuses
+  pub only_device : g.is_honest new → g.is_ready old → IfErr result (λ r. r ≡ Device)
+  pub ready : g.is_ready old → OnOk result (g.is_ready new)
+  pub answers : g.never_refuses old → IsOk result
+  pub never_refuses : g.never_refuses old → g.never_refuses new
+  pub side : g.side_of new ≡ g.side_of old
+  pub corners : g.corners new ≡ g.corners old
+  pub failures : g.failures old ≤ g.failures new
+  -- no call makes a dishonest one honest
+  pub honest : g.is_honest new → g.is_honest old
+  pub mosaic : g.is_honest new → g.mosaic new ≡ g.mosaic old
+  pub keeps : g.is_honest new → g.keeps old new

@@ -1,0 +1,21 @@
+-- Samples read from a mosaic, and the refusals that a read may meet (this product's own profile).
+use Rattle.std.specs.Prelude.{◌≡◌, ℕ, ◌+◌, ◌≤◌, min, ℤ, List, slice_get, Some, IsSomeAnd}
+use Rattle.lattice.specs.Corners.{Place}
+use Rattle.lattice.specs.Mosaic.{Mosaic, samples_of}
+use Rattle.lattice.specs.declared.refusal.Refusal.{Refusal}
+use Rattle.lattice.specs.declared.refusal.Refusal.TheVariants.{Device, Failed, Damaged}
+
+-- the corner's tile has this sample at this index
+abbrev pub IsSampleOf : Mosaic → Place → ℕ → ℤ → Type 0
+IsSampleOf m c i s = IsSomeAnd (samples_of m c) (λ samples. slice_get samples i ≡ Some s)
+
+-- a count has risen, or stands at the largest 64-bit number
+abbrev pub HasRisen : ℕ → ℕ → Type 0
+HasRisen before now = min (before + 1) 18446744073709551615 ≤ now
+
+-- a read in which the count of failures went from one number to the other may be refused so
+abbrev pub MayRefuse : ℕ → ℕ → Refusal → Type 0
+MayRefuse before now Device = HasRisen before now
+MayRefuse before now Failed = Unit {0}
+MayRefuse before now Damaged = Unit {0}
+MayRefuse before now _ = ⊥

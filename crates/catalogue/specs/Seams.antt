@@ -1,0 +1,43 @@
+-- How many points tiles disagree on (this product's own profile).
+use Rattle.std.specs.Prelude.{◌≡◌, ℕ, ◌+◌, ◌-◌, ◌*◌, ◌/◌, ◌%◌, ◌==◌, ℤ, Bool, false, ◌&&◌, ◌||◌, if◌then◌else◌, List, [], ◌∷◌, length, map, filter, count_by, sum_by, zero, suc}
+use Rattle.lattice.specs.Corners.{Place, same_place}
+use Rattle.lattice.specs.Lattice.{holds, point_of}
+use Rattle.lattice.specs.Mosaic.{Mosaic}
+use Rattle.lattice.specs.Height.{disagrees}
+use Rattle.lattice.specs.Ground.{same_point}
+use Rattle.lattice.specs.declared.point.Point.{Point}
+use Rattle.catalogue.specs.Tiles.{corners_of, corners_before}
+
+-- so many points disagree: a list of as many has each of them once, and no other
+pub record IsSeamCount (m : Mosaic) (n : ℕ) : Type 0 where
+  pub points : List Point
+  pub once : (p : Point) → count_by (same_point p) points ≡ (if disagrees m p then 1 else 0)
+  pub count : length points ≡ n
+
+-- the corners of the present tiles that hold the point, in order
+abbrev pub present_holders : Mosaic → Point → List Place
+present_holders m p = map (λ t. t.corner) (filter (λ t. holds m.side t.corner p) m.tiles)
+
+abbrev pub is_first : Place → List Place → Bool
+is_first c [] = false
+is_first c (d ∷ rest) = same_place d c
+
+-- the point disagrees, and no tile before the corner's holds it
+abbrev pub is_own_seam : Mosaic → Place → Point → Bool
+is_own_seam m c p = is_first c (present_holders m p) && disagrees m p
+
+-- how many of the first so many samples of the corner's tile lie at such points
+unfoldable pub own_seams_below : Mosaic → Place → ℕ → ℕ
+own_seams_below m c zero = 0
+own_seams_below m c (suc e) = own_seams_below m c e + (if is_own_seam m c (point_of m.side c e) then 1 else 0)
+
+abbrev pub seams_of : Mosaic → Place → ℕ
+seams_of m c = own_seams_below m c (m.side * m.side)
+
+-- those of the tiles whose corners stand before this latitude and longitude
+abbrev pub seams_before : Mosaic → ℤ → ℤ → ℕ
+seams_before m lat lon = sum_by (seams_of m) (corners_before lat lon (corners_of m))
+
+-- the sample with this index lies in the first or last row or column
+abbrev pub is_on_rim : ℕ → ℕ → Bool
+is_on_rim n e = (e / n == 0) || (e / n == n - 1) || (e % n == 0) || (e % n == n - 1)

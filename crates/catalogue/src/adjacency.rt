@@ -1,0 +1,78 @@
+//! Adjacent points, and the points where water can leave.
+ghost use Rattle.std.specs.Prelude.{◌≡◌, IfOk};
+ghost use Rattle.lattice.specs.Ground.{is_ground as ground, is_near as near, share_tile as shared, is_adjacent, degree_of, is_outlet};
+ghost use Rattle.catalogue.specs.Readers.{OnlyReads};
+
+use crate::{Samples, height};
+use lattice::{Height, Point, Refusal, holders, index_in, steps};
+
+/// Whether the two points are adjacent: both have a height, they are at most one row and one column apart and aren't
+/// the same, and some one present tile holds both.
+pub fn adjacent<S: Samples>(samples: &mut S, p: Point, q: Point) -> Result<bool, Refusal>
+    ensures value { S.is_honest samples.new → IfOk result (λ answer. answer ≡ is_adjacent (S.mosaic samples.old) p q) }
+    ensures reads { OnlyReads S.Samples samples.old samples.new result }
+{
+    if p == q || !is_near(p, q) || !share_tile(samples, p, q) {
+        return Ok(false);
+    }
+    if !is_ground(samples, p)? {
+        return Ok(false);
+    }
+    is_ground(samples, q)
+}
+
+/// How many points are adjacent to the point, at most eight.
+pub fn degree<S: Samples>(samples: &mut S, point: Point) -> Result<u32, Refusal>
+    ensures value { S.is_honest samples.new → IfOk result (λ count. count ≡ degree_of (S.mosaic samples.old) point) }
+    ensures reads { OnlyReads S.Samples samples.old samples.new result }
+{
+    let reach = steps(point);
+    let mut count = 0;
+    for step in reach.as_slice() {
+        if adjacent(samples, point, step.to)? {
+            count += 1;
+        }
+    }
+    Ok(count)
+}
+
+/// Whether water can leave at the point: it has a height, and fewer than eight adjacent points.
+pub fn outlet<S: Samples>(samples: &mut S, point: Point) -> Result<bool, Refusal>
+    ensures value { S.is_honest samples.new → IfOk result (λ answer. answer ≡ is_outlet (S.mosaic samples.old) point) }
+    ensures reads { OnlyReads S.Samples samples.old samples.new result }
+{
+    if !is_ground(samples, point)? {
+        return Ok(false);
+    }
+    let count = degree(samples, point)?;
+    Ok(count < 8)
+}
+
+fn is_ground<S: Samples>(samples: &mut S, point: Point) -> Result<bool, Refusal>
+    ensures value { S.is_honest samples.new → IfOk result (λ answer. answer ≡ ground (S.mosaic samples.old) point) }
+    ensures reads { OnlyReads S.Samples samples.old samples.new result }
+{
+    let height = height(samples, point)?;
+    Ok(matches!(height, Height::At(_)))
+}
+
+// At most one row and one column apart.
+fn is_near(p: Point, q: Point) -> bool
+    ensures { result ≡ near p q }
+{
+    p.y.abs_diff(q.y) < 2 && p.x.abs_diff(q.x) < 2
+}
+
+// Whether some one present tile holds both.
+fn share_tile<S: Samples>(samples: &S, p: Point, q: Point) -> bool
+    ensures { S.is_honest samples.now → result ≡ shared (S.mosaic samples.now) p q }
+{
+    let side = samples.side();
+    let corners = holders(side, p);
+    for corner in corners.as_slice() {
+        if samples.present(*corner) && index_in(side, *corner, q).is_some() {
+            return true;
+        }
+    }
+    false
+}

@@ -1,0 +1,21 @@
+//! The mosaic as the layers above read it: samples of any origin, a table of tiles in memory, and the seam rule.
+//!
+//! The layers above rest on this: over any lawful `Samples` the height of a point, adjacency, degree, the list of tiles
+//! and the count of seams are those of the mosaic that it stands for, and reading changes none of its tiles.
+#![tactic(auto)]
+
+mod adjacency;
+mod listing;
+mod samples;
+mod seam_rule;
+mod seams_between;
+mod table;
+#[cfg(test)]
+mod tests;
+
+pub use adjacency::{adjacent, degree, outlet};
+pub use listing::tiles;
+pub use samples::Samples;
+pub use seam_rule::height;
+pub use seams_between::seams;
+pub use table::Table;

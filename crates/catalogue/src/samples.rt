@@ -1,0 +1,93 @@
+//! Where samples come from.
+ghost use Rattle.std.specs.Prelude.{◌≡◌, ◌≤◌, ◌<◌, ◌*◌, ◌↔◌, ℕ, List, length, map, IsTrue, IsOk, IfOk, IfErr, OnOk, Contains};
+ghost use Rattle.std.specs.List.{AllAdjacentBelow};
+ghost use Rattle.lattice.specs.Corners.{Place};
+ghost use Rattle.lattice.specs.Lattice.{IsBefore};
+ghost use Rattle.lattice.specs.Mosaic.{Mosaic, IsMosaic};
+ghost use Rattle.lattice.specs.declared.refusal.Refusal.TheVariants.{Device};
+ghost use Rattle.catalogue.specs.Reading.{IsSampleOf, MayRefuse};
+ghost use Rattle.catalogue.specs.Tiles.{corners_of};
+
+use lattice::{Corner, Refusal, Side};
+
+/// Tiles whose samples can be read one by one: in memory, or from a disk.
+///
+/// A read may be refused with Device (the disk failed in it), Failed (it failed before) or Damaged, and changes no tile
+/// and no sample in any case.
+pub trait Samples {
+    /// The side of its tiles.
+    ghost side_of: { Self → ℕ };
+
+    /// The corners of its tiles, in order. They are held in memory, and so known whatever a disk does.
+    ghost corners: { Self → List Place };
+
+    /// The mosaic that it stands for, where it is honest.
+    ghost mosaic: { Self → Mosaic };
+
+    /// Its samples are those of the mosaic. A read may show that they aren't, and none makes it honest again. So a
+    /// clause that holds where it is honest at the end of a call speaks of one that was honest all along.
+    ghost is_honest: { Self → Type 0 };
+
+    /// What reading keeps: the new may have come from the old by reads alone.
+    ghost keeps: { Self → Self → Type 0 };
+
+    /// How many calls of the disk have failed. The count stays at the largest 64-bit number, where each further failure
+    /// counts as a rise.
+    ghost failures: { Self → ℕ };
+
+    /// No read was refused by the disk since it was opened, so that a read is tried at all.
+    ghost is_ready: { Self → Type 0 };
+
+    /// No read is ever refused, as of samples in memory.
+    ghost never_refuses: { Self → Type 0 };
+
+    /// The side of its tiles.
+    fn side(&self) -> Side
+        ensures { result ≡ side_of self.now };
+
+    /// Whether the corner's tile is present.
+    fn present(&self, c: Corner) -> bool
+        ensures answer { IsTrue result ↔ Contains (corners self.now) c }
+        ensures in_order { AllAdjacentBelow IsBefore (corners self.now) (length (corners self.now)) };
+
+    /// The sample at the index in the corner's tile: rows from the north, samples from the west.
+    fn sample(&mut self, c: Corner, i: u32) -> Result<i16, Refusal>
+        requires present { Contains (corners self.old) c }
+        requires index { i < side_of self.old * side_of self.old }
+        ensures sample { is_honest self.new → IfOk result (λ s. IsSampleOf (mosaic self.old) c i s) }
+
+        // On any disk a refusal is Device, and then the count of failures has risen, or Failed or Damaged.
+        ensures refusal { IfErr result (MayRefuse (failures self.old) (failures self.new)) }
+
+        // Where it is ready and honest, only the disk refuses.
+        ensures only_device { is_honest self.new → is_ready self.old → IfErr result (λ r. r ≡ Device) }
+        ensures ready { is_ready self.old → OnOk result (is_ready self.new) }
+        ensures answers { never_refuses self.old → IsOk result }
+        ensures never_refuses { never_refuses self.old → never_refuses self.new }
+        ensures side { side_of self.new ≡ side_of self.old }
+        ensures corners { corners self.new ≡ corners self.old }
+        ensures failures { failures self.old ≤ failures self.new }
+
+        // No call makes a dishonest one honest.
+        ensures honest { is_honest self.new → is_honest self.old }
+        ensures mosaic { is_honest self.new → mosaic self.new ≡ mosaic self.old }
+        ensures keeps { is_honest self.new → keeps self.old self.new };
+
+    /// What it stands for is a mosaic.
+    ghost is_mosaic: { (s : Self) → is_honest s → IsMosaic (mosaic s) };
+
+    /// The mosaic has this side.
+    ghost same_side: { (s : Self) → is_honest s → (mosaic s).side ≡ side_of s };
+
+    /// The mosaic has these corners.
+    ghost same_corners: { (s : Self) → is_honest s → corners_of (mosaic s) ≡ corners s };
+
+    /// To do nothing keeps it.
+    ghost keeps_itself: { (s : Self) → is_honest s → keeps s s };
+
+    /// Reads one after another keep it.
+    ghost keeps_on: { (a b c : Self) → keeps a b → keeps b c → keeps a c };
+
+    /// What never refuses is honest.
+    ghost sure_is_honest: { (s : Self) → never_refuses s → is_honest s };
+}

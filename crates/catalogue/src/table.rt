@@ -1,0 +1,166 @@
+//! Tiles in memory.
+ghost use Rattle.std.specs.Prelude.{◌≡◌, ◌<◌, ◌*◌, ◌↔◌, IsTrue, IsFalse, IfErr, IfOk, OnOk, OnErr, option_map, vec_len, length, All, Contains};
+ghost use Rattle.lattice.specs.Mosaic.{IsSample};
+
+use crate::Samples;
+use lattice::{Corner, Refusal, Side};
+use std::alloc::Global;
+use std::collections::BTreeMap;
+use std::marker::Model;
+
+/// A mosaic in memory. Reading from it is never refused.
+#[derive(Drop)]
+pub struct Table {
+    side: Side,
+    tiles: BTreeMap<Corner, Vec<i16>>,
+}
+
+impl Model for Table {
+    ghost use Rattle.lattice.specs.Mosaic.{Mosaic, IsMosaic};
+
+    ghost Value = { Mosaic };
+
+    ghost use Rattle.catalogue.specs.Entries.{tiles_in};
+
+    ghost view = { λ t. record { side = t.side; tiles = tiles_in t.tiles.entries } };
+
+    ghost invariant = { λ t. IsMosaic (record { side = t.side; tiles = tiles_in t.tiles.entries }) };
+}
+
+impl Table {
+    ghost use Rattle.lattice.specs.Mosaic.{Mosaic, IsMosaic, is_present, samples_of, empty_mosaic};
+    ghost use Rattle.lattice.specs.declared.refusal.Refusal.TheVariants.{NoMemory};
+    ghost use Rattle.catalogue.specs.Tiles.{added, without, with_sample, corners_of};
+
+    /// A table of no tiles, of which each will have this side.
+    pub fn new(alloc: Global, side: Side) -> Table
+        ensures empty { result ≡ empty_mosaic side }
+        ensures valid { IsMosaic result }
+    {
+        Table {
+            side,
+            tiles: BTreeMap::new(alloc),
+        }
+    }
+
+    /// Adds a tile: its samples row by row from the north, in a row from the west, in metres.
+    pub fn add(&mut self, corner: Corner, samples: Vec<i16>) -> Result<(), Refusal>
+        requires absent { IsFalse (is_present self.old corner) }
+        requires whole { vec_len samples ≡ self.old.side * self.old.side }
+        ensures added { OnOk result (self.new ≡ added (record { corner = corner; samples = samples.items }) self.old) }
+        ensures refusal { IfErr result (λ r. r ≡ NoMemory) }
+        ensures unchanged { OnErr result (self.new ≡ self.old) }
+        ensures valid { IsMosaic self.new }
+    {
+        // Degrees and samples are known to be in range once they were read.
+        let _lat = corner.lat;
+        read_all(&samples);
+        match self.tiles.insert(corner, samples) {
+            Ok(_) => Ok(()),
+            Err(_) => Err(Refusal::NoMemory),
+        }
+    }
+
+    /// Takes the corner's tile out, and gives its samples where it was present.
+    pub fn remove(&mut self, corner: Corner) -> Option<Vec<i16>>
+        ensures samples { option_map (λ v. v.items) result ≡ samples_of self.old corner }
+        ensures without { self.new ≡ without corner self.old }
+        ensures valid { IsMosaic self.new }
+    {
+        self.tiles.remove(&corner)
+    }
+
+    /// Puts a sample at the index of the corner's tile.
+    pub fn set(&mut self, corner: Corner, index: u32, sample: i16)
+        requires present { IsTrue (is_present self.old corner) }
+        requires index { index < self.old.side * self.old.side }
+        ensures changed { self.new ≡ with_sample corner index sample self.old }
+        ensures valid { IsMosaic self.new }
+    {
+        if let Some(samples) = self.tiles.get_mut(&corner) {
+            samples[index as usize] = sample;
+        }
+    }
+
+    /// The samples of the corner's tile, where it is present: row by row from the north, in a row from the west.
+    pub fn samples(&self, corner: Corner) -> Option<&[i16]>
+        ensures samples { option_map (λ s. s.now) result ≡ samples_of self.now corner }
+        ensures valid { IsMosaic self.now }
+    {
+        let samples = self.tiles.get(&corner)?;
+        Some(samples.as_slice())
+    }
+
+    /// The corners of the present tiles, in order.
+    pub fn corners(&self, alloc: Global) -> Result<Vec<Corner>, Refusal>
+        ensures corners { IfOk result (λ v. v.items ≡ corners_of self.now) }
+        ensures refusal { IfErr result (λ r. r ≡ NoMemory) }
+        ensures valid { IsMosaic self.now }
+    {
+        Ok(self.tiles.keys().copied().collect(alloc)?)
+    }
+}
+
+// Reads each sample, after which each is known to be a number of 16 bits. A compiler leaves nothing of it.
+fn read_all(samples: &[i16])
+    ensures { All IsSample samples.now }
+{
+    for sample in samples {
+        let _sample = *sample;
+    }
+}
+
+impl Samples for Table {
+    ghost use Rattle.std.specs.Prelude.{◌≡◌, refl};
+    ghost use Rattle.std.proofs.Common.{◌∙◌};
+    ghost use Rattle.std.specs.List.{AllAdjacentBelow};
+    ghost use Rattle.lattice.specs.Lattice.{IsBefore};
+    ghost use Rattle.lattice.specs.Mosaic.{IsMosaic, is_present};
+    ghost use Rattle.catalogue.specs.Tiles.{corners_of};
+
+    ghost side_of = { λ table. table.side };
+
+    ghost corners = { corners_of };
+
+    ghost mosaic = { λ table. table };
+
+    ghost is_honest = { IsMosaic };
+
+    ghost keeps = { λ old new. new ≡ old };
+
+    ghost failures = { λ _. 0 };
+
+    ghost is_ready = { IsMosaic };
+
+    ghost never_refuses = { IsMosaic };
+
+    ghost is_mosaic = { λ _ valid. valid };
+
+    ghost same_side = { λ _ _. refl };
+
+    ghost same_corners = { λ _ _. refl };
+
+    ghost keeps_itself = { λ _ _. refl };
+
+    ghost keeps_on = { λ _ _ _ first second. second ∙ first };
+
+    ghost sure_is_honest = { λ _ valid. valid };
+
+    fn side(&self) -> Side {
+        self.side
+    }
+
+    fn present(&self, c: Corner) -> bool
+        ensures answer { IsTrue result ↔ Contains (corners_of self.now) c }
+        ensures in_order { AllAdjacentBelow IsBefore (corners_of self.now) (length (corners_of self.now)) }
+        ensures tile { result ≡ is_present self.now c }
+        ensures valid { IsMosaic self.now }
+    {
+        self.tiles.contains_key(&c)
+    }
+
+    fn sample(&mut self, c: Corner, i: u32) -> Result<i16, Refusal> {
+        let samples = &self.tiles[&c];
+        Ok(samples[i as usize])
+    }
+}

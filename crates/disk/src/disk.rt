@@ -1,0 +1,113 @@
+//! The device that the layers above write to, and what is known of it.
+ghost use Rattle.std.specs.Prelude.{◌≡◌, ◌≤◌, ◌<◌, ◌+◌, ◌≢◌, List, ℕ, OnOk};
+ghost use Rattle.disk.specs.Disk.{Image, SameBut, TornAt, NoneNew, Only, counted, CountsFault, Elapses, Nothing};
+
+use thiserror::Error;
+
+/// A call of a disk failed. Its count of failures has risen.
+#[derive(Clone, Copy, Debug, PartialEq, Eq, Error)]
+#[error("the disk failed")]
+pub struct Fault;
+
+/// A device of a fixed number of sectors, each of 4096 bytes.
+///
+/// What a write puts into a sector is there for reads at once, and stays through a stop (a power cut) only once a later
+/// sync has answered Ok. Until then a stop may leave any bytes in that sector. Source: this product's own disk model.
+pub trait Disk {
+    /// It has behaved so far as this contract says. A call may show that it doesn't, and none makes it honest again. So
+    /// a clause that holds where the disk is honest at the end of a call speaks of a disk that was honest all along. Of
+    /// a disk that isn't honest only its number of sectors and its two counts are known.
+    ghost honest: { Self → Type 0 };
+
+    /// The number of sectors. No call changes it.
+    ghost size: { Self → ℕ };
+
+    /// The image of reads: what a read of each sector gives now.
+    ghost seen: { Self → Image };
+
+    /// The images that a stop at this moment, between two calls, may leave. A sector is settled where all of them have
+    /// what reads give.
+    ghost may: { Self → Image → Type 0 };
+
+    /// The present moment, as a number that never falls.
+    ghost moment: { Self → ℕ };
+
+    /// The images that a stop at some moment from a given one up to now might have left, inside a call or between two.
+    ghost since: { Self → ℕ → Image → Type 0 };
+
+    /// How many calls have failed. The count stays at the largest 64-bit number, where each further failure counts as a
+    /// rise.
+    ghost failures: { Self → ℕ };
+
+    /// How many writes were asked for, failed ones among them. The count stays at the largest 64-bit number.
+    ghost writes: { Self → ℕ };
+
+    /// The number of sectors, which are numbered from 0.
+    fn sectors(&self) -> u32
+        ensures { result ≡ size self.now };
+
+    /// Reads a sector. It changes nothing, also where it fails; then `into` may hold anything.
+    fn read(&mut self, s: u32, into: &mut [u8; 4096]) -> Result<(), Fault>
+        requires { s < size self.old }
+        ensures size { size self.new ≡ size self.old }
+
+        // The count of failures rises by one where the call fails, and only there.
+        ensures failures { CountsFault (failures self.old) (failures self.new) result }
+        ensures writes { writes self.new ≡ writes self.old }
+
+        // No call makes a dishonest disk honest.
+        ensures honest { honest self.new → honest self.old }
+        ensures read { honest self.new → OnOk result (into.new ≡ seen self.old s) }
+        ensures seen { honest self.new → seen self.new ≡ seen self.old }
+
+        // Each image that a stop after the call may leave is one that a stop before it might have left.
+        ensures may { honest self.new → NoneNew (may self.old) (may self.new) }
+
+        // A stop inside the call leaves nothing else either.
+        ensures time { honest self.new
+            → Elapses (moment self.old) (moment self.new) (since self.old) (since self.new) Nothing };
+
+    /// Puts bytes into a sector, which is unsettled until a sync answers Ok. After a write that fails, reads of the
+    /// sector may give any bytes.
+    fn write(&mut self, s: u32, from: &[u8; 4096]) -> Result<(), Fault>
+        requires { s < size self.old }
+        ensures size { size self.new ≡ size self.old }
+        ensures failures { CountsFault (failures self.old) (failures self.new) result }
+
+        // Each call of write counts, also one that fails.
+        ensures writes { writes self.new ≡ counted (writes self.old) }
+        ensures honest { honest self.new → honest self.old }
+        ensures written { honest self.new → OnOk result (seen self.new s ≡ from.now) }
+        ensures others { honest self.new → SameBut s (seen self.old) (seen self.new) }
+
+        // A stop after the call may leave any bytes in this sector, and elsewhere what it might have left before.
+        ensures may { honest self.new → NoneNew (TornAt s (may self.old)) (may self.new) }
+
+        // The same holds of a stop inside the call.
+        ensures time { honest self.new
+            → Elapses (moment self.old) (moment self.new) (since self.old) (since self.new) (TornAt s (may self.old)) };
+
+    /// Settles all that is unsettled. After a sync that fails, what was unsettled is so still, and reads of it may give
+    /// any bytes.
+    fn sync(&mut self) -> Result<(), Fault>
+        ensures size { size self.new ≡ size self.old }
+        ensures failures { CountsFault (failures self.old) (failures self.new) result }
+        ensures writes { writes self.new ≡ writes self.old }
+        ensures honest { honest self.new → honest self.old }
+
+        // A stop leaves what reads gave, and nothing else.
+        ensures durable { honest self.new → OnOk result (Only (seen self.old) (may self.new)) }
+        ensures may { honest self.new → NoneNew (may self.old) (may self.new) }
+        ensures time { honest self.new
+            → Elapses (moment self.old) (moment self.new) (since self.old) (since self.new) Nothing };
+
+    /// What reads give is one of the images that a stop may leave.
+    ghost seen_may: { (disk : Self) → honest disk → may disk (seen disk) };
+
+    /// The present moment is one of those since an earlier one.
+    ghost counts_now: { (disk : Self) (t : ℕ) (c : Image)
+        → honest disk → t ≤ moment disk → may disk c → since disk t c };
+
+    /// Since the present moment there is no other.
+    ghost only_now: { (disk : Self) (c : Image) → honest disk → since disk (moment disk) c → may disk c };
+}

@@ -1,0 +1,21 @@
+//! Disks of sectors of 4096 bytes, and what a stop (a power cut) may leave on them.
+//!
+//! The layers above are generic over [`Disk`]. Of a disk that is honest its contract says what reads give, which images
+//! a stop now may leave, and which a stop at any moment since an earlier one might have left; of every disk, how many
+//! calls failed and how many writes were asked for. `specs/Stops.antt` has the words for whole runs of calls.
+#![tactic(auto)]
+
+mod disk;
+mod fuse;
+mod memory;
+mod sector;
+mod settled;
+#[cfg(test)]
+mod tests;
+mod torn;
+
+pub use disk::{Disk, Fault};
+pub use fuse::FuseDisk;
+pub use memory::MemDisk;
+pub use settled::settle;
+pub use torn::Torn;

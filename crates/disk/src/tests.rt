@@ -1,0 +1,108 @@
+use crate::{Disk, Fault, FuseDisk, MemDisk, Torn, settle};
+use std::alloc::Global;
+use std::test::Fail;
+
+// Whether a sector reads as this byte throughout.
+fn holds<D: Disk>(disk: &mut D, s: u32, byte: u8) -> Result<bool, Fault>
+    requires { s < D.size disk.old }
+    ensures { D.size disk.new ≡ D.size disk.old }
+{
+    let mut into = [0; 4096];
+    disk.read(s, &mut into)?;
+    Ok(into.iter().all(|b| *b == byte))
+}
+
+ghost use Rattle.std.specs.Prelude.{◌≡◌, ◌<◌, ◌≤◌, IfOk};
+ghost use Rattle.disk.specs.MemDisk.{sectors_of};
+
+// Three sectors: the first settled, the second written since the sync, the third written for the first time.
+fn half_written(alloc: Global) -> Result<MemDisk, Fail>
+    ensures { IfOk result (λ disk. sectors_of disk ≡ 3) }
+{
+    let mut disk = MemDisk::new(alloc, 3)?;
+    disk.write(0, &[5; 4096])?;
+    disk.write(1, &[1; 4096])?;
+    disk.sync()?;
+    disk.write(1, &[2; 4096])?;
+    disk.write(2, &[3; 4096])?;
+    Ok(disk)
+}
+
+#[test]
+fn a_stop_leaves_what_its_kind_says(rt: HostRuntime) -> Result<(), Fail> {
+    let table = [
+        (Torn::Old, 1, 0),
+        (Torn::New, 2, 3),
+        (Torn::Fill(0xa7), 0xa7, 0xa7),
+    ];
+    for (torn, second, third) in table {
+        let mut disk = half_written(rt.alloc())?;
+        assert!(rt; holds(&mut disk, 1, 2)?);
+        assert!(rt; holds(&mut disk, 2, 3)?);
+        disk.stop_at(1, torn)?;
+        assert!(rt; holds(&mut disk, 1, second)?, "sector 1 after {torn:?}");
+        assert!(rt; holds(&mut disk, 2, 3)?, "another sector at {torn:?}");
+        disk.stop(torn)?;
+        assert!(rt; holds(&mut disk, 0, 5)?, "a settled sector after {torn:?}");
+        assert!(rt;
+            holds(&mut disk, 1, second)?,
+            "sector 1 settled twice by {torn:?}"
+        );
+        assert!(rt; holds(&mut disk, 2, third)?, "sector 2 after {torn:?}");
+        disk.stop(Torn::Fill(9))?;
+        assert!(rt; holds(&mut disk, 2, third)?, "all settled after {torn:?}");
+        assert_eq!(rt; disk.writes(), 4);
+    }
+    Ok(())
+}
+
+#[test]
+fn a_settled_sector_outlasts_a_stop(rt: HostRuntime) -> Result<(), Fail> {
+    let mut disk = MemDisk::new(rt.alloc(), 2)?;
+    assert_eq!(rt; disk.sectors(), 2);
+    assert!(rt; holds(&mut disk, 1, 0)?);
+    settle(&mut disk, 1, &[6; 4096])?;
+    disk.stop(Torn::Fill(0xff))?;
+    assert!(rt; holds(&mut disk, 1, 6)?);
+    assert!(rt; holds(&mut disk, 0, 0)?);
+    Ok(())
+}
+
+// A write, a sync, a write and a read, and which of them answered Ok.
+fn four_calls<D: Disk>(disk: &mut D) -> [bool; 4]
+    requires { 2 ≤ D.size disk.old }
+{
+    let first = disk.write(0, &[1; 4096]).is_ok();
+    let synced = disk.sync().is_ok();
+    let second = disk.write(1, &[2; 4096]).is_ok();
+    let read = disk.read(1, &mut [0; 4096]).is_ok();
+    [first, synced, second, read]
+}
+
+#[test]
+fn a_fuse_fails_from_its_call_on(rt: HostRuntime) -> Result<(), Fail> {
+    let table = [
+        (0, [false, false, false, false], 0, 0, 0),
+        (1, [true, false, false, false], 1, 1, 0),
+        (2, [true, true, false, false], 1, 1, 0),
+        (3, [true, true, true, false], 2, 1, 2),
+        (4, [true, true, true, true], 2, 1, 2),
+        (9, [true, true, true, true], 2, 1, 2),
+    ];
+    for (calls, passed, writes, first, second) in table {
+        let mut fuse = FuseDisk::new(MemDisk::new(rt.alloc(), 2)?, calls);
+        assert_eq!(rt; four_calls(&mut fuse), passed, "after {calls} calls");
+        let mut disk = fuse.into_inner();
+        assert_eq!(rt; disk.writes(), writes, "writes behind {calls} calls");
+        assert_eq!(rt; disk.sectors(), 2);
+        assert!(rt;
+            holds(&mut disk, 0, first)?,
+            "sector 0 behind {calls} calls"
+        );
+        assert!(rt;
+            holds(&mut disk, 1, second)?,
+            "sector 1 behind {calls} calls"
+        );
+    }
+    Ok(())
+}

@@ -1,0 +1,11 @@
+mod Counting
+mod NamedCommands
+mod PatchLemmas
+mod PatchSteps
+mod PutLemmas
+mod PlanLemmas
+mod Putting
+mod Repeats
+mod Treating
+mod Voids
+mod WholeTiles

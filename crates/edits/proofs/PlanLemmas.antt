@@ -1,0 +1,72 @@
+-- What a plan says of a command that is the same.
+use Rattle.std.proofs.Common.{◌≡◌, ◌⊎◌, inl, inr, ℕ, Bool, true, false, ◌||◌, IsTrue, List, refl, sym, ◌∙◌, ap, subst}
+use Rattle.std.specs.Prelude.{Result, Ok, Err, IfOk, IfErr}
+use Rattle.std.specs.Global.{Vec}
+use Rattle.std.proofs.lemmas.Bool.{or_left, or_right, both_ways}
+use Rattle.lattice.specs.Mosaic.{Mosaic}
+use Rattle.lattice.specs.declared.refusal.Refusal.{Refusal}
+use Rattle.lattice.specs.declared.refusal.Refusal.TheVariants.{Device, NoMemory, Failed, Damaged}
+use Rattle.catalogue.specs.declared.samples.Samples.{Ghosts}
+use Rattle.catalogue.specs.Readers.{OnlyReads}
+use Rattle.catalogue.proofs.Reading.{reads_nothing}
+use Rattle.edits.specs.declared.change.Change.{Change}
+use Rattle.edits.specs.declared.command.Command.{Command}
+use Rattle.edits.specs.declared.command.Command.TheVariants.{Import, Remove, Patch, Burn, Wall}
+use Rattle.edits.specs.Changes.{all_changed}
+use Rattle.edits.specs.Effect.{effect}
+use Rattle.edits.specs.Plans.{is_own, ends_any, may_end, reads_of}
+
+module _ (capacity : ℕ) (m : Mosaic) (result : Result (Vec Change) Refusal) (a b : Command) (same : a ≡ b) where
+  pub made_as : IfOk result (λ changes. effect capacity m a ≡ Ok (all_changed changes.items m)) → IfOk result (λ changes. effect capacity m b ≡ Ok (all_changed changes.items m))
+  made_as made = subst (λ (c : Command). IfOk result (λ changes. effect capacity m c ≡ Ok (all_changed changes.items m))) same made
+
+  pub refused_as : IfErr result (λ r. IsTrue (is_own a r) → effect capacity m a ≡ Err r) → IfErr result (λ r. IsTrue (is_own b r) → effect capacity m b ≡ Err r)
+  refused_as refused = subst (λ (c : Command). IfErr result (λ r. IsTrue (is_own c r) → effect capacity m c ≡ Err r)) same refused
+
+-- a read's refusal is no command's own
+not_read : (c : Command) (r : Refusal) → ends_any r ≡ true → is_own c r ≡ false
+not_read (Import c b) Device e = refl
+not_read (Import c b) Failed e = refl
+not_read (Import c b) Damaged e = refl
+not_read (Import c b) NoMemory e = refl
+not_read (Import c b) _ e = absurd (both_ways false refl e)
+not_read (Remove c) Device e = refl
+not_read (Remove c) Failed e = refl
+not_read (Remove c) Damaged e = refl
+not_read (Remove c) NoMemory e = refl
+not_read (Remove c) _ e = absurd (both_ways false refl e)
+not_read (Patch f t h) Device e = refl
+not_read (Patch f t h) Failed e = refl
+not_read (Patch f t h) Damaged e = refl
+not_read (Patch f t h) NoMemory e = refl
+not_read (Patch f t h) _ e = absurd (both_ways false refl e)
+not_read (Burn d p) Device e = refl
+not_read (Burn d p) Failed e = refl
+not_read (Burn d p) Damaged e = refl
+not_read (Burn d p) NoMemory e = refl
+not_read (Burn d p) _ e = absurd (both_ways false refl e)
+not_read (Wall h p) Device e = refl
+not_read (Wall h p) Failed e = refl
+not_read (Wall h p) Damaged e = refl
+not_read (Wall h p) NoMemory e = refl
+not_read (Wall h p) _ e = absurd (both_ways false refl e)
+
+module _ {T : Type 0} (command : Command) where
+  nothing_read : (result : Result T Refusal) → IfErr result (λ r. (r ≡ NoMemory) ⊎ IsTrue (is_own command r)) → reads_of result ≡ Ok tt
+  nothing_read (Ok x) why = refl
+  nothing_read (Err Device) (inl e) = absurd (cc)
+  nothing_read (Err Device) (inr own) = absurd (both_ways (is_own command Device) (not_read command Device refl) own)
+  nothing_read (Err Failed) (inl e) = absurd (cc)
+  nothing_read (Err Failed) (inr own) = absurd (both_ways (is_own command Failed) (not_read command Failed refl) own)
+  nothing_read (Err Damaged) (inl e) = absurd (cc)
+  nothing_read (Err Damaged) (inr own) = absurd (both_ways (is_own command Damaged) (not_read command Damaged refl) own)
+  nothing_read (Err _) why = refl
+
+  pub unread : {S : Type 0} (g : Ghosts S) → ((s : S) → g.is_honest s → g.keeps s s) → (s : S) (result : Result T Refusal) → IfErr result (λ r. (r ≡ NoMemory) ⊎ IsTrue (is_own command r)) →
+      OnlyReads {T = Unit {0}} g s s (reads_of result)
+  unread {S = S} g keeps_itself s result why = subst (λ (r : Result (Unit {0}) Refusal). OnlyReads {T = Unit {0}} g s s r) (sym (nothing_read result why)) (reads_nothing g keeps_itself s tt)
+
+  pub cause_from : (result : Result T Refusal) → IfErr result (λ r. (r ≡ NoMemory) ⊎ IsTrue (is_own command r)) → IfErr result (λ r. IsTrue (may_end command r))
+  cause_from (Ok x) why = tt
+  cause_from (Err r) (inl e) = or_right (is_own command r) (ends_any r) (ap ends_any e)
+  cause_from (Err r) (inr own) = or_left (is_own command r) (ends_any r) own

@@ -1,0 +1,61 @@
+-- The effect of the commands of whole tiles, by what the code asks.
+use Rattle.std.proofs.Common.{◌≡◌, ℕ, ◌*◌, ◌<◌, ◌≤◌, ◌↔◌, Bool, true, false, cond, not, IsTrue, List, [], ◌∷◌, length, map, nat_eq, nat_lt, refl, sym, ◌∙◌, ap, subst, arith}
+use Rattle.std.specs.Prelude.{Result, Ok, Err, IfOk}
+use Rattle.std.specs.Global.{Vec}
+use Rattle.std.specs.List.{All, Contains}
+use Rattle.std.proofs.lemmas.Bool.{false≢true, false_from_ne_true, eq-eqb, ne_eqb, lt-ltb, le-ltb}
+use Rattle.std.proofs.lemmas.List.Elements.{All-nil, All-cons}
+use Rattle.std.proofs.lemmas.List.{length-map}
+use Rattle.lattice.specs.Corners.{Place}
+use Rattle.lattice.specs.Mosaic.{Mosaic, is_present}
+use Rattle.lattice.specs.declared.refusal.Refusal.{Refusal}
+use Rattle.lattice.specs.declared.refusal.Refusal.TheVariants.{BadLength, TileThere, NoTile, Full}
+use Rattle.hgt.specs.Bytes.{samples_in}
+use Rattle.catalogue.specs.Tiles.{corners_of, added, without}
+use Rattle.catalogue.proofs.Presence.{present_iff}
+use Rattle.edits.specs.declared.command.Command.TheVariants.{Import, Remove}
+use Rattle.edits.specs.declared.change.Change.{Change}
+use Rattle.edits.specs.declared.change.Change.TheVariants.{Add, Drop}
+use Rattle.edits.specs.Changes.{all_changed, CanBeMade}
+use Rattle.edits.specs.Effect.{effect}
+
+module _ (m : Mosaic) (cs : List Place) (same : corners_of m ≡ cs) (c : Place) (present : Bool) (says : IsTrue present ↔ Contains cs c) where
+  pub present_is : is_present m c ≡ present
+  present_is = by present (subst (λ l. IsTrue present ↔ Contains l c) (sym same) says)
+    where
+      by : (b : Bool) → (IsTrue b ↔ Contains (corners_of m) c) → is_present m c ≡ b
+      by true h = (present_iff m c).1 (h.0 refl)
+      by false h = false_from_ne_true (is_present m c) (λ e. false≢true (h.1 ((present_iff m c).0 e)))
+
+  pub remove_refused : (capacity : ℕ) → present ≡ false → effect capacity m (Remove c) ≡ Err NoTile
+  remove_refused capacity absent = rw (present_is ∙ absent) refl
+
+  pub remove_accepted : (capacity : ℕ) (changes : List Change) → present ≡ true → changes ≡ Drop c ∷ [] → effect capacity m (Remove c) ≡ Ok (all_changed changes m)
+  remove_accepted capacity changes there only = rw (present_is ∙ there, only) refl
+
+  module _ (capacity : ℕ) (bytes : List ℕ) (whole : length bytes ≡ 2 * (m.side * m.side)) where
+    whole_is : nat_eq (length bytes) (2 * (m.side * m.side)) ≡ true
+    whole_is = eq-eqb (length bytes) (2 * (m.side * m.side)) whole
+
+    pub import_there : present ≡ true → effect capacity m (Import c bytes) ≡ Err TileThere
+    import_there there = rw (whole_is, present_is ∙ there) refl
+
+    count_is : length m.tiles ≡ length cs
+    count_is = sym (length-map m.tiles (λ t. t.corner)) ∙ ap length same
+
+    pub import_full : present ≡ false → capacity ≤ length cs → effect capacity m (Import c bytes) ≡ Err Full
+    import_full absent full =
+        let no_room : nat_lt (length m.tiles) capacity ≡ false = le-ltb (length m.tiles) capacity (omega (arith, count_is)) in
+        rw (whole_is, present_is ∙ absent, no_room) refl
+
+    pub import_accepted : (samples : List _) (changes : List Change) → present ≡ false → (capacity ≤ length cs → ⊥) → samples ≡ samples_in bytes → changes ≡ Add c samples ∷ [] →
+        effect capacity m (Import c bytes) ≡ Ok (all_changed changes m)
+    import_accepted samples changes absent room read only =
+        let some_room : nat_lt (length m.tiles) capacity ≡ true = lt-ltb (length m.tiles) capacity (omega (arith, count_is)) in
+        rw (whole_is, present_is ∙ absent, some_room, only, read) refl
+
+pub added_fits : (n : ℕ) (cs : List Place) (c : Place) (present : Bool) (samples : List _) (changes : List Change) →
+    (IsTrue present ↔ Contains cs c) → present ≡ false → length samples ≡ n * n → changes ≡ Add c samples ∷ [] → All (CanBeMade n cs) changes
+added_fits n cs c present samples changes says absent whole only =
+    let no_tile : ¬ Contains cs c = λ here. false≢true (sym absent ∙ says.1 here) in
+    subst (All (CanBeMade n cs)) (sym only) (All-cons (CanBeMade n cs) (Add c samples) [] (no_tile, whole) (All-nil (CanBeMade n cs)))

@@ -1,0 +1,74 @@
+use Rattle.std.proofs.Common.{◌≡◌, ◌∙◌, ℤ, IsTrue, ap, sym, subst, rules, to_z, of_z}
+use Rattle.std.proofs.lemmas.Int.{to_z-of_z}
+use Rattle.std.specs.Prelude.{IfErr}
+use mir.Syntax.{w32}
+use mir.Val.{SFits}
+use Rattle.edits.specs.declared.command.Command.{Command}
+use Rattle.edits.specs.declared.command.Command.TheVariants.{Import, Remove, Patch, Burn, Wall}
+use Rattle.edits.specs.Plans.{may_end}
+use Rattle.edits.proofs.PlanLemmas.{made_as, refused_as, unread, cause_from}
+use Rattle.edits.proofs.planning.plan.Goals as goal
+
+pub returns-in-Import-clause-changes : goal.returns-in-Import-clause-changes
+returns-in-Import-clause-changes g c = λ honest.
+    made_as c.args.capacity (g.S.Samples.mosaic c.args.samples.now) c.import.result (Import c.in-Import.corner c.in-Import.bytes) c.args.command.now (sym c.in-Import.is) (c.import.ensures.changes honest)
+
+pub returns-in-Import-clause-refused : goal.returns-in-Import-clause-refused
+returns-in-Import-clause-refused g c = λ honest.
+    refused_as c.args.capacity (g.S.Samples.mosaic c.args.samples.now) c.import.result (Import c.in-Import.corner c.in-Import.bytes) c.args.command.now (sym c.in-Import.is) (c.import.ensures.refused honest)
+
+pub returns-in-Import-clause-reads : goal.returns-in-Import-clause-reads
+returns-in-Import-clause-reads g c = unread (Import c.in-Import.corner c.in-Import.bytes) g.S.Samples g.met.S.Samples.keeps_itself c.args.samples.now c.import.result c.import.ensures.causes
+
+pub returns-in-Import-clause-causes : goal.returns-in-Import-clause-causes
+returns-in-Import-clause-causes g c = subst (λ (k : Command). IfErr c.import.result (λ r. IsTrue (may_end k r))) (sym c.in-Import.is) (cause_from (Import c.in-Import.corner c.in-Import.bytes) c.import.result c.import.ensures.causes)
+
+pub returns-in-Remove-clause-changes : goal.returns-in-Remove-clause-changes
+returns-in-Remove-clause-changes g c = λ honest.
+    made_as c.args.capacity (g.S.Samples.mosaic c.args.samples.now) c.remove.result (Remove c.in-Remove.corner) c.args.command.now (sym c.in-Remove.is) (c.remove.ensures.changes c.args.capacity honest)
+
+pub returns-in-Remove-clause-refused : goal.returns-in-Remove-clause-refused
+returns-in-Remove-clause-refused g c = λ honest.
+    refused_as c.args.capacity (g.S.Samples.mosaic c.args.samples.now) c.remove.result (Remove c.in-Remove.corner) c.args.command.now (sym c.in-Remove.is) (c.remove.ensures.refused c.args.capacity honest)
+
+pub returns-in-Remove-clause-reads : goal.returns-in-Remove-clause-reads
+returns-in-Remove-clause-reads g c = unread (Remove c.in-Remove.corner) g.S.Samples g.met.S.Samples.keeps_itself c.args.samples.now c.remove.result c.remove.ensures.causes
+
+pub returns-in-Remove-clause-causes : goal.returns-in-Remove-clause-causes
+returns-in-Remove-clause-causes g c = subst (λ (k : Command). IfErr c.remove.result (λ r. IsTrue (may_end k r))) (sym c.in-Remove.is) (cause_from (Remove c.in-Remove.corner) c.remove.result c.remove.ensures.causes)
+
+pub returns-in-Patch-clause-changes : goal.returns-in-Patch-clause-changes
+returns-in-Patch-clause-changes g c = λ honest.
+    let fits : SFits w32 c.in-Patch.height = search rules in
+    let same : (Patch c.in-Patch.from c.in-Patch.to (to_z w32 (of_z w32 c.in-Patch.height))) ≡ c.args.command.now = ap (λ (d : ℤ). Patch c.in-Patch.from c.in-Patch.to d) (to_z-of_z w32 c.in-Patch.height fits) ∙ sym c.in-Patch.is in
+    made_as c.args.capacity (g.S.Samples.mosaic c.args.samples.now) c.patch.result (Patch c.in-Patch.from c.in-Patch.to (to_z w32 (of_z w32 c.in-Patch.height))) c.args.command.now same (c.patch.ensures.changes c.args.capacity honest)
+
+pub returns-in-Patch-clause-refused : goal.returns-in-Patch-clause-refused
+returns-in-Patch-clause-refused g c = λ honest.
+    let fits : SFits w32 c.in-Patch.height = search rules in
+    let same : (Patch c.in-Patch.from c.in-Patch.to (to_z w32 (of_z w32 c.in-Patch.height))) ≡ c.args.command.now = ap (λ (d : ℤ). Patch c.in-Patch.from c.in-Patch.to d) (to_z-of_z w32 c.in-Patch.height fits) ∙ sym c.in-Patch.is in
+    refused_as c.args.capacity (g.S.Samples.mosaic c.args.samples.now) c.patch.result (Patch c.in-Patch.from c.in-Patch.to (to_z w32 (of_z w32 c.in-Patch.height))) c.args.command.now same (c.patch.ensures.refused c.args.capacity honest)
+
+pub returns-in-Burn-clause-changes : goal.returns-in-Burn-clause-changes
+returns-in-Burn-clause-changes g c = λ honest.
+    let fits : SFits w32 c.in-Burn.depth = search rules in
+    let same : (Burn (to_z w32 (of_z w32 c.in-Burn.depth)) c.in-Burn.points) ≡ c.args.command.now = ap (λ (d : ℤ). Burn d c.in-Burn.points) (to_z-of_z w32 c.in-Burn.depth fits) ∙ sym c.in-Burn.is in
+    made_as c.args.capacity (g.S.Samples.mosaic c.args.samples.now) c.burn.result (Burn (to_z w32 (of_z w32 c.in-Burn.depth)) c.in-Burn.points) c.args.command.now same (c.burn.ensures.changes c.args.capacity honest)
+
+pub returns-in-Burn-clause-refused : goal.returns-in-Burn-clause-refused
+returns-in-Burn-clause-refused g c = λ honest.
+    let fits : SFits w32 c.in-Burn.depth = search rules in
+    let same : (Burn (to_z w32 (of_z w32 c.in-Burn.depth)) c.in-Burn.points) ≡ c.args.command.now = ap (λ (d : ℤ). Burn d c.in-Burn.points) (to_z-of_z w32 c.in-Burn.depth fits) ∙ sym c.in-Burn.is in
+    refused_as c.args.capacity (g.S.Samples.mosaic c.args.samples.now) c.burn.result (Burn (to_z w32 (of_z w32 c.in-Burn.depth)) c.in-Burn.points) c.args.command.now same (c.burn.ensures.refused c.args.capacity honest)
+
+pub returns-in-Wall-clause-changes : goal.returns-in-Wall-clause-changes
+returns-in-Wall-clause-changes g c = λ honest.
+    let fits : SFits w32 c.in-Wall.height = search rules in
+    let same : (Wall (to_z w32 (of_z w32 c.in-Wall.height)) c.in-Wall.points) ≡ c.args.command.now = ap (λ (d : ℤ). Wall d c.in-Wall.points) (to_z-of_z w32 c.in-Wall.height fits) ∙ sym c.in-Wall.is in
+    made_as c.args.capacity (g.S.Samples.mosaic c.args.samples.now) c.wall.result (Wall (to_z w32 (of_z w32 c.in-Wall.height)) c.in-Wall.points) c.args.command.now same (c.wall.ensures.changes c.args.capacity honest)
+
+pub returns-in-Wall-clause-refused : goal.returns-in-Wall-clause-refused
+returns-in-Wall-clause-refused g c = λ honest.
+    let fits : SFits w32 c.in-Wall.height = search rules in
+    let same : (Wall (to_z w32 (of_z w32 c.in-Wall.height)) c.in-Wall.points) ≡ c.args.command.now = ap (λ (d : ℤ). Wall d c.in-Wall.points) (to_z-of_z w32 c.in-Wall.height fits) ∙ sym c.in-Wall.is in
+    refused_as c.args.capacity (g.S.Samples.mosaic c.args.samples.now) c.wall.result (Wall (to_z w32 (of_z w32 c.in-Wall.height)) c.in-Wall.points) c.args.command.now same (c.wall.ensures.refused c.args.capacity honest)

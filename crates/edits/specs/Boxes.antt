@@ -1,0 +1,20 @@
+-- Boxes row by row.
+use Rattle.std.specs.Prelude.{ℕ, pos, ◌+ℤ◌, int_le, int_lt, Bool, ◌&&◌}
+use Rattle.std.specs.Ordering.{int_eq}
+use Rattle.lattice.specs.declared.point.Point.{Point}
+use Rattle.lattice.specs.Mosaic.{Mosaic}
+use Rattle.edits.specs.Effect.{is_void_at}
+
+-- of so many points from this one on eastwards
+abbrev pub is_in_row : Point → ℕ → Point → Bool
+is_in_row start columns p = int_eq p.y start.y && (int_le start.x p.x && int_lt p.x (start.x +ℤ pos columns))
+
+-- of so many such rows, northwards
+abbrev pub is_in_rows : Point → ℕ → ℕ → Point → Bool
+is_in_rows start rows columns p = (int_le start.y p.y && int_lt p.y (start.y +ℤ pos rows)) && (int_le start.x p.x && int_lt p.x (start.x +ℤ pos columns))
+
+abbrev pub is_void_in_row : Mosaic → Point → ℕ → Point → Bool
+is_void_in_row m start columns p = is_in_row start columns p && is_void_at m p
+
+abbrev pub is_void_in_rows : Mosaic → Point → ℕ → ℕ → Point → Bool
+is_void_in_rows m start rows columns p = is_in_rows start rows columns p && is_void_at m p

@@ -1,0 +1,9 @@
+pub mod Boxes
+pub mod Changes
+pub mod Effect
+pub mod Outcomes
+pub mod Plans
+pub mod Puts
+pub mod State
+pub mod Touched
+pub mod Treatments

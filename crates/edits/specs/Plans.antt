@@ -1,0 +1,52 @@
+-- How planning a command may be refused (this product's own profile).
+use Rattle.std.specs.Prelude.{◌≡◌, ◌≤◌, ◌*◌, ℕ, length, Bool, true, false, ◌||◌, Result, Ok, Err}
+use Rattle.lattice.specs.declared.refusal.Refusal.{Refusal}
+use Rattle.lattice.specs.declared.refusal.Refusal.TheVariants.{BadLength, TileThere, NoTile, Full, Outside, Void, NothingVoid, BadHeight, BadDepth, BadBox, Repeated, TooDeep, Device, NoMemory, Failed, Damaged}
+use Rattle.edits.specs.declared.command.Command.{Command}
+use Rattle.edits.specs.declared.command.Command.TheVariants.{Import, Remove, Patch, Burn, Wall}
+
+-- the refusals of a command's own tests
+abbrev pub is_own : Command → Refusal → Bool
+is_own (Import c bytes) BadLength = true
+is_own (Import c bytes) TileThere = true
+is_own (Import c bytes) Full = true
+is_own (Remove c) NoTile = true
+is_own (Patch from to h) BadHeight = true
+is_own (Patch from to h) BadBox = true
+is_own (Patch from to h) NothingVoid = true
+is_own (Burn depth points) BadDepth = true
+is_own (Burn depth points) Repeated = true
+is_own (Burn depth points) Outside = true
+is_own (Burn depth points) Void = true
+is_own (Burn depth points) TooDeep = true
+is_own (Wall h points) BadHeight = true
+is_own (Wall h points) Repeated = true
+is_own (Wall h points) Outside = true
+is_own (Wall h points) Void = true
+is_own _ _ = false
+
+-- those that may end the planning of any command: no memory, or a read
+abbrev pub ends_any : Refusal → Bool
+ends_any NoMemory = true
+ends_any Device = true
+ends_any Failed = true
+ends_any Damaged = true
+ends_any _ = false
+
+abbrev pub may_end : Command → Refusal → Bool
+may_end command r = is_own command r || ends_any r
+
+-- how the reads of a call went that may also be refused for other reasons
+abbrev pub reads_of : {T : Type 0} → Result T Refusal → Result (Unit {0}) Refusal
+reads_of (Err Device) = Err Device
+reads_of (Err Failed) = Err Failed
+reads_of (Err Damaged) = Err Damaged
+reads_of _ = Ok tt
+
+-- how many changes a command comes to
+abbrev pub IsFew : Command → ℕ → Type 0
+IsFew (Import c bytes) changes = changes ≡ 1
+IsFew (Remove c) changes = changes ≡ 1
+IsFew (Patch from to h) changes = Unit {0}
+IsFew (Burn depth points) changes = changes ≤ 4 * length points.items
+IsFew (Wall h points) changes = changes ≤ 4 * length points.items

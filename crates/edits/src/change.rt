@@ -1,0 +1,61 @@
+//! The changes that a command comes to.
+ghost use Rattle.std.specs.Prelude.{◌≡◌};
+
+use lattice::Corner;
+use std::marker::Model;
+
+/// The samples of a whole tile: row by row from the north, in a row from the west, in metres.
+#[derive(Drop)]
+pub struct TileSamples {
+    samples: Vec<i16>,
+}
+
+impl Model for TileSamples {
+    ghost use Rattle.std.specs.Prelude.{List, ℤ};
+
+    ghost Value = { List ℤ };
+
+    ghost view = { λ s. s.samples.items };
+}
+
+impl TileSamples {
+    /// These samples; takes no memory.
+    pub fn new(samples: Vec<i16>) -> TileSamples
+        ensures { result ≡ samples.items }
+    {
+        TileSamples { samples }
+    }
+
+    pub fn as_slice(&self) -> &[i16]
+        ensures { result.now ≡ self.now }
+    {
+        &self.samples
+    }
+
+    /// The samples back; takes no memory.
+    pub fn into_vec(self) -> Vec<i16>
+        ensures { result.items ≡ self }
+    {
+        self.samples
+    }
+}
+
+/// One change of a mosaic.
+#[derive(Drop)]
+pub enum Change {
+    /// A tile comes in.
+    Add {
+        corner: Corner,
+        samples: TileSamples,
+    },
+    /// The corner's tile goes.
+    Drop {
+        corner: Corner,
+    },
+    /// The sample at the index of the corner's tile gets this value.
+    Set {
+        corner: Corner,
+        index: u32,
+        sample: i16,
+    },
+}

@@ -1,0 +1,145 @@
+//! The command that fills voids.
+ghost use Rattle.std.specs.Prelude.{◌≡◌, ℕ, true, false, ◌||◌, ◌&&◌, ◌^◌, ◌≤ℤ◌, ◌+ℤ◌, ◌-ℤ◌, ◌<ℤ◌, int_le, int_lt, pos, All, IsTrue, IfOk, IfErr, OnOk, IfSome, IfNone};
+ghost use Rattle.lattice.specs.Ground.{same_point};
+ghost use Rattle.catalogue.specs.Readers.{OnlyReads};
+ghost use Rattle.edits.specs.Boxes.{is_void_in_row, is_void_in_rows};
+ghost use Rattle.edits.specs.Changes.{CanBeMade, all_changed};
+ghost use Rattle.edits.specs.Effect.{effect, is_void_at};
+ghost use Rattle.edits.specs.Plans.{is_own, ends_any, may_end, reads_of};
+ghost use Rattle.edits.specs.Puts.{Puts, PutsAlso};
+ghost use Rattle.edits.specs.declared.command.Command.TheVariants.{Patch};
+
+use crate::Change;
+use crate::named::{LOWEST, put};
+use catalogue::{Samples, height};
+use lattice::{Height, Point, Refusal, Side};
+use std::alloc::Global;
+
+/// The changes that a patch comes to. Each point of the box is read once, and each void one written into every present
+/// tile that holds it.
+pub(crate) fn patch<S: Samples>(
+    alloc: Global,
+    samples: &mut S,
+    from: Point,
+    to: Point,
+    height: i32,
+) -> Result<Vec<Change>, Refusal>
+    ensures changes { (capacity : ℕ) → S.is_honest samples.new → IfOk result (λ changes. effect capacity (S.mosaic samples.old) (Patch from to height) ≡ Ok (all_changed changes.items (S.mosaic samples.old))) }
+    ensures refused { (capacity : ℕ) → S.is_honest samples.new → IfErr result (λ r. IsTrue (is_own (Patch from to height) r) → effect capacity (S.mosaic samples.old) (Patch from to height) ≡ Err r) }
+    ensures causes { IfErr result (λ r. IsTrue (may_end (Patch from to height) r)) }
+    ensures fits { IfOk result (λ changes. All (CanBeMade (S.side_of samples.old) (S.corners samples.old)) changes.items) }
+    ensures reads { OnlyReads S.Samples samples.old samples.new (reads_of result) }
+{
+    if height < LOWEST || 32767 < height {
+        return Err(Refusal::BadHeight);
+    }
+    let side = samples.side();
+    let Some(rows) = span(side, from.y, to.y) else {
+        return Err(Refusal::BadBox);
+    };
+    let Some(columns) = span(side, from.x, to.x) else {
+        return Err(Refusal::BadBox);
+    };
+    let changes = patch_rows(alloc, samples, from, rows, columns, height as i16)?;
+    if changes.is_empty() {
+        return Err(Refusal::NothingVoid);
+    }
+    Ok(changes)
+}
+
+// How many samples there are from the one to the other, ends included, if they are in order and at most a side.
+fn span(side: Side, first: i32, last: i32) -> Option<u32>
+    ensures none { IfNone result ((int_le first last && int_lt (last -ℤ first) (pos side)) ≡ false) }
+    ensures some { IfSome result (λ k. ((int_le first last && int_lt (last -ℤ first) (pos side)) ≡ true) × (last +ℤ pos 1 ≡ first +ℤ pos k)) }
+{
+    let apart = i64::from(last) - i64::from(first);
+    if apart < 0 || i64::from(side.samples()) <= apart {
+        return None;
+    }
+    Some(apart as u32 + 1)
+}
+
+// Puts the sample at the void points of so many rows, northwards from this point.
+fn patch_rows<S: Samples>(
+    alloc: Global,
+    samples: &mut S,
+    from: Point,
+    rows: u32,
+    columns: u32,
+    sample: i16,
+) -> Result<Vec<Change>, Refusal>
+    requires north { (from.y +ℤ pos rows) ≤ℤ pos (2 ^ 31) }
+    requires east { (from.x +ℤ pos columns) ≤ℤ pos (2 ^ 31) }
+    ensures voids { S.is_honest samples.new → IfOk result (λ changes. Puts (S.side_of samples.old) (S.corners samples.old) (is_void_in_rows (S.mosaic samples.old) from rows columns) (λ _. sample) changes.items) }
+    ensures fits { IfOk result (λ changes. All (CanBeMade (S.side_of samples.old) (S.corners samples.old)) changes.items) }
+    ensures causes { IfErr result (λ r. IsTrue (ends_any r)) }
+    ensures reads { OnlyReads S.Samples samples.old samples.new (reads_of result) }
+{
+    let mut changes = Vec::new(alloc);
+    for row in 0..rows {
+        let start = north_of(from, row);
+        patch_row(samples, start, columns, sample, &mut changes)?;
+    }
+    Ok(changes)
+}
+
+// Puts the sample at the void points of a row.
+fn patch_row<S: Samples>(
+    samples: &mut S,
+    start: Point,
+    columns: u32,
+    sample: i16,
+    changes: &mut Vec<Change>,
+) -> Result<(), Refusal>
+    requires { (start.x +ℤ pos columns) ≤ℤ pos (2 ^ 31) }
+    ensures voids { S.is_honest samples.new → OnOk result (PutsAlso (S.side_of samples.old) (S.corners samples.old) (is_void_in_row (S.mosaic samples.old) start columns) sample changes.old.items changes.new.items) }
+    ensures fits { OnOk result (All (CanBeMade (S.side_of samples.old) (S.corners samples.old)) changes.old.items → All (CanBeMade (S.side_of samples.old) (S.corners samples.old)) changes.new.items) }
+    ensures causes { IfErr result (λ r. IsTrue (ends_any r)) }
+    ensures reads { OnlyReads S.Samples samples.old samples.new (reads_of result) }
+{
+    for column in 0..columns {
+        let point = east_of(start, column);
+        patch_point(samples, point, sample, changes)?;
+    }
+    Ok(())
+}
+
+// Puts the sample at the point, if that is void.
+fn patch_point<S: Samples>(
+    samples: &mut S,
+    point: Point,
+    sample: i16,
+    changes: &mut Vec<Change>,
+) -> Result<(), Refusal>
+    ensures voids { S.is_honest samples.new → OnOk result (PutsAlso (S.side_of samples.old) (S.corners samples.old) (λ q. same_point q point && is_void_at (S.mosaic samples.old) q) sample changes.old.items changes.new.items) }
+    ensures fits { OnOk result (All (CanBeMade (S.side_of samples.old) (S.corners samples.old)) changes.old.items → All (CanBeMade (S.side_of samples.old) (S.corners samples.old)) changes.new.items) }
+    ensures causes { IfErr result (λ r. IsTrue (ends_any r)) }
+    ensures reads { OnlyReads S.Samples samples.old samples.new (reads_of result) }
+{
+    match height(samples, point)? {
+        Height::Void => put(samples, point, sample, changes),
+        Height::Outside | Height::At(_) => Ok(()),
+    }
+}
+
+// The point so many samples north.
+fn north_of(point: Point, rows: u32) -> Point
+    requires { (point.y +ℤ pos rows) <ℤ pos (2 ^ 31) }
+    ensures { result ≡ record { y = point.y +ℤ pos rows; x = point.x } }
+{
+    Point {
+        y: (i64::from(point.y) + i64::from(rows)) as i32,
+        x: point.x,
+    }
+}
+
+// The point so many samples east.
+fn east_of(point: Point, columns: u32) -> Point
+    requires { (point.x +ℤ pos columns) <ℤ pos (2 ^ 31) }
+    ensures { result ≡ record { y = point.y; x = point.x +ℤ pos columns } }
+{
+    Point {
+        y: point.y,
+        x: (i64::from(point.x) + i64::from(columns)) as i32,
+    }
+}

@@ -1,0 +1,44 @@
+//! What a command comes to.
+ghost use Rattle.std.specs.Prelude.{◌≡◌, All, IsTrue, IfOk, IfErr, vec_len};
+ghost use Rattle.catalogue.specs.Readers.{OnlyReads};
+ghost use Rattle.edits.specs.Changes.{CanBeMade, all_changed};
+ghost use Rattle.edits.specs.Effect.{effect};
+ghost use Rattle.edits.specs.Plans.{IsFew, is_own, may_end, reads_of};
+
+use crate::named::{burn, wall};
+use crate::patching::patch;
+use crate::tiles::{import, remove};
+use crate::{Change, Command};
+use catalogue::Samples;
+use lattice::Refusal;
+use std::alloc::Global;
+
+/// The changes that carry out the command, one after another, where at most `capacity` tiles may be present; or the
+/// first of its refusals that applies. The samples are only read.
+///
+/// A burn or a wall comes to at most four changes a point, an import or a removal to one.
+pub fn plan<S: Samples>(
+    alloc: Global,
+    samples: &mut S,
+    capacity: u32,
+    command: &Command,
+) -> Result<Vec<Change>, Refusal>
+    ensures changes { S.is_honest samples.new → IfOk result (λ changes. effect capacity (S.mosaic samples.old) command.now ≡ Ok (all_changed changes.items (S.mosaic samples.old))) }
+
+    // A refusal of the command's own tests is the one that the effect gives.
+    ensures refused { S.is_honest samples.new → IfErr result (λ r. IsTrue (is_own command.now r) → effect capacity (S.mosaic samples.old) command.now ≡ Err r) }
+
+    // Any other is of a read, or for want of memory.
+    ensures causes { IfErr result (λ r. IsTrue (may_end command.now r)) }
+    ensures fits { IfOk result (λ changes. All (CanBeMade (S.side_of samples.old) (S.corners samples.old)) changes.items) }
+    ensures few { IfOk result (λ changes. IsFew command.now (vec_len changes)) }
+    ensures reads { OnlyReads S.Samples samples.old samples.new (reads_of result) }
+{
+    match command {
+        Command::Import { corner, bytes } => import(alloc, samples, capacity, *corner, bytes),
+        Command::Remove { corner } => remove(alloc, samples, *corner),
+        Command::Patch { from, to, height } => patch(alloc, samples, *from, *to, *height),
+        Command::Burn { depth, points } => burn(alloc, samples, *depth, points),
+        Command::Wall { height, points } => wall(alloc, samples, *height, points),
+    }
+}

@@ -1,0 +1,72 @@
+//! The commands of whole tiles.
+ghost use Rattle.std.specs.Prelude.{◌≡◌, ◌⊎◌, ℕ, [], ◌∷◌, All, IsTrue, IfOk, IfErr, vec_len};
+ghost use Rattle.lattice.specs.declared.refusal.Refusal.TheVariants.{NoMemory};
+ghost use Rattle.edits.specs.Changes.{CanBeMade, all_changed};
+ghost use Rattle.edits.specs.Effect.{effect};
+ghost use Rattle.edits.specs.Plans.{is_own};
+ghost use Rattle.edits.specs.declared.command.Command.TheVariants.{Import, Remove};
+
+use crate::room::is_full;
+use crate::{Bytes, Change, TileSamples};
+use catalogue::Samples;
+use lattice::{Corner, Refusal};
+use std::alloc::Global;
+
+/// The change that an import comes to.
+pub(crate) fn import<S: Samples>(
+    alloc: Global,
+    samples: &S,
+    capacity: u32,
+    corner: Corner,
+    bytes: &Bytes,
+) -> Result<Vec<Change>, Refusal>
+    ensures changes { S.is_honest samples.now → IfOk result (λ changes. effect capacity (S.mosaic samples.now) (Import corner bytes.now) ≡ Ok (all_changed changes.items (S.mosaic samples.now))) }
+    ensures refused { S.is_honest samples.now → IfErr result (λ r. IsTrue (is_own (Import corner bytes.now) r) → effect capacity (S.mosaic samples.now) (Import corner bytes.now) ≡ Err r) }
+    ensures causes { IfErr result (λ r. (r ≡ NoMemory) ⊎ IsTrue (is_own (Import corner bytes.now) r)) }
+    ensures fits { IfOk result (λ changes. All (CanBeMade (S.side_of samples.now) (S.corners samples.now)) changes.items) }
+    ensures one { IfOk result (λ changes. vec_len changes ≡ 1) }
+{
+    let side = samples.side();
+    let bytes = bytes.as_slice();
+    if bytes.len() != side.file_bytes() as usize {
+        return Err(Refusal::BadLength);
+    }
+    if samples.present(corner) {
+        return Err(Refusal::TileThere);
+    }
+    if is_full(samples, capacity) {
+        return Err(Refusal::Full);
+    }
+    let samples = TileSamples::new(hgt::samples(alloc, bytes, side)?);
+    just(alloc, Change::Add { corner, samples })
+}
+
+/// The change that a removal comes to.
+pub(crate) fn remove<S: Samples>(
+    alloc: Global,
+    samples: &S,
+    corner: Corner,
+) -> Result<Vec<Change>, Refusal>
+    ensures changes { (capacity : ℕ) → S.is_honest samples.now → IfOk result (λ changes. effect capacity (S.mosaic samples.now) (Remove corner) ≡ Ok (all_changed changes.items (S.mosaic samples.now))) }
+    ensures refused { (capacity : ℕ) → S.is_honest samples.now → IfErr result (λ r. IsTrue (is_own (Remove corner) r) → effect capacity (S.mosaic samples.now) (Remove corner) ≡ Err r) }
+    ensures causes { IfErr result (λ r. (r ≡ NoMemory) ⊎ IsTrue (is_own (Remove corner) r)) }
+    ensures fits { IfOk result (λ changes. All (CanBeMade (S.side_of samples.now) (S.corners samples.now)) changes.items) }
+    ensures one { IfOk result (λ changes. vec_len changes ≡ 1) }
+{
+    if !samples.present(corner) {
+        return Err(Refusal::NoTile);
+    }
+    just(alloc, Change::Drop { corner })
+}
+
+// This change alone.
+fn just(alloc: Global, change: Change) -> Result<Vec<Change>, Refusal>
+    ensures items { IfOk result (λ changes. changes.items ≡ change ∷ []) }
+    ensures len { IfOk result (λ changes. vec_len changes ≡ 1) }
+    ensures refusal { IfErr result (λ r. r ≡ NoMemory) }
+{
+    match Vec::from_array(alloc, [change]) {
+        Ok(changes) => Ok(changes),
+        Err(_) => Err(Refusal::NoMemory),
+    }
+}

@@ -1,0 +1,5 @@
+pub mod Compass
+pub mod Unique
+pub mod Exists
+pub mod FlowPaths
+pub mod MosaicGrid

@@ -1,0 +1,4 @@
+pub mod Drainage
+pub mod FlowPath
+pub mod Grid
+pub mod DrainageLaws

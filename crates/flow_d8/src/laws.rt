@@ -1,0 +1,17 @@
+//! Laws of drainage. Each function does nothing: its contract is the law.
+ghost use Rattle.flow_d8.specs.DrainageLaws.{DistancesAreUnique, DirectionsAreUnique, FlowPathsAreUnique};
+
+/// Each ground point has exactly one flat distance.
+pub fn flat_distances_are_unique()
+    ensures { DistancesAreUnique }
+{}
+
+/// Each ground point has exactly one direction, or drains off the mosaic.
+pub fn directions_are_unique()
+    ensures { DirectionsAreUnique }
+{}
+
+/// Each ground point has exactly one flow path, which ends off the mosaic.
+pub fn flow_paths_are_unique()
+    ensures { FlowPathsAreUnique }
+{}

@@ -1,0 +1,3 @@
+pub mod Words
+pub mod BytesLemmas
+pub mod NameLemmas

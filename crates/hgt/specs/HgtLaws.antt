@@ -1,0 +1,25 @@
+-- Laws of HGT bytes: samples of 16 bits and their bytes say the same.
+use Rattle.std.specs.Prelude.{◌≡◌, ℕ, ◌*◌, ◌%◌, ◌<◌, ℤ, List, All, length}
+use Rattle.lattice.specs.Mosaic.{IsSample}
+use Rattle.hgt.specs.Bytes.{AreHgtBytes, samples_in, hgt_bytes}
+
+abbrev pub IsByte : ℕ → Type 0
+IsByte b = b < 256
+
+-- bytes are the HGT bytes of one list of samples at the most: of those that the bytes hold
+abbrev pub SamplesAreDetermined : Type 0
+SamplesAreDetermined = (n : ℕ) (bytes : List ℕ) (samples : List ℤ) → All IsByte bytes → All IsSample samples → AreHgtBytes n bytes samples → samples ≡ samples_in bytes
+
+-- samples have one list of HGT bytes at the most
+abbrev pub BytesAreDetermined : Type 0
+BytesAreDetermined = (n : ℕ) (bytes : List ℕ) (samples : List ℤ) → All IsByte bytes → All IsSample samples → AreHgtBytes n bytes samples → bytes ≡ hgt_bytes samples
+
+-- and each list of samples has one
+abbrev pub SamplesHaveBytes : Type 0
+SamplesHaveBytes = (n : ℕ) (samples : List ℤ) → All IsSample samples → length samples ≡ n * n → AreHgtBytes n (hgt_bytes samples) samples
+
+abbrev pub SamplesReadBack : Type 0
+SamplesReadBack = (samples : List ℤ) → All IsSample samples → samples_in (hgt_bytes samples) ≡ samples
+
+abbrev pub BytesWriteBack : Type 0
+BytesWriteBack = (bytes : List ℕ) → All IsByte bytes → length bytes % 2 ≡ 0 → hgt_bytes (samples_in bytes) ≡ bytes

@@ -1,0 +1,4 @@
+pub mod Bytes
+pub mod HgtLaws
+pub mod Names
+pub mod NameLaws

@@ -1,0 +1,20 @@
+//! HGT files of elevation tiles (SRTM documentation): their names, and the samples that their bytes stand for.
+//!
+//! The layers above rest on this: samples and bytes say the same, both ways, and a name is read exactly where there is
+//! such a corner.
+#![tactic(auto)]
+
+mod bytes;
+mod laws;
+mod name;
+mod side;
+#[cfg(test)]
+mod tests;
+
+pub use bytes::{bytes_of, put_sample, read_samples, sample, samples, write_samples};
+pub use laws::{
+    bytes_are_determined, bytes_write_back, corners_have_names, file_names_are_of_one,
+    names_are_of_one, samples_are_determined, samples_have_bytes, samples_read_back,
+};
+pub use name::{file_name, name_of, name_text};
+pub use side::side_ok;

@@ -1,0 +1,59 @@
+-- A value between the two edges of a tile, as a test, as two inequalities and as a number of steps.
+use Rattle.std.proofs.Common.{◌≡◌, ℕ, ◌≤◌, ℤ, pos, ◌+ℤ◌, ◌-ℤ◌, ◌*ℤ◌, ◌≤ℤ◌, ◌<ℤ◌, int_le, nat_abs, true, false, IsTrue, IsFalse, arith, inl, inr}
+use Rattle.std.proofs.lemmas.Int.{ints}
+use Rattle.std.proofs.lemmas.Bool.{and_parts, and_from, cases_Bool}
+use Rattle.lattice.specs.Lattice.{is_along}
+
+pub le_true : (a b : ℤ) → int_le a b ≡ true → a ≤ℤ b
+le_true a b e = grind (arith, ints)
+
+pub le_from : (a b : ℤ) → a ≤ℤ b → int_le a b ≡ true
+le_from a b h = grind (arith, ints)
+
+pub le_false : (a b : ℤ) → int_le a b ≡ false → b <ℤ a
+le_false a b e = grind (arith, ints)
+
+-- how far v lies above a bound
+pub distance : (low v : ℤ) → low ≤ℤ v → v ≡ low +ℤ pos (nat_abs (v -ℤ low))
+distance low v h = grind (arith, ints)
+
+pub distance_le : (low v : ℤ) (m : ℕ) → low ≤ℤ v → v ≤ℤ (low +ℤ pos m) → nat_abs (v -ℤ low) ≤ m
+distance_le low v m above below = let is = distance low v above in omega (arith, ints)
+
+pub no_farther : (first value gap : ℤ) (m : ℕ) → gap ≡ value -ℤ first → gap ≤ℤ pos m → value ≤ℤ (first +ℤ pos m)
+no_farther first value gap m is small = omega (arith, ints)
+
+pub distance_is : (low v : ℤ) (k : ℕ) → v ≡ low +ℤ pos k → nat_abs (v -ℤ low) ≡ k
+distance_is low v k e = grind (arith, ints)
+
+pub parts : (m : ℕ) (corner v : ℤ) → IsTrue (is_along (pos m) corner v) → ((corner *ℤ pos m) ≤ℤ v) × (v ≤ℤ (corner *ℤ pos m +ℤ pos m))
+parts m corner v e =
+    let both = and_parts (int_le (corner *ℤ pos m) v) (int_le v (corner *ℤ pos m +ℤ pos m)) e in
+    (le_true (corner *ℤ pos m) v both.0, le_true v (corner *ℤ pos m +ℤ pos m) both.1)
+
+pub from_parts : (m : ℕ) (corner v : ℤ) → (corner *ℤ pos m) ≤ℤ v → v ≤ℤ (corner *ℤ pos m +ℤ pos m) → IsTrue (is_along (pos m) corner v)
+from_parts m corner v low high =
+    and_from (int_le (corner *ℤ pos m) v) (int_le v (corner *ℤ pos m +ℤ pos m)) (le_from (corner *ℤ pos m) v low) (le_from v (corner *ℤ pos m +ℤ pos m) high)
+
+-- so many steps above the first edge, and no more than to the other
+pub from_steps : (m : ℕ) (corner v : ℤ) (k : ℕ) → k ≤ m → v ≡ corner *ℤ pos m +ℤ pos k → IsTrue (is_along (pos m) corner v)
+from_steps m corner v k small e = from_parts m corner v (omega (arith, ints)) (omega (arith, ints))
+
+pub steps : (m : ℕ) (corner v : ℤ) → IsTrue (is_along (pos m) corner v) → (k : ℕ) × ((k ≤ m) × (v ≡ corner *ℤ pos m +ℤ pos k))
+steps m corner v e =
+    let within = parts m corner v e in
+    let is : v ≡ corner *ℤ pos m +ℤ pos (nat_abs (v -ℤ corner *ℤ pos m)) = distance (corner *ℤ pos m) v within.0 in
+    (nat_abs (v -ℤ corner *ℤ pos m), (omega (arith, ints), is))
+
+-- below the first edge, or beyond the other
+pub outside_below : (m : ℕ) (corner v : ℤ) → v <ℤ (corner *ℤ pos m) → IsFalse (is_along (pos m) corner v)
+outside_below m corner v low = elim (cases_Bool (is_along (pos m) corner v)) [
+  | inl held ↦ let within = parts m corner v held in absurd (omega (arith, ints))
+  | inr out ↦ out
+]
+
+pub outside_above : (m : ℕ) (corner v : ℤ) → (corner *ℤ pos m +ℤ pos m) <ℤ v → IsFalse (is_along (pos m) corner v)
+outside_above m corner v high = elim (cases_Bool (is_along (pos m) corner v)) [
+  | inl held ↦ let within = parts m corner v held in absurd (omega (arith, ints))
+  | inr out ↦ out
+]

@@ -1,0 +1,119 @@
+-- Adjacency is between ground points and goes both ways, and outlets are ground: on a mosaic and in a block.
+use Rattle.std.proofs.Common.{◌≡◌, ℕ, ◌+◌, ◌/◌, ◌%◌, ◌<◌, ℤ, ◌-ℤ◌, Bool, true, false, IsTrue, ◌&&◌, ◌||◌, not, List, [], ◌∷◌, refl, sym, ◌∙◌, ap, ap₂, nat_abs, arith, ⊎_elim, inl, inr}
+use Rattle.std.specs.Prelude.{nat_lt, nat_le, nat_eq}
+use Rattle.std.specs.Ordering.{int_eq}
+use Rattle.std.specs.List.{list_any}
+use Rattle.std.proofs.lemmas.Bool.{and_parts, and_from, or_cases}
+use Rattle.std.proofs.lemmas.Int.{ints}
+use Rattle.std.proofs.lemmas.Bool.Decides.{nat_tests}
+use Rattle.lattice.specs.declared.point.Point.{Point}
+use Rattle.lattice.specs.Lattice.{holds}
+use Rattle.lattice.specs.Terrain.{IsLawful}
+use Rattle.lattice.specs.Mosaic.{Mosaic, Tile}
+use Rattle.lattice.specs.Ground.{is_ground, same_point, is_near, share_tile, is_adjacent, is_outlet, terrain}
+use Rattle.lattice.specs.Block.{is_solid, is_linked, is_beside, is_exit, is_inner_outlet, is_rim, block}
+
+pub record AllFive (a b c d e : Bool) : Type 0 where
+  pub first : a ≡ true
+  pub second : b ≡ true
+  pub third : c ≡ true
+  pub fourth : d ≡ true
+  pub fifth : e ≡ true
+
+pub five_parts : (a b c d e : Bool) → (a && b && c && d && e) ≡ true → AllFive a b c d e
+five_parts a b c d e h =
+    let one = and_parts (a && b && c && d) e h in
+    let two = and_parts (a && b && c) d one.0 in
+    let three = and_parts (a && b) c two.0 in
+    let four = and_parts a b three.0 in
+    record { first = four.0; second = four.1; third = three.1; fourth = two.1; fifth = one.1 }
+
+pub five_from : (a b c d e : Bool) → AllFive a b c d e → (a && b && c && d && e) ≡ true
+five_from a b c d e h =
+    and_from (a && b && c && d) e (and_from (a && b && c) d (and_from (a && b) c (and_from a b h.first h.second) h.third) h.fourth) h.fifth
+
+int_eq-swap : (a b : ℤ) → int_eq a b ≡ int_eq b a
+int_eq-swap a b = grind (arith, ints)
+
+nat_abs-swap : (a b : ℤ) → nat_abs (a -ℤ b) ≡ nat_abs (b -ℤ a)
+nat_abs-swap a b = omega (arith, ints)
+
+and-swap : (a b : Bool) → (a && b) ≡ (b && a)
+and-swap true true = refl
+and-swap true false = refl
+and-swap false true = refl
+and-swap false false = refl
+
+share_tile-swap : (n : ℕ) (tiles : List Tile) (p q : Point) →
+    list_any (λ t. holds n t.corner p && holds n t.corner q) tiles ≡ list_any (λ t. holds n t.corner q && holds n t.corner p) tiles
+share_tile-swap n [] p q = refl
+share_tile-swap n (t ∷ rest) p q = ap₂ ◌||◌ (and-swap (holds n t.corner p) (holds n t.corner q)) (share_tile-swap n rest p q)
+
+near-swap : (p q : Point) → is_near p q ≡ is_near q p
+near-swap p q = ap₂ ◌&&◌ (ap (λ d. nat_lt d 2) (nat_abs-swap p.y q.y)) (ap (λ d. nat_lt d 2) (nat_abs-swap p.x q.x))
+
+same_point-swap : (p q : Point) → same_point p q ≡ same_point q p
+same_point-swap p q = ap₂ ◌&&◌ (int_eq-swap p.y q.y) (int_eq-swap p.x q.x)
+
+pub adjacent_both_ways : (m : Mosaic) (p q : Point) → IsTrue (is_adjacent m p q) → IsTrue (is_adjacent m q p)
+adjacent_both_ways m p q h =
+    let parts = five_parts (is_ground m p) (is_ground m q) (not (same_point p q)) (is_near p q) (share_tile m p q) h in
+    five_from (is_ground m q) (is_ground m p) (not (same_point q p)) (is_near q p) (share_tile m q p)
+    (record {
+      first = parts.second;
+      second = parts.first;
+      third = ap not (same_point-swap q p) ∙ parts.third;
+      fourth = near-swap q p ∙ parts.fourth;
+      fifth = share_tile-swap m.side m.tiles q p ∙ parts.fifth;
+    })
+
+pub terrain_is_lawful : (m : Mosaic) → IsLawful (terrain m)
+terrain_is_lawful m = record {
+  from_ground = λ p q h. (five_parts (is_ground m p) (is_ground m q) (not (same_point p q)) (is_near p q) (share_tile m p q) h).first;
+  to_ground = λ p q h. (five_parts (is_ground m p) (is_ground m q) (not (same_point p q)) (is_near p q) (share_tile m p q) h).second;
+  both_ways = adjacent_both_ways m;
+  outlet_ground = λ p h. (and_parts (is_ground m p) _ h).0;
+}
+
+nat_eq-swap : (a b : ℕ) → nat_eq a b ≡ nat_eq b a
+nat_eq-swap a b = grind (arith, nat_tests)
+
+turned : (a b c d : Bool) → (a && b && c && d) ≡ (b && a && d && c)
+turned a b c d = ap₂ (λ x y. x && y) (ap₂ (λ x y. x && y) (and-swap a b) refl) refl ∙ rest (b && a)
+  where
+    rest : (x : Bool) → (x && c && d) ≡ (x && d && c)
+    rest true = and-swap c d
+    rest false = refl
+
+beside-swap : (n e f : ℕ) → is_beside n e f ≡ is_beside n f e
+beside-swap n e f = turned (nat_le (e / n) (f / n + 1)) (nat_le (f / n) (e / n + 1)) (nat_le (e % n) (f % n + 1)) (nat_le (f % n) (e % n + 1))
+
+module _ (n : ℕ) (heights : List ℤ) where
+  linked_parts : (e f : ℕ) → IsTrue (is_linked n heights e f) → AllFive (is_solid n heights e) (is_solid n heights f) (not (nat_eq e f)) (is_beside n e f) true
+  linked_parts e f h = five_parts (is_solid n heights e) (is_solid n heights f) (not (nat_eq e f)) (is_beside n e f) true (and_from (is_linked n heights e f) true h refl)
+
+  linked_both_ways : (e f : ℕ) → IsTrue (is_linked n heights e f) → IsTrue (is_linked n heights f e)
+  linked_both_ways e f h =
+      let parts = linked_parts e f h in
+      (and_parts (is_linked n heights f e) true (five_from (is_solid n heights f) (is_solid n heights e) (not (nat_eq f e)) (is_beside n f e) true
+      (record {
+        first = parts.second;
+        second = parts.first;
+        third = ap not (nat_eq-swap f e) ∙ parts.third;
+        fourth = beside-swap n f e ∙ parts.fourth;
+        fifth = refl;
+      }))).0
+
+  exit_is_solid : (e : ℕ) → IsTrue (is_exit n heights e) → IsTrue (is_solid n heights e)
+  exit_is_solid e h =
+      ⊎_elim (λ rim. (and_parts (is_solid n heights e) (is_rim n e) rim).0)
+      (λ inner. (and_parts (is_solid n heights e) (not (is_rim n e)) (and_parts (is_solid n heights e && not (is_rim n e)) _ inner).0).0)
+      (or_cases (is_solid n heights e && is_rim n e) (is_inner_outlet n heights e) h)
+
+  pub block_is_lawful : IsLawful (block n heights)
+  block_is_lawful = record {
+    from_ground = λ e f h. (linked_parts e f h).first;
+    to_ground = λ e f h. (linked_parts e f h).second;
+    both_ways = linked_both_ways;
+    outlet_ground = exit_is_solid;
+  }

@@ -1,0 +1,88 @@
+-- Filled levels of any terrain: there is at most one, an outlet's is its height, and each step of a flood finds one
+-- (after the correctness argument of Barnes, Lehman and Mulla 2014).
+use Rattle.std.proofs.Common.{◌≡◌, ℤ, ◌≤ℤ◌, Bool, true, false, IsTrue, IsFalse, List, [], ◌∷◌, refl, sym, ap, ◌∙◌, subst, arith, inl, inr, true≢false}
+use Rattle.std.specs.Int.{int_max}
+use Rattle.std.proofs.lemmas.Int.{ints, clamps}
+use Rattle.std.proofs.lemmas.Bool.{cases_Bool}
+use Rattle.lattice.specs.Terrain.{Terrain, IsPath, end_of, crest, LeadsOut, IsFilledLevel, IsLawful}
+
+pub le-max_left : (a b : ℤ) → a ≤ℤ int_max a b
+le-max_left a b = omega (arith, ints, clamps)
+
+pub le-max_right : (a b : ℤ) → b ≤ℤ int_max a b
+le-max_right a b = omega (arith, ints, clamps)
+
+pub max-le : (a b c : ℤ) → a ≤ℤ c → b ≤ℤ c → int_max a b ≤ℤ c
+max-le a b c ac bc = omega (arith, ints, clamps)
+
+pub ≤ℤ_trans : (a b c : ℤ) → a ≤ℤ b → b ≤ℤ c → a ≤ℤ c
+≤ℤ_trans a b c ab bc = omega (arith, ints)
+
+pub ≤ℤ_same : (a : ℤ) → a ≤ℤ a
+≤ℤ_same a = omega (arith, ints)
+
+pub ≤ℤ_antisym : (a b : ℤ) → a ≤ℤ b → b ≤ℤ a → a ≡ b
+≤ℤ_antisym a b ab ba = omega (arith, ints)
+
+module _ {P : Type 0} (t : Terrain P) where
+  -- a point has at most one filled level
+  pub level_is_unique : (x : P) (k l : ℤ) → IsFilledLevel t x k → IsFilledLevel t x l → k ≡ l
+  level_is_unique x k l hk hl = ≤ℤ_antisym k l
+      (subst (λ v. k ≤ℤ v) hl.reached.1.1 (hk.least hl.reached.0 hl.reached.1.0))
+      (subst (λ v. l ≤ℤ v) hk.reached.1.1 (hl.least hk.reached.0 hk.reached.1.0))
+
+  -- the height of the first point is at most the crest
+  pub height-le_crest : (x : P) (rest : List P) → t.height x ≤ℤ crest t x rest
+  height-le_crest x [] = ≤ℤ_same (t.height x)
+  height-le_crest x (y ∷ rest) = le-max_left (t.height x) (crest t y rest)
+
+  -- a filled level is at least the height
+  pub height-le_level : (x : P) (l : ℤ) → IsFilledLevel t x l → t.height x ≤ℤ l
+  height-le_level x l h = subst (λ v. t.height x ≤ℤ v) h.reached.1.1 (height-le_crest x h.reached.0)
+
+  -- an outlet's filled level is its height
+  pub level_of_outlet : (law : IsLawful t) (x : P) → IsTrue (t.is_outlet x) → IsFilledLevel t x (t.height x)
+  level_of_outlet law x out = record {
+    reached = ([], (record { path = law.outlet_ground x out; outlet = out }, refl));
+    least = λ rest way. height-le_crest x rest;
+  }
+
+  module _ (law : IsLawful t) (marked : P → Bool) (level : P → ℤ) (low : ℤ)
+      (outlets : (x : P) → IsTrue (t.is_outlet x) → IsTrue (marked x))
+      (filled : (x : P) → IsTrue (marked x) → IsFilledLevel t x (level x))
+      (border : (w z : P) → IsTrue (marked w) → IsFalse (marked z) → IsTrue (t.is_adjacent w z) → low ≤ℤ level w) where
+    -- a path from a point that isn't marked to an outlet enters the marked points at no less than the least waiting level
+    pub crest_at_border : (z : P) (rest : List P) → IsFalse (marked z) → LeadsOut t z rest → low ≤ℤ crest t z rest
+    crest_at_border z [] off way = absurd (true≢false (sym (outlets z way.outlet) ∙ off))
+    crest_at_border z (w ∷ rest) off way =
+        let on_from_w : LeadsOut t w rest = record { path = way.path.1; outlet = way.outlet } in
+        ≤ℤ_trans low (crest t w rest) (crest t z (w ∷ rest))
+        (elim (cases_Bool (marked w)) [
+          | inl on ↦ ≤ℤ_trans low (level w) (crest t w rest) (border w z on off (law.both_ways z w way.path.0)) ((filled w on).least rest on_from_w)
+          | inr off' ↦ crest_at_border w rest off' on_from_w
+        ])
+        (le-max_right (t.height z) (crest t w rest))
+
+    -- so the greater of that level and its own height is the filled level of a point beside one of that level
+    pub level_beside : (c y : P) → IsTrue (marked c) → level c ≡ low → IsTrue (t.is_adjacent c y) → IsFalse (marked y) → IsFilledLevel t y (int_max (t.height y) low)
+    level_beside c y on is beside off =
+        let from_c = (filled c on).reached in
+        record {
+          reached = (
+            c ∷ from_c.0,
+            (
+              record { path = (law.both_ways c y beside, from_c.1.0.path); outlet = from_c.1.0.outlet },
+              ap (int_max (t.height y)) (from_c.1.1 ∙ is),
+            ),
+          );
+          least = λ rest way. max-le (t.height y) low (crest t y rest) (height-le_crest y rest) (crest_at_border y rest off way);
+        }
+
+  -- where nothing waits, every point that leads out is marked
+  pub all_marked : (law : IsLawful t) (marked : P → Bool)
+      (outlets : (x : P) → IsTrue (t.is_outlet x) → IsTrue (marked x))
+      (closed : (x y : P) → IsTrue (marked x) → IsTrue (t.is_adjacent x y) → IsTrue (marked y))
+      (x : P) (rest : List P) → LeadsOut t x rest → IsTrue (marked x)
+  all_marked law marked outlets closed x [] way = outlets x way.outlet
+  all_marked law marked outlets closed x (y ∷ rest) way =
+      closed y x (all_marked law marked outlets closed y rest (record { path = way.path.1; outlet = way.outlet })) (law.both_ways x y way.path.0)

@@ -1,0 +1,10 @@
+pub mod Along
+pub mod Samples
+pub mod Reach
+pub mod Kept
+pub mod Squares
+pub mod Lawful
+pub mod WaysOut
+pub mod Levels
+pub mod Existence
+pub mod FilledLevels

@@ -1,0 +1,12 @@
+use Rattle.std.proofs.Common.{◌≡◌, ◌≤◌, ◌++◌, drop}
+use Rattle.arrayvec.specs.ArrayVec.{array_vec_len}
+use Rattle.lattice.specs.Steps.{directions}
+use Rattle.lattice.specs.Stepping.{reach_of}
+use Rattle.lattice.proofs.direction.steps.Given as goal
+
+-- what is found, then what the directions to come give, is the answer
+abbrev pub invariant-loop-direction : goal.invariant-loop-direction
+invariant-loop-direction l = record {
+  short : array_vec_len l.found ≤ l.direction-index;
+  whole : l.found.items ++ reach_of l.point (drop l.direction-index directions) ≡ reach_of l.point directions;
+}

@@ -1,0 +1,52 @@
+-- A block: the n by n points of one tile with their heights by the seam rule, as a terrain of its own, and the numbers
+-- of its rim points (this product's own profile, after the tiled flooding of Barnes 2016).
+use Rattle.std.specs.Prelude.{◌≡◌, ℕ, ◌+◌, ◌-◌, ◌*◌, ◌/◌, ◌%◌, ◌<◌, ℤ, Bool, ◌&&◌, ◌||◌, not, if◌then◌else◌, nat_lt, nat_le, nat_eq, List, [], ◌∷◌, length, slice_index_or}
+use Rattle.std.specs.List.{list_all}
+use Rattle.lattice.specs.Corners.{Place}
+use Rattle.lattice.specs.Lattice.{point_of}
+use Rattle.lattice.specs.Terrain.{Terrain}
+use Rattle.lattice.specs.Mosaic.{Mosaic, void, is_void}
+use Rattle.lattice.specs.Height.{height_of}
+use Rattle.lattice.specs.Ground.{metres}
+
+-- the heights are those of the tile's points by the seam rule, by index, void where a point has none
+pub record IsBlockOf (m : Mosaic) (c : Place) (heights : List ℤ) : Type 0 where
+  pub whole : length heights ≡ m.side * m.side
+  pub values : (e : ℕ) → e < m.side * m.side → slice_index_or heights e void ≡ metres (height_of m (point_of m.side c e))
+
+-- in the first or last row or column; points of a block go by their index
+abbrev pub is_rim : ℕ → ℕ → Bool
+is_rim n e = nat_eq (e / n) 0 || nat_eq (e / n + 1) n || nat_eq (e % n) 0 || nat_eq (e % n + 1) n
+
+-- rim points in row order from the north-west, from 0
+abbrev pub rim_number : ℕ → ℕ → ℕ
+rim_number n e = if nat_eq (e / n) 0 then e else (if nat_eq (e / n + 1) n then n + 2 * (n - 2) + e % n
+    else n + 2 * (e / n - 1) + (if nat_eq (e % n) 0 then 0 else 1))
+
+-- the eight points around a point that isn't on the rim
+abbrev pub around : ℕ → ℕ → List ℕ
+around n e = (e - n - 1) ∷ (e - n) ∷ (e - n + 1) ∷ (e - 1) ∷ (e + 1) ∷ (e + n - 1) ∷ (e + n) ∷ (e + n + 1) ∷ []
+
+-- at most one row and one column apart
+abbrev pub is_beside : ℕ → ℕ → ℕ → Bool
+is_beside n e f = nat_le (e / n) (f / n + 1) && nat_le (f / n) (e / n + 1) && nat_le (e % n) (f % n + 1) && nat_le (f % n) (e % n + 1)
+
+module _ (n : ℕ) (heights : List ℤ) where
+  -- a ground point of the block
+  abbrev pub is_solid : ℕ → Bool
+  is_solid e = nat_lt e (n * n) && not (is_void (slice_index_or heights e void))
+
+  -- two different ground points, at most one row and one column apart
+  abbrev pub is_linked : ℕ → ℕ → Bool
+  is_linked e f = is_solid e && is_solid f && not (nat_eq e f) && is_beside n e f
+
+  -- an inner outlet: a ground point off the rim with a void among the eight around it
+  abbrev pub is_inner_outlet : ℕ → Bool
+  is_inner_outlet e = is_solid e && not (is_rim n e) && not (list_all is_solid (around n e))
+
+  -- where a path may leave the block: at a ground rim point, or at an inner outlet
+  abbrev pub is_exit : ℕ → Bool
+  is_exit e = (is_solid e && is_rim n e) || is_inner_outlet e
+
+  abbrev pub block : Terrain ℕ
+  block = record { is_ground = is_solid; height = λ e. slice_index_or heights e void; is_adjacent = is_linked; is_outlet = is_exit }

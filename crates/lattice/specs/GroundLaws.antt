@@ -1,0 +1,26 @@
+-- Laws of ground and filled levels: what each reader of the definitions may count on.
+use Rattle.std.specs.Prelude.{◌≡◌, ℕ, ℤ, IsTrue, List}
+use Rattle.lattice.specs.declared.point.Point.{Point}
+use Rattle.lattice.specs.Terrain.{IsFilledLevel, LeadsOut, IsLawful}
+use Rattle.lattice.specs.Mosaic.{Mosaic, IsMosaic}
+use Rattle.lattice.specs.Ground.{is_ground, terrain}
+use Rattle.lattice.specs.Block.{block}
+
+-- adjacent points are ground and adjacent both ways, and outlets are ground
+abbrev pub TerrainsAreLawful : Type 0
+TerrainsAreLawful = (m : Mosaic) → IsLawful (terrain m)
+
+abbrev pub BlocksAreLawful : Type 0
+BlocksAreLawful = (n : ℕ) (heights : List ℤ) → IsLawful (block n heights)
+
+-- every ground point has a path to an outlet
+abbrev pub WaysOutExist : Type 0
+WaysOutExist = (m : Mosaic) → IsMosaic m → (p : Point) → IsTrue (is_ground m p) → (rest : List Point) × LeadsOut (terrain m) p rest
+
+-- every ground point has a filled level
+abbrev pub FilledLevelsExist : Type 0
+FilledLevelsExist = (m : Mosaic) → IsMosaic m → (p : Point) → IsTrue (is_ground m p) → (level : ℤ) × IsFilledLevel (terrain m) p level
+
+-- and no other
+abbrev pub FilledLevelsAreUnique : Type 0
+FilledLevelsAreUnique = (m : Mosaic) (p : Point) (level other : ℤ) → IsFilledLevel (terrain m) p level → IsFilledLevel (terrain m) p other → level ≡ other

@@ -1,0 +1,14 @@
+pub mod Corners
+pub mod Refusals
+pub mod Steps
+pub mod Stepping
+pub mod Lattice
+pub mod Terrain
+pub mod Mosaic
+pub mod Height
+pub mod Ground
+pub mod Block
+pub mod Degrees
+pub mod LatticeLaws
+pub mod StepLaws
+pub mod GroundLaws

@@ -1,0 +1,56 @@
+-- The mosaic: a finite map from the corners of the present tiles to their samples (SRTM documentation for a tile's
+-- samples and the void; the mosaic is this product's own profile).
+use Rattle.std.specs.Prelude.{◌≡◌, ℕ, ◌*◌, ◌≤◌, ℤ, negsuc, pos, ◌≤ℤ◌, Bool, IsTrue, List, All, length, Option, Some, None, [], ◌∷◌, if◌then◌else◌}
+use Rattle.std.specs.Ordering.{int_eq}
+use Rattle.std.specs.List.{list_any, AllAdjacentBelow}
+use Rattle.lattice.specs.Corners.{Place, is_corner, same_place}
+use Rattle.lattice.specs.Lattice.{IsBefore}
+
+-- the sample of a data void
+abbrev pub void : ℤ
+void = negsuc 32767
+
+abbrev pub is_void : ℤ → Bool
+is_void sample = int_eq sample void
+
+-- a tile: its corner, and its samples row by row from the north, in a row from the west, in metres
+pub record Tile : Type 0 where
+  pub corner : Place
+  pub samples : List ℤ
+
+-- the map as a list of its tiles in their order, no corner twice: each finite map is one such list
+pub record Mosaic : Type 0 where
+  pub side : ℕ
+  pub tiles : List Tile
+
+-- a number of 16 bits
+abbrev pub IsSample : ℤ → Type 0
+IsSample s = (void ≤ℤ s) × (s ≤ℤ pos 32767)
+
+pub record IsTile (n : ℕ) (t : Tile) : Type 0 where
+  pub corner : IsTrue (is_corner t.corner)
+  pub whole : length t.samples ≡ n * n
+  pub samples : All IsSample t.samples
+
+-- whole tiles in the order of their corners, no corner twice
+pub record IsMosaic (m : Mosaic) : Type 0 where
+  pub side_low : 3 ≤ m.side
+  pub side_high : m.side ≤ 3601
+  pub tiles : All (IsTile m.side) m.tiles
+  pub in_order : AllAdjacentBelow (λ a b. IsBefore a.corner b.corner) m.tiles (length m.tiles)
+
+-- no tile is present
+abbrev pub empty_mosaic : ℕ → Mosaic
+empty_mosaic n = record { side = n; tiles = [] }
+
+-- some tile has this corner
+abbrev pub is_present : Mosaic → Place → Bool
+is_present m c = list_any (λ t. same_place t.corner c) m.tiles
+
+-- the samples of the tile with this corner
+abbrev pub samples_among : List Tile → Place → Option (List ℤ)
+samples_among [] c = None
+samples_among (t ∷ rest) c = if same_place t.corner c then Some t.samples else samples_among rest c
+
+abbrev pub samples_of : Mosaic → Place → Option (List ℤ)
+samples_of m c = samples_among m.tiles c

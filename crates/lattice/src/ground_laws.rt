@@ -1,0 +1,27 @@
+//! Laws of ground and filled levels. Each function does nothing: its contract is the law.
+ghost use Rattle.lattice.specs.GroundLaws.{TerrainsAreLawful, BlocksAreLawful, WaysOutExist, FilledLevelsExist, FilledLevelsAreUnique};
+
+/// Adjacency is between ground points and goes both ways, and outlets are ground: on every mosaic.
+pub fn terrains_are_lawful()
+    ensures { TerrainsAreLawful }
+{}
+
+/// The same in the block of a tile.
+pub fn blocks_are_lawful()
+    ensures { BlocksAreLawful }
+{}
+
+/// Every ground point has a path to an outlet.
+pub fn ways_out_exist()
+    ensures { WaysOutExist }
+{}
+
+/// Every ground point has a filled level.
+pub fn filled_levels_exist()
+    ensures { FilledLevelsExist }
+{}
+
+/// A point has at most one filled level.
+pub fn filled_levels_are_unique()
+    ensures { FilledLevelsAreUnique }
+{}

@@ -1,0 +1,26 @@
+//! Laws of the lattice. Each function says its law in its contract, and does nothing.
+ghost use Rattle.lattice.specs.LatticeLaws.{EachIndexHasItsPoint, EachIndexIsOfOnePoint, EachPointHasOneIndex, HeldPointsHaveIndices, EdgesTellHolders, AtMostFourHoldAPoint};
+ghost use Rattle.lattice.specs.StepLaws.{NoDoubleSquare};
+
+/// Within a tile, indices and the points that it holds stand for each other, one to one.
+pub fn index_and_point_are_inverse()
+    ensures point { EachIndexHasItsPoint }
+    ensures one_point { EachIndexIsOfOnePoint }
+    ensures one_index { EachPointHasOneIndex }
+    ensures held { HeldPointsHaveIndices }
+{}
+
+/// A tile holds the points from edge to edge.
+pub fn edges_tell_holders()
+    ensures { EdgesTellHolders }
+{}
+
+/// At most four tiles hold a point.
+pub fn at_most_four_hold_a_point()
+    ensures { AtMostFourHoldAPoint }
+{}
+
+/// No drop over a straight step is as steep as one over a diagonal step.
+pub fn no_double_square()
+    ensures { NoDoubleSquare }
+{}

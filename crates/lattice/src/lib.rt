@@ -1,0 +1,34 @@
+//! The lattice that all tiles share: corners, points, sides, directions and refusals, and the definitions that the
+//! whole product is stated by (`specs/`): tiles and samples, the seam rule, ground and adjacency, paths and filled
+//! levels, blocks.
+//!
+//! The layers above rest on this: the holders of a point are exactly the corners whose tile has a sample there, in the
+//! order of tiles, and a point's index in a tile is known exactly where that tile holds it.
+#![tactic(auto)]
+
+mod corner;
+mod direction;
+mod ground_laws;
+mod height;
+mod holding;
+mod laws;
+mod point;
+mod refusal;
+mod side;
+#[cfg(test)]
+mod tests;
+
+pub use corner::Corner;
+pub use direction::{DIRECTIONS, Dir, Step, steeper, steps};
+pub use ground_laws::{
+    blocks_are_lawful, filled_levels_are_unique, filled_levels_exist, terrains_are_lawful,
+    ways_out_exist,
+};
+pub use height::Height;
+pub use holding::{holders, index_in, point_at};
+pub use laws::{
+    at_most_four_hold_a_point, edges_tell_holders, index_and_point_are_inverse, no_double_square,
+};
+pub use point::Point;
+pub use refusal::Refusal;
+pub use side::Side;

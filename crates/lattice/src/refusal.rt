@@ -1,0 +1,148 @@
+//! Why the product refuses.
+ghost use Rattle.std.specs.Prelude.{◌≡◌};
+
+use std::alloc::AllocError;
+use std::fmt;
+
+/// The one list of refusals, with the number and the word that a reply gives.
+#[derive(Clone, Copy, Debug, PartialEq, Eq)]
+pub enum Refusal {
+    /// The line isn't in the grammar.
+    BadLine,
+    /// No tile or file has such a name.
+    BadName,
+    /// The bytes aren't two a sample of the side, or the input ended within them.
+    BadLength,
+    /// The tile is present.
+    TileThere,
+    /// The tile isn't present.
+    NoTile,
+    /// As many tiles are present as the store has room for.
+    Full,
+    /// No present tile holds the point.
+    Outside,
+    /// The point's height is void.
+    Void,
+    /// No point of the box is void.
+    NothingVoid,
+    /// A height outside -32767 to 32767.
+    BadHeight,
+    /// A depth outside 1 to 32767.
+    BadDepth,
+    /// A box out of order, or of more points than a side each way.
+    BadBox,
+    /// A point named twice.
+    Repeated,
+    /// A height would fall below -32767.
+    TooDeep,
+    /// The disk failed in this call.
+    Device,
+    /// No memory was had in this call.
+    NoMemory,
+    /// An earlier call was refused by the disk, and the store wasn't opened again since.
+    Failed,
+    /// The image isn't a store's.
+    Damaged,
+    /// The commit number can't grow.
+    Worn,
+    /// No gate is open, or a root lacks its magic.
+    NotAStore,
+    /// A root of a version that isn't known.
+    Version,
+    /// A side that the format doesn't take.
+    BadSide,
+    /// A capacity outside 1 to 240.
+    BadCapacity,
+    /// Too few sectors for the side and the capacity.
+    TooSmall,
+}
+
+impl Refusal {
+    ghost use Rattle.lattice.specs.Refusals.{number_of, word_of};
+
+    /// The number of the refusal in replies.
+    pub fn number(self) -> u8
+        ensures { result ≡ number_of self }
+    {
+        match self {
+            Refusal::BadLine => 1,
+            Refusal::BadName => 2,
+            Refusal::BadLength => 3,
+            Refusal::TileThere => 4,
+            Refusal::NoTile => 5,
+            Refusal::Full => 6,
+            Refusal::Outside => 7,
+            Refusal::Void => 8,
+            Refusal::NothingVoid => 9,
+            Refusal::BadHeight => 10,
+            Refusal::BadDepth => 11,
+            Refusal::BadBox => 12,
+            Refusal::Repeated => 13,
+            Refusal::TooDeep => 14,
+            Refusal::Device => 20,
+            Refusal::NoMemory => 21,
+            Refusal::Failed => 22,
+            Refusal::Damaged => 23,
+            Refusal::Worn => 24,
+            Refusal::NotAStore => 30,
+            Refusal::Version => 31,
+            Refusal::BadSide => 32,
+            Refusal::BadCapacity => 33,
+            Refusal::TooSmall => 34,
+        }
+    }
+
+    /// The word of the refusal in replies.
+    pub fn word(self) -> &'static str
+        ensures { result.now ≡ word_of self }
+    {
+        match self {
+            Refusal::BadLine => "BadLine",
+            Refusal::BadName => "BadName",
+            Refusal::BadLength => "BadLength",
+            Refusal::TileThere => "TileThere",
+            Refusal::NoTile => "NoTile",
+            Refusal::Full => "Full",
+            Refusal::Outside => "Outside",
+            Refusal::Void => "Void",
+            Refusal::NothingVoid => "NothingVoid",
+            Refusal::BadHeight => "BadHeight",
+            Refusal::BadDepth => "BadDepth",
+            Refusal::BadBox => "BadBox",
+            Refusal::Repeated => "Repeated",
+            Refusal::TooDeep => "TooDeep",
+            Refusal::Device => "Device",
+            Refusal::NoMemory => "NoMemory",
+            Refusal::Failed => "Failed",
+            Refusal::Damaged => "Damaged",
+            Refusal::Worn => "Worn",
+            Refusal::NotAStore => "NotAStore",
+            Refusal::Version => "Version",
+            Refusal::BadSide => "BadSide",
+            Refusal::BadCapacity => "BadCapacity",
+            Refusal::TooSmall => "TooSmall",
+        }
+    }
+}
+
+impl fmt::Display for Refusal {
+    ghost use Rattle.std.specs.Prelude.{Some};
+    ghost use Rattle.lattice.specs.Refusals.{word_of};
+
+    ghost output = { λ r. Some (word_of r) };
+
+    fn fmt<W: fmt::Write>(&self, f: &mut fmt::Formatter<W>) -> fmt::Result {
+        f.write_str(self.word())
+    }
+}
+
+impl From<AllocError> for Refusal {
+    ghost use Rattle.std.specs.Prelude.{◌≡◌};
+    ghost use Rattle.lattice.specs.declared.refusal.Refusal.TheVariants.{NoMemory};
+
+    ghost from_gives = { λ _ r. r ≡ NoMemory };
+
+    fn from(_: AllocError) -> Refusal {
+        Refusal::NoMemory
+    }
+}

@@ -1,0 +1,146 @@
+use crate::{
+    Corner, DIRECTIONS, Dir, Point, Refusal, Side, holders, index_in, point_at, steeper, steps,
+};
+
+#[test]
+fn corners_lie_on_the_globe(rt: HostRuntime) {
+    for (lat, lon, lies) in [
+        (-90, -180, true),
+        (89, 179, true),
+        (90, 0, false),
+        (-91, 0, false),
+        (0, 180, false),
+        (0, -181, false),
+    ] {
+        assert_eq!(rt; Corner::new(lat, lon).is_some(), lies, "at {lat} {lon}");
+    }
+}
+
+#[test]
+fn sides_measure_tiles(rt: HostRuntime) {
+    assert!(rt; Side::new(2).is_none());
+    assert!(rt; Side::new(3602).is_none());
+    // The sizes of SRTM3 and SRTM1 files.
+    for (samples, bytes) in [(1201, 2_884_802), (3601, 25_934_402)] {
+        let side = Side::new(samples).expect(&rt, "a side");
+        assert_eq!(rt; side.samples(), samples);
+        assert_eq!(rt; side.edge() + 1, samples);
+        assert_eq!(rt; side.area() * 2, bytes);
+        assert_eq!(rt; side.file_bytes(), bytes);
+    }
+}
+
+#[test]
+fn points_are_held_by_these_corners(rt: HostRuntime) {
+    let side = Side::new(3).expect(&rt, "a side");
+    let south_west = Corner { lat: -1, lon: -1 };
+    let south = Corner { lat: -1, lon: 0 };
+    let west = Corner { lat: 0, lon: -1 };
+    let origin = Corner { lat: 0, lon: 0 };
+    let east = Corner { lat: 0, lon: 1 };
+    let four = holders(side, Point { y: 0, x: 0 });
+    assert!(rt; four.as_slice() == [south_west, south, west, origin].as_slice());
+    let two = holders(side, Point { y: 1, x: 2 });
+    assert!(rt; two.as_slice() == [origin, east].as_slice());
+    let one = holders(side, Point { y: 1, x: 1 });
+    assert!(rt; one.as_slice() == [origin].as_slice());
+    // No corner has latitude 90.
+    let polar = holders(side, Point { y: 180, x: 0 });
+    let northmost = [Corner { lat: 89, lon: -1 }, Corner { lat: 89, lon: 0 }];
+    assert!(rt; polar.as_slice() == northmost.as_slice());
+    assert!(rt; holders(side, Point { y: 181, x: 0 }).is_empty());
+}
+
+#[test]
+fn rows_run_from_the_north(rt: HostRuntime) {
+    let side = Side::new(3).expect(&rt, "a side");
+    let corner = Corner { lat: 0, lon: 0 };
+    for (y, x, index) in [(2, 0, 0), (2, 2, 2), (1, 1, 4), (0, 0, 6), (0, 2, 8)] {
+        assert_eq!(rt;
+            index_in(side, corner, Point { y, x }),
+            Some(index),
+            "at {y} {x}"
+        );
+    }
+    assert_eq!(rt; index_in(side, corner, Point { y: 0, x: 3 }), None);
+    assert_eq!(rt; index_in(side, corner, Point { y: -1, x: 0 }), None);
+    assert!(rt; point_at(side, corner, 2) == Point { y: 2, x: 2 });
+}
+
+#[test]
+fn steps_go_clockwise_from_east(rt: HostRuntime) {
+    let around = steps(Point { y: 0, x: 0 });
+    let changes = [
+        (0, 1),
+        (-1, 1),
+        (-1, 0),
+        (-1, -1),
+        (0, -1),
+        (1, -1),
+        (1, 0),
+        (1, 1),
+    ];
+    let codes = [1, 2, 4, 8, 16, 32, 64, 128];
+    assert_eq!(rt; around.len(), 8);
+    for (((step, (y, x)), code), direction) in around
+        .iter()
+        .zip(changes)
+        .zip(codes)
+        .zip(DIRECTIONS)
+    {
+        assert!(rt; step.to == Point { y, x }, "at {y} {x}");
+        assert_eq!(rt; step.direction.code(), code);
+        assert!(rt; step.direction == direction);
+    }
+    // Nothing lies south or west of the least coordinates.
+    assert_eq!(rt;
+        steps(Point {
+            y: i32::MIN,
+            x: i32::MIN
+        })
+        .len(),
+        3
+    );
+}
+
+#[test]
+fn diagonal_steps_are_longer(rt: HostRuntime) {
+    // 2 * 8 * 8 is more than 10 * 10, and 2 * 7 * 7 is less.
+    assert!(rt; steeper(Dir::East, 8, Dir::SouthEast, 10));
+    assert!(rt; !steeper(Dir::East, 7, Dir::SouthEast, 10));
+    assert!(rt; !steeper(Dir::East, 4, Dir::North, 4));
+    assert!(rt; steeper(Dir::North, 65_534, Dir::NorthEast, 65_534));
+}
+
+// Whether replies name the refusal so.
+fn is_named(refusal: Refusal, number: u8, word: &str) -> bool {
+    refusal.number() == number && refusal.word() == word
+}
+
+#[test]
+fn refusals_have_these_numbers_and_words(rt: HostRuntime) {
+    assert!(rt; is_named(Refusal::BadLine, 1, "BadLine"));
+    assert!(rt; is_named(Refusal::BadName, 2, "BadName"));
+    assert!(rt; is_named(Refusal::BadLength, 3, "BadLength"));
+    assert!(rt; is_named(Refusal::TileThere, 4, "TileThere"));
+    assert!(rt; is_named(Refusal::NoTile, 5, "NoTile"));
+    assert!(rt; is_named(Refusal::Full, 6, "Full"));
+    assert!(rt; is_named(Refusal::Outside, 7, "Outside"));
+    assert!(rt; is_named(Refusal::Void, 8, "Void"));
+    assert!(rt; is_named(Refusal::NothingVoid, 9, "NothingVoid"));
+    assert!(rt; is_named(Refusal::BadHeight, 10, "BadHeight"));
+    assert!(rt; is_named(Refusal::BadDepth, 11, "BadDepth"));
+    assert!(rt; is_named(Refusal::BadBox, 12, "BadBox"));
+    assert!(rt; is_named(Refusal::Repeated, 13, "Repeated"));
+    assert!(rt; is_named(Refusal::TooDeep, 14, "TooDeep"));
+    assert!(rt; is_named(Refusal::Device, 20, "Device"));
+    assert!(rt; is_named(Refusal::NoMemory, 21, "NoMemory"));
+    assert!(rt; is_named(Refusal::Failed, 22, "Failed"));
+    assert!(rt; is_named(Refusal::Damaged, 23, "Damaged"));
+    assert!(rt; is_named(Refusal::Worn, 24, "Worn"));
+    assert!(rt; is_named(Refusal::NotAStore, 30, "NotAStore"));
+    assert!(rt; is_named(Refusal::Version, 31, "Version"));
+    assert!(rt; is_named(Refusal::BadSide, 32, "BadSide"));
+    assert!(rt; is_named(Refusal::BadCapacity, 33, "BadCapacity"));
+    assert!(rt; is_named(Refusal::TooSmall, 34, "TooSmall"));
+}

@@ -1,0 +1,141 @@
+//! The free pages of one disk.
+ghost use Rattle.std.specs.Prelude.{◌≡◌, ℕ, ◌-◌, ◌<◌, ◌≤◌, ◌↔◌, IsTrue, IsSome, IfSome, IfNone};
+ghost use Rattle.std.specs.Bool.{OnTrue, OnFalse};
+ghost use Rattle.std.specs.FinSet as set;
+ghost use Rattle.page_alloc.specs.Pages.{IsPage, IsFree, with_page, without_page};
+
+use crate::bits;
+use std::alloc::Global;
+use std::marker::Model;
+
+/// The number of the first page: the sectors before it hold the two roots and their gates.
+pub const FIRST_PAGE: u32 = 4;
+
+/// The free pages of a disk, whose pages are its sectors from `FIRST_PAGE` on.
+///
+/// A bit a sector is kept, and only `new` takes memory.
+#[derive(Drop)]
+pub struct Pages {
+    total: u32,
+    free_count: u32,
+    // Bit p is set where page p is free.
+    words: Vec<u64>,
+    // The word that the last page was taken from.
+    cursor: usize,
+}
+
+impl Model for Pages {
+    ghost use Rattle.page_alloc.specs.Pages.{PageSet, page_set_code};
+    ghost use Rattle.page_alloc.specs.Layout.{pages_below, IsSound};
+
+    ghost Value = { PageSet };
+
+    ghost coded = { page_set_code };
+
+    ghost view = { λ a. record { total = a.total; free = pages_below a.total a.words.items } };
+
+    ghost invariant = { λ a. IsSound a.total a.words.items a.free_count };
+}
+
+impl Pages {
+    /// All pages of a disk of `total` sectors, each of them free. None where there is no memory for them.
+    pub fn new(alloc: Global, total: u32) -> Option<Pages>
+        ensures total { IfSome result (λ pages. pages.total ≡ total) }
+        ensures all_free { IfSome result (λ pages. (page : ℕ) → IsFree pages page ↔ IsPage total page) }
+        ensures count { IfSome result (λ pages. set.len pages.free ≡ total - FIRST_PAGE) }
+    {
+        let words = vec![in alloc; 0; total.div_ceil(64) as usize].ok()?;
+        let mut pages = Pages {
+            total,
+            free_count: 0,
+            words,
+            cursor: 0,
+        };
+        for page in FIRST_PAGE..total {
+            pages.give(page);
+        }
+        Some(pages)
+    }
+
+    /// How many sectors the disk has.
+    pub fn total(&self) -> u32
+        ensures { result ≡ self.now.total }
+    {
+        self.total
+    }
+
+    /// How many pages are free.
+    pub fn free(&self) -> u32
+        ensures count { result ≡ set.len self.now.free }
+        ensures pages { (page : ℕ) → IsFree self.now page → IsPage self.now.total page }
+    {
+        self.free_count
+    }
+
+    /// Takes `page` out of the free pages, and says whether it was one of them: false is a number that is no page of
+    /// this disk, or a page in use.
+    pub fn mark(&mut self, page: u32) -> bool
+        ensures answer { IsTrue result ↔ IsFree self.old page }
+        ensures in_range { OnTrue result (IsPage self.old.total page) }
+        ensures marked { OnTrue result (self.new ≡ without_page self.old page) }
+        ensures unchanged { OnFalse result (self.new ≡ self.old) }
+    {
+        if !self.is_free(page) {
+            return false;
+        }
+        self.remove(page);
+        true
+    }
+
+    /// Takes some free page out of the free pages. None where there is none.
+    pub fn take(&mut self) -> Option<u32>
+        ensures found { IsSome result ↔ (0 < set.len self.old.free) }
+        ensures was_free { IfSome result (λ page. IsFree self.old page) }
+        ensures in_range { IfSome result (λ page. IsPage self.old.total page) }
+        ensures taken { IfSome result (λ page. self.new ≡ without_page self.old page) }
+        ensures unchanged { IfNone result (self.new ≡ self.old) }
+    {
+        let page = self.next_free()?;
+        // The next search goes on from here, so that the words passed are not looked at again.
+        self.cursor = page as usize / 64;
+        self.remove(page);
+        Some(page)
+    }
+
+    /// Gives back a page in use.
+    pub fn give(&mut self, page: u32)
+        requires in_range { IsPage self.old.total page }
+        requires in_use { ¬ IsFree self.old page }
+        ensures { self.new ≡ with_page self.old page }
+    {
+        bits::set(&mut self.words, page as usize);
+        self.free_count += 1;
+    }
+
+    fn is_free(&self, page: u32) -> bool
+        ensures answer { IsTrue result ↔ IsFree self.now page }
+        ensures in_range { OnTrue result (IsPage self.now.total page) }
+    {
+        page < self.total && bits::is_set(&self.words, page as usize)
+    }
+
+    fn next_free(&self) -> Option<u32>
+        ensures found { IsSome result ↔ (0 < set.len self.now.free) }
+        ensures is_free { IfSome result (λ page. IsFree self.now page) }
+        ensures in_range { IfSome result (λ page. IsPage self.now.total page) }
+    {
+        if self.free_count == 0 {
+            return None;
+        }
+        let page = bits::next_set(&self.words, self.cursor)?;
+        Some(page as u32)
+    }
+
+    fn remove(&mut self, page: u32)
+        requires { IsFree self.old page }
+        ensures { self.new ≡ without_page self.old page }
+    {
+        bits::clear(&mut self.words, page as usize);
+        self.free_count -= 1;
+    }
+}

@@ -1,0 +1,14 @@
+//! Which pages of a store's disk are free. The layer above marks the pages that its records reach, takes a free page
+//! for each page that it writes, and gives back what it has no more use for.
+//!
+//! The layer above rests on this: a page that is taken was free and is free no longer, no other page changes, and no
+//! page comes only where none is free.
+#![tactic(auto)]
+
+mod allocator;
+mod bits;
+
+pub use allocator::{FIRST_PAGE, Pages};
+
+#[cfg(test)]
+mod tests;

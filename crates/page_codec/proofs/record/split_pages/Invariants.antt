@@ -1,0 +1,12 @@
+use Rattle.std.proofs.Common.{◌≡◌, ◌+◌, ◌*◌, ◌++◌, length}
+use Rattle.std.specs.List.{flat_map}
+use Rattle.page_codec.specs.Numbers.{u32_bytes}
+use Rattle.page_codec.specs.Records.{IsRecord}
+use Rattle.page_codec.proofs.record.split_pages.Given as goal
+
+abbrev pub invariant-loop : goal.invariant-loop
+invariant-loop l = record {
+  parts : l.bytes ≡ flat_map u32_bytes l.pages.items ++ l.rest;
+  pages : IsRecord l.counter l.pages.items;
+  behind : length l.rest + 4 * l.counter ≡ length l.bytes;
+}

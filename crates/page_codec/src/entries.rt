@@ -1,0 +1,63 @@
+//! The entries of a root.
+ghost use Rattle.std.specs.Prelude.{◌≡◌, ℕ, ◌*◌, ◌≤◌, ◌↔◌, List, length, All, IsTrue, IfSome, IfNone};
+ghost use Rattle.std.specs.List.{flat_map};
+ghost use Rattle.lattice.specs.Corners.{is_before};
+ghost use Rattle.page_codec.specs.Entries.{EntryValue, IsEntry, entry_bytes};
+ghost use Rattle.page_codec.specs.Roots.{AreInOrder};
+ghost use Rattle.page_codec.specs.Headers.{Follows};
+
+use crate::{ENTRY_BYTES, Entry, ROOT_ENTRIES};
+use arrayvec::ArrayVec;
+use lattice::Corner;
+
+/// The entries that these bytes spell, one after another, where they are in their order.
+pub(crate) fn read_entries(bytes: &[u8], tiles: u32) -> Option<ArrayVec<Entry, ROOT_ENTRIES>>
+    requires tiles { tiles ≤ ROOT_ENTRIES }
+    requires bytes { length bytes.now ≡ ENTRY_BYTES * tiles }
+    ensures len { IfSome result (λ found. length found.items ≡ tiles) }
+    ensures each { IfSome result (λ found. All IsEntry found.items) }
+    ensures in_order { IfSome result (λ found. AreInOrder found.items) }
+    ensures spelled { IfSome result (λ found. bytes.now ≡ flat_map entry_bytes found.items) }
+    ensures none { IfNone result ((entries : List EntryValue) → length entries ≡ tiles → All IsEntry entries → AreInOrder entries → bytes.now ≡ flat_map entry_bytes entries → ⊥) }
+{
+    let mut entries = ArrayVec::new();
+    let mut rest = bytes;
+    for _ in 0..tiles {
+        let (front, behind) = rest.split_at(ENTRY_BYTES);
+        let entry = next_entry(front, entries.as_slice())?;
+        entries.push(entry);
+        rest = behind;
+    }
+    Some(entries)
+}
+
+// The entry that these bytes spell, where it may follow the others.
+fn next_entry(bytes: &[u8], entries: &[Entry]) -> Option<Entry>
+    requires { length bytes.now ≡ ENTRY_BYTES }
+    ensures entry { IfSome result IsEntry }
+    ensures follows { IfSome result (λ found. Follows entries.now found.corner) }
+    ensures spelled { IfSome result (λ found. bytes.now ≡ entry_bytes found) }
+    ensures none { IfNone result ((entry : EntryValue) → IsEntry entry → Follows entries.now entry.corner → bytes.now ≡ entry_bytes entry → ⊥) }
+{
+    let entry = Entry::parse(bytes)?;
+    if !follows(entries, entry.corner) {
+        return None;
+    }
+    Some(entry)
+}
+
+// Whether a tile at this corner may come next.
+fn follows(entries: &[Entry], corner: Corner) -> bool
+    ensures { IsTrue result ↔ Follows entries.now corner }
+{
+    match entries.last() {
+        Some(last) => is_before(last.corner, corner),
+        None => true,
+    }
+}
+
+fn is_before(first: Corner, second: Corner) -> bool
+    ensures { result ≡ is_before first second }
+{
+    first < second
+}

@@ -1,0 +1,58 @@
+//! The numbers of a root.
+ghost use Rattle.std.specs.Prelude.{◌≡◌, ◌+◌, ◌≤◌, ◌++◌, length, SomeIff};
+ghost use Rattle.page_codec.specs.Roots.{AreNumbers};
+ghost use Rattle.page_codec.specs.Headers.{number_bytes};
+
+use crate::numbers::{split_u32, split_u64};
+use crate::{MAX_CAPACITY, MAX_SIDE};
+use lattice::Side;
+
+/// The numbers of a root as they stand in its bytes, behind the version.
+#[derive(Clone, Copy)]
+pub(crate) struct Header {
+    pub(crate) side: u32,
+    pub(crate) capacity: u32,
+    pub(crate) tiles: u32,
+    pub(crate) number: u64,
+    pub(crate) count: u64,
+}
+
+/// Bytes of a header's numbers.
+pub(crate) const HEADER_BYTES: usize = 28;
+
+impl Header {
+    /// The numbers at the front, and the bytes behind them.
+    #[tactic(auto, unfolding(crate::specs::Headers::number_bytes))]
+    pub(crate) fn split(bytes: &[u8]) -> (Header, &[u8])
+        requires { HEADER_BYTES ≤ length bytes.now }
+        ensures parts { bytes.now ≡ number_bytes result.0.side result.0.capacity result.0.tiles result.0.number result.0.count ++ result.1.now }
+        ensures rest { length result.1.now + HEADER_BYTES ≡ length bytes.now }
+    {
+        let (side, rest) = split_u32(bytes);
+        let (capacity, rest) = split_u32(rest);
+        let (tiles, rest) = split_u32(rest);
+        let (number, rest) = split_u64(rest);
+        let (count, rest) = split_u64(rest);
+        let header = Header {
+            side,
+            capacity,
+            tiles,
+            number,
+            count,
+        };
+        (header, rest)
+    }
+
+    /// The side, where the numbers keep the rules of a root.
+    pub(crate) fn tested_side(&self) -> Option<Side>
+        ensures { SomeIff result (AreNumbers self.now.side self.now.capacity self.now.tiles self.now.number self.now.count) self.now.side }
+    {
+        let side = Side::new(self.side)?;
+        let is_valid = self.side <= MAX_SIDE
+            && 1 <= self.capacity
+            && self.capacity <= MAX_CAPACITY
+            && self.tiles <= self.capacity
+            && self.count < self.number;
+        if is_valid { Some(side) } else { None }
+    }
+}

@@ -1,0 +1,217 @@
+use crate::*;
+use arrayvec::ArrayVec;
+use lattice::{Corner, Side};
+use std::test::Fail;
+
+fn page_of(front: &[u8]) -> [u8; PAGE_BYTES] {
+    let mut page = [0; PAGE_BYTES];
+    for (byte, given) in page.iter_mut().zip(front) {
+        *byte = *given;
+    }
+    page
+}
+
+// The first 64 bytes of the root of a new store with side 3 and capacity 1.
+const FORMATTED: [u8; 64] = [
+    0x4d, 0x4f, 0x53, 0x41, 0x49, 0x43, 0x53, 0x54, 1, 0, 0, 0, 3, 0, 0, 0, 1, 0, 0, 0, 0, 0, 0, 0,
+    1, 0, 0, 0, 0, 0, 0, 0, 0, 0, 0, 0, 0, 0, 0, 0, 0, 0, 0, 0, 0, 0, 0, 0, 0, 0, 0, 0, 0, 0, 0, 0,
+    0, 0, 0, 0, 0, 0, 0, 0,
+];
+
+// The entry of S01W001 with its heights recorded in page 5 and no kept planes.
+const STALE: [u8; ENTRY_BYTES] = [0xff, 0xff, 0xff, 0xff, 5, 0, 0, 0, 0, 0, 0, 0, 0, 0, 0, 0];
+
+// The root of commit 2, after 1 command: side 3, capacity 1, and N00E000 with its heights recorded in page 5.
+const ONE_TILE: [u8; 80] = [
+    0x4d, 0x4f, 0x53, 0x41, 0x49, 0x43, 0x53, 0x54, 1, 0, 0, 0, 3, 0, 0, 0, 1, 0, 0, 0, 1, 0, 0, 0,
+    2, 0, 0, 0, 0, 0, 0, 0, 1, 0, 0, 0, 0, 0, 0, 0, 0, 0, 0, 0, 0, 0, 0, 0, 0, 0, 0, 0, 0, 0, 0, 0,
+    0, 0, 0, 0, 0, 0, 0, 0, 0, 0, 0, 0, 5, 0, 0, 0, 0, 0, 0, 0, 0, 0, 0, 0,
+];
+
+#[test]
+fn a_new_store(rt: HostRuntime) -> Result<(), Fail> {
+    let side = Side::new(3).ok_or("no side")?;
+    assert_eq!(rt; side.samples(), 3);
+    let root = Root::empty(side, 1);
+    assert!(rt; root.write() == page_of(&FORMATTED));
+    let read = Root::read(&page_of(&FORMATTED)).ok().ok_or("not read")?;
+    assert_eq!(rt; read.side(), side);
+    assert_eq!(rt; read.capacity(), 1);
+    assert_eq!(rt; read.number(), 1);
+    assert_eq!(rt; read.count(), 0);
+    assert!(rt; read.entries().is_empty());
+    Ok(())
+}
+
+#[test]
+fn a_stale_tile(rt: HostRuntime) -> Result<(), Fail> {
+    let corner = Corner::new(-1, -1).ok_or("no corner")?;
+    let entry = Entry {
+        corner,
+        heights: 5,
+        kept: None,
+    };
+    assert_eq!(rt; entry.write(), STALE);
+    assert_eq!(rt; Entry::read(&STALE), Ok(entry));
+    Ok(())
+}
+
+#[test]
+fn a_tile_with_kept_planes(rt: HostRuntime) -> Result<(), Fail> {
+    let corner = Corner::new(89, -180).ok_or("no corner")?;
+    let kept = Kept {
+        levels: 6,
+        labels: 0x0102_0304,
+    };
+    let entry = Entry {
+        corner,
+        heights: 5,
+        kept: Some(kept),
+    };
+    let bytes = [89, 0, 0x4c, 0xff, 5, 0, 0, 0, 6, 0, 0, 0, 4, 3, 2, 1];
+    assert_eq!(rt; entry.write(), bytes);
+    assert_eq!(rt; Entry::read(&bytes), Ok(entry));
+    Ok(())
+}
+
+#[test]
+fn the_next_root(rt: HostRuntime) -> Result<(), Fail> {
+    let side = Side::new(3).ok_or("no side")?;
+    let corner = Corner::new(0, 0).ok_or("no corner")?;
+    let entry = Entry {
+        corner,
+        heights: 5,
+        kept: None,
+    };
+    assert_eq!(rt; side.samples(), 3);
+    let mut entries = ArrayVec::new();
+    entries.push(entry);
+    let root = Root::empty(side, 1).next(1, entries);
+    assert!(rt; root.write() == page_of(&ONE_TILE));
+    let read = Root::read(&page_of(&ONE_TILE)).ok().ok_or("not read")?;
+    assert_eq!(rt; read.number(), 2);
+    assert_eq!(rt; read.count(), 1);
+    assert_eq!(rt; read.entries(), [entry].as_slice());
+    Ok(())
+}
+
+// What two bytes of that root are changed to, and what is said of it then.
+const CHANGES: [(u8, [u8; 2], Option<Damaged>); 21] = [
+    (0, [0x4e, 0x4f], Some(Damaged::Magic)),
+    (8, [9, 0], Some(Damaged::Version)),
+    (12, [2, 0], Some(Damaged::Rule)),
+    (12, [0xb2, 4], Some(Damaged::Rule)),
+    (12, [0xb1, 4], None),
+    (16, [0, 0], Some(Damaged::Rule)),
+    (16, [241, 0], Some(Damaged::Rule)),
+    (16, [240, 0], None),
+    (20, [2, 0], Some(Damaged::Rule)),
+    (24, [0, 0], Some(Damaged::Rule)),
+    (24, [1, 0], Some(Damaged::Rule)),
+    (32, [2, 0], Some(Damaged::Rule)),
+    (44, [1, 0], Some(Damaged::Rule)),
+    (64, [90, 0], Some(Damaged::Rule)),
+    (66, [180, 0], Some(Damaged::Rule)),
+    (68, [0, 0], Some(Damaged::Rule)),
+    (68, [3, 0], None),
+    (72, [6, 0], Some(Damaged::Rule)),
+    (76, [6, 0], Some(Damaged::Rule)),
+    (80, [1, 0], Some(Damaged::Rule)),
+    (255, [0, 1], Some(Damaged::Rule)),
+];
+
+#[test]
+fn hostile_roots(rt: HostRuntime) {
+    for (at, bytes, damaged) in CHANGES {
+        let mut page = page_of(&ONE_TILE);
+        let at = usize::from(at);
+        page[at] = bytes[0];
+        page[at + 1] = bytes[1];
+        assert_eq!(rt; Root::read(&page).err(), damaged, "{bytes:?} at {at}");
+    }
+    let mut last = page_of(&ONE_TILE);
+    last[4095] = 1;
+    assert_eq!(rt; Root::read(&last).err(), Some(Damaged::Rule));
+}
+
+#[test]
+fn the_tests_have_an_order(rt: HostRuntime) {
+    let mut page = page_of(&ONE_TILE);
+    page[16] = 0;
+    page[8] = 2;
+    assert_eq!(rt; Root::read(&page).err(), Some(Damaged::Version));
+    page[7] = 0;
+    assert_eq!(rt; Root::read(&page).err(), Some(Damaged::Magic));
+}
+
+// The greatest commit number, 2^64 - 1.
+#[test]
+fn a_worn_root(rt: HostRuntime) -> Result<(), Fail> {
+    let mut page = page_of(&ONE_TILE);
+    for byte in &mut page[24..32] {
+        *byte = 0xff;
+    }
+    let root = Root::read(&page).ok().ok_or("not read")?;
+    assert_eq!(rt; root.number(), u64::MAX);
+    assert_eq!(rt; root.count(), 1);
+    assert!(rt; root.write() == page);
+    Ok(())
+}
+
+// Capacity 2 and two tiles, the second at this latitude and longitude.
+fn two_tiles(lat: u8, lon: u8) -> [u8; PAGE_BYTES] {
+    let mut page = page_of(&ONE_TILE);
+    page[16] = 2;
+    page[20] = 2;
+    page[80] = lat;
+    page[82] = lon;
+    page[84] = 6;
+    page
+}
+
+#[test]
+fn tiles_have_an_order(rt: HostRuntime) {
+    assert_eq!(rt; Root::read(&two_tiles(0, 1)).err(), None);
+    assert_eq!(rt; Root::read(&two_tiles(1, 0)).err(), None);
+    assert_eq!(rt; Root::read(&two_tiles(0, 0)).err(), Some(Damaged::Rule));
+    let mut falling = two_tiles(0, 0xff);
+    falling[83] = 0xff;
+    assert_eq!(rt; Root::read(&falling).err(), Some(Damaged::Rule));
+    let mut south = two_tiles(0xff, 1);
+    south[81] = 0xff;
+    assert_eq!(rt; Root::read(&south).err(), Some(Damaged::Rule));
+}
+
+#[test]
+fn records(rt: HostRuntime) -> Result<(), Fail> {
+    let mut page = page_of(&[7, 0, 0, 0, 4, 3, 2, 1]);
+    let record = Record::read(&page, 2).ok().ok_or("not read")?;
+    assert_eq!(rt; record.pages.as_slice(), [7, 0x0102_0304].as_slice());
+    assert!(rt; record.write() == page);
+    assert_eq!(rt; Record::read(&page, 1).err(), Some(Damaged::Rule));
+    let longer = Record::read(&page, 1024).ok().ok_or("not read")?;
+    assert_eq!(rt; longer.pages.len(), 1024);
+    page[4095] = 1;
+    assert_eq!(rt; Record::read(&page, 2).err(), Some(Damaged::Rule));
+    Ok(())
+}
+
+// Side, capacity, pages of a plane, sectors of a store.
+const SIZES: [(u32, u32, u32, u32); 5] = [
+    (3, 1, 1, 16),
+    (3, 2, 1, 24),
+    (3, 240, 1, 1928),
+    (1201, 1, 705, 4240),
+    (1201, 240, 705, 679_176),
+];
+
+#[test]
+fn sizes(rt: HostRuntime) -> Result<(), Fail> {
+    for (side, capacity, pages, sectors) in SIZES {
+        let side = Side::new(side).ok_or("no side")?;
+        assert!(rt; capacity <= MAX_CAPACITY);
+        assert_eq!(rt; pages_in_plane(side), pages);
+        assert_eq!(rt; sectors_needed(side, capacity), sectors);
+    }
+    Ok(())
+}

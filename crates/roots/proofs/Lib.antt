@@ -1,0 +1,6 @@
+pub mod Answered
+pub mod Choice
+pub mod Filled
+pub mod OneAnswer
+pub mod Scanned
+pub mod Turns

@@ -1,0 +1,4 @@
+pub mod Found
+pub mod Opening
+pub mod Roots
+pub mod Slots

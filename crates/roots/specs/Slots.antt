@@ -1,0 +1,73 @@
+-- Two roots behind gates, and which of them is current (this product's own profile).
+use Rattle.std.specs.Prelude.{◌≡◌, ◌≢◌, ℕ, ◌≤◌, ◌<◌, List, Bool, true, false, ◌==◌, slice_index}
+use Rattle.disk.specs.Disk.{Image}
+use Rattle.page_codec.specs.Roots.{RootValue, IsRoot, root_bytes}
+use Rattle.roots.specs.declared.slot.Slot.{Slot}
+use Rattle.roots.specs.declared.slot.Slot.TheVariants.{A, B}
+
+-- a gate is open exactly where its first byte is 0xA7
+unfoldable pub is_open : List ℕ → Bool
+is_open bytes = slice_index bytes 0 == 167
+
+-- the sector of a slot's gate
+abbrev pub gate : Slot → ℕ
+gate A = 0
+gate B = 2
+
+-- the sector of its root
+abbrev pub root_sector : Slot → ℕ
+root_sector A = 1
+root_sector B = 3
+
+abbrev pub other : Slot → Slot
+other A = B
+other B = A
+
+-- these bytes are the one spelling of the root
+pub record IsSpelledBy (root : RootValue) (bytes : List ℕ) : Type 0 where
+  pub rules : IsRoot root
+  pub spelled : bytes ≡ root_bytes root
+
+-- the bytes spell some root with a lesser commit number
+abbrev pub IsLaterThan : RootValue → List ℕ → Type 0
+IsLaterThan root bytes = (earlier : RootValue) × IsSpelledBy earlier bytes × (earlier.number < root.number)
+
+-- The root stands behind the gate of this slot, which is open. What stands behind the other gate, if that is open too,
+-- is a root with a lesser commit number.
+pub record IsCurrentIn (slot : Slot) (root : RootValue) (image : Image) : Type 0 where
+  pub opened : is_open (image (gate slot)) ≡ true
+  pub here : IsSpelledBy root (image (root_sector slot))
+  pub greatest : is_open (image (gate (other slot))) ≡ true → IsLaterThan root (image (root_sector (other slot)))
+
+-- an image's current root
+abbrev pub IsCurrent : RootValue → Image → Type 0
+IsCurrent root image = (slot : Slot) × IsCurrentIn slot root image
+
+-- an image has at most one
+abbrev pub OneIsCurrent : Type 0
+OneIsCurrent = (image : Image) (first second : RootValue) → IsCurrent first image → IsCurrent second image → first ≡ second
+
+-- the current root with what is known of the other slot: a root with a lesser commit number, or its gate is closed
+pub record IsAt (slot : Slot) (other_open : Bool) (root : RootValue) (image : Image) : Type 0 where
+  pub current : IsCurrentIn slot root image
+  pub shut : other_open ≡ false → is_open (image (gate (other slot))) ≡ false
+  pub earlier : other_open ≡ true → IsLaterThan root (image (root_sector (other slot)))
+
+-- the same pages
+abbrev pub SamePages : Image → Image → Type 0
+SamePages a b = (k : ℕ) → 4 ≤ k → a k ≡ b k
+
+abbrev pub SamePagesBut : ℕ → Image → Image → Type 0
+SamePagesBut p a b = (k : ℕ) → 4 ≤ k → k ≢ p → a k ≡ b k
+
+-- the image has this current root, and the pages of one of these images
+abbrev pub KeepsAll : RootValue → (Image → Type 0) → Image → Type 0
+KeepsAll root images image = IsCurrent root image × ((d : Image) × images d × SamePages d image)
+
+-- .. but for one page
+abbrev pub KeepsBut : ℕ → RootValue → (Image → Type 0) → Image → Type 0
+KeepsBut p root images image = IsCurrent root image × ((d : Image) × images d × SamePagesBut p d image)
+
+-- the image has this current root, and the pages of that image
+abbrev pub HasMoved : RootValue → Image → Image → Type 0
+HasMoved root pages image = IsCurrent root image × SamePages pages image

@@ -1,0 +1,179 @@
+//! Which root of a disk is current.
+ghost use Rattle.std.specs.Prelude.{◌≡◌, ◌≤◌, ◌<◌, ◌⊎◌, true, false, Ok, Err, OnOk, IfOk, IfErr, IsErrOf, MatchOption};
+ghost use Rattle.disk.specs.Disk.{Only, HasRisen};
+ghost use Rattle.disk.specs.Stops.{AddsNothing, HasCause};
+ghost use Rattle.lattice.specs.declared.refusal.Refusal.TheVariants.{Device};
+ghost use Rattle.page_codec.specs.Sizes.{sectors_of};
+ghost use Rattle.roots.specs.Slots.{is_open, gate, root_sector, IsAt};
+ghost use Rattle.roots.specs.Opening.{ReadsAs, Holds, refusal_of, later, chosen, fitting, OpensAs};
+ghost use Rattle.roots.specs.declared.slot.Slot.TheVariants.{A, B};
+ghost use Rattle.roots.specs.Found.{OnlyReads, HoldsBehind, FoundIn, found_as};
+
+use crate::phase::device;
+use crate::slot::{Slot, is_open_gate};
+use disk::{Disk, Fault};
+use lattice::Refusal;
+use page_codec::{Damaged, Root, sectors_needed};
+
+// The sectors of the gates and the roots.
+const SLOT_SECTORS: u32 = 4;
+
+// The current root, and where it stands.
+#[derive(Drop)]
+pub(crate) struct Found {
+    pub(crate) root: Root,
+    pub(crate) slot: Slot,
+    pub(crate) other_open: bool,
+}
+
+fn refusal_of(damaged: Damaged) -> Refusal
+    ensures { result ≡ refusal_of damaged }
+{
+    match damaged {
+        Damaged::Magic => Refusal::NotAStore,
+        Damaged::Version => Refusal::Version,
+        Damaged::Rule => Refusal::Damaged,
+    }
+}
+
+// Whether a slot's gate is open.
+fn read_gate<D: Disk>(disk: &mut D, slot: Slot) -> Result<bool, Fault>
+    requires { 4 ≤ D.size disk.old }
+    ensures only_reads { OnlyReads D.Disk disk.old disk.new }
+    ensures cause { HasCause (D.failures disk.old) (D.failures disk.new) result }
+    ensures opened { D.honest disk.new → IfOk result (λ opened. is_open (D.seen disk.old (gate slot)) ≡ opened) }
+{
+    let mut bytes = [0; 4096];
+    disk.read(slot.gate(), &mut bytes)?;
+    Ok(is_open_gate(&bytes))
+}
+
+// The root behind a gate, if that is open.
+fn read_root<D: Disk>(
+    disk: &mut D,
+    slot: Slot,
+    opened: bool,
+) -> Result<Option<Result<Root, Damaged>>, Fault>
+    requires { 4 ≤ D.size disk.old }
+    ensures only_reads { OnlyReads D.Disk disk.old disk.new }
+    ensures cause { HasCause (D.failures disk.old) (D.failures disk.new) result }
+    ensures held { D.honest disk.new → IfOk result (λ held. HoldsBehind opened slot (D.seen disk.old) held) }
+{
+    if !opened {
+        return Ok(None);
+    }
+    let mut bytes = [0; 4096];
+    disk.read(slot.root_sector(), &mut bytes)?;
+    Ok(Some(Root::read(&bytes)))
+}
+
+// What slot A and slot B hold: both gates are read, and then what stands behind those that are open.
+fn read_slots<D: Disk>(
+    disk: &mut D,
+) -> Result<(Option<Result<Root, Damaged>>, Option<Result<Root, Damaged>>), Fault>
+    requires { 4 ≤ D.size disk.old }
+    ensures only_reads { OnlyReads D.Disk disk.old disk.new }
+    ensures cause { HasCause (D.failures disk.old) (D.failures disk.new) result }
+    ensures first { D.honest disk.new → IfOk result (λ held. Holds A (D.seen disk.old) held.0) }
+    ensures second { D.honest disk.new → IfOk result (λ held. Holds B (D.seen disk.old) held.1) }
+{
+    let first_opened = read_gate(disk, Slot::A)?;
+    let second_opened = read_gate(disk, Slot::B)?;
+    let first = read_root(disk, Slot::A, first_opened)?;
+    let second = read_root(disk, Slot::B, second_opened)?;
+    Ok((first, second))
+}
+
+// The current one of two roots.
+fn later(a: Root, b: Root) -> Result<Found, Refusal>
+    ensures answer { found_as result ≡ later a b }
+    ensures found { IfOk result (λ found. FoundIn found.slot found.other_open found.root (Some (Ok a)) (Some (Ok b))) }
+{
+    if a.number() < b.number() {
+        Ok(Found {
+            root: b,
+            slot: Slot::B,
+            other_open: true,
+        })
+    } else if b.number() < a.number() {
+        Ok(Found {
+            root: a,
+            slot: Slot::A,
+            other_open: true,
+        })
+    } else {
+        Err(Refusal::Damaged)
+    }
+}
+
+// The current root by what slot A and slot B hold.
+fn choose(
+    first: Option<Result<Root, Damaged>>,
+    second: Option<Result<Root, Damaged>>,
+) -> Result<Found, Refusal>
+    ensures answer { found_as result ≡ chosen first second }
+    ensures found { IfOk result (λ found. FoundIn found.slot found.other_open found.root first second) }
+{
+    match (first, second) {
+        (None, None) => Err(Refusal::NotAStore),
+        (Some(Err(why)), _) => Err(refusal_of(why)),
+        (_, Some(Err(why))) => Err(refusal_of(why)),
+        (Some(Ok(root)), None) => Ok(Found {
+            root,
+            slot: Slot::A,
+            other_open: false,
+        }),
+        (None, Some(Ok(root))) => Ok(Found {
+            root,
+            slot: Slot::B,
+            other_open: false,
+        }),
+        (Some(Ok(a)), Some(Ok(b))) => later(a, b),
+    }
+}
+
+// .. if there are sectors enough for its side and capacity.
+fn judge(
+    first: Option<Result<Root, Damaged>>,
+    second: Option<Result<Root, Damaged>>,
+    sectors: u32,
+) -> Result<Found, Refusal>
+    ensures answer { found_as result ≡ fitting sectors (chosen first second) }
+    ensures found { IfOk result (λ found. FoundIn found.slot found.other_open found.root first second) }
+{
+    let found = choose(first, second)?;
+    if sectors < sectors_for(&found.root) {
+        return Err(Refusal::TooSmall);
+    }
+    Ok(found)
+}
+
+// The sectors of a store of this root's side and capacity.
+fn sectors_for(root: &Root) -> u32
+    ensures { result ≡ sectors_of root.now.side root.now.capacity }
+{
+    sectors_needed(root.side(), root.capacity())
+}
+
+/// Syncs, and then only reads. A disk without room for the slots isn't read.
+pub(crate) fn scan<D: Disk>(disk: &mut D) -> Result<Found, Refusal>
+    ensures size { D.size disk.new ≡ D.size disk.old }
+    ensures writes { D.writes disk.new ≡ D.writes disk.old }
+    ensures later { D.failures disk.old ≤ D.failures disk.new }
+    ensures device { IsErrOf result Device → HasRisen (D.failures disk.old) (D.failures disk.new) }
+    ensures nothing { D.honest disk.new → AddsNothing D.Disk disk.old disk.new }
+    ensures seen { D.honest disk.new → OnOk result (D.seen disk.new ≡ D.seen disk.old) }
+    ensures durable { D.honest disk.new → OnOk result (Only (D.seen disk.new) (D.may disk.new)) }
+    ensures large { OnOk result (4 ≤ D.size disk.new) }
+    ensures found { D.honest disk.new
+        → IfOk result (λ found. IsAt found.slot found.other_open found.root (D.seen disk.new)) }
+    ensures opens { D.honest disk.new
+        → IsErrOf result Device ⊎ OpensAs (D.size disk.old) (D.seen disk.old) (found_as result) }
+{
+    device(disk.sync())?;
+    if disk.sectors() < SLOT_SECTORS {
+        return Err(Refusal::NotAStore);
+    }
+    let (first, second) = device(read_slots(disk))?;
+    judge(first, second, disk.sectors())
+}

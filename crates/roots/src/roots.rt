@@ -1,0 +1,281 @@
+//! The roots of a disk.
+ghost use Rattle.std.specs.Prelude.{◌≡◌, ◌≢◌, ◌≤◌, ◌<◌, ◌+◌, ◌⊎◌, true, false, Ok, Err, OnOk, OnErr, IfOk, IfErr, IsErrOf};
+ghost use Rattle.disk.specs.Disk.{Image, SameBut, Only, counted, HasRisen};
+ghost use Rattle.disk.specs.Stops.{LeavesOnly, AddsNothing, HasCause};
+ghost use Rattle.lattice.specs.declared.refusal.Refusal.TheVariants.{Device};
+ghost use Rattle.roots.specs.Slots.{SamePages, KeepsAll, KeepsBut, HasMoved, IsCurrent};
+ghost use Rattle.page_codec.specs.Roots.{RootValue};
+ghost use Rattle.roots.specs.Opening.{OpensAs, HoldsStore};
+
+use crate::opening::{Found, scan};
+use crate::phase::{Phase, device, noted};
+use crate::slot::{Slot, closed_gate};
+use crate::writing::{copy_of, fill_slot, write_only};
+use disk::{Disk, settle};
+use lattice::Refusal;
+use page_codec::Root;
+
+/// A disk with its current root, as opening found it or the last commit left it.
+///
+/// Commits go to the two slots in turn. A call that the disk fails answers Device; from then on, and after a refused
+/// reopening, only reopening helps.
+#[derive(Drop)]
+pub struct Roots<D: Disk> {
+    disk: D,
+    root: Root,
+    slot: Slot,
+    // Whether the gate of the other slot reads open. If not, it is closed and settled.
+    other_open: bool,
+    phase: Phase,
+    ghost large: { 4 ≤ D.Disk.size disk },
+}
+
+/// A disk that wasn't opened, handed back.
+#[derive(Drop)]
+pub struct NotOpened<D: Disk> {
+    pub disk: D,
+    pub refusal: Refusal,
+}
+
+impl<D: Disk> Roots<D> {
+    ghost use Rattle.roots.specs.Roots.{IsReady, disk_of, root_of, has_begun, has_failed, disk_after, opened_as, reopened_as};
+
+    /// Makes this the only root of a disk, with no pages that it reaches. A fault before the Ok may leave anything.
+    pub fn format(disk: &mut D, root: &Root) -> Result<(), Refusal>
+        requires { 4 ≤ D.size disk.old }
+        ensures size { D.size disk.new ≡ D.size disk.old }
+        ensures cause { HasCause (D.failures disk.old) (D.failures disk.new) result }
+        ensures refused { IfErr result (λ refusal. refusal ≡ Device) }
+        ensures writes { D.writes disk.new ≤ D.writes disk.old + 4 }
+        ensures honest { D.honest disk.new → D.honest disk.old }
+        ensures formatted { D.honest disk.new → OnOk result (IsCurrent root.now (D.seen disk.new)) }
+        ensures pages { D.honest disk.new → OnOk result (SamePages (D.seen disk.old) (D.seen disk.new)) }
+        ensures durable { D.honest disk.new → OnOk result (Only (D.seen disk.new) (D.may disk.new)) }
+    {
+        device(write_only(disk, root))
+    }
+
+    /// Opens a disk, which a stop may have left in the middle of a commit: syncs, reads both gates, and then the root
+    /// behind each that is open. Nothing is written. A refusal hands the disk back.
+    ///
+    /// It is refused as NotAStore where no gate is open, or there are fewer than four sectors. Root A is judged before
+    /// root B: NotAStore without the magic, Version at an unknown version, Damaged where another rule of a root is broken.
+    /// Two roots of one commit number are Damaged; TooSmall are too few sectors for the current root's side and capacity.
+    pub fn open(disk: D) -> Result<Roots<D>, NotOpened<D>>
+        ensures size { D.size (disk_after result) ≡ D.size disk }
+        ensures writes { D.writes (disk_after result) ≡ D.writes disk }
+        ensures later { D.failures disk ≤ D.failures (disk_after result) }
+        ensures device { opened_as result ≡ Err Device → HasRisen (D.failures disk) (D.failures (disk_after result)) }
+        ensures nothing { D.honest (disk_after result) → AddsNothing D.Disk disk (disk_after result) }
+
+        // Where no call fails, the answer is the one that the image asks for.
+        ensures opens { D.honest (disk_after result)
+            → (opened_as result ≡ Err Device) ⊎ OpensAs (D.size disk) (D.seen disk) (opened_as result) }
+        ensures store { D.honest (disk_after result) → (root : RootValue) → HoldsStore (D.size disk) (D.seen disk) root
+            → IfErr result (λ e. e.refusal ≡ Device) }
+        ensures seen { D.honest (disk_after result) → OnOk result (D.seen (disk_after result) ≡ D.seen disk) }
+        ensures ready { IfOk result (λ roots. D.honest (disk_of roots) → IsReady D.Disk roots) }
+        ensures durable { D.honest (disk_after result)
+            → OnOk result (Only (D.seen (disk_after result)) (D.may (disk_after result))) }
+        ensures not_failed { IfOk result (λ roots. has_failed roots ≡ false) }
+        ensures not_begun { IfOk result (λ roots. has_begun roots ≡ false) }
+    {
+        let mut disk = disk;
+        match scan(&mut disk) {
+            Ok(
+                Found {
+                    root,
+                    slot,
+                    other_open,
+                },
+            ) => Ok(Roots {
+                disk,
+                root,
+                slot,
+                other_open,
+                phase: Phase::Settled,
+            }),
+            Err(refusal) => Err(NotOpened { disk, refusal }),
+        }
+    }
+
+    /// Opens the disk again, as after a fault: what was known is forgotten. Where it is refused, the root that was last
+    /// known stays.
+    pub fn reopen(&mut self) -> Result<(), Refusal>
+        ensures size { D.size (disk_of self.new) ≡ D.size (disk_of self.old) }
+        ensures writes { D.writes (disk_of self.new) ≡ D.writes (disk_of self.old) }
+        ensures later { D.failures (disk_of self.old) ≤ D.failures (disk_of self.new) }
+        ensures device { IsErrOf result Device → HasRisen (D.failures (disk_of self.old)) (D.failures (disk_of self.new)) }
+        ensures nothing { D.honest (disk_of self.new) → AddsNothing D.Disk (disk_of self.old) (disk_of self.new) }
+        ensures opens { D.honest (disk_of self.new) → IsErrOf result Device
+            ⊎ OpensAs (D.size (disk_of self.old)) (D.seen (disk_of self.old)) (reopened_as result (root_of self.new)) }
+        ensures store { D.honest (disk_of self.new) → (root : RootValue)
+            → HoldsStore (D.size (disk_of self.old)) (D.seen (disk_of self.old)) root → IfErr result (λ refusal. refusal ≡ Device) }
+        ensures seen { D.honest (disk_of self.new)
+            → OnOk result (D.seen (disk_of self.new) ≡ D.seen (disk_of self.old)) }
+        ensures ready { D.honest (disk_of self.new) → OnOk result (IsReady D.Disk self.new) }
+        ensures durable { D.honest (disk_of self.new)
+            → OnOk result (Only (D.seen (disk_of self.new)) (D.may (disk_of self.new))) }
+        ensures not_failed { OnOk result (has_failed self.new ≡ false) }
+        ensures not_begun { OnOk result (has_begun self.new ≡ false) }
+        ensures failed { OnErr result (has_failed self.new ≡ true) }
+        ensures last_known { OnErr result (root_of self.new ≡ root_of self.old) }
+    {
+        match scan(&mut self.disk) {
+            Ok(
+                Found {
+                    root,
+                    slot,
+                    other_open,
+                },
+            ) => {
+                self.root = root;
+                self.slot = slot;
+                self.other_open = other_open;
+                self.phase = Phase::Settled;
+                Ok(())
+            }
+            Err(refusal) => {
+                self.phase = Phase::Failed;
+                Err(refusal)
+            }
+        }
+    }
+
+    /// The current root, as it was last known.
+    pub fn current(&self) -> &Root
+        ensures { result.now ≡ root_of self.now }
+    {
+        &self.root
+    }
+
+    /// How many sectors the disk has, at least four.
+    pub fn sectors(&self) -> u32
+        ensures value { result ≡ D.size (disk_of self.now) }
+        ensures large { 4 ≤ result }
+    {
+        self.disk.sectors()
+    }
+
+    /// The disk as it is.
+    pub fn into_disk(self) -> D
+        ensures { result ≡ disk_of self }
+    {
+        let Roots { disk, .. } = self;
+        disk
+    }
+
+    /// Reads a sector.
+    pub fn read(&mut self, p: u32, into: &mut [u8; 4096]) -> Result<(), Refusal>
+        requires not_failed { has_failed self.old ≡ false }
+        requires in_range { p < D.size (disk_of self.old) }
+        ensures size { D.size (disk_of self.new) ≡ D.size (disk_of self.old) }
+        ensures cause { HasCause (D.failures (disk_of self.old)) (D.failures (disk_of self.new)) result }
+        ensures refused { IfErr result (λ refusal. refusal ≡ Device) }
+        ensures writes { D.writes (disk_of self.new) ≡ D.writes (disk_of self.old) }
+        ensures root { root_of self.new ≡ root_of self.old }
+        ensures read { D.honest (disk_of self.new) → OnOk result (into.new ≡ D.seen (disk_of self.old) p) }
+        ensures seen { D.honest (disk_of self.new) → D.seen (disk_of self.new) ≡ D.seen (disk_of self.old) }
+        ensures nothing { D.honest (disk_of self.new) → AddsNothing D.Disk (disk_of self.old) (disk_of self.new) }
+        ensures ready { D.honest (disk_of self.new) → IsReady D.Disk self.old → OnOk result (IsReady D.Disk self.new) }
+        ensures not_failed { OnOk result (has_failed self.new ≡ false) }
+        ensures begun { OnOk result (has_begun self.new ≡ has_begun self.old) }
+        ensures failed { OnErr result (has_failed self.new ≡ true) }
+    {
+        let answer = self.disk.read(p, into);
+        noted(&mut self.phase, answer)
+    }
+
+    /// Begins a commit: the gate of the slot that isn't current is closed and settled, if it may be open.
+    pub fn begin(&mut self) -> Result<(), Refusal>
+        requires { has_failed self.old ≡ false }
+        ensures size { D.size (disk_of self.new) ≡ D.size (disk_of self.old) }
+        ensures cause { HasCause (D.failures (disk_of self.old)) (D.failures (disk_of self.new)) result }
+        ensures refused { IfErr result (λ refusal. refusal ≡ Device) }
+        ensures writes { D.writes (disk_of self.new) ≤ D.writes (disk_of self.old) + 1 }
+        ensures honest { D.honest (disk_of self.new) → D.honest (disk_of self.old) }
+        ensures root { root_of self.new ≡ root_of self.old }
+        ensures ready { D.honest (disk_of self.new) → IsReady D.Disk self.old → OnOk result (IsReady D.Disk self.new) }
+        ensures pages { D.honest (disk_of self.new) → IsReady D.Disk self.old
+            → OnOk result (SamePages (D.seen (disk_of self.old)) (D.seen (disk_of self.new))) }
+
+        // A stop at any moment leaves the current root with its pages.
+        ensures any_moment { D.honest (disk_of self.new) → IsReady D.Disk self.old
+            → LeavesOnly D.Disk (disk_of self.old) (disk_of self.new) (KeepsAll (root_of self.old) (D.may (disk_of self.old))) }
+        ensures not_failed { OnOk result (has_failed self.new ≡ false) }
+        ensures begun { OnOk result (has_begun self.new ≡ true) }
+        ensures failed { OnErr result (has_failed self.new ≡ true) }
+    {
+        if !self.other_open {
+            self.phase = Phase::Begun;
+            return Ok(());
+        }
+        let answer = settle(&mut self.disk, self.slot.other().gate(), &closed_gate());
+        noted(&mut self.phase, answer)?;
+        self.other_open = false;
+        self.phase = Phase::Begun;
+        Ok(())
+    }
+
+    /// Writes a page. It isn't settled before the commit.
+    pub fn write(&mut self, p: u32, from: &[u8; 4096]) -> Result<(), Refusal>
+        requires page { 4 ≤ p }
+        requires in_range { p < D.size (disk_of self.old) }
+        requires begun { has_begun self.old ≡ true }
+        ensures size { D.size (disk_of self.new) ≡ D.size (disk_of self.old) }
+        ensures cause { HasCause (D.failures (disk_of self.old)) (D.failures (disk_of self.new)) result }
+        ensures refused { IfErr result (λ refusal. refusal ≡ Device) }
+        ensures writes { D.writes (disk_of self.new) ≡ counted (D.writes (disk_of self.old)) }
+        ensures honest { D.honest (disk_of self.new) → D.honest (disk_of self.old) }
+        ensures root { root_of self.new ≡ root_of self.old }
+        ensures ready { D.honest (disk_of self.new) → IsReady D.Disk self.old → OnOk result (IsReady D.Disk self.new) }
+        ensures written { D.honest (disk_of self.new) → OnOk result (D.seen (disk_of self.new) p ≡ from.now) }
+        ensures others { D.honest (disk_of self.new) → SameBut p (D.seen (disk_of self.old)) (D.seen (disk_of self.new)) }
+
+        // A stop at any moment leaves the current root, and every other page as it might have been before.
+        ensures any_moment { D.honest (disk_of self.new) → IsReady D.Disk self.old
+            → LeavesOnly D.Disk (disk_of self.old) (disk_of self.new) (KeepsBut p (root_of self.old) (D.may (disk_of self.old))) }
+        ensures not_failed { OnOk result (has_failed self.new ≡ false) }
+        ensures begun { OnOk result (has_begun self.new ≡ true) }
+        ensures failed { OnErr result (has_failed self.new ≡ true) }
+    {
+        let answer = self.disk.write(p, from);
+        noted(&mut self.phase, answer)
+    }
+
+    /// Makes this root the current one, with all pages as they are written: settles them and the root in the slot that
+    /// isn't current, and then opens its gate. After Ok a stop leaves nothing else.
+    pub fn commit(&mut self, root: &Root) -> Result<(), Refusal>
+        requires begun { has_begun self.old ≡ true }
+        requires next { root.now.number ≡ (root_of self.old).number + 1 }
+        ensures size { D.size (disk_of self.new) ≡ D.size (disk_of self.old) }
+        ensures cause { HasCause (D.failures (disk_of self.old)) (D.failures (disk_of self.new)) result }
+        ensures refused { IfErr result (λ refusal. refusal ≡ Device) }
+        ensures writes { D.writes (disk_of self.new) ≤ D.writes (disk_of self.old) + 2 }
+        ensures honest { D.honest (disk_of self.new) → D.honest (disk_of self.old) }
+        ensures root { OnOk result (root_of self.new ≡ root.now) }
+        ensures last_known { OnErr result (root_of self.new ≡ root_of self.old) }
+        ensures ready { D.honest (disk_of self.new) → IsReady D.Disk self.old → OnOk result (IsReady D.Disk self.new) }
+        ensures durable { D.honest (disk_of self.new)
+            → OnOk result (Only (D.seen (disk_of self.new)) (D.may (disk_of self.new))) }
+        ensures pages { D.honest (disk_of self.new)
+            → OnOk result (SamePages (D.seen (disk_of self.old)) (D.seen (disk_of self.new))) }
+
+        // A stop at any moment leaves the current root with its pages, or the new one with all that was written.
+        ensures any_moment { D.honest (disk_of self.new) → IsReady D.Disk self.old
+            → LeavesOnly D.Disk (disk_of self.old) (disk_of self.new)
+            (λ image. KeepsAll (root_of self.old) (D.may (disk_of self.old)) image ⊎ HasMoved root.now (D.seen (disk_of self.old)) image) }
+        ensures not_failed { OnOk result (has_failed self.new ≡ false) }
+        ensures not_begun { OnOk result (has_begun self.new ≡ false) }
+        ensures failed { OnErr result (has_failed self.new ≡ true) }
+    {
+        let slot = self.slot.other();
+        let answer = fill_slot(&mut self.disk, slot, root);
+        noted(&mut self.phase, answer)?;
+        self.slot = slot;
+        self.root = copy_of(root);
+        self.other_open = true;
+        self.phase = Phase::Settled;
+        Ok(())
+    }
+}

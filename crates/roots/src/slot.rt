@@ -1,0 +1,65 @@
+//! The two slots, each a root behind a gate.
+ghost use Rattle.std.specs.Prelude.{◌≡◌, true, false};
+ghost use Rattle.roots.specs.Slots.{is_open, gate, root_sector, other};
+
+// Slot A is sectors 0 and 1, slot B is sectors 2 and 3.
+#[derive(Clone, Copy, Debug, PartialEq, Eq)]
+pub(crate) enum Slot {
+    A,
+    B,
+}
+
+impl Slot {
+    pub(crate) fn gate(self) -> u32
+        ensures { result ≡ gate self }
+    {
+        match self {
+            Slot::A => 0,
+            Slot::B => 2,
+        }
+    }
+
+    pub(crate) fn root_sector(self) -> u32
+        ensures { result ≡ root_sector self }
+    {
+        match self {
+            Slot::A => 1,
+            Slot::B => 3,
+        }
+    }
+
+    pub(crate) fn other(self) -> Slot
+        ensures { result ≡ other self }
+    {
+        match self {
+            Slot::A => Slot::B,
+            Slot::B => Slot::A,
+        }
+    }
+}
+
+// The first byte of an open gate, and of no other.
+const OPEN: u8 = 0xa7;
+
+#[tactic(auto, unfolding(crate::specs::Slots::is_open))]
+pub(crate) fn closed_gate() -> [u8; 4096]
+    ensures { is_open result ≡ false }
+{
+    [0; 4096]
+}
+
+#[tactic(auto, unfolding(crate::specs::Slots::is_open))]
+pub(crate) fn open_gate() -> [u8; 4096]
+    ensures { is_open result ≡ true }
+{
+    let mut gate = [0; 4096];
+    gate[0] = OPEN;
+    gate
+}
+
+#[tactic(auto, unfolding(crate::specs::Slots::is_open))]
+pub(crate) fn is_open_gate(bytes: &[u8; 4096]) -> bool
+    ensures { result ≡ is_open bytes.now }
+{
+    bytes[0] == OPEN
+}

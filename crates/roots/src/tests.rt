@@ -1,0 +1,238 @@
+ghost use Rattle.std.specs.Prelude.{◌≡◌, ◌≤◌, ◌<◌, IfOk, OnOk, false};
+ghost use Rattle.disk.specs.MemDisk.{sectors_of};
+ghost use Rattle.roots.specs.Roots.{has_failed, disk_of};
+
+use crate::Roots;
+use disk::{Disk, FuseDisk, MemDisk, Torn};
+use lattice::{Refusal, Side};
+use page_codec::Root;
+use std::alloc::Global;
+use std::test::Fail;
+
+// The first 32 bytes of root A after formatting with side 3 and capacity 1; the others are zero.
+const FORMATTED: [u8; 32] = [
+    0x4d, 0x4f, 0x53, 0x41, 0x49, 0x43, 0x53, 0x54, 1, 0, 0, 0, 3, 0, 0, 0, 1, 0, 0, 0, 0, 0, 0, 0,
+    1, 0, 0, 0, 0, 0, 0, 0,
+];
+
+// Where the lowest byte of a root's commit number stands.
+const NUMBER_AT: usize = 24;
+
+fn page_of(front: &[u8]) -> [u8; 4096] {
+    let mut page = [0; 4096];
+    for (byte, given) in page.iter_mut().zip(front) {
+        *byte = *given;
+    }
+    page
+}
+
+fn first_root() -> Result<Root, Fail> {
+    let side = Side::new(3).ok_or("no side")?;
+    Ok(Root::empty(side, 1))
+}
+
+// Commits a root without tiles.
+fn commit_next<D: Disk>(roots: &mut Roots<D>) -> Result<(), Refusal>
+    requires { has_failed roots.old ≡ false }
+    ensures size { D.size (disk_of roots.new) ≡ D.size (disk_of roots.old) }
+    ensures not_failed { OnOk result (has_failed roots.new ≡ false) }
+{
+    let mut bytes = roots.current().write();
+    bytes[NUMBER_AT] = bytes[NUMBER_AT].wrapping_add(1);
+    let next = Root::read(&bytes).map_err(|_| Refusal::Damaged)?;
+    let number = roots.current().number();
+    if number == u64::MAX || next.number() != number + 1 {
+        return Err(Refusal::Worn);
+    }
+    roots.begin()?;
+    roots.commit(&next)
+}
+
+// Formatting, opening and two commits, up to the first that is refused.
+fn two_commits<D: Disk + Drop>(disk: D, root: &Root) -> (D, Result<(), Refusal>)
+    requires { 4 ≤ D.size disk }
+{
+    let mut disk = disk;
+    if let Err(refusal) = Roots::format(&mut disk, root) {
+        return (disk, Err(refusal));
+    }
+    let mut roots = match Roots::open(disk) {
+        Ok(roots) => roots,
+        Err(not_opened) => return (not_opened.disk, Err(not_opened.refusal)),
+    };
+    if let Err(refusal) = commit_next(&mut roots) {
+        return (roots.into_disk(), Err(refusal));
+    }
+    let second = commit_next(&mut roots);
+    (roots.into_disk(), second)
+}
+
+// Formatted and committed to once, so that both gates are open.
+fn committed_once(alloc: Global) -> Result<MemDisk, Fail>
+    ensures { IfOk result (λ disk. sectors_of disk ≡ 16) }
+{
+    let mut disk = MemDisk::new(alloc, 16)?;
+    Roots::format(&mut disk, &first_root()?).map_err(|_| "not formatted")?;
+    let mut roots = Roots::open(disk).map_err(|_| "not opened")?;
+    commit_next(&mut roots).map_err(|_| "not committed")?;
+    Ok(roots.into_disk())
+}
+
+fn set_byte(disk: &mut MemDisk, s: u32, at: usize, byte: u8) -> Result<(), Fail>
+    requires sector { s < sectors_of disk.old }
+    requires offset { at < 4096 }
+    ensures { sectors_of disk.new ≡ sectors_of disk.old }
+{
+    let mut bytes = [0; 4096];
+    disk.read(s, &mut bytes)?;
+    bytes[at] = byte;
+    disk.write(s, &bytes)?;
+    Ok(())
+}
+
+#[test]
+fn a_formatted_disk(rt: HostRuntime) -> Result<(), Fail> {
+    let mut disk = MemDisk::new(rt.alloc(), 16)?;
+    assert_eq!(rt; Roots::format(&mut disk, &first_root()?), Ok(()));
+    assert_eq!(rt; disk.writes(), 4);
+    let mut bytes = [9; 4096];
+    disk.read(1, &mut bytes)?;
+    assert!(rt; bytes == page_of(&FORMATTED));
+    disk.read(0, &mut bytes)?;
+    assert!(rt; bytes == page_of(&[0xa7]));
+    disk.read(2, &mut bytes)?;
+    assert!(rt; bytes == page_of(&[]));
+    disk.stop(Torn::Fill(0xa7))?;
+    let roots = Roots::open(disk).map_err(|_| "not opened")?;
+    assert_eq!(rt; roots.sectors(), 16);
+    assert_eq!(rt; roots.current().number(), 1);
+    assert_eq!(rt; roots.current().count(), 0);
+    Ok(())
+}
+
+#[test]
+fn a_stop_after_each_call(rt: HostRuntime) -> Result<(), Fail> {
+    // Formatting makes 7 calls and opening 4; the first commit 4, and the second 6. Then the commit numbers that opening
+    // finds after a stop that leaves old bytes, new ones, zeros, or open gates.
+    let table = [
+        (7, [1, 1, 1, 1]),
+        (8, [1, 1, 1, 1]),
+        (9, [1, 1, 1, 1]),
+        (10, [1, 1, 1, 1]),
+        (11, [1, 1, 1, 1]),
+        (12, [1, 1, 1, 1]),
+        (13, [1, 1, 1, 1]),
+        (14, [1, 2, 1, 2]),
+        (15, [2, 2, 2, 2]),
+        (16, [2, 2, 2, 2]),
+        (17, [2, 2, 2, 2]),
+        (18, [2, 2, 2, 2]),
+        (19, [2, 2, 2, 2]),
+        (20, [2, 3, 2, 3]),
+        (21, [3, 3, 3, 3]),
+        (22, [3, 3, 3, 3]),
+    ];
+    let kinds = [Torn::Old, Torn::New, Torn::Fill(0), Torn::Fill(0xa7)];
+    let root = first_root()?;
+    for (calls, numbers) in table {
+        for (torn, number) in kinds.iter().zip(numbers.iter()) {
+            let fuse = FuseDisk::new(MemDisk::new(rt.alloc(), 16)?, calls);
+            let (fuse, answer) = two_commits(fuse, &root);
+            assert_eq!(rt; answer.is_ok(), calls > 20, "after {calls} calls");
+            let mut disk = fuse.into_inner();
+            disk.stop(*torn)?;
+            let roots = Roots::open(disk).map_err(|_| "not opened")?;
+            assert_eq!(rt;
+                roots.current().number(),
+                *number,
+                "after {calls} calls and {torn:?}"
+            );
+        }
+    }
+    Ok(())
+}
+
+#[test]
+fn a_fault_is_answered_device(rt: HostRuntime) -> Result<(), Fail> {
+    let root = first_root()?;
+    for calls in 0..21 {
+        let fuse = FuseDisk::new(MemDisk::new(rt.alloc(), 16)?, calls);
+        let (_, answer) = two_commits(fuse, &root);
+        assert_eq!(rt; answer, Err(Refusal::Device), "after {calls} calls");
+    }
+    Ok(())
+}
+
+// Commits with this page.
+fn commit_page<D: Disk>(roots: &mut Roots<D>, p: u32, page: &[u8; 4096]) -> Result<(), Refusal>
+    requires not_failed { has_failed roots.old ≡ false }
+    requires page { 4 ≤ p }
+    requires in_range { p < D.size (disk_of roots.old) }
+    ensures size { D.size (disk_of roots.new) ≡ D.size (disk_of roots.old) }
+    ensures not_failed { OnOk result (has_failed roots.new ≡ false) }
+{
+    roots.begin()?;
+    roots.write(p, page)?;
+    commit_next(roots)
+}
+
+// Reads a page once the disk was opened again.
+fn reopened_page<D: Disk>(roots: &mut Roots<D>, p: u32) -> Result<[u8; 4096], Refusal>
+    requires { p < D.size (disk_of roots.old) }
+{
+    let mut page = [0; 4096];
+    roots.reopen()?;
+    roots.read(p, &mut page)?;
+    Ok(page)
+}
+
+// So that 16 sectors are known of what was opened.
+fn opened(disk: MemDisk) -> Result<Roots<MemDisk>, Fail>
+    requires { sectors_of disk ≡ 16 }
+    ensures size { IfOk result (λ roots. sectors_of (disk_of roots) ≡ 16) }
+    ensures not_failed { IfOk result (λ roots. has_failed roots ≡ false) }
+{
+    let roots = Roots::open(disk).map_err(|_| "not opened")?;
+    Ok(roots)
+}
+
+#[test]
+fn a_page_lasts_from_its_commit_on(rt: HostRuntime) -> Result<(), Fail> {
+    let mut roots = opened(committed_once(rt.alloc())?)?;
+    assert_eq!(rt; commit_page(&mut roots, 5, &[6; 4096]), Ok(()));
+    let mut disk = roots.into_disk();
+    disk.stop(Torn::Fill(9))?;
+    let mut roots = opened(disk)?;
+    assert_eq!(rt; roots.current().number(), 3);
+    assert_eq!(rt; reopened_page(&mut roots, 5), Ok([6; 4096]));
+    Ok(())
+}
+
+#[test]
+fn images_that_are_no_stores(rt: HostRuntime) -> Result<(), Fail> {
+    // The magic of root A, and of root B its version, its commit number and its capacity.
+    let table = [
+        (1, 0, 0, Refusal::NotAStore),
+        (3, 8, 9, Refusal::Version),
+        (3, 24, 1, Refusal::Damaged),
+        (3, 16, 2, Refusal::TooSmall),
+        (3, 40, 1, Refusal::Damaged),
+    ];
+    for (sector, at, byte, refusal) in table {
+        let mut disk = committed_once(rt.alloc())?;
+        set_byte(&mut disk, sector, at, byte)?;
+        let refused = Roots::open(disk).err().ok_or("opened")?;
+        assert_eq!(rt; refused.refusal, refusal, "byte {at} of sector {sector}");
+        assert_eq!(rt; refused.disk.sectors(), 16);
+    }
+    let mut disk = committed_once(rt.alloc())?;
+    set_byte(&mut disk, 0, 0, 0)?;
+    set_byte(&mut disk, 2, 0, 0)?;
+    let refused = Roots::open(disk).err().ok_or("opened")?;
+    assert_eq!(rt; refused.refusal, Refusal::NotAStore);
+    let refused = Roots::open(MemDisk::new(rt.alloc(), 3)?)
+        .err()
+        .ok_or("opened")?;
+    assert_eq!(rt; refused.refusal, Refusal::NotAStore);
+    Ok(())
+}

@@ -1,0 +1,9 @@
+pub mod AheadLemmas
+pub mod KeywordLemmas
+pub mod NumberLemmas
+pub mod RequestLemmas
+pub mod SessionLemmas
+pub mod TableLemmas
+pub mod WordLemmas
+pub mod WriteLemmas
+pub mod GrammarLaws

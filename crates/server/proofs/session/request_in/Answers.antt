@@ -1,0 +1,9 @@
+use Rattle.std.proofs.Common.{rules, subst, List, ℕ}
+use Rattle.server.specs.Requests.{IsRequestOf}
+use Rattle.server.proofs.SessionLemmas.{asks_for, kept_some}
+use Rattle.server.proofs.session.request_in.Goals as goal
+
+pub returns : goal.returns
+returns c = λ text is.
+    asks_for text c.request_of.result
+    (subst (λ (l : List ℕ). IsRequestOf l c.request_of.result) (kept_some text c.in_ok-bytes.field-0.now c.args.line.now c.in_ok-bytes.ensures.value is) c.request_of.ensures.exact)

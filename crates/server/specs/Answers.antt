@@ -1,0 +1,86 @@
+-- What is replied to one item over a store in a state (this product's own profile).
+-- Each relation reads: in the state s the text may be replied and the state t left.
+use Rattle.std.specs.Prelude.{◌≡◌, ◌≢◌, ◌⊎◌, ℕ, ◌*◌, ◌<◌, List, ◌++◌, length, Option, Some, None, Result, Ok, Err, Vec, codes, decimal}
+use Rattle.std.specs.Fmt.{signed_decimal}
+use Rattle.lattice.specs.Corners.{Place}
+use Rattle.lattice.specs.declared.point.Point.{Point}
+use Rattle.lattice.specs.declared.height.Height.{Height}
+use Rattle.lattice.specs.declared.height.Height.TheVariants as height
+use Rattle.lattice.specs.declared.refusal.Refusal.{Refusal}
+use Rattle.lattice.specs.declared.refusal.Refusal.TheVariants.{BadLine, BadName, BadLength, NoMemory}
+use Rattle.lattice.specs.declared.refusal.Refusal.TheVariants as refusal
+use Rattle.hgt.specs.Names.{IsName}
+use Rattle.edits.specs.declared.command.Command.TheVariants.{Import}
+use Rattle.edits.specs.Outcomes.{Applies, Elevates, Exports}
+use Rattle.edits.specs.State.{State}
+use Rattle.server.specs.Grammar.{Asked, AskImport, AskElevation, AskExport, AskCount, AskQuit}
+use Rattle.server.specs.Items.{Heard}
+use Rattle.server.specs.Replies.{ok_line, done_text, refusal_text}
+
+-- a command's number, or its refusal
+abbrev pub command_text : Result ℕ Refusal → List ℕ
+command_text (Ok k) = ok_line (decimal k)
+command_text (Err r) = refusal_text r
+
+-- a height in metres, or `void`; outside is a refusal
+abbrev pub height_text : Result Height Refusal → List ℕ
+height_text (Ok height.Outside) = refusal_text refusal.Outside
+height_text (Ok height.Void) = ok_line (codes "void")
+height_text (Ok (height.At metres)) = ok_line (signed_decimal metres)
+height_text (Err r) = refusal_text r
+
+-- a number of bytes and the bytes, or a refusal
+abbrev pub bytes_text : Result (List ℕ) Refusal → List ℕ
+bytes_text (Ok bytes) = ok_line (decimal (length bytes)) ++ bytes
+bytes_text (Err r) = refusal_text r
+
+-- the bytes of a vector, or the refusal
+abbrev pub bytes_in : {A : Type 0} → Result (Vec ℕ A) Refusal → Result (List ℕ) Refusal
+bytes_in (Ok v) = Ok v.items
+bytes_in (Err r) = Err r
+
+-- the server itself refuses, and nothing changes
+abbrev pub Refused : Refusal → State → List ℕ → State → Type 0
+Refused r s text t = (text ≡ refusal_text r) × (t ≡ s)
+
+-- the name is no tile's
+abbrev pub NamesNone : List ℕ → Type 0
+NamesNone name = (c : Place) → IsName name c → ⊥
+
+-- an import with a payload of the right length: there was no room for it, or the store answered
+abbrev pub Imported : ℕ → State → Place → List ℕ → List ℕ → State → Type 0
+Imported capacity s c payload text t =
+    Refused NoMemory s text t ⊎ ((r : Result ℕ Refusal) × (Applies capacity s (Import c payload) r t × (text ≡ command_text r)))
+
+-- the name is judged first, then the length, then the rest
+abbrev pub AnswersImport : ℕ → State → List ℕ → ℕ → List ℕ → List ℕ → State → Type 0
+AnswersImport capacity s name len payload text t =
+    (NamesNone name × Refused BadName s text t)
+    ⊎ ((c : Place) × (IsName name c × (
+    (((len ≢ 2 * (s.contents.mosaic.side * s.contents.mosaic.side)) ⊎ (length payload < len)) × Refused BadLength s text t)
+    ⊎ ((len ≡ 2 * (s.contents.mosaic.side * s.contents.mosaic.side)) × (length payload ≡ len) × Imported capacity s c payload text t))))
+
+abbrev pub AnswersExport : State → List ℕ → List ℕ → State → Type 0
+AnswersExport s name text t =
+    (NamesNone name × Refused BadName s text t)
+    ⊎ ((c : Place) × (IsName name c × ((r : Result (List ℕ) Refusal) × (Exports s c r t × (text ≡ bytes_text r)))))
+
+abbrev pub AnswersElevation : State → Point → List ℕ → State → Type 0
+AnswersElevation s p text t = (r : Result Height Refusal) × (Elevates s p r t × (text ≡ height_text r))
+
+-- what is asked with this payload; no other words are served yet
+abbrev pub Answers : ℕ → State → Asked → List ℕ → List ℕ → State → Type 0
+Answers capacity s (AskImport name len) payload text t = AnswersImport capacity s name len payload text t
+Answers capacity s (AskElevation p) payload text t = AnswersElevation s p text t
+Answers capacity s (AskExport name) payload text t = AnswersExport s name text t
+Answers capacity s AskCount payload text t = (text ≡ ok_line (decimal s.contents.count)) × (t ≡ s)
+Answers capacity s AskQuit payload text t = (text ≡ done_text) × (t ≡ s)
+Answers capacity s _ payload text t = Refused BadLine s text t
+
+-- a line that isn't in the grammar is BadLine
+abbrev pub Replied : ℕ → State → Heard → List ℕ → State → Type 0
+Replied capacity s i text t = ReplyTo i.asked
+  where
+    ReplyTo : Option Asked → Type 0
+    ReplyTo None = Refused BadLine s text t
+    ReplyTo (Some a) = Answers capacity s a i.payload text t

@@ -1,0 +1,29 @@
+-- The texts of replies (this product's own profile).
+use Rattle.std.specs.Prelude.{ℕ, List, [], ◌∷◌, ◌++◌, Option, Some, None, Vec, codes, decimal}
+use Rattle.std.specs.Coded.{Coded, coded_list, coded_ℕ}
+use Rattle.lattice.specs.declared.refusal.Refusal.{Refusal}
+use Rattle.lattice.specs.Refusals.{number_of, word_of}
+
+-- a line with its LF
+abbrev pub line_of : List ℕ → List ℕ
+line_of text = text ++ 10 ∷ []
+
+-- `OK`
+abbrev pub done_text : List ℕ
+done_text = line_of (codes "OK")
+
+-- `OK` and a value
+abbrev pub ok_line : List ℕ → List ℕ
+ok_line value = line_of (codes "OK " ++ value)
+
+-- `ERR`, a refusal's number and its word
+abbrev pub refusal_text : Refusal → List ℕ
+refusal_text r = line_of (codes "ERR " ++ decimal (number_of r) ++ codes " " ++ word_of r)
+
+-- the first line of a reply, and what follows it
+abbrev pub reply_of : {A : Type 0} → List ℕ → Option (Vec ℕ A) → List ℕ
+reply_of head None = head
+reply_of head (Some body) = head ++ body.items
+
+abbrev pub reply_code : Coded (List ℕ)
+reply_code = coded_list coded_ℕ

@@ -1,0 +1,41 @@
+-- An item as the server keeps it, and one step of a session.
+use Rattle.std.specs.Prelude.{◌≡◌, ℕ, List, [], ◌++◌, take, flat_map, All, Option, Some, None, option_map, IfSome, Result, Ok, Err, Vec}
+use Rattle.std.specs.Io.KnownBytes.{Consumes, Appends}
+use Rattle.edits.specs.State.{State}
+use Rattle.server.specs.Answers.{Replied}
+use Rattle.server.specs.Items.{Heard, spelled, IsItem, GoesOn, IsBegun}
+use Rattle.server.specs.Requests.{asked}
+use Rattle.server.specs.Served.{Replies, Ends}
+use Rattle.server.specs.declared.source.Extent.{Extent}
+use Rattle.server.specs.declared.session.Item.{Item}
+use Rattle.server.specs.declared.session.Next.{Next}
+use Rattle.server.specs.declared.session.Next.TheVariants.{More, End}
+use Rattle.server.specs.declared.session.ServeFault.{ServeFault}
+use Rattle.server.specs.declared.session.ServeFault.TheVariants.{Input, Output}
+
+-- the bytes of a payload, or nothing where they weren't kept
+abbrev pub Stored : {A : Type 0} → Option (Vec ℕ A) → List ℕ → Type 0
+Stored None bytes = Unit {0}
+Stored (Some v) bytes = v.items ≡ bytes
+
+-- the item that is kept is this one that was heard
+pub record Holds (kept : Item) (i : Heard) : Type 0 where
+  pub asked : option_map asked kept.request ≡ i.asked
+  pub payload : Stored kept.payload i.payload
+  pub item : IsItem kept.extent i
+
+-- one step, from what was to come and what was written before it to both after it
+abbrev pub Steps : ℕ → Option (List ℕ) → Option (List ℕ) → Option (List ℕ) → Option (List ℕ) → State → State → Result Next ServeFault → Type 0
+Steps capacity before after written new s t (Ok More) =
+    (i : Heard) × (text : List ℕ) × GoesOn i × Consumes before after (spelled i) × Appends written new text × Replied capacity s i text t
+Steps capacity before after written new s t (Ok End) =
+    (text : List ℕ) × Appends written new text × IfSome before (λ input. Ends capacity s input text t)
+Steps capacity before after written new s t (Err Input) =
+    (rest : List ℕ) × IsBegun rest × Consumes before after rest × Appends written new [] × (t ≡ s)
+Steps capacity before after written new s t (Err Output) =
+    (i : Heard) × (extent : Extent) × (text : List ℕ) × (n : ℕ) × IsItem extent i × Consumes before after (spelled i) × Appends written new (take n text) × Replied capacity s i text t
+
+-- the items so far with their replies
+abbrev pub SoFar : ℕ → Option (List ℕ) → Option (List ℕ) → Option (List ℕ) → Option (List ℕ) → State → State → Type 0
+SoFar capacity before after written new s t = (items : List Heard) × (text : List ℕ) × All GoesOn items
+    × Consumes before after (flat_map spelled items) × Appends written new text × Replies capacity s items text t

@@ -1,0 +1,27 @@
+-- The state that an engine in memory is in (this product's own profile).
+use Rattle.std.specs.Prelude.{◌≡◌, ℕ, ◌<◌, false, None, length}
+use Rattle.lattice.specs.Mosaic.{Mosaic, IsMosaic}
+use Rattle.catalogue.specs.Tiles.{corners_of}
+use Rattle.edits.specs.State.{Contents, State}
+
+-- how many tiles it takes, and what it holds
+pub record Held : Type 0 where
+  pub capacity : ℕ
+  pub contents : Contents
+
+-- it keeps no planes: each present tile is without them
+abbrev pub contents_of : Mosaic → ℕ → ℕ → Contents
+contents_of m k g = record { mosaic = m; count = k; number = g; stale = corners_of m }
+
+abbrev pub held_of : ℕ → Mosaic → ℕ → ℕ → Held
+held_of capacity m k g = record { capacity = capacity; contents = contents_of m k g }
+
+-- it never fails
+abbrev pub working : Contents → State
+working contents = record { contents = contents; failed = false; doubt = None }
+
+-- its numbers are right: the tiles are counted, and commits come to one more than commands
+pub record IsKept (m : Mosaic) (tiles k g : ℕ) : Type 0 where
+  pub valid : IsMosaic m
+  pub counted : tiles ≡ length m.tiles
+  pub above : k < g

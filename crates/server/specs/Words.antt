@@ -1,0 +1,25 @@
+-- A text as its words (this product's own profile).
+use Rattle.std.specs.Prelude.{◌≢◌, ℕ, List, [], ◌∷◌, All, if◌then◌else◌, ◌==◌, Option, Some, None}
+use Rattle.std.specs.Coded.{Coded, coded_list, coded_ℕ}
+
+-- no space is among the bytes
+abbrev pub HasNoSpace : List ℕ → Type 0
+HasNoSpace bytes = All (λ b. b ≢ 32) bytes
+
+-- a byte in front of the first word
+abbrev pub onto_first : ℕ → List (List ℕ) → List (List ℕ)
+onto_first b [] = (b ∷ []) ∷ []
+onto_first b (w ∷ ws) = (b ∷ w) ∷ ws
+
+-- the bytes cut at each space
+abbrev pub cut : List ℕ → List (List ℕ)
+cut [] = [] ∷ []
+cut (b ∷ bs) = if b == 32 then [] ∷ cut bs else onto_first b (cut bs)
+
+-- the words that are left, where there are any
+abbrev pub words_of : Option (List ℕ) → List (List ℕ)
+words_of None = []
+words_of (Some rest) = cut rest
+
+abbrev pub words_code : Coded (List (List ℕ))
+words_code = coded_list (coded_list coded_ℕ)

@@ -1,0 +1,75 @@
+//! What lines need of a store.
+ghost use Rattle.std.specs.Prelude.{◌≡◌, ◌≤◌, ℕ, Err};
+ghost use Rattle.lattice.specs.declared.refusal.Refusal.TheVariants.{Device};
+ghost use Rattle.catalogue.specs.Reading.{HasRisen};
+ghost use Rattle.edits.specs.State.{State};
+ghost use Rattle.edits.specs.Outcomes.{Applies, Elevates, Exports};
+ghost use Rattle.edits.specs.declared.command.Command.TheVariants.{Import};
+ghost use Rattle.server.specs.Answers.{bytes_in};
+
+use edits::Bytes;
+use lattice::{Corner, Height, Point, Refusal, Side};
+
+/// A store, as far as lines need it.
+///
+/// What a call answers, and the state that it leaves, is said by the states that a store may be in: for each that it was
+/// in there is one that it is in now. A store on a disk promises so much only where the disk was honest.
+pub trait Engine {
+    /// All of its calls so far met an honest disk. No call makes a dishonest one honest, so a clause that holds where
+    /// it is honest at the end of a call speaks of one that was honest all along.
+    ghost is_honest: { Self → Type 0 };
+
+    /// That it is in this state.
+    ghost is_at: { Self → State → Type 0 };
+
+    /// The side of its tiles.
+    ghost side_of: { Self → ℕ };
+
+    /// How many tiles it takes.
+    ghost capacity_of: { Self → ℕ };
+
+    /// How many calls of the disk have failed. The count stays at the largest 64-bit number, where each further failure
+    /// counts as a rise.
+    ghost failures: { Self → ℕ };
+
+    /// The side of its tiles.
+    fn side(&self) -> Side
+        ensures { result ≡ side_of self.now };
+
+    /// Adds the tile with these bytes of an HGT file, and answers how many commands were accepted with it.
+    fn import(&mut self, corner: Corner, bytes: Bytes) -> Result<u64, Refusal>
+        ensures side { side_of self.new ≡ side_of self.old }
+        ensures capacity { capacity_of self.new ≡ capacity_of self.old }
+        ensures failures { failures self.old ≤ failures self.new }
+        ensures device { result ≡ Err Device → HasRisen (failures self.old) (failures self.new) }
+        ensures honest { is_honest self.new → is_honest self.old }
+        ensures outcome { is_honest self.new → (s : State) → is_at self.old s
+            → (t : State) × (is_at self.new t × Applies (capacity_of self.old) s (Import corner bytes) result t) };
+
+    /// The height of a point.
+    fn elevation(&mut self, point: Point) -> Result<Height, Refusal>
+        ensures side { side_of self.new ≡ side_of self.old }
+        ensures capacity { capacity_of self.new ≡ capacity_of self.old }
+        ensures failures { failures self.old ≤ failures self.new }
+        ensures device { result ≡ Err Device → HasRisen (failures self.old) (failures self.new) }
+        ensures honest { is_honest self.new → is_honest self.old }
+        ensures outcome { is_honest self.new → (s : State) → is_at self.old s
+            → (t : State) × (is_at self.new t × Elevates s point result t) };
+
+    /// The HGT bytes of a tile's own samples.
+    fn export(&mut self, corner: Corner) -> Result<Vec<u8>, Refusal>
+        ensures side { side_of self.new ≡ side_of self.old }
+        ensures capacity { capacity_of self.new ≡ capacity_of self.old }
+        ensures failures { failures self.old ≤ failures self.new }
+        ensures device { result ≡ Err Device → HasRisen (failures self.old) (failures self.new) }
+        ensures honest { is_honest self.new → is_honest self.old }
+        ensures outcome { is_honest self.new → (s : State) → is_at self.old s
+            → (t : State) × (is_at self.new t × Exports s corner (bytes_in result) t) };
+
+    /// How many commands were accepted, as last known.
+    fn count(&self) -> u64
+        ensures { (s : State) → is_at self.now s → result ≡ s.contents.count };
+
+    /// A state's tiles have the store's side.
+    ghost same_side: { (e : Self) (s : State) → is_at e s → s.contents.mosaic.side ≡ side_of e };
+}

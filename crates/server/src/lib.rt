@@ -1,0 +1,28 @@
+//! Serves lines from any reader to any writer over any engine.
+//!
+//! The bytes that `serve` writes are the replies to the items that it reads: each item is a line, or an import line with
+//! its payload, and how the reader cuts the bytes makes no difference.
+#![tactic(auto)]
+
+mod arguments;
+mod bytes;
+mod commands;
+mod engine;
+mod grammar;
+mod keyword;
+mod number;
+mod reply;
+mod request;
+mod session;
+#[cfg(test)]
+mod session_tests;
+mod source;
+mod table_engine;
+#[cfg(test)]
+mod tests;
+mod words;
+
+pub use commands::program;
+pub use engine::Engine;
+pub use session::{ServeFault, serve};
+pub use table_engine::TableEngine;

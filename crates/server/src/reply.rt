@@ -1,0 +1,141 @@
+//! What is written for a line: `OK` with a value, or `ERR` with the number and the word of a refusal. Each line of a
+//! reply ends in an LF.
+ghost use Rattle.std.specs.Prelude.{◌≡◌, ◌+◌, ◌≤◌, ℕ, List, [], ◌++◌, length, IfErr, OnOk, OnErr, take, codes, decimal};
+ghost use Rattle.std.specs.Io.KnownBytes.{Appends};
+ghost use Rattle.server.specs.Replies.{reply_code, reply_of, ok_line, done_text, refusal_text};
+
+use arrayvec::ArrayVec;
+use itoa::{Buffer, Integer};
+use lattice::Refusal;
+use std::io::Write;
+use std::marker::Model;
+
+/// Room for the first line of any reply but a list of names.
+const LONGEST_HEAD: usize = 64;
+
+/// A reply, made whole.
+#[derive(Drop)]
+pub struct Reply {
+    head: ArrayVec<u8, LONGEST_HEAD>,
+    body: Option<Vec<u8>>,
+}
+
+impl Model for Reply {
+    ghost Value = { List ℕ };
+
+    ghost coded = { reply_code };
+
+    ghost view = { λ r. reply_of r.head.items r.body };
+}
+
+impl Reply {
+    /// `OK` alone.
+    pub fn done() -> Reply
+        ensures { result ≡ done_text }
+    {
+        Reply {
+            head: joined(b"OK", b"", b"\n"),
+            body: None,
+        }
+    }
+
+    /// `OK` and a number.
+    pub fn number<I: Integer>(number: I) -> Reply
+        ensures { result ≡ ok_line (I.text number) }
+    {
+        let mut buffer = Buffer::new();
+        let digits = buffer.format(number).as_bytes();
+        Reply {
+            head: joined(b"OK ", digits, b"\n"),
+            body: None,
+        }
+    }
+
+    /// `OK void`, the height of a point that is void.
+    pub fn void() -> Reply
+        ensures { result ≡ ok_line (codes "void") }
+    {
+        Reply {
+            head: joined(b"OK ", b"void", b"\n"),
+            body: None,
+        }
+    }
+
+    /// `OK`, the number of bytes, and the bytes themselves, with no LF after them.
+    pub fn bytes(bytes: Vec<u8>) -> Reply
+        ensures { result ≡ ok_line (decimal (length bytes.items)) ++ bytes.items }
+    {
+        let mut buffer = Buffer::new();
+        let digits = buffer.format(bytes.len()).as_bytes();
+        Reply {
+            head: joined(b"OK ", digits, b"\n"),
+            body: Some(bytes),
+        }
+    }
+
+    /// `ERR`, the refusal's number and its word.
+    pub fn refused(refusal: Refusal) -> Reply
+        ensures { result ≡ refusal_text refusal }
+    {
+        let mut buffer = Buffer::new();
+        let number = buffer.format(refusal.number()).as_bytes();
+        let mut head = joined(b"ERR ", number, b" ");
+        extend(&mut head, refusal.word().as_bytes());
+        extend(&mut head, b"\n");
+        Reply { head, body: None }
+    }
+}
+
+/// Three parts as one line.
+fn joined(first: &[u8], second: &[u8], third: &[u8]) -> ArrayVec<u8, LONGEST_HEAD>
+    requires { length first.now + length second.now + length third.now ≤ LONGEST_HEAD }
+    ensures { result.items ≡ first.now ++ second.now ++ third.now }
+{
+    let mut line = ArrayVec::new();
+    extend(&mut line, first);
+    extend(&mut line, second);
+    extend(&mut line, third);
+    line
+}
+
+/// The line goes on by these bytes, for which it has room.
+fn extend(line: &mut ArrayVec<u8, LONGEST_HEAD>, more: &[u8])
+    requires { length line.old.items + length more.now ≤ LONGEST_HEAD }
+    ensures { line.new.items ≡ line.old.items ++ more.now }
+{
+    let _ = line.try_extend_from_slice(more);
+}
+
+/// A write failed, or took no byte.
+#[derive(Clone, Copy, Debug, PartialEq, Eq)]
+pub struct WriteFault;
+
+impl Reply {
+    /// Writes the reply. After a fault a beginning of it was written.
+    pub fn write<W: Write>(&self, writer: &mut W) -> Result<(), WriteFault>
+        ensures ok { OnOk result (Appends (W.contents writer.old) (W.contents writer.new) self.now) }
+        ensures err { OnErr result ((n : ℕ) × Appends (W.contents writer.old) (W.contents writer.new) (take n self.now)) }
+    {
+        write_bytes(writer, self.head.as_slice())?;
+        match &self.body {
+            Some(body) => write_bytes(writer, body.as_slice()),
+            None => Ok(()),
+        }
+    }
+}
+
+/// Writes all the bytes. After a fault a beginning of them was written.
+pub(crate) fn write_bytes<W: Write>(writer: &mut W, bytes: &[u8]) -> Result<(), WriteFault>
+    ensures ok { OnOk result (Appends (W.contents writer.old) (W.contents writer.new) bytes.now) }
+    ensures err { OnErr result ((n : ℕ) × Appends (W.contents writer.old) (W.contents writer.new) (take n bytes.now)) }
+{
+    let mut at = 0;
+    while at < bytes.len() {
+        match writer.write(&bytes[at..]) {
+            Ok(0) => return Err(WriteFault),
+            Ok(count) => at += count,
+            Err(_) => return Err(WriteFault),
+        }
+    }
+    Ok(())
+}

@@ -1,0 +1,109 @@
+//! A mosaic in memory, as an engine.
+ghost use Rattle.std.specs.Prelude.{◌≡◌};
+ghost use Rattle.edits.specs.State.{fresh};
+
+use crate::engine::Engine;
+use catalogue::{Samples, Table, height};
+use edits::Bytes;
+use lattice::{Corner, Height, Point, Refusal, Side};
+use std::alloc::Global;
+use std::marker::Model;
+
+/// A mosaic held in memory. It refuses for want of memory, and never fails.
+#[derive(Drop)]
+pub struct TableEngine {
+    alloc: Global,
+    table: Table,
+    capacity: u32,
+    tiles: u32,
+    count: u64,
+    number: u64,
+}
+
+impl Model for TableEngine {
+    ghost use Rattle.server.specs.TableState.{Held, held_of, IsKept};
+
+    ghost Value = { Held };
+
+    ghost view = { λ e. held_of e.capacity e.table e.count e.number };
+
+    ghost invariant = { λ e. IsKept e.table e.tiles e.count e.number };
+}
+
+impl TableEngine {
+    /// An empty mosaic of tiles of this side, which takes so many of them.
+    pub fn new(alloc: Global, side: Side, capacity: u32) -> TableEngine
+        ensures empty { result.contents ≡ fresh side }
+        ensures capacity { result.capacity ≡ capacity }
+    {
+        TableEngine {
+            alloc,
+            table: Table::new(alloc, side),
+            capacity,
+            tiles: 0,
+            count: 0,
+            number: 1,
+        }
+    }
+}
+
+impl Engine for TableEngine {
+    ghost use Rattle.std.specs.Prelude.{◌≡◌, refl, ⊤};
+    ghost use Rattle.std.proofs.Common.{ap};
+    ghost use Rattle.edits.specs.State.{State};
+    ghost use Rattle.server.specs.TableState.{working};
+
+    ghost is_honest = { λ _. ⊤ };
+
+    ghost is_at = { λ e s. s ≡ working e.contents };
+
+    ghost side_of = { λ e. e.contents.mosaic.side };
+
+    ghost capacity_of = { λ e. e.capacity };
+
+    ghost failures = { λ _. 0 };
+
+    ghost same_side = { λ e s at. ap (λ (t : State). t.contents.mosaic.side) at };
+
+    fn side(&self) -> Side {
+        self.table.side()
+    }
+
+    fn import(&mut self, corner: Corner, bytes: Bytes) -> Result<u64, Refusal> {
+        let bytes = bytes.as_slice();
+        let side = self.table.side();
+        if bytes.len() != side.file_bytes() as usize {
+            return Err(Refusal::BadLength);
+        }
+        if self.table.present(corner) {
+            return Err(Refusal::TileThere);
+        }
+        if self.tiles >= self.capacity {
+            return Err(Refusal::Full);
+        }
+        if self.number == u64::MAX {
+            return Err(Refusal::Worn);
+        }
+        let samples = hgt::samples(self.alloc, bytes, side)?;
+        self.table.add(corner, samples)?;
+        self.tiles += 1;
+        self.count += 1;
+        self.number += 1;
+        Ok(self.count)
+    }
+
+    fn elevation(&mut self, point: Point) -> Result<Height, Refusal> {
+        height(&mut self.table, point)
+    }
+
+    fn export(&mut self, corner: Corner) -> Result<Vec<u8>, Refusal> {
+        match self.table.samples(corner) {
+            Some(samples) => Ok(hgt::bytes_of(self.alloc, samples)?),
+            None => Err(Refusal::NoTile),
+        }
+    }
+
+    fn count(&self) -> u64 {
+        self.count
+    }
+}

@@ -1,0 +1,189 @@
+-- What waits when one bucket of the queue changes.
+use Rattle.std.proofs.Common.{◌≡◌, ◌≢◌, ℕ, zero, suc, ◌+◌, ◌<◌, ◌≤◌, ℤ, pos, ◌-ℤ◌, List, [], ◌∷◌, ◌++◌, length, map, get_or, set, ◌⊎◌, inl, inr, Contains, refl, sym, ap, ◌∙◌, subst, arith, length-set, get_or-set_same, get_or-set_other, length-append}
+use Rattle.std.proofs.lemmas.Bool.{cases_eq, cases_lt}
+use Rattle.std.proofs.lemmas.Int.{ints}
+use Rattle.std.proofs.lemmas.List.Sums.{sum_by-set, sum_by-cons}
+use Rattle.std.proofs.lemmas.List.Elements.{Contains-append_cases, Contains-append_left, Contains-append_right}
+use Rattle.tile_flood.specs.Waiting.{bucket, Waits, waiting, AreEmptyBelow, IsJoined, IsTaken}
+
+level_at : ℕ → ℤ
+level_at k = pos k -ℤ pos 32768
+
+one_bucket : (b k : ℕ) → pos b -ℤ pos 32768 ≡ pos k -ℤ pos 32768 → b ≡ k
+one_bucket b k h = omega (arith, ints)
+
+only_one : (e f : ℕ) → Contains (e ∷ []) f → f ≡ e
+only_one e f (zero, below, is) = sym is
+only_one e f (suc k, below, is) = absurd (omega arith)
+
+none_in : (f : ℕ) (xs : List ℕ) → xs ≡ [] → Contains xs f → ⊥
+none_in f xs empty (k, below, is) = let none : length xs ≡ 0 = ap length empty in absurd (omega arith)
+
+-- a list of buckets where one is another
+module _ (bs : List (List ℕ)) (k : ℕ) (v : List ℕ) (inside : k < length bs) where
+  there : bucket (set bs k v) k ≡ v
+  there = get_or-set_same bs k v [] inside
+
+  elsewhere : (b : ℕ) → b ≢ k → bucket (set bs k v) b ≡ bucket bs b
+  elsewhere b other = get_or-set_other bs k b v [] other
+
+  into : (l : ℤ) (f : ℕ) → Waits bs l f → (Contains (bucket bs k) f → Contains v f) → Waits (set bs k v) l f
+  into l f (b, (is, has)) grows = elim (cases_eq b k) [
+    | inl same ↦ (k, (is ∙ ap (λ x. pos x -ℤ pos 32768) same, subst (λ xs. Contains xs f) (sym there) (grows (subst (λ x. Contains (bucket bs x) f) same has))))
+    | inr other ↦ (b, (is, subst (λ xs. Contains xs f) (sym (elsewhere b other)) has))
+  ]
+
+  back : (l : ℤ) (f : ℕ) → Waits (set bs k v) l f → ((l ≡ pos k -ℤ pos 32768) × Contains v f) ⊎ Waits bs l f
+  back l f (b, (is, has)) = elim (cases_eq b k) [
+    | inl same ↦ inl (is ∙ ap (λ x. pos x -ℤ pos 32768) same, subst (λ xs. Contains xs f) there (subst (λ x. Contains (bucket (set bs k v) x) f) same has))
+    | inr other ↦ inr (b, (is, subst (λ xs. Contains xs f) (elsewhere b other) has))
+  ]
+
+-- a point joins bucket k
+module _ (bs : List (List ℕ)) (k e : ℕ) (inside : k < length bs) where
+  pub joins : IsJoined bs (set bs k (bucket bs k ++ e ∷ [])) (pos k -ℤ pos 32768) e
+  joins = record {
+    waits = (k, (refl, subst (λ xs. Contains xs e) (sym (there bs k (bucket bs k ++ e ∷ []) inside)) (Contains-append_right (bucket bs k) (e ∷ []) e (0, omega arith, refl))));
+    others = λ l f w. into bs k (bucket bs k ++ e ∷ []) inside l f w (λ has. Contains-append_left (bucket bs k) (e ∷ []) f has);
+    only = λ l f w. elim (back bs k (bucket bs k ++ e ∷ []) inside l f w) [
+      | inl new ↦ elim (Contains-append_cases (bucket bs k) (e ∷ []) f new.1) [
+        | inl old ↦ inr (k, (new.0, old))
+        | inr last ↦ inl (new.0, only_one e f last)
+      ]
+      | inr old ↦ inr old
+    ];
+  }
+
+  pub joins_count : waiting (set bs k (bucket bs k ++ e ∷ [])) ≡ waiting bs + 1
+  joins_count =
+      let total : waiting (set bs k (bucket bs k ++ e ∷ [])) + length (bucket bs k) ≡ waiting bs + length (bucket bs k ++ e ∷ []) = sum_by-set length bs k (bucket bs k ++ e ∷ []) [] inside in
+      let long : length (bucket bs k ++ e ∷ []) ≡ length (bucket bs k) + 1 = length-append (bucket bs k) (e ∷ []) in
+      omega arith
+
+-- the last point of bucket k, the lowest that isn't empty, is taken
+module _ (bs : List (List ℕ)) (k e : ℕ) (rest : List ℕ) (inside : k < length bs) (is : bucket bs k ≡ rest ++ e ∷ []) (low : AreEmptyBelow bs k) where
+  pub takes : IsTaken bs (set bs k rest) (pos k -ℤ pos 32768) e
+  takes = record {
+    waited = (k, (refl, subst (λ xs. Contains xs e) (sym is) (Contains-append_right rest (e ∷ []) e (0, omega arith, refl))));
+    lowest = λ l f w. elim (cases_lt w.0 k) [
+      | inl below ↦ absurd (none_in f (bucket bs w.0) (low w.0 below) w.1.1)
+      | inr above ↦ let at = w.1.0 in omega (arith, ints)
+    ];
+    others = λ l f w. elim (cases_eq w.0 k) [
+      | inl same ↦ elim (Contains-append_cases rest (e ∷ []) f (subst (λ xs. Contains xs f) is (subst (λ x. Contains (bucket bs x) f) same w.1.1))) [
+        | inl left ↦ inr (k, (w.1.0 ∙ ap (λ x. pos x -ℤ pos 32768) same, subst (λ xs. Contains xs f) (sym (there bs k rest inside)) left))
+        | inr last ↦ inl (w.1.0 ∙ ap (λ x. pos x -ℤ pos 32768) same, only_one e f last)
+      ]
+      | inr other ↦ inr (w.0, (w.1.0, subst (λ xs. Contains xs f) (sym (elsewhere bs k rest inside w.0 other)) w.1.1))
+    ];
+    only = λ l f w. elim (back bs k rest inside l f w) [
+      | inl new ↦ (k, (new.0, subst (λ xs. Contains xs f) (sym is) (Contains-append_left rest (e ∷ []) f new.1)))
+      | inr old ↦ old
+    ];
+  }
+
+  pub takes_count : waiting bs ≡ waiting (set bs k rest) + 1
+  takes_count =
+      let total : waiting (set bs k rest) + length (bucket bs k) ≡ waiting bs + length rest = sum_by-set length bs k rest [] inside in
+      let long : length (bucket bs k) ≡ length rest + 1 = ap length is ∙ length-append rest (e ∷ []) in
+      omega arith
+
+pub nobody : (bs : List (List ℕ)) (k : ℕ) → AreEmptyBelow bs k → ((b : ℕ) → k ≤ b → bucket bs b ≡ []) → (l : ℤ) (f : ℕ) → Waits bs l f → ⊥
+nobody bs k low high l f w = elim (cases_lt w.0 k) [
+  | inl below ↦ none_in f (bucket bs w.0) (low w.0 below) w.1.1
+  | inr above ↦ none_in f (bucket bs w.0) (high w.0 above) w.1.1
+]
+
+pub none_left : {X : Type 0} (xs : List X) → length xs ≡ 0 → xs ≡ []
+none_left [] none = refl
+none_left (x ∷ xs) none = absurd (omega arith)
+
+-- the same for buckets that hold more than their lists
+module _ {V : Type 0} (items : V → List ℕ) where
+  pub bucket_of : (xs : List V) (k : ℕ) (d : V) → k < length xs → bucket (map items xs) k ≡ items (get_or xs k d)
+  bucket_of [] k d low = absurd (omega arith)
+  bucket_of (x ∷ xs) zero d low = refl
+  bucket_of (x ∷ xs) (suc k) d low = bucket_of xs k d (omega arith)
+
+  pub map_set : (xs : List V) (k : ℕ) (v : V) → map items (set xs k v) ≡ set (map items xs) k (items v)
+  map_set [] k v = refl
+  map_set (x ∷ xs) zero v = refl
+  map_set (x ∷ xs) (suc k) v = ap (λ ys. items x ∷ ys) (map_set xs k v)
+
+  pub map_length : (xs : List V) → length (map items xs) ≡ length xs
+  map_length [] = refl
+  map_length (x ∷ xs) = ap suc (map_length xs)
+
+  -- a change in bucket k leaves the buckets below it empty
+  pub still_sound : (xs : List V) (k low now : ℕ) (v : V) → length xs ≡ 65536 → AreEmptyBelow (map items xs) low → now ≤ low → now ≤ k →
+      (length (set xs k v) ≡ 65536) × AreEmptyBelow (map items (set xs k v)) now
+  still_sound xs k low now v long empty le at = (
+    length-set xs k v ∙ long,
+    λ b below. subst (λ bs. bucket bs b ≡ []) (sym (map_set xs k v)) (get_or-set_other (map items xs) k b (items v) [] (λ same. absurd (omega arith)) ∙ empty b (omega arith)),
+  )
+
+  pub empty_between : (xs ys : List V) (low k : ℕ) → xs ≡ ys → ((b : ℕ) → low ≤ b → b < k → bucket (map items xs) b ≡ []) →
+      (b : ℕ) → low ≤ b → b < k → bucket (map items ys) b ≡ []
+  empty_between xs ys low k same h = subst (λ zs. (b : ℕ) → low ≤ b → b < k → bucket (map items zs) b ≡ []) same h
+
+  pub empty_below : (xs : List V) (low k : ℕ) → AreEmptyBelow (map items xs) low → ((b : ℕ) → low ≤ b → b < k → bucket (map items xs) b ≡ []) → AreEmptyBelow (map items xs) k
+  empty_below xs low k empty next b lt = elim (cases_lt b low) [ inl l ↦ empty b l | inr g ↦ next b g lt ]
+
+  -- one bucket more is empty
+  pub next_empty : (xs : List V) (low k : ℕ) (v : V) → k < length xs → v ≡ get_or xs k v → items v ≡ [] → ((b : ℕ) → low ≤ b → b < k → bucket (map items xs) b ≡ []) →
+      (b : ℕ) → low ≤ b → b < k + 1 → bucket (map items xs) b ≡ []
+  next_empty xs low k v inside is none before b from below = elim (cases_lt b k) [
+    | inl lt ↦ before b from lt
+    | inr ge ↦ let same : b ≡ k = omega arith in
+        subst (λ x. bucket (map items xs) x ≡ []) (sym same) (bucket_of xs k v inside ∙ (ap items (sym is) ∙ none))
+  ]
+
+  -- all buckets are empty
+  abbrev pub AreEmpty : List V → Type 0
+  AreEmpty [] = Unit {0}
+  AreEmpty (x ∷ xs) = (items x ≡ []) × AreEmpty xs
+
+  pub empty_more : (xs : List V) (v : V) → items v ≡ [] → AreEmpty xs → AreEmpty (xs ++ v ∷ [])
+  empty_more [] v is h = (is, tt)
+  empty_more (x ∷ xs) v is h = (h.0, empty_more xs v is h.1)
+
+  pub no_more : (xs : List V) → AreEmpty xs → (b : ℕ) → bucket (map items xs) b ≡ []
+  no_more [] h b = refl
+  no_more (x ∷ xs) h zero = h.0
+  no_more (x ∷ xs) h (suc b) = no_more xs h.1 b
+
+  pub no_count : (xs : List V) → AreEmpty xs → waiting (map items xs) ≡ 0
+  no_count [] h = refl
+  no_count (x ∷ xs) h =
+      let here : length (items x) ≡ 0 = ap length h.0 in
+      let later = no_count xs h.1 in
+      let both : length (items x) + waiting (map items xs) ≡ 0 = omega arith in
+      sum_by-cons length (items x) (map items xs) ∙ both
+
+  -- what a push into bucket k does, and what a pop out of it does
+  module _ (xs : List V) (k e : ℕ) (old v : V) (queue : List (List ℕ)) (level : ℤ) (long : length xs ≡ 65536) (inside : k < 65536)
+      (same : map items xs ≡ queue) (was : old ≡ get_or xs k old) (at : level ≡ pos k -ℤ pos 32768) where
+    k_inside : k < length (map items xs)
+    k_inside = let a = map_length xs in omega arith
+
+    old_bucket : items old ≡ bucket (map items xs) k
+    old_bucket = let a : k < length xs = omega arith in ap items was ∙ sym (bucket_of xs k old a)
+
+    pub pushed : items v ≡ items old ++ e ∷ [] → IsJoined queue (map items (set xs k v)) level e × (waiting (map items (set xs k v)) ≡ waiting queue + 1)
+    pushed grew =
+        let is : map items (set xs k v) ≡ set (map items xs) k (bucket (map items xs) k ++ e ∷ []) = map_set xs k v ∙ ap (λ w. set (map items xs) k w) (grew ∙ ap (λ w. w ++ e ∷ []) old_bucket) in
+        subst (λ q. IsJoined q (map items (set xs k v)) level e × (waiting (map items (set xs k v)) ≡ waiting q + 1)) same
+        (subst (λ l. IsJoined (map items xs) (map items (set xs k v)) l e × (waiting (map items (set xs k v)) ≡ waiting (map items xs) + 1)) (sym at)
+        (subst (λ q. IsJoined (map items xs) q (pos k -ℤ pos 32768) e × (waiting q ≡ waiting (map items xs) + 1)) (sym is)
+        (joins (map items xs) k e k_inside, joins_count (map items xs) k e k_inside)))
+
+    pub popped : (low : ℕ) → AreEmptyBelow (map items xs) low → ((b : ℕ) → low ≤ b → b < k → bucket (map items xs) b ≡ []) → items old ≡ items v ++ e ∷ [] →
+        IsTaken queue (map items (set xs k v)) level e × (waiting queue ≡ waiting (map items (set xs k v)) + 1)
+    popped low empty next shrank =
+        let below : AreEmptyBelow (map items xs) k = λ b lt. elim (cases_lt b low) [ inl l ↦ empty b l | inr g ↦ next b g lt ] in
+        let is : map items (set xs k v) ≡ set (map items xs) k (items v) = map_set xs k v in
+        let ends : bucket (map items xs) k ≡ items v ++ e ∷ [] = sym old_bucket ∙ shrank in
+        subst (λ q. IsTaken q (map items (set xs k v)) level e × (waiting q ≡ waiting (map items (set xs k v)) + 1)) same
+        (subst (λ l. IsTaken (map items xs) (map items (set xs k v)) l e × (waiting (map items xs) ≡ waiting (map items (set xs k v)) + 1)) (sym at)
+        (subst (λ q. IsTaken (map items xs) q (pos k -ℤ pos 32768) e × (waiting (map items xs) ≡ waiting q + 1)) (sym is)
+        (takes (map items xs) k e (items v) k_inside ends below, takes_count (map items xs) k e (items v) k_inside ends below)))

@@ -1,0 +1,176 @@
+-- Points of a block: rows and columns, adjacency, outlets, and a way out of each ground point.
+use Rattle.std.proofs.Common.{◌≡◌, ◌≢◌, ℕ, zero, suc, ◌+◌, ◌*◌, ◌-◌, ◌/◌, ◌%◌, ◌<◌, ◌≤◌, ℤ, Bool, true, false, not, IsTrue, ◌&&◌, ◌||◌, List, [], ◌∷◌, get_or, refl, sym, ap, ap₂, ◌∙◌, arith, true≢false, nat_le, nat_lt, nat_eq, mod-lt, inl, inr}
+use Rattle.std.specs.Ordering.{int_eq}
+use Rattle.std.specs.List.{list_all}
+use Rattle.std.proofs.lemmas.Bool.{cases_Bool, and_parts, and_from, ltb-true, lt-ltb, leb-true, le-leb, ne_eqb, and_left, and_right, or_left, or_right, eqb-false}
+use Rattle.std.proofs.lemmas.Bool.Decides.{Decides-int_eq}
+use Rattle.std.proofs.lemmas.Nat.{rows}
+use Rattle.lattice.specs.Mosaic.{void}
+use Rattle.lattice.specs.Terrain.{LeadsOut}
+use Rattle.lattice.specs.Block.{block, is_solid, is_linked, is_exit, is_inner_outlet, is_beside, is_rim, around, rim_number}
+use Rattle.tile_flood.specs.Flooding.{is_marked, IsOwnLabel}
+use Rattle.tile_flood.specs.Labelling.{OUT}
+
+pub not_void_if : (levels : List ℤ) (e : ℕ) → IsTrue (is_marked levels e) → get_or levels e void ≢ void
+not_void_if levels e on h = absurd (true≢false (sym on ∙ ap not ((Decides-int_eq (get_or levels e void) void).1 h)))
+
+pub test_if : (v : ℤ) → v ≢ void → IsTrue (not (int_eq v void))
+test_if v ne = elim (cases_Bool (int_eq v void)) [ inl h ↦ absurd (ne ((Decides-int_eq v void).0 h)) | inr h ↦ ap not h ]
+
+pub record Linked (n : ℕ) (heights : List ℤ) (e f : ℕ) : Type 0 where
+  pub from : IsTrue (is_solid n heights e)
+  pub to : IsTrue (is_solid n heights f)
+  pub apart : IsTrue (not (nat_eq e f))
+  pub beside : IsTrue (is_beside n e f)
+
+pub linked_parts : (n : ℕ) (heights : List ℤ) (e f : ℕ) → IsTrue (is_linked n heights e f) → Linked n heights e f
+linked_parts n heights e f h =
+    let p = and_parts (is_solid n heights e && is_solid n heights f && not (nat_eq e f)) (is_beside n e f) h in
+    let q = and_parts (is_solid n heights e && is_solid n heights f) (not (nat_eq e f)) p.0 in
+    let r = and_parts (is_solid n heights e) (is_solid n heights f) q.0 in
+    record { from = r.0; to = r.1; apart = q.1; beside = p.1 }
+
+pub linked_from : (n : ℕ) (heights : List ℤ) (e f : ℕ) → Linked n heights e f → IsTrue (is_linked n heights e f)
+linked_from n heights e f l =
+    and_from (is_solid n heights e && is_solid n heights f && not (nat_eq e f)) (is_beside n e f)
+    (and_from (is_solid n heights e && is_solid n heights f) (not (nat_eq e f)) (and_from (is_solid n heights e) (is_solid n heights f) l.from l.to) l.apart) l.beside
+
+pub solid_height : (n : ℕ) (heights : List ℤ) (e : ℕ) → IsTrue (is_solid n heights e) → get_or heights e void ≢ void
+solid_height n heights e h = not_void_if heights e (and_parts (nat_lt e (n * n)) (is_marked heights e) h).1
+
+pub solid_below : (n : ℕ) (heights : List ℤ) (e : ℕ) → IsTrue (is_solid n heights e) → e < n * n
+solid_below n heights e h = ltb-true e (n * n) (and_parts (nat_lt e (n * n)) (is_marked heights e) h).0
+
+pub solid_if : (n : ℕ) (heights : List ℤ) (e : ℕ) → e < n * n → int_eq (get_or heights e void) void ≡ false → IsTrue (is_solid n heights e)
+solid_if n heights e below off = and_from (nat_lt e (n * n)) (is_marked heights e) (lt-ltb e (n * n) below) (ap not off)
+
+pub row_of_cell : (n i j : ℕ) → j < n → (i * n + j) / n ≡ i
+row_of_cell n i j h = grind (arith, rows)
+
+pub column_of_cell : (n i j : ℕ) → j < n → (i * n + j) % n ≡ j
+column_of_cell n i j h = grind (arith, rows)
+
+pub cell_of : (n z : ℕ) → z ≡ (z / n) * n + z % n
+cell_of n z = grind (arith, rows)
+
+pub row_below : (n z : ℕ) → z < n * n → z / n < n
+row_below n z h = grind (arith, rows)
+
+pub linked_below : (n : ℕ) (heights : List ℤ) (c z : ℕ) → IsTrue (is_linked n heights c z) → z < n * n
+linked_below n heights c z link = solid_below n heights z (linked_parts n heights c z link).to
+
+-- how far two linked points are apart
+pub record Apart (n c z : ℕ) : Type 0 where
+  pub north : c / n ≤ z / n + 1
+  pub south : z / n ≤ c / n + 1
+  pub west : c % n ≤ z % n + 1
+  pub east : z % n ≤ c % n + 1
+
+pub linked_apart : (n : ℕ) (heights : List ℤ) (c z : ℕ) → IsTrue (is_linked n heights c z) → Apart n c z
+linked_apart n heights c z h =
+    let p = and_parts (nat_le (c / n) (z / n + 1) && nat_le (z / n) (c / n + 1) && nat_le (c % n) (z % n + 1)) (nat_le (z % n) (c % n + 1)) (linked_parts n heights c z h).beside in
+    let q = and_parts (nat_le (c / n) (z / n + 1) && nat_le (z / n) (c / n + 1)) (nat_le (c % n) (z % n + 1)) p.0 in
+    let r = and_parts (nat_le (c / n) (z / n + 1)) (nat_le (z / n) (c / n + 1)) q.0 in
+    record { north = leb-true (c / n) (z / n + 1) r.0; south = leb-true (z / n) (c / n + 1) r.1; west = leb-true (c % n) (z % n + 1) q.1; east = leb-true (z % n) (c % n + 1) p.1 }
+
+pub beside_if : (n c z : ℕ) → Apart n c z → IsTrue (is_beside n c z)
+beside_if n c z a =
+    and_from (nat_le (c / n) (z / n + 1) && nat_le (z / n) (c / n + 1) && nat_le (c % n) (z % n + 1)) (nat_le (z % n) (c % n + 1))
+    (and_from (nat_le (c / n) (z / n + 1) && nat_le (z / n) (c / n + 1)) (nat_le (c % n) (z % n + 1))
+    (and_from (nat_le (c / n) (z / n + 1)) (nat_le (z / n) (c / n + 1)) (le-leb (c / n) (z / n + 1) a.north) (le-leb (z / n) (c / n + 1) a.south))
+    (le-leb (c % n) (z % n + 1) a.west)) (le-leb (z % n) (c % n + 1) a.east)
+
+or_false_left : (a b : Bool) → (a || b) ≡ false → a ≡ false
+or_false_left true b h = h
+or_false_left false b h = refl
+
+-- the point above one that isn't in the first row
+pub record North (n e : ℕ) : Type 0 where
+  pub row : (e - n) / n + 1 ≡ e / n
+  pub column : (e - n) % n ≡ e % n
+  pub inside : n ≤ e
+
+north : (n e : ℕ) → 0 < n → 1 ≤ e / n → North n e
+north n e some high =
+    let below : e % n < n = mod-lt e some in
+    let row : e / n ≡ (e / n - 1) + 1 = omega arith in
+    let cell : e ≡ ((e / n - 1) + 1) * n + e % n = cell_of n e ∙ ap (λ r. r * n + e % n) row in
+    let above : e - n ≡ (e / n - 1) * n + e % n = omega arith in
+    let at_row : (e - n) / n ≡ e / n - 1 = ap (λ v. v / n) above ∙ row_of_cell n (e / n - 1) (e % n) below in
+    record {
+      row = omega arith;
+      column = ap (λ v. v % n) above ∙ column_of_cell n (e / n - 1) (e % n) below;
+      inside = omega arith;
+    }
+
+inner_high : (n e : ℕ) → is_rim n e ≡ false → 1 ≤ e / n
+inner_high n e inner =
+    let a = or_false_left (nat_eq (e / n) 0 || nat_eq (e / n + 1) n || nat_eq (e % n) 0) (nat_eq (e % n + 1) n) inner in
+    let b = or_false_left (nat_eq (e / n) 0 || nat_eq (e / n + 1) n) (nat_eq (e % n) 0) a in
+    let d = or_false_left (nat_eq (e / n) 0) (nat_eq (e / n + 1) n) b in
+    let f : e / n ≢ 0 = eqb-false (e / n) 0 d in
+    omega arith
+
+linked_north : (n : ℕ) (heights : List ℤ) (e : ℕ) → 0 < n → is_rim n e ≡ false → IsTrue (is_solid n heights e) → IsTrue (is_solid n heights (e - n)) → IsTrue (is_linked n heights e (e - n))
+linked_north n heights e some inner solid above =
+    let o = north n e some (inner_high n e inner) in
+    let a = o.row in let b = o.column in let d = o.inside in
+    linked_from n heights e (e - n) (record {
+      from = solid;
+      to = above;
+      apart = ap not (ne_eqb e (e - n) (λ h. absurd (omega arith)));
+      beside = beside_if n e (e - n) (record { north = omega arith; south = omega arith; west = omega arith; east = omega arith });
+    })
+
+-- when a point is an outlet of its block, and its own label
+module _ (n : ℕ) (heights : List ℤ) (e : ℕ) where
+  pub void_is_none : is_solid n heights e ≡ false → is_exit n heights e ≡ false
+  void_is_none off = ap (λ s. (s && is_rim n e) || (s && not (is_rim n e) && not (list_all (is_solid n heights) (around n e)))) off
+
+  pub rim_is_exit : IsTrue (is_solid n heights e) → IsTrue (is_rim n e) → IsTrue (is_exit n heights e)
+  rim_is_exit solid rim = or_left (is_solid n heights e && is_rim n e) (is_inner_outlet n heights e) (and_from (is_solid n heights e) (is_rim n e) solid rim)
+
+  inner_off_rim : IsTrue (is_inner_outlet n heights e) → IsTrue (not (is_rim n e))
+  inner_off_rim inner = (and_parts (is_solid n heights e) (not (is_rim n e)) (and_parts (is_solid n heights e && not (is_rim n e)) (not (list_all (is_solid n heights) (around n e))) inner).0).1
+
+  pub rim_label : (label : ℕ) → IsTrue (is_rim n e) → label ≡ rim_number n e → IsOwnLabel n heights e label
+  rim_label label rim is = record {
+    names = inl (rim, is);
+    inner_outlet = λ inner. absurd (true≢false (sym (inner_off_rim inner) ∙ ap not rim));
+  }
+
+  inner_from : IsTrue (is_solid n heights e) → is_rim n e ≡ false → list_all (is_solid n heights) (around n e) ≡ false → IsTrue (is_inner_outlet n heights e)
+  inner_from solid off gap = and_from (is_solid n heights e && not (is_rim n e)) (not (list_all (is_solid n heights) (around n e)))
+      (and_from (is_solid n heights e) (not (is_rim n e)) solid (ap not off)) (ap not gap)
+
+  pub inner_is_exit : IsTrue (is_solid n heights e) → is_rim n e ≡ false → list_all (is_solid n heights) (around n e) ≡ false → IsTrue (is_exit n heights e)
+  inner_is_exit solid off gap = or_right (is_solid n heights e && is_rim n e) (is_inner_outlet n heights e) (inner_from solid off gap)
+
+  pub inner_label : IsTrue (is_solid n heights e) → is_rim n e ≡ false → list_all (is_solid n heights) (around n e) ≡ false → IsOwnLabel n heights e OUT
+  inner_label solid off gap = record { names = inr (inner_from solid off gap, refl); inner_outlet = λ _. refl }
+
+  pub enclosed_is_none : IsTrue (is_solid n heights e) → is_rim n e ≡ false → IsTrue (list_all (is_solid n heights) (around n e)) → is_exit n heights e ≡ false
+  enclosed_is_none solid off all =
+      ap₂ (λ s r. (s && r) || (s && not r && not (list_all (is_solid n heights) (around n e)))) solid off ∙ ap not all
+
+-- to the north of a ground point there is an outlet
+pub leads : (n : ℕ) (heights : List ℤ) (k e : ℕ) → 0 < n → e / n < k → IsTrue (is_solid n heights e) → (rest : List ℕ) × LeadsOut (block n heights) e rest
+leads n heights zero e some low solid = absurd (omega arith)
+leads n heights (suc k) e some low solid = elim (cases_Bool (is_rim n e)) [
+  | inl rim ↦ ([], record { path = solid; outlet = rim_is_exit n heights e solid rim })
+  | inr inner ↦ elim (cases_Bool (is_solid n heights (e - n))) [
+    | inl above ↦
+        let o = north n e some (inner_high n e inner) in
+        let row : (e - n) / n + 1 ≡ e / n = o.row in
+        let rest = leads n heights k (e - n) some (omega arith) above in
+        ((e - n) ∷ rest.0, record { path = (linked_north n heights e some inner solid above, rest.1.path); outlet = rest.1.outlet })
+    | inr gap ↦ (
+      [],
+      record {
+        path = solid;
+        outlet = inner_is_exit n heights e solid inner (and_right (is_solid n heights (e - n - 1)) (list_all (is_solid n heights) ((e - n) ∷ (e - n + 1) ∷ (e - 1) ∷ (e + 1) ∷ (e + n - 1) ∷ (e + n) ∷ (e + n + 1) ∷ []))
+            (and_left (is_solid n heights (e - n)) (list_all (is_solid n heights) ((e - n + 1) ∷ (e - 1) ∷ (e + 1) ∷ (e + n - 1) ∷ (e + n) ∷ (e + n + 1) ∷ [])) gap));
+      },
+    )
+  ]
+]

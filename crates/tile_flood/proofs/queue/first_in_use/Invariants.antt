@@ -1,0 +1,6 @@
+use Rattle.std.proofs.Common.{◌≡◌, ℕ, ◌<◌, ◌≤◌, [], map}
+use Rattle.tile_flood.specs.Waiting.{bucket}
+use Rattle.tile_flood.proofs.queue.first_in_use.Given as goal
+
+abbrev pub invariant-loop-number : goal.invariant-loop-number
+invariant-loop-number l = (b : ℕ) → l.from ≤ b → b < l.number → bucket (map (λ v. v.items) l.buckets) b ≡ []

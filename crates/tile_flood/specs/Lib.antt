@@ -1,0 +1,5 @@
+pub mod Labelling
+pub mod Spills
+pub mod Waiting
+pub mod Blocks
+pub mod Flooding

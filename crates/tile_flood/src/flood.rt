@@ -1,0 +1,206 @@
+//! Priority-Flood over one block (Barnes, Lehman and Mulla 2014), with labels.
+ghost use Rattle.std.specs.Prelude.{◌≡◌, ◌<◌, ℕ, ℤ, ◌*◌, ◌+◌, ◌/◌, ◌≤◌, IfOk, IfErr, OnOk, IsTrue, false, length, slice_set, slice_index, slice_index_or};
+ghost use Rattle.std.specs.Ordering.{int_eq};
+ghost use Rattle.std.specs.Int.{int_max};
+ghost use Rattle.lattice.specs.Mosaic.{void};
+ghost use Rattle.lattice.specs.Block.{is_solid, is_linked};
+ghost use Rattle.lattice.specs.declared.refusal.Refusal.TheVariants.{NoMemory};
+ghost use Rattle.tile_flood.specs.Labelling.{IsLabelling, NO_LABEL as no_label};
+ghost use Rattle.tile_flood.specs.Waiting.{Waits, waiting, IsJoined};
+ghost use Rattle.tile_flood.specs.Flooding.{is_marked, unmarked, AreMarkedStill, IsRowMarked, IsSeeding, IsFlooding, IsSpreading};
+
+use crate::block::Block;
+use crate::labelled::{Labelled, NO_LABEL};
+use crate::outlets::{is_ground, own_label};
+use crate::queue::Queue;
+use lattice::Refusal;
+use std::alloc::{AllocError, Global};
+
+/// A flood of a block: water rises from its outlets inwards, over the lowest points first.
+#[derive(Drop)]
+pub struct Flood {
+    levels: Vec<i16>,
+    labels: Vec<u16>,
+    queue: Queue,
+}
+
+// The point that spreads, with its level and its label.
+#[derive(Clone, Copy)]
+struct Front {
+    point: usize,
+    level: i16,
+    label: u16,
+}
+
+impl Flood {
+    /// The level of each ground point, the least crest of paths inside the block to a ground point of its rim or to an
+    /// inner outlet, and a label for one that is reached at it. NoMemory is the only refusal.
+    pub fn run(alloc: Global, block: &Block) -> Result<Labelled, Refusal>
+        ensures side { IfOk result (λ labelled. labelled.side ≡ block.now.side) }
+        ensures labelling { IfOk result (λ labelled. IsLabelling block.now.side block.now.heights labelled.levels labelled.labels) }
+        ensures refusal { IfErr result (λ refusal. refusal ≡ NoMemory) }
+    {
+        let side = block.side();
+        let n = side.samples() as usize;
+        let heights = block.heights();
+        let mut flood = Flood::new(alloc, side.area() as usize)?;
+        flood.seed(n, heights)?;
+        flood.settle(n, heights)?;
+        Ok(Labelled::of_flood(side, flood.levels, flood.labels))
+    }
+
+    // No point has a level, and none waits.
+    fn new(alloc: Global, area: usize) -> Result<Flood, AllocError>
+        ensures levels { IfOk result (λ flood. length flood.levels.items ≡ area) }
+        ensures labels { IfOk result (λ flood. length flood.labels.items ≡ area) }
+        ensures no_level { IfOk result (λ flood. (e : ℕ) → slice_index_or flood.levels.items e void ≡ void) }
+        ensures no_label { IfOk result (λ flood. (e : ℕ) → e < area → slice_index flood.labels.items e ≡ no_label) }
+        ensures nobody { IfOk result (λ flood. (l : ℤ) (e : ℕ) → Waits flood.queue l e → ⊥) }
+    {
+        Ok(Flood {
+            levels: vec![in alloc; i16::MIN; area]?,
+            labels: vec![in alloc; NO_LABEL; area]?,
+            queue: Queue::new(alloc)?,
+        })
+    }
+
+    // Marks the outlets, each at its own height and with its own label.
+    fn seed(&mut self, n: usize, heights: &[i16]) -> Result<(), AllocError>
+        requires side { (3 ≤ n) × (n ≤ 3601) }
+        requires small { n * n < 4294967296 }
+        requires whole { length heights.now ≡ n * n }
+        requires state { IsSeeding n heights.now self.old.levels.items self.old.labels.items self.old.queue 0 }
+        ensures { OnOk result (IsFlooding n heights.now self.new.levels.items self.new.labels.items self.new.queue) }
+    {
+        for e in 0..heights.len() {
+            if let Some(label) = own_label(n, heights, e) {
+                self.mark(e, at(heights, e), label)?;
+            }
+        }
+        Ok(())
+    }
+
+    // Lets each point that waits spread, until none does.
+    fn settle(&mut self, n: usize, heights: &[i16]) -> Result<(), AllocError>
+        requires side { (3 ≤ n) × (n ≤ 3601) }
+        requires small { n * n < 4294967296 }
+        requires whole { length heights.now ≡ n * n }
+        requires state { IsFlooding n heights.now self.old.levels.items self.old.labels.items self.old.queue }
+        ensures { OnOk result (IsLabelling n heights.now self.new.levels.items self.new.labels.items) }
+    {
+        while let Some(seat) = self.queue.pop() {
+            self.spread(n, heights, seat.point as usize, seat.level)?;
+        }
+        Ok(())
+    }
+
+    // Marks all points beside the point.
+    fn spread(
+        &mut self,
+        n: usize,
+        heights: &[i16],
+        point: usize,
+        level: i16,
+    ) -> Result<(), AllocError>
+        requires side { (3 ≤ n) × (n ≤ 3601) }
+        requires small { n * n < 4294967296 }
+        requires whole { length heights.now ≡ n * n }
+        requires point { point < length self.old.labels.items }
+        requires state { IsSpreading n heights.now self.old.levels.items self.old.labels.items self.old.queue point level (slice_index self.old.labels.items point) }
+        ensures state { OnOk result (IsFlooding n heights.now self.new.levels.items self.new.labels.items self.new.queue) }
+        ensures count { OnOk result (unmarked self.new.levels.items + waiting self.new.queue ≡ unmarked self.old.levels.items + waiting self.old.queue) }
+    {
+        let front = Front {
+            point,
+            level,
+            label: self.labels[point],
+        };
+        let row = point / n;
+        for i in row.saturating_sub(1)..(row + 2).min(n) {
+            self.visit_row(n, heights, front, i)?;
+        }
+        Ok(())
+    }
+
+    // Marks the points of a row beside the front.
+    fn visit_row(
+        &mut self,
+        n: usize,
+        heights: &[i16],
+        front: Front,
+        i: usize,
+    ) -> Result<(), AllocError>
+        requires side { (3 ≤ n) × (n ≤ 3601) }
+        requires small { n * n < 4294967296 }
+        requires whole { length heights.now ≡ n * n }
+        requires state { IsSpreading n heights.now self.old.levels.items self.old.labels.items self.old.queue front.point front.level front.label }
+        requires i { i < n }
+        requires row { (front.point / n ≤ i + 1) × (i ≤ front.point / n + 1) }
+        ensures state { OnOk result (IsSpreading n heights.now self.new.levels.items self.new.labels.items self.new.queue front.point front.level front.label) }
+        ensures marked { OnOk result (IsRowMarked n heights.now self.new.levels.items front.point i) }
+        ensures still { OnOk result (AreMarkedStill self.old.levels.items self.new.levels.items) }
+        ensures count { OnOk result (unmarked self.new.levels.items + waiting self.new.queue ≡ unmarked self.old.levels.items + waiting self.old.queue) }
+    {
+        let column = front.point % n;
+        for j in column.saturating_sub(1)..(column + 2).min(n) {
+            self.visit(n, heights, front, i * n + j)?;
+        }
+        Ok(())
+    }
+
+    // Marks the point e, which may lie beside the front, that was taken at the lowest level.
+    fn visit(&mut self, n: usize, heights: &[i16], front: Front, e: usize) -> Result<(), AllocError>
+        requires small { n * n < 4294967296 }
+        requires whole { length heights.now ≡ n * n }
+        requires state { IsSpreading n heights.now self.old.levels.items self.old.labels.items self.old.queue front.point front.level front.label }
+        requires e { e < n * n }
+        requires beside { IsTrue (is_solid n heights.now e) → is_marked self.old.levels.items e ≡ false → IsTrue (is_linked n heights.now front.point e) }
+        ensures state { OnOk result (IsSpreading n heights.now self.new.levels.items self.new.labels.items self.new.queue front.point front.level front.label) }
+        ensures marked { OnOk result (IsTrue (is_solid n heights.now e) → IsTrue (is_marked self.new.levels.items e)) }
+        ensures still { OnOk result (AreMarkedStill self.old.levels.items self.new.levels.items) }
+        ensures count { OnOk result (unmarked self.new.levels.items + waiting self.new.queue ≡ unmarked self.old.levels.items + waiting self.old.queue) }
+    {
+        if is_ground(n, heights, e) && self.is_unmarked(e) {
+            let level = higher(at(heights, e), front.level);
+            self.mark(e, level, front.label)?;
+        }
+        Ok(())
+    }
+
+    fn is_unmarked(&self, e: usize) -> bool
+        requires { e < length self.now.levels.items }
+        ensures { result ≡ int_eq (slice_index_or self.now.levels.items e void) void }
+    {
+        self.levels[e] == i16::MIN
+    }
+
+    // Gives the point its level and its label, and lets it wait.
+    fn mark(&mut self, e: usize, level: i16, label: u16) -> Result<(), AllocError>
+        requires small { e < 4294967296 }
+        requires levels { e < length self.old.levels.items }
+        requires labels { e < length self.old.labels.items }
+        ensures levels { OnOk result (self.new.levels.items ≡ slice_set self.old.levels.items e level) }
+        ensures labels { OnOk result (self.new.labels.items ≡ slice_set self.old.labels.items e label) }
+        ensures joined { OnOk result (IsJoined self.old.queue self.new.queue level e) }
+        ensures count { OnOk result (waiting self.new.queue ≡ waiting self.old.queue + 1) }
+    {
+        self.queue.push(level, e as u32)?;
+        self.levels[e] = level;
+        self.labels[e] = label;
+        Ok(())
+    }
+}
+
+// The value at e.
+fn at(values: &[i16], e: usize) -> i16
+    requires { e < length values.now }
+    ensures { result ≡ slice_index_or values.now e void }
+{
+    values[e]
+}
+
+fn higher(a: i16, b: i16) -> i16
+    ensures { result ≡ int_max a b }
+{
+    a.max(b)
+}

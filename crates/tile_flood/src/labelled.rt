@@ -1,0 +1,84 @@
+//! The levels and labels of a block.
+ghost use Rattle.std.specs.Prelude.{◌≡◌, ◌*◌, length, SomeIff};
+
+use lattice::Side;
+use std::marker::Model;
+
+/// The label of a point that reaches an inner outlet: a ground point off the rim with a void among the eight around it.
+pub const OUT: u16 = 0xFFFF;
+
+/// The label of a void point.
+pub const NO_LABEL: u16 = 0xFFFE;
+
+/// A level and a label for each point of a block, row by row from the north-west corner: levels in metres, -32768 at
+/// void points; labels are numbers of rim points, in row order from the north-west, or `OUT`, or `NO_LABEL`.
+#[derive(Drop)]
+pub struct Labelled {
+    side: Side,
+    levels: Vec<i16>,
+    labels: Vec<u16>,
+}
+
+impl Model for Labelled {
+    ghost use Rattle.std.specs.Prelude.{◌≡◌, ◌*◌, length};
+    ghost use Rattle.tile_flood.specs.Blocks.{LabelledGround};
+
+    ghost Value = { LabelledGround };
+
+    ghost view = { λ l. record { side = l.side; levels = l.levels.items; labels = l.labels.items } };
+
+    ghost invariant = { λ l. (length l.levels.items ≡ l.side * l.side) × (length l.labels.items ≡ l.side * l.side) };
+}
+
+impl Labelled {
+    /// These levels and labels, where there are as many as a tile of the side has points. Takes no memory.
+    pub fn new(side: Side, levels: Vec<i16>, labels: Vec<u16>) -> Option<Labelled>
+        ensures { SomeIff result ((length levels.items ≡ side * side) × (length labels.items ≡ side * side)) (record { side = side; levels = levels.items; labels = labels.items }) }
+    {
+        let area = side.area() as usize;
+        if levels.len() == area && labels.len() == area {
+            Some(Labelled {
+                side,
+                levels,
+                labels,
+            })
+        } else {
+            None
+        }
+    }
+
+    pub(crate) fn of_flood(side: Side, levels: Vec<i16>, labels: Vec<u16>) -> Labelled
+        requires levels { length levels.items ≡ side * side }
+        requires labels { length labels.items ≡ side * side }
+        ensures { result ≡ record { side = side; levels = levels.items; labels = labels.items } }
+    {
+        Labelled {
+            side,
+            levels,
+            labels,
+        }
+    }
+
+    /// The side of its tile.
+    pub fn side(&self) -> Side
+        ensures { result ≡ self.now.side }
+    {
+        self.side
+    }
+
+    /// The levels, -32768 at void points.
+    pub fn levels(&self) -> &[i16]
+        ensures value { result.now ≡ self.now.levels }
+        ensures whole { length self.now.levels ≡ self.now.side * self.now.side }
+    {
+        &self.levels
+    }
+
+    /// The labels.
+    pub fn labels(&self) -> &[u16]
+        ensures value { result.now ≡ self.now.labels }
+        ensures whole { length self.now.labels ≡ self.now.side * self.now.side }
+    {
+        &self.labels
+    }
+}

@@ -1,0 +1,18 @@
+//! The levels and labels of one block: Priority-Flood inside a tile.
+//!
+//! The layers above rest on this: `Flood::run` gives a valid labelling of any block. Each ground point's level is the
+//! least crest of paths inside the block to a ground point of its rim or to an inner outlet, and its label names one
+//! that is reached at it.
+#![tactic(auto)]
+
+mod block;
+mod flood;
+mod labelled;
+mod outlets;
+mod queue;
+#[cfg(test)]
+mod tests;
+
+pub use block::Block;
+pub use flood::Flood;
+pub use labelled::{Labelled, NO_LABEL, OUT};
