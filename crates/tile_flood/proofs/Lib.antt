@@ -1,3 +1,7 @@
 pub mod Buckets
 pub mod Squares
 pub mod Spreading
+pub mod Passages
+pub mod Parts
+pub mod InMosaic
+pub mod Raised

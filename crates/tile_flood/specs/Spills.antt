@@ -4,12 +4,7 @@ use Rattle.std.specs.Prelude.{◌≡◌, ℕ, ◌<◌, ℤ, ◌≤ℤ◌, IsTrue
 use Rattle.std.specs.Int.{int_max}
 use Rattle.lattice.specs.Mosaic.{void}
 use Rattle.lattice.specs.Block.{is_linked}
-
--- water passes between the labels a and b, a below b, at this level
-pub record Pass : Type 0 where
-  pub a : ℕ
-  pub b : ℕ
-  pub level : ℤ
+use Rattle.tile_flood.specs.declared.passing.Spill.{Spill}
 
 module _ (n : ℕ) (heights levels : List ℤ) (labels : List ℕ) where
   -- adjacent points with these labels meet at this level, the greater of theirs
@@ -18,13 +13,13 @@ module _ (n : ℕ) (heights levels : List ℤ) (labels : List ℕ) where
         × (int_max (slice_index_or levels e void) (slice_index_or levels f void) ≡ level))))
 
   -- the labels meet at this level, and at no lower one
-  pub record IsSpill (p : Pass) : Type 0 where
+  pub record IsSpill (p : Spill) : Type 0 where
     pub in_order : p.a < p.b
     pub meets : Meets p.a p.b p.level
     pub least : (level : ℤ) → Meets p.a p.b level → p.level ≤ℤ level
 
   -- each two labels that meet have their spill in the list, once, and nothing else is there
-  pub record AreSpills (passes : List Pass) : Type 0 where
-    pub each : (p : Pass) → Contains passes p → IsSpill p
-    pub all : (a b : ℕ) (level : ℤ) → a < b → Meets a b level → (p : Pass) × (Contains passes p × ((p.a ≡ a) × (p.b ≡ b)))
-    pub once : (p q : Pass) → Contains passes p → Contains passes q → p.a ≡ q.a → p.b ≡ q.b → p ≡ q
+  pub record AreSpills (spills : List Spill) : Type 0 where
+    pub each : (p : Spill) → Contains spills p → IsSpill p
+    pub all : (a b : ℕ) (level : ℤ) → a < b → Meets a b level → (p : Spill) × (Contains spills p × ((p.a ≡ a) × (p.b ≡ b)))
+    pub once : (p q : Spill) → Contains spills p → Contains spills q → p.a ≡ q.a → p.b ≡ q.b → p ≡ q

@@ -1,7 +1,6 @@
 //! Priority-Flood over one block (Barnes, Lehman and Mulla 2014), with labels.
 ghost use Rattle.std.specs.Prelude.{◌≡◌, ◌<◌, ℕ, ℤ, ◌*◌, ◌+◌, ◌/◌, ◌≤◌, IfOk, IfErr, OnOk, IsTrue, false, length, slice_set, slice_index, slice_index_or};
 ghost use Rattle.std.specs.Ordering.{int_eq};
-ghost use Rattle.std.specs.Int.{int_max};
 ghost use Rattle.lattice.specs.Mosaic.{void};
 ghost use Rattle.lattice.specs.Block.{is_solid, is_linked};
 ghost use Rattle.lattice.specs.declared.refusal.Refusal.TheVariants.{NoMemory};
@@ -13,6 +12,7 @@ use crate::block::Block;
 use crate::labelled::{Labelled, NO_LABEL};
 use crate::outlets::{is_ground, own_label};
 use crate::queue::Queue;
+use crate::values::{at, higher};
 use lattice::Refusal;
 use std::alloc::{AllocError, Global};
 
@@ -189,18 +189,4 @@ impl Flood {
         self.labels[e] = label;
         Ok(())
     }
-}
-
-// The value at e.
-fn at(values: &[i16], e: usize) -> i16
-    requires { e < length values.now }
-    ensures { result ≡ slice_index_or values.now e void }
-{
-    values[e]
-}
-
-fn higher(a: i16, b: i16) -> i16
-    ensures { result ≡ int_max a b }
-{
-    a.max(b)
 }

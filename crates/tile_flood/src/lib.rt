@@ -9,10 +9,15 @@ mod block;
 mod flood;
 mod labelled;
 mod outlets;
+mod passing;
 mod queue;
+mod raising;
 #[cfg(test)]
 mod tests;
+mod values;
 
 pub use block::Block;
 pub use flood::Flood;
 pub use labelled::{Labelled, NO_LABEL, OUT};
+pub use passing::{Spill, spills};
+pub use raising::raise;

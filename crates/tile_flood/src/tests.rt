@@ -1,5 +1,5 @@
-use crate::{Block, Flood, Labelled, NO_LABEL, OUT};
-use lattice::Side;
+use crate::{Block, Flood, Labelled, NO_LABEL, OUT, Spill, raise, spills};
+use lattice::{Refusal, Side};
 use std::alloc::Global;
 
 const VOID: i16 = i16::MIN;
@@ -80,4 +80,106 @@ fn a_labelling_is_whole(rt: HostRuntime) {
     let levels = Vec::from_slice(rt.alloc(), &[1i16; 9]).expect(&rt, "memory");
     let labels = Vec::from_slice(rt.alloc(), &[0u16; 10]).expect(&rt, "memory");
     assert!(rt; Labelled::new(side, levels, labels).is_none());
+}
+
+fn labelling(alloc: Global, levels: &[i16; 9], labels: &[u16; 9]) -> Option<Labelled> {
+    let levels = Vec::from_slice(alloc, levels).ok()?;
+    let labels = Vec::from_slice(alloc, labels).ok()?;
+    Labelled::new(Side::new(3)?, levels, labels)
+}
+
+// A pit that drains over rim point 7, and its rim.
+const PIT: [i16; 9] = [9, 9, 9, 9, 5, 9, 9, 9, 5];
+
+const PIT_LABELS: [u16; 9] = [0, 0, 0, 0, 7, 0, 0, 0, 7];
+
+// A void, an inner outlet beside it, and a rim point that is lower.
+const GAP: [i16; 9] = [9, 9, 9, VOID, 5, 3, 9, 9, 9];
+
+const GAP_LABELS: [u16; 9] = [0, 0, 0, NO_LABEL, OUT, 4, 0, 0, 0];
+
+#[test]
+fn labels_meet_at_the_greater_level(rt: HostRuntime) {
+    let pit = labelling(rt.alloc(), &PIT, &PIT_LABELS).expect(&rt, "memory");
+    let found = spills(rt.alloc(), &pit).expect(&rt, "memory");
+    assert_eq!(rt; found.len(), 1);
+    assert_eq!(rt;
+        found.as_slice().first(),
+        Some(&Spill {
+            a: 0,
+            b: 7,
+            level: 9
+        })
+    );
+}
+
+#[test]
+fn out_is_a_label_too(rt: HostRuntime) {
+    let gap = labelling(rt.alloc(), &GAP, &GAP_LABELS).expect(&rt, "memory");
+    let found = spills(rt.alloc(), &gap).expect(&rt, "memory");
+    assert_eq!(rt; found.len(), 3);
+    for spill in [
+        Spill {
+            a: 0,
+            b: 4,
+            level: 9,
+        },
+        Spill {
+            a: 0,
+            b: OUT,
+            level: 9,
+        },
+        Spill {
+            a: 4,
+            b: OUT,
+            level: 5,
+        },
+    ] {
+        assert!(rt; found.as_slice().contains(&spill));
+    }
+}
+
+#[test]
+fn a_block_is_raised_by_its_rim(rt: HostRuntime) {
+    let pit = labelling(rt.alloc(), &PIT, &PIT_LABELS).expect(&rt, "memory");
+    let filled = raise(rt.alloc(), &pit, &[9, 9, 9, 9, 9, 9, 9, 5]).expect(&rt, "memory");
+    assert!(rt; filled.as_slice() == &PIT[..]);
+    let valley = labelling(
+        rt.alloc(),
+        &[9, 9, 9, 9, 1, 1, 9, 9, 9],
+        &[0, 0, 0, 0, 4, 4, 0, 0, 0],
+    )
+    .expect(&rt, "memory");
+    let filled = raise(rt.alloc(), &valley, &[9, 9, 9, 9, 3, 9, 9, 9]).expect(&rt, "memory");
+    assert!(rt; filled.as_slice() == &[9, 9, 9, 9, 3, 3, 9, 9, 9][..]);
+}
+
+#[test]
+fn an_inner_outlet_stays_at_its_level(rt: HostRuntime) {
+    let gap = labelling(rt.alloc(), &GAP, &GAP_LABELS).expect(&rt, "memory");
+    let filled = raise(rt.alloc(), &gap, &[9, 9, 9, VOID, 5, 9, 9, 9]).expect(&rt, "memory");
+    assert!(rt; filled.as_slice() == &[9, 9, 9, VOID, 5, 5, 9, 9, 9][..]);
+}
+
+#[test]
+fn damaged_labellings_are_found(rt: HostRuntime) {
+    let rim = [9, 9, 9, VOID, 5, 9, 9, 9];
+    for (point, level, label) in [
+        (4, 5, 8),
+        (4, 5, 3),
+        (4, 5, NO_LABEL),
+        (4, VOID, 0),
+        (4, VOID, OUT),
+        (3, 9, NO_LABEL),
+        (3, VOID, 0),
+    ] {
+        let mut levels = GAP;
+        let mut labels = GAP_LABELS;
+        levels[point] = level;
+        labels[point] = label;
+        let bad = labelling(rt.alloc(), &levels, &labels).expect(&rt, "memory");
+        assert!(rt; matches!(raise(rt.alloc(), &bad, &rim), Err(Refusal::Damaged)));
+    }
+    let gap = labelling(rt.alloc(), &GAP, &GAP_LABELS).expect(&rt, "memory");
+    assert!(rt; matches!(raise(rt.alloc(), &gap, &rim[..7]), Err(Refusal::Damaged)));
 }

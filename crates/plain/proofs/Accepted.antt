@@ -1,0 +1,169 @@
+-- What is known of a command that isn't refused.
+use Rattle.std.proofs.Common.{◌≡◌, ◌∙◌, ℕ, ◌*◌, ℤ, pos, negsuc, ◌-ℤ◌, ◌≤ℤ◌, int_le, int_lt, Bool, true, false, cond, not, ◌&&◌, List, [], ◌∷◌, length, get_or, filter, Option, Some, None, Result, Ok, Err, nat_lt, nat_eq, inl, inr, refl, sym, ap₂, subst, arith}
+use Rattle.std.proofs.lemmas.Int.{ints, clamps}
+use Rattle.std.proofs.lemmas.Bool.{cases_lt, cond_both, and_parts, or_cases, not-false, false≢true, eqb-true}
+use Rattle.std.proofs.lemmas.List.{get_or_past}
+use Rattle.std.proofs.lemmas.List.Elements.{All-head, All-tail, All-filter, All-map, All-weaker}
+use Rattle.std.specs.Int.{int_max}
+use Rattle.std.specs.Ordering.{int_eq}
+use Rattle.std.specs.List.{All, list_any}
+use Rattle.lattice.specs.Corners.{Place}
+use Rattle.lattice.specs.declared.point.Point.{Point}
+use Rattle.lattice.specs.declared.height.Height.{Height}
+use Rattle.lattice.specs.declared.height.Height.TheVariants.{Outside, Void, At}
+use Rattle.lattice.specs.declared.refusal.Refusal.{Refusal}
+use Rattle.lattice.specs.declared.refusal.Refusal.TheVariants.{BadLength, TileThere, NoTile, Full, NothingVoid, BadHeight, BadDepth, BadBox, Repeated, TooDeep}
+use Rattle.lattice.specs.Lattice.{holds, index_of}
+use Rattle.lattice.specs.Mosaic.{Mosaic, IsTile, IsMosaic, IsSample, is_present, is_void, void}
+use Rattle.lattice.specs.Height.{sample_at, first_height, by_seam_rule, height_of}
+use Rattle.lattice.specs.Ground.{metres, same_point}
+use Rattle.lattice.proofs.Along.{le_true}
+use Rattle.hgt.specs.Bytes.{samples_in}
+use Rattle.edits.specs.declared.command.Command.{Command}
+use Rattle.edits.specs.declared.command.Command.TheVariants.{Import, Remove, Patch, Burn, Wall}
+use Rattle.edits.specs.Effect as effects
+use Rattle.catalogue.specs.Tiles.{added, without}
+use Rattle.edits.specs.Effect.{effect, edited, patched, burnt, walled, is_named, is_repeated, is_depth, is_box, has_void, is_in_box, is_void_at, fault_at, first_fault, unless_fault}
+use Rattle.plain.specs.Answers.{refusal_of}
+use Rattle.plain.specs.Changes.{change_of, FitsAll}
+use Rattle.plain.proofs.SeamLemmas.{told}
+
+some_not_none : {r : Refusal} → ◌≡◌ {A = Option Refusal} (Some r) None → ⊥
+some_not_none h = cc
+
+-- a test that refused nothing
+pass : (b : Bool) (r : Refusal) (x : Result Mosaic Refusal) → refusal_of (cond b (Err r) x) ≡ None → (b ≡ false) × (refusal_of x ≡ None) × (cond b (Err r) x ≡ x)
+pass true r x h = absurd (some_not_none h)
+pass false r x h = (refl, h, refl)
+
+no_fault : (o : Option Refusal) (m : Mosaic) → refusal_of (unless_fault o m) ≡ None → (o ≡ None) × (unless_fault o m ≡ Ok m)
+no_fault None m h = (refl, refl)
+no_fault (Some r) m h = absurd (some_not_none h)
+
+pub accepted_import : (k : ℕ) (m : Mosaic) (c : Place) (bytes : List ℕ) → refusal_of (effect k m (Import c bytes)) ≡ None →
+    (length bytes ≡ 2 * (m.side * m.side)) × (is_present m c ≡ false) × (effect k m (Import c bytes) ≡ Ok (added (record { corner = c; samples = samples_in bytes }) m))
+accepted_import k m c bytes h =
+    let new : Result Mosaic Refusal = Ok (added (record { corner = c; samples = samples_in bytes }) m) in
+    let third = cond (not (nat_lt (length m.tiles) k)) (Err Full) new in
+    let second = cond (is_present m c) (Err TileThere) third in
+    let one = pass (not (nat_eq (length bytes) (2 * (m.side * m.side)))) BadLength second h in
+    let two = pass (is_present m c) TileThere third one.1 in
+    let three = pass (not (nat_lt (length m.tiles) k)) Full new two.1 in
+    (eqb-true (length bytes) (2 * (m.side * m.side)) (not-false (nat_eq (length bytes) (2 * (m.side * m.side))) one.0), two.0, one.2 ∙ two.2 ∙ three.2)
+
+pub accepted_remove : (k : ℕ) (m : Mosaic) (c : Place) → refusal_of (effect k m (Remove c)) ≡ None → effect k m (Remove c) ≡ Ok (without c m)
+accepted_remove k m c h = (pass (not (is_present m c)) NoTile (Ok (without c m)) h).2
+
+sample_fits : (samples : List ℤ) (i : ℕ) → All IsSample samples → IsSample (get_or samples i void)
+sample_fits samples i all = elim (cases_lt i (length samples)) [
+  | inl inside ↦ all i void inside
+  | inr past ↦ subst IsSample (sym (get_or_past samples i void past)) (omega (arith, ints), omega (arith, ints))
+]
+
+first_fits : (samples : List ℤ) → All IsSample samples → IsSample (metres (first_height samples))
+first_fits [] all = (omega (arith, ints), omega (arith, ints))
+first_fits (s ∷ later) all = elim (is_void s) as (λ b. IsSample (metres (cond b (first_height later) (At s)))) [
+  | true ↦ first_fits later (All-tail IsSample s later all)
+  | false ↦ All-head IsSample s later all
+]
+
+seam_fits : (samples : List ℤ) → All IsSample samples → IsSample (metres (by_seam_rule samples))
+seam_fits [] all = (omega (arith, ints), omega (arith, ints))
+seam_fits (s ∷ later) all = first_fits (s ∷ later) all
+
+-- heights are numbers of 16 bits
+pub height_fits : (m : Mosaic) (p : Point) → IsMosaic m → IsSample (metres (height_of m p))
+height_fits m p w = seam_fits (told m.side p m.tiles)
+    (All-map IsSample (λ t. sample_at m.side t p) (filter (λ t. holds m.side t.corner p) m.tiles)
+    (All-weaker (IsTile m.side) (λ t. IsSample (sample_at m.side t p)) (λ t h. sample_fits t.samples (index_of m.side t.corner p) h.samples)
+    (filter (λ t. holds m.side t.corner p) m.tiles) (All-filter (λ t. holds m.side t.corner p) (IsTile m.side) m.tiles w.tiles)))
+
+eq_true : (a b : ℤ) → int_eq a b ≡ true → a ≡ b
+eq_true a b e = grind (arith, ints)
+
+lt_false : (a b : ℤ) → int_lt a b ≡ false → b ≤ℤ a
+lt_false a b e = grind (arith, ints)
+
+pub same_point_is : (p q : Point) → same_point p q ≡ true → p ≡ q
+same_point_is p q h = let both = and_parts (int_eq p.y q.y) (int_eq p.x q.x) h in ap₂ (λ (v u : ℤ). record { y = v; x = u }) (eq_true p.y q.y both.0) (eq_true p.x q.x both.1)
+
+no_fault_at : (depth : ℤ) (h : Height) (later : Option Refusal) → fault_at depth h later ≡ None → (later ≡ None) × (negsuc 32766 ≤ℤ (metres h -ℤ depth))
+no_fault_at depth Outside later e = absurd (some_not_none e)
+no_fault_at depth Void later e = absurd (some_not_none e)
+no_fault_at depth (At h) later e = deep (int_lt (h -ℤ depth) (negsuc 32766)) refl e
+  where
+    deep : (b : Bool) → int_lt (h -ℤ depth) (negsuc 32766) ≡ b → cond b (Some TooDeep) later ≡ None → (later ≡ None) × (negsuc 32766 ≤ℤ (h -ℤ depth))
+    deep true is k = absurd (some_not_none k)
+    deep false is k = (k, lt_false (h -ℤ depth) (negsuc 32766) is)
+
+-- a named point of a burn that isn't refused is deep enough
+named_fits : (m : Mosaic) (depth : ℤ) (points : List Point) (p : Point) → first_fault m depth points ≡ None → is_named points p ≡ true → negsuc 32766 ≤ℤ (metres (height_of m p) -ℤ depth)
+named_fits m depth [] p none named = absurd (false≢true named)
+named_fits m depth (q ∷ rest) p none named =
+    let here = no_fault_at depth (height_of m q) (first_fault m depth rest) none in
+    elim (or_cases (same_point p q) (list_any (same_point p) rest) named) [
+      | inl same ↦ subst (λ v. negsuc 32766 ≤ℤ (metres (height_of m v) -ℤ depth)) (sym (same_point_is p q same)) here.1
+      | inr later ↦ named_fits m depth rest p here.0 later
+    ]
+
+in_range : (h : ℤ) → effects.is_height h ≡ true → IsSample h
+in_range h e =
+    let both = and_parts (int_le (negsuc 32766) h) (int_le h (pos 32767)) e in
+    let low = le_true (negsuc 32766) h both.0 in
+    let high = le_true h (pos 32767) both.1 in
+    (omega (arith, ints), high)
+
+max_fits : (a b : ℤ) → IsSample a → IsSample b → IsSample (int_max a b)
+max_fits a b h k = (omega (arith, ints, clamps, h.0), omega (arith, ints, clamps, h.1, k.1))
+
+lowered_fits : (h depth : ℤ) → IsSample h → pos 1 ≤ℤ depth → negsuc 32766 ≤ℤ (h -ℤ depth) → IsSample (h -ℤ depth)
+lowered_fits h depth k low deep = (omega (arith, ints), omega (arith, ints, k.1))
+
+-- what an accepted patch, burn or wall writes fits
+pub accepted_fits : (k : ℕ) (m : Mosaic) (c : Command) → IsMosaic m → refusal_of (effect k m c) ≡ None → FitsAll m c
+accepted_fits k m (Import c bytes) w h p s fits = fits
+accepted_fits k m (Remove c) w h p s fits = fits
+accepted_fits k m (Patch from to height) w h p s fits =
+    let one = pass (not (effects.is_height height)) BadHeight _ h in
+    cond_both (is_in_box from to p && is_void_at m p) height s IsSample (λ _. in_range height (not-false (effects.is_height height) one.0)) (λ _. fits)
+accepted_fits k m (Burn depth points) w h p s fits =
+    let third = unless_fault (first_fault m depth points.items) (burnt depth points.items m) in
+    let second = cond (is_repeated points.items) (Err Repeated) third in
+    let one = pass (not (is_depth depth)) BadDepth second h in
+    let two = pass (is_repeated points.items) Repeated third one.1 in
+    let three = no_fault (first_fault m depth points.items) (burnt depth points.items m) two.1 in
+    let range = and_parts (int_le (pos 1) depth) (int_le depth (pos 32767)) (not-false (is_depth depth) one.0) in
+    cond_both (is_named points.items p) (metres (height_of m p) -ℤ depth) s IsSample
+    (λ named. lowered_fits (metres (height_of m p)) depth (height_fits m p w) (le_true (pos 1) depth range.0) (named_fits m depth points.items p three.0 named)) (λ _. fits)
+accepted_fits k m (Wall height points) w h p s fits =
+    let one = pass (not (effects.is_height height)) BadHeight _ h in
+    cond_both (is_named points.items p) (int_max (metres (height_of m p)) height) s IsSample
+    (λ _. max_fits (metres (height_of m p)) height (height_fits m p w) (in_range height (not-false (effects.is_height height) one.0))) (λ _. fits)
+
+-- and its effect is that every sample changes
+pub accepted_edit : (k : ℕ) (m : Mosaic) (c : Command) → refusal_of (effect k m c) ≡ None →
+    ((d : Place) (bytes : List ℕ) → c ≡ Import d bytes → ⊥) → ((d : Place) → c ≡ Remove d → ⊥) → effect k m c ≡ Ok (edited (change_of m c) m)
+accepted_edit k m (Import c bytes) h no_import no_remove = absurd (no_import c bytes refl)
+accepted_edit k m (Remove c) h no_import no_remove = absurd (no_remove c refl)
+accepted_edit k m (Patch from to height) h no_import no_remove =
+    let new : Result Mosaic Refusal = Ok (patched from to height m) in
+    let third = cond (not (has_void m from to)) (Err NothingVoid) new in
+    let second = cond (not (is_box m.side from to)) (Err BadBox) third in
+    let one = pass (not (effects.is_height height)) BadHeight second h in
+    let two = pass (not (is_box m.side from to)) BadBox third one.1 in
+    let three = pass (not (has_void m from to)) NothingVoid new two.1 in
+    one.2 ∙ two.2 ∙ three.2
+accepted_edit k m (Burn depth points) h no_import no_remove =
+    let third = unless_fault (first_fault m depth points.items) (burnt depth points.items m) in
+    let second = cond (is_repeated points.items) (Err Repeated) third in
+    let one = pass (not (is_depth depth)) BadDepth second h in
+    let two = pass (is_repeated points.items) Repeated third one.1 in
+    let three = no_fault (first_fault m depth points.items) (burnt depth points.items m) two.1 in
+    one.2 ∙ two.2 ∙ three.1
+accepted_edit k m (Wall height points) h no_import no_remove =
+    let third = unless_fault (first_fault m (pos 0) points.items) (walled height points.items m) in
+    let second = cond (is_repeated points.items) (Err Repeated) third in
+    let one = pass (not (effects.is_height height)) BadHeight second h in
+    let two = pass (is_repeated points.items) Repeated third one.1 in
+    let three = no_fault (first_fault m (pos 0) points.items) (walled height points.items m) two.1 in
+    one.2 ∙ two.2 ∙ three.1

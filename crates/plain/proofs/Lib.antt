@@ -1,0 +1,12 @@
+pub mod Accepted
+pub mod CommandLemmas
+pub mod DrainLemmas
+pub mod FlatLemmas
+pub mod GroundLemmas
+pub mod Kept
+pub mod LevelLemmas
+pub mod Order
+pub mod PathLemmas
+pub mod PointLemmas
+pub mod RunLemmas
+pub mod SeamLemmas

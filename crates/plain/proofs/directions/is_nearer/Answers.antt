@@ -1,0 +1,18 @@
+use Rattle.std.proofs.Common.{◌≡◌, ◌∙◌, ◌-◌, true, suc, sym, arith}
+use Rattle.std.proofs.lemmas.Bool.{eqb-true, eq-eqb}
+use Rattle.plain.specs.Flats.{is_level}
+use Rattle.plain.proofs.DrainLemmas.{nearer_from, nearer_less}
+use Rattle.plain.proofs.directions.is_nearer.Goals as goal
+
+pub returns-then-others-own : goal.returns-then-others-own
+returns-then-others-own c =
+    let m = c.args.mosaic.now in
+    let cells = c.args.levels.now in
+    let p = c.args.point in
+    let q = c.args.other in
+    let own = c.in_ok-own.own in
+    let others = c.in_ok-others.others in
+    let level : is_level m cells p q ≡ true = sym c.is_level.ensures ∙ c.if-not-is_level.false in (
+      λ h. nearer_from m cells p q others own level c.in_ok-own.ensures c.in_ok-others.ensures (omega (arith, eqb-true (own - others) 1 h)),
+      λ near. eq-eqb (own - others) 1 (omega (arith, nearer_less m cells p q others own c.in_ok-own.ensures c.in_ok-others.ensures near)),
+    )

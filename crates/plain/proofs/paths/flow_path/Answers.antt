@@ -1,0 +1,23 @@
+use Rattle.std.proofs.Common.{◌++◌, [], ◌∷◌, IsTrue, List, sym, subst}
+use Rattle.lattice.specs.declared.point.Point.{Point}
+use Rattle.lattice.specs.Ground.{is_ground, terrain}
+use Rattle.lattice.specs.Steps.{step}
+use Rattle.plain.specs.Levels.{level_of}
+use Rattle.plain.specs.Drains.{DrainsBy}
+use Rattle.plain.proofs.PathLemmas.{LeadsHere, leads_further, drains_to_ground}
+use Rattle.plain.proofs.paths.flow_path.Goals as goal
+
+pub steps-preserved : goal.steps-preserved
+steps-preserved c =
+    let m = c.args.mosaic.now in
+    let cells = c.args.levels.now in
+    let here = c.steps.here in
+    let next = c.in-Some.step in
+    let drains = subst (DrainsBy m cells here) c.in-Some.is c.in_ok-step.ensures in
+    let further = leads_further (terrain m) (level_of cells) c.args.point c.steps.path.items here next.direction drains.0 c.steps.invariant.leads in
+    record {
+      on_ground = subst (λ q. IsTrue (is_ground m q)) (sym drains.1) (drains_to_ground m (level_of cells) here next.direction drains.0);
+      leads =
+          subst (λ (q : Point). LeadsHere (terrain m) (level_of cells) c.args.point c.push.new.self.items q) (sym drains.1)
+          (subst (λ (path : List Point). LeadsHere (terrain m) (level_of cells) c.args.point path (step next.direction here)) (sym c.in_ok-push.ensures.items) further);
+    }

@@ -1,0 +1,101 @@
+-- Worked rows that the definitions themselves compute, on tiles of three by three samples written as rows from the north.
+use Rattle.std.specs.Prelude.{◌≡◌, ℕ, ℤ, pos, negsuc, true, false, Some, Ok, Err, List, [], ◌∷◌, map}
+use Rattle.lattice.specs.Corners.{Place}
+use Rattle.lattice.specs.declared.point.Point.{Point}
+use Rattle.lattice.specs.declared.height.Height.TheVariants as height
+use Rattle.lattice.specs.declared.direction.Dir.TheVariants.{East, SouthEast, North, NorthEast}
+use Rattle.lattice.specs.declared.refusal.Refusal.TheVariants.{NothingVoid, BadHeight, BadBox, TooDeep}
+use Rattle.lattice.specs.Mosaic.{Tile, Mosaic, empty_mosaic, void}
+use Rattle.lattice.specs.Height.{height_of, disagrees}
+use Rattle.lattice.specs.Ground.{is_adjacent, is_outlet, degree_of}
+use Rattle.lattice.specs.Block.{rim_number}
+use Rattle.lattice.specs.Steps.{directions, north_of, east_of, code_of, is_steeper}
+use Rattle.edits.specs.declared.command.Command.TheVariants.{Patch}
+use Rattle.catalogue.specs.Tiles.{without}
+use Rattle.edits.specs.Effect.{effect, burnt, walled, first_fault}
+
+abbrev pub place : ℤ → ℤ → Place
+place lat lon = record { lat = lat; lon = lon }
+
+abbrev pub at : ℕ → ℕ → Point
+at y x = record { y = pos y; x = pos x }
+
+-- the tile with this south-west corner, and one east of it
+abbrev pub tile : ℤ → ℤ → List ℤ → Tile
+tile lat lon samples = record { corner = place lat lon; samples = samples }
+
+-- all 9 but for the middle row
+abbrev pub with_middle : ℤ → ℤ → ℤ → List ℤ
+with_middle a b c = pos 9 ∷ pos 9 ∷ pos 9 ∷ a ∷ b ∷ c ∷ pos 9 ∷ pos 9 ∷ pos 9 ∷ []
+
+abbrev pub all_of : ℤ → List ℤ
+all_of s = s ∷ s ∷ s ∷ s ∷ s ∷ s ∷ s ∷ s ∷ s ∷ []
+
+-- two tiles side by side
+abbrev pub pair : List ℤ → List ℤ → Mosaic
+pair west east = record { side = 3; tiles = tile (pos 0) (pos 0) west ∷ tile (pos 0) (pos 1) east ∷ [] }
+
+abbrev pub single : List ℤ → Mosaic
+single samples = record { side = 3; tiles = tile (pos 0) (pos 0) samples ∷ [] }
+
+-- 7 and 8 on the seam of two tiles: the first one decides, until it is taken out
+abbrev pub seven_eight : Mosaic
+seven_eight = pair (with_middle (pos 9) (pos 9) (pos 7)) (with_middle (pos 8) (pos 9) (pos 9))
+
+abbrev pub SeamRows : Type 0
+SeamRows =
+    (height_of seven_eight (at 1 2) ≡ height.At (pos 7)) × (disagrees seven_eight (at 1 2) ≡ true) × (disagrees seven_eight (at 0 2) ≡ false)
+    × (height_of (without (place (pos 0) (pos 0)) seven_eight) (at 1 2) ≡ height.At (pos 8))
+
+-- a burn and a wall on the seam reach both tiles
+abbrev pub EditRows : Type 0
+EditRows =
+    (height_of (burnt (pos 1) (at 1 2 ∷ []) seven_eight) (at 1 2) ≡ height.At (pos 6))
+    × (height_of (without (place (pos 0) (pos 0)) (burnt (pos 1) (at 1 2 ∷ []) seven_eight)) (at 1 2) ≡ height.At (pos 6))
+    × (height_of (without (place (pos 0) (pos 0)) (walled (pos 3) (at 1 2 ∷ []) seven_eight)) (at 1 2) ≡ height.At (pos 7))
+
+-- a void on the seam beside 8: nothing is void there
+abbrev pub void_eight : Mosaic
+void_eight = pair (with_middle (pos 9) (pos 9) void) (with_middle (pos 8) (pos 9) (pos 9))
+
+abbrev pub VoidRows : Type 0
+VoidRows = (height_of void_eight (at 1 2) ≡ height.At (pos 8)) × (effect 4 void_eight (Patch (at 1 2) (at 1 2) (pos 4)) ≡ Err NothingVoid)
+
+-- a tile with a void in the middle
+abbrev pub hollow : Mosaic
+hollow = single (with_middle (pos 9) void (pos 9))
+
+abbrev pub RefusalRows : Type 0
+RefusalRows =
+    (effect 4 hollow (Patch (at 0 0) (at 0 3) (pos 4)) ≡ Err BadBox) × (effect 4 hollow (Patch (at 1 1) (at 0 1) (pos 4)) ≡ Err BadBox)
+    × (effect 4 hollow (Patch (at 0 0) (at 2 2) (pos 40000)) ≡ Err BadHeight) × (effect 4 (empty_mosaic 3) (Patch (at 0 0) (at 2 2) (pos 4)) ≡ Err NothingVoid)
+    × (effect 4 hollow (Patch (at 1 1) (at 1 1) (pos 4)) ≡ Ok (single (with_middle (pos 9) (pos 4) (pos 9))))
+
+-- a burn by 32767 is too deep at -1, and not at 0
+abbrev pub DepthRows : Type 0
+DepthRows =
+    (first_fault (single (with_middle (pos 9) (negsuc 0) (pos 9))) (pos 32767) (at 1 1 ∷ []) ≡ Some TooDeep)
+    × (height_of (burnt (pos 32767) (at 1 1 ∷ []) (single (with_middle (pos 9) (pos 0) (pos 9)))) (at 1 1) ≡ height.At (negsuc 32766))
+
+-- two tiles that meet at one point, (2, 2): no tile holds both (2, 1) and (3, 2)
+abbrev pub corner_to_corner : Mosaic
+corner_to_corner = record { side = 3; tiles = tile (pos 0) (pos 0) (all_of (pos 5)) ∷ tile (pos 1) (pos 1) (all_of (pos 1)) ∷ [] }
+
+abbrev pub AdjacencyRows : Type 0
+AdjacencyRows =
+    (height_of corner_to_corner (at 2 2) ≡ height.At (pos 5)) × (is_adjacent corner_to_corner (at 2 1) (at 3 2) ≡ false)
+    × (is_adjacent corner_to_corner (at 2 1) (at 2 2) ≡ true) × (degree_of corner_to_corner (at 2 2) ≡ 6)
+    × (is_outlet corner_to_corner (at 2 2) ≡ true) × (is_outlet corner_to_corner (at 1 1) ≡ false)
+
+-- 8 straight is steeper than 10 on the diagonal, and 7 is not; the order of the eight steps
+abbrev pub StepRows : Type 0
+StepRows =
+    (is_steeper East 8 SouthEast 10 ≡ true) × (is_steeper East 7 SouthEast 10 ≡ false) × (is_steeper SouthEast 10 East 7 ≡ true)
+    × (is_steeper North 4 East 4 ≡ false) × (is_steeper NorthEast 4 East 4 ≡ false)
+    × (map code_of directions ≡ 1 ∷ 2 ∷ 4 ∷ 8 ∷ 16 ∷ 32 ∷ 64 ∷ 128 ∷ [])
+    × (map north_of directions ≡ pos 0 ∷ negsuc 0 ∷ negsuc 0 ∷ negsuc 0 ∷ pos 0 ∷ pos 1 ∷ pos 1 ∷ pos 1 ∷ [])
+    × (map east_of directions ≡ pos 1 ∷ pos 1 ∷ pos 0 ∷ negsuc 0 ∷ negsuc 0 ∷ negsuc 0 ∷ pos 0 ∷ pos 1 ∷ [])
+
+-- the numbers of the rim points, by rows from the north
+abbrev pub RimRows : Type 0
+RimRows = map (rim_number 3) (0 ∷ 1 ∷ 2 ∷ 3 ∷ 5 ∷ 6 ∷ 7 ∷ 8 ∷ []) ≡ 0 ∷ 1 ∷ 2 ∷ 3 ∷ 4 ∷ 5 ∷ 6 ∷ 7 ∷ []

@@ -1,0 +1,42 @@
+//! Worked rows that the definitions compute: each call does nothing, and its contract is the rows.
+ghost use Rattle.plain.specs.Rows.{SeamRows, EditRows, VoidRows, RefusalRows, DepthRows, AdjacencyRows, StepRows, RimRows};
+
+/// Where two tiles disagree on their seam, the first one decides until it is taken out.
+pub fn seam_rows()
+    ensures { SeamRows }
+{}
+
+/// A burn and a wall on a seam reach both tiles.
+pub fn edit_rows()
+    ensures { EditRows }
+{}
+
+/// Where one tile has a height, nothing is void.
+pub fn void_rows()
+    ensures { VoidRows }
+{}
+
+/// When a patch is refused, and what it gives.
+pub fn refusal_rows()
+    ensures { RefusalRows }
+{}
+
+/// How deep a burn may go.
+pub fn depth_rows()
+    ensures { DepthRows }
+{}
+
+/// Tiles that meet at one point: which points are adjacent, and where water leaves.
+pub fn adjacency_rows()
+    ensures { AdjacencyRows }
+{}
+
+/// Which drop is steeper, and the order of the eight steps.
+pub fn step_rows()
+    ensures { StepRows }
+{}
+
+/// The numbers of the rim points.
+pub fn rim_rows()
+    ensures { RimRows }
+{}

@@ -1,0 +1,452 @@
+-- Where water passes between labels: each two adjacent points are met once, and the lowest place between two labels is
+-- the first in order.
+use Rattle.std.proofs.Common.{◌≡◌, ◌≢◌, ℕ, ◌+◌, ◌*◌, ◌-◌, ◌/◌, ◌%◌, ◌<◌, ◌≤◌, ◌⊎◌, inl, inr, ℤ, ◌≤ℤ◌, Bool, true, false, not, IsTrue, ◌&&◌, List, [], ◌∷◌, ◌++◌, length, get_or, slice_index, refl, sym, ap, ap₂, ◌∙◌, subst, arith, true≢false, cond, int_lt, nat_eq, All, Contains}
+use Rattle.std.specs.Int.{int_max}
+use Rattle.std.specs.Ordering.{int_eq, is_lt, nat_cmp, int_cmp, ordering_then}
+use Rattle.std.specs.declared.cmp.Ordering.TheVariants.{Less, Equal, Greater}
+use Rattle.std.specs.Cmp.{nat_cmp_is}
+use Rattle.std.specs.List.Sorted.{IsPermutation}
+use Rattle.std.proofs.lemmas.Int.{ints, clamps}
+use Rattle.std.proofs.lemmas.Bool.{cases_Bool, ne_eqb, cases_lt, cases_eq}
+use Rattle.std.proofs.lemmas.Bool.Decides.{Decides-int_eq}
+use Rattle.std.proofs.lemmas.List.Elements.{Contains-get_or, Contains-append_left, Contains-push, Contains-push_cases}
+use Rattle.std.proofs.lemmas.List.Sorted.{Contains-permutation, IsPermutation-sym}
+use Rattle.std.proofs.Math.Nat.{mul-le-mul_right}
+use Rattle.lattice.specs.Mosaic.{void, IsSample}
+use Rattle.lattice.specs.Block.{block, is_solid, is_linked, is_beside}
+use Rattle.lattice.proofs.Levels.{height-le_level, ≤ℤ_same, ≤ℤ_trans}
+use Rattle.std.proofs.Math.ListN.{get_or-eq_default}
+use Rattle.std.proofs.lemmas.List.{get_or_default}
+use Rattle.lattice.proofs.Lawful.{block_is_lawful}
+use Rattle.tile_flood.specs.declared.passing.Spill.{Spill}
+use Rattle.tile_flood.specs.Flooding.{is_marked}
+use Rattle.tile_flood.specs.Labelling.{IsLabelling}
+use Rattle.tile_flood.specs.Spills.{Meets, AreSpills}
+use Rattle.tile_flood.specs.Passing.{IsPassage, IsNoPassage, AreFoundStill, AreBeside, ArePassages, IsFound, AreFoundBelow, IsInOrder, AreFirsts, AreFirstsBelow, HasLowerLabels, HaveSameLabels}
+use Rattle.tile_flood.proofs.Squares.{linked_parts, linked_from, linked_apart, beside_if, solid_below, solid_if, row_of_cell, column_of_cell, cell_of, row_below, test_if, solid_height}
+
+max-swap : (a b : ℤ) → int_max a b ≡ int_max b a
+max-swap a b = omega (arith, ints, clamps)
+
+differ : (e f : ℕ) → IsTrue (not (nat_eq e f)) → e ≢ f
+differ e f h same = absurd (true≢false (sym h ∙ ap not (ap (nat_eq e) (sym same) ∙ eq_itself e)))
+  where
+    eq_itself : (e : ℕ) → nat_eq e e ≡ true
+    eq_itself e = grind arith
+
+-- two cells at most one row and one column apart
+pub beside_cells : (n i j i' j' e f : ℕ) → e ≡ i * n + j → f ≡ i' * n + j' → j < n → j' < n → i ≤ i' + 1 → i' ≤ i + 1 → j ≤ j' + 1 → j' ≤ j + 1 → IsTrue (is_beside n e f)
+beside_cells n i j i' j' e f at_e at_f small small' north south west east =
+    let row : e / n ≡ i = ap (λ v. v / n) at_e ∙ row_of_cell n i j small in
+    let row' : f / n ≡ i' = ap (λ v. v / n) at_f ∙ row_of_cell n i' j' small' in
+    let column : e % n ≡ j = ap (λ v. v % n) at_e ∙ column_of_cell n i j small in
+    let column' : f % n ≡ j' = ap (λ v. v % n) at_f ∙ column_of_cell n i' j' small' in
+    beside_if n e f (record { north = omega arith; south = omega arith; west = omega arith; east = omega arith })
+
+last_row : (n i : ℕ) → i < n → i * n + n ≤ n * n
+last_row n i inside = omega (arith, mul-le-mul_right n (more i n inside))
+  where
+    more : (i n : ℕ) → i < n → i + 1 ≤ n
+    more i n h = omega arith
+
+pub beside_east : (n i : ℕ) → i < n → AreBeside n (i * n) (i * n + 1) (n - 1)
+beside_east n i inside =
+    let room = last_row n i inside in record {
+      first = omega arith;
+      second = omega arith;
+      beside = λ k less. beside_cells n i k i (k + 1) (i * n + k) (i * n + 1 + k) refl (omega arith) (omega arith) (omega arith) (omega arith) (omega arith) (omega arith) (omega arith);
+      apart = omega arith;
+    }
+
+pub beside_south : (n i : ℕ) → i + 1 < n → AreBeside n (i * n) (i * n + n) n
+beside_south n i inside =
+    let room = last_row n (i + 1) inside in record {
+      first = omega arith;
+      second = omega arith;
+      beside = λ k less. beside_cells n i k (i + 1) k (i * n + k) (i * n + n + k) refl (omega arith) (omega arith) (omega arith) (omega arith) (omega arith) (omega arith) (omega arith);
+      apart = omega arith;
+    }
+
+pub beside_south_east : (n i : ℕ) → i + 1 < n → AreBeside n (i * n) (i * n + n + 1) (n - 1)
+beside_south_east n i inside =
+    let room = last_row n (i + 1) inside in record {
+      first = omega arith;
+      second = omega arith;
+      beside = λ k less. beside_cells n i k (i + 1) (k + 1) (i * n + k) (i * n + n + 1 + k) refl (omega arith) (omega arith) (omega arith) (omega arith) (omega arith) (omega arith) (omega arith);
+      apart = omega arith;
+    }
+
+pub beside_south_west : (n i : ℕ) → i + 1 < n → AreBeside n (i * n + 1) (i * n + n) (n - 1)
+beside_south_west n i inside =
+    let room = last_row n (i + 1) inside in record {
+      first = omega arith;
+      second = omega arith;
+      beside = λ k less. beside_cells n i (k + 1) (i + 1) k (i * n + 1 + k) (i * n + n + k) (omega arith) (omega arith) (omega arith) (omega arith) (omega arith) (omega arith) (omega arith) (omega arith);
+      apart = omega arith;
+    }
+
+module _ (n : ℕ) (levels : List ℤ) (labels : List ℕ) where
+  -- a place between two points beside each other is one where their labels meet
+  pub passage_meets : (e f : ℕ) (p : Spill) → e < n * n → f < n * n → e ≢ f → IsTrue (is_beside n e f) → IsPassage levels labels e f p →
+      (p.a < p.b) × Meets n levels levels labels p.a p.b p.level
+  passage_meets e f p in_e in_f other beside h =
+      let apart = h.apart in
+      let lower = h.lower in
+      let higher = h.higher in
+      let solid_e : IsTrue (is_solid n levels e) = solid_of e in_e h.from in
+      let solid_f : IsTrue (is_solid n levels f) = solid_of f in_f h.to in
+      let link : IsTrue (is_linked n levels e f) = linked_from n levels e f (record { from = solid_e; to = solid_f; apart = ap not (ne_eqb e f other); beside = beside }) in (
+        omega arith,
+        elim (cases_lt (slice_index labels e) (slice_index labels f)) [
+          | inl less ↦ record { points = (e, f, (link, (sym (omega arith), (sym (omega arith), sym h.level)))) }
+          | inr more ↦ record { points = (f, e, ((block_is_lawful n levels).both_ways e f link, (sym (omega arith), (sym (omega arith), max-swap (get_or levels f void) (get_or levels e void) ∙ sym h.level)))) }
+        ],
+      )
+    where
+      solid_of : (e : ℕ) → e < n * n → IsTrue (is_marked levels e) → IsTrue (is_solid n levels e)
+      solid_of e below on = solid_if n levels e below (not-true (int_eq (get_or levels e void) void) on)
+        where
+          not-true : (b : Bool) → not b ≡ true → b ≡ false
+          not-true true h = absurd (true≢false (sym h))
+          not-true false h = refl
+
+  pub found_still : (old new : List Spill) (e f : ℕ) → AreFoundStill old new → IsFound n levels labels old e f → IsFound n levels labels new e f
+  found_still old new e f still was link apart = let h = was link apart in (h.0, (still h.0 h.1.0, h.1.1))
+
+  -- a place is added
+  pub added : (found found' : List Spill) (p : Spill) → found' ≡ found ++ p ∷ [] → AreFoundStill found found'
+  added found found' p is q has = subst (λ l. Contains l q) (sym is) (Contains-append_left found (p ∷ []) q has)
+
+  pub passages_more : (found found' : List Spill) (p : Spill) (e f : ℕ) → found' ≡ found ++ p ∷ [] → ArePassages n levels labels found →
+      e < n * n → f < n * n → e ≢ f → IsTrue (is_beside n e f) → IsPassage levels labels e f p → ArePassages n levels labels found'
+  passages_more found found' p e f is all in_e in_f other beside h q has = elim (Contains-push_cases found p q (subst (λ l. Contains l q) is has)) [
+    | inl old ↦ all q old
+    | inr new ↦ subst (λ r. (r.a < r.b) × Meets n levels levels labels r.a r.b r.level) new (passage_meets e f p in_e in_f other beside h)
+  ]
+
+  pub found_now : (found found' : List Spill) (p : Spill) (e f : ℕ) → found' ≡ found ++ p ∷ [] → IsPassage levels labels e f p → IsFound n levels labels found' e f
+  found_now found found' p e f is h link apart = (p, (subst (λ l. Contains l p) (sym is) (Contains-push found p), h))
+
+  pub none_there : (found : List Spill) (e f : ℕ) → IsNoPassage levels labels e f → IsFound n levels labels found e f
+  none_there found e f h link apart = elim h [
+    | inl off ↦ absurd (true≢false (sym (marked_of e (linked_parts n levels e f link).from) ∙ off))
+    | inr more ↦ elim more [
+      | inl off ↦ absurd (true≢false (sym (marked_of f (linked_parts n levels e f link).to) ∙ off))
+      | inr same ↦ absurd (apart same)
+    ]
+  ]
+    where
+      marked_of : (e : ℕ) → IsTrue (is_solid n levels e) → IsTrue (is_marked levels e)
+      marked_of e solid = test_if (get_or levels e void) (solid_height n levels e solid)
+
+  -- the points of a row: with the next one, and with those of the row below
+  pub row_found : (found : List Spill) (i : ℕ) → i < n →
+      ((k : ℕ) → k < n - 1 → IsFound n levels labels found (i * n + k) (i * n + 1 + k)) →
+      (i + 1 < n → (k : ℕ) → k < n → IsFound n levels labels found (i * n + k) (i * n + n + k)) →
+      (i + 1 < n → (k : ℕ) → k < n - 1 → IsFound n levels labels found (i * n + k) (i * n + n + 1 + k)) →
+      (i + 1 < n → (k : ℕ) → k < n - 1 → IsFound n levels labels found (i * n + 1 + k) (i * n + n + k)) →
+      AreFoundBelow n levels labels found (i * n) → AreFoundBelow n levels labels found ((i + 1) * n)
+  row_found found i inside east south south_east south_west before e f low less link = elim (cases_lt e (i * n)) [
+    | inl earlier ↦ before e f earlier less link
+    | inr here ↦
+        let parts = linked_parts n levels e f link in
+        let apart = linked_apart n levels e f link in
+        let in_f : f < n * n = solid_below n levels f parts.to in
+        let in_row : f / n < n = row_below n f in_f in
+        let column : e % n < n = column_below e in
+        let column' : f % n < n = column_below f in
+        let cell : e ≡ (e / n) * n + e % n = cell_of n e in
+        let cell' : f ≡ (f / n) * n + f % n = cell_of n f in
+        let row : e / n ≡ i = row_is e i here low in
+        let at : e ≡ i * n + e % n = cell ∙ ap (λ r. r * n + e % n) row in
+        let north = apart.north in let southward = apart.south in let west = apart.west in let eastward = apart.east in
+        elim (cases_eq (f / n) i) [
+          | inl same ↦
+              let at' : f ≡ i * n + f % n = cell' ∙ ap (λ r. r * n + f % n) same in
+              let next : f ≡ i * n + 1 + e % n = omega arith in
+              moved (i * n + e % n) (i * n + 1 + e % n) at next (east (e % n) (omega arith)) link
+          | inr other ↦
+              let below : f / n ≡ i + 1 = later f i (at_least f i (omega arith)) other (omega arith) in
+              let at' : f ≡ (i + 1) * n + f % n = cell' ∙ ap (λ r. r * n + f % n) below in
+              let more : i + 1 < n = omega arith in
+              elim (cases_eq (f % n) (e % n)) [
+                | inl same ↦ moved (i * n + e % n) (i * n + n + e % n) at (omega arith) (south more (e % n) column) link
+                | inr aside ↦ elim (cases_lt (e % n) (f % n)) [
+                  | inl right ↦ moved (i * n + e % n) (i * n + n + 1 + e % n) at (omega arith) (south_east more (e % n) (omega arith)) link
+                  | inr left ↦ moved (i * n + 1 + f % n) (i * n + n + f % n) (omega arith) (omega arith) (south_west more (f % n) (omega arith)) link
+                ]
+              ]
+        ]
+  ]
+    where
+      column_below : (v : ℕ) → v % n < n
+      column_below v = omega arith
+
+      row_is : (e i : ℕ) → i * n ≤ e → e < (i + 1) * n → e / n ≡ i
+      row_is e i from to =
+          let at : e ≡ i * n + (e - i * n) = omega arith in
+          ap (λ v. v / n) at ∙ row_of_cell n i (e - i * n) (omega arith)
+
+      at_least : (f i : ℕ) → i * n ≤ f → i ≤ f / n
+      at_least f i from = elim (cases_lt (f / n) i) [
+        | inl less ↦
+            let more : (f / n + 1) * n ≤ i * n = mul-le-mul_right n (next (f / n) i less) in
+            let cell : f ≡ (f / n) * n + f % n = cell_of n f in
+            let small : f % n < n = omega arith in
+            absurd (omega arith)
+        | inr enough ↦ enough
+      ]
+        where
+          next : (a b : ℕ) → a < b → a + 1 ≤ b
+          next a b h = omega arith
+
+      later : (f i : ℕ) → i ≤ f / n → f / n ≢ i → f / n ≤ i + 1 → f / n ≡ i + 1
+      later f i low other high = omega arith
+
+      moved : (x y : ℕ) → e ≡ x → f ≡ y → IsFound n levels labels found x y → IsFound n levels labels found e f
+      moved x y ex fy h = subst (λ v. IsFound n levels labels found v f) (sym ex) (subst (λ v. IsFound n levels labels found x v) (sym fy) h)
+
+  -- the first of each run in order has the lowest level of its labels
+  pub spills_are : (found sorted firsts : List Spill) → ArePassages n levels labels found → AreFoundBelow n levels labels found (n * n) →
+      IsPermutation found sorted → AreFirsts sorted firsts → AreSpills n levels levels labels firsts
+  spills_are found sorted firsts passages below moved is = record {
+    each = λ p has. record {
+      in_order = (of_found p has).0;
+      meets = (of_found p has).1;
+      least = λ level m.
+          let low = lowest p.a p.b level (of_found p has).0 m in
+          subst (λ (q : Spill). q.level ≤ℤ level) (is.once low.0 p low.1.0 has (record { same_a = low.1.1.0; same_b = low.1.1.1.0 })) low.1.1.1.1;
+    };
+    all = λ a b level less m. let low = lowest a b level less m in (low.0, (low.1.0, (low.1.1.0, low.1.1.1.0)));
+    once = λ p q has_p has_q a b. is.once p q has_p has_q (record { same_a = a; same_b = b });
+  }
+    where
+      of_found : (p : Spill) → Contains firsts p → (p.a < p.b) × Meets n levels levels labels p.a p.b p.level
+      of_found p has = passages p (Contains-permutation sorted found p (IsPermutation-sym found sorted moved) (is.from p has))
+
+      first_of : (r : Spill) → Contains found r → (q : Spill) × (Contains firsts q × (HaveSameLabels q r × (q.level ≤ℤ r.level)))
+      first_of r has =
+          let there = Contains-permutation found sorted r moved has in
+          subst (λ (v : Spill). (q : Spill) × (Contains firsts q × (HaveSameLabels q v × (q.level ≤ℤ v.level)))) there.2 (is.each there.0 r there.1)
+
+      -- two adjacent points with these labels were met, so there is a place between them that is no higher
+      lowest : (a b : ℕ) (level : ℤ) → a < b → Meets n levels levels labels a b level → (q : Spill) × (Contains firsts q × ((q.a ≡ a) × ((q.b ≡ b) × (q.level ≤ℤ level))))
+      lowest a b level less m =
+          let e = m.points.0 in
+          let f = m.points.1 in
+          let link = m.points.2.0 in
+          let label_e : slice_index labels e ≡ a = m.points.2.1.0 in
+          let label_f : slice_index labels f ≡ b = m.points.2.1.1.0 in
+          let at : int_max (get_or levels e void) (get_or levels f void) ≡ level = m.points.2.1.1.1 in
+          elim (cases_lt e f) [
+            | inl before ↦
+                let met = below e f (solid_below n levels e (linked_parts n levels e f link).from) before link (λ same. absurd (omega arith)) in
+                let lower = met.1.1.lower in let higher = met.1.1.higher in
+                let q = first_of met.0 met.1.0 in
+                let same_a = q.1.1.0.same_a in let same_b = q.1.1.0.same_b in
+                (q.0, (q.1.0, (omega arith, (omega arith, subst (λ v. q.0.level ≤ℤ v) (met.1.1.level ∙ at) q.1.1.1))))
+            | inr after ↦
+                let other : e ≢ f = differ e f (linked_parts n levels e f link).apart in
+                let back = (block_is_lawful n levels).both_ways e f link in
+                let met = below f e (solid_below n levels f (linked_parts n levels e f link).to) (omega arith) back (λ same. absurd (omega arith)) in
+                let lower = met.1.1.lower in let higher = met.1.1.higher in
+                let q = first_of met.0 met.1.0 in
+                let same_a = q.1.1.0.same_a in let same_b = q.1.1.0.same_b in
+                (q.0, (q.1.0, (omega arith, (omega arith, subst (λ v. q.0.level ≤ℤ v) (met.1.1.level ∙ max-swap (get_or levels f void) (get_or levels e void) ∙ at) q.1.1.1))))
+          ]
+
+-- lower labels, and the same
+lower_labels : (p q r : Spill) → HasLowerLabels p q ⊎ HaveSameLabels p q → HasLowerLabels q r → HasLowerLabels p r
+lower_labels p q r (inl less) low = lower p q r less low
+  where
+    lower : (p q r : Spill) → HasLowerLabels p q → HasLowerLabels q r → HasLowerLabels p r
+    lower p q r (inl a) (inl b) = inl (omega arith)
+    lower p q r (inl a) (inr b) = inl (omega (arith, b.0))
+    lower p q r (inr a) (inl b) = inl (omega (arith, a.0))
+    lower p q r (inr a) (inr b) = inr (a.0 ∙ b.0, omega (arith, a.1, b.1))
+lower_labels p q r (inr same) (inl a) = let h = same.same_a in inl (omega arith)
+lower_labels p q r (inr same) (inr a) = let h = same.same_b in inr (same.same_a ∙ a.0, omega (arith, a.1))
+
+not_lower_labels : (p q r : Spill) → HasLowerLabels p q ⊎ HaveSameLabels p q → HaveSameLabels q r → HasLowerLabels p r ⊎ HaveSameLabels p r
+not_lower_labels p q r (inl (inl a)) same = let h = same.same_a in inl (inl (omega arith))
+not_lower_labels p q r (inl (inr a)) same = let h = same.same_b in inl (inr (a.0 ∙ same.same_a, omega (arith, a.1)))
+not_lower_labels p q r (inr was) same = inr (record { same_a = was.same_a ∙ same.same_a; same_b = was.same_b ∙ same.same_b })
+
+lower_is_other : (p q : Spill) → HasLowerLabels p q → HaveSameLabels p q → ⊥
+lower_is_other p q (inl a) same = let h = same.same_a in absurd (omega arith)
+lower_is_other p q (inr a) same = let h = same.same_b in absurd (omega (arith, a.1))
+
+module _ (sorted firsts : List Spill) (k : ℕ) (order : IsInOrder sorted) (small : k < length sorted) (s : AreFirstsBelow sorted firsts k) where
+  in_turn : (d : Spill) → 0 < k → HasLowerLabels (get_or sorted (k - 1) d) (get_or sorted k d)
+      ⊎ (HaveSameLabels (get_or sorted (k - 1) d) (get_or sorted k d) × ((get_or sorted (k - 1) d).level ≤ℤ (get_or sorted k d).level))
+  in_turn d some =
+      let next : k - 1 + 1 ≡ k = omega arith in
+      let T : ℕ → Type 0 = λ j. HasLowerLabels (get_or sorted (k - 1) d) (get_or sorted j d)
+      ⊎ (HaveSameLabels (get_or sorted (k - 1) d) (get_or sorted j d) × ((get_or sorted (k - 1) d).level ≤ℤ (get_or sorted j d).level)) in
+      subst T next (order (k - 1) d (omega arith))
+
+  -- those that were taken have labels up to those of the next
+  up_to : (p d : Spill) → Contains firsts p → HasLowerLabels p (get_or sorted k d) ⊎ HaveSameLabels p (get_or sorted k d)
+  up_to p d has =
+      let some : 0 < length firsts = not_empty p has in
+      let below = s.last p d has in
+      elim (in_turn d (s.some some)) [
+        | inl lower ↦ inl (lower_labels p (get_or sorted (k - 1) d) (get_or sorted k d) below lower)
+        | inr same ↦ not_lower_labels p (get_or sorted (k - 1) d) (get_or sorted k d) below same.0
+      ]
+    where
+      not_empty : (p : Spill) → Contains firsts p → 0 < length firsts
+      not_empty p has = let h = has.1 in omega arith
+
+  last_now : (k + 1) - 1 ≡ k
+  last_now = omega arith
+
+  -- the next is the first with its labels
+  pub first_taken : (firsts' : List Spill) (d : Spill) → firsts' ≡ firsts ++ get_or sorted k d ∷ [] →
+      (0 < k → HaveSameLabels (get_or sorted (k - 1) d) (get_or sorted k d) → ⊥) → AreFirstsBelow sorted firsts' (k + 1)
+  first_taken firsts' d is new = subst (λ l. AreFirstsBelow sorted l (k + 1)) (sym is) (record {
+    from = λ p has. elim (Contains-push_cases firsts (get_or sorted k d) p has) [
+      | inl old ↦ s.from p old
+      | inr same ↦ subst (λ q. Contains sorted q) same (Contains-get_or sorted k d small)
+    ];
+    each = λ j e less. elim (cases_lt j k) [
+      | inl earlier ↦ let q = s.each j e earlier in (q.0, (Contains-append_left firsts (get_or sorted k d ∷ []) q.0 q.1.0, q.1.1))
+      | inr here ↦
+          let now : k ≡ j = omega arith in
+          let at : get_or sorted k d ≡ get_or sorted j e = get_or_default sorted k d e small ∙ ap (λ i. get_or sorted i e) now in
+          (get_or sorted k d, (Contains-push firsts (get_or sorted k d), (record { same_a = ap (λ (q : Spill). q.a) at; same_b = ap (λ (q : Spill). q.b) at }, subst (λ (q : Spill). (get_or sorted k d).level ≤ℤ q.level) at (≤ℤ_same (get_or sorted k d).level))))
+    ];
+    once = λ p q has_p has_q same. elim (Contains-push_cases firsts (get_or sorted k d) p has_p) [
+      | inl old_p ↦ elim (Contains-push_cases firsts (get_or sorted k d) q has_q) [
+        | inl old_q ↦ s.once p q old_p old_q same
+        | inr new_q ↦ absurd (other p old_p (subst (λ r. HaveSameLabels p r) (sym new_q) same))
+      ]
+      | inr new_p ↦ elim (Contains-push_cases firsts (get_or sorted k d) q has_q) [
+        | inl old_q ↦ absurd (other q old_q (subst (λ r. HaveSameLabels q r) (sym new_p) (record { same_a = sym same.same_a; same_b = sym same.same_b })))
+        | inr new_q ↦ sym new_p ∙ new_q
+      ]
+    ];
+    last = λ p e has. subst (λ j. HasLowerLabels p (get_or sorted j e) ⊎ HaveSameLabels p (get_or sorted j e)) (sym last_now) (elim (Contains-push_cases firsts (get_or sorted k d) p has) [
+      | inl old ↦ up_to p e old
+      | inr same ↦ let at : p ≡ get_or sorted k e = sym same ∙ get_or_default sorted k d e small in
+          inr (record { same_a = ap (λ (q : Spill). q.a) at; same_b = ap (λ (q : Spill). q.b) at })
+    ]);
+    some = λ _. omega arith;
+  })
+    where
+      other : (p : Spill) → Contains firsts p → HaveSameLabels p (get_or sorted k d) → ⊥
+      other p has same =
+          let some : 0 < k = s.some (not_empty p has) in
+          let below = s.last p d has in
+          elim (in_turn d some) [
+            | inl lower ↦ lower_is_other p (get_or sorted k d) (lower_labels p (get_or sorted (k - 1) d) (get_or sorted k d) below lower) same
+            | inr tied ↦ absurd (new some tied.0)
+          ]
+        where
+          not_empty : (p : Spill) → Contains firsts p → 0 < length firsts
+          not_empty p has = let h = has.1 in omega arith
+
+  -- the next has the labels of the one before it
+  pub same_passed : (d : Spill) → 0 < k → HaveSameLabels (get_or sorted (k - 1) d) (get_or sorted k d) → AreFirstsBelow sorted firsts (k + 1)
+  same_passed d some tied = record {
+    from = s.from;
+    each = λ j e less. elim (cases_lt j k) [
+      | inl earlier ↦ s.each j e earlier
+      | inr here ↦
+          let now : k ≡ j = omega arith in
+          let q = s.each (k - 1) d (omega arith) in
+          let at : get_or sorted k d ≡ get_or sorted j e = get_or_default sorted k d e small ∙ ap (λ i. get_or sorted i e) now in
+          subst (λ (v : Spill). (q : Spill) × (Contains firsts q × (HaveSameLabels q v × (q.level ≤ℤ v.level)))) at
+          (q.0, (q.1.0, (record { same_a = q.1.1.0.same_a ∙ tied.same_a; same_b = q.1.1.0.same_b ∙ tied.same_b }, ≤ℤ_trans q.0.level (get_or sorted (k - 1) d).level (get_or sorted k d).level q.1.1.1 (no_lower (in_turn d some)))))
+    ];
+    once = s.once;
+    last = λ p e has. subst (λ j. HasLowerLabels p (get_or sorted j e) ⊎ HaveSameLabels p (get_or sorted j e)) (sym last_now) (up_to p e has);
+    some = λ _. omega arith;
+  }
+    where
+      no_lower : HasLowerLabels (get_or sorted (k - 1) d) (get_or sorted k d)
+          ⊎ (HaveSameLabels (get_or sorted (k - 1) d) (get_or sorted k d) × ((get_or sorted (k - 1) d).level ≤ℤ (get_or sorted k d).level)) → (get_or sorted (k - 1) d).level ≤ℤ (get_or sorted k d).level
+      no_lower (inl lower) = absurd (lower_is_other (get_or sorted (k - 1) d) (get_or sorted k d) lower tied)
+      no_lower (inr both) = both.1
+
+-- what the order of a sort says
+pub rises : (p q : Spill) → is_lt (ordering_then (nat_cmp q.a p.a) (ordering_then (nat_cmp q.b p.b) (int_cmp q.level p.level))) ≡ false →
+    HasLowerLabels p q ⊎ (HaveSameLabels p q × (p.level ≤ℤ q.level))
+rises p q h = elim (cases_lt p.a q.a) [
+  | inl less ↦ inl (inl less)
+  | inr more ↦ elim (cases_eq p.a q.a) [
+    | inr other ↦ absurd (true≢false (ap (λ o. is_lt (ordering_then o (ordering_then (nat_cmp q.b p.b) (int_cmp q.level p.level)))) (nat_cmp_is q.a p.a Less (omega arith)) ∙ h))
+    | inl same ↦
+        let on : is_lt (ordering_then (nat_cmp q.b p.b) (int_cmp q.level p.level)) ≡ false = ap (λ o. is_lt (ordering_then o (ordering_then (nat_cmp q.b p.b) (int_cmp q.level p.level)))) (nat_cmp_is q.a p.a Equal (sym same)) ∙ h in
+        elim (cases_lt p.b q.b) [
+          | inl less ↦ inl (inr (same, less))
+          | inr more' ↦ elim (cases_eq p.b q.b) [
+            | inr other ↦ absurd (true≢false (ap (λ o. is_lt (ordering_then o (int_cmp q.level p.level))) (nat_cmp_is q.b p.b Less (omega arith)) ∙ on))
+            | inl same' ↦ inr (record { same_a = same; same_b = same' }, not_less q.level p.level (ap (λ o. is_lt (ordering_then o (int_cmp q.level p.level))) (nat_cmp_is q.b p.b Equal (sym same')) ∙ on))
+          ]
+        ]
+  ]
+]
+  where
+    not_less : (a b : ℤ) → is_lt (int_cmp a b) ≡ false → b ≤ℤ a
+    not_less a b e = elim (cases_Bool (int_lt a b)) [
+      | inl less ↦ absurd (true≢false (sym (ap (λ t. is_lt (cond t Less (cond (int_lt b a) Greater Equal))) less) ∙ e))
+      | inr more ↦ grind (arith, ints)
+    ]
+
+-- those taken from nothing
+pub first_none : (sorted firsts : List Spill) → firsts ≡ [] → AreFirstsBelow sorted firsts 0
+first_none sorted firsts is = subst (λ l. AreFirstsBelow sorted l 0) (sym is) (record {
+  from = λ p has. let h = has.1 in absurd (omega arith);
+  each = λ j d less. absurd (omega arith);
+  once = λ p q has _ _. let h = has.1 in absurd (omega arith);
+  last = λ p d has. let h = has.1 in absurd (omega arith);
+  some = λ h. absurd (omega arith);
+})
+
+pub not_void : (v : ℤ) → v ≢ void → int_eq v void ≡ false
+not_void v other = elim (cases_Bool (int_eq v void)) [ inl same ↦ absurd (other ((Decides-int_eq v void).0 same)) | inr differs ↦ differs ]
+
+-- heights of 16 bits
+pub no_lower : (heights : List ℤ) → All IsSample heights → (e : ℕ) → void ≤ℤ get_or heights e void
+no_lower heights samples e = elim (cases_lt e (length heights)) [
+  | inl inside ↦ (samples e void inside).0
+  | inr beyond ↦ subst (λ v. void ≤ℤ v) (sym (get_or-eq_default heights void beyond)) (≤ℤ_same void)
+]
+
+-- with a valid labelling the points that have a level are the ground points
+module _ (n : ℕ) (heights levels : List ℤ) (labels : List ℕ) (least : (e : ℕ) → void ≤ℤ get_or heights e void) (is : IsLabelling n heights levels labels) where
+  pub solid_has_level : (e : ℕ) → IsTrue (is_solid n heights e) → get_or levels e void ≢ void
+  solid_has_level e solid same =
+      let low : get_or heights e void ≤ℤ get_or levels e void = height-le_level (block n heights) e (get_or levels e void) (is.level e solid) in
+      let at_least : void ≤ℤ get_or heights e void = least e in
+      solid_height n heights e solid (omega (arith, ints))
+
+  pub same_solid : (e : ℕ) → is_solid n heights e ≡ is_solid n levels e
+  same_solid e = elim (cases_Bool (is_solid n heights e)) [
+    | inl solid ↦ solid ∙ sym (solid_if n levels e (solid_below n heights e solid) (not_void (get_or levels e void) (solid_has_level e solid)))
+    | inr off ↦ elim (cases_Bool (is_solid n levels e)) [
+      | inl on ↦ absurd (solid_height n levels e on (is.void_points e (solid_below n levels e on) off).0)
+      | inr off' ↦ off ∙ sym off'
+    ]
+  ]
+
+  pub same_links : (e f : ℕ) → is_linked n heights e f ≡ is_linked n levels e f
+  same_links e f = ap₂ (λ a b. a && b && not (nat_eq e f) && is_beside n e f) (same_solid e) (same_solid f)
+
+  meets_down : (a b : ℕ) (level : ℤ) → Meets n heights levels labels a b level → Meets n levels levels labels a b level
+  meets_down a b level m = record { points = (m.points.0, m.points.1, (sym (same_links m.points.0 m.points.1) ∙ m.points.2.0, m.points.2.1)) }
+
+  meets_up : (a b : ℕ) (level : ℤ) → Meets n levels levels labels a b level → Meets n heights levels labels a b level
+  meets_up a b level m = record { points = (m.points.0, m.points.1, (same_links m.points.0 m.points.1 ∙ m.points.2.0, m.points.2.1)) }
+
+  pub spills_of_ground : (spills : List Spill) → AreSpills n levels levels labels spills → AreSpills n heights levels labels spills
+  spills_of_ground spills s = record {
+    each = λ p has. record {
+      in_order = (s.each p has).in_order;
+      meets = meets_up p.a p.b p.level (s.each p has).meets;
+      least = λ level m. (s.each p has).least level (meets_down p.a p.b level m);
+    };
+    all = λ a b level less m. s.all a b level less (meets_down a b level m);
+    once = s.once;
+  }

@@ -1,0 +1,233 @@
+-- Raising gives the filled levels of the mosaic at all points of a tile.
+use Rattle.std.proofs.Common.{◌≡◌, ◌≢◌, ℕ, suc, ◌+◌, ◌*◌, ◌-◌, ◌/◌, ◌%◌, ◌<◌, ◌≤◌, inl, inr, ℤ, ◌≤ℤ◌, Bool, true, false, cond, IsTrue, IsFalse, List, [], ◌∷◌, ◌++◌, length, length-append, get_or, slice_index, refl, sym, ap, ◌∙◌, subst, arith, true≢false, nat_eq, map, filter, All, Some, None}
+use Rattle.std.specs.Int.{int_max}
+use Rattle.std.proofs.lemmas.Int.{ints}
+use Rattle.std.proofs.lemmas.Bool.{cases_Bool, cond-true, cond-false, eqb-true, eqb-false, ne_eqb, eq-eqb, cases_lt}
+use Rattle.std.proofs.lemmas.Bool.Decides.{Decides-int_eq}
+use Rattle.std.proofs.Math.ListN.{get_or-eq_default, get_or-append}
+use Rattle.std.proofs.Math.Seq.{get_or-append_seam}
+use borrow.Author.Count.{below_more}
+use Rattle.std.proofs.lemmas.List.Elements.{All-cons}
+use Rattle.lattice.specs.declared.height.Height.{Height}
+use Rattle.lattice.specs.declared.point.Point.{Point}
+use Rattle.lattice.specs.Corners.{Place}
+use Rattle.lattice.specs.Lattice.{point_of, holds, index_of}
+use Rattle.lattice.specs.Terrain.{IsFilledLevel, IsPath, end_of, crest}
+use Rattle.lattice.specs.Mosaic.{Mosaic, Tile, IsMosaic, IsTile, is_present, void, is_void}
+use Rattle.lattice.specs.Height.{height_of, by_seam_rule, first_height, samples_at, sample_at}
+use Rattle.lattice.specs.Ground.{is_ground, metres, terrain}
+use Rattle.lattice.specs.Block.{IsBlockOf, block, is_solid, is_rim, rim_number, is_exit, is_inner_outlet}
+use Rattle.lattice.proofs.Levels.{height-le_level, ≤ℤ_same}
+use Rattle.lattice.proofs.Lawful.{terrain_is_lawful, block_is_lawful}
+use Rattle.tile_flood.specs.Labelling.{IsLabelling, OUT, NO_LABEL}
+use Rattle.tile_flood.specs.Raising.{AreRimLevels, AreTileLevels, IsRimFilled, raised_level, AreRaised, AreRaisedBelow, CannotBeRaised}
+use Rattle.tile_flood.proofs.Parts.{level_of_part, level_at_outlet}
+use Rattle.tile_flood.proofs.InMosaic.{block_is_part, ground_is, inner_outlet_is_outlet}
+use Rattle.tile_flood.proofs.Passages.{not_void, solid_has_level}
+use Rattle.tile_flood.proofs.Squares.{solid_below, solid_height, cell_of, row_below}
+
+-- rim points have numbers below four times the side less one
+pub rim_number_below : (n e : ℕ) → 3 ≤ n → e < n * n → rim_number n e < 4 * (n - 1)
+rim_number_below n e side small =
+    let row : e / n < n = row_below n e small in
+    let column : e % n < n = omega arith in
+    let cell : e ≡ (e / n) * n + e % n = cell_of n e in
+    let last : ℕ = n + 2 * (n - 2) + e % n in
+    let middle : ℕ = n + 2 * (e / n - 1) + cond (nat_eq (e % n) 0) 0 1 in
+    let one : cond (nat_eq (e % n) 0) 0 1 ≤ 1 = at_most_one (nat_eq (e % n) 0) in
+    elim (cases_Bool (nat_eq (e / n) 0)) [
+      | inl first ↦
+          let at : e / n ≡ 0 = eqb-true (e / n) 0 first in
+          let at' : e ≡ e % n = cell ∙ ap (λ r. r * n + e % n) at ∙ omega arith in
+          subst (λ v. v < 4 * (n - 1)) (sym (cond-true (nat_eq (e / n) 0) e (cond (nat_eq (e / n + 1) n) last middle) first)) (omega arith)
+      | inr later ↦ subst (λ v. v < 4 * (n - 1)) (sym (cond-false (nat_eq (e / n) 0) e (cond (nat_eq (e / n + 1) n) last middle) later)) (elim (cases_Bool (nat_eq (e / n + 1) n)) [
+        | inl end ↦ subst (λ v. v < 4 * (n - 1)) (sym (cond-true (nat_eq (e / n + 1) n) last middle end)) (omega arith)
+        | inr inner ↦
+            let more : e / n + 1 ≢ n = eqb-false (e / n + 1) n inner in
+            subst (λ v. v < 4 * (n - 1)) (sym (cond-false (nat_eq (e / n + 1) n) last middle inner)) (omega arith)
+      ])
+    ]
+  where
+    at_most_one : (b : Bool) → cond b 0 1 ≤ 1
+    at_most_one true = omega arith
+    at_most_one false = omega arith
+
+-- what a label and a level are raised to
+module _ (rim : List ℤ) (level : ℤ) (label : ℕ) where
+  pub raised_over : label ≢ NO_LABEL → level ≢ void → label ≢ OUT → get_or rim label void ≢ void → raised_level rim level label ≡ Some (int_max level (get_or rim label void))
+  raised_over some full inner there =
+      cond-false (nat_eq label NO_LABEL) _ _ (ne_eqb label NO_LABEL some)
+      ∙ (cond-false (is_void level) _ _ (not_void level full)
+      ∙ (cond-false (nat_eq label OUT) _ _ (ne_eqb label OUT inner)
+      ∙ cond-false (is_void (get_or rim label void)) _ _ (not_void (get_or rim label void) there)))
+
+  pub raised_out : label ≡ OUT → level ≢ void → raised_level rim level label ≡ Some level
+  raised_out out full =
+      cond-false (nat_eq label NO_LABEL) _ _ (ap (λ l. nat_eq l NO_LABEL) out)
+      ∙ (cond-false (is_void level) _ _ (not_void level full)
+      ∙ cond-true (nat_eq label OUT) _ _ (eq-eqb label OUT out))
+
+  pub raised_void : label ≡ NO_LABEL → level ≡ void → raised_level rim level label ≡ Some void
+  raised_void none gap =
+      cond-true (nat_eq label NO_LABEL) _ _ (eq-eqb label NO_LABEL none)
+      ∙ cond-true (is_void level) _ _ ((Decides-int_eq level void).1 gap)
+
+-- heights of a mosaic are numbers of 16 bits
+low_first : (samples : List ℤ) → All (λ s. void ≤ℤ s) samples → void ≤ℤ metres (first_height samples)
+low_first [] all = ≤ℤ_same void
+low_first (s ∷ later) all = elim (cases_Bool (is_void s)) [
+  | inl gap ↦ subst (λ h. void ≤ℤ metres h) (sym (cond-true (is_void s) (first_height later) (Height.At s) gap)) (low_first later (λ k d lt. all (suc k) d (omega arith)))
+  | inr full ↦ subst (λ h. void ≤ℤ metres h) (sym (cond-false (is_void s) (first_height later) (Height.At s) full)) (all 0 s (omega arith))
+]
+
+low_metres : (samples : List ℤ) → All (λ s. void ≤ℤ s) samples → void ≤ℤ metres (by_seam_rule samples)
+low_metres [] all = ≤ℤ_same void
+low_metres (s ∷ later) all = low_first (s ∷ later) all
+
+low_sample : (n : ℕ) (p : Point) (t : Tile) (rest : List Tile) → IsTile n t → All (λ s. void ≤ℤ s) (map (λ t. sample_at n t p) (filter (λ t. holds n t.corner p) rest)) →
+    All (λ s. void ≤ℤ s) (map (λ t. sample_at n t p) (filter (λ t. holds n t.corner p) (t ∷ rest)))
+low_sample n p t rest is later = elim (cases_Bool (holds n t.corner p)) [
+  | inl held ↦ subst (λ l. All (λ s. void ≤ℤ s) (map (λ t. sample_at n t p) l)) (sym (cond-true (holds n t.corner p) (t ∷ filter (λ t. holds n t.corner p) rest) (filter (λ t. holds n t.corner p) rest) held))
+      (All-cons (λ s. void ≤ℤ s) (sample_at n t p) (map (λ t. sample_at n t p) (filter (λ t. holds n t.corner p) rest)) of_tile later)
+  | inr out ↦ subst (λ l. All (λ s. void ≤ℤ s) (map (λ t. sample_at n t p) l)) (sym (cond-false (holds n t.corner p) (t ∷ filter (λ t. holds n t.corner p) rest) (filter (λ t. holds n t.corner p) rest) out)) later
+]
+  where
+    of_tile : void ≤ℤ sample_at n t p
+    of_tile = elim (cases_lt (index_of n t.corner p) (length t.samples)) [
+      | inl inside ↦ (is.samples (index_of n t.corner p) void inside).0
+      | inr beyond ↦ subst (λ v. void ≤ℤ v) (sym (get_or-eq_default t.samples void beyond)) (≤ℤ_same void)
+    ]
+
+low_samples : (n : ℕ) (p : Point) (tiles : List Tile) → All (IsTile n) tiles → All (λ s. void ≤ℤ s) (map (λ t. sample_at n t p) (filter (λ t. holds n t.corner p) tiles))
+low_samples n p [] all = λ k d lt. absurd (omega arith)
+low_samples n p (t ∷ rest) all = low_sample n p t rest (all 0 t (omega arith)) (low_samples n p rest (λ k d lt. all (suc k) d (omega arith)))
+
+module _ (m : Mosaic) (is : IsMosaic m) (c : Place) (present : IsTrue (is_present m c)) (heights : List ℤ) (of : IsBlockOf m c heights)
+    (levels : List ℤ) (labels : List ℕ) (labelling : IsLabelling m.side heights levels labels) (rim : List ℤ) (rims : AreRimLevels m c rim) where
+  pub least_height : (e : ℕ) → void ≤ℤ get_or heights e void
+  least_height e = elim (cases_lt e (length heights)) [
+    | inl inside ↦ subst (λ v. void ≤ℤ v) (sym (of.values e (subst (λ k. e < k) of.whole inside))) (low_metres (samples_at m (point_of m.side c e)) (low_samples m.side (point_of m.side c e) m.tiles is.tiles))
+    | inr beyond ↦ subst (λ v. void ≤ℤ v) (sym (get_or-eq_default heights void beyond)) (≤ℤ_same void)
+  ]
+
+  level_at : ℕ → ℤ
+  level_at e = get_or levels e void
+
+  record IsRaised (e : ℕ) : Type 0 where
+    level : ℤ
+    raised : raised_level rim (get_or levels e void) (slice_index labels e) ≡ Some level
+    filled : IsTrue (is_ground m (point_of m.side c e)) → IsFilledLevel (terrain m) (point_of m.side c e) level
+    gap : IsFalse (is_ground m (point_of m.side c e)) → level ≡ void
+
+  module _ (e : ℕ) (solid : IsTrue (is_solid m.side heights e)) (r : ℕ) (rest : List ℕ) (path : IsPath (block m.side heights) e rest)
+      (at_level : crest (block m.side heights) e rest ≡ get_or levels e void) (last : end_of (block m.side heights) e rest ≡ r)
+      (exit : IsTrue (is_exit m.side heights r)) where
+    solid_r : IsTrue (is_solid m.side heights r)
+    solid_r = (block_is_lawful m.side heights).outlet_ground r exit
+
+    grounded : (q : ℕ) → IsTrue (is_solid m.side heights q) → IsTrue (is_ground m (point_of m.side c q))
+    grounded q on = sym (ground_is m is c present heights of q (solid_below m.side heights q on)) ∙ on
+
+    solid_there : IsFalse (is_ground m (point_of m.side c e)) → ⊥
+    solid_there off = true≢false (sym (grounded e solid) ∙ off)
+
+    full : get_or levels e void ≢ void
+    full = solid_has_level m.side heights levels labels least_height labelling e solid
+
+    by_rim : IsTrue (is_rim m.side r) → slice_index labels e ≡ rim_number m.side r → IsRaised e
+    by_rim on_rim label =
+        let low : 3 ≤ m.side = is.side_low in
+        let high : m.side ≤ 3601 = is.side_high in
+        let small : rim_number m.side r < 4 * (m.side - 1) = rim_number_below m.side r low (solid_below m.side heights r solid_r) in
+        let some : slice_index labels e ≢ NO_LABEL = λ same. absurd (omega arith) in
+        let inner : slice_index labels e ≢ OUT = λ same. absurd (omega arith) in
+        let fill : IsFilledLevel (terrain m) (point_of m.side c r) (get_or rim (slice_index labels e) void) =
+        subst (λ l. IsFilledLevel (terrain m) (point_of m.side c r) (get_or rim l void)) (sym label) (rims.filled r (solid_below m.side heights r solid_r) on_rim (grounded r solid_r)) in
+        record {
+          level = int_max (get_or levels e void) (get_or rim (slice_index labels e) void);
+          raised = raised_over rim (get_or levels e void) (slice_index labels e) some full inner (above fill);
+          filled = λ _. level_of_part (block m.side heights) (terrain m) (λ e. point_of m.side c e) (is_rim m.side) (block_is_part m is c present heights of) (block_is_lawful m.side heights) (terrain_is_lawful m)
+              e (get_or levels e void) (get_or rim (slice_index labels e) void) rest solid (labelling.level e solid) path at_level
+              (subst (λ q. IsFilledLevel (terrain m) (point_of m.side c q) (get_or rim (slice_index labels e) void)) (sym last) fill);
+          gap = λ off. absurd (solid_there off);
+        }
+      where
+        above : {l : ℤ} → IsFilledLevel (terrain m) (point_of m.side c r) l → l ≢ void
+        above {l} fill same =
+            let high : metres (height_of m (point_of m.side c r)) ≤ℤ l = height-le_level (terrain m) (point_of m.side c r) l fill in
+            let at : get_or heights r void ≡ metres (height_of m (point_of m.side c r)) = of.values r (solid_below m.side heights r solid_r) in
+            let low : void ≤ℤ get_or heights r void = least_height r in
+            solid_height m.side heights r solid_r (between (get_or heights r void) low (subst (λ v. v ≤ℤ void) (sym at) (subst (λ v. metres (height_of m (point_of m.side c r)) ≤ℤ v) same high)))
+          where
+            between : (v : ℤ) → void ≤ℤ v → v ≤ℤ void → v ≡ void
+            between v low high = omega (arith, ints)
+
+    by_out : IsTrue (is_inner_outlet m.side heights r) → slice_index labels e ≡ OUT → IsRaised e
+    by_out inner label = record {
+      level = get_or levels e void;
+      raised = raised_out rim (get_or levels e void) (slice_index labels e) label full;
+      filled = λ _. level_at_outlet (block m.side heights) (terrain m) (λ e. point_of m.side c e) (is_rim m.side) (block_is_part m is c present heights of) (block_is_lawful m.side heights) (terrain_is_lawful m)
+          e (get_or levels e void) rest solid (labelling.level e solid) path at_level
+          (subst (λ q. IsTrue ((terrain m).is_outlet (point_of m.side c q))) (sym last) (inner_outlet_is_outlet m is c present heights of r inner));
+      gap = λ off. absurd (solid_there off);
+    }
+
+  raised_at : (e : ℕ) → e < m.side * m.side → IsRaised e
+  raised_at e small = elim (cases_Bool (is_solid m.side heights e)) [
+    | inl solid ↦
+        let label = labelling.label e solid in
+        let rest = label.way.0 in
+        let last = end_of (block m.side heights) e rest in
+        elim label.way.1.1.1.1 [
+          | inl rim ↦ by_rim e solid last rest label.way.1.0 label.way.1.1.0 refl label.way.1.1.1.0 rim.0 rim.1
+          | inr out ↦ by_out e solid last rest label.way.1.0 label.way.1.1.0 refl label.way.1.1.1.0 out.0 out.1
+        ]
+    | inr off ↦
+        let none = labelling.void_points e small off in
+        record {
+          level = void;
+          raised = raised_void rim (get_or levels e void) (slice_index labels e) none.1 none.0;
+          filled = λ on. absurd (true≢false (sym on ∙ (sym (ground_is m is c present heights of e small) ∙ off)));
+          gap = λ _. refl;
+        }
+  ]
+
+  pub tile_levels : (filled : List ℤ) → AreRaised m.side levels labels rim filled → AreTileLevels m c filled
+  tile_levels filled each = record {
+    whole = each.whole;
+    filled = λ e small on. subst (IsFilledLevel (terrain m) (point_of m.side c e)) (same e small) ((raised_at e small).filled on);
+    void_points = λ e small off. sym (same e small) ∙ (raised_at e small).gap off;
+  }
+    where
+      same : (e : ℕ) (small : e < m.side * m.side) → (raised_at e small).level ≡ get_or filled e void
+      same e small = one_value (sym (raised_at e small).raised ∙ each.each e small)
+        where
+          one_value : {a b : ℤ} → Some a ≡ Some b → a ≡ b
+          one_value h = cc
+
+  pub can_be_raised : CannotBeRaised m.side levels labels rim → ⊥
+  can_be_raised (inl size) = size rims.whole
+  can_be_raised (inr point) = none_is_some (sym (raised_at point.0 point.1.0).raised ∙ point.1.1)
+    where
+      none_is_some : {a : ℤ} → Some a ≡ None → ⊥
+      none_is_some h = cc
+
+pub rim_filled_levels : (m : Mosaic) (c : Place) (n : ℕ) (levels : List ℤ) (labels : List ℕ) (rim filled : List ℤ) → IsRimFilled m c n levels labels rim → AreRaised n levels labels rim filled → AreTileLevels m c filled
+rim_filled_levels m c n levels labels rim filled h each =
+    tile_levels m h.mosaic c h.present h.labelled.0 h.labelled.1.0 levels labels (subst (λ s. IsLabelling s h.labelled.0 levels labels) h.side h.labelled.1.1) rim h.rim_levels filled
+    (subst (λ s. AreRaised s levels labels rim filled) h.side each)
+
+pub rim_filled_can : (m : Mosaic) (c : Place) (n : ℕ) (levels : List ℤ) (labels : List ℕ) (rim : List ℤ) → IsRimFilled m c n levels labels rim → CannotBeRaised n levels labels rim → ⊥
+rim_filled_can m c n levels labels rim h cannot =
+    can_be_raised m h.mosaic c h.present h.labelled.0 h.labelled.1.0 levels labels (subst (λ s. IsLabelling s h.labelled.0 levels labels) h.side h.labelled.1.1) rim h.rim_levels
+    (subst (λ s. CannotBeRaised s levels labels rim) h.side cannot)
+
+-- one more point is raised
+pub raised_more : (n : ℕ) (levels : List ℤ) (labels : List ℕ) (rim filled filled' : List ℤ) (k : ℕ) (level : ℤ) → AreRaisedBelow n levels labels rim filled k →
+    filled' ≡ filled ++ level ∷ [] → raised_level rim (get_or levels k void) (slice_index labels k) ≡ Some level → AreRaisedBelow n levels labels rim filled' (k + 1)
+raised_more n levels labels rim filled filled' k level s is here = subst (λ l. AreRaisedBelow n levels labels rim l (k + 1)) (sym is) (record {
+  whole = length-append filled (level ∷ []) ∙ ap (λ l. l + 1) s.whole;
+  each = below_more (λ e. raised_level rim (get_or levels e void) (slice_index labels e) ≡ Some (get_or (filled ++ level ∷ []) e void)) k
+      (λ e less. s.each e less ∙ ap Some (sym (get_or-append filled (level ∷ []) void e (subst (λ l. e < l) (sym s.whole) less))))
+      (here ∙ ap Some (sym (ap (λ e. get_or (filled ++ level ∷ []) e void) (sym s.whole) ∙ get_or-append_seam filled level [] void)));
+})

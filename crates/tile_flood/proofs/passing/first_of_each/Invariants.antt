@@ -1,0 +1,5 @@
+use Rattle.tile_flood.specs.Passing.{AreFirstsBelow}
+use Rattle.tile_flood.proofs.passing.first_of_each.Given as goal
+
+abbrev pub invariant-loop-k : goal.invariant-loop-k
+invariant-loop-k l = AreFirstsBelow l.sorted l.firsts.items l.k

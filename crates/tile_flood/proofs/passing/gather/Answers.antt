@@ -1,0 +1,38 @@
+use Rattle.std.proofs.Common.{arith, subst, ◌<◌, ◌≢◌, ◌*◌, ◌+◌}
+use borrow.Author.Count.{below_more}
+use Rattle.tile_flood.specs.Passing.{IsFound, IsPassage, IsNoPassage}
+use Rattle.tile_flood.proofs.Passages.{added, passages_more, found_now, found_still, none_there}
+use Rattle.tile_flood.proofs.passing.gather.Goals as goal
+use Rattle.tile_flood.proofs.passing.gather.Goals.{in-Some+in_ok-push, in_default}
+
+pub loop-k-preserved : goal.loop-k-preserved
+loop-k-preserved c =
+    let n = c.args.n in
+    let levels = c.args.labelled.now.levels in
+    let labels = c.args.labelled.now.labels in
+    let k = c.loop-k.k in
+    let first = c.requires.beside.first in
+    let second = c.requires.beside.second in
+    let in_order = c.requires.beside.apart in
+    let in_e : c.args.e + k < n * n = omega arith in
+    let in_f : c.args.f + k < n * n = omega arith in
+    let other : c.args.e + k ≢ c.args.f + k = omega arith in
+    let at_levels = c.levels-levels.ensures.value in
+    let at_labels = c.labels-labels.ensures.value in
+    elim c.match-passage.branch [
+      | in-Some+in_ok-push w ↦ rw w.found-is (record {
+        passages = passages_more n levels labels c.loop-k.found.items w.push.new.self.items w.in-Some.passage (c.args.e + k) (c.args.f + k) w.in_ok-push.ensures.items c.loop-k.invariant.passages
+            in_e in_f other (c.requires.beside.beside k (omega arith)) (subst (λ ls. IsPassage ls labels (c.args.e + k) (c.args.f + k) w.in-Some.passage) at_levels (subst (λ bs. IsPassage c.levels-levels.result.now bs (c.args.e + k) (c.args.f + k) w.in-Some.passage) at_labels w.in-Some.ensures.some));
+        still = λ p has. added n levels labels c.loop-k.found.items w.push.new.self.items w.in-Some.passage w.in_ok-push.ensures.items p (c.loop-k.invariant.still p has);
+        found = below_more (λ j. IsFound n levels labels w.push.new.self.items (c.args.e + j) (c.args.f + j)) k
+            (λ j less. found_still n levels labels c.loop-k.found.items w.push.new.self.items (c.args.e + j) (c.args.f + j)
+            (added n levels labels c.loop-k.found.items w.push.new.self.items w.in-Some.passage w.in_ok-push.ensures.items) (c.loop-k.invariant.found j less))
+            (found_now n levels labels c.loop-k.found.items w.push.new.self.items w.in-Some.passage (c.args.e + k) (c.args.f + k) w.in_ok-push.ensures.items (subst (λ ls. IsPassage ls labels (c.args.e + k) (c.args.f + k) w.in-Some.passage) at_levels (subst (λ bs. IsPassage c.levels-levels.result.now bs (c.args.e + k) (c.args.f + k) w.in-Some.passage) at_labels w.in-Some.ensures.some)));
+      })
+      | in_default w ↦ rw w.found-is (record {
+        passages = c.loop-k.invariant.passages;
+        still = c.loop-k.invariant.still;
+        found = below_more (λ j. IsFound n levels labels c.loop-k.found.items (c.args.e + j) (c.args.f + j)) k c.loop-k.invariant.found
+            (none_there n levels labels c.loop-k.found.items (c.args.e + k) (c.args.f + k) (subst (λ ls. IsNoPassage ls labels (c.args.e + k) (c.args.f + k)) at_levels (subst (λ bs. IsNoPassage c.levels-levels.result.now bs (c.args.e + k) (c.args.f + k)) at_labels w.in_default.ensures.none)));
+      })
+    ]

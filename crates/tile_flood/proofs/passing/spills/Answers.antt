@@ -1,0 +1,30 @@
+use Rattle.std.proofs.Common.{arith, ◌≡◌, ◌*◌, ◌∙◌, sym, subst}
+use Rattle.tile_flood.specs.Passing.{IsInOrder, AreFoundBelow, AreFirsts}
+use Rattle.tile_flood.specs.Spills.{AreSpills}
+use Rattle.tile_flood.proofs.Passages.{rises, spills_are, spills_of_ground, no_lower}
+use Rattle.tile_flood.proofs.passing.spills.Goals as goal
+
+pub first_of_each-requires : goal.first_of_each-requires
+first_of_each-requires c =
+    let sorted = c.sort.new.self.items in
+    let in_order : IsInOrder sorted = λ k d small. rises _ _ (c.in_ok-sort.ensures.sorted k d (omega arith) small) in
+    subst IsInOrder (sym c.deref.ensures.value) in_order
+
+pub returns-clause-of_any : goal.returns-clause-of_any
+returns-clause-of_any c =
+    let n = c.samples-n.result in
+    let levels = c.args.labelled.now.levels in
+    let labels = c.args.labelled.now.labels in
+    let firsts = c.in_ok-first_of_each.field-0.items in
+    let same : n ≡ c.args.labelled.now.side = c.samples-n.ensures.value ∙ c.side.ensures in
+    let past = c.loop-i-test.false in
+    let within = c.loop-i.auto.i-end in
+    let at_end : c.loop-i.i ≡ n = omega arith in
+    subst (λ s. AreSpills s levels levels labels firsts) same
+    (spills_are n levels labels c.loop-i.found.items c.sort.new.self.items firsts c.loop-i.invariant.passages
+    (subst (λ i. AreFoundBelow n levels labels c.loop-i.found.items (i * n)) at_end c.loop-i.invariant.before)
+    c.in_ok-sort.ensures.permutation (subst (λ l. AreFirsts l firsts) c.deref.ensures.value c.in_ok-first_of_each.ensures))
+
+pub returns-clause-spills : goal.returns-clause-spills
+returns-clause-spills c = λ heights samples is. spills_of_ground c.args.labelled.now.side heights c.args.labelled.now.levels c.args.labelled.now.labels (no_lower heights samples) is
+    c.in_ok-first_of_each.field-0.items (returns-clause-of_any c)

@@ -1,0 +1,5 @@
+use Rattle.tile_flood.specs.Raising.{AreRaisedBelow}
+use Rattle.tile_flood.proofs.raising.raise.Given as goal
+
+abbrev pub invariant-loop-e : goal.invariant-loop-e
+invariant-loop-e l = AreRaisedBelow l.labelled.side l.labelled.levels l.labelled.labels l.rim l.filled.items l.e

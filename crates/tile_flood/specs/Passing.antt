@@ -1,0 +1,70 @@
+-- The places where water passes between labels, as they are gathered: each two adjacent points once.
+use Rattle.std.specs.Prelude.{◌≡◌, ◌≢◌, ℕ, ◌+◌, ◌*◌, ◌-◌, ◌<◌, ◌≤◌, ℤ, ◌≤ℤ◌, IsTrue, false, List, length, min, max, slice_index, slice_index_or, Contains, ◌⊎◌}
+use Rattle.std.specs.Int.{int_max}
+use Rattle.lattice.specs.Mosaic.{void}
+use Rattle.lattice.specs.Block.{is_linked, is_beside}
+use Rattle.tile_flood.specs.declared.passing.Spill.{Spill}
+use Rattle.tile_flood.specs.Flooding.{is_marked}
+use Rattle.tile_flood.specs.Spills.{Meets}
+
+-- two points with levels and different labels: between which labels water passes there, and at which level
+pub record IsPassage (levels : List ℤ) (labels : List ℕ) (e f : ℕ) (p : Spill) : Type 0 where
+  pub from : IsTrue (is_marked levels e)
+  pub to : IsTrue (is_marked levels f)
+  pub apart : slice_index labels e ≢ slice_index labels f
+  pub lower : p.a ≡ min (slice_index labels e) (slice_index labels f)
+  pub higher : p.b ≡ max (slice_index labels e) (slice_index labels f)
+  pub level : p.level ≡ int_max (slice_index_or levels e void) (slice_index_or levels f void)
+
+-- one of them has no level, or their labels are equal
+abbrev pub IsNoPassage : List ℤ → List ℕ → ℕ → ℕ → Type 0
+IsNoPassage levels labels e f = (is_marked levels e ≡ false) ⊎ ((is_marked levels f ≡ false) ⊎ (slice_index labels e ≡ slice_index labels f))
+
+-- all that was found is found still
+abbrev pub AreFoundStill : List Spill → List Spill → Type 0
+AreFoundStill old new = (p : Spill) → Contains old p → Contains new p
+
+-- from e and from f on, so many points after one another lie beside each other, e's before f's
+pub record AreBeside (n e f count : ℕ) : Type 0 where
+  pub first : e + count ≤ n * n
+  pub second : f + count ≤ n * n
+  pub beside : (k : ℕ) → k < count → IsTrue (is_beside n (e + k) (f + k))
+  pub apart : e < f
+
+module _ (n : ℕ) (levels : List ℤ) (labels : List ℕ) where
+  -- each place that was found is one between two adjacent points
+  abbrev pub ArePassages : List Spill → Type 0
+  ArePassages found = (p : Spill) → Contains found p → (p.a < p.b) × Meets n levels levels labels p.a p.b p.level
+
+  -- if water passes between the two points, then that was found
+  abbrev pub IsFound : List Spill → ℕ → ℕ → Type 0
+  IsFound found e f = IsTrue (is_linked n levels e f) → slice_index labels e ≢ slice_index labels f → (p : Spill) × (Contains found p × IsPassage levels labels e f p)
+
+  -- the same for all points before k, with those after them
+  abbrev pub AreFoundBelow : List Spill → ℕ → Type 0
+  AreFoundBelow found k = (e f : ℕ) → e < k → e < f → IsFound found e f
+
+-- the first has a lower pair of labels
+abbrev pub HasLowerLabels : Spill → Spill → Type 0
+HasLowerLabels p q = (p.a < q.a) ⊎ ((p.a ≡ q.a) × (p.b < q.b))
+
+pub record HaveSameLabels (p q : Spill) : Type 0 where
+  pub same_a : p.a ≡ q.a
+  pub same_b : p.b ≡ q.b
+
+-- by their labels, and those with the same labels by their levels
+abbrev pub IsInOrder : List Spill → Type 0
+IsInOrder sorted = (k : ℕ) (d : Spill) → k + 1 < length sorted →
+    HasLowerLabels (slice_index_or sorted k d) (slice_index_or sorted (k + 1) d)
+    ⊎ (HaveSameLabels (slice_index_or sorted k d) (slice_index_or sorted (k + 1) d) × ((slice_index_or sorted k d).level ≤ℤ (slice_index_or sorted (k + 1) d).level))
+
+-- of the first k those with the lowest level of their labels
+pub record AreFirstsBelow (sorted firsts : List Spill) (k : ℕ) : Type 0 where
+  pub from : (p : Spill) → Contains firsts p → Contains sorted p
+  pub each : (j : ℕ) (d : Spill) → j < k → (q : Spill) × (Contains firsts q × (HaveSameLabels q (slice_index_or sorted j d) × (q.level ≤ℤ (slice_index_or sorted j d).level)))
+  pub once : (p q : Spill) → Contains firsts p → Contains firsts q → HaveSameLabels p q → p ≡ q
+  pub last : (p d : Spill) → Contains firsts p → HasLowerLabels p (slice_index_or sorted (k - 1) d) ⊎ HaveSameLabels p (slice_index_or sorted (k - 1) d)
+  pub some : 0 < length firsts → 0 < k
+
+abbrev pub AreFirsts : List Spill → List Spill → Type 0
+AreFirsts sorted firsts = AreFirstsBelow sorted firsts (length sorted)

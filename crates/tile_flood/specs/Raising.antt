@@ -1,0 +1,56 @@
+-- Raising: from the levels inside a block and the filled levels of its rim to the filled levels of all its points (this
+-- product's own profile, after the tiled flooding of Barnes 2016).
+use Rattle.std.specs.Prelude.{◌≡◌, ◌≢◌, ℕ, ◌*◌, ◌-◌, ◌<◌, ℤ, IsTrue, IsFalse, List, length, slice_index, slice_index_or, nat_eq, if◌then◌else◌, Option, Some, None, ◌⊎◌}
+use Rattle.std.specs.Int.{int_max}
+use Rattle.lattice.specs.Corners.{Place}
+use Rattle.lattice.specs.Lattice.{point_of}
+use Rattle.lattice.specs.Mosaic.{Mosaic, IsMosaic, is_present, void, is_void}
+use Rattle.lattice.specs.Ground.{is_ground, terrain}
+use Rattle.lattice.specs.Terrain.{IsFilledLevel}
+use Rattle.lattice.specs.Block.{IsBlockOf, is_rim, rim_number}
+use Rattle.tile_flood.specs.Labelling.{IsLabelling, OUT, NO_LABEL}
+
+-- the levels are those to which water rises in the whole mosaic at the rim points of the corner's tile, by rim number,
+-- void where a rim point has no height
+pub record AreRimLevels (m : Mosaic) (c : Place) (rim : List ℤ) : Type 0 where
+  pub whole : length rim ≡ 4 * (m.side - 1)
+  pub filled : (e : ℕ) → e < m.side * m.side → IsTrue (is_rim m.side e) → IsTrue (is_ground m (point_of m.side c e)) →
+      IsFilledLevel (terrain m) (point_of m.side c e) (slice_index_or rim (rim_number m.side e) void)
+  pub void_points : (e : ℕ) → e < m.side * m.side → IsTrue (is_rim m.side e) → IsFalse (is_ground m (point_of m.side c e)) → slice_index_or rim (rim_number m.side e) void ≡ void
+
+-- and those at all points of the corner's tile, by index, void where a point has no height
+pub record AreTileLevels (m : Mosaic) (c : Place) (levels : List ℤ) : Type 0 where
+  pub whole : length levels ≡ m.side * m.side
+  pub filled : (e : ℕ) → e < m.side * m.side → IsTrue (is_ground m (point_of m.side c e)) → IsFilledLevel (terrain m) (point_of m.side c e) (slice_index_or levels e void)
+  pub void_points : (e : ℕ) → e < m.side * m.side → IsFalse (is_ground m (point_of m.side c e)) → slice_index_or levels e void ≡ void
+
+-- levels and labels that are a valid labelling of the block of the corner's tile, and the filled levels of its rim
+pub record IsRimFilled (m : Mosaic) (c : Place) (n : ℕ) (levels : List ℤ) (labels : List ℕ) (rim : List ℤ) : Type 0 where
+  pub mosaic : IsMosaic m
+  pub side : n ≡ m.side
+  pub present : IsTrue (is_present m c)
+  pub labelled : (heights : List ℤ) × (IsBlockOf m c heights × IsLabelling n heights levels labels)
+  pub rim_levels : AreRimLevels m c rim
+
+-- the greater of the level of a point and that of the rim point which its label names; with OUT its level; none where
+-- the label names no rim point that has a level, or where only one of level and label is that of a void
+abbrev pub raised_level : List ℤ → ℤ → ℕ → Option ℤ
+raised_level rim level label =
+    if nat_eq label NO_LABEL then (if is_void level then Some void else None)
+    else (if is_void level then None
+    else (if nat_eq label OUT then Some level
+    else (if is_void (slice_index_or rim label void) then None else Some (int_max level (slice_index_or rim label void)))))
+
+module _ (n : ℕ) (levels : List ℤ) (labels : List ℕ) (rim : List ℤ) where
+  pub record AreRaised (filled : List ℤ) : Type 0 where
+    pub whole : length filled ≡ n * n
+    pub each : (e : ℕ) → e < n * n → raised_level rim (slice_index_or levels e void) (slice_index labels e) ≡ Some (slice_index_or filled e void)
+
+  -- as far as k
+  pub record AreRaisedBelow (filled : List ℤ) (k : ℕ) : Type 0 where
+    pub whole : length filled ≡ k
+    pub each : (e : ℕ) → e < k → raised_level rim (slice_index_or levels e void) (slice_index labels e) ≡ Some (slice_index_or filled e void)
+
+  -- the rim isn't one of a tile of this side, or some point can't be raised
+  abbrev pub CannotBeRaised : Type 0
+  CannotBeRaised = (length rim ≢ 4 * (n - 1)) ⊎ ((e : ℕ) × ((e < n * n) × (raised_level rim (slice_index_or levels e void) (slice_index labels e) ≡ None)))

@@ -1,0 +1,75 @@
+//! From levels inside a block to filled levels.
+ghost use Rattle.std.specs.Prelude.{◌≡◌, ◌<◌, ◌⊎◌, [], ◌∷◌, ◌++◌, IfOk, IfErr, OnOk, length, slice_index, slice_index_or};
+ghost use Rattle.lattice.specs.Corners.{Place};
+ghost use Rattle.lattice.specs.Mosaic.{Mosaic, void};
+ghost use Rattle.lattice.specs.declared.refusal.Refusal.TheVariants.{NoMemory, Damaged};
+ghost use Rattle.tile_flood.specs.Raising.{IsRimFilled, AreTileLevels, AreRaised, CannotBeRaised, raised_level};
+
+use crate::labelled::{Labelled, NO_LABEL, OUT};
+use crate::values::at;
+use lattice::Refusal;
+use std::alloc::{AllocError, Global};
+
+/// The filled level of each point of a block, in metres, row by row from the north-west, -32768 where it is void: the
+/// greater of its level inside the block and the filled level of the rim point that it is labelled with, and with `OUT`
+/// its level inside the block. The filled levels of the rim are given by rim number, -32768 where a rim point is void.
+///
+/// Damaged where these aren't as many as a tile has rim points, where a label is no rim number and no mark or names a
+/// rim point that is void, and where only one of level and label is that of a void point. A valid labelling of the
+/// block with the filled levels of its rim is never Damaged. Otherwise NoMemory is the only refusal.
+pub fn raise(alloc: Global, labelled: &Labelled, rim: &[i16]) -> Result<Vec<i16>, Refusal>
+    ensures filled { (m : Mosaic) (c : Place) → IsRimFilled m c labelled.now.side labelled.now.levels labelled.now.labels rim.now
+        → IfOk result (λ filled. AreTileLevels m c filled.items) }
+    ensures not_damaged { (m : Mosaic) (c : Place) → IsRimFilled m c labelled.now.side labelled.now.levels labelled.now.labels rim.now
+        → IfErr result (λ refusal. refusal ≡ NoMemory) }
+    ensures value { IfOk result (λ filled. AreRaised labelled.now.side labelled.now.levels labelled.now.labels rim.now filled.items) }
+    ensures refusal { IfErr result (λ refusal. (refusal ≡ NoMemory)
+        ⊎ ((refusal ≡ Damaged) × CannotBeRaised labelled.now.side labelled.now.levels labelled.now.labels rim.now)) }
+{
+    let side = labelled.side();
+    if rim.len() != 4 * (side.samples() as usize - 1) {
+        return Err(Refusal::Damaged);
+    }
+    let levels = labelled.levels();
+    let labels = labelled.labels();
+    let mut filled = Vec::with_capacity(alloc, levels.len())?;
+    for e in 0..levels.len() {
+        let Some(level) = raised(rim, levels, labels, e) else {
+            return Err(Refusal::Damaged);
+        };
+        add(&mut filled, level)?;
+    }
+    Ok(filled)
+}
+
+// The filled level of the point e, where it has one.
+fn raised(rim: &[i16], levels: &[i16], labels: &[u16], e: usize) -> Option<i16>
+    requires e { (e < length levels.now) × (e < length labels.now) }
+    ensures { result ≡ raised_level rim.now (slice_index_or levels.now e void) (slice_index labels.now e) }
+{
+    let level = at(levels, e);
+    let label = labels[e];
+    let is_void = level == i16::MIN;
+    if label == NO_LABEL {
+        return if is_void { Some(i16::MIN) } else { None };
+    }
+    if is_void {
+        return None;
+    }
+    if label == OUT {
+        return Some(level);
+    }
+    let over = rim.get(label as usize).copied().unwrap_or(i16::MIN);
+    if over == i16::MIN {
+        None
+    } else {
+        Some(level.max(over))
+    }
+}
+
+fn add(filled: &mut Vec<i16>, level: i16) -> Result<(), AllocError>
+    ensures { OnOk result (filled.new.items ≡ filled.old.items ++ level ∷ []) }
+{
+    filled.push(level)?;
+    Ok(())
+}
