@@ -1,2 +1,5 @@
+pub mod FileReplay
+pub mod FileRuns
 pub mod Replay
 pub mod Sectors
+pub mod ToldHonest

@@ -1,4 +1,9 @@
 pub mod Disk
+pub mod FaultOnce
+pub mod FileCalls
+pub mod FileDisk
+pub mod FileLaws
+pub mod FileMembers
 pub mod Fuse
 pub mod MemDisk
 pub mod Memory

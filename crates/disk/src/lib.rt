@@ -6,16 +6,28 @@
 #![tactic(auto)]
 
 mod disk;
+mod fault_once;
+mod file;
+mod file_laws;
 mod fuse;
 mod memory;
+mod recorded_file;
 mod sector;
 mod settled;
 #[cfg(test)]
 mod tests;
 mod torn;
+mod transcript;
+mod world;
 
 pub use disk::{Disk, Fault};
+pub use fault_once::FaultOnceDisk;
+pub use file::FileDisk;
+pub use file_laws::{
+    disks_have_honest_records, false_reads_show, lost_writes_show, runs_have_honest_records,
+};
 pub use fuse::FuseDisk;
 pub use memory::MemDisk;
 pub use settled::settle;
 pub use torn::Torn;
+pub use world::World;

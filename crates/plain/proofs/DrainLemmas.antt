@@ -1,17 +1,17 @@
 -- The steps that can be made from a point tell its direction.
-use Rattle.std.proofs.Common.{◌≡◌, ◌∙◌, ℕ, zero, suc, ◌+◌, ◌<◌, ◌≤◌, ℤ, Bool, true, false, cond, not, ◌&&◌, ◌||◌, IsTrue, IsFalse, Option, Some, None, Result, Ok, Err, IfOk, MatchOption, List, [], ◌∷◌, length, get_or, ◌⊎◌, inl, inr, ⊎_elim, refl, sym, ap, subst, arith, ◌↔◌}
+use Rattle.std.proofs.Common.{◌≡◌, ◌∙◌, ℕ, zero, suc, ◌<◌, ◌≤◌, Bool, true, false, cond, not, ◌&&◌, ◌||◌, IsTrue, IsFalse, Option, Some, None, Result, Ok, Err, IfOk, MatchOption, List, [], ◌∷◌, length, get_or, ◌⊎◌, inl, inr, ⊎_elim, refl, sym, ap, subst, arith}
 use Rattle.std.specs.Prelude.{nat_lt, find}
-use Rattle.std.specs.List.{All, AllWithin, Contains, list_all}
+use Rattle.std.specs.List.{All, list_all}
 use Rattle.std.proofs.lemmas.List.{get_or_default}
-use Rattle.std.proofs.lemmas.Bool.{cases_Bool, cases_lt, and_parts, and_from, or_cases, or_left, or_right, false≢true, true≢false, not-true, not_from_false, lt-ltb, le-ltb, ltb-true}
+use Rattle.std.proofs.lemmas.Bool.{cases_Bool, cases_lt, and_parts, and_from, or_cases, or_left, or_right, false≢true, not-true, not_from_false, lt-ltb, le-ltb}
 use Rattle.lattice.specs.declared.point.Point.{Point}
 use Rattle.lattice.specs.declared.direction.Dir.{Dir}
 use Rattle.lattice.specs.declared.direction.Dir.TheVariants.{East, SouthEast, South, SouthWest, West, NorthWest, North, NorthEast}
 use Rattle.lattice.specs.declared.direction.Step.{Step}
-use Rattle.lattice.specs.Steps.{step, order_of, directions, is_steeper}
+use Rattle.lattice.specs.Steps.{step, order_of, directions}
 use Rattle.lattice.specs.Stepping.{fits_point, reach_of}
 use Rattle.lattice.specs.Mosaic.{Mosaic, IsMosaic, void}
-use Rattle.lattice.specs.Ground.{is_ground, is_adjacent, is_outlet, terrain}
+use Rattle.lattice.specs.Ground.{is_ground, is_outlet, terrain}
 use Rattle.flow_d8.specs.Drainage.{AreFilledLevels, IsLower, HasLower, IsSteepest, IsFlatDistance, IsNearer, IsFirstNearer, IsDirection}
 use Rattle.flow_d8.proofs.MosaicGrid.{mosaic_is_grid}
 use Rattle.flow_d8.proofs.Exists.{steepest_or_none, direction_exists}
@@ -20,7 +20,7 @@ use Rattle.plain.specs.declared.levels.Cell.{Cell}
 use Rattle.plain.specs.Levels.{level_of}
 use Rattle.plain.specs.Flats.{is_lower, is_level}
 use Rattle.plain.specs.Drains.{falls_faster, outranks, is_steepest, DrainsBy, IsFirstOf}
-use Rattle.plain.proofs.GroundLemmas.{adjacent_fits, adjacent_parts}
+use Rattle.plain.proofs.GroundLemmas.{adjacent_fits}
 use Rattle.plain.proofs.FlatLemmas.{lower_is, lower_from, level_is, level_from}
 
 abbrev step_at : Point → Dir → Step

@@ -1,16 +1,16 @@
 -- The points of round k are those that cross their flat in k steps.
-use Rattle.std.proofs.Common.{◌≡◌, ◌∙◌, ℕ, zero, suc, ◌+◌, ◌<◌, ◌≤◌, ℤ, ◌<ℤ◌, Bool, true, false, cond, ◌&&◌, ◌||◌, IsTrue, IsFalse, List, [], ◌∷◌, length, get_or, filter, inl, inr, ⊎_elim, refl, sym, ap, subst, arith, add-one}
+use Rattle.std.proofs.Common.{◌≡◌, ◌∙◌, ℕ, zero, suc, ◌+◌, ◌<◌, ℤ, ◌<ℤ◌, Bool, true, false, cond, IsTrue, List, [], ◌∷◌, filter, inl, inr, ⊎_elim, refl, sym, subst, arith, add-one}
 use Rattle.std.specs.Prelude.{int_lt}
 use Rattle.std.specs.Ordering.{int_eq}
-use Rattle.std.specs.List.{All, Any, Contains, list_any}
+use Rattle.std.specs.List.{Contains, list_any}
 use Rattle.std.proofs.lemmas.Int.{ints}
-use Rattle.std.proofs.lemmas.Bool.{cases_Bool, cases_eq, cases_lt, and_parts, and_from, or_cases, or_left, or_right, false≢true}
+use Rattle.std.proofs.lemmas.Bool.{cases_eq, cases_lt, and_parts, and_from, or_cases, or_left, or_right, false≢true}
 use Rattle.std.proofs.lemmas.List.Elements.{All-contains, All-filter, All-contains_itself, filter_passes, Contains-append_right}
 use Rattle.std.proofs.lemmas.List.Folds.{list_any_at, Any-from_list_any}
 use Rattle.lattice.specs.declared.point.Point.{Point}
 use Rattle.lattice.specs.Mosaic.{Mosaic}
 use Rattle.lattice.specs.Ground.{is_ground, is_adjacent, is_outlet, same_point, terrain}
-use Rattle.flow_d8.specs.Drainage.{IsLower, HasLower, CrossesFlat, IsFlatDistance}
+use Rattle.flow_d8.specs.Drainage.{IsLower, CrossesFlat, IsFlatDistance}
 use Rattle.edits.specs.Effect.{is_named}
 use Rattle.plain.specs.declared.levels.Cell.{Cell}
 use Rattle.plain.specs.Levels.{level_of}

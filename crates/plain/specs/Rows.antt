@@ -1,18 +1,19 @@
 -- Worked rows that the definitions themselves compute, on tiles of three by three samples written as rows from the north.
-use Rattle.std.specs.Prelude.{◌≡◌, ℕ, ℤ, pos, negsuc, true, false, Some, Ok, Err, List, [], ◌∷◌, map}
+use Rattle.std.specs.Prelude.{◌≡◌, ℕ, ℤ, pos, negsuc, true, false, Some, None, Ok, Err, List, [], ◌∷◌, map}
 use Rattle.lattice.specs.Corners.{Place}
 use Rattle.lattice.specs.declared.point.Point.{Point}
 use Rattle.lattice.specs.declared.height.Height.TheVariants as height
 use Rattle.lattice.specs.declared.direction.Dir.TheVariants.{East, SouthEast, North, NorthEast}
-use Rattle.lattice.specs.declared.refusal.Refusal.TheVariants.{NothingVoid, BadHeight, BadBox, TooDeep}
-use Rattle.lattice.specs.Mosaic.{Tile, Mosaic, empty_mosaic, void}
+use Rattle.lattice.specs.declared.refusal.Refusal.TheVariants.{BadLength, TileThere, NoTile, Full, Outside, Void, NothingVoid, BadHeight, BadDepth, BadBox, Repeated, TooDeep}
+use Rattle.lattice.specs.Mosaic.{Tile, Mosaic, empty_mosaic, samples_of, void}
 use Rattle.lattice.specs.Height.{height_of, disagrees}
 use Rattle.lattice.specs.Ground.{is_adjacent, is_outlet, degree_of}
 use Rattle.lattice.specs.Block.{rim_number}
 use Rattle.lattice.specs.Steps.{directions, north_of, east_of, code_of, is_steeper}
-use Rattle.edits.specs.declared.command.Command.TheVariants.{Patch}
+use Rattle.edits.specs.declared.command.Command.{Command}
+use Rattle.edits.specs.declared.command.Command.TheVariants.{Import, Remove, Patch, Burn, Wall}
 use Rattle.catalogue.specs.Tiles.{without}
-use Rattle.edits.specs.Effect.{effect, burnt, walled, first_fault}
+use Rattle.edits.specs.Effect.{effect, burnt, walled}
 
 abbrev pub place : ℤ → ℤ → Place
 place lat lon = record { lat = lat; lon = lon }
@@ -47,11 +48,14 @@ SeamRows =
     (height_of seven_eight (at 1 2) ≡ height.At (pos 7)) × (disagrees seven_eight (at 1 2) ≡ true) × (disagrees seven_eight (at 0 2) ≡ false)
     × (height_of (without (place (pos 0) (pos 0)) seven_eight) (at 1 2) ≡ height.At (pos 8))
 
--- a burn and a wall on the seam reach both tiles
+-- a burn and a wall on the seam reach both tiles, and bring them to agree
 abbrev pub EditRows : Type 0
 EditRows =
-    (height_of (burnt (pos 1) (at 1 2 ∷ []) seven_eight) (at 1 2) ≡ height.At (pos 6))
+    (effect 4 seven_eight (Burn (pos 1) (record { items = at 1 2 ∷ [] })) ≡ Ok (pair (with_middle (pos 9) (pos 9) (pos 6)) (with_middle (pos 6) (pos 9) (pos 9))))
+    × (height_of (burnt (pos 1) (at 1 2 ∷ []) seven_eight) (at 1 2) ≡ height.At (pos 6))
     × (height_of (without (place (pos 0) (pos 0)) (burnt (pos 1) (at 1 2 ∷ []) seven_eight)) (at 1 2) ≡ height.At (pos 6))
+    × (effect 4 seven_eight (Wall (pos 3) (record { items = at 1 2 ∷ [] })) ≡ Ok (pair (with_middle (pos 9) (pos 9) (pos 7)) (with_middle (pos 7) (pos 9) (pos 9))))
+    × (disagrees (walled (pos 3) (at 1 2 ∷ []) seven_eight) (at 1 2) ≡ false)
     × (height_of (without (place (pos 0) (pos 0)) (walled (pos 3) (at 1 2 ∷ []) seven_eight)) (at 1 2) ≡ height.At (pos 7))
 
 -- a void on the seam beside 8: nothing is void there
@@ -65,17 +69,58 @@ VoidRows = (height_of void_eight (at 1 2) ≡ height.At (pos 8)) × (effect 4 vo
 abbrev pub hollow : Mosaic
 hollow = single (with_middle (pos 9) void (pos 9))
 
+abbrev pub burn : ℤ → List Point → Command
+burn depth points = Burn depth (record { items = points })
+
+abbrev pub wall : ℤ → List Point → Command
+wall h points = Wall h (record { items = points })
+
+-- it is outside a box, and once it is patched nothing is void
+abbrev pub PatchRows : Type 0
+PatchRows =
+    (height_of hollow (at 1 1) ≡ height.Void) × (effect 4 hollow (Patch (at 0 0) (at 0 3) (pos 4)) ≡ Err BadBox)
+    × (effect 4 hollow (Patch (at 1 1) (at 0 1) (pos 4)) ≡ Err BadBox) × (effect 4 hollow (Patch (at 0 0) (at 2 2) (pos 40000)) ≡ Err BadHeight)
+    × (effect 4 (empty_mosaic 3) (Patch (at 0 0) (at 2 2) (pos 4)) ≡ Err NothingVoid)
+    × (effect 4 hollow (Patch (at 1 1) (at 1 1) (pos 4)) ≡ Ok (single (with_middle (pos 9) (pos 4) (pos 9))))
+    × (effect 4 hollow (Patch (at 1 1) (at 3 3) (pos 4)) ≡ Ok (single (with_middle (pos 9) (pos 4) (pos 9))))
+    × (effect 4 (single (with_middle (pos 9) (pos 4) (pos 9))) (Patch (at 1 1) (at 1 1) (pos 4)) ≡ Err NothingVoid)
+    × (height_of (single (with_middle (pos 9) (pos 4) (pos 9))) (at 1 1) ≡ height.At (pos 4))
+
+-- the first test that applies decides, and then the first point
 abbrev pub RefusalRows : Type 0
 RefusalRows =
-    (effect 4 hollow (Patch (at 0 0) (at 0 3) (pos 4)) ≡ Err BadBox) × (effect 4 hollow (Patch (at 1 1) (at 0 1) (pos 4)) ≡ Err BadBox)
-    × (effect 4 hollow (Patch (at 0 0) (at 2 2) (pos 40000)) ≡ Err BadHeight) × (effect 4 (empty_mosaic 3) (Patch (at 0 0) (at 2 2) (pos 4)) ≡ Err NothingVoid)
-    × (effect 4 hollow (Patch (at 1 1) (at 1 1) (pos 4)) ≡ Ok (single (with_middle (pos 9) (pos 4) (pos 9))))
+    (effect 4 hollow (burn (pos 1) (at 1 1 ∷ at 1 1 ∷ [])) ≡ Err Repeated) × (effect 4 hollow (burn (pos 0) (at 1 1 ∷ [])) ≡ Err BadDepth)
+    × (effect 4 hollow (burn (pos 0) (at 1 1 ∷ at 1 1 ∷ [])) ≡ Err BadDepth) × (effect 4 hollow (burn (pos 5) (at 9 9 ∷ at 1 1 ∷ [])) ≡ Err Outside)
+    × (effect 4 hollow (burn (pos 5) (at 1 1 ∷ at 9 9 ∷ [])) ≡ Err Void) × (effect 4 hollow (wall (pos 32768) (at 1 1 ∷ at 1 1 ∷ [])) ≡ Err BadHeight)
 
 -- a burn by 32767 is too deep at -1, and not at 0
 abbrev pub DepthRows : Type 0
 DepthRows =
-    (first_fault (single (with_middle (pos 9) (negsuc 0) (pos 9))) (pos 32767) (at 1 1 ∷ []) ≡ Some TooDeep)
-    × (height_of (burnt (pos 32767) (at 1 1 ∷ []) (single (with_middle (pos 9) (pos 0) (pos 9)))) (at 1 1) ≡ height.At (negsuc 32766))
+    (effect 4 (single (with_middle (pos 9) (negsuc 0) (pos 9))) (burn (pos 32767) (at 1 1 ∷ [])) ≡ Err TooDeep)
+    × (effect 4 (single (with_middle (pos 9) (pos 0) (pos 9))) (burn (pos 32767) (at 1 1 ∷ [])) ≡ Ok (single (with_middle (pos 9) (negsuc 32766) (pos 9))))
+    × (height_of (single (with_middle (pos 9) (negsuc 32766) (pos 9))) (at 1 1) ≡ height.At (negsuc 32766))
+
+-- 9 everywhere but for 1 in the middle and 5 in the south-east, and its bytes
+abbrev pub basin : List ℤ
+basin = pos 9 ∷ pos 9 ∷ pos 9 ∷ pos 9 ∷ pos 1 ∷ pos 9 ∷ pos 9 ∷ pos 9 ∷ pos 5 ∷ []
+
+abbrev pub basin_bytes : List ℕ
+basin_bytes = 0 ∷ 9 ∷ 0 ∷ 9 ∷ 0 ∷ 9 ∷ 0 ∷ 9 ∷ 0 ∷ 1 ∷ 0 ∷ 9 ∷ 0 ∷ 9 ∷ 0 ∷ 9 ∷ 0 ∷ 5 ∷ []
+
+-- the same tile again to the south-west, before the first one
+abbrev pub two_basins : Mosaic
+two_basins = record { side = 3; tiles = tile (negsuc 0) (negsuc 0) basin ∷ tile (pos 0) (pos 0) basin ∷ [] }
+
+-- what imports and removals give, and when they are refused
+abbrev pub ImportRows : Type 0
+ImportRows =
+    (height_of (empty_mosaic 3) (at 0 0) ≡ height.Outside) × (samples_of (empty_mosaic 3) (place (pos 0) (pos 0)) ≡ None)
+    × (effect 4 (empty_mosaic 3) (Import (place (pos 0) (pos 0)) basin_bytes) ≡ Ok (single basin)) × (height_of (single basin) (at 0 2) ≡ height.At (pos 5))
+    × (height_of (single basin) (at 2 0) ≡ height.At (pos 9)) × (samples_of (single basin) (place (pos 0) (pos 0)) ≡ Some basin)
+    × (effect 4 (single basin) (Import (place (negsuc 0) (negsuc 0)) basin_bytes) ≡ Ok two_basins) × (height_of two_basins (at 0 0) ≡ height.At (pos 9))
+    × (effect 4 two_basins (Remove (place (negsuc 0) (negsuc 0))) ≡ Ok (single basin)) × (effect 4 (single basin) (Remove (place (pos 0) (pos 1))) ≡ Err NoTile)
+    × (effect 1 (single basin) (Import (place (pos 0) (pos 1)) basin_bytes) ≡ Err Full) × (effect 1 (single basin) (Import (place (pos 0) (pos 0)) basin_bytes) ≡ Err TileThere)
+    × (effect 4 (empty_mosaic 3) (Import (place (negsuc 0) (negsuc 0)) (9 ∷ [])) ≡ Err BadLength)
 
 -- two tiles that meet at one point, (2, 2): no tile holds both (2, 1) and (3, 2)
 abbrev pub corner_to_corner : Mosaic

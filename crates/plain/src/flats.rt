@@ -1,11 +1,10 @@
 //! How far water has to go over a flat.
-ghost use Rattle.std.specs.Prelude.{◌≡◌, ◌&&◌, ◌||◌, IfOk, IsTrue, int_lt, filter};
-ghost use Rattle.std.specs.Ordering.{int_eq};
+ghost use Rattle.std.specs.Prelude.{◌≡◌, IfOk, IsTrue, filter};
 ghost use Rattle.std.specs.List.{list_any};
 ghost use Rattle.lattice.specs.Ground.{is_ground, terrain};
 ghost use Rattle.flow_d8.specs.Drainage.{AreFilledLevels, IsFlatDistance};
 ghost use Rattle.plain.specs.Levels.{level_of};
-ghost use Rattle.plain.specs.Flats.{is_lower, is_level, is_end, crossing};
+ghost use Rattle.plain.specs.Flats.{is_lower, is_level, is_end};
 
 use crate::change::is_named;
 use crate::levels::level_at;

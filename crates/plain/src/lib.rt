@@ -25,7 +25,8 @@ pub use levels::{Cell, Levels, filled_levels};
 pub use mosaic::{Plain, PlainTile};
 pub use paths::flow_path;
 pub use rows::{
-    adjacency_rows, depth_rows, edit_rows, refusal_rows, rim_rows, seam_rows, step_rows, void_rows,
+    adjacency_rows, depth_rows, edit_rows, import_rows, patch_rows, refusal_rows, rim_rows,
+    seam_rows, step_rows, void_rows,
 };
 pub use runs::{Run, watershed};
 pub use seam::{disagrees, height};

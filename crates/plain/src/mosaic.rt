@@ -1,5 +1,5 @@
 //! A mosaic as a list of tiles.
-ghost use Rattle.std.specs.Prelude.{◌≡◌, ◌≤◌, ◌*◌, All, IfOk, IsTrue, MatchOption, length};
+ghost use Rattle.std.specs.Prelude.{◌≡◌, All, IfOk, IsTrue, MatchOption};
 ghost use Rattle.lattice.specs.Corners.{is_corner};
 ghost use Rattle.lattice.specs.Mosaic.{Tile, IsTile, IsMosaic, empty_mosaic, samples_of};
 

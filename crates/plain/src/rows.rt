@@ -1,5 +1,10 @@
 //! Worked rows that the definitions compute: each call does nothing, and its contract is the rows.
-ghost use Rattle.plain.specs.Rows.{SeamRows, EditRows, VoidRows, RefusalRows, DepthRows, AdjacencyRows, StepRows, RimRows};
+ghost use Rattle.plain.specs.Rows.{ImportRows, SeamRows, EditRows, VoidRows, PatchRows, RefusalRows, DepthRows, AdjacencyRows, StepRows, RimRows};
+
+/// What imports and removals give, and when they are refused.
+pub fn import_rows()
+    ensures { ImportRows }
+{}
 
 /// Where two tiles disagree on their seam, the first one decides until it is taken out.
 pub fn seam_rows()
@@ -17,6 +22,11 @@ pub fn void_rows()
 {}
 
 /// When a patch is refused, and what it gives.
+pub fn patch_rows()
+    ensures { PatchRows }
+{}
+
+/// Which test of a burn or a wall decides.
 pub fn refusal_rows()
     ensures { RefusalRows }
 {}

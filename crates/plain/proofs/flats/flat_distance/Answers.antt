@@ -1,4 +1,4 @@
-use Rattle.std.proofs.Common.{◌≡◌, ◌∙◌, ◌<◌, ◌+◌, ℕ, List, vec_len, filter, sym, ap, ap₂, subst}
+use Rattle.std.proofs.Common.{◌∙◌, ◌<◌, List, vec_len, filter, sym, ap, ap₂, subst}
 use Rattle.std.specs.List.{Contains, list_any}
 use Rattle.lattice.specs.declared.point.Point.{Point}
 use Rattle.lattice.specs.Ground.{terrain}

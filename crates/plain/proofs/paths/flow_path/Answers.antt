@@ -1,4 +1,4 @@
-use Rattle.std.proofs.Common.{◌++◌, [], ◌∷◌, IsTrue, List, sym, subst}
+use Rattle.std.proofs.Common.{IsTrue, List, sym, subst}
 use Rattle.lattice.specs.declared.point.Point.{Point}
 use Rattle.lattice.specs.Ground.{is_ground, terrain}
 use Rattle.lattice.specs.Steps.{step}

@@ -1,0 +1,43 @@
+-- The calls on a file with their answers, and what an honest file answers. Source: this product's own disk model.
+use Rattle.std.specs.Prelude.{◌≡◌, ◌⊎◌, ℕ, ◌≤◌, List, [], ◌∷◌, length, Bool, true, false, if◌then◌else◌, ◌==◌}
+use Rattle.disk.specs.Disk.{Image, SameBut}
+use Rattle.disk.specs.Memory.{State, MayLeave}
+
+-- one call on a file, with whether it succeeded
+pub data Answered : Type 0 where
+  -- of this sector; these bytes came
+  read : ℕ → Bool → List ℕ → Answered
+  -- of this sector; these bytes were given
+  written : ℕ → Bool → List ℕ → Answered
+  synced : Bool → Answered
+
+-- the state after a call, where reads then give this image
+abbrev pub after_answer : Answered → Image → State → State
+after_answer (read s ok bytes) image st = record { seen = image; settled = st.settled; unsettled = st.unsettled }
+after_answer (written s ok bytes) image st = record { seen = image; settled = st.settled; unsettled = λ k. if k == s then true else st.unsettled k }
+after_answer (synced ok) image st = record { seen = image; settled = if ok then st.seen else st.settled; unsettled = λ k. if ok then false else st.unsettled k }
+
+-- One answer of an honest file: the state before the call, and what reads give after it. A read, or a sync that succeeds,
+-- changes nothing. After a write that fails its sector may read as any bytes, and after a sync that fails each unsettled
+-- sector may.
+abbrev pub IsRight : Answered → State → Image → Type 0
+IsRight (read s ok bytes) st image = (ok ≡ true → bytes ≡ st.seen s) × (image ≡ st.seen)
+IsRight (written s ok bytes) st image = (ok ≡ true → image s ≡ bytes) × SameBut s st.seen image
+IsRight (synced ok) st image = (ok ≡ true → image ≡ st.seen) × ((k : ℕ) → st.unsettled k ≡ false → st.seen k ≡ image k)
+
+-- The calls stand with the newest first. Reads give the image of number n after n calls.
+module _ (images : ℕ → Image) where
+  -- the state after these calls, settled at first
+  abbrev pub state_after : List Answered → State
+  state_after [] = record { seen = images 0; settled = images 0; unsettled = λ k. false }
+  state_after (call ∷ earlier) = after_answer call (images (length (call ∷ earlier))) (state_after earlier)
+
+  -- each answer is right for these images
+  abbrev pub IsHonest : List Answered → Type 0
+  IsHonest [] = Unit {0}
+  IsHonest (call ∷ earlier) = IsRight call (state_after earlier) (images (length (call ∷ earlier))) × IsHonest earlier
+
+  -- a stop at some moment after the first t calls
+  abbrev pub LeftSince : List Answered → ℕ → Image → Type 0
+  LeftSince [] t c = (t ≤ 0) × MayLeave (state_after []) c
+  LeftSince (call ∷ earlier) t c = ((t ≤ length (call ∷ earlier)) × MayLeave (state_after (call ∷ earlier)) c) ⊎ LeftSince earlier t c

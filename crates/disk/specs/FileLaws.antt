@@ -1,0 +1,93 @@
+-- Laws of the record of a file's calls: that the file is honest says no more and no less than that its answers are those
+-- of a disk that behaves as the model says. Source: this product's own disk model.
+use Rattle.std.specs.Prelude.{◌≡◌, ◌≢◌, ℕ, ◌≤◌, nat_le, List, [], ◌∷◌, length, true, false, if◌then◌else◌}
+use Rattle.disk.specs.Disk.{Image, SameBut, TornAt, NoneNew, Only, Elapses, Nothing}
+use Rattle.disk.specs.Memory.{State, MayLeave, after_write, after_sync}
+use Rattle.disk.specs.FileCalls.{Answered, read, written, synced, state_after, IsHonest, LeftSince}
+use Rattle.disk.specs.declared.disk.Disk.{Ghosts}
+
+-- a call on an honest disk, with what the disk chose where it fails
+pub data Step : Type 0 where
+  reads : ℕ → Step
+  -- what the buffer holds then
+  read_fails : ℕ → List ℕ → Step
+  writes : ℕ → List ℕ → Step
+  -- what its sector reads as from then on
+  write_fails : ℕ → List ℕ → List ℕ → Step
+  syncs : Step
+  -- what the unsettled sectors read as from then on
+  sync_fails : Image → Step
+
+abbrev pub next : State → Step → State
+next st (reads s) = st
+next st (read_fails s bytes) = st
+next st (writes s bytes) = after_write s bytes st
+next st (write_fails s bytes left) = after_write s left st
+next st syncs = after_sync st
+next st (sync_fails left) = record { seen = λ k. if st.unsettled k then left k else st.seen k; settled = st.settled; unsettled = st.unsettled }
+
+abbrev pub answer : State → Step → Answered
+answer st (reads s) = read s true (st.seen s)
+answer st (read_fails s bytes) = read s false bytes
+answer st (writes s bytes) = written s true bytes
+answer st (write_fails s bytes left) = written s false bytes
+answer st syncs = synced true
+answer st (sync_fails left) = synced false
+
+-- the state after these steps, of which the newest comes first, from a settled image
+abbrev pub state_of_run : Image → List Step → State
+state_of_run first [] = record { seen = first; settled = first; unsettled = λ k. false }
+state_of_run first (step ∷ earlier) = next (state_of_run first earlier) step
+
+abbrev pub answers : Image → List Step → List Answered
+answers first [] = []
+answers first (step ∷ earlier) = answer (state_of_run first earlier) step ∷ answers first earlier
+
+-- what reads give after so many of the steps
+abbrev pub shown : Image → List Step → ℕ → Image
+shown first [] n = first
+shown first (step ∷ earlier) n = if nat_le n (length earlier) then shown first earlier n else (state_of_run first (step ∷ earlier)).seen
+
+-- the record of a run is honest, and says the state that the run has come to
+pub record IsRecordOf (first : Image) (steps : List Step) : Type 0 where
+  pub honest : IsHonest (shown first steps) (answers first steps)
+  pub state : state_after (shown first steps) (answers first steps) ≡ state_of_run first steps
+
+-- every run of an honest disk, faults among it, has an honest record
+abbrev pub RunsHaveHonestRecords : Type 0
+RunsHaveHonestRecords = (first : Image) (steps : List Step) → IsRecordOf first steps
+
+module _ {D : Type 0} (g : Ghosts D) where
+  -- what the contract of a disk says of one call, where the disk is honest after it
+  abbrev pub Tells : Answered → D → D → Type 0
+  Tells (read s ok bytes) old new = (ok ≡ true → bytes ≡ g.seen old s) × (g.seen new ≡ g.seen old) × NoneNew (g.may old) (g.may new)
+      × Elapses (g.moment old) (g.moment new) (g.since old) (g.since new) Nothing
+  Tells (written s ok bytes) old new = (ok ≡ true → g.seen new s ≡ bytes) × SameBut s (g.seen old) (g.seen new) × NoneNew (TornAt s (g.may old)) (g.may new)
+      × Elapses (g.moment old) (g.moment new) (g.since old) (g.since new) (TornAt s (g.may old))
+  Tells (synced ok) old new = (ok ≡ true → Only (g.seen old) (g.may new)) × NoneNew (g.may old) (g.may new)
+      × Elapses (g.moment old) (g.moment new) (g.since old) (g.since new) Nothing
+
+  -- a disk, settled at first, that is in state number n after n of these calls, of which the newest comes first
+  abbrev pub AreTold : (ℕ → D) → List Answered → Type 0
+  AreTold at [] = Only (g.seen (at 0)) (g.may (at 0))
+  AreTold at (call ∷ earlier) = Tells call (at (length earlier)) (at (length (call ∷ earlier))) × AreTold at earlier
+
+  -- the record is honest for what the disk's reads give, and a stop leaves, and might have left, no more than the record says
+  pub record IsTrueRecord (at : ℕ → D) (calls : List Answered) : Type 0 where
+    pub honest : IsHonest (λ n. g.seen (at n)) calls
+    pub left : NoneNew (MayLeave (state_after (λ n. g.seen (at n)) calls)) (g.may (at (length calls)))
+    pub left_since : (n : ℕ) (c : Image) → n ≤ length calls → g.since (at (length calls)) (g.moment (at n)) c → LeftSince (λ n. g.seen (at n)) calls n c
+
+  -- every disk that is honest throughout has an honest record
+  abbrev pub DisksHaveHonestRecords : Type 0
+  DisksHaveHonestRecords = (at : ℕ → D) (calls : List Answered) → ((n : ℕ) → g.honest (at n)) → AreTold at calls → IsTrueRecord at calls
+
+-- a read that gives other bytes than the images have is not honest
+abbrev pub FalseReadsShow : Type 0
+FalseReadsShow = (images : ℕ → Image) (earlier : List Answered) (s : ℕ) (bytes : List ℕ)
+    → bytes ≢ images (length earlier) s → ¬ IsHonest images (read s true bytes ∷ earlier)
+
+-- a write that the next read doesn't find is honest of no images
+abbrev pub LostWritesShow : Type 0
+LostWritesShow = (images : ℕ → Image) (earlier : List Answered) (s : ℕ) (given found : List ℕ)
+    → found ≢ given → ¬ IsHonest images (read s true found ∷ written s true given ∷ earlier)
