@@ -1,15 +1,14 @@
 -- Counting the corners of a list by the places of the globe.
-use Rattle.std.proofs.Common.{◌≡◌, ℕ, ◌+◌, ◌-◌, ◌<◌, ℤ, pos, negsuc, ◌+ℤ◌, ◌<ℤ◌, ◌≤ℤ◌, Bool, true, false, cond, not, ◌&&◌, ◌||◌, IsTrue, List, [], ◌∷◌, length, refl, sym, ◌∙◌, ap, ap₂, subst, zero-add, add_comm, add-one, arith}
-use Rattle.std.specs.Prelude.{int_lt, int_le, Contains, ◌↔◌}
+use Rattle.std.proofs.Common.{◌≡◌, ℕ, ◌+◌, ℤ, pos, negsuc, ◌+ℤ◌, ◌≤ℤ◌, Bool, true, false, cond, ◌&&◌, ◌||◌, IsTrue, List, [], ◌∷◌, length, refl, sym, ◌∙◌, ap, ap₂, subst, zero-add, arith}
+use Rattle.std.specs.Prelude.{int_lt, Contains, ◌↔◌}
 use Rattle.std.specs.Ordering.{int_eq}
 use Rattle.std.specs.List.{All, count_by}
-use Rattle.std.proofs.lemmas.Bool.{cases_Bool, and_parts, and_from, and_left, and_right, false_from_ne_true, false≢true}
-use Rattle.std.proofs.lemmas.Bool.Decides.{Decides-int_eq}
+use Rattle.std.proofs.lemmas.Bool.{and_right, false_from_ne_true, false≢true}
 use Rattle.std.proofs.lemmas.Int.{ints}
 use Rattle.std.proofs.lemmas.List.Sums.{sum_by-cons}
 use Rattle.std.proofs.lemmas.List.Elements.{All-head, All-tail, All-map, All-weaker}
-use Rattle.lattice.specs.Corners.{Place, is_corner, is_before, same_place}
-use Rattle.catalogue.proofs.Places.{same_says, same_from, before_not_same, after_not_same}
+use Rattle.lattice.specs.Corners.{Place, is_corner, same_place}
+use Rattle.catalogue.proofs.Places.{same_says, after_not_same}
 use Rattle.catalogue.proofs.Rising.{AllAfter, Rising}
 use Rattle.lattice.specs.Mosaic.{Mosaic, IsTile, IsMosaic}
 use Rattle.catalogue.specs.Tiles.{corners_of}

@@ -1,8 +1,7 @@
 -- The effect of burns and walls, by the treatment of their points.
-use Rattle.std.proofs.Common.{◌≡◌, ℕ, ℤ, pos, negsuc, ◌-ℤ◌, ◌≤ℤ◌, Bool, true, false, cond, IsTrue, List, refl, sym, ◌∙◌, ap, subst, arith}
-use Rattle.std.specs.Prelude.{Option, Some, None, Result, Ok, Err, OnOk, IfOk}
+use Rattle.std.proofs.Common.{◌≡◌, ℕ, ℤ, pos, true, false, sym, ◌∙◌, ap}
+use Rattle.std.specs.Prelude.{None, Result, Ok, Err, OnOk, IfOk}
 use Rattle.std.specs.Global.{Vec}
-use Rattle.std.specs.Int.{int_max}
 use Rattle.arrayvec.specs.ArrayVec.{ArrayVec}
 use Rattle.lattice.specs.declared.point.Point.{Point}
 use Rattle.lattice.specs.declared.refusal.Refusal.{Refusal}
@@ -11,7 +10,7 @@ use Rattle.edits.specs.declared.command.Command.TheVariants.{Burn, Wall}
 use Rattle.edits.specs.declared.change.Change.{Change}
 use Rattle.edits.specs.declared.named.Treatment.TheVariants.{Lower, Raise}
 use Rattle.edits.specs.Changes.{all_changed}
-use Rattle.edits.specs.Effect.{effect, is_depth, is_height, is_repeated, first_fault, unless_fault, edited, burnt, walled}
+use Rattle.edits.specs.Effect.{effect, is_depth, is_height, is_repeated, first_fault, edited, burnt, walled}
 use Rattle.edits.specs.Treatments.{treatment_at}
 
 pub burn_accepted : (capacity : ℕ) (m : Mosaic) (depth : ℤ) (by_ : ℕ) (points : ArrayVec Point) (result : Result (Vec Change) Refusal) →

@@ -1,11 +1,10 @@
 -- Putting one sample at all void points of a box, row by row.
-use Rattle.std.proofs.Common.{◌≡◌, ℕ, zero, suc, ◌+◌, ◌*◌, ◌<◌, ◌≤◌, ◌⊎◌, inl, inr, ℤ, pos, ◌+ℤ◌, ◌-ℤ◌, ◌≤ℤ◌, ◌<ℤ◌, Bool, true, false, cond, not, ◌&&◌, ◌||◌, IsTrue, List, [], ◌∷◌, ◌++◌, length, get_or, refl, sym, ◌∙◌, ap, ap₂, subst, arith}
-use Rattle.std.specs.Prelude.{int_le, int_lt, Result, Ok, Err, if◌then◌else◌}
+use Rattle.std.proofs.Common.{◌≡◌, ℕ, ◌+◌, ◌*◌, ◌<◌, ◌⊎◌, inl, inr, ℤ, pos, ◌+ℤ◌, Bool, true, false, ◌&&◌, ◌||◌, IsTrue, List, [], refl, sym, ◌∙◌, ap, ap₂, arith}
+use Rattle.std.specs.Prelude.{int_le, int_lt}
 use Rattle.std.specs.Ordering.{int_eq}
-use Rattle.std.specs.List.{All, Contains, list_any}
-use Rattle.std.proofs.lemmas.Bool.{cases_Bool, and_parts, and_from, and_left, or_left, or_right, or_cases, both_ways, false≢true}
+use Rattle.std.specs.List.{Contains}
+use Rattle.std.proofs.lemmas.Bool.{and_parts, and_from, and_left, or_left, or_right, or_cases, both_ways}
 use Rattle.std.proofs.lemmas.Int.{ints}
-use Rattle.std.proofs.lemmas.List.Elements.{Contains-get_or}
 use Rattle.lattice.specs.Corners.{Place, is_corner}
 use Rattle.lattice.specs.declared.point.Point.{Point}
 use Rattle.lattice.specs.declared.height.Height.{Height}
@@ -19,7 +18,7 @@ use Rattle.edits.specs.declared.change.Change.TheVariants.{Set}
 use Rattle.edits.specs.Boxes.{is_in_row, is_in_rows, is_void_in_row, is_void_in_rows}
 use Rattle.edits.specs.Effect.{is_void_at, is_void_height, is_in_box}
 use Rattle.edits.specs.Puts.{IsPut, ArePutAt, PutsAlso, Puts}
-use Rattle.edits.proofs.Treating.{same_point_says, same_point_from}
+use Rattle.edits.proofs.SamePoints.{same_point_says, same_point_from}
 
 module _ (n : ℕ) (cs : List Place) (s : ℤ) where
   pub also_none : (test : Point → Bool) (old : List Change) → ((p : Point) → test p ≡ false) → PutsAlso n cs test s old old

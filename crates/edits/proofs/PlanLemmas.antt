@@ -1,7 +1,9 @@
 -- What a plan says of a command that is the same.
-use Rattle.std.proofs.Common.{◌≡◌, ◌⊎◌, inl, inr, ℕ, Bool, true, false, ◌||◌, IsTrue, List, refl, sym, ◌∙◌, ap, subst}
+use Rattle.std.proofs.Common.{◌≡◌, ◌⊎◌, inl, inr, ℕ, true, false, IsTrue, List, get_or, vec_len, arith, refl, sym, ap, subst}
 use Rattle.std.specs.Prelude.{Result, Ok, Err, IfOk, IfErr}
 use Rattle.std.specs.Global.{Vec}
+use Rattle.std.specs.List.{All}
+use Rattle.lattice.specs.Corners.{Place}
 use Rattle.std.proofs.lemmas.Bool.{or_left, or_right, both_ways}
 use Rattle.lattice.specs.Mosaic.{Mosaic}
 use Rattle.lattice.specs.declared.refusal.Refusal.{Refusal}
@@ -12,7 +14,8 @@ use Rattle.catalogue.proofs.Reading.{reads_nothing}
 use Rattle.edits.specs.declared.change.Change.{Change}
 use Rattle.edits.specs.declared.command.Command.{Command}
 use Rattle.edits.specs.declared.command.Command.TheVariants.{Import, Remove, Patch, Burn, Wall}
-use Rattle.edits.specs.Changes.{all_changed}
+use Rattle.edits.specs.declared.change.Change.TheVariants.{Set}
+use Rattle.edits.specs.Changes.{CanBeMade, CanBeSet, IsSet, StandAlone, SetOnce, all_changed}
 use Rattle.edits.specs.Effect.{effect}
 use Rattle.edits.specs.Plans.{is_own, ends_any, may_end, reads_of}
 
@@ -22,6 +25,34 @@ module _ (capacity : ℕ) (m : Mosaic) (result : Result (Vec Change) Refusal) (a
 
   pub refused_as : IfErr result (λ r. IsTrue (is_own a r) → effect capacity m a ≡ Err r) → IfErr result (λ r. IsTrue (is_own b r) → effect capacity m b ≡ Err r)
   refused_as refused = subst (λ (c : Command). IfErr result (λ r. IsTrue (is_own c r) → effect capacity m c ≡ Err r)) same refused
+
+-- a change of a whole tile is the only one
+pub one_alone : (result : Result (Vec Change) Refusal) → IfOk result (λ changes. vec_len changes ≡ 1) → IfOk result (λ changes. StandAlone changes.items)
+one_alone (Ok changes) one = inl (omega (arith, one, changes.ok.0))
+one_alone (Err r) one = tt
+
+pub one_once : (result : Result (Vec Change) Refusal) → IfOk result (λ changes. vec_len changes ≡ 1) → IfOk result (λ changes. SetOnce changes.items)
+one_once (Ok changes) one = λ i j d i_j below. absurd (omega (arith, one, changes.ok.0))
+one_once (Err r) one = tt
+
+set_fits : (n : ℕ) (cs : List Place) (x : Change) → CanBeSet n cs x → IsSet x × CanBeMade n cs x
+set_fits n cs (Set c i s) can = (tt, can)
+set_fits n cs _ can = absurd can
+
+module _ (n : ℕ) (cs : List Place) (result : Result (Vec Change) Refusal) (fits : IfOk result (λ changes. All (CanBeSet n cs) changes.items)) where
+  pub sets_alone : IfOk result (λ changes. StandAlone changes.items)
+  sets_alone = by result fits
+    where
+      by : (r : Result (Vec Change) Refusal) → IfOk r (λ changes. All (CanBeSet n cs) changes.items) → IfOk r (λ changes. StandAlone changes.items)
+      by (Ok changes) can = inr (λ k d below. (set_fits n cs (get_or changes.items k d) (can k d below)).0)
+      by (Err r) can = tt
+
+  pub sets_fit : IfOk result (λ changes. All (CanBeMade n cs) changes.items)
+  sets_fit = by result fits
+    where
+      by : (r : Result (Vec Change) Refusal) → IfOk r (λ changes. All (CanBeSet n cs) changes.items) → IfOk r (λ changes. All (CanBeMade n cs) changes.items)
+      by (Ok changes) can = λ k d below. (set_fits n cs (get_or changes.items k d) (can k d below)).1
+      by (Err r) can = tt
 
 -- a read's refusal is no command's own
 not_read : (c : Command) (r : Refusal) → ends_any r ≡ true → is_own c r ≡ false

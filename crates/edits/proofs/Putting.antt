@@ -1,11 +1,11 @@
 -- Changes that put samples at all indices whose points pass a test make the mosaic that is edited there.
-use Rattle.std.proofs.Common.{◌≡◌, ℕ, zero, suc, ◌+◌, ◌*◌, ◌<◌, ◌≤◌, ◌⊎◌, inl, inr, ℤ, Bool, true, false, cond, IsTrue, List, [], ◌∷◌, length, map, get_or, set, refl, sym, ◌∙◌, ap, ap₂, subst, zero-add, add-zero, arith}
-use Rattle.std.specs.Prelude.{slice_set, slice_index_or}
+use Rattle.std.proofs.Common.{◌≡◌, ℕ, zero, suc, ◌+◌, ◌*◌, ◌<◌, ◌⊎◌, inl, inr, ℤ, Bool, true, false, cond, List, [], ◌∷◌, length, map, get_or, refl, sym, ◌∙◌, ap, ap₂, subst, zero-add, add-zero, arith}
+use Rattle.std.specs.Prelude.{slice_set}
 use Rattle.std.specs.List.{All, Contains}
-use Rattle.std.proofs.lemmas.Bool.{cases_Bool, cases_eq, false≢true, both_ways}
+use Rattle.std.proofs.lemmas.Bool.{cases_eq, both_ways}
 use Rattle.std.proofs.lemmas.List.{same_lists, length-map, get_or-map, length-set, get_or-set_same, get_or-set_other}
-use Rattle.std.proofs.lemmas.List.Elements.{All-head, All-tail, All-contains, Contains-get_or}
-use Rattle.lattice.specs.Corners.{Place, is_corner, same_place}
+use Rattle.std.proofs.lemmas.List.Elements.{All-head, All-tail, Contains-get_or}
+use Rattle.lattice.specs.Corners.{Place, same_place}
 use Rattle.lattice.specs.declared.point.Point.{Point}
 use Rattle.lattice.specs.Lattice.{point_of}
 use Rattle.lattice.specs.Mosaic.{Tile, Mosaic, IsMosaic, IsTile}
@@ -13,9 +13,9 @@ use Rattle.catalogue.specs.Tiles.{corners_of, with_sample, with_sample_in}
 use Rattle.catalogue.proofs.Places.{same_says, same_from}
 use Rattle.edits.specs.declared.change.Change.{Change}
 use Rattle.edits.specs.declared.change.Change.TheVariants.{Add, Drop, Set}
-use Rattle.edits.specs.Changes.{changed, all_changed}
+use Rattle.edits.specs.Changes.{all_changed}
 use Rattle.edits.specs.Effect.{changed_from, edited}
-use Rattle.edits.specs.Puts.{IsPut, Puts}
+use Rattle.edits.specs.Puts.{Puts}
 
 -- a change of one sample
 abbrev pub IsSet : Change → Type 0
@@ -129,7 +129,7 @@ put_some c (x ∷ rest) l k u d within each before = by (λ so. put_some c rest 
     by again (inr other) (inl so) = again (inl (untouched c x l k d other ∙ so))
     by again (inr other) (inr there) = again (inr (in_rest other there))
 
-length-changed_from : (f : ℕ → ℤ → ℤ) (e : ℕ) (l : List ℤ) → length (changed_from f e l) ≡ length l
+pub length-changed_from : (f : ℕ → ℤ → ℤ) (e : ℕ) (l : List ℤ) → length (changed_from f e l) ≡ length l
 length-changed_from f e [] = refl
 length-changed_from f e (s ∷ rest) = ap suc (length-changed_from f (e + 1) rest)
 

@@ -1,12 +1,8 @@
 -- Points that are named twice.
-use Rattle.std.proofs.Common.{◌≡◌, ℕ, ◌+◌, ◌<◌, ◌≤◌, ℤ, Bool, true, false, ◌||◌, ◌&&◌, List, [], ◌∷◌, length, get_or, take, drop, length-drop, ◌-◌, refl, sym, ◌∙◌, ap, ap₂, arith}
-use Rattle.std.specs.List.{list_any}
-use Rattle.std.specs.Ordering.{int_eq}
-use Rattle.std.proofs.lemmas.Bool.{or_left, or_from, cases_Bool, both_ways}
-use Rattle.std.proofs.lemmas.Bool.Decides.{Decides-int_eq}
+use Rattle.std.proofs.Common.{◌≡◌, ℕ, ◌+◌, ◌<◌, ◌≤◌, Bool, true, false, ◌||◌, List, length, get_or, take, drop, length-drop, ◌-◌, sym, ◌∙◌, ap, arith}
+use Rattle.std.proofs.lemmas.Bool.{or_left}
 use Rattle.std.proofs.lemmas.List.{at_drop_more, at_drop_all, take_all}
 use Rattle.lattice.specs.declared.point.Point.{Point}
-use Rattle.lattice.specs.Ground.{same_point}
 use Rattle.edits.specs.Effect.{is_named, is_repeated}
 
 turn : (ps : List Point) (i : ℕ) (d : Point) → i < length ps → is_repeated (drop i ps) ≡ is_named (drop (i + 1) ps) (get_or ps i d) || is_repeated (drop (i + 1) ps)

@@ -1,9 +1,8 @@
 -- Treating the named points one after another.
-use Rattle.std.proofs.Common.{◌≡◌, ◌≢◌, ℕ, zero, suc, ◌+◌, ◌*◌, ◌<◌, ◌≤◌, ◌⊎◌, inl, inr, ℤ, pos, negsuc, ◌-ℤ◌, Bool, true, false, cond, ◌||◌, IsTrue, List, [], ◌∷◌, ◌++◌, length, get_or, take, drop, refl, sym, ◌∙◌, ap, ap₂, subst, length-append, arith}
-use Rattle.std.specs.Prelude.{Option, Some, None, Result, Ok, Err, int_lt, if◌then◌else◌}
-use Rattle.std.specs.List.{All, Contains, list_any}
-use Rattle.std.specs.Ordering.{int_eq}
-use Rattle.std.proofs.lemmas.Bool.{or_left, or_right, or_cases, and_parts, and_from, both_ways, cases_Bool}
+use Rattle.std.proofs.Common.{◌≡◌, ◌≢◌, ℕ, zero, suc, ◌+◌, ◌*◌, ◌<◌, ◌≤◌, ◌⊎◌, inl, inr, ℤ, pos, negsuc, ◌-ℤ◌, Bool, true, false, ◌||◌, IsTrue, List, [], ◌∷◌, ◌++◌, length, get_or, take, drop, refl, sym, ◌∙◌, ap, ap₂, subst, arith}
+use Rattle.std.specs.Prelude.{Option, Some, None, Ok, int_lt, if◌then◌else◌}
+use Rattle.std.specs.List.{All, Contains}
+use Rattle.std.proofs.lemmas.Bool.{or_left, or_right, or_cases, both_ways}
 use Rattle.std.proofs.lemmas.Bool.Decides.{Decides-int_eq}
 use Rattle.std.proofs.lemmas.List.{take_more, take_all, at_drop_more, at_drop_all}
 use Rattle.std.proofs.lemmas.List.Elements.{Contains-get_or, All-contains}
@@ -24,28 +23,15 @@ use Rattle.catalogue.proofs.Reading.{reads_on, reads_nothing}
 use Rattle.edits.specs.declared.change.Change.{Change}
 use Rattle.edits.specs.declared.change.Change.TheVariants.{Set}
 use Rattle.edits.specs.declared.named.Treatment.{Treatment}
-use Rattle.edits.specs.Changes.{CanBeMade, all_changed}
-use Rattle.edits.specs.Effect.{is_named, first_fault, fault_at, edited}
-use Rattle.edits.specs.Puts.{IsPut, ArePutAt, Puts}
+use Rattle.edits.specs.Changes.{CanBeSet, all_changed}
+use Rattle.edits.specs.Effect.{is_named, is_repeated, first_fault, fault_at, edited}
+use Rattle.edits.specs.Puts.{IsPut, ArePutAt, Puts, PutsOnce}
 use Rattle.edits.specs.declared.named.Treatment.TheVariants.{Lower, Raise}
 use Rattle.edits.specs.Plans.{ends_any}
 use Rattle.edits.specs.Treatments.{treated, depth_of, treatment_at, fault_of, is_fault, is_groundless}
+use Rattle.edits.proofs.Once.{once_none, once_then, not_named}
 use Rattle.edits.proofs.Putting.{puts_edit}
-
-any-append : (f : Point → Bool) (ps qs : List Point) → list_any f (ps ++ qs) ≡ (list_any f ps || list_any f qs)
-any-append f [] qs = refl
-any-append f (p ∷ ps) qs = elim (f p) as (λ b. (b || list_any f (ps ++ qs)) ≡ ((b || list_any f ps) || list_any f qs)) [ true ↦ refl | false ↦ any-append f ps qs ]
-
-named_push : (ps : List Point) (p q : Point) → is_named (ps ++ p ∷ []) q ≡ is_named ps q || same_point q p
-named_push ps p q = any-append (same_point q) ps (p ∷ []) ∙ ap (λ b. is_named ps q || b) (elim (same_point q p) as (λ b. (b || false) ≡ b) [ true ↦ refl | false ↦ refl ])
-
-pub same_point_says : (p q : Point) → same_point p q ≡ true → p ≡ q
-same_point_says p q e =
-    let both = and_parts (int_eq p.y q.y) (int_eq p.x q.x) e in
-    ap₂ (λ (y x : ℤ). record { y = y; x = x }) ((Decides-int_eq p.y q.y).0 both.0) ((Decides-int_eq p.x q.x).0 both.1)
-
-pub same_point_from : (p : Point) → same_point p p ≡ true
-same_point_from p = and_from (int_eq p.y p.y) (int_eq p.x p.x) ((Decides-int_eq p.y p.y).1 refl) ((Decides-int_eq p.x p.x).1 refl)
+use Rattle.edits.proofs.SamePoints.{named_push, same_point_says, same_point_from}
 
 -- one more point
 puts_push : (n : ℕ) (cs : List Place) (sample : Point → ℤ) (ps : List Point) (p : Point) (old new : List Change) →
@@ -67,12 +53,12 @@ puts_push n cs sample ps p old new puts put = record {
         let here = same_point_says (point_of n c e) p same in
         subst (λ (q : Point). Contains new (Set c e (sample q))) (sym here) (put.complete c e corner present within here)
 
-pub fits_more : (n : ℕ) (cs : List Place) (p : Point) (s : ℤ) (old new : List Change) → All (CanBeMade n cs) old → ArePutAt n cs p s old new → All (CanBeMade n cs) new
+pub fits_more : (n : ℕ) (cs : List Place) (p : Point) (s : ℤ) (old new : List Change) → All (CanBeSet n cs) old → ArePutAt n cs p s old new → All (CanBeSet n cs) new
 fits_more n cs p s old new fit put k d below = by (get_or new k d) (put.each (get_or new k d) (Contains-get_or new k d below))
   where
-    by : (x : Change) → Contains old x ⊎ IsPut n cs p s x → CanBeMade n cs x
-    by x (inl before) = All-contains (CanBeMade n cs) old x fit before
-    by x (inr now) = subst (CanBeMade n cs) (sym now.sets) (now.present, now.within)
+    by : (x : Change) → Contains old x ⊎ IsPut n cs p s x → CanBeSet n cs x
+    by x (inl before) = All-contains (CanBeSet n cs) old x fit before
+    by x (inr now) = subst (CanBeSet n cs) (sym now.sets) (now.present, now.within)
 
 -- the point at a place, as the code reads it
 abbrev pub origin : Point
@@ -102,10 +88,11 @@ height_not_void m p h e = by (samples_at m p) e
 -- the first of these points were treated
 pub record AreTreated {S : Type 0} (g : Ghosts S) (t : Treatment) (points : List Point) (i : ℕ) (old now : S) (changes : List Change) : Type 0 where
   pub reads : OnlyReads {T = Unit {0}} g old now (Ok tt)
-  pub fits : All (CanBeMade (g.side_of old) (g.corners old)) changes
+  pub fits : All (CanBeSet (g.side_of old) (g.corners old)) changes
   pub few : length changes ≤ 4 * i
   pub puts : g.is_honest now → Puts (g.side_of old) (g.corners old) (is_named (take i points)) (λ p. treated t (metres (height_of (g.mosaic old) p))) changes
   pub faults : g.is_honest now → first_fault (g.mosaic old) (depth_of t) points ≡ first_fault (g.mosaic old) (depth_of t) (drop i points)
+  pub once : is_repeated points ≡ false → PutsOnce (g.side_of old) (is_named (take i points)) [] changes
 
 module _ {S : Type 0} (g : Ghosts S) (t : Treatment) (points : List Point) where
   pub treated_none : ((s : S) → g.is_honest s → g.keeps s s) → (s : S) → AreTreated g t points 0 s s []
@@ -115,6 +102,7 @@ module _ {S : Type 0} (g : Ghosts S) (t : Treatment) (points : List Point) where
     few = omega arith;
     puts = λ _. record { each = λ x there. absurd (let below = there.1 in omega arith); complete = λ c e corner present within none. absurd (both_ways false refl none) };
     faults = λ _. refl;
+    once = λ _. once_none (g.side_of s) (is_named (take 0 points)) [];
   }
 
   module _ (i : ℕ) (p : Point) (old mid now : S) (changes new : List Change) (within : i < length points) (is : p ≡ get_or points i p) (so : AreTreated g t points i old mid changes) where
@@ -127,9 +115,9 @@ module _ {S : Type 0} (g : Ghosts S) (t : Treatment) (points : List Point) where
 
     pub treated_more : (keeps_on : (a b c : S) → g.keeps a b → g.keeps b c → g.keeps a c) (h s : ℤ) → OnlyReads {T = Unit {0}} g mid now (Ok tt) →
         (g.is_honest now → height_of (g.mosaic mid) p ≡ height.At h) → s ≡ treated t h →
-        (h ≢ void → int_lt (h -ℤ depth_of t) (negsuc 32766) ≡ false) → ArePutAt (g.side_of now) (g.corners now) p s changes new →
+        (h ≢ void → int_lt (h -ℤ depth_of t) (negsuc 32766) ≡ false) → ArePutAt (g.side_of now) (g.corners now) p s changes new → PutsOnce (g.side_of now) (λ q. same_point q p) changes new →
         AreTreated g t points (i + 1) old now new
-    treated_more keeps_on h s read at value shallow put_now = record {
+    treated_more keeps_on h s read at value shallow put_now once_now = record {
       reads = reads;
       fits = fits_more (g.side_of old) (g.corners old) p s changes new so.fits put;
       few = omega (arith, so.few, put.few);
@@ -139,10 +127,17 @@ module _ {S : Type 0} (g : Ghosts S) (t : Treatment) (points : List Point) where
           (subst (λ v. ArePutAt (g.side_of old) (g.corners old) p v changes new) (value ∙ ap (treated t) (sym (ap metres (height_here honest)))) put));
       faults = λ honest. fault_from (read.honest honest) ∙ ap (λ v. fault_at (depth_of t) v (first_fault (g.mosaic old) (depth_of t) (drop (i + 1) points))) (at honest)
           ∙ ap (λ b. if b then Some TooDeep else first_fault (g.mosaic old) (depth_of t) (drop (i + 1) points)) (shallow (height_not_void (g.mosaic mid) p h (at honest)));
+      once = λ single. once_then (g.side_of old) (is_named (take i points)) (λ q. same_point q p) (is_named (take (i + 1) points)) [] changes new
+          (λ q. ap (λ (l : List Point). is_named l q) (take_more points i p within ∙ sym (ap (λ (r : Point). take i points ++ r ∷ []) is)) ∙ named_push (take i points) p q)
+          (λ q named same. both_ways (is_named (take i points) q) (fresh single q same) named)
+          (so.once single) (subst (λ n. PutsOnce n (λ q. same_point q p) changes new) reads.side once_now);
     }
       where
         sample : Point → ℤ
         sample q = treated t (metres (height_of (g.mosaic old) q))
+
+        fresh : is_repeated points ≡ false → (q : Point) → same_point q p ≡ true → is_named (take i points) q ≡ false
+        fresh single q same = ap (is_named (take i points)) (same_point_says q p same ∙ is) ∙ not_named points i p single within
 
         reads : OnlyReads {T = Unit {0}} g old now (Ok tt)
         reads = reads_on g keeps_on old mid now tt (Ok tt) so.reads read
@@ -157,15 +152,22 @@ module _ {S : Type 0} (g : Ghosts S) (t : Treatment) (points : List Point) where
     pub no_fault : g.is_honest now → first_fault (g.mosaic old) (depth_of t) points ≡ None
     no_fault honest = so.faults honest ∙ at_drop_all (first_fault (g.mosaic old) (depth_of t)) points i all
 
-    pub all_treated : (is_mosaic : (s : S) → g.is_honest s → IsMosaic (g.mosaic s)) (same_side : (s : S) → g.is_honest s → (g.mosaic s).side ≡ g.side_of s) (same_corners : (s : S) → g.is_honest s → corners_of (g.mosaic s) ≡ g.corners s) →
-        g.is_honest now → all_changed changes (g.mosaic old) ≡ edited (treatment_at t (g.mosaic old) points) (g.mosaic old)
-    all_treated is_mosaic same_side same_corners honest =
-        let was = so.reads.honest honest in
-        let sample : Point → ℤ = λ q. treated t (metres (height_of (g.mosaic old) q)) in
-        let whole : Puts (g.side_of old) (g.corners old) (is_named points) sample changes = subst (λ (l : List Point). Puts (g.side_of old) (g.corners old) (is_named l) sample changes) (take_all i points all) (so.puts honest) in
-        let sided : Puts (g.mosaic old).side (g.corners old) (is_named points) sample changes = subst (λ n. Puts n (g.corners old) (is_named points) sample changes) (sym (same_side old was)) whole in
-        let own : Puts (g.mosaic old).side (corners_of (g.mosaic old)) (is_named points) sample changes = subst (λ (cs : List Place). Puts (g.mosaic old).side cs (is_named points) sample changes) (sym (same_corners old was)) sided in
-        puts_edit (g.mosaic old) (is_mosaic old was) (is_named points) sample changes own
+    module _ (same_side : (s : S) → g.is_honest s → (g.mosaic s).side ≡ g.side_of s) (same_corners : (s : S) → g.is_honest s → corners_of (g.mosaic s) ≡ g.corners s) (honest : g.is_honest now) where
+      abbrev sample : Point → ℤ
+      sample q = treated t (metres (height_of (g.mosaic old) q))
+
+      was : g.is_honest old
+      was = so.reads.honest honest
+
+      -- the changes put what is said of each named point
+      pub named_puts : Puts (g.mosaic old).side (corners_of (g.mosaic old)) (is_named points) (λ q. treated t (metres (height_of (g.mosaic old) q))) changes
+      named_puts =
+          let whole : Puts (g.side_of old) (g.corners old) (is_named points) sample changes = subst (λ (l : List Point). Puts (g.side_of old) (g.corners old) (is_named l) sample changes) (take_all i points all) (so.puts honest) in
+          let sided : Puts (g.mosaic old).side (g.corners old) (is_named points) sample changes = subst (λ n. Puts n (g.corners old) (is_named points) sample changes) (sym (same_side old was)) whole in
+          subst (λ (cs : List Place). Puts (g.mosaic old).side cs (is_named points) sample changes) (sym (same_corners old was)) sided
+
+      pub all_treated : ((s : S) → g.is_honest s → IsMosaic (g.mosaic s)) → all_changed changes (g.mosaic old) ≡ edited (treatment_at t (g.mosaic old) points) (g.mosaic old)
+      all_treated is_mosaic = puts_edit (g.mosaic old) (is_mosaic old was) (is_named points) sample changes named_puts
 
 -- why a point ends the treatment
 fault_says : (t : Treatment) (h : Height) (r : Refusal) (later : Option Refusal) → fault_of h r → IsTrue (is_fault t r) → fault_at (depth_of t) h later ≡ Some r

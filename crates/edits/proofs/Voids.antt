@@ -1,8 +1,8 @@
 -- Whether some point of a box is void, and the changes that fill it.
-use Rattle.std.proofs.Common.{◌≡◌, ℕ, zero, suc, ◌+◌, ◌*◌, ◌<◌, ◌≤◌, ℤ, pos, negsuc, ◌+ℤ◌, Bool, true, false, not, cond, ◌&&◌, ◌||◌, ◌⊎◌, inl, inr, IsTrue, List, [], ◌∷◌, length, map, get_or, refl, sym, ◌∙◌, ap, ap₂, subst, add-zero, zero-add, arith}
-use Rattle.std.specs.Prelude.{Result, Ok, Err, int_le, int_lt, ◌-ℤ◌}
-use Rattle.std.specs.List.{All, Contains, list_any}
-use Rattle.std.proofs.lemmas.Bool.{or_left, or_right, or_cases, both_ways, cases_Bool, and_from, and_left, and_right, false_from_ne_true, false≢true}
+use Rattle.std.proofs.Common.{◌≡◌, ℕ, zero, suc, ◌+◌, ◌<◌, ℤ, pos, negsuc, ◌+ℤ◌, Bool, true, false, cond, ◌&&◌, ◌⊎◌, inl, inr, List, [], ◌∷◌, length, get_or, refl, sym, ◌∙◌, ap, ap₂, subst, add-zero, zero-add, arith}
+use Rattle.std.specs.Prelude.{Ok, Err, int_le, int_lt, ◌-ℤ◌}
+use Rattle.std.specs.List.{Contains, list_any}
+use Rattle.std.proofs.lemmas.Bool.{or_left, or_right, or_cases, and_from, and_left, and_right, false_from_ne_true, false≢true}
 use Rattle.std.proofs.lemmas.List.{get_or-map, length-map}
 use Rattle.std.proofs.lemmas.List.Elements.{Contains-get_or, All-contains}
 use Rattle.std.proofs.lemmas.Int.{ints}
@@ -10,7 +10,6 @@ use Rattle.lattice.specs.Corners.{Place}
 use Rattle.lattice.specs.declared.point.Point.{Point}
 use Rattle.lattice.specs.Lattice.{point_of}
 use Rattle.lattice.specs.Mosaic.{Tile, Mosaic, IsMosaic, IsTile}
-use Rattle.lattice.specs.declared.refusal.Refusal.{Refusal}
 use Rattle.lattice.specs.declared.refusal.Refusal.TheVariants.{BadBox, NothingVoid}
 use Rattle.catalogue.specs.Tiles.{corners_of}
 use Rattle.edits.specs.declared.change.Change.{Change}
@@ -18,12 +17,12 @@ use Rattle.edits.specs.declared.change.Change.TheVariants.{Set}
 use Rattle.edits.specs.declared.command.Command.TheVariants.{Patch}
 use Rattle.edits.specs.Changes.{all_changed}
 use Rattle.edits.specs.Effect.{effect, is_height, is_box, is_in_box, is_void_at, has_void, has_void_from, edited, patched}
-use Rattle.edits.specs.Puts.{IsPut, Puts}
+use Rattle.edits.specs.Puts.{Puts}
 use Rattle.edits.proofs.Putting.{puts_edit}
 use Rattle.edits.proofs.PatchLemmas.{box_is, rows_all}
 use Rattle.edits.specs.Boxes.{is_void_in_rows}
 
-any_says : {X : Type 0} (f : X → Bool) (xs : List X) → list_any f xs ≡ true → (x : X) × (Contains xs x × (f x ≡ true))
+pub any_says : {X : Type 0} (f : X → Bool) (xs : List X) → list_any f xs ≡ true → (x : X) × (Contains xs x × (f x ≡ true))
 any_says f [] e = absurd (false≢true e)
 any_says f (x ∷ xs) e = by (or_cases (f x) (list_any f xs) e) (any_says f xs)
   where
@@ -33,14 +32,14 @@ any_says f (x ∷ xs) e = by (or_cases (f x) (list_any f xs) e) (any_says f xs)
         let rest = later there in
         (rest.0, ((suc rest.1.0.0, omega arith, rest.1.0.2), rest.1.1))
 
-any_from : {X : Type 0} (f : X → Bool) (xs : List X) (x : X) → Contains xs x → f x ≡ true → list_any f xs ≡ true
+pub any_from : {X : Type 0} (f : X → Bool) (xs : List X) (x : X) → Contains xs x → f x ≡ true → list_any f xs ≡ true
 any_from f [] x (k, below, here) e = absurd (omega arith)
 any_from f (y ∷ ys) x (zero, below, here) e = or_left (f y) (list_any f ys) (ap f here ∙ e)
 any_from f (y ∷ ys) x (suc k, below, here) e = or_right (f y) (list_any f ys) (any_from f ys x (k, omega arith, here) e)
 
 -- the tile of a present corner
-tile_of : (m : Mosaic) (c : Place) → Contains (corners_of m) c → (t : Tile) × (Contains m.tiles t × (t.corner ≡ c))
-tile_of m c (k, below, here) =
+pub tile_at : (m : Mosaic) (c : Place) → Contains (corners_of m) c → (t : Tile) × (Contains m.tiles t × (t.corner ≡ c))
+tile_at m c (k, below, here) =
     let none : Tile = record { corner = c; samples = [] } in
     let within : k < length m.tiles = omega (arith, length-map m.tiles (λ t. t.corner)) in
     (get_or m.tiles k none, (Contains-get_or m.tiles k none within, sym (get_or-map (λ t. t.corner) m.tiles k none c within) ∙ here))
@@ -49,7 +48,7 @@ module _ (m : Mosaic) (from to : Point) where
   abbrev pub is_void_within : Point → Bool
   is_void_within p = is_in_box from to p && is_void_at m p
 
-  some_index : (c : Place) (e : ℕ) (l : List ℤ) → has_void_from m from to c e l ≡ true → (k : ℕ) × ((k < length l) × (is_void_within (point_of m.side c (e + k)) ≡ true))
+  pub some_index : (c : Place) (e : ℕ) (l : List ℤ) → has_void_from m from to c e l ≡ true → (k : ℕ) × ((k < length l) × (is_void_within (point_of m.side c (e + k)) ≡ true))
   some_index c e [] h = absurd (false≢true h)
   some_index c e (s ∷ rest) h = by (or_cases (is_void_within (point_of m.side c e)) (has_void_from m from to c (e + 1) rest) h) (some_index c (e + 1) rest)
     where
@@ -64,7 +63,7 @@ module _ (m : Mosaic) (from to : Point) where
           let next : e + suc found.0 ≡ e + 1 + found.0 = omega arith in
           (suc found.0, (omega arith, ap (λ i. is_void_within (point_of m.side c i)) next ∙ found.1.1))
 
-  at_index : (c : Place) (e : ℕ) (l : List ℤ) (k : ℕ) → k < length l → is_void_within (point_of m.side c (e + k)) ≡ true → has_void_from m from to c e l ≡ true
+  pub at_index : (c : Place) (e : ℕ) (l : List ℤ) (k : ℕ) → k < length l → is_void_within (point_of m.side c (e + k)) ≡ true → has_void_from m from to c e l ≡ true
   at_index c e [] k below h = absurd (omega arith)
   at_index c e (s ∷ rest) zero below h = or_left (is_void_within (point_of m.side c e)) (has_void_from m from to c (e + 1) rest) (ap (λ i. is_void_within (point_of m.side c i)) (sym (add-zero e)) ∙ h)
   at_index c e (s ∷ rest) (suc k) below h =
@@ -76,7 +75,7 @@ module _ (m : Mosaic) (from to : Point) where
     some_void x there =
         let found = puts.each x there in
         let put = found.1.1 in
-        let tile = tile_of m put.corner put.present in
+        let tile = tile_at m put.corner put.present in
         let t = tile.0 in
         let is_tile : IsTile m.side t = All-contains (IsTile m.side) m.tiles t valid.tiles tile.1.0 in
         let at : is_void_within (point_of m.side t.corner (0 + put.index)) ≡ true =

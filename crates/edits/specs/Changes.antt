@@ -1,6 +1,6 @@
 -- What a change makes of a mosaic, and where it can be made (this product's own profile).
-use Rattle.std.specs.Prelude.{◌≡◌, ℕ, ◌*◌, ◌<◌, List, [], ◌∷◌, length, Contains}
-use Rattle.lattice.specs.Corners.{Place}
+use Rattle.std.specs.Prelude.{◌≡◌, ℕ, ◌*◌, ◌<◌, ◌⊎◌, Bool, false, ◌&&◌, IsFalse, nat_eq, List, [], ◌∷◌, length, Contains, All, AllPairs}
+use Rattle.lattice.specs.Corners.{Place, same_place}
 use Rattle.lattice.specs.Mosaic.{Mosaic}
 use Rattle.catalogue.specs.Tiles.{added, without, with_sample}
 use Rattle.edits.specs.declared.change.Change.{Change}
@@ -22,3 +22,26 @@ abbrev pub CanBeMade : ℕ → List Place → Change → Type 0
 CanBeMade n corners (Add c samples) = (¬ Contains corners c) × (length samples ≡ n * n)
 CanBeMade n corners (Drop c) = Contains corners c
 CanBeMade n corners (Set c i s) = Contains corners c × (i < n * n)
+
+-- the change sets a sample
+abbrev pub IsSet : Change → Type 0
+IsSet (Set c i s) = Unit {0}
+IsSet _ = ⊥
+
+-- the change sets a sample of a present tile
+abbrev pub CanBeSet : ℕ → List Place → Change → Type 0
+CanBeSet n corners (Set c i s) = Contains corners c × (i < n * n)
+CanBeSet n corners _ = ⊥
+
+-- a change of a whole tile is the only one
+abbrev pub StandAlone : List Change → Type 0
+StandAlone changes = (length changes ≡ 1) ⊎ All IsSet changes
+
+-- both changes set the same sample
+abbrev pub set_same : Change → Change → Bool
+set_same (Set c i s) (Set d j t) = same_place c d && nat_eq i j
+set_same _ _ = false
+
+-- no sample is set twice
+abbrev pub SetOnce : List Change → Type 0
+SetOnce changes = AllPairs (λ x y. IsFalse (set_same x y)) changes

@@ -1,6 +1,8 @@
 pub mod Boxes
 pub mod Changes
 pub mod Effect
+pub mod EffectLaws
+pub mod LeftStale
 pub mod Outcomes
 pub mod Plans
 pub mod Puts

@@ -1,6 +1,6 @@
 -- What a store may answer to a command or a query, and the state that it is in then (this product's own profile).
 -- Each relation reads: in the state s the call may answer r and leave the state t.
-use Rattle.std.specs.Prelude.{◌≡◌, ℕ, ◌+◌, ◌*◌, ◌<◌, IsTrue, IsFalse, List, Option, Some, None, Result, Ok, Err, map}
+use Rattle.std.specs.Prelude.{◌≡◌, ℕ, ◌+◌, ◌<◌, IsTrue, IsFalse, List, Option, Some, None, Result, Ok, Err, map}
 use Rattle.lattice.specs.Corners.{Place}
 use Rattle.lattice.specs.declared.point.Point.{Point}
 use Rattle.lattice.specs.declared.height.Height.{Height}

@@ -5,6 +5,7 @@ use Rattle.lattice.specs.declared.point.Point.{Point}
 use Rattle.lattice.specs.Lattice.{point_of}
 use Rattle.edits.specs.declared.change.Change.{Change}
 use Rattle.edits.specs.declared.change.Change.TheVariants.{Set}
+use Rattle.edits.specs.Changes.{SetOnce}
 
 -- the change puts the sample at a present tile's index of the point
 pub record IsPut (n : ℕ) (corners : List Place) (p : Point) (s : ℤ) (change : Change) : Type 0 where
@@ -35,3 +36,14 @@ pub record PutsAlso (n : ℕ) (corners : List Place) (test : Point → Bool) (s 
   pub kept : (x : Change) → Contains old x → Contains new x
   pub each : (x : Change) → Contains new x → Contains old x ⊎ ((p : Point) × ((test p ≡ true) × IsPut n corners p s x))
   pub complete : (c : Place) (e : ℕ) → IsTrue (is_corner c) → Contains corners c → e < n * n → test (point_of n c e) ≡ true → Contains new (Set c e s)
+
+-- the change sets the sample that lies at the point
+abbrev pub IsAt : ℕ → Point → Change → Type 0
+IsAt n p (Set c i s) = point_of n c i ≡ p
+IsAt n p _ = ⊥
+
+-- The changes are now those that they were, and some that set samples at points that pass the test. No sample is set
+-- twice, where none was and none at these points.
+pub record PutsOnce (n : ℕ) (test : Point → Bool) (old new : List Change) : Type 0 where
+  pub each : (x : Change) → Contains new x → Contains old x ⊎ ((p : Point) × ((test p ≡ true) × IsAt n p x))
+  pub once : SetOnce old → ((x : Change) (p : Point) → Contains old x → test p ≡ true → IsAt n p x → ⊥) → SetOnce new

@@ -1,5 +1,5 @@
 -- The state of a store, by which its promises are said (this product's own profile).
-use Rattle.std.specs.Prelude.{ℕ, ◌+◌, Bool, true, false, List, [], Option, Some, None, Result, Ok, Err}
+use Rattle.std.specs.Prelude.{ℕ, ◌+◌, Bool, true, List, [], Option, Some, None, Result, Ok, Err}
 use Rattle.lattice.specs.Corners.{Place}
 use Rattle.lattice.specs.declared.refusal.Refusal.{Refusal}
 use Rattle.lattice.specs.Mosaic.{Mosaic, empty_mosaic}

@@ -1,5 +1,5 @@
 -- The tiles that a command touches, and which tiles go stale by it (this product's own profile).
-use Rattle.std.specs.Prelude.{ℤ, ◌-ℤ◌, Bool, ◌&&◌, ◌||◌, List, map, filter, nat_lt, nat_abs}
+use Rattle.std.specs.Prelude.{◌-ℤ◌, Bool, ◌&&◌, ◌||◌, List, map, filter, nat_lt, nat_abs}
 use Rattle.std.specs.List.{list_any}
 use Rattle.lattice.specs.Corners.{Place, same_place}
 use Rattle.lattice.specs.declared.point.Point.{Point}

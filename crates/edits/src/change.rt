@@ -59,3 +59,18 @@ pub enum Change {
         sample: i16,
     },
 }
+
+impl Change {
+    ghost use Rattle.edits.specs.LeftStale.{tile_of};
+
+    /// The corner of the tile that it changes.
+    pub fn corner(&self) -> Corner
+        ensures { result ≡ tile_of self.now }
+    {
+        match self {
+            Change::Add { corner, .. } | Change::Drop { corner } | Change::Set { corner, .. } => {
+                *corner
+            }
+        }
+    }
+}

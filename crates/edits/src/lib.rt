@@ -1,16 +1,26 @@
 //! Commands that change a mosaic, and the changes of samples and tiles that they come to.
 //!
-//! The layer above rests on this: the changes that `plan` answers are the effect of the command, or its refusal.
+//! The layer above rests on this: the changes that `plan` answers are the effect of the command, or its refusal, and say
+//! which tiles go stale; `carry_out` makes them in a table, all of them or none.
 #![tactic(auto)]
 
+mod carrying;
 mod change;
 mod command;
+mod growth;
+mod laws;
 mod named;
 mod patching;
 mod planning;
 mod room;
+mod staleness;
+#[cfg(test)]
+mod tests;
 mod tiles;
 
+pub use carrying::carry_out;
 pub use change::{Change, TileSamples};
 pub use command::{Bytes, Command};
+pub use laws::{commands_make_mosaics, stale_tiles_are_present, untouched_tiles_stay};
 pub use planning::plan;
+pub use staleness::stale_after;

@@ -1,20 +1,24 @@
 //! The commands that name points.
 ghost use Rattle.std.specs.Prelude.{◌≡◌, ℕ, ◌||◌, ◌≢◌, ◌≤◌, ◌*◌, ◌⊎◌, ℤ, pos, negsuc, ◌-ℤ◌, int_lt, true, false, All, IsTrue, IfOk, IfErr, OnOk, MatchResult, IfSome, IfNone, Contains, vec_len, [], ◌∷◌, ◌++◌, length};
+ghost use Rattle.lattice.specs.Corners.{Place};
 ghost use Rattle.lattice.specs.Lattice.{Holds, IsIndexOf};
 ghost use Rattle.lattice.specs.Mosaic.{void};
 ghost use Rattle.lattice.specs.Height.{height_of};
-ghost use Rattle.lattice.specs.Ground.{metres};
+ghost use Rattle.lattice.specs.Ground.{metres, same_point};
 ghost use Rattle.lattice.specs.declared.height.Height.TheVariants as height_is;
 ghost use Rattle.lattice.specs.declared.refusal.Refusal.TheVariants.{NoMemory, TooDeep, Outside, Void, Device, Failed, Damaged};
 ghost use Rattle.catalogue.specs.Readers.{OnlyReads};
-ghost use Rattle.edits.specs.Changes.{CanBeMade, all_changed};
+ghost use Rattle.edits.specs.Changes.{CanBeSet, SetOnce, all_changed};
 ghost use Rattle.edits.specs.Effect.{effect, is_repeated, is_named, first_fault, edited};
+ghost use Rattle.edits.specs.LeftStale.{is_beside, is_near_one};
 ghost use Rattle.edits.specs.Plans.{is_own, ends_any, may_end, reads_of};
-ghost use Rattle.edits.specs.Puts.{ArePutAt, Puts};
+ghost use Rattle.edits.specs.Puts.{ArePutAt, Puts, PutsOnce};
+ghost use Rattle.edits.specs.Touched.{holds_one, goes_stale};
 ghost use Rattle.edits.specs.Treatments.{treated, depth_of, fault_of, is_fault, is_groundless, treatment_at};
 ghost use Rattle.edits.specs.declared.command.Command.TheVariants.{Burn, Wall};
 
 use crate::Change;
+use crate::growth::push;
 use arrayvec::ArrayVec;
 use catalogue::{Samples, height};
 use lattice::{Corner, Height, Point, Refusal, holders, index_in};
@@ -42,8 +46,10 @@ pub(crate) fn burn<S: Samples>(
     ensures changes { (capacity : ℕ) → S.is_honest samples.new → IfOk result (λ changes. effect capacity (S.mosaic samples.old) (Burn depth points.now) ≡ Ok (all_changed changes.items (S.mosaic samples.old))) }
     ensures refused { (capacity : ℕ) → S.is_honest samples.new → IfErr result (λ r. IsTrue (is_own (Burn depth points.now) r) → effect capacity (S.mosaic samples.old) (Burn depth points.now) ≡ Err r) }
     ensures causes { IfErr result (λ r. IsTrue (may_end (Burn depth points.now) r)) }
-    ensures fits { IfOk result (λ changes. All (CanBeMade (S.side_of samples.old) (S.corners samples.old)) changes.items) }
+    ensures fits { IfOk result (λ changes. All (CanBeSet (S.side_of samples.old) (S.corners samples.old)) changes.items) }
     ensures few { IfOk result (λ changes. vec_len changes ≤ 4 * length points.now.items) }
+    ensures beside { S.is_honest samples.new → IfOk result (λ changes. (p : Place) → is_beside changes.items p ≡ goes_stale (S.mosaic samples.old) (Burn depth points.now) p) }
+    ensures once { IfOk result (λ changes. SetOnce changes.items) }
     ensures reads { OnlyReads S.Samples samples.old samples.new (reads_of result) }
 {
     if depth < 1 || 32767 < depth {
@@ -71,8 +77,10 @@ pub(crate) fn wall<S: Samples>(
     ensures changes { (capacity : ℕ) → S.is_honest samples.new → IfOk result (λ changes. effect capacity (S.mosaic samples.old) (Wall height points.now) ≡ Ok (all_changed changes.items (S.mosaic samples.old))) }
     ensures refused { (capacity : ℕ) → S.is_honest samples.new → IfErr result (λ r. IsTrue (is_own (Wall height points.now) r) → effect capacity (S.mosaic samples.old) (Wall height points.now) ≡ Err r) }
     ensures causes { IfErr result (λ r. IsTrue (may_end (Wall height points.now) r)) }
-    ensures fits { IfOk result (λ changes. All (CanBeMade (S.side_of samples.old) (S.corners samples.old)) changes.items) }
+    ensures fits { IfOk result (λ changes. All (CanBeSet (S.side_of samples.old) (S.corners samples.old)) changes.items) }
     ensures few { IfOk result (λ changes. vec_len changes ≤ 4 * length points.now.items) }
+    ensures beside { S.is_honest samples.new → IfOk result (λ changes. (p : Place) → is_beside changes.items p ≡ goes_stale (S.mosaic samples.old) (Wall height points.now) p) }
+    ensures once { IfOk result (λ changes. SetOnce changes.items) }
     ensures reads { OnlyReads S.Samples samples.old samples.new (reads_of result) }
 {
     if height < LOWEST || 32767 < height {
@@ -101,8 +109,10 @@ fn treat<S: Samples>(
     ensures changes { S.is_honest samples.new → IfOk result (λ changes. all_changed changes.items (S.mosaic samples.old) ≡ edited (treatment_at treatment (S.mosaic samples.old) points.now) (S.mosaic samples.old)) }
     ensures refused { S.is_honest samples.new → IfErr result (λ r. IsTrue (is_fault treatment r) → first_fault (S.mosaic samples.old) (depth_of treatment) points.now ≡ Some r) }
     ensures causes { IfErr result (λ r. IsTrue (is_fault treatment r || ends_any r)) }
-    ensures fits { IfOk result (λ changes. All (CanBeMade (S.side_of samples.old) (S.corners samples.old)) changes.items) }
+    ensures fits { IfOk result (λ changes. All (CanBeSet (S.side_of samples.old) (S.corners samples.old)) changes.items) }
     ensures few { IfOk result (λ changes. vec_len changes ≤ 4 * length points.now) }
+    ensures beside { S.is_honest samples.new → IfOk result (λ changes. (p : Place) → is_beside changes.items p ≡ is_near_one (λ t. holds_one (S.mosaic samples.old) points.now t.corner) (S.mosaic samples.old) p) }
+    ensures once { is_repeated points.now ≡ false → IfOk result (λ changes. SetOnce changes.items) }
     ensures reads { OnlyReads S.Samples samples.old samples.new (reads_of result) }
 {
     let mut changes = Vec::new(alloc);
@@ -142,6 +152,7 @@ pub(crate) fn put<S: Samples>(
     changes: &mut Vec<Change>,
 ) -> Result<(), Refusal>
     ensures put { OnOk result (ArePutAt (S.side_of samples.now) (S.corners samples.now) point sample changes.old.items changes.new.items) }
+    ensures once { OnOk result (PutsOnce (S.side_of samples.now) (λ q. same_point q point) changes.old.items changes.new.items) }
     ensures refusal { IfErr result (λ r. r ≡ NoMemory) }
 {
     let corners = holders(samples.side(), point);
@@ -167,17 +178,6 @@ fn index_among<S: Samples>(samples: &S, corner: Corner, point: Point) -> Option<
         return None;
     }
     index_in(samples.side(), corner, point)
-}
-
-// One change more.
-fn push(changes: &mut Vec<Change>, change: Change) -> Result<(), Refusal>
-    ensures pushed { OnOk result (changes.new.items ≡ changes.old.items ++ change ∷ []) }
-    ensures refusal { IfErr result (λ r. r ≡ NoMemory) }
-{
-    match changes.push(change) {
-        Ok(()) => Ok(()),
-        Err(_) => Err(Refusal::NoMemory),
-    }
 }
 
 // The height of the point, which has to have one.

@@ -1,12 +1,15 @@
 //! The command that fills voids.
 ghost use Rattle.std.specs.Prelude.{◌≡◌, ℕ, true, false, ◌||◌, ◌&&◌, ◌^◌, ◌≤ℤ◌, ◌+ℤ◌, ◌-ℤ◌, ◌<ℤ◌, int_le, int_lt, pos, All, IsTrue, IfOk, IfErr, OnOk, IfSome, IfNone};
+ghost use Rattle.lattice.specs.Corners.{Place};
 ghost use Rattle.lattice.specs.Ground.{same_point};
 ghost use Rattle.catalogue.specs.Readers.{OnlyReads};
-ghost use Rattle.edits.specs.Boxes.{is_void_in_row, is_void_in_rows};
-ghost use Rattle.edits.specs.Changes.{CanBeMade, all_changed};
+ghost use Rattle.edits.specs.Boxes.{is_in_row, is_void_in_row, is_void_in_rows};
+ghost use Rattle.edits.specs.Changes.{CanBeSet, SetOnce, all_changed};
 ghost use Rattle.edits.specs.Effect.{effect, is_void_at};
+ghost use Rattle.edits.specs.LeftStale.{is_beside};
 ghost use Rattle.edits.specs.Plans.{is_own, ends_any, may_end, reads_of};
-ghost use Rattle.edits.specs.Puts.{Puts, PutsAlso};
+ghost use Rattle.edits.specs.Puts.{Puts, PutsAlso, PutsOnce};
+ghost use Rattle.edits.specs.Touched.{goes_stale};
 ghost use Rattle.edits.specs.declared.command.Command.TheVariants.{Patch};
 
 use crate::Change;
@@ -27,7 +30,9 @@ pub(crate) fn patch<S: Samples>(
     ensures changes { (capacity : ℕ) → S.is_honest samples.new → IfOk result (λ changes. effect capacity (S.mosaic samples.old) (Patch from to height) ≡ Ok (all_changed changes.items (S.mosaic samples.old))) }
     ensures refused { (capacity : ℕ) → S.is_honest samples.new → IfErr result (λ r. IsTrue (is_own (Patch from to height) r) → effect capacity (S.mosaic samples.old) (Patch from to height) ≡ Err r) }
     ensures causes { IfErr result (λ r. IsTrue (may_end (Patch from to height) r)) }
-    ensures fits { IfOk result (λ changes. All (CanBeMade (S.side_of samples.old) (S.corners samples.old)) changes.items) }
+    ensures fits { IfOk result (λ changes. All (CanBeSet (S.side_of samples.old) (S.corners samples.old)) changes.items) }
+    ensures beside { S.is_honest samples.new → IfOk result (λ changes. (p : Place) → is_beside changes.items p ≡ goes_stale (S.mosaic samples.old) (Patch from to height) p) }
+    ensures once { IfOk result (λ changes. SetOnce changes.items) }
     ensures reads { OnlyReads S.Samples samples.old samples.new (reads_of result) }
 {
     if height < LOWEST || 32767 < height {
@@ -71,7 +76,8 @@ fn patch_rows<S: Samples>(
     requires north { (from.y +ℤ pos rows) ≤ℤ pos (2 ^ 31) }
     requires east { (from.x +ℤ pos columns) ≤ℤ pos (2 ^ 31) }
     ensures voids { S.is_honest samples.new → IfOk result (λ changes. Puts (S.side_of samples.old) (S.corners samples.old) (is_void_in_rows (S.mosaic samples.old) from rows columns) (λ _. sample) changes.items) }
-    ensures fits { IfOk result (λ changes. All (CanBeMade (S.side_of samples.old) (S.corners samples.old)) changes.items) }
+    ensures once { IfOk result (λ changes. SetOnce changes.items) }
+    ensures fits { IfOk result (λ changes. All (CanBeSet (S.side_of samples.old) (S.corners samples.old)) changes.items) }
     ensures causes { IfErr result (λ r. IsTrue (ends_any r)) }
     ensures reads { OnlyReads S.Samples samples.old samples.new (reads_of result) }
 {
@@ -93,7 +99,8 @@ fn patch_row<S: Samples>(
 ) -> Result<(), Refusal>
     requires { (start.x +ℤ pos columns) ≤ℤ pos (2 ^ 31) }
     ensures voids { S.is_honest samples.new → OnOk result (PutsAlso (S.side_of samples.old) (S.corners samples.old) (is_void_in_row (S.mosaic samples.old) start columns) sample changes.old.items changes.new.items) }
-    ensures fits { OnOk result (All (CanBeMade (S.side_of samples.old) (S.corners samples.old)) changes.old.items → All (CanBeMade (S.side_of samples.old) (S.corners samples.old)) changes.new.items) }
+    ensures once { OnOk result (PutsOnce (S.side_of samples.old) (is_in_row start columns) changes.old.items changes.new.items) }
+    ensures fits { OnOk result (All (CanBeSet (S.side_of samples.old) (S.corners samples.old)) changes.old.items → All (CanBeSet (S.side_of samples.old) (S.corners samples.old)) changes.new.items) }
     ensures causes { IfErr result (λ r. IsTrue (ends_any r)) }
     ensures reads { OnlyReads S.Samples samples.old samples.new (reads_of result) }
 {
@@ -112,7 +119,8 @@ fn patch_point<S: Samples>(
     changes: &mut Vec<Change>,
 ) -> Result<(), Refusal>
     ensures voids { S.is_honest samples.new → OnOk result (PutsAlso (S.side_of samples.old) (S.corners samples.old) (λ q. same_point q point && is_void_at (S.mosaic samples.old) q) sample changes.old.items changes.new.items) }
-    ensures fits { OnOk result (All (CanBeMade (S.side_of samples.old) (S.corners samples.old)) changes.old.items → All (CanBeMade (S.side_of samples.old) (S.corners samples.old)) changes.new.items) }
+    ensures once { OnOk result (PutsOnce (S.side_of samples.old) (λ q. same_point q point) changes.old.items changes.new.items) }
+    ensures fits { OnOk result (All (CanBeSet (S.side_of samples.old) (S.corners samples.old)) changes.old.items → All (CanBeSet (S.side_of samples.old) (S.corners samples.old)) changes.new.items) }
     ensures causes { IfErr result (λ r. IsTrue (ends_any r)) }
     ensures reads { OnlyReads S.Samples samples.old samples.new (reads_of result) }
 {

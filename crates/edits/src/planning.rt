@@ -1,9 +1,13 @@
 //! What a command comes to.
-ghost use Rattle.std.specs.Prelude.{◌≡◌, All, IsTrue, IfOk, IfErr, vec_len};
+ghost use Rattle.std.specs.Prelude.{◌≡◌, List, All, IsTrue, IfOk, IfErr, vec_len};
+ghost use Rattle.lattice.specs.Corners.{Place};
+ghost use Rattle.lattice.specs.Mosaic.{Mosaic};
 ghost use Rattle.catalogue.specs.Readers.{OnlyReads};
-ghost use Rattle.edits.specs.Changes.{CanBeMade, all_changed};
+ghost use Rattle.edits.specs.Changes.{CanBeMade, StandAlone, SetOnce, all_changed};
 ghost use Rattle.edits.specs.Effect.{effect};
+ghost use Rattle.edits.specs.LeftStale.{left_stale};
 ghost use Rattle.edits.specs.Plans.{IsFew, is_own, may_end, reads_of};
+ghost use Rattle.edits.specs.Touched.{stale_after};
 
 use crate::named::{burn, wall};
 use crate::patching::patch;
@@ -31,6 +35,12 @@ pub fn plan<S: Samples>(
     // Any other is of a read, or for want of memory.
     ensures causes { IfErr result (λ r. IsTrue (may_end command.now r)) }
     ensures fits { IfOk result (λ changes. All (CanBeMade (S.side_of samples.old) (S.corners samples.old)) changes.items) }
+    ensures alone { IfOk result (λ changes. StandAlone changes.items) }
+    ensures once { IfOk result (λ changes. SetOnce changes.items) }
+
+    // The tiles that go stale by the command are those that the changes are of, and their neighbours.
+    ensures stale { S.is_honest samples.new → IfOk result (λ changes. (stale : List Place) (new : Mosaic)
+        → stale_after (S.mosaic samples.old) command.now stale new ≡ left_stale changes.items stale new) }
     ensures few { IfOk result (λ changes. IsFew command.now (vec_len changes)) }
     ensures reads { OnlyReads S.Samples samples.old samples.new (reads_of result) }
 {

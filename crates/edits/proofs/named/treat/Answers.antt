@@ -1,21 +1,23 @@
-use Rattle.std.proofs.Common.{rules, to_z, of_z, ℤ, negsuc, ◌-ℤ◌, false, ◌≢◌, ◌≡◌, ◌∙◌, ◌||◌, IsTrue, ap, sym, subst, refl, arith, length, List, get_or}
-use Rattle.std.specs.Prelude.{Result, Ok, Err, Some, IfErr, IfOk, vec_len, int_lt}
-use Rattle.std.proofs.lemmas.Bool.{or_left, both_ways}
+use Rattle.std.proofs.Common.{rules, to_z, of_z, negsuc, ◌-ℤ◌, false, ◌≢◌, ◌≡◌, ◌∙◌, IsTrue, ap, sym, subst, List, get_or}
+use Rattle.std.specs.Prelude.{Result, Ok, Err, Some, IfErr, int_lt}
 use Rattle.std.proofs.lemmas.Result.{err_from_is_err_and}
 use Rattle.lattice.specs.declared.refusal.Refusal.{Refusal}
 use Rattle.lattice.specs.declared.refusal.Refusal.TheVariants.{TooDeep, NoMemory}
-use Rattle.catalogue.specs.Readers.{OnlyReads}
 use Rattle.catalogue.proofs.Reading.{reads_on}
 use Rattle.edits.specs.declared.change.Change.{Change}
 use Rattle.edits.specs.Effect.{first_fault}
-use Rattle.edits.specs.Plans.{ends_any, reads_of}
+use Rattle.edits.specs.Plans.{reads_of}
 use Rattle.edits.specs.Puts.{ArePutAt}
 use Rattle.edits.specs.Treatments.{treated, depth_of, is_fault}
 use Rattle.lattice.specs.Mosaic.{void}
 use Rattle.std.proofs.lemmas.Int.{to_z-of_z}
 use mir.Syntax.{w16}
 use mir.Val.{SFits}
-use Rattle.edits.proofs.Treating.{AreTreated, treated_none, treated_more, no_fault, all_treated, groundless, too_deep, cause_is, origin, read_anyhow}
+use Rattle.lattice.specs.Height.{height_of}
+use Rattle.lattice.specs.Ground.{metres}
+use Rattle.edits.proofs.Beside.{named_beside}
+use Rattle.edits.proofs.Once.{once_from_none}
+use Rattle.edits.proofs.Treating.{AreTreated, treated_none, treated_more, all_treated, named_puts, groundless, cause_is, origin, read_anyhow}
 use Rattle.edits.proofs.named.treat.Goals as goal
 
 pub loop-point-init : goal.loop-point-init
@@ -38,7 +40,7 @@ loop-point-preserved g c =
     treated_more g.S.Samples c.args.treatment points i p c.args.samples.now c.loop-point.samples c.ground.new.samples c.loop-point.changes.items c.put.new.changes.items c.loop-point-test.true (read_anyhow points i origin c.loop-point-test.true) c.loop-point.invariant
     g.met.S.Samples.keeps_on h s c.in_ok-metres.ensures.reads c.in_ok-metres.ensures.metres (c.in_ok-sample.ensures.sample ∙ ap (treated c.args.treatment) same)
     (subst (λ v. v ≢ void → int_lt (v -ℤ depth_of c.args.treatment) (negsuc 32766) ≡ false) same c.in_ok-sample.ensures.deep)
-    put
+    put c.in_ok-put.ensures.once
 
 pub returns-in_err-metres-clause-refused : goal.returns-in_err-metres-clause-refused
 returns-in_err-metres-clause-refused g c =
@@ -75,5 +77,18 @@ returns-in_err-put-clause-reads g c =
     rw ended (reads_on g.S.Samples g.met.S.Samples.keeps_on c.args.samples.now c.loop-point.samples c.ground.new.samples tt (Ok tt) c.loop-point.invariant.reads c.in_ok-metres.ensures.reads)
 
 pub returns-clause-changes : goal.returns-clause-changes
-returns-clause-changes g c = all_treated g.S.Samples c.args.treatment c.args.points.now c.loop-point.point-index c.args.samples.now c.loop-point.samples c.loop-point.changes.items c.loop-point-test.false c.loop-point.invariant
-    g.met.S.Samples.is_mosaic g.met.S.Samples.same_side g.met.S.Samples.same_corners
+returns-clause-changes g c = λ honest.
+    all_treated g.S.Samples c.args.treatment c.args.points.now c.loop-point.point-index c.args.samples.now c.loop-point.samples c.loop-point.changes.items c.loop-point-test.false c.loop-point.invariant
+    g.met.S.Samples.same_side g.met.S.Samples.same_corners honest g.met.S.Samples.is_mosaic
+
+pub returns-clause-beside : goal.returns-clause-beside
+returns-clause-beside g c = λ honest.
+    let old = c.args.samples.now in
+    let puts = named_puts g.S.Samples c.args.treatment c.args.points.now c.loop-point.point-index old c.loop-point.samples c.loop-point.changes.items c.loop-point-test.false c.loop-point.invariant
+    g.met.S.Samples.same_side g.met.S.Samples.same_corners honest in
+    named_beside (g.S.Samples.mosaic old) (g.met.S.Samples.is_mosaic old (c.loop-point.invariant.reads.honest honest)) c.args.points.now
+    (λ q. treated c.args.treatment (metres (height_of (g.S.Samples.mosaic old) q))) c.loop-point.changes.items puts
+
+pub returns-clause-once : goal.returns-clause-once
+returns-clause-once g c = λ single.
+    once_from_none (g.S.Samples.side_of c.args.samples.now) _ c.loop-point.changes.items (c.loop-point.invariant.once single)

@@ -1,11 +1,11 @@
-use Rattle.std.proofs.Common.{◌≡◌, ◌≢◌, ◌∙◌, ◌&&◌, ◌<◌, ℕ, ℤ, pos, negsuc, Bool, true, false, List, length, ap, ap₂, sym, subst, refl, rules, to_z, of_z, arith}
-use Rattle.std.specs.Prelude.{int_le, int_lt, IfOk, Ok, Err, vec_len}
-use Rattle.std.proofs.lemmas.Bool.{and_from, eqb-true, eqb-false}
-use Rattle.std.proofs.lemmas.Int.{ints, to_z-of_z}
+use Rattle.std.proofs.Common.{◌≡◌, ◌≢◌, ◌∙◌, ◌<◌, true, false, length, ap, sym, rules, to_z, of_z, arith}
+use Rattle.std.specs.Prelude.{vec_len}
+use Rattle.std.proofs.lemmas.Bool.{eqb-true, eqb-false}
+use Rattle.std.proofs.lemmas.Int.{to_z-of_z}
 use mir.Syntax.{w16, w32}
 use mir.Val.{SFits}
 use Rattle.catalogue.proofs.Reading.{reads_nothing}
-use Rattle.edits.specs.Effect.{is_height, is_box}
+use Rattle.edits.proofs.Beside.{void_beside}
 use Rattle.edits.proofs.Voids.{height_in, is_span, span_at, count_at, box_from, no_rows, no_columns, bad_box, puts_within, patch_accepted, patch_nothing}
 use Rattle.edits.proofs.patching.patch.Goals as goal
 
@@ -108,3 +108,21 @@ returns-clause-changes g c = λ capacity honest.
     let some_ : vec_len c.in_ok-changes.changes ≢ 0 = eqb-false (vec_len c.in_ok-changes.changes) 0 (sym c.is_empty.ensures ∙ c.if-is_empty.false) in
     let more : 0 < length items = omega (arith, some_, c.in_ok-changes.changes.ok.0) in
     patch_accepted m from to (g.met.S.Samples.is_mosaic c.args.samples.now was) (λ _. s) items puts capacity c.args.height in_range box (λ _. sample) more
+
+pub returns-clause-beside : goal.returns-clause-beside
+returns-clause-beside g c = λ honest.
+    let m = g.S.Samples.mosaic c.args.samples.now in
+    let from = c.args.from in
+    let to = c.args.to in
+    let ay : SFits w32 from.y = search rules in
+    let by_ : SFits w32 to.y = search rules in
+    let ax : SFits w32 from.x = search rules in
+    let bx : SFits w32 to.x = search rules in
+    let was = c.in_ok-changes.ensures.reads.honest honest in
+    let y = count_at from.y (to_z w32 (of_z w32 from.y)) to.y (to_z w32 (of_z w32 to.y)) c.in-Some.rows (to_z-of_z w32 from.y ay) (to_z-of_z w32 to.y by_) c.in-Some.ensures.some.1 in
+    let x = count_at from.x (to_z w32 (of_z w32 from.x)) to.x (to_z w32 (of_z w32 to.x)) c.in-Some-span.columns (to_z-of_z w32 from.x ax) (to_z-of_z w32 to.x bx) c.in-Some-span.ensures.some.1 in
+    let s = to_z w16 (of_z w16 (to_z w32 (of_z w32 c.args.height))) in
+    let items = c.in_ok-changes.changes.items in
+    let puts = puts_within m (g.S.Samples.side_of c.args.samples.now) (g.S.Samples.corners c.args.samples.now) from to c.in-Some.rows c.in-Some-span.columns s items
+    (sym (g.met.S.Samples.same_side c.args.samples.now was)) (sym (g.met.S.Samples.same_corners c.args.samples.now was)) y x (c.in_ok-changes.ensures.voids honest) in
+    void_beside m (g.met.S.Samples.is_mosaic c.args.samples.now was) from to (λ _. s) items puts

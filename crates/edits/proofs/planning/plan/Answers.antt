@@ -6,7 +6,8 @@ use mir.Val.{SFits}
 use Rattle.edits.specs.declared.command.Command.{Command}
 use Rattle.edits.specs.declared.command.Command.TheVariants.{Import, Remove, Patch, Burn, Wall}
 use Rattle.edits.specs.Plans.{may_end}
-use Rattle.edits.proofs.PlanLemmas.{made_as, refused_as, unread, cause_from}
+use Rattle.edits.proofs.Beside.{stale_as}
+use Rattle.edits.proofs.PlanLemmas.{made_as, refused_as, unread, cause_from, one_alone, one_once, sets_alone, sets_fit}
 use Rattle.edits.proofs.planning.plan.Goals as goal
 
 pub returns-in-Import-clause-changes : goal.returns-in-Import-clause-changes
@@ -72,3 +73,59 @@ returns-in-Wall-clause-refused g c = λ honest.
     let fits : SFits w32 c.in-Wall.height = search rules in
     let same : (Wall (to_z w32 (of_z w32 c.in-Wall.height)) c.in-Wall.points) ≡ c.args.command.now = ap (λ (d : ℤ). Wall d c.in-Wall.points) (to_z-of_z w32 c.in-Wall.height fits) ∙ sym c.in-Wall.is in
     refused_as c.args.capacity (g.S.Samples.mosaic c.args.samples.now) c.wall.result (Wall (to_z w32 (of_z w32 c.in-Wall.height)) c.in-Wall.points) c.args.command.now same (c.wall.ensures.refused c.args.capacity honest)
+
+pub returns-in-Import-clause-stale : goal.returns-in-Import-clause-stale
+returns-in-Import-clause-stale g c = λ honest.
+    stale_as (g.S.Samples.mosaic c.args.samples.now) c.import.result (Import c.in-Import.corner c.in-Import.bytes) c.args.command.now (sym c.in-Import.is) c.import.ensures.beside
+
+pub returns-in-Import-clause-alone : goal.returns-in-Import-clause-alone
+returns-in-Import-clause-alone g c = one_alone c.import.result c.import.ensures.one
+
+pub returns-in-Remove-clause-stale : goal.returns-in-Remove-clause-stale
+returns-in-Remove-clause-stale g c = λ honest.
+    stale_as (g.S.Samples.mosaic c.args.samples.now) c.remove.result (Remove c.in-Remove.corner) c.args.command.now (sym c.in-Remove.is) c.remove.ensures.beside
+
+pub returns-in-Remove-clause-alone : goal.returns-in-Remove-clause-alone
+returns-in-Remove-clause-alone g c = one_alone c.remove.result c.remove.ensures.one
+
+pub returns-in-Patch-clause-stale : goal.returns-in-Patch-clause-stale
+returns-in-Patch-clause-stale g c = λ honest.
+    let fits : SFits w32 c.in-Patch.height = search rules in
+    let same : (Patch c.in-Patch.from c.in-Patch.to (to_z w32 (of_z w32 c.in-Patch.height))) ≡ c.args.command.now = ap (λ (d : ℤ). Patch c.in-Patch.from c.in-Patch.to d) (to_z-of_z w32 c.in-Patch.height fits) ∙ sym c.in-Patch.is in
+    stale_as (g.S.Samples.mosaic c.args.samples.now) c.patch.result (Patch c.in-Patch.from c.in-Patch.to (to_z w32 (of_z w32 c.in-Patch.height))) c.args.command.now same (c.patch.ensures.beside honest)
+
+pub returns-in-Patch-clause-alone : goal.returns-in-Patch-clause-alone
+returns-in-Patch-clause-alone g c = sets_alone (g.S.Samples.side_of c.args.samples.now) (g.S.Samples.corners c.args.samples.now) c.patch.result c.patch.ensures.fits
+
+pub returns-in-Patch-clause-fits : goal.returns-in-Patch-clause-fits
+returns-in-Patch-clause-fits g c = sets_fit (g.S.Samples.side_of c.args.samples.now) (g.S.Samples.corners c.args.samples.now) c.patch.result c.patch.ensures.fits
+
+pub returns-in-Burn-clause-stale : goal.returns-in-Burn-clause-stale
+returns-in-Burn-clause-stale g c = λ honest.
+    let fits : SFits w32 c.in-Burn.depth = search rules in
+    let same : (Burn (to_z w32 (of_z w32 c.in-Burn.depth)) c.in-Burn.points) ≡ c.args.command.now = ap (λ (d : ℤ). Burn d c.in-Burn.points) (to_z-of_z w32 c.in-Burn.depth fits) ∙ sym c.in-Burn.is in
+    stale_as (g.S.Samples.mosaic c.args.samples.now) c.burn.result (Burn (to_z w32 (of_z w32 c.in-Burn.depth)) c.in-Burn.points) c.args.command.now same (c.burn.ensures.beside honest)
+
+pub returns-in-Burn-clause-alone : goal.returns-in-Burn-clause-alone
+returns-in-Burn-clause-alone g c = sets_alone (g.S.Samples.side_of c.args.samples.now) (g.S.Samples.corners c.args.samples.now) c.burn.result c.burn.ensures.fits
+
+pub returns-in-Burn-clause-fits : goal.returns-in-Burn-clause-fits
+returns-in-Burn-clause-fits g c = sets_fit (g.S.Samples.side_of c.args.samples.now) (g.S.Samples.corners c.args.samples.now) c.burn.result c.burn.ensures.fits
+
+pub returns-in-Wall-clause-stale : goal.returns-in-Wall-clause-stale
+returns-in-Wall-clause-stale g c = λ honest.
+    let fits : SFits w32 c.in-Wall.height = search rules in
+    let same : (Wall (to_z w32 (of_z w32 c.in-Wall.height)) c.in-Wall.points) ≡ c.args.command.now = ap (λ (d : ℤ). Wall d c.in-Wall.points) (to_z-of_z w32 c.in-Wall.height fits) ∙ sym c.in-Wall.is in
+    stale_as (g.S.Samples.mosaic c.args.samples.now) c.wall.result (Wall (to_z w32 (of_z w32 c.in-Wall.height)) c.in-Wall.points) c.args.command.now same (c.wall.ensures.beside honest)
+
+pub returns-in-Wall-clause-alone : goal.returns-in-Wall-clause-alone
+returns-in-Wall-clause-alone g c = sets_alone (g.S.Samples.side_of c.args.samples.now) (g.S.Samples.corners c.args.samples.now) c.wall.result c.wall.ensures.fits
+
+pub returns-in-Wall-clause-fits : goal.returns-in-Wall-clause-fits
+returns-in-Wall-clause-fits g c = sets_fit (g.S.Samples.side_of c.args.samples.now) (g.S.Samples.corners c.args.samples.now) c.wall.result c.wall.ensures.fits
+
+pub returns-in-Import-clause-once : goal.returns-in-Import-clause-once
+returns-in-Import-clause-once g c = one_once c.import.result c.import.ensures.one
+
+pub returns-in-Remove-clause-once : goal.returns-in-Remove-clause-once
+returns-in-Remove-clause-once g c = one_once c.remove.result c.remove.ensures.one

@@ -1,8 +1,8 @@
-use Rattle.std.proofs.Common.{◌≡◌, ◌∙◌, ◌+◌, ◌-◌, ◌≤◌, ℤ, pos, ◌+ℤ◌, ◌≤ℤ◌, ap, sym, count_by, length, arith, to_z, of_z}
+use Rattle.std.proofs.Common.{◌≡◌, ◌∙◌, ◌-◌, pos, ◌+ℤ◌, ◌≤ℤ◌, ap, length, arith, to_z, of_z}
 use Rattle.std.proofs.lemmas.Bool.{eq-eqb, eqb-true}
-use Rattle.std.proofs.lemmas.Int.{ints, to_z-of_z}
+use Rattle.std.proofs.lemmas.Int.{ints}
 use mir.Syntax.{w16}
-use Rattle.edits.proofs.Counting.{is_south, south_none, south_all, count_south_more}
+use Rattle.edits.proofs.Counting.{south_none, south_all, count_south_more}
 use Rattle.edits.proofs.room.is_full.Goals as goal
 
 pub loop-lat-init : goal.loop-lat-init

@@ -1,7 +1,7 @@
-use Rattle.std.proofs.Common.{◌≡◌, ◌∙◌, ◌+◌, ◌-◌, ℤ, pos, ◌+ℤ◌, ◌≤ℤ◌, Bool, true, false, ap, sym, subst, count_by, arith, to_z, of_z}
+use Rattle.std.proofs.Common.{◌≡◌, ◌∙◌, ◌-◌, ℤ, pos, ◌+ℤ◌, ◌≤ℤ◌, ap, count_by, arith, to_z, of_z}
 use Rattle.std.proofs.lemmas.Int.{ints, to_z-of_z}
 use mir.Syntax.{w16}
-use Rattle.edits.proofs.Counting.{one_if, is_west, is_at, west_none, west_all, west_more_at}
+use Rattle.edits.proofs.Counting.{one_if, is_at, west_none, west_all, west_more_at}
 use Rattle.edits.proofs.room.room_beside.Goals as goal
 use Rattle.edits.proofs.room.room_beside.Goals.{then-is_taken, else-is_taken}
 

@@ -1,4 +1,4 @@
-use Rattle.std.proofs.Common.{◌≡◌, List, [], ◌∷◌}
+use Rattle.std.proofs.Common.{◌≡◌, [], ◌∷◌}
 use Rattle.std.specs.Prelude.{Ok}
 use Rattle.std.proofs.lemmas.Result.{IfOk-weaker}
 use Rattle.edits.specs.declared.command.Command.TheVariants.{Remove}

@@ -1,0 +1,61 @@
+-- What is known of a command that isn't refused, and of what it makes.
+use Rattle.std.proofs.Common.{◌≡◌, ℕ, ◌*◌, pos, Bool, true, false, cond, not, nat_eq, nat_lt, length, refl}
+use Rattle.std.specs.Prelude.{Option, Some, None, Result, Ok, Err}
+use Rattle.lattice.specs.declared.refusal.Refusal.{Refusal}
+use Rattle.lattice.specs.Mosaic.{Mosaic, is_present}
+use Rattle.hgt.specs.Bytes.{samples_in}
+use Rattle.catalogue.specs.Tiles.{added, without}
+use Rattle.edits.specs.declared.command.Command.{Command}
+use Rattle.edits.specs.declared.command.Command.TheVariants.{Import, Remove, Patch, Burn, Wall}
+use Rattle.edits.specs.Effect.{effect, is_height, is_depth, is_box, is_repeated, has_void, first_fault, unless_fault, patched, burnt, walled}
+
+abbrev pub IsMade : ℕ → Mosaic → Command → Mosaic → Type 0
+IsMade capacity m (Import c bytes) new =
+    (nat_eq (length bytes) (2 * (m.side * m.side)) ≡ true) × (is_present m c ≡ false) × (nat_lt (length m.tiles) capacity ≡ true) × (new ≡ added (record { corner = c; samples = samples_in bytes }) m)
+IsMade capacity m (Remove c) new = new ≡ without c m
+IsMade capacity m (Patch from to h) new = (is_height h ≡ true) × (new ≡ patched from to h m)
+IsMade capacity m (Burn depth points) new = (is_depth depth ≡ true) × (first_fault m depth points.items ≡ None) × (new ≡ burnt depth points.items m)
+IsMade capacity m (Wall h points) new = (is_height h ≡ true) × (first_fault m (pos 0) points.items ≡ None) × (new ≡ walled h points.items m)
+
+ok_is : (a b : Mosaic) → ◌≡◌ {A = Result Mosaic Refusal} (Ok a) (Ok b) → b ≡ a
+ok_is a b e = cc
+
+not_ok : {r : Refusal} {X : Type 0} (a : Mosaic) → ◌≡◌ {A = Result Mosaic Refusal} (Err r) (Ok a) → X
+not_ok a e = cc
+
+module _ (new : Mosaic) where
+  unless_fault_is : (fine : Mosaic) (fault : Option Refusal) → unless_fault fault fine ≡ Ok new → (fault ≡ None) × (new ≡ fine)
+  unless_fault_is fine None e = (refl, ok_is fine new e)
+  unless_fault_is fine (Some r) e = not_ok new e
+
+  first_test : {X : Type 0} (r : Refusal) (later : Result Mosaic Refusal) (b : Bool) → cond (not b) (Err r) later ≡ Ok new → (b ≡ true → later ≡ Ok new → X) → X
+  first_test r later true e then_ = then_ refl e
+  first_test r later false e then_ = not_ok new e
+
+  first_test_not : {X : Type 0} (r : Refusal) (later : Result Mosaic Refusal) (b : Bool) → cond b (Err r) later ≡ Ok new → (b ≡ false → later ≡ Ok new → X) → X
+  first_test_not r later false e then_ = then_ refl e
+  first_test_not r later true e then_ = not_ok new e
+
+pub accepted_is : (capacity : ℕ) (m : Mosaic) (c : Command) (new : Mosaic) → effect capacity m c ≡ Ok new → IsMade capacity m c new
+accepted_is capacity m (Import c bytes) new e =
+    first_test new _ _ (nat_eq (length bytes) (2 * (m.side * m.side))) e (λ whole rest.
+    first_test_not new _ _ (is_present m c) rest (λ absent last.
+    first_test new _ _ (nat_lt (length m.tiles) capacity) last (λ room made.
+    (whole, absent, room, ok_is (added (record { corner = c; samples = samples_in bytes }) m) new made))))
+accepted_is capacity m (Remove c) new e =
+    first_test new _ _ (is_present m c) e (λ there made. ok_is (without c m) new made)
+accepted_is capacity m (Patch from to h) new e =
+    first_test new _ _ (is_height h) e (λ in_range rest.
+    first_test new _ _ (is_box m.side from to) rest (λ box last.
+    first_test new _ _ (has_void m from to) last (λ void made.
+    (in_range, ok_is (patched from to h m) new made))))
+accepted_is capacity m (Burn depth points) new e =
+    first_test new _ _ (is_depth depth) e (λ in_range rest.
+    first_test_not new _ _ (is_repeated points.items) rest (λ single made.
+    let sound = unless_fault_is new (burnt depth points.items m) (first_fault m depth points.items) made in
+    (in_range, sound.0, sound.1)))
+accepted_is capacity m (Wall h points) new e =
+    first_test new _ _ (is_height h) e (λ in_range rest.
+    first_test_not new _ _ (is_repeated points.items) rest (λ single made.
+    let sound = unless_fault_is new (walled h points.items m) (first_fault m (pos 0) points.items) made in
+    (in_range, sound.0, sound.1)))

@@ -1,0 +1,35 @@
+-- Laws of the effect of a command: what it makes, and what it leaves.
+use Rattle.std.specs.Prelude.{◌≡◌, ℕ, ◌<◌, ◌≤◌, IsTrue, IsFalse, Ok, List, All, Contains, length}
+use Rattle.lattice.specs.Corners.{Place, is_corner}
+use Rattle.lattice.specs.Mosaic.{Tile, Mosaic, IsMosaic}
+use Rattle.catalogue.specs.Tiles.{corners_of}
+use Rattle.edits.specs.declared.command.Command.{Command}
+use Rattle.edits.specs.declared.command.Command.TheVariants.{Import}
+use Rattle.edits.specs.Effect.{effect}
+use Rattle.edits.specs.Touched.{is_touched, stale_after}
+
+-- as a command can be given: a corner is that of a tile, and a byte has eight bits
+abbrev pub IsCommand : Command → Type 0
+IsCommand (Import c bytes) = IsTrue (is_corner c) × All (λ b. b < 256) bytes
+IsCommand _ = Unit {0}
+
+-- a command that isn't refused makes a mosaic
+abbrev pub CommandsMakeMosaics : Type 0
+CommandsMakeMosaics = (capacity : ℕ) (m : Mosaic) (c : Command) (new : Mosaic) → IsMosaic m → IsCommand c → effect capacity m c ≡ Ok new → IsMosaic new
+
+-- of the same side
+abbrev pub CommandsKeepTheSide : Type 0
+CommandsKeepTheSide = (capacity : ℕ) (m : Mosaic) (c : Command) (new : Mosaic) → effect capacity m c ≡ Ok new → new.side ≡ m.side
+
+-- of no more tiles than may be present, where there were no more
+abbrev pub CommandsKeepTheCapacity : Type 0
+CommandsKeepTheCapacity = (capacity : ℕ) (m : Mosaic) (c : Command) (new : Mosaic) → length m.tiles ≤ capacity → effect capacity m c ≡ Ok new → length new.tiles ≤ capacity
+
+-- a tile that the command doesn't touch stays as it is
+abbrev pub UntouchedTilesStay : Type 0
+UntouchedTilesStay = (capacity : ℕ) (m : Mosaic) (c : Command) (new : Mosaic) (t : Tile) → IsMosaic m → effect capacity m c ≡ Ok new →
+    Contains m.tiles t → IsFalse (is_touched m c t) → Contains new.tiles t
+
+-- each stale tile is present
+abbrev pub StaleTilesArePresent : Type 0
+StaleTilesArePresent = (m : Mosaic) (c : Command) (stale : List Place) (new : Mosaic) (p : Place) → Contains (stale_after m c stale new) p → Contains (corners_of new) p

@@ -1,0 +1,19 @@
+//! Laws of the effect of a command. Each function says its law in its contract, and does nothing.
+ghost use Rattle.edits.specs.EffectLaws.{CommandsMakeMosaics, CommandsKeepTheSide, CommandsKeepTheCapacity, UntouchedTilesStay, StaleTilesArePresent};
+
+/// A command that isn't refused makes a mosaic of the same side, of no more tiles than may be present.
+pub fn commands_make_mosaics()
+    ensures mosaic { CommandsMakeMosaics }
+    ensures side { CommandsKeepTheSide }
+    ensures capacity { CommandsKeepTheCapacity }
+{}
+
+/// A tile that a command doesn't touch stays as it is.
+pub fn untouched_tiles_stay()
+    ensures { UntouchedTilesStay }
+{}
+
+/// Each tile that is stale after a command is present.
+pub fn stale_tiles_are_present()
+    ensures { StaleTilesArePresent }
+{}
