@@ -2,7 +2,8 @@
 //!
 //! The layers above are generic over [`Disk`]. Of a disk that is honest its contract says what reads give, which images
 //! a stop now may leave, and which a stop at any moment since an earlier one might have left; of every disk, how many
-//! calls failed and how many writes were asked for. `specs/Stops.antt` has the words for whole runs of calls.
+//! calls failed and how many writes were asked for. `specs/Stops.antt` has the words for whole runs of calls, and
+//! `specs/FileCalls.antt` says what an honest file answers.
 #![tactic(auto)]
 
 mod disk;

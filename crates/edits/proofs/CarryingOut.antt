@@ -8,7 +8,7 @@ use Rattle.lattice.specs.Mosaic.{Tile, Mosaic, IsMosaic}
 use Rattle.catalogue.specs.Tiles.{corners_of, with_sample_in}
 use Rattle.edits.specs.declared.change.Change.{Change}
 use Rattle.edits.specs.declared.change.Change.TheVariants.{Add, Drop, Set}
-use Rattle.edits.specs.Changes.{CanBeMade, IsSet, StandAlone, changed, all_changed}
+use Rattle.edits.specs.Changes.{AddsNone, CanBeMade, IsSet, StandAlone, changed, all_changed}
 
 -- the changes were made up to those that are left
 pub record IsCarried (changes : List Change) (old now : Mosaic) (left : List Change) : Type 0 where
@@ -17,6 +17,7 @@ pub record IsCarried (changes : List Change) (old now : Mosaic) (left : List Cha
   pub alone : StandAlone left
   pub unchanged : (now ≡ old) ⊎ All IsSet left
   pub valid : IsMosaic old → IsMosaic now
+  pub sure : All AddsNone changes → All AddsNone left
 
 -- a sample more or less changes no corner
 same_corner : (c : Place) (i : ℕ) (s : ℤ) (t : Tile) → (with_sample_in c i s t).corner ≡ t.corner
@@ -35,6 +36,9 @@ no_more x (y ∷ rest) one = absurd (omega arith)
 pub carried_more : (changes : List Change) (old now next : Mosaic) (x : Change) (rest : List Change) → IsCarried changes old now (x ∷ rest) → next ≡ changed x now → IsMosaic next → IsCarried changes old next rest
 carried_more changes old now next x rest so is valid = by x so.alone (so.fits) is (ap (all_changed rest) is ∙ so.made)
   where
+    sure : All AddsNone changes → All AddsNone rest
+    sure none = All-tail AddsNone x rest (so.sure none)
+
     done : rest ≡ [] → (all_changed rest next ≡ all_changed changes old) → IsCarried changes old next rest
     done none made = record {
       made = made;
@@ -42,6 +46,7 @@ carried_more changes old now next x rest so is valid = by x so.alone (so.fits) i
       alone = inr sets;
       unchanged = inr sets;
       valid = λ _. valid;
+      sure = sure;
     }
       where
         sets : All IsSet rest
@@ -62,4 +67,5 @@ carried_more changes old now next x rest so is valid = by x so.alone (so.fits) i
           alone = inr later;
           unchanged = inr later;
           valid = λ _. valid;
+          sure = sure;
         }

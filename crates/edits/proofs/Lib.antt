@@ -2,6 +2,7 @@ mod Accepted
 mod Beside
 mod CarryingOut
 mod Counting
+mod FreshBlocks
 mod NamedCommands
 mod NewMosaics
 mod Once

@@ -2,18 +2,20 @@
 use Rattle.std.proofs.Common.{◌≡◌, ℕ, zero, suc, ◌+◌, ◌<◌, ℤ, Bool, true, false, cond, not, ◌||◌, List, [], ◌∷◌, length, map, refl, sym, ◌∙◌, ap, ap₂, subst, add-zero, zero-add, arith}
 use Rattle.std.specs.Prelude.{Ok, ◌-ℤ◌}
 use Rattle.std.specs.Int.{int_max}
-use Rattle.std.specs.List.{Contains, filter, list_any}
+use Rattle.std.specs.List.{Contains, filter, list_any, AllAdjacentBelow}
 use Rattle.std.proofs.lemmas.Bool.{false_from_ne_true, both_ways}
 use Rattle.std.proofs.lemmas.List.Elements.{All-contains}
 use Rattle.lattice.specs.Corners.{Place, is_before, same_place}
 use Rattle.lattice.specs.declared.point.Point.{Point}
-use Rattle.lattice.specs.Lattice.{point_of}
+use Rattle.lattice.specs.Lattice.{IsBefore, point_of}
 use Rattle.lattice.specs.Height.{height_of}
 use Rattle.lattice.specs.Ground.{metres}
 use Rattle.lattice.specs.Mosaic.{Tile, Mosaic, IsTile, IsMosaic}
 use Rattle.hgt.specs.Bytes.{samples_in}
 use Rattle.catalogue.specs.Tiles.{corners_of, with_tile, added, without}
 use Rattle.catalogue.proofs.Places.{same_comm}
+use Rattle.catalogue.proofs.Presence.{corners_rise}
+use Rattle.catalogue.proofs.Rising.{adjacent_from, rising-filter}
 use Rattle.edits.specs.declared.command.Command.{Command}
 use Rattle.edits.specs.declared.command.Command.TheVariants.{Import, Remove, Patch, Burn, Wall}
 use Rattle.edits.specs.Effect.{effect, changed_from, edited, is_named, has_void_from, patched, burnt, walled}
@@ -56,17 +58,22 @@ map_keeps g t (u ∷ ts) same (zero, below, here) = (0, omega arith, ap g here �
 map_keeps g t (u ∷ ts) same (suc k, below, here) = let later = map_keeps g t ts same (k, omega arith, here) in (suc later.0, omega (arith, later.1), later.2)
 
 -- a tile none of whose points passes the test
-edited_keeps : (m : Mosaic) (test : Point → Bool) (sample : Point → ℤ → ℤ) (t : Tile) → IsTile m.side t → (HasOne m test t → ⊥) → Contains m.tiles t →
-    Contains (edited (λ p s. cond (test p) (sample p s) s) m).tiles t
-edited_keeps m test sample t tile none there =
-    map_keeps (λ u. record { corner = u.corner; samples = changed_from (λ e s. cond (test (point_of m.side u.corner e)) (sample (point_of m.side u.corner e) s) s) 0 u.samples }) t m.tiles
-    (ap (λ (l : List ℤ). record { corner = t.corner; samples = l }) (unchanged (λ e s. cond (test (point_of m.side t.corner e)) (sample (point_of m.side t.corner e) s) s) 0 t.samples same)) there
+pub edit_same : (m : Mosaic) (test : Point → Bool) (sample : Point → ℤ → ℤ) (t : Tile) → IsTile m.side t → (HasOne m test t → ⊥) →
+    ◌≡◌ {A = Tile} (record { corner = t.corner; samples = changed_from (λ e s. cond (test (point_of m.side t.corner e)) (sample (point_of m.side t.corner e) s) s) 0 t.samples }) t
+edit_same m test sample t tile none =
+    ap (λ (l : List ℤ). record { corner = t.corner; samples = l }) (unchanged (λ e s. cond (test (point_of m.side t.corner e)) (sample (point_of m.side t.corner e) s) s) 0 t.samples same)
   where
     same : (k : ℕ) (s : ℤ) → k < length t.samples → cond (test (point_of m.side t.corner (0 + k))) (sample (point_of m.side t.corner (0 + k)) s) s ≡ s
     same k s below =
         let p = point_of m.side t.corner (0 + k) in
         let fails : test p ≡ false = false_from_ne_true (test p) (λ passes. none (k, (omega (arith, tile.whole), ap (λ i. test (point_of m.side t.corner i)) (sym (zero-add k)) ∙ passes))) in
         ap (λ b. cond b (sample p s) s) fails
+
+edited_keeps : (m : Mosaic) (test : Point → Bool) (sample : Point → ℤ → ℤ) (t : Tile) → IsTile m.side t → (HasOne m test t → ⊥) → Contains m.tiles t →
+    Contains (edited (λ p s. cond (test p) (sample p s) s) m).tiles t
+edited_keeps m test sample t tile none there =
+    map_keeps (λ u. record { corner = u.corner; samples = changed_from (λ e s. cond (test (point_of m.side u.corner e)) (sample (point_of m.side u.corner e) s) s) 0 u.samples }) t m.tiles
+    (edit_same m test sample t tile none) there
 
 pub untouched_stays : (capacity : ℕ) (m : Mosaic) (c : Command) (new : Mosaic) (t : Tile) → IsMosaic m → effect capacity m c ≡ Ok new → Contains m.tiles t → is_touched m c t ≡ false → Contains new.tiles t
 untouched_stays capacity m c new t valid made there untouched = by c untouched (accepted_is capacity m c new made)
@@ -102,3 +109,8 @@ filtered_among test (q ∷ ps) p there = by (test q) there (filtered_among test 
 
 pub stale_is_present : (m : Mosaic) (c : Command) (stale : List Place) (new : Mosaic) (p : Place) → Contains (stale_after m c stale new) p → Contains (corners_of new) p
 stale_is_present m c stale new p there = filtered_among (λ q. list_any (same_place q) stale || goes_stale m c q) (corners_of new) p there
+
+pub stale_in_order : (m : Mosaic) (c : Command) (stale : List Place) (new : Mosaic) → IsMosaic new → AllAdjacentBelow IsBefore (stale_after m c stale new) (length (stale_after m c stale new))
+stale_in_order m c stale new valid =
+    let test = λ (p : Place). list_any (same_place p) stale || goes_stale m c p in
+    adjacent_from (λ (p : Place). p) (filter test (corners_of new)) (rising-filter (λ (p : Place). p) test (corners_of new) (corners_rise new valid))

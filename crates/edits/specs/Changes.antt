@@ -28,6 +28,11 @@ abbrev pub IsSet : Change → Type 0
 IsSet (Set c i s) = Unit {0}
 IsSet _ = ⊥
 
+-- the change adds no tile
+abbrev pub AddsNone : Change → Type 0
+AddsNone (Add c samples) = ⊥
+AddsNone _ = Unit {0}
+
 -- the change sets a sample of a present tile
 abbrev pub CanBeSet : ℕ → List Place → Change → Type 0
 CanBeSet n corners (Set c i s) = Contains corners c × (i < n * n)

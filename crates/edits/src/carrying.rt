@@ -3,20 +3,21 @@ ghost use Rattle.std.specs.Prelude.{◌≡◌, All, IsOk, IfErr, OnOk, OnErr};
 ghost use Rattle.lattice.specs.Mosaic.{IsMosaic};
 ghost use Rattle.lattice.specs.declared.refusal.Refusal.TheVariants.{NoMemory};
 ghost use Rattle.catalogue.specs.Tiles.{corners_of};
-ghost use Rattle.edits.specs.Changes.{CanBeMade, IsSet, StandAlone, changed, all_changed};
+ghost use Rattle.edits.specs.Changes.{AddsNone, CanBeMade, StandAlone, changed, all_changed};
 
 use crate::Change;
 use catalogue::Table;
 use lattice::Refusal;
 
 /// Makes the changes in the table, one after another: what `plan` answers for the table as it stands. A tile that comes
-/// in may find no memory, and then the table stays as it was; removals and samples take none.
+/// in may find no memory. That is `NoMemory`, and the table stays as it was. Removals and samples take none.
 pub fn carry_out(changes: Vec<Change>, table: &mut Table) -> Result<(), Refusal>
     requires fits { All (CanBeMade table.old.side (corners_of table.old)) changes.items }
     requires alone { StandAlone changes.items }
     ensures made { OnOk result (table.new ≡ all_changed changes.items table.old) }
     ensures refusal { IfErr result (λ r. r ≡ NoMemory) }
     ensures unchanged { OnErr result (table.new ≡ table.old) }
+    ensures sure { All AddsNone changes.items → IsOk result }
     ensures valid { IsMosaic table.old → IsMosaic table.new }
 {
     for change in changes {
@@ -31,7 +32,7 @@ fn make(change: Change, table: &mut Table) -> Result<(), Refusal>
     ensures made { OnOk result (table.new ≡ changed change table.old) }
     ensures refusal { IfErr result (λ r. r ≡ NoMemory) }
     ensures unchanged { OnErr result (table.new ≡ table.old) }
-    ensures sure { IsSet change → IsOk result }
+    ensures sure { AddsNone change → IsOk result }
     ensures valid { IsMosaic table.new }
 {
     match change {

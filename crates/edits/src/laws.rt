@@ -1,5 +1,5 @@
 //! Laws of the effect of a command. Each function says its law in its contract, and does nothing.
-ghost use Rattle.edits.specs.EffectLaws.{CommandsMakeMosaics, CommandsKeepTheSide, CommandsKeepTheCapacity, UntouchedTilesStay, StaleTilesArePresent};
+ghost use Rattle.edits.specs.EffectLaws.{CommandsMakeMosaics, CommandsKeepTheSide, CommandsKeepTheCapacity, UntouchedTilesStay, StaleTilesArePresent, StaleTilesAreInOrder, FreshHeightsStay};
 
 /// A command that isn't refused makes a mosaic of the same side, of no more tiles than may be present.
 pub fn commands_make_mosaics()
@@ -13,7 +13,13 @@ pub fn untouched_tiles_stay()
     ensures { UntouchedTilesStay }
 {}
 
-/// Each tile that is stale after a command is present.
+/// The tiles that are stale after a command are present ones, in the order of tiles.
 pub fn stale_tiles_are_present()
-    ensures { StaleTilesArePresent }
+    ensures present { StaleTilesArePresent }
+    ensures in_order { StaleTilesAreInOrder }
+{}
+
+/// A tile that a command doesn't make stale keeps the heights of its points.
+pub fn fresh_heights_stay()
+    ensures { FreshHeightsStay }
 {}

@@ -21,6 +21,8 @@ mod tiles;
 pub use carrying::carry_out;
 pub use change::{Change, TileSamples};
 pub use command::{Bytes, Command};
-pub use laws::{commands_make_mosaics, stale_tiles_are_present, untouched_tiles_stay};
+pub use laws::{
+    commands_make_mosaics, fresh_heights_stay, stale_tiles_are_present, untouched_tiles_stay,
+};
 pub use planning::plan;
 pub use staleness::stale_after;

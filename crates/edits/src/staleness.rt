@@ -1,5 +1,5 @@
 //! The tiles that changes leave stale: what was kept of their surroundings no longer holds.
-ghost use Rattle.std.specs.Prelude.{◌≡◌, ◌≤◌, ◌||◌, Bool, filter, position, IfErr, IfOk, OnOk};
+ghost use Rattle.std.specs.Prelude.{◌≡◌, ◌||◌, Bool, filter, position, IfErr, IfOk, OnOk};
 ghost use Rattle.std.specs.List.{list_any};
 ghost use Rattle.lattice.specs.Corners.{Place, is_before, same_place};
 ghost use Rattle.lattice.specs.declared.refusal.Refusal.TheVariants.{NoMemory};
@@ -16,7 +16,7 @@ use std::alloc::{AllocError, Global};
 
 /// The stale tiles once the changes are made: of those that are present then, the stale ones so far, those that a change
 /// is of, and their neighbours, in order. The changes are what `plan` answers for the table as it stands, which is left
-/// as it is.
+/// as it is. `NoMemory` is the only refusal.
 pub fn stale_after(
     alloc: Global,
     table: &Table,

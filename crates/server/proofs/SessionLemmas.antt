@@ -1,5 +1,5 @@
 -- Items that are heard one after another, and what is written for them.
-use Rattle.std.proofs.Common.{arith, rules, ◌≡◌, ◌≢◌, ℕ, ◌≤◌, ◌<◌, ◌+◌, List, [], ◌∷◌, ◌++◌, take, length, Option, Some, None, refl, sym, ap, ◌∙◌, subst, append_assoc, inl, inr, ◌⊎◌}
+use Rattle.std.proofs.Common.{◌≡◌, ◌≢◌, ℕ, List, [], ◌∷◌, ◌++◌, length, Option, Some, None, refl, sym, ap, ◌∙◌, subst, append_assoc, inl, inr, ◌⊎◌}
 use Rattle.std.specs.Prelude.{IfSome, flat_map, All, Result, Ok, Err, Vec, option_map, nat_le, if◌then◌else◌, Bool, true, false}
 use Rattle.std.specs.declared.alloc.Global.{Global}
 use Rattle.std.specs.Io.KnownBytes.{Appends, Consumes, IsAtEnd, prepend_known}
@@ -18,7 +18,7 @@ use Rattle.server.specs.declared.source.Extent.TheVariants.{Whole, Cut}
 use Rattle.server.specs.Grammar.{Asked, AskQuit}
 use Rattle.server.specs.Lines.{IsLine, line_feed, kept, Reaches}
 use Rattle.server.specs.Requests.{asked, IsRequestOf}
-use Rattle.server.specs.Items.{Heard, spelled, AsksFor, payload_len, IsItem, GoesOn, IsBegun}
+use Rattle.server.specs.Items.{Heard, spelled, AsksFor, payload_len, IsItem, GoesOn}
 use Rattle.server.specs.Answers.{Replied}
 use Rattle.server.specs.Served.{Replies, Ends, Served, Outcome}
 use Rattle.server.specs.Session.{Stored, Holds, Steps, SoFar}

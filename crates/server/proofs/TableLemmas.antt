@@ -1,27 +1,38 @@
--- What an import makes of a mosaic in memory.
-use Rattle.std.proofs.Common.{◌≡◌, ℕ, zero, suc, ◌+◌, ◌*◌, ◌<◌, ◌≤◌, ℤ, pos, ◌-ℤ◌, Bool, true, false, cond, ◌||◌, ◌&&◌, IsTrue, List, [], ◌∷◌, length, map, filter, nat_eq, nat_lt, nat_abs, get_or, refl, sym, ◌∙◌, ap, ap₂, subst, arith}
-use Rattle.std.specs.Prelude.{Ok, Err}
+-- What a command makes of a mosaic in memory.
+use Rattle.std.proofs.Common.{◌≡◌, ℕ, zero, suc, ◌+◌, ◌*◌, ◌<◌, ℤ, pos, ◌-ℤ◌, Bool, true, false, cond, ◌||◌, ◌&&◌, IsTrue, IsFalse, List, [], ◌∷◌, length, map, filter, nat_eq, nat_lt, nat_abs, get_or, refl, sym, ◌∙◌, ap, ap₂, subst, arith, not, inl, inr, ◌⊎◌}
+use Rattle.std.specs.Prelude.{Result, Ok, Err, Option, Some, None, if◌then◌else◌}
+use Rattle.std.specs.Int.{int_max}
 use Rattle.std.specs.List.{All, list_any}
-use Rattle.std.proofs.lemmas.Bool.{or_left, or_right, eq-eqb, ne_eqb, lt-ltb, le-ltb, and_from}
+use Rattle.std.proofs.lemmas.Bool.{or_left, or_right, or_cases, both_ways}
 use Rattle.std.proofs.lemmas.Int.{ints}
 use Rattle.std.proofs.lemmas.List.Elements.{All-nil, All-cons, All-head, All-tail}
 use Rattle.lattice.specs.Corners.{Place, is_before, same_place}
 use Rattle.lattice.specs.Mosaic.{Tile, Mosaic, is_present}
-use Rattle.lattice.specs.declared.refusal.Refusal.TheVariants.{BadLength, TileThere, Full}
+use Rattle.lattice.specs.Lattice.{point_of}
+use Rattle.lattice.specs.Height.{height_of}
+use Rattle.lattice.specs.Ground.{metres}
+use Rattle.lattice.specs.declared.point.Point.{Point}
+use Rattle.lattice.specs.declared.refusal.Refusal.{Refusal}
+use Rattle.lattice.specs.declared.refusal.Refusal.TheVariants.{BadLength, TileThere, NoTile, Full, NothingVoid, BadHeight, BadDepth, BadBox, Repeated, Device, NoMemory, Failed, Damaged, Worn}
 use Rattle.hgt.specs.Bytes.{samples_in}
-use Rattle.catalogue.specs.Tiles.{with_tile, added, corners_of}
+use Rattle.catalogue.specs.Tiles.{with_tile, added, without, with_sample, corners_of}
 use Rattle.catalogue.proofs.Places.{same_from}
-use Rattle.edits.specs.declared.command.Command.TheVariants.{Import}
-use Rattle.edits.specs.Effect.{effect}
-use Rattle.edits.specs.Touched.{are_neighbours, stale_after}
-use Rattle.edits.specs.State.{Contents, State, made_by}
-use Rattle.edits.specs.Outcomes.{Accepts, IsWorn, last_number}
-use Rattle.server.specs.TableState.{Held, held_of, contents_of, working, IsKept}
+use Rattle.edits.specs.declared.command.Command.{Command}
+use Rattle.edits.specs.declared.command.Command.TheVariants.{Import, Remove, Patch, Burn, Wall}
+use Rattle.edits.specs.declared.change.Change.{Change}
+use Rattle.edits.specs.declared.change.Change.TheVariants.{Add, Drop, Set}
+use Rattle.edits.specs.Changes.{all_changed}
+use Rattle.edits.specs.Effect.{effect, edited, changed_from, is_in_box, is_void_at, is_named, patched, burnt, walled, unless_fault, first_fault, is_height, is_depth, is_box, has_void, is_repeated}
+use Rattle.edits.specs.Plans.{is_own, ends_any, may_end, reads_of}
+use Rattle.edits.specs.Touched.{are_neighbours, goes_stale, stale_after}
+use Rattle.edits.specs.State.{State, made_by}
+use Rattle.edits.specs.Outcomes.{Stays, Accepts, IsWorn, AppliesNot, last_number}
+use Rattle.server.specs.TableState.{Held, held_of, contents_of, working}
 
 abbrev corner_of : Tile → Place
 corner_of t = t.corner
 
--- one more tile
+-- what holds of each corner holds of each that is left, or of each and one more
 
 with_tile_each : (P : Place → Type 0) (t : Tile) (ts : List Tile) → P t.corner → All P (map corner_of ts) → All P (map corner_of (with_tile t ts))
 with_tile_each P t [] h each = All-cons P t.corner [] h (All-nil P)
@@ -30,12 +41,29 @@ with_tile_each P t (u ∷ us) h each = elim (is_before t.corner u.corner) as (λ
   | false ↦ All-cons P u.corner (map corner_of (with_tile t us)) (All-head P u.corner (map corner_of us) each) (with_tile_each P t us h (All-tail P u.corner (map corner_of us) each))
 ]
 
-pub with_tile_length : (t : Tile) (ts : List Tile) → length (with_tile t ts) ≡ length ts + 1
-with_tile_length t [] = refl
-with_tile_length t (u ∷ us) = elim (is_before t.corner u.corner) as (λ b. length (cond b (t ∷ (u ∷ us)) (u ∷ with_tile t us)) ≡ length (u ∷ us) + 1) [
-  | true ↦ omega arith
-  | false ↦ omega (arith, with_tile_length t us)
-]
+filter_each : (P : Place → Type 0) (f : Tile → Bool) (ts : List Tile) → All P (map corner_of ts) → All P (map corner_of (filter f ts))
+filter_each P f [] each = each
+filter_each P f (t ∷ ts) each =
+    let rest = filter_each P f ts (All-tail P t.corner (map corner_of ts) each) in
+    elim (f t) as (λ b. All P (map corner_of (cond b (t ∷ filter f ts) (filter f ts)))) [
+      | true ↦ All-cons P t.corner (map corner_of (filter f ts)) (All-head P t.corner (map corner_of ts) each) rest
+      | false ↦ rest
+    ]
+
+-- an edit changes no corner
+same_corners : (g : Tile → List ℤ) (ts : List Tile) → map corner_of (map (λ t. record { corner = t.corner; samples = g t }) ts) ≡ map corner_of ts
+same_corners g [] = refl
+same_corners g (t ∷ ts) = ap (λ (cs : List Place). t.corner ∷ cs) (same_corners g ts)
+
+edited_corners : (f : Point → ℤ → ℤ) (m : Mosaic) → corners_of (edited f m) ≡ corners_of m
+edited_corners f m = same_corners (λ t. changed_from (λ e s. f (point_of m.side t.corner e) s) 0 t.samples) m.tiles
+
+-- changes keep the side
+pub all_changed_side : (changes : List Change) (m : Mosaic) → (all_changed changes m).side ≡ m.side
+all_changed_side [] m = refl
+all_changed_side (Add c samples ∷ rest) m = all_changed_side rest (added (record { corner = c; samples = samples }) m)
+all_changed_side (Drop c ∷ rest) m = all_changed_side rest (without c m)
+all_changed_side (Set c i s ∷ rest) m = all_changed_side rest (with_sample c i s m)
 
 -- all tiles are stale, and stay so
 
@@ -55,65 +83,123 @@ no_way z = let e : z -ℤ z ≡ pos 0 = omega (arith, ints) in rw e refl
 near_itself : (c : Place) → are_neighbours c c ≡ true
 near_itself c = rw (no_way c.lat, no_way c.lon) refl
 
-pub all_stale : (m : Mosaic) (t : Tile) (bytes : List ℕ) → stale_after m (Import t.corner bytes) (corners_of m) (added t m) ≡ corners_of (added t m)
-all_stale m t bytes =
-    filter_same (λ p. list_any (same_place p) (corners_of m) || are_neighbours t.corner p) (corners_of (added t m))
-    (with_tile_each (λ p. (list_any (same_place p) (corners_of m) || are_neighbours t.corner p) ≡ true) t m.tiles
-    (or_right (list_any (same_place t.corner) (corners_of m)) (are_neighbours t.corner t.corner) (near_itself t.corner))
-    (λ k d within. or_left (list_any (same_place (get_or (corners_of m) k d)) (corners_of m)) (are_neighbours t.corner (get_or (corners_of m) k d)) (listed_at (corners_of m) k d within)))
+-- tests that let through
 
--- the effect of an import by what the code asks
+passes : (b : Bool) (r : Refusal) (rest : Result Mosaic Refusal) (new : Mosaic) → (if b then Err r else rest) ≡ Ok new → rest ≡ Ok new
+passes true r rest new e = cc
+passes false r rest new e = e
 
-module _ (capacity : ℕ) (m : Mosaic) (c : Place) (bytes : List ℕ) where
-  pub import_long : (length bytes ≡ 2 * (m.side * m.side) → ⊥) → effect capacity m (Import c bytes) ≡ Err BadLength
-  import_long other = rw (ne_eqb (length bytes) (2 * (m.side * m.side)) other) refl
+made_is : (made new : Mosaic) (r : Result Mosaic Refusal) → r ≡ Ok made → r ≡ Ok new → made ≡ new
+made_is made new r f e = cc
 
-  module _ (whole : length bytes ≡ 2 * (m.side * m.side)) where
-    whole_is : nat_eq (length bytes) (2 * (m.side * m.side)) ≡ true
-    whole_is = eq-eqb (length bytes) (2 * (m.side * m.side)) whole
+no_fault : (f : Option Refusal) (made new : Mosaic) → unless_fault f made ≡ Ok new → made ≡ new
+no_fault None made new e = cc
+no_fault (Some r) made new e = cc
 
-    pub import_there : is_present m c ≡ true → effect capacity m (Import c bytes) ≡ Err TileThere
-    import_there there = rw (whole_is, there) refl
+module _ (a b c : Bool) (p q r : Refusal) (made new : Mosaic) where
+  passes_three : (if a then Err p else (if b then Err q else (if c then Err r else Ok made))) ≡ Ok new → made ≡ new
+  passes_three e = made_is made new (Ok made) refl (passes c r (Ok made) new (passes b q (if c then Err r else Ok made) new (passes a p (if b then Err q else (if c then Err r else Ok made)) new e)))
 
-    pub import_full : is_present m c ≡ false → capacity ≤ length m.tiles → effect capacity m (Import c bytes) ≡ Err Full
-    import_full absent full = rw (whole_is, absent, le-ltb (length m.tiles) capacity full) refl
+module _ (a b : Bool) (p q : Refusal) (f : Option Refusal) (made new : Mosaic) where
+  passes_faults : (if a then Err p else (if b then Err q else unless_fault f made)) ≡ Ok new → made ≡ new
+  passes_faults e = no_fault f made new (passes b q (unless_fault f made) new (passes a p (if b then Err q else unless_fault f made) new e))
 
-    pub import_made : is_present m c ≡ false → length m.tiles < capacity → effect capacity m (Import c bytes) ≡ Ok (added (record { corner = c; samples = samples_in bytes }) m)
-    import_made absent room = rw (whole_is, absent, lt-ltb (length m.tiles) capacity room) refl
+module _ (m : Mosaic) (c : Command) where
+  abbrev stays_stale : Place → Type 0
+  stays_stale p = (list_any (same_place p) (corners_of m) || goes_stale m c p) ≡ true
 
--- what an import leaves, where it isn't refused by its own tests
-module _ (held : Held) (m : Mosaic) (capacity tiles k g : ℕ) (view : held_of capacity m k g ≡ held) (kept : IsKept m tiles k g) (c : Place) (bytes : List ℕ)
-    (whole : length bytes ≡ 2 * (m.side * m.side)) (absent : is_present m c ≡ false) (room : tiles < capacity) (s : State) (at : s ≡ working held.contents) where
-  abbrev tile : Tile
-  tile = record { corner = c; samples = samples_in bytes }
+  old_stale : All stays_stale (corners_of m)
+  old_stale k d within = or_left (list_any (same_place (get_or (corners_of m) k d)) (corners_of m)) (goes_stale m c (get_or (corners_of m) k d)) (listed_at (corners_of m) k d within)
 
+  abbrev AllStale : Mosaic → Type 0
+  AllStale new = All stays_stale (corners_of new)
+
+  same_stale : (made new : Mosaic) → corners_of made ≡ corners_of m → made ≡ new → AllStale new
+  same_stale made new same is = subst (λ (cs : List Place). All stays_stale cs) (sym same ∙ ap corners_of is) old_stale
+
+new_stale : (capacity : ℕ) (m new : Mosaic) (c : Command) → effect capacity m c ≡ Ok new → AllStale m c new
+new_stale capacity m new (Import c bytes) e =
+    let tile : Tile = record { corner = c; samples = samples_in bytes } in
+    subst (AllStale m (Import c bytes))
+    (passes_three (not (nat_eq (length bytes) (2 * (m.side * m.side)))) (is_present m c) (not (nat_lt (length m.tiles) capacity)) BadLength TileThere Full (added tile m) new e)
+    (with_tile_each (stays_stale m (Import c bytes)) tile m.tiles (or_right (list_any (same_place c) (corners_of m)) (are_neighbours c c) (near_itself c)) (old_stale m (Import c bytes)))
+new_stale capacity m new (Remove c) e =
+    subst (AllStale m (Remove c)) (made_is (without c m) new (Ok (without c m)) refl (passes (not (is_present m c)) NoTile (Ok (without c m)) new e))
+    (filter_each (stays_stale m (Remove c)) (λ t. not (same_place t.corner c)) m.tiles (old_stale m (Remove c)))
+new_stale capacity m new (Patch from to h) e =
+    same_stale m (Patch from to h) (patched from to h m) new (edited_corners (λ p s. if is_in_box from to p && is_void_at m p then h else s) m)
+    (passes_three (not (is_height h)) (not (is_box m.side from to)) (not (has_void m from to)) BadHeight BadBox NothingVoid (patched from to h m) new e)
+new_stale capacity m new (Burn depth points) e =
+    same_stale m (Burn depth points) (burnt depth points.items m) new (edited_corners (λ p s. if is_named points.items p then metres (height_of m p) -ℤ depth else s) m)
+    (passes_faults (not (is_depth depth)) (is_repeated points.items) BadDepth Repeated (first_fault m depth points.items) (burnt depth points.items m) new e)
+new_stale capacity m new (Wall h points) e =
+    same_stale m (Wall h points) (walled h points.items m) new (edited_corners (λ p s. if is_named points.items p then int_max (metres (height_of m p)) h else s) m)
+    (passes_faults (not (is_height h)) (is_repeated points.items) BadHeight Repeated (first_fault m (pos 0) points.items) (walled h points.items m) new e)
+
+pub all_stale : (capacity : ℕ) (m new : Mosaic) (c : Command) → effect capacity m c ≡ Ok new → stale_after m c (corners_of m) new ≡ corners_of new
+all_stale capacity m new c e =
+    filter_same (λ p. list_any (same_place p) (corners_of m) || goes_stale m c p) (corners_of new) (new_stale capacity m new c e)
+
+-- a plan's refusal, where no read is refused
+
+not_worn : (c : Command) → IsTrue (may_end c Worn) → ⊥
+not_worn (Import c bytes) e = both_ways false refl e
+not_worn (Remove c) e = both_ways false refl e
+not_worn (Patch from to h) e = both_ways false refl e
+not_worn (Burn depth points) e = both_ways false refl e
+not_worn (Wall h points) e = both_ways false refl e
+
+own_from : (c : Command) (r : Refusal) → ends_any r ≡ false → IsTrue (may_end c r) → IsTrue (is_own c r)
+own_from c r other e = by (or_cases (is_own c r) (ends_any r) e)
+  where
+    by : (is_own c r ≡ true) ⊎ (ends_any r ≡ true) → IsTrue (is_own c r)
+    by (inl own) = own
+    by (inr ends) = absurd (both_ways (ends_any r) other ends)
+
+applies_not : (capacity : ℕ) (s : State) (c : Command) (r : Refusal) → IsFalse s.failed → IsTrue (may_end c r) → reads_of {T = Unit {0}} (Err r) ≡ Ok tt
+    → (IsTrue (is_own c r) → effect capacity s.contents.mosaic c ≡ Err r) → AppliesNot capacity s c r s
+applies_not capacity s c Device working may read refused = cc
+applies_not capacity s c Failed working may read refused = cc
+applies_not capacity s c Damaged working may read refused = cc
+applies_not capacity s c NoMemory working may read refused = record { working = working; same = refl }
+applies_not capacity s c Worn working may read refused = absurd (not_worn c may)
+applies_not capacity s c r working may read refused =
+    record { stays = record { working = working; same = refl }; refused = refused (own_from c r refl may) }
+
+-- what a call of the mosaic that is held leaves
+module _ (held : Held) (m : Mosaic) (capacity k g : ℕ) (view : held_of capacity m k g ≡ held) (c : Command) (s : State) (at : s ≡ working held.contents) where
   now : s ≡ working (contents_of m k g)
   now = at ∙ ap (λ (h : Held). working h.contents) (sym view)
 
-  made : effect held.capacity s.contents.mosaic (Import c bytes) ≡ Ok (added tile m)
-  made =
-      ap₂ (λ (n : ℕ) (z : Mosaic). effect n z (Import c bytes)) (ap (λ (h : Held). h.capacity) (sym view)) (ap (λ (z : State). z.contents.mosaic) now)
-      ∙ import_made capacity m c bytes whole absent (omega (arith, room, kept.counted))
+  not_failed : IsFalse s.failed
+  not_failed = ap (λ (z : State). z.failed) now
 
-  pub worn : g ≡ last_number → (t : State) × ((t ≡ working held.contents) × IsWorn held.capacity s (Import c bytes) t)
-  worn full =
-      (s, (at, record { stays = record { working = ap (λ (z : State). z.failed) now; same = refl }; accepted = (added tile m, made); worn = ap (λ (z : State). z.contents.number) now ∙ full }))
+  effect_is : (r : Result Mosaic Refusal) → effect capacity m c ≡ r → effect held.capacity s.contents.mosaic c ≡ r
+  effect_is r e =
+      ap₂ (λ (n : ℕ) (z : Mosaic). effect n z c) (ap (λ (h : Held). h.capacity) (sym view)) (ap (λ (z : State). z.contents.mosaic) now) ∙ e
 
-  pub accepted : (new : Mosaic) → new ≡ added tile m → g < last_number → (t : State) × ((t ≡ working (contents_of new (k + 1) (g + 1))) × Accepts held.capacity s (Import c bytes) (k + 1) t)
-  accepted new is below =
-      let same : working (contents_of new (k + 1) (g + 1)) ≡ record s { contents = made_by s.contents (Import c bytes) (added tile m) } =
-      ap (λ (x : Mosaic). working (contents_of x (k + 1) (g + 1))) is
-      ∙ ap (λ (l : List Place). working (record { mosaic = added tile m; count = k + 1; number = g + 1; stale = l })) (sym (all_stale m tile bytes))
-      ∙ ap (λ (z : State). record z { contents = made_by z.contents (Import c bytes) (added tile m) }) (sym now) in
-      let number : s.contents.number ≡ g = ap (λ (z : State). z.contents.number) now in (
-        working (contents_of new (k + 1) (g + 1)),
-        (
-          refl,
-          record {
-            working = ap (λ (z : State). z.failed) now;
-            effect_is = (added tile m, (made, same));
-            counted = ap (λ (z : State). z.contents.count + 1) (sym now);
-            room = omega (arith, below, number);
-          },
-        ),
-      )
+  -- the state that it was in, where the mosaic stays
+  pub unchanged : (new : Mosaic) → new ≡ m → s ≡ working (contents_of new k g)
+  unchanged new same = now ∙ ap (λ (x : Mosaic). working (contents_of x k g)) (sym same)
+
+  pub stays : Stays s s
+  stays = record { working = not_failed; same = refl }
+
+  pub refused : (r : Refusal) → IsTrue (may_end c r) → reads_of {T = Unit {0}} (Err r) ≡ Ok tt → (IsTrue (is_own c r) → effect capacity m c ≡ Err r) → AppliesNot held.capacity s c r s
+  refused r may read own = applies_not held.capacity s c r not_failed may read (λ is. effect_is (Err r) (own is))
+
+  pub worn : (new : Mosaic) → effect capacity m c ≡ Ok new → g ≡ last_number → IsWorn held.capacity s c s
+  worn new e full = record { stays = stays; accepted = (new, effect_is (Ok new) e); worn = ap (λ (z : State). z.contents.number) now ∙ full }
+
+  pub accepted : (new : Mosaic) → effect capacity m c ≡ Ok new → g < last_number → Accepts held.capacity s c (k + 1) (working (contents_of new (k + 1) (g + 1)))
+  accepted new e below =
+      let same : working (contents_of new (k + 1) (g + 1)) ≡ record s { contents = made_by s.contents c new } =
+      ap (λ (l : List Place). working (record { mosaic = new; count = k + 1; number = g + 1; stale = l })) (sym (all_stale capacity m new c e))
+      ∙ ap (λ (z : State). record z { contents = made_by z.contents c new }) (sym now) in
+      let number : s.contents.number ≡ g = ap (λ (z : State). z.contents.number) now in
+      record {
+        working = not_failed;
+        effect_is = (new, (effect_is (Ok new) e, same));
+        counted = ap (λ (z : State). z.contents.count + 1) (sym now);
+        room = omega (arith, below, number);
+      }

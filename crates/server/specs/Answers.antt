@@ -10,12 +10,13 @@ use Rattle.lattice.specs.declared.refusal.Refusal.{Refusal}
 use Rattle.lattice.specs.declared.refusal.Refusal.TheVariants.{BadLine, BadName, BadLength, NoMemory}
 use Rattle.lattice.specs.declared.refusal.Refusal.TheVariants as refusal
 use Rattle.hgt.specs.Names.{IsName}
-use Rattle.edits.specs.declared.command.Command.TheVariants.{Import}
-use Rattle.edits.specs.Outcomes.{Applies, Elevates, Exports}
+use Rattle.edits.specs.declared.command.Command.{Command}
+use Rattle.edits.specs.declared.command.Command.TheVariants.{Import, Remove, Patch, Burn, Wall}
+use Rattle.edits.specs.Outcomes.{Applies, Elevates, Exports, Lists}
 use Rattle.edits.specs.State.{State}
-use Rattle.server.specs.Grammar.{Asked, AskImport, AskElevation, AskExport, AskCount, AskQuit}
+use Rattle.server.specs.Grammar.{Asked, AskImport, AskRemove, AskPatch, AskBurn, AskWall, AskElevation, AskExport, AskTiles, AskCount, AskQuit}
 use Rattle.server.specs.Items.{Heard}
-use Rattle.server.specs.Replies.{ok_line, done_text, refusal_text}
+use Rattle.server.specs.Replies.{ok_line, done_text, names_line, refusal_text}
 
 -- a command's number, or its refusal
 abbrev pub command_text : Result ℕ Refusal → List ℕ
@@ -34,10 +35,15 @@ abbrev pub bytes_text : Result (List ℕ) Refusal → List ℕ
 bytes_text (Ok bytes) = ok_line (decimal (length bytes)) ++ bytes
 bytes_text (Err r) = refusal_text r
 
--- the bytes of a vector, or the refusal
-abbrev pub bytes_in : {A : Type 0} → Result (Vec ℕ A) Refusal → Result (List ℕ) Refusal
-bytes_in (Ok v) = Ok v.items
-bytes_in (Err r) = Err r
+-- the corners' names, or a refusal
+abbrev pub names_text : Result (List Place) Refusal → List ℕ
+names_text (Ok corners) = names_line corners
+names_text (Err r) = refusal_text r
+
+-- the items of a vector, or the refusal
+abbrev pub items_in : {T A : Type 0} → Result (Vec T A) Refusal → Result (List T) Refusal
+items_in (Ok v) = Ok v.items
+items_in (Err r) = Err r
 
 -- the server itself refuses, and nothing changes
 abbrev pub Refused : Refusal → State → List ℕ → State → Type 0
@@ -47,10 +53,13 @@ Refused r s text t = (text ≡ refusal_text r) × (t ≡ s)
 abbrev pub NamesNone : List ℕ → Type 0
 NamesNone name = (c : Place) → IsName name c → ⊥
 
+-- the store answered to the command
+abbrev pub Commanded : ℕ → State → Command → List ℕ → State → Type 0
+Commanded capacity s c text t = (r : Result ℕ Refusal) × (Applies capacity s c r t × (text ≡ command_text r))
+
 -- an import with a payload of the right length: there was no room for it, or the store answered
 abbrev pub Imported : ℕ → State → Place → List ℕ → List ℕ → State → Type 0
-Imported capacity s c payload text t =
-    Refused NoMemory s text t ⊎ ((r : Result ℕ Refusal) × (Applies capacity s (Import c payload) r t × (text ≡ command_text r)))
+Imported capacity s c payload text t = Refused NoMemory s text t ⊎ Commanded capacity s (Import c payload) text t
 
 -- the name is judged first, then the length, then the rest
 abbrev pub AnswersImport : ℕ → State → List ℕ → ℕ → List ℕ → List ℕ → State → Type 0
@@ -60,6 +69,11 @@ AnswersImport capacity s name len payload text t =
     (((len ≢ 2 * (s.contents.mosaic.side * s.contents.mosaic.side)) ⊎ (length payload < len)) × Refused BadLength s text t)
     ⊎ ((len ≡ 2 * (s.contents.mosaic.side * s.contents.mosaic.side)) × (length payload ≡ len) × Imported capacity s c payload text t))))
 
+abbrev pub AnswersRemove : ℕ → State → List ℕ → List ℕ → State → Type 0
+AnswersRemove capacity s name text t =
+    (NamesNone name × Refused BadName s text t)
+    ⊎ ((c : Place) × (IsName name c × Commanded capacity s (Remove c) text t))
+
 abbrev pub AnswersExport : State → List ℕ → List ℕ → State → Type 0
 AnswersExport s name text t =
     (NamesNone name × Refused BadName s text t)
@@ -68,11 +82,19 @@ AnswersExport s name text t =
 abbrev pub AnswersElevation : State → Point → List ℕ → State → Type 0
 AnswersElevation s p text t = (r : Result Height Refusal) × (Elevates s p r t × (text ≡ height_text r))
 
+abbrev pub AnswersTiles : State → List ℕ → State → Type 0
+AnswersTiles s text t = (r : Result (List Place) Refusal) × (Lists s r t × (text ≡ names_text r))
+
 -- what is asked with this payload; no other words are served yet
 abbrev pub Answers : ℕ → State → Asked → List ℕ → List ℕ → State → Type 0
 Answers capacity s (AskImport name len) payload text t = AnswersImport capacity s name len payload text t
+Answers capacity s (AskRemove name) payload text t = AnswersRemove capacity s name text t
+Answers capacity s (AskPatch from to height) payload text t = Commanded capacity s (Patch from to height) text t
+Answers capacity s (AskBurn depth points) payload text t = Commanded capacity s (Burn depth (record { items = points })) text t
+Answers capacity s (AskWall height points) payload text t = Commanded capacity s (Wall height (record { items = points })) text t
 Answers capacity s (AskElevation p) payload text t = AnswersElevation s p text t
 Answers capacity s (AskExport name) payload text t = AnswersExport s name text t
+Answers capacity s AskTiles payload text t = AnswersTiles s text t
 Answers capacity s AskCount payload text t = (text ≡ ok_line (decimal s.contents.count)) × (t ≡ s)
 Answers capacity s AskQuit payload text t = (text ≡ done_text) × (t ≡ s)
 Answers capacity s _ payload text t = Refused BadLine s text t

@@ -1,8 +1,10 @@
 -- The texts of replies (this product's own profile).
-use Rattle.std.specs.Prelude.{ℕ, List, [], ◌∷◌, ◌++◌, Option, Some, None, Vec, codes, decimal}
+use Rattle.std.specs.Prelude.{ℕ, List, [], ◌∷◌, ◌++◌, Option, Some, None, Vec, codes, decimal, flat_map, length}
 use Rattle.std.specs.Coded.{Coded, coded_list, coded_ℕ}
+use Rattle.lattice.specs.Corners.{Place}
 use Rattle.lattice.specs.declared.refusal.Refusal.{Refusal}
 use Rattle.lattice.specs.Refusals.{number_of, word_of}
+use Rattle.hgt.specs.Names.{name_bytes}
 
 -- a line with its LF
 abbrev pub line_of : List ℕ → List ℕ
@@ -15,6 +17,14 @@ done_text = line_of (codes "OK")
 -- `OK` and a value
 abbrev pub ok_line : List ℕ → List ℕ
 ok_line value = line_of (codes "OK " ++ value)
+
+-- a space and a name, for each of the tiles
+abbrev pub spaced_names : List Place → List ℕ
+spaced_names corners = flat_map (λ c. 32 ∷ name_bytes c) corners
+
+-- `OK`, how many tiles there are, and their names
+abbrev pub names_line : List Place → List ℕ
+names_line corners = ok_line (decimal (length corners) ++ spaced_names corners)
 
 -- `ERR`, a refusal's number and its word
 abbrev pub refusal_text : Refusal → List ℕ

@@ -1,5 +1,5 @@
 -- An item as the server keeps it, and one step of a session.
-use Rattle.std.specs.Prelude.{◌≡◌, ℕ, List, [], ◌++◌, take, flat_map, All, Option, Some, None, option_map, IfSome, Result, Ok, Err, Vec}
+use Rattle.std.specs.Prelude.{◌≡◌, ℕ, List, [], take, flat_map, All, Option, Some, None, option_map, IfSome, Result, Ok, Err, Vec}
 use Rattle.std.specs.Io.KnownBytes.{Consumes, Appends}
 use Rattle.edits.specs.State.{State}
 use Rattle.server.specs.Answers.{Replied}
@@ -7,7 +7,7 @@ use Rattle.server.specs.Items.{Heard, spelled, IsItem, GoesOn, IsBegun}
 use Rattle.server.specs.Requests.{asked}
 use Rattle.server.specs.Served.{Replies, Ends}
 use Rattle.server.specs.declared.source.Extent.{Extent}
-use Rattle.server.specs.declared.session.Item.{Item}
+use Rattle.server.specs.declared.hearing.Item.{Item}
 use Rattle.server.specs.declared.session.Next.{Next}
 use Rattle.server.specs.declared.session.Next.TheVariants.{More, End}
 use Rattle.server.specs.declared.session.ServeFault.{ServeFault}

@@ -1,13 +1,12 @@
 //! What lines need of a store.
-ghost use Rattle.std.specs.Prelude.{◌≡◌, ◌≤◌, ℕ, Err};
+ghost use Rattle.std.specs.Prelude.{◌≡◌, ◌≢◌, ◌≤◌, ℕ, Err};
 ghost use Rattle.lattice.specs.declared.refusal.Refusal.TheVariants.{Device};
 ghost use Rattle.catalogue.specs.Reading.{HasRisen};
 ghost use Rattle.edits.specs.State.{State};
-ghost use Rattle.edits.specs.Outcomes.{Applies, Elevates, Exports};
-ghost use Rattle.edits.specs.declared.command.Command.TheVariants.{Import};
-ghost use Rattle.server.specs.Answers.{bytes_in};
+ghost use Rattle.edits.specs.Outcomes.{Applies, Elevates, Exports, Lists};
+ghost use Rattle.server.specs.Answers.{items_in};
 
-use edits::Bytes;
+use edits::Command;
 use lattice::{Corner, Height, Point, Refusal, Side};
 
 /// A store, as far as lines need it.
@@ -36,15 +35,15 @@ pub trait Engine {
     fn side(&self) -> Side
         ensures { result ≡ side_of self.now };
 
-    /// Adds the tile with these bytes of an HGT file, and answers how many commands were accepted with it.
-    fn import(&mut self, corner: Corner, bytes: Bytes) -> Result<u64, Refusal>
+    /// Does a command, and answers how many were accepted with it.
+    fn apply(&mut self, command: &Command) -> Result<u64, Refusal>
         ensures side { side_of self.new ≡ side_of self.old }
         ensures capacity { capacity_of self.new ≡ capacity_of self.old }
         ensures failures { failures self.old ≤ failures self.new }
         ensures device { result ≡ Err Device → HasRisen (failures self.old) (failures self.new) }
         ensures honest { is_honest self.new → is_honest self.old }
         ensures outcome { is_honest self.new → (s : State) → is_at self.old s
-            → (t : State) × (is_at self.new t × Applies (capacity_of self.old) s (Import corner bytes) result t) };
+            → (t : State) × (is_at self.new t × Applies (capacity_of self.old) s command.now result t) };
 
     /// The height of a point.
     fn elevation(&mut self, point: Point) -> Result<Height, Refusal>
@@ -64,7 +63,12 @@ pub trait Engine {
         ensures device { result ≡ Err Device → HasRisen (failures self.old) (failures self.new) }
         ensures honest { is_honest self.new → is_honest self.old }
         ensures outcome { is_honest self.new → (s : State) → is_at self.old s
-            → (t : State) × (is_at self.new t × Exports s corner (bytes_in result) t) };
+            → (t : State) × (is_at self.new t × Exports s corner (items_in result) t) };
+
+    /// The corners of the present tiles, in order. They are held in memory, so that no disk refuses.
+    fn tiles(&self) -> Result<Vec<Corner>, Refusal>
+        ensures memory { result ≢ Err Device }
+        ensures outcome { is_honest self.now → (s : State) → is_at self.now s → Lists s (items_in result) s };
 
     /// How many commands were accepted, as last known.
     fn count(&self) -> u64

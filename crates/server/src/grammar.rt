@@ -2,23 +2,14 @@
 ghost use Rattle.std.specs.Prelude.{◌≡◌, ◌≢◌, ◌≤◌, ◌*◌, ℕ, ℤ, List, [], ◌∷◌, length, MatchOption, IfSome, IsTrue, ◌↔◌};
 ghost use Rattle.lattice.specs.declared.point.Point.{Point};
 ghost use Rattle.server.specs.Grammar.{IsWord, IsNat, AreInts, IsPointCount, coordinates, IsTextOf, Asked, LineAsks};
-ghost use Rattle.server.specs.Lines.{kept};
 ghost use Rattle.server.specs.Requests.{IsRequest, IsRequestOf, asked};
 
 use crate::keyword::Keyword;
 use crate::number::{integers, natural};
 use crate::request::{MOST_POINTS, Request};
-use crate::source::Line;
 use crate::words::{Words, first_word};
 use arrayvec::ArrayVec;
 use lattice::Point;
-
-/// What a line that was read asks for, if it isn't too long and the grammar has it.
-pub fn request_in(line: &Line) -> Option<Request<'_>>
-    ensures { (text : List ℕ) → line.now ≡ kept text → IsRequestOf text result }
-{
-    request_of(line.bytes()?)
-}
 
 /// What a line asks for, if the grammar has it.
 pub fn request_of(line: &[u8]) -> Option<Request<'_>>

@@ -4,15 +4,19 @@
 //! its payload, and how the reader cuts the bytes makes no difference.
 #![tactic(auto)]
 
+mod answering;
 mod arguments;
 mod bytes;
 mod commands;
 mod engine;
 mod grammar;
+mod hearing;
 mod keyword;
 mod number;
 mod reply;
 mod request;
+#[cfg(test)]
+mod row_tests;
 mod session;
 #[cfg(test)]
 mod session_tests;

@@ -1,12 +1,14 @@
 //! What is written for a line: `OK` with a value, or `ERR` with the number and the word of a refusal. Each line of a
 //! reply ends in an LF.
-ghost use Rattle.std.specs.Prelude.{◌≡◌, ◌+◌, ◌≤◌, ℕ, List, [], ◌++◌, length, IfErr, OnOk, OnErr, take, codes, decimal};
+ghost use Rattle.std.specs.Prelude.{◌≡◌, ◌+◌, ◌≤◌, ℕ, List, [], ◌++◌, length, IfErr, IfOk, OnOk, OnErr, take, codes, decimal};
 ghost use Rattle.std.specs.Io.KnownBytes.{Appends};
-ghost use Rattle.server.specs.Replies.{reply_code, reply_of, ok_line, done_text, refusal_text};
+ghost use Rattle.server.specs.Replies.{reply_code, reply_of, ok_line, done_text, spaced_names, names_line, refusal_text};
 
 use arrayvec::ArrayVec;
+use hgt::name_text;
 use itoa::{Buffer, Integer};
-use lattice::Refusal;
+use lattice::{Corner, Refusal};
+use std::alloc::{AllocError, Global};
 use std::io::Write;
 use std::marker::Model;
 
@@ -73,6 +75,20 @@ impl Reply {
         }
     }
 
+    /// `OK`, the number of tiles, and their names.
+    pub fn names(alloc: Global, corners: &[Corner]) -> Result<Reply, AllocError>
+        ensures { IfOk result (λ r. r ≡ names_line corners.now) }
+    {
+        let mut buffer = Buffer::new();
+        let count = buffer.format(corners.len()).as_bytes();
+        let mut names = spaced_names(alloc, corners)?;
+        names.push(b'\n')?;
+        Ok(Reply {
+            head: joined(b"OK ", count, b""),
+            body: Some(names),
+        })
+    }
+
     /// `ERR`, the refusal's number and its word.
     pub fn refused(refusal: Refusal) -> Reply
         ensures { result ≡ refusal_text refusal }
@@ -84,6 +100,18 @@ impl Reply {
         extend(&mut head, b"\n");
         Reply { head, body: None }
     }
+}
+
+/// The names of the tiles, each after a space.
+fn spaced_names(alloc: Global, corners: &[Corner]) -> Result<Vec<u8>, AllocError>
+    ensures { IfOk result (λ v. v.items ≡ spaced_names corners.now) }
+{
+    let mut names = Vec::new(alloc);
+    for corner in corners {
+        names.push(b' ')?;
+        names.extend_from_slice(name_text(*corner).as_bytes())?;
+    }
+    Ok(names)
 }
 
 /// Three parts as one line.

@@ -47,7 +47,7 @@ impl Read for Broken<'_> {
     }
 }
 
-fn joined(alloc: Global, parts: &[&[u8]]) -> Result<Vec<u8>, Fail> {
+pub fn joined(alloc: Global, parts: &[&[u8]]) -> Result<Vec<u8>, Fail> {
     let mut all = Vec::new(alloc);
     for part in parts {
         all.extend_from_slice(part)?;
@@ -60,7 +60,7 @@ fn empty(alloc: Global, capacity: u32) -> Result<TableEngine, Fail> {
     Ok(TableEngine::new(alloc, side, capacity))
 }
 
-fn replies(alloc: Global, capacity: u32, parts: &[&[u8]]) -> Result<Vec<u8>, Fail> {
+pub fn replies(alloc: Global, capacity: u32, parts: &[&[u8]]) -> Result<Vec<u8>, Fail> {
     let input = joined(alloc, parts)?;
     let mut engine = empty(alloc, capacity)?;
     let mut reader = input.as_slice();
@@ -163,8 +163,9 @@ fn a_session_cut_anywhere(rt: HostRuntime) -> Result<(), Fail> {
 fn a_reader_that_fails(rt: HostRuntime) -> Result<(), Fail> {
     let input = session(rt.alloc())?;
     let mut engine = empty(rt.alloc(), 4)?;
+    let end = input.len().min(50);
     let mut reader = Broken {
-        bytes: &input[..50],
+        bytes: &input[..end],
     };
     let mut output = Vec::new(rt.alloc());
     let served = serve(rt.alloc(), &mut reader, &mut output, &mut engine);

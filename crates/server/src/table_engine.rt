@@ -4,7 +4,7 @@ ghost use Rattle.edits.specs.State.{fresh};
 
 use crate::engine::Engine;
 use catalogue::{Samples, Table, height};
-use edits::Bytes;
+use edits::{Command, carry_out, plan};
 use lattice::{Corner, Height, Point, Refusal, Side};
 use std::alloc::Global;
 use std::marker::Model;
@@ -15,7 +15,6 @@ pub struct TableEngine {
     alloc: Global,
     table: Table,
     capacity: u32,
-    tiles: u32,
     count: u64,
     number: u64,
 }
@@ -27,7 +26,7 @@ impl Model for TableEngine {
 
     ghost view = { λ e. held_of e.capacity e.table e.count e.number };
 
-    ghost invariant = { λ e. IsKept e.table e.tiles e.count e.number };
+    ghost invariant = { λ e. IsKept e.table e.count e.number };
 }
 
 impl TableEngine {
@@ -40,7 +39,6 @@ impl TableEngine {
             alloc,
             table: Table::new(alloc, side),
             capacity,
-            tiles: 0,
             count: 0,
             number: 1,
         }
@@ -69,24 +67,12 @@ impl Engine for TableEngine {
         self.table.side()
     }
 
-    fn import(&mut self, corner: Corner, bytes: Bytes) -> Result<u64, Refusal> {
-        let bytes = bytes.as_slice();
-        let side = self.table.side();
-        if bytes.len() != side.file_bytes() as usize {
-            return Err(Refusal::BadLength);
-        }
-        if self.table.present(corner) {
-            return Err(Refusal::TileThere);
-        }
-        if self.tiles >= self.capacity {
-            return Err(Refusal::Full);
-        }
+    fn apply(&mut self, command: &Command) -> Result<u64, Refusal> {
+        let changes = plan(self.alloc, &mut self.table, self.capacity, command)?;
         if self.number == u64::MAX {
             return Err(Refusal::Worn);
         }
-        let samples = hgt::samples(self.alloc, bytes, side)?;
-        self.table.add(corner, samples)?;
-        self.tiles += 1;
+        carry_out(changes, &mut self.table)?;
         self.count += 1;
         self.number += 1;
         Ok(self.count)
@@ -101,6 +87,10 @@ impl Engine for TableEngine {
             Some(samples) => Ok(hgt::bytes_of(self.alloc, samples)?),
             None => Err(Refusal::NoTile),
         }
+    }
+
+    fn tiles(&self) -> Result<Vec<Corner>, Refusal> {
+        self.table.corners(self.alloc)
     }
 
     fn count(&self) -> u64 {

@@ -43,6 +43,7 @@ raised_level rim level label =
 
 module _ (n : ℕ) (levels : List ℤ) (labels : List ℕ) (rim : List ℤ) where
   pub record AreRaised (filled : List ℤ) : Type 0 where
+    pub rim_whole : length rim ≡ 4 * (n - 1)
     pub whole : length filled ≡ n * n
     pub each : (e : ℕ) → e < n * n → raised_level rim (slice_index_or levels e void) (slice_index labels e) ≡ Some (slice_index_or filled e void)
 

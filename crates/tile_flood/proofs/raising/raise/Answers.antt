@@ -1,4 +1,4 @@
-use Rattle.std.proofs.Common.{arith, rules, ◌≡◌, ◌*◌, ◌++◌, ◌∷◌, [], inr, refl, sym, ap, ◌∙◌, subst, length, slice_index, slice_index_or, SFits, w16}
+use Rattle.std.proofs.Common.{arith, rules, ◌≡◌, ◌*◌, ◌-◌, ◌++◌, ◌∷◌, [], inr, refl, sym, ap, ◌∙◌, subst, length, slice_index, slice_index_or, SFits, w16}
 use Rattle.std.proofs.lemmas.Int.{to_z-of_z}
 use Rattle.lattice.specs.Mosaic.{void}
 use Rattle.tile_flood.specs.Raising.{raised_level}
@@ -45,5 +45,8 @@ returns-clause-filled c =
     let past = c.loop-e-test.false in
     let within = c.loop-e.auto.e-end in
     let at_end : c.loop-e.e ≡ side * side = omega arith in
+    let samples : c.samples.result ≡ side = c.samples.ensures.value ∙ c.side-side.ensures in
+    let same_size = c.if-rim-samples.false in
+    let rim_size : length c.args.rim.now ≡ 4 * (side - 1) = same_size ∙ ap (λ n. 4 * (n - 1)) samples in
     λ m p h. rim_filled_levels m p side c.args.labelled.now.levels c.args.labelled.now.labels c.args.rim.now c.loop-e.filled.items h
-    (record { whole = c.loop-e.invariant.whole ∙ at_end; each = λ e less. c.loop-e.invariant.each e (omega arith) })
+    (record { rim_whole = rim_size; whole = c.loop-e.invariant.whole ∙ at_end; each = λ e less. c.loop-e.invariant.each e (omega arith) })

@@ -1,10 +1,10 @@
-use Rattle.std.proofs.Common.{rules, ◌≡◌, [], refl, sym, length}
+use Rattle.std.proofs.Common.{rules, ◌≡◌, [], refl, sym}
 use Rattle.std.specs.Prelude.{option_map}
 use Rattle.server.specs.declared.source.Extent.TheVariants.{Whole, Cut}
 use Rattle.server.specs.Requests.{asked}
 use Rattle.server.proofs.SessionLemmas.{holds_whole, holds_cut, nothing_taken}
-use Rattle.server.proofs.session.hear.Goals as goal
-use Rattle.server.proofs.session.hear.Goals.{in-Whole+in_ok-hear_payload-in-Whole, in-Cut}
+use Rattle.server.proofs.hearing.hear.Goals as goal
+use Rattle.server.proofs.hearing.hear.Goals.{in-Whole+in_ok-hear_payload-in-Whole, in-Cut}
 
 pub returns-clause-ok : goal.returns-clause-ok
 returns-clause-ok g c = λ text is line some.

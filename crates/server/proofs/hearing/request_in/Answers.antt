@@ -1,7 +1,7 @@
-use Rattle.std.proofs.Common.{rules, subst, List, ℕ}
+use Rattle.std.proofs.Common.{subst, List, ℕ}
 use Rattle.server.specs.Requests.{IsRequestOf}
 use Rattle.server.proofs.SessionLemmas.{asks_for, kept_some}
-use Rattle.server.proofs.session.request_in.Goals as goal
+use Rattle.server.proofs.hearing.request_in.Goals as goal
 
 pub returns : goal.returns
 returns c = λ text is.

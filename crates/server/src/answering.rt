@@ -1,0 +1,149 @@
+//! Answers items over an engine.
+ghost use Rattle.std.specs.Prelude.{◌≡◌, ◌<◌, ◌⊎◌, ℕ, List, length};
+ghost use Rattle.edits.specs.State.{State};
+ghost use Rattle.server.specs.Answers.{Replied, Commanded, AnswersImport, AnswersRemove, AnswersElevation, AnswersExport, AnswersTiles};
+ghost use Rattle.server.specs.Items.{Heard};
+ghost use Rattle.server.specs.Session.{Stored, Holds};
+
+use crate::engine::Engine;
+use crate::hearing::Item;
+use crate::reply::Reply;
+use crate::request::Request;
+use crate::source::Extent;
+use edits::{Bytes, Command};
+use hgt::name_of;
+use lattice::{Height, Point, Refusal};
+use std::alloc::Global;
+
+/// Answers an import of this length. Its payload is there where it came whole and there was room for it.
+fn import<E: Engine>(
+    engine: &mut E,
+    name: &[u8],
+    len: u32,
+    payload: Option<Vec<u8>>,
+    extent: Extent,
+) -> Reply
+    ensures side { E.side_of engine.new ≡ E.side_of engine.old }
+    ensures capacity { E.capacity_of engine.new ≡ E.capacity_of engine.old }
+    ensures honest { E.is_honest engine.new → E.is_honest engine.old }
+    ensures outcome { E.is_honest engine.new → (s : State) → E.is_at engine.old s → (bytes : List ℕ) → Stored payload bytes
+        → (extent ≡ Extent.Whole → length bytes ≡ len) → (extent ≡ Extent.Cut → (length bytes < len) ⊎ (length bytes ≡ 0))
+        → (t : State) × E.is_at engine.new t × AnswersImport (E.capacity_of engine.old) s name.now len bytes result t }
+{
+    let Ok(corner) = name_of(name) else {
+        return Reply::refused(Refusal::BadName);
+    };
+    if len != engine.side().file_bytes() || extent == Extent::Cut {
+        return Reply::refused(Refusal::BadLength);
+    }
+    let Some(payload) = payload else {
+        return Reply::refused(Refusal::NoMemory);
+    };
+    let bytes = Bytes::new(payload);
+    apply(engine, Command::Import { corner, bytes })
+}
+
+/// Answers the removal of a tile.
+fn remove<E: Engine>(engine: &mut E, name: &[u8]) -> Reply
+    ensures side { E.side_of engine.new ≡ E.side_of engine.old }
+    ensures capacity { E.capacity_of engine.new ≡ E.capacity_of engine.old }
+    ensures honest { E.is_honest engine.new → E.is_honest engine.old }
+    ensures outcome { E.is_honest engine.new → (s : State) → E.is_at engine.old s
+        → (t : State) × E.is_at engine.new t × AnswersRemove (E.capacity_of engine.old) s name.now result t }
+{
+    let Ok(corner) = name_of(name) else {
+        return Reply::refused(Refusal::BadName);
+    };
+    apply(engine, Command::Remove { corner })
+}
+
+/// Has the command done, and answers with its number or its refusal.
+fn apply<E: Engine>(engine: &mut E, command: Command) -> Reply
+    ensures side { E.side_of engine.new ≡ E.side_of engine.old }
+    ensures capacity { E.capacity_of engine.new ≡ E.capacity_of engine.old }
+    ensures honest { E.is_honest engine.new → E.is_honest engine.old }
+    ensures outcome { E.is_honest engine.new → (s : State) → E.is_at engine.old s
+        → (t : State) × E.is_at engine.new t × Commanded (E.capacity_of engine.old) s command result t }
+{
+    match engine.apply(&command) {
+        Ok(count) => Reply::number(count),
+        Err(refusal) => Reply::refused(refusal),
+    }
+}
+
+/// Answers with the height of a point.
+fn elevation<E: Engine>(engine: &mut E, point: Point) -> Reply
+    ensures side { E.side_of engine.new ≡ E.side_of engine.old }
+    ensures capacity { E.capacity_of engine.new ≡ E.capacity_of engine.old }
+    ensures honest { E.is_honest engine.new → E.is_honest engine.old }
+    ensures outcome { E.is_honest engine.new → (s : State) → E.is_at engine.old s
+        → (t : State) × E.is_at engine.new t × AnswersElevation s point result t }
+{
+    match engine.elevation(point) {
+        Ok(Height::Outside) => Reply::refused(Refusal::Outside),
+        Ok(Height::Void) => Reply::void(),
+        Ok(Height::At(metres)) => Reply::number(metres),
+        Err(refusal) => Reply::refused(refusal),
+    }
+}
+
+/// Answers with the bytes of a tile.
+fn export<E: Engine>(engine: &mut E, name: &[u8]) -> Reply
+    ensures side { E.side_of engine.new ≡ E.side_of engine.old }
+    ensures capacity { E.capacity_of engine.new ≡ E.capacity_of engine.old }
+    ensures honest { E.is_honest engine.new → E.is_honest engine.old }
+    ensures outcome { E.is_honest engine.new → (s : State) → E.is_at engine.old s
+        → (t : State) × E.is_at engine.new t × AnswersExport s name.now result t }
+{
+    let Ok(corner) = name_of(name) else {
+        return Reply::refused(Refusal::BadName);
+    };
+    match engine.export(corner) {
+        Ok(bytes) => Reply::bytes(bytes),
+        Err(refusal) => Reply::refused(refusal),
+    }
+}
+
+/// Answers with the names of the present tiles.
+fn tiles<E: Engine>(alloc: Global, engine: &E) -> Reply
+    ensures { E.is_honest engine.now → (s : State) → E.is_at engine.now s → AnswersTiles s result s }
+{
+    match engine.tiles() {
+        Ok(corners) => match Reply::names(alloc, corners.as_slice()) {
+            Ok(reply) => reply,
+            Err(_) => Reply::refused(Refusal::NoMemory),
+        },
+        Err(refusal) => Reply::refused(refusal),
+    }
+}
+
+/// Answers an item.
+pub fn answer<E: Engine>(alloc: Global, engine: &mut E, item: Item<'_>) -> Reply
+    ensures side { E.side_of engine.new ≡ E.side_of engine.old }
+    ensures capacity { E.capacity_of engine.new ≡ E.capacity_of engine.old }
+    ensures honest { E.is_honest engine.new → E.is_honest engine.old }
+    ensures outcome { E.is_honest engine.new → (s : State) → E.is_at engine.old s → (i : Heard) → Holds item.entry i
+        → (t : State) × E.is_at engine.new t × Replied (E.capacity_of engine.old) s i result t }
+{
+    let Item {
+        request,
+        payload,
+        extent,
+    } = item;
+    match request {
+        Some(Request::Import { name, len }) => import(engine, name, len, payload, extent),
+        Some(Request::Remove { name }) => remove(engine, name),
+        Some(Request::Patch { from, to, height }) => {
+            apply(engine, Command::Patch { from, to, height })
+        }
+        Some(Request::Burn { depth, points }) => apply(engine, Command::Burn { depth, points }),
+        Some(Request::Wall { height, points }) => apply(engine, Command::Wall { height, points }),
+        Some(Request::Elevation(point)) => elevation(engine, point),
+        Some(Request::Export { name }) => export(engine, name),
+        Some(Request::Tiles) => tiles(alloc, engine),
+        Some(Request::Count) => Reply::number(engine.count()),
+        Some(Request::Quit) => Reply::done(),
+        // No other words are served yet.
+        _ => Reply::refused(Refusal::BadLine),
+    }
+}
