@@ -102,13 +102,18 @@ low_samples : (n : ℕ) (p : Point) (tiles : List Tile) → All (IsTile n) tiles
 low_samples n p [] all = λ k d lt. absurd (omega arith)
 low_samples n p (t ∷ rest) all = low_sample n p t rest (all 0 t (omega arith)) (low_samples n p rest (λ k d lt. all (suc k) d (omega arith)))
 
-module _ (m : Mosaic) (is : IsMosaic m) (c : Place) (present : IsTrue (is_present m c)) (heights : List ℤ) (of : IsBlockOf m c heights)
-    (levels : List ℤ) (labels : List ℕ) (labelling : IsLabelling m.side heights levels labels) (rim : List ℤ) (rims : AreRimLevels m c rim) where
-  pub least_height : (e : ℕ) → void ≤ℤ get_or heights e void
-  least_height e = elim (cases_lt e (length heights)) [
+-- heights of a block are numbers of 16 bits
+module _ (m : Mosaic) (is : IsMosaic m) (c : Place) (heights : List ℤ) (of : IsBlockOf m c heights) where
+  pub lowest_height : (e : ℕ) → void ≤ℤ get_or heights e void
+  lowest_height e = elim (cases_lt e (length heights)) [
     | inl inside ↦ subst (λ v. void ≤ℤ v) (sym (of.values e (subst (λ k. e < k) of.whole inside))) (low_metres (samples_at m (point_of m.side c e)) (low_samples m.side (point_of m.side c e) m.tiles is.tiles))
     | inr beyond ↦ subst (λ v. void ≤ℤ v) (sym (get_or-eq_default heights void beyond)) (≤ℤ_same void)
   ]
+
+module _ (m : Mosaic) (is : IsMosaic m) (c : Place) (present : IsTrue (is_present m c)) (heights : List ℤ) (of : IsBlockOf m c heights)
+    (levels : List ℤ) (labels : List ℕ) (labelling : IsLabelling m.side heights levels labels) (rim : List ℤ) (rims : AreRimLevels m c rim) where
+  least_height : (e : ℕ) → void ≤ℤ get_or heights e void
+  least_height e = lowest_height m is c heights of e
 
   level_at : ℕ → ℤ
   level_at e = get_or levels e void
