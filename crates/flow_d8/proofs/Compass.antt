@@ -1,9 +1,9 @@
 -- The eight directions by their place in code order, and the first of them with a property.
-use Rattle.std.proofs.Common.{◌≡◌, ℕ, zero, suc, ◌+◌, ◌-◌, ◌<◌, ◌≤◌, ◌⊎◌, inl, inr, ⊎_elim, refl, sym, ap, ◌∙◌, subst, arith}
+use Rattle.std.proofs.Common.{◌≡◌, ℕ, zero, suc, ◌+◌, ◌<◌, ◌≤◌, ◌⊎◌, inl, inr, ⊎_elim, refl, sym, ap, ◌∙◌, subst, arith, get_or}
 use Rattle.std.proofs.lemmas.Bool.{cases_eq}
 use Rattle.lattice.specs.declared.direction.Dir.{Dir}
 use Rattle.lattice.specs.declared.direction.Dir.TheVariants.{East, SouthEast, South, SouthWest, West, NorthWest, North, NorthEast}
-use Rattle.lattice.specs.Steps.{order_of}
+use Rattle.lattice.specs.Steps.{order_of, directions}
 
 pub dir_at : ℕ → Dir
 dir_at zero = East
@@ -87,3 +87,17 @@ module _ (Q : Dir → Type 0) (decide : (d : Dir) → Q d ⊎ (Q d → ⊥)) whe
 
   pub first_dir : ((d : Dir) × IsFirst 0 d) ⊎ ((e : Dir) → Q e → ⊥)
   first_dir = ⊎_elim (λ found. inl found) (λ none. inr (λ e q. none e (omega arith) q)) (first_from 8 0 refl)
+
+-- the direction at its place in the list of directions
+pub dir_listed : (d x : Dir) → get_or directions (order_of d) x ≡ d
+dir_listed East x = refl
+dir_listed SouthEast x = refl
+dir_listed South x = refl
+dir_listed SouthWest x = refl
+dir_listed West x = refl
+dir_listed NorthWest x = refl
+dir_listed North x = refl
+dir_listed NorthEast x = refl
+
+pub dir_at_place : (d x : Dir) (i : ℕ) → order_of d ≡ i → get_or directions i x ≡ d
+dir_at_place d x i is = subst (λ k. get_or directions k x ≡ d) is (dir_listed d x)

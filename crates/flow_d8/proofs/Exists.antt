@@ -1,18 +1,17 @@
 -- Each ground point has a flat distance and a direction.
-use Rattle.std.proofs.Common.{◌≡◌, ℕ, zero, suc, ◌+◌, ◌<◌, ◌≤◌, ℤ, pos, ◌≤ℤ◌, ◌<ℤ◌, ◌⊎◌, inl, inr, ⊎_elim, Bool, true, false, IsTrue, IsFalse, ◌&&◌, Option, Some, None, List, [], ◌∷◌, refl, sym, ap, ◌∙◌, subst, arith, true≢false}
+use Rattle.std.proofs.Common.{◌≡◌, ℕ, zero, suc, ◌+◌, ◌<◌, ◌≤◌, ℤ, ◌≤ℤ◌, ◌<ℤ◌, ◌⊎◌, inl, inr, ⊎_elim, true, false, IsTrue, IsFalse, Option, Some, None, List, [], ◌∷◌, refl, sym, ap, ◌∙◌, subst, arith, true≢false}
 use Rattle.std.specs.Prelude.{int_lt, nat_lt}
-use Rattle.std.specs.Ordering.{int_eq}
-use Rattle.std.proofs.lemmas.Bool.{cases_Bool, cases_eq, cases_order, and_parts, and_from}
+use Rattle.std.proofs.lemmas.Bool.{cases_Bool, cases_eq, cases_order}
 use Rattle.std.proofs.lemmas.Bool.Decides.{nat_tests}
 use Rattle.std.proofs.lemmas.Int.{ints}
 use Rattle.lattice.specs.declared.point.Point.{Point}
 use Rattle.lattice.specs.declared.direction.Dir.{Dir}
-use Rattle.lattice.specs.Steps.{step, order_of, slope_of, is_steeper}
-use Rattle.lattice.specs.Terrain.{Terrain, IsFilledLevel, LeadsOut, IsPath, crest}
-use Rattle.lattice.proofs.Levels.{le-max_left, le-max_right, ≤ℤ_trans, ≤ℤ_same, ≤ℤ_antisym}
+use Rattle.lattice.specs.Steps.{step, order_of, slope_of}
+use Rattle.lattice.specs.Terrain.{Terrain, LeadsOut, crest}
+use Rattle.lattice.proofs.Levels.{le-max_right, ≤ℤ_trans, ≤ℤ_same, ≤ℤ_antisym}
 use Rattle.flow_d8.specs.Drainage.{AreFilledLevels, IsLower, HasLower, drop_by, IsSteepest, CrossesFlat, IsFlatDistance, IsNearer, IsFirstNearer, IsDirection}
 use Rattle.flow_d8.specs.Grid.{IsGrid}
-use Rattle.flow_d8.proofs.Compass.{dir_at, order_below, order_of-dir_at, at_or_later, same_order, first_dir}
+use Rattle.flow_d8.proofs.Compass.{dir_at, order_below, order_of-dir_at, at_or_later, first_dir}
 use Rattle.flow_d8.proofs.Unique.{one_distance}
 
 int_lt-true : (a b : ℤ) → int_lt a b ≡ true → a <ℤ b

@@ -1,12 +1,12 @@
 -- Each ground point has a flow path, and only one: the level falls, or it stays and the flat distance falls.
-use Rattle.std.proofs.Common.{◌≡◌, ℕ, zero, suc, ◌+◌, ◌<◌, ◌≤◌, ℤ, pos, ◌-ℤ◌, ◌≤ℤ◌, ◌<ℤ◌, ◌⊎◌, inl, inr, ⊎_elim, Bool, true, false, IsTrue, IsFalse, Option, Some, None, List, [], ◌∷◌, refl, sym, ap, ◌∙◌, subst, arith, nat_abs}
+use Rattle.std.proofs.Common.{◌≡◌, ℕ, zero, suc, ℤ, pos, ◌-ℤ◌, ◌≤ℤ◌, ◌<ℤ◌, ⊎_elim, IsTrue, Option, Some, None, List, [], ◌∷◌, refl, sym, ap, ◌∙◌, subst, arith, nat_abs}
 use Rattle.std.proofs.lemmas.Int.{ints}
 use Rattle.lattice.specs.declared.point.Point.{Point}
 use Rattle.lattice.specs.declared.direction.Dir.{Dir}
 use Rattle.lattice.specs.Steps.{step}
 use Rattle.lattice.specs.Terrain.{Terrain}
 use Rattle.lattice.proofs.Levels.{height-le_level, ≤ℤ_trans}
-use Rattle.flow_d8.specs.Drainage.{AreFilledLevels, IsSteepest, IsFlatDistance, IsFirstNearer, IsDirection, HasLower}
+use Rattle.flow_d8.specs.Drainage.{AreFilledLevels, IsFlatDistance, IsDirection}
 use Rattle.flow_d8.specs.FlowPath.{IsFlowPath}
 use Rattle.flow_d8.specs.Grid.{IsGrid}
 use Rattle.flow_d8.proofs.Unique.{one_distance, one_direction}
@@ -14,7 +14,7 @@ use Rattle.flow_d8.proofs.Exists.{distance_exists, direction_exists}
 
 module _ (t : Terrain Point) (level : Point → ℤ) where
   -- a point before the flow path of the point that it drains to
-  from_next : (x : Point) (d : Dir) (path : List Point) → IsDirection t level x (Some d) → IsFlowPath t level (step d x) path → IsFlowPath t level x (x ∷ path)
+  pub from_next : (x : Point) (d : Dir) (path : List Point) → IsDirection t level x (Some d) → IsFlowPath t level (step d x) path → IsFlowPath t level x (x ∷ path)
   from_next x d [] drains next = absurd next
   from_next x d (z ∷ []) drains next = (refl, (d, (drains, (next.0, next))))
   from_next x d (z ∷ w ∷ rest) drains next = (refl, (d, (drains, (next.0, next))))

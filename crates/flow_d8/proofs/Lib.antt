@@ -3,3 +3,15 @@ pub mod Unique
 pub mod Exists
 pub mod FlowPaths
 pub mod MosaicGrid
+pub mod Places
+pub mod Seeking
+pub mod Surfaces
+pub mod Waves
+pub mod Steepest
+pub mod Nearest
+pub mod Beginning
+pub mod Transport
+pub mod FilledOf
+pub mod Found
+pub mod Fitting
+pub mod Tracing

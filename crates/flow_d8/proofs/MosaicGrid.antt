@@ -1,5 +1,5 @@
 -- The terrain of a mosaic is a grid: adjacent points are a step apart, and no ground is as low as the void.
-use Rattle.std.proofs.Common.{◌≡◌, ℕ, zero, suc, ◌+◌, ◌-◌, ◌*◌, ◌<◌, ◌≤◌, ℤ, pos, negsuc, ◌+ℤ◌, ◌-ℤ◌, ◌≤ℤ◌, ◌<ℤ◌, ◌⊎◌, inl, inr, ⊎_elim, Bool, true, false, IsTrue, IsFalse, ◌&&◌, not, List, [], ◌∷◌, refl, sym, ap, ap₂, ◌∙◌, subst, arith, nat_abs, true≢false}
+use Rattle.std.proofs.Common.{◌≡◌, ℕ, suc, ◌<◌, ℤ, pos, negsuc, ◌+ℤ◌, ◌-ℤ◌, ◌≤ℤ◌, ◌<ℤ◌, ◌⊎◌, inl, inr, ⊎_elim, true, false, not, List, [], ◌∷◌, sym, ap₂, ◌∙◌, subst, arith, nat_abs, true≢false}
 use Rattle.std.specs.Prelude.{nat_lt, int_lt, All, filter, slice_index_or, if◌then◌else◌, cond, map, length}
 use Rattle.std.specs.Ordering.{int_eq}
 use Rattle.std.proofs.lemmas.Bool.{ltb-true, not-true, cases_Bool, cases_lt, and_parts, and_from}
@@ -13,15 +13,15 @@ use Rattle.lattice.specs.declared.height.Height.TheVariants.{At}
 use Rattle.lattice.specs.Lattice.{holds, index_of}
 use Rattle.lattice.specs.Mosaic.{Mosaic, Tile, IsMosaic, IsTile, IsSample, void, is_void}
 use Rattle.lattice.specs.Height.{sample_at, samples_at, first_height, by_seam_rule}
-use Rattle.lattice.specs.Ground.{is_ground, same_point, is_near, share_tile, is_adjacent, terrain, metres}
+use Rattle.lattice.specs.Ground.{is_ground, same_point, is_near, share_tile, terrain, metres}
 use Rattle.lattice.proofs.Levels.{≤ℤ_same}
 use Rattle.flow_d8.specs.Grid.{IsGrid}
 use Rattle.lattice.proofs.Lawful.{five_parts, terrain_is_lawful}
 
-int_lt-true : (a b : ℤ) → int_lt a b ≡ true → a <ℤ b
+pub int_lt-true : (a b : ℤ) → int_lt a b ≡ true → a <ℤ b
 int_lt-true a b h = grind (arith, ints)
 
-int_lt-false : (a b : ℤ) → int_lt a b ≡ false → b ≤ℤ a
+pub int_lt-false : (a b : ℤ) → int_lt a b ≡ false → b ≤ℤ a
 int_lt-false a b h = grind (arith, ints)
 
 int_eq-same : (a b : ℤ) → a ≡ b → int_eq a b ≡ true
@@ -39,7 +39,7 @@ shifted a b near = elim (cases_Bool (int_lt a b)) [
 at : (q : Point) (y x : ℤ) → q.y ≡ y → q.x ≡ x → q ≡ record { y = y; x = x }
 at q y x hy hx = ap₂ (λ (v w : ℤ). record { y = v; x = w }) hy hx
 
-Away : Point → Point → Type 0
+unfoldable pub Away : Point → Point → Type 0
 Away p q = (d : Dir) × (q ≡ step d p)
 
 in_row : (p q : Point) (same : same_point p q ≡ false) → q.y ≡ p.y +ℤ pos 0 → (q.x ≡ p.x +ℤ pos 0) ⊎ ((q.x ≡ p.x +ℤ pos 1) ⊎ (q.x ≡ p.x +ℤ negsuc 0)) → Away p q
@@ -60,7 +60,7 @@ to_south p q hy (inl hx) = (South, at q (p.y +ℤ negsuc 0) (p.x +ℤ pos 0) hy 
 to_south p q hy (inr (inl hx)) = (SouthEast, at q (p.y +ℤ negsuc 0) (p.x +ℤ pos 1) hy hx)
 to_south p q hy (inr (inr hx)) = (SouthWest, at q (p.y +ℤ negsuc 0) (p.x +ℤ negsuc 0) hy hx)
 
-away : (p q : Point) → same_point p q ≡ false → is_near p q ≡ true → Away p q
+pub away : (p q : Point) → same_point p q ≡ false → is_near p q ≡ true → Away p q
 away p q same near =
     let parts = and_parts (nat_lt (nat_abs (p.y -ℤ q.y)) 2) (nat_lt (nat_abs (p.x -ℤ q.x)) 2) near in
     let xs = shifted p.x q.x (ltb-true _ _ parts.1) in

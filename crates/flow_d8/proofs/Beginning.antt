@@ -1,0 +1,323 @@
+-- The points that drain downhill or off the mosaic, and the points of flats, one place after another.
+use Rattle.std.proofs.Common.{◌≡◌, ◌≢◌, ℕ, ◌+◌, ◌<◌, ◌≤◌, Bool, true, false, cond, not, ◌&&◌, IsTrue, IsFalse, Option, Some, None, List, [], ◌∷◌, ◌++◌, length, get_or, set, inl, inr, ⊎_elim, refl, sym, ap, ◌∙◌, subst, arith, true≢false, get_or-set_other, get_or-set_same, length-set, length-append}
+use Rattle.std.specs.Prelude.{All, Contains, nat_lt, is_some, count_by, MatchOption}
+use Rattle.std.specs.List.{list_all}
+use Rattle.std.proofs.lemmas.Bool.{cases_Bool, cases_eq}
+use Rattle.std.proofs.lemmas.Bool.Decides.{nat_tests}
+use Rattle.std.proofs.lemmas.List.Sums.{sum_by-set}
+use Rattle.std.proofs.lemmas.List.Elements.{Contains-append_left, Contains-append_right, All-append}
+use Rattle.lattice.specs.declared.point.Point.{Point}
+use Rattle.lattice.specs.declared.direction.Dir.{Dir}
+use Rattle.lattice.specs.declared.direction.Dir.TheVariants.{East}
+use Rattle.lattice.specs.Steps.{step, directions}
+use Rattle.flow_d8.specs.Drainage.{HasLower, IsSteepest, IsFlatDistance, IsFirstNearer, IsDirection}
+use Rattle.flow_d8.specs.Levels.{Levels, AreLevels}
+use Rattle.flow_d8.specs.Surface.{place_in, level_at, has_level, adjoins, leads_off, surface, beside_of, around_of}
+use Rattle.flow_d8.specs.Crossing.{unknown, distance_at, gap, gaps, Crosses, IsPlaceOf, IsWave, AreDistances, IsDownhill, drain_at, AreDownhill, AreDrained, IsBegun, IsFinishing, LeadsNowhere}
+use Rattle.flow_d8.proofs.Surfaces.{same_site, level_within, beside_there, beside_none}
+use Rattle.flow_d8.proofs.Nearest.{on_flat, across_flat}
+
+single : (g : ℕ) → Contains (g ∷ []) g
+single g = (0, omega arith, refl)
+
+all_single : (P : ℕ → Type 0) (g : ℕ) → P g → All P (g ∷ [])
+all_single P g h = λ k d lt. let zero_k : k ≡ 0 = omega arith in subst (λ j. P (get_or (g ∷ []) j d)) (sym zero_k) h
+
+-- eight tests, of which fewer than eight hold where not all do
+one : Bool → ℕ
+one b = cond b 1 0
+
+pub counted : (a b c d e f g h : Bool) → nat_lt (0 + cond a 1 0 + cond b 1 0 + cond c 1 0 + cond d 1 0 + cond e 1 0 + cond f 1 0 + cond g 1 0 + cond h 1 0) 8 ≡ not (a && (b && (c && (d && (e && (f && (g && (h && true))))))))
+counted true true true true true true true true = refl
+counted true true true true true true true false = refl
+counted true true true true true true false h = short1 h
+  where
+    short1 : (h : Bool) → nat_lt (0 + 1 + 1 + 1 + 1 + 1 + 1 + 0 + cond h 1 0) 8 ≡ true
+    short1 true = refl
+    short1 false = refl
+counted true true true true true false g h = few g h
+  where
+    few : (g h : Bool) → nat_lt (0 + 1 + 1 + 1 + 1 + 1 + 0 + cond g 1 0 + cond h 1 0) 8 ≡ true
+    few true true = refl
+    few true false = refl
+    few false true = refl
+    few false false = refl
+counted true true true true false f g h = grind (arith, nat_tests)
+counted true true true false e f g h = grind (arith, nat_tests)
+counted true true false d e f g h = grind (arith, nat_tests)
+counted true false c d e f g h = grind (arith, nat_tests)
+counted false b c d e f g h = grind (arith, nat_tests)
+
+module _ (f : Levels) (p : Point) where
+  some_beside : (d : Dir) → is_some (beside_of f p d) ≡ adjoins f p (step d p)
+  some_beside d = elim (cases_Bool (adjoins f p (step d p))) [
+    | inl on ↦ ap is_some (beside_there f p d on) ∙ sym on
+    | inr off ↦ ap is_some (beside_none f p d off) ∙ sym off
+  ]
+
+  all_eight : (a b c d e g h i a' b' c' d' e' g' h' i' : Bool) → a ≡ a' → b ≡ b' → c ≡ c' → d ≡ d' → e ≡ e' → g ≡ g' → h ≡ h' → i ≡ i' →
+      (a && (b && (c && (d && (e && (g && (h && (i && true)))))))) ≡ (a' && (b' && (c' && (d' && (e' && (g' && (h' && (i' && true))))))))
+  all_eight a b c d e g h i a' b' c' d' e' g' h' i' sa sb sc sd se sg sh si = cc
+
+  not_not : (b : Bool) → not (not b) ≡ b
+  not_not true = refl
+  not_not false = refl
+
+  -- a point with a level is an outlet exactly where some direction has no adjacent point
+  pub enclosed_is : IsTrue (has_level f p) → list_all is_some (around_of f p) ≡ not (leads_off f p)
+  unfolding leads_off
+  enclosed_is level =
+      all_eight _ _ _ _ _ _ _ _ _ _ _ _ _ _ _ _ (some_beside (get_or directions 0 East)) (some_beside (get_or directions 1 East)) (some_beside (get_or directions 2 East)) (some_beside (get_or directions 3 East))
+      (some_beside (get_or directions 4 East)) (some_beside (get_or directions 5 East)) (some_beside (get_or directions 6 East)) (some_beside (get_or directions 7 East))
+      ∙ sym (not_not _) ∙ ap not (sym (counted _ _ _ _ _ _ _ _) ∙ ap (λ b. b && nat_lt (count_by (λ d. adjoins f p (step d p)) directions) 8) (sym level))
+
+  -- distance 0 is the flat distance of a point that crosses its flat in no steps
+  pub at_once : Crosses f p 0 → IsFlatDistance (surface f) (level_at f) p 0
+  at_once crosses = record { crosses = crosses; least = λ j c. omega arith }
+
+module _ (f : Levels) (whole : AreLevels f) (drains : List (Option Dir)) (distances : List ℕ) (wave : List ℕ) (k : ℕ) (s : IsBegun f drains distances wave k) where
+  -- where no point has the next place
+  pub begin_none : ((p : Point) → IsTrue (has_level f p) → place_in f p ≡ k → ⊥) → IsBegun f drains distances wave (k + 1)
+  begin_none none = record {
+    right = s.right;
+    drains_whole = s.drains_whole;
+    downhill = λ p level below. elim (cases_eq (place_in f p) k) [ inl same ↦ absurd (none p level same) | inr other ↦ s.downhill p level (omega arith) ];
+    known = λ p level below crosses. elim (cases_eq (place_in f p) k) [ inl same ↦ absurd (none p level same) | inr other ↦ s.known p level (omega arith) crosses ];
+    waits = s.waits;
+    members = s.members;
+    no_drain = λ g above. s.no_drain g (omega arith);
+    no_distance = λ g above. s.no_distance g (omega arith);
+    count = s.count;
+  }
+
+  module _ (p : Point) (level : IsTrue (has_level f p)) (at : place_in f p ≡ k) where
+    this : (q : Point) → IsTrue (has_level f q) → place_in f q ≡ k → p ≡ q
+    this q q_level same = same_site f whole p q level q_level (at ∙ sym same)
+
+    -- where the point lies on a flat
+    pub begin_flat : (HasLower (surface f) (level_at f) p → ⊥) → IsFalse (leads_off f p) → IsBegun f drains distances wave (k + 1)
+    begin_flat no_lower inside = record {
+      right = s.right;
+      drains_whole = s.drains_whole;
+      downhill = λ q q_level below. elim (cases_eq (place_in f q) k) [
+        | inl same ↦
+            let none : drain_at f drains q ≡ None = s.no_drain (place_in f q) (omega arith) in
+            subst (IsDownhill f q) (sym none) (subst (λ r. HasLower (surface f) (level_at f) r → ⊥) (this q q_level same) no_lower)
+        | inr other ↦ s.downhill q q_level (omega arith)
+      ];
+      known = λ q q_level below crosses. elim (cases_eq (place_in f q) k) [
+        | inl same ↦
+            let c : Crosses f p 0 = subst (λ r. Crosses f r 0) (sym (this q q_level same)) crosses in
+            absurd (⊎_elim (λ low. no_lower low) (λ out. true≢false (sym out ∙ inside)) c)
+        | inr other ↦ s.known q q_level (omega arith) crosses
+      ];
+      waits = s.waits;
+      members = s.members;
+      no_drain = λ g above. s.no_drain g (omega arith);
+      no_distance = λ g above. s.no_distance g (omega arith);
+      count = s.count;
+    }
+
+    module _ (way : Option Dir) (down : IsDownhill f p way) (crosses : Crosses f p 0) where
+      k_within : k < length f.levels
+      k_within = subst (λ n. n < length f.levels) at (level_within f whole p level)
+
+      in_distances : k < length distances
+      in_distances = omega (arith, k_within, s.right.whole)
+
+      in_drains : k < length drains
+      in_drains = omega (arith, k_within, s.drains_whole)
+
+      other_distance : (g : ℕ) → (g ≡ k → ⊥) → distance_at (set distances k 0) g ≡ distance_at distances g
+      other_distance g other = get_or-set_other distances k g 0 unknown other
+
+      this_distance : distance_at (set distances k 0) k ≡ 0
+      this_distance = get_or-set_same distances k 0 unknown in_distances
+
+      other_drain : (g : ℕ) → (g ≡ k → ⊥) → get_or (set drains k way) g None ≡ get_or drains g None
+      other_drain g other = get_or-set_other drains k g way None other
+
+      at_zero : (g : ℕ) → distance_at distances g ≡ 0 → distance_at (set distances k 0) g ≡ 0
+      at_zero g zero_g = elim (cases_eq g k) [ inl same ↦ ap (distance_at (set distances k 0)) same ∙ this_distance | inr other ↦ other_distance g other ∙ zero_g ]
+
+      -- where the point drains downhill or off the mosaic
+      pub begin_set : IsBegun f (set drains k way) (set distances k 0) (wave ++ k ∷ []) (k + 1)
+      begin_set = record {
+        right = record {
+          valid = whole;
+          whole = length-set distances k 0 ∙ s.right.whole;
+          right = λ g known. elim (cases_eq g k) [
+            | inl same ↦
+                let zero_g : distance_at (set distances k 0) g ≡ 0 = ap (distance_at (set distances k 0)) same ∙ this_distance in
+                subst (λ v. IsPlaceOf f 0 g v) (sym zero_g) (record { point = p; level = level; place = at ∙ sym same; near = omega arith; exact = at_once f p crosses })
+            | inr other ↦
+                let is = other_distance g other in
+                subst (λ v. IsPlaceOf f 0 g v) (sym is) (s.right.right g (omega arith))
+          ];
+        };
+        drains_whole = length-set drains k way ∙ s.drains_whole;
+        downhill = λ q q_level below. elim (cases_eq (place_in f q) k) [
+          | inl same ↦
+              let is : drain_at f (set drains k way) q ≡ way = ap (λ g. get_or (set drains k way) g None) same ∙ get_or-set_same drains k way None in_drains in
+              subst (IsDownhill f q) (sym is) (subst (λ r. IsDownhill f r way) (this q q_level same) down)
+          | inr other ↦
+              subst (IsDownhill f q) (sym (other_drain (place_in f q) other)) (s.downhill q q_level (omega arith))
+        ];
+        known = λ q q_level below c. elim (cases_eq (place_in f q) k) [
+          | inl same ↦ let is : distance_at (set distances k 0) (place_in f q) ≡ 0 = ap (distance_at (set distances k 0)) same ∙ this_distance in omega arith
+          | inr other ↦ let is = other_distance (place_in f q) other in let old = s.known q q_level (omega arith) c in omega arith
+        ];
+        waits = λ q q_level zero_q. elim (cases_eq (place_in f q) k) [
+          | inl same ↦ subst (Contains (wave ++ k ∷ [])) (sym same) (Contains-append_right wave (k ∷ []) k (single k))
+          | inr other ↦ Contains-append_left wave (k ∷ []) (place_in f q) (s.waits q q_level (sym (other_distance (place_in f q) other) ∙ zero_q))
+        ];
+        members = All-append (λ g. distance_at (set distances k 0) g ≡ 0) wave (k ∷ []) (λ i d lt. at_zero (get_or wave i d) (s.members i d lt))
+            (all_single (λ g. distance_at (set distances k 0) g ≡ 0) k this_distance);
+        no_drain = λ g above. let other : g ≢ k = omega arith in other_drain g other ∙ s.no_drain g (omega arith);
+        no_distance = λ g above. let other : g ≢ k = omega arith in other_distance g other ∙ s.no_distance g (omega arith);
+        count = counted_on;
+      }
+        where
+          counted_on : gaps (set distances k 0) + length (wave ++ k ∷ []) ≡ length f.levels
+          counted_on =
+              let total : gaps (set distances k 0) + gap (distance_at distances k) ≡ gaps distances + gap 0 = sum_by-set gap distances k 0 unknown in_distances in
+              let old : gap (distance_at distances k) ≡ 1 = ap gap (s.no_distance k (omega arith)) in
+              let longer : length (wave ++ k ∷ []) ≡ length wave + 1 = simp length-append (omega arith) in
+              let now : gap 0 ≡ 0 = refl in
+              let so_far = s.count in
+              omega arith
+
+  -- at the end
+  module _ (all : length f.levels ≤ k) where
+    pub begun_downhill : AreDownhill f drains
+    begun_downhill = record { whole = s.drains_whole; downhill = λ p level. s.downhill p level (omega (arith, level_within f whole p level)) }
+
+    pub begun_wave : IsWave f distances 0 wave
+    begun_wave = record {
+      right = s.right;
+      known = λ p j level none crosses. s.known p level (omega (arith, level_within f whole p level)) (let zero_j : j ≡ 0 = omega arith in subst (λ i. Crosses f p i) zero_j crosses);
+      waits = s.waits;
+      members = s.members;
+    }
+
+pub begin_start : (f : Levels) (drains : List (Option Dir)) (distances : List ℕ) → AreLevels f → length drains ≡ length f.levels → length distances ≡ length f.levels
+    → ((g : ℕ) → get_or drains g None ≡ None) → ((g : ℕ) → distance_at distances g ≡ unknown) → gaps distances ≡ length f.levels → IsBegun f drains distances [] 0
+begin_start f drains distances whole drains_whole distances_whole no_drains no_distances count = record {
+  right = record { valid = whole; whole = distances_whole; right = λ g known. absurd (omega (arith, no_distances g)) };
+  drains_whole = drains_whole;
+  downhill = λ p level below. absurd (omega arith);
+  known = λ p level below crosses. absurd (omega arith);
+  waits = λ p level zero_p. absurd (omega (arith, no_distances (place_in f p)));
+  members = λ i d lt. absurd (omega arith);
+  no_drain = λ g above. no_drains g;
+  no_distance = λ g above. no_distances g;
+  count = omega (arith, count);
+}
+
+-- the points of flats
+module _ (f : Levels) (drains : List (Option Dir)) (distances : List ℕ) (dist : AreDistances f distances) (k : ℕ) (s : IsFinishing f drains distances k) where
+  whole : AreLevels f
+  whole = dist.valid
+
+  pub finish_none : ((p : Point) → IsTrue (has_level f p) → place_in f p ≡ k → ⊥) → IsFinishing f drains distances (k + 1)
+  finish_none none = record {
+    whole = s.whole;
+    drained = λ p level below. elim (cases_eq (place_in f p) k) [ inl same ↦ absurd (none p level same) | inr other ↦ s.drained p level (omega arith) ];
+    known = λ p level below. elim (cases_eq (place_in f p) k) [ inl same ↦ absurd (none p level same) | inr other ↦ s.known p level (omega arith) ];
+    downhill = λ p level above. s.downhill p level (omega arith);
+  }
+
+  module _ (p : Point) (level : IsTrue (has_level f p)) (at : place_in f p ≡ k) where
+    same_point_at : (q : Point) → IsTrue (has_level f q) → place_in f q ≡ k → p ≡ q
+    same_point_at q q_level same = same_site f dist.valid p q level q_level (at ∙ sym same)
+
+    -- a point whose distance isn't known leads nowhere
+    pub finish_nowhere : distance_at distances k ≡ unknown → LeadsNowhere f
+    finish_nowhere none = (p, (level, (λ j crosses. let known = dist.all p j level crosses in let here = ap (distance_at distances) at in absurd (omega arith))))
+
+    pub finish_off : distance_at distances k ≡ 0 → IsFinishing f drains distances (k + 1)
+    finish_off zero_k = record {
+      whole = s.whole;
+      drained = λ q q_level below. elim (cases_eq (place_in f q) k) [
+        | inl same ↦ subst (λ r. IsDirection (surface f) (level_at f) r (drain_at f drains r)) (same_point_at q q_level same)
+            (on_flat f dist.valid distances dist p 0 level (ap (distance_at distances) at ∙ zero_k) (omega arith) (drain_at f drains p) (s.downhill p level (omega arith)) refl)
+        | inr other ↦ s.drained q q_level (omega arith)
+      ];
+      known = λ q q_level below. elim (cases_eq (place_in f q) k) [
+        | inl same ↦ let here = ap (distance_at distances) same in omega arith
+        | inr other ↦ s.known q q_level (omega arith)
+      ];
+      downhill = λ q q_level above. s.downhill q q_level (omega arith);
+    }
+
+    module _ (distance : ℕ) (here : distance_at distances k ≡ distance) (known : distance < unknown) (some : 0 < distance)
+        (way : Option Dir) (first : MatchOption way ⊥ (λ d. IsFirstNearer (surface f) (level_at f) p d)) where
+      direction : (w : Option Dir) → MatchOption w ⊥ (λ d. IsFirstNearer (surface f) (level_at f) p d) → IsDirection (surface f) (level_at f) p w
+      direction None none = absurd none
+      direction (Some d) nearest = across_flat f dist.valid distances dist p distance level (ap (distance_at distances) at ∙ here) known d some nearest
+
+      k_in_drains : k < length drains
+      k_in_drains = omega (arith, level_within f dist.valid p level, s.whole)
+
+      drain_elsewhere : (g : ℕ) → (g ≡ k → ⊥) → get_or (set drains k way) g None ≡ get_or drains g None
+      drain_elsewhere g other = get_or-set_other drains k g way None other
+
+      pub finish_across : IsFinishing f (set drains k way) distances (k + 1)
+      finish_across = record {
+        whole = length-set drains k way ∙ s.whole;
+        drained = λ q q_level below. elim (cases_eq (place_in f q) k) [
+          | inl same ↦
+              let is : drain_at f (set drains k way) q ≡ way = ap (λ g. get_or (set drains k way) g None) same ∙ get_or-set_same drains k way None k_in_drains in
+              subst (IsDirection (surface f) (level_at f) q) (sym is) (subst (λ r. IsDirection (surface f) (level_at f) r way) (same_point_at q q_level same) (direction way first))
+          | inr other ↦ subst (IsDirection (surface f) (level_at f) q) (sym (drain_elsewhere (place_in f q) other)) (s.drained q q_level (omega arith))
+        ];
+        known = λ q q_level below. elim (cases_eq (place_in f q) k) [
+          | inl same ↦ let at_q = ap (distance_at distances) same in omega arith
+          | inr other ↦ s.known q q_level (omega arith)
+        ];
+        downhill = λ q q_level above. let other : place_in f q ≢ k = omega arith in
+            subst (IsDownhill f q) (sym (drain_elsewhere (place_in f q) other)) (s.downhill q q_level (omega arith));
+      }
+
+  module _ (all : length f.levels ≤ k) where
+    pub finished : AreDrained f drains
+    finished = record { whole = s.whole; drained = λ p level. s.drained p level (omega (arith, level_within f dist.valid p level)) }
+
+    pub finished_known : (p : Point) → IsTrue (has_level f p) → distance_at distances (place_in f p) < unknown
+    finished_known p level = s.known p level (omega (arith, level_within f dist.valid p level))
+
+pub finish_start : (f : Levels) (drains : List (Option Dir)) (distances : List ℕ) → AreDownhill f drains → IsFinishing f drains distances 0
+finish_start f drains distances down = record {
+  whole = down.whole;
+  drained = λ p level below. absurd (omega arith);
+  known = λ p level below. absurd (omega arith);
+  downhill = λ p level above. down.downhill p level;
+}
+
+module _ (f : Levels) (p : Point) where
+  -- what the search for the steepest way says
+  pub downhill_of : (way : Option Dir) → MatchOption way (HasLower (surface f) (level_at f) p → ⊥) (λ d. IsSteepest (surface f) (level_at f) p d) → IsDownhill f p way
+  downhill_of None none = none
+  downhill_of (Some d) steep = steep
+
+  pub crosses_down : (way : Option Dir) (answer : Bool) → IsDownhill f p way → not answer ≡ is_some way → answer ≡ false → Crosses f p 0
+  crosses_down None answer none is some = absurd (true≢false (sym (ap not some) ∙ is))
+  crosses_down (Some d) answer steep is some = inl (step d p, steep.lower)
+
+  pub no_lower : (way : Option Dir) (answer : Bool) → IsDownhill f p way → not answer ≡ is_some way → answer ≡ true → HasLower (surface f) (level_at f) p → ⊥
+  no_lower None answer none is h = none
+  no_lower (Some d) answer steep is h = absurd (true≢false (sym is ∙ ap not h))
+
+  pub inside_of : (enclosed : Bool) → IsTrue (has_level f p) → enclosed ≡ list_all is_some (around_of f p) → enclosed ≡ true → IsFalse (leads_off f p)
+  inside_of enclosed level is all_there = flipped (leads_off f p) (sym (enclosed_is f p level) ∙ sym is ∙ all_there)
+    where
+      flipped : (b : Bool) → not b ≡ true → IsFalse b
+      flipped true h = sym h
+      flipped false h = refl
+
+  pub off_of : (enclosed : Bool) → IsTrue (has_level f p) → enclosed ≡ list_all is_some (around_of f p) → enclosed ≡ false → Crosses f p 0
+  off_of enclosed level is no_more = inr (flipped (leads_off f p) (sym (enclosed_is f p level) ∙ sym is ∙ no_more))
+    where
+      flipped : (b : Bool) → not b ≡ false → IsTrue b
+      flipped true h = refl
+      flipped false h = sym h

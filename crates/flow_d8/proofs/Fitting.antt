@@ -1,0 +1,23 @@
+-- The coordinates of a mosaic's ground points are numbers of 32 bits.
+use Rattle.std.proofs.Common.{ℕ, suc, ◌≤◌, IsTrue, List, [], ◌∷◌, sym, arith, ⊎_elim, true≢false}
+use Rattle.std.specs.Prelude.{All}
+use Rattle.std.specs.List.{list_any}
+use Rattle.std.proofs.lemmas.Bool.{and_from, or_cases}
+use Rattle.lattice.specs.declared.point.Point.{Point}
+use Rattle.lattice.specs.Corners.{is_corner}
+use Rattle.lattice.specs.Lattice.{holds}
+use Rattle.lattice.specs.Stepping.{fits_point}
+use Rattle.lattice.specs.Mosaic.{Mosaic, IsMosaic, Tile, IsTile}
+use Rattle.lattice.specs.Ground.{is_ground}
+use Rattle.lattice.proofs.WaysOut.{held}
+use Rattle.flow_d8.proofs.Places.{held_fits}
+
+fits_of : (n : ℕ) (p : Point) (tiles : List Tile) → 3 ≤ n → n ≤ 3601 → All (IsTile n) tiles → IsTrue (list_any (λ t. holds n t.corner p) tiles) → IsTrue (fits_point p)
+fits_of n p [] low high whole h = absurd (true≢false (sym h))
+fits_of n p (t ∷ rest) low high whole h = ⊎_elim
+    (λ here. held_fits n t.corner p low high (and_from (is_corner t.corner) (holds n t.corner p) (whole 0 t (omega arith)).corner here))
+    (λ later. fits_of n p rest low high (λ k d lt. whole (suc k) d (omega arith)) later)
+    (or_cases (holds n t.corner p) _ h)
+
+pub ground_fits : (m : Mosaic) → IsMosaic m → (p : Point) → IsTrue (is_ground m p) → IsTrue (fits_point p)
+ground_fits m is p solid = fits_of m.side p m.tiles is.side_low is.side_high is.tiles (held m.side p m.tiles solid)

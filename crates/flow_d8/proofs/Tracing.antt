@@ -1,0 +1,104 @@
+-- A trace on its way: what leads from its first point to the last one so far.
+use Rattle.std.proofs.Common.{◌≡◌, ℕ, ◌<◌, ◌≤◌, ℤ, true, false, IsTrue, Option, Some, None, List, [], ◌∷◌, ◌++◌, length, get_or, refl, sym, ◌∙◌, subst, arith, inl, inr, ⊎_elim, append_assoc}
+use Rattle.std.specs.Prelude.{nat_lt}
+use Rattle.std.proofs.lemmas.Bool.{cases_Bool, cond-true, cond-false}
+use Rattle.std.proofs.lemmas.Bool.Decides.{nat_tests}
+use Rattle.std.proofs.lemmas.List.{get_or_past, get_or_default, append-nil}
+use Rattle.lattice.specs.declared.point.Point.{Point}
+use Rattle.lattice.specs.declared.direction.Dir.{Dir}
+use Rattle.lattice.specs.Steps.{step}
+use Rattle.lattice.specs.Stepping.{fits_point}
+use Rattle.lattice.specs.Mosaic.{Mosaic, IsMosaic}
+use Rattle.lattice.specs.Ground.{is_ground, terrain}
+use Rattle.flow_d8.specs.Drainage.{IsDirection}
+use Rattle.flow_d8.specs.FlowPath.{IsFlowPath}
+use Rattle.flow_d8.specs.Levels.{is_held, place_of}
+use Rattle.flow_d8.specs.Crossing.{unknown, distance_at}
+use Rattle.flow_d8.specs.Drained.{Drained, AreWhole, AreDirectionsOf, IsKnown, direction_in, distance_in}
+use Rattle.flow_d8.proofs.FlowPaths.{from_next}
+use Rattle.flow_d8.proofs.Places.{place_past}
+use Rattle.flow_d8.proofs.MosaicGrid.{mosaic_is_grid}
+use Rattle.flow_d8.proofs.Fitting.{ground_fits}
+
+lt-true : (a b : ℕ) → a < b → nat_lt a b ≡ true
+lt-true a b h = grind (arith, nat_tests)
+
+lt-not : (a b : ℕ) → (a < b → ⊥) → nat_lt a b ≡ false
+lt-not a b h = grind (arith, nat_tests)
+
+module _ (d : Drained) (p : Point) where
+  pub direction_known : IsKnown d p → direction_in d p ≡ get_or d.drains (place_of d.side d.corners p) None
+  direction_known known = cond-true (nat_lt (distance_at d.distances (place_of d.side d.corners p)) unknown) (get_or d.drains (place_of d.side d.corners p) None) None (lt-true _ _ known)
+
+  pub direction_unknown : (IsKnown d p → ⊥) → direction_in d p ≡ None
+  direction_unknown none = cond-false (nat_lt (distance_at d.distances (place_of d.side d.corners p)) unknown) (get_or d.drains (place_of d.side d.corners p) None) None (lt-not _ _ none)
+
+  pub distance_known : IsKnown d p → distance_in d p ≡ Some (distance_at d.distances (place_of d.side d.corners p))
+  distance_known known = cond-true (nat_lt (distance_at d.distances (place_of d.side d.corners p)) unknown) (Some (distance_at d.distances (place_of d.side d.corners p))) None (lt-true _ _ known)
+
+  pub distance_unknown : (IsKnown d p → ⊥) → distance_in d p ≡ None
+  distance_unknown none = cond-false (nat_lt (distance_at d.distances (place_of d.side d.corners p)) unknown) (Some (distance_at d.distances (place_of d.side d.corners p))) None (lt-not _ _ none)
+
+  -- a point that no tile holds has no known distance
+  pub unheld_unknown : AreWhole d → (IsTrue (is_held d.side d.corners p) → ⊥) → IsKnown d p → ⊥
+  unheld_unknown whole out known = elim (cases_Bool (is_held d.side d.corners p)) [
+    | inl held ↦ out held
+    | inr off ↦
+        let past : length d.distances ≤ place_of d.side d.corners p = omega (arith, place_past d.side d.corners p off, whole.distances) in
+        absurd (omega (arith, get_or_past d.distances (place_of d.side d.corners p) unknown past))
+  ]
+
+  pub known_in_distances : IsKnown d p → place_of d.side d.corners p < length d.distances
+  known_in_distances known = elim (cases_Bool (nat_lt (place_of d.side d.corners p) (length d.distances))) [
+    | inl lt ↦ grind (arith, nat_tests)
+    | inr ge ↦
+        let past : length d.distances ≤ place_of d.side d.corners p = grind (arith, nat_tests) in
+        absurd (omega (arith, get_or_past d.distances (place_of d.side d.corners p) unknown past))
+  ]
+
+no_some : {A : Type 0} (a : A) → ◌≡◌ {A = Option A} None (Some a) → ⊥
+no_some a e = cc
+
+module _ (m : Mosaic) (level : Point → ℤ) (d : Drained) (is : IsMosaic m) (are : AreDirectionsOf m level d) where
+  -- a ground point has a known distance
+  pub ground_known : (p : Point) → IsTrue (is_ground m p) → (IsKnown d p → ⊥) → ⊥
+  ground_known p solid none = let dist = are.distance p solid in no_some dist.0 (sym (distance_unknown d p none) ∙ dist.1.0)
+
+  -- the point that a ground point drains to is ground
+  pub drains_to_ground : (p : Point) (e : Dir) → IsTrue (is_ground m p) → direction_in d p ≡ Some e → IsDirection (terrain m) level p (Some e) × IsTrue (is_ground m (step e p))
+  drains_to_ground p e solid at =
+      let drains = subst (IsDirection (terrain m) level p) at (are.direction p solid) in
+      (drains, (mosaic_is_grid m is).lawful.to_ground p (step e p) (⊎_elim (λ steep. steep.lower.beside) (λ flat. flat.1.1.nearer.beside) drains))
+
+  -- the path so far, followed by what follows its last point, is the flow path of its first
+  pub record IsFollowed (first last : Point) (path : List Point) : Type 0 where
+    pub solid : IsTrue (is_ground m last)
+    pub leads : (tail : List Point) → IsFlowPath (terrain m) level last (last ∷ tail) → IsFlowPath (terrain m) level first (path ++ tail)
+
+  pub follow_start : (p : Point) → IsTrue (is_ground m p) → IsFollowed p p (p ∷ [])
+  follow_start p solid = record { solid = solid; leads = λ tail path. path }
+
+  pub follow_more : (first last to : Point) (path : List Point) (e : Dir) → direction_in d last ≡ Some e → to ≡ step e last → IsFollowed first last path → IsFollowed first to (path ++ to ∷ [])
+  follow_more first last to path e at is_to so_far =
+      let next = drains_to_ground last e so_far.solid at in
+      record {
+        solid = subst (λ q. IsTrue (is_ground m q)) (sym is_to) next.1;
+        leads = λ tail rest.
+            let on : IsFlowPath (terrain m) level (step e last) (to ∷ tail) = subst (λ q. IsFlowPath (terrain m) level q (to ∷ tail)) is_to rest in
+            let whole : IsFlowPath (terrain m) level last (last ∷ to ∷ tail) = from_next (terrain m) level last e (to ∷ tail) next.0 on in
+            subst (IsFlowPath (terrain m) level first) (sym (append_assoc path (to ∷ []) tail)) (so_far.leads (to ∷ tail) whole);
+      }
+
+  pub follow_end : (first last : Point) (path : List Point) → ((e : Dir) → direction_in d last ≡ Some e → IsTrue (fits_point (step e last)) → ⊥) → IsFollowed first last path → IsFlowPath (terrain m) level first path
+  follow_end first last path off so_far = subst (IsFlowPath (terrain m) level first) (append-nil path) (so_far.leads [] (refl, ended (direction_in d last) refl))
+    where
+      ended : (o : Option Dir) → direction_in d last ≡ o → IsDirection (terrain m) level last None
+      ended None at = subst (IsDirection (terrain m) level last) at (are.direction last so_far.solid)
+      ended (Some e) at = absurd (off e at (ground_fits m is (step e last) (drains_to_ground last e so_far.solid at).1))
+
+-- what is read of a list says whether the distance there is known
+pub read_known : (xs : List ℕ) (g v : ℕ) → g < length xs → v ≡ get_or xs g v → v < unknown → distance_at xs g < unknown
+read_known xs g v within is lt = subst (λ w. w < unknown) (is ∙ get_or_default xs g v unknown within) lt
+
+pub read_unknown : (xs : List ℕ) (g v : ℕ) → g < length xs → v ≡ get_or xs g v → unknown ≤ v → distance_at xs g < unknown → ⊥
+read_unknown xs g v within is ge lt = let same = is ∙ get_or_default xs g v unknown within in omega arith

@@ -1,0 +1,18 @@
+use Rattle.std.proofs.Common.{◌≡◌, ◌*◌, ◌/◌, ◌%◌, get_or, ap, ap₂, ◌∙◌}
+use Rattle.lattice.specs.Corners.{Place}
+use Rattle.lattice.specs.Lattice.{point_of}
+use Rattle.flow_d8.proofs.Places.{point_at_place}
+use Rattle.flow_d8.proofs.filled.Filled.point.Goals as goal
+
+pub returns : goal.returns
+returns c = λ p held at.
+    let f = c.args.self.now in
+    let corner = c.index-corners-number.result in
+    let area : c.area-area.result ≡ f.side * f.side = c.area-area.ensures.value ∙ ap₂ (λ a b. a * b) c.side.ensures c.side.ensures in
+    let corner_is : corner ≡ get_or f.corners (c.args.number / (f.side * f.side)) corner =
+    c.index-corners-number.is ∙ ap₂ (λ ks a. get_or ks (c.args.number / a) corner) c.corners-corners.ensures.value area in
+    c.point_at.ensures.value
+    ∙ ap (λ n. point_of n corner (c.args.number % c.area-area.result)) c.side-2.ensures
+    ∙ ap (λ a. point_of f.side corner (c.args.number % a)) area
+    ∙ ap (λ (k : Place). point_of f.side k (c.args.number % (f.side * f.side))) corner_is
+    ∙ point_at_place f.side f.corners p c.args.number corner c.corners-corners.ensures.valid.side_low held at

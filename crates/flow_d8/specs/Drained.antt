@@ -1,0 +1,41 @@
+-- Where each point of a mosaic drains, kept by the places of samples.
+use Rattle.std.specs.Prelude.{◌≡◌, ℕ, ◌*◌, ◌<◌, ◌≤◌, ℤ, IsTrue, IsFalse, Option, Some, None, List, length, nat_lt, if◌then◌else◌, slice_index_or}
+use Rattle.lattice.specs.declared.point.Point.{Point}
+use Rattle.lattice.specs.declared.direction.Dir.{Dir}
+use Rattle.lattice.specs.Corners.{Place}
+use Rattle.lattice.specs.Mosaic.{Mosaic}
+use Rattle.lattice.specs.Ground.{is_ground, terrain}
+use Rattle.flow_d8.specs.Drainage.{IsFlatDistance, IsDirection}
+use Rattle.flow_d8.specs.Levels.{place_of}
+use Rattle.flow_d8.specs.Crossing.{unknown, distance_at}
+
+-- the corners of the tiles, and for each of their samples a direction and a flat distance
+pub record Drained : Type 0 where
+  pub side : ℕ
+  pub corners : List Place
+  pub drains : List (Option Dir)
+  pub distances : List ℕ
+
+pub record AreWhole (d : Drained) : Type 0 where
+  pub side_low : 3 ≤ d.side
+  pub few : length d.corners ≤ 240
+  pub drains : length d.drains ≡ length d.corners * (d.side * d.side)
+  pub distances : length d.distances ≡ length d.corners * (d.side * d.side)
+
+-- the point has a known distance
+abbrev pub IsKnown : Drained → Point → Type 0
+IsKnown d p = distance_at d.distances (place_of d.side d.corners p) < unknown
+
+-- the point's direction; none off the mosaic, and where no distance is known
+abbrev pub direction_in : Drained → Point → Option Dir
+direction_in d p = if nat_lt (distance_at d.distances (place_of d.side d.corners p)) unknown then slice_index_or d.drains (place_of d.side d.corners p) None else None
+
+-- the point's flat distance, where it is known
+abbrev pub distance_in : Drained → Point → Option ℕ
+distance_in d p = if nat_lt (distance_at d.distances (place_of d.side d.corners p)) unknown then Some (distance_at d.distances (place_of d.side d.corners p)) else None
+
+-- each ground point's direction and flat distance; a point that isn't ground has neither
+pub record AreDirectionsOf (m : Mosaic) (level : Point → ℤ) (d : Drained) : Type 0 where
+  pub direction : (p : Point) → IsTrue (is_ground m p) → IsDirection (terrain m) level p (direction_in d p)
+  pub distance : (p : Point) → IsTrue (is_ground m p) → (k : ℕ) × ((distance_in d p ≡ Some k) × IsFlatDistance (terrain m) level p k)
+  pub elsewhere : (p : Point) → IsFalse (is_ground m p) → (direction_in d p ≡ None) × (distance_in d p ≡ None)

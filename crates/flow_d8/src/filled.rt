@@ -1,0 +1,192 @@
+//! The filled levels of a mosaic.
+ghost use Rattle.std.specs.Prelude.{◌≡◌, ◌≤◌, ◌<◌, ◌*◌, IsTrue, IsSome, IfSome, MatchOption, SomeIff, length, ◌↔◌, ◌&&◌, not, slice_index_or};
+ghost use Rattle.std.specs.List.{AllAdjacentBelow, list_any};
+ghost use Rattle.lattice.specs.Corners.{is_before};
+ghost use Rattle.lattice.specs.Lattice.{IsBefore};
+ghost use Rattle.lattice.specs.Mosaic.{void, is_void};
+ghost use Rattle.lattice.specs.declared.point.Point.{Point};
+ghost use Rattle.flow_d8.specs.Levels.{AreLevels, is_held, is_holder};
+ghost use Rattle.flow_d8.specs.Surface.{place_in, has_level, beside_of, around_of};
+
+use crate::place::{place, stepped};
+use lattice::{Corner, Dir, Point, Side, index_in, point_at};
+use std::marker::Model;
+
+// The most tiles that a store has room for.
+const MOST_TILES: usize = 240;
+
+// The level of a point that has none.
+const VOID: i16 = i16::MIN;
+
+/// The filled levels of all present tiles, from which directions are found.
+#[derive(Drop)]
+pub struct Filled {
+    side: Side,
+    corners: Vec<Corner>,
+    levels: Vec<i16>,
+}
+
+impl Model for Filled {
+    ghost use Rattle.flow_d8.specs.Levels.{Levels, AreLevels};
+
+    ghost Value = { Levels };
+
+    ghost view = { λ f. record { side = f.side; corners = f.corners.items; levels = f.levels.items } };
+
+    ghost invariant = { λ f. AreLevels (record { side = f.side; corners = f.corners.items; levels = f.levels.items }) };
+}
+
+impl Filled {
+    /// The levels of the tiles at these corners, in metres: tile after tile, each row by row from the north, in a row
+    /// from the west, -32768 where a point has none. None where the corners aren't in the order of tiles, are more than
+    /// 240, or where the levels aren't as many as the tiles have samples. Takes no memory.
+    pub fn new(side: Side, corners: Vec<Corner>, levels: Vec<i16>) -> Option<Filled>
+        ensures { SomeIff result (AreLevels (record { side = side; corners = corners.items; levels = levels.items })) (record { side = side; corners = corners.items; levels = levels.items }) }
+    {
+        if corners.len() <= MOST_TILES
+            && are_rising(&corners)
+            && levels.len() == corners.len() * side.area() as usize
+        {
+            Some(Filled {
+                side,
+                corners,
+                levels,
+            })
+        } else {
+            None
+        }
+    }
+
+    /// The side of each tile.
+    pub(crate) fn side(&self) -> Side
+        ensures { result ≡ self.now.side }
+    {
+        self.side
+    }
+
+    /// The corners of the tiles, in order.
+    pub(crate) fn corners(&self) -> &[Corner]
+        ensures value { result.now ≡ self.now.corners }
+        ensures valid { AreLevels self.now }
+    {
+        &self.corners
+    }
+
+    /// The levels, tile after tile.
+    pub(crate) fn levels(&self) -> &[i16]
+        ensures value { result.now ≡ self.now.levels }
+        ensures valid { AreLevels self.now }
+        ensures small { length self.now.levels ≤ 3112192240 }
+    {
+        &self.levels
+    }
+
+    /// The point with a level that has this place, if there is one: a point that several tiles hold has its place in
+    /// the first of them.
+    pub(crate) fn site(&self, number: usize) -> Option<Point>
+        requires { number < length self.now.levels }
+        ensures { MatchOption result ((p : Point) → IsTrue (has_level self.now p) → place_in self.now p ≡ number → ⊥) (λ p. IsTrue (has_level self.now p) × (place_in self.now p ≡ number)) }
+    {
+        if !is_level(self.levels(), number) {
+            return None;
+        }
+        let point = self.point(number);
+        let first = place(self.side(), self.corners(), point)?;
+        if first == number { Some(point) } else { None }
+    }
+
+    // The point of a sample.
+    fn point(&self, number: usize) -> Point
+        requires { number < length self.now.levels }
+        ensures { (p : Point) → IsTrue (is_held self.now.side self.now.corners p) → place_in self.now p ≡ number → result ≡ p }
+    {
+        let area = self.side().area() as usize;
+        let corners = self.corners();
+        point_at(self.side(), corners[number / area], (number % area) as u32)
+    }
+
+    /// The places of the points that are adjacent to a point, by direction in the order of codes.
+    pub(crate) fn around(&self, point: Point) -> [Option<usize>; 8]
+        requires { IsTrue (has_level self.now point) }
+        ensures { result ≡ around_of self.now point }
+    {
+        [
+            self.beside(point, Dir::East),
+            self.beside(point, Dir::SouthEast),
+            self.beside(point, Dir::South),
+            self.beside(point, Dir::SouthWest),
+            self.beside(point, Dir::West),
+            self.beside(point, Dir::NorthWest),
+            self.beside(point, Dir::North),
+            self.beside(point, Dir::NorthEast),
+        ]
+    }
+
+    // The place of the adjacent point in this direction, if there is one.
+    fn beside(&self, point: Point, direction: Dir) -> Option<usize>
+        requires { IsTrue (has_level self.now point) }
+        ensures { result ≡ beside_of self.now point direction }
+    {
+        let levels = self.levels();
+        let to = stepped(point, direction)?;
+        if !share_tile(self.side(), self.corners(), point, to) {
+            return None;
+        }
+        let number = place(self.side(), self.corners(), to)?;
+        if is_level(levels, number) {
+            Some(number)
+        } else {
+            None
+        }
+    }
+}
+
+// Whether the point of a sample has a level.
+fn is_level(levels: &[i16], number: usize) -> bool
+    requires { number < length levels.now }
+    ensures { result ≡ not (is_void (slice_index_or levels.now number void)) }
+{
+    levels[number] != VOID
+}
+
+/// Whether two samples have one level.
+pub(crate) fn same_level(levels: &[i16], number: usize, other: usize) -> bool
+    requires number { number < length levels.now }
+    requires other { other < length levels.now }
+    ensures { IsTrue result ↔ (slice_index_or levels.now other void ≡ slice_index_or levels.now number void) }
+{
+    levels[other] == levels[number]
+}
+
+// Whether some one tile holds both points.
+fn share_tile(side: Side, corners: &[Corner], point: Point, other: Point) -> bool
+    ensures { result ≡ list_any (λ c. is_holder side c point && is_holder side c other) corners.now }
+{
+    corners.iter().any(|corner| holds_point(side, *corner, point)
+        && holds_point(side, *corner, other))
+}
+
+fn holds_point(side: Side, corner: Corner, point: Point) -> bool
+    ensures { result ≡ is_holder side corner point }
+{
+    let _low = side.edge();
+    index_in(side, corner, point).is_some()
+}
+
+// Whether each corner comes after the one before it.
+fn are_rising(corners: &[Corner]) -> bool
+    ensures { IsTrue result ↔ AllAdjacentBelow IsBefore corners.now (length corners.now) }
+{
+    for i in 1..corners.len() {
+        if !comes_before(corners[i - 1], corners[i]) {
+            return false;
+        }
+    }
+    true
+}
+
+fn comes_before(first: Corner, second: Corner) -> bool
+    ensures { result ≡ is_before first second }
+{
+    first.lat < second.lat || (first.lat == second.lat && first.lon < second.lon)
+}

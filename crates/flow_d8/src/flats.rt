@@ -1,0 +1,185 @@
+//! Flats, crossed the shortest way: a breadth-first search from all points that drain downhill or off the mosaic.
+ghost use Rattle.std.specs.Prelude.{◌≡◌, ℕ, ◌+◌, ◌↔◌, ◌<◌, ◌≤◌, IsTrue, IfOk, OnOk, MatchOption, length, slice_index_or};
+ghost use Rattle.lattice.specs.Steps.{step, order_of};
+ghost use Rattle.lattice.specs.declared.direction.Dir.{Dir};
+ghost use Rattle.lattice.specs.declared.point.Point.{Point};
+ghost use Rattle.flow_d8.specs.Drainage.{IsFirstNearer, IsNearer, IsFlatDistance};
+ghost use Rattle.flow_d8.specs.Surface.{place_in, level_at, has_level, adjoins, beside_of, surface};
+ghost use Rattle.flow_d8.specs.Crossing.{unknown, distance_at, gaps, AreKept, IsWave, IsSpreading, IsSpread, AreDistances};
+
+use crate::filled::{Filled, same_level};
+use lattice::{DIRECTIONS, Dir, Point};
+use std::alloc::{AllocError, Global};
+
+/// The distance of a point whose distance isn't known.
+pub(crate) const UNKNOWN: u32 = u32::MAX;
+
+/// Gives each point that leads anywhere over its flat its distance, where the points of the first wave have theirs: 0.
+pub(crate) fn cross(
+    alloc: Global,
+    filled: &Filled,
+    distances: &mut [u32],
+    first: Vec<u32>,
+) -> Result<(), AllocError>
+    requires wave { IsWave filled.now distances.old 0 first.items }
+    requires room { gaps distances.old + length first.items ≤ length filled.now.levels }
+    ensures { OnOk result (AreDistances filled.now distances.new) }
+{
+    let _levels = filled.levels();
+    let mut wave = first;
+    let mut reached = 0;
+    'waves: while !wave.is_empty() {
+        wave = next_wave(alloc, filled, distances, &wave, reached)?;
+        reached += 1;
+    }
+    Ok(())
+}
+
+// The points that are first reached from those of a wave, which have this distance: each gets the next one.
+fn next_wave(
+    alloc: Global,
+    filled: &Filled,
+    distances: &mut [u32],
+    wave: &[u32],
+    reached: u32,
+) -> Result<Vec<u32>, AllocError>
+    requires small { reached + 1 < unknown }
+    requires wave { IsWave filled.now distances.old reached wave.now }
+    ensures wave { IfOk result (λ next. IsWave filled.now distances.new (reached + 1) next.items) }
+    ensures count { IfOk result (λ next. gaps distances.new + length next.items ≡ gaps distances.old) }
+{
+    let mut next = Vec::new(alloc);
+    for number in wave {
+        spread(filled, distances, *number as usize, reached + 1, &mut next)?;
+    }
+    Ok(next)
+}
+
+// Gives each point beside this one that has its level and no distance yet the next distance.
+fn spread(
+    filled: &Filled,
+    distances: &mut [u32],
+    number: usize,
+    distance: u32,
+    next: &mut Vec<u32>,
+) -> Result<(), AllocError>
+    requires small { distance < unknown }
+    requires state { IsSpreading filled.now distances.old distance next.old.items }
+    requires from { distance_at distances.old number + 1 ≡ distance }
+    ensures state { OnOk result (IsSpreading filled.now distances.new distance next.new.items) }
+    ensures kept { OnOk result (AreKept distances.old distances.new) }
+    ensures spread { OnOk result (IsSpread filled.now distances.new number) }
+    ensures count { OnOk result (gaps distances.new + length next.new.items ≡ gaps distances.old + length next.old.items) }
+{
+    let Some(point) = filled.site(number) else {
+        return Ok(());
+    };
+    let around = filled.around(point);
+    for i in 0..8 {
+        visit(
+            filled,
+            distances,
+            point,
+            number,
+            DIRECTIONS[i],
+            around[i],
+            distance,
+            next,
+        )?;
+    }
+    Ok(())
+}
+
+// Gives the point one step away the next distance, where it has the same level and no distance yet.
+fn visit(
+    filled: &Filled,
+    distances: &mut [u32],
+    point: Point,
+    number: usize,
+    direction: Dir,
+    beside: Option<usize>,
+    distance: u32,
+    next: &mut Vec<u32>,
+) -> Result<(), AllocError>
+    requires small { distance < unknown }
+    requires state { IsSpreading filled.now distances.old distance next.old.items }
+    requires level { IsTrue (has_level filled.now point) }
+    requires place { place_in filled.now point ≡ number }
+    requires from { distance_at distances.old number + 1 ≡ distance }
+    requires beside { beside ≡ beside_of filled.now point direction }
+    ensures state { OnOk result (IsSpreading filled.now distances.new distance next.new.items) }
+    ensures kept { OnOk result (AreKept distances.old distances.new) }
+    ensures visited { OnOk result (IsTrue (adjoins filled.now point (step direction point)) → level_at filled.now (step direction point) ≡ level_at filled.now point → distance_at distances.new (place_in filled.now (step direction point)) < unknown) }
+    ensures count { OnOk result (gaps distances.new + length next.new.items ≡ gaps distances.old + length next.old.items) }
+{
+    let Some(other) = beside else {
+        return Ok(());
+    };
+    if !same_level(filled.levels(), number, other) || distances[other] != UNKNOWN {
+        return Ok(());
+    }
+    next.push(other as u32)?;
+    distances[other] = distance;
+    Ok(())
+}
+
+/// The first step, in the order of codes, to a point of the same level whose distance is less by one.
+pub(crate) fn nearer(
+    filled: &Filled,
+    distances: &[u32],
+    point: Point,
+    number: usize,
+    distance: u32,
+) -> Option<Dir>
+    requires level { IsTrue (has_level filled.now point) }
+    requires place { place_in filled.now point ≡ number }
+    requires distances { AreDistances filled.now distances.now }
+    requires distance { distance_at distances.now number ≡ distance }
+    requires known { distance < unknown }
+    requires some { 0 < distance }
+    ensures { MatchOption result ⊥ (λ d. IsFirstNearer (surface filled.now) (level_at filled.now) point d) }
+{
+    let around = filled.around(point);
+    for i in 0..8 {
+        if is_nearer(
+            filled,
+            distances,
+            point,
+            number,
+            DIRECTIONS[i],
+            around[i],
+            distance,
+        ) {
+            return Some(DIRECTIONS[i]);
+        }
+    }
+    None
+}
+
+// Whether the point one step away has the same level and a distance less by one.
+fn is_nearer(
+    filled: &Filled,
+    distances: &[u32],
+    point: Point,
+    number: usize,
+    direction: Dir,
+    beside: Option<usize>,
+    distance: u32,
+) -> bool
+    requires level { IsTrue (has_level filled.now point) }
+    requires place { place_in filled.now point ≡ number }
+    requires distances { AreDistances filled.now distances.now }
+    requires distance { distance_at distances.now number ≡ distance }
+    requires known { distance < unknown }
+    requires some { 0 < distance }
+    requires beside { beside ≡ beside_of filled.now point direction }
+    ensures { IsTrue result ↔ IsNearer (surface filled.now) (level_at filled.now) point (step direction point) }
+{
+    let Some(other) = beside else {
+        return false;
+    };
+    if !same_level(filled.levels(), number, other) {
+        return false;
+    }
+    distances[other] == distance - 1
+}
