@@ -6,6 +6,7 @@ pub mod MosaicGrid
 pub mod Places
 pub mod Seeking
 pub mod Surfaces
+pub mod Inside
 pub mod Waves
 pub mod Steepest
 pub mod Nearest

@@ -1,5 +1,5 @@
 -- Levels of many tiles, tile after tile in one list, and where in it a point lies.
-use Rattle.std.specs.Prelude.{◌≡◌, ℕ, ◌+◌, ◌*◌, ◌<◌, ◌≤◌, ℤ, Bool, IsTrue, IsFalse, ◌&&◌, if◌then◌else◌, List, [], ◌∷◌, length, map, slice_index_or, slice_get, Some}
+use Rattle.std.specs.Prelude.{◌≡◌, ℕ, ◌+◌, ◌*◌, ◌/◌, ◌%◌, nat_le, ◌<◌, ◌≤◌, ℤ, Bool, IsTrue, IsFalse, ◌&&◌, if◌then◌else◌, List, [], ◌∷◌, length, map, slice_index_or, slice_get, Some}
 use Rattle.std.specs.List.{list_any, AllAdjacentBelow}
 use Rattle.lattice.specs.declared.point.Point.{Point}
 use Rattle.lattice.specs.Corners.{Place, is_corner}
@@ -48,3 +48,7 @@ place_of n (c ∷ rest) p = if is_holder n c p then index_of n c p else n * n + 
 -- no mosaic has these filled levels
 abbrev pub IsOfNoMosaic : Levels → Type 0
 IsOfNoMosaic f = (m : Mosaic) → IsMosaic m → IsFilledOf m f → ⊥
+
+-- the sample lies at least two samples from the edges of its tile
+abbrev pub is_deep : ℕ → ℕ → Bool
+is_deep n e = nat_le 2 (e / n) && nat_le (e / n + 3) n && nat_le 2 (e % n) && nat_le (e % n + 3) n

@@ -1,11 +1,11 @@
 //! The filled levels of a mosaic.
-ghost use Rattle.std.specs.Prelude.{◌≡◌, ◌≤◌, ◌<◌, ◌*◌, IsTrue, IsSome, IfSome, MatchOption, SomeIff, length, ◌↔◌, ◌&&◌, not, slice_index_or};
+ghost use Rattle.std.specs.Prelude.{◌≡◌, ◌≤◌, ◌<◌, ◌*◌, IsTrue, IsSome, IfSome, MatchOption, SomeIff, length, ◌↔◌, ◌&&◌, not, if◌then◌else◌, true, slice_index_or, ◌%◌, ◌+◌};
 ghost use Rattle.std.specs.List.{AllAdjacentBelow, list_any};
 ghost use Rattle.lattice.specs.Corners.{is_before};
 ghost use Rattle.lattice.specs.Lattice.{IsBefore};
 ghost use Rattle.lattice.specs.Mosaic.{void, is_void};
 ghost use Rattle.lattice.specs.declared.point.Point.{Point};
-ghost use Rattle.flow_d8.specs.Levels.{AreLevels, is_held, is_holder};
+ghost use Rattle.flow_d8.specs.Levels.{AreLevels, is_held, is_holder, is_deep};
 ghost use Rattle.flow_d8.specs.Surface.{place_in, has_level, beside_of, around_of};
 
 use crate::place::{place, stepped};
@@ -105,8 +105,54 @@ impl Filled {
         point_at(self.side(), corners[number / area], (number % area) as u32)
     }
 
-    /// The places of the points that are adjacent to a point, by direction in the order of codes.
-    pub(crate) fn around(&self, point: Point) -> [Option<usize>; 8]
+    /// The places of the points that are adjacent to the one with this place, by direction in the order of codes.
+    pub(crate) fn around(&self, point: Point, number: usize) -> [Option<usize>; 8]
+        requires level { IsTrue (has_level self.now point) }
+        requires place { place_in self.now point ≡ number }
+        ensures { result ≡ around_of self.now point }
+    {
+        let n = self.side().samples() as usize;
+        if lies_deep(n, number % (n * n)) {
+            self.around_inside(number)
+        } else {
+            self.around_edges(point)
+        }
+    }
+
+    // The same for a point that isn't near the edges of its tile: all around it lies inside that tile alone.
+    fn around_inside(&self, number: usize) -> [Option<usize>; 8]
+        requires site { (p : Point) × (IsTrue (has_level self.now p) × (place_in self.now p ≡ number)) }
+        requires deep { is_deep self.now.side (number % (self.now.side * self.now.side)) ≡ true }
+        ensures { (p : Point) → IsTrue (has_level self.now p) → place_in self.now p ≡ number → result ≡ around_of self.now p }
+    {
+        let levels = self.levels();
+        let n = self.row_length(number);
+        [
+            level_place(levels, number + 1),
+            level_place(levels, number + n + 1),
+            level_place(levels, number + n),
+            level_place(levels, number + n - 1),
+            level_place(levels, number - 1),
+            level_place(levels, number - n - 1),
+            level_place(levels, number - n),
+            level_place(levels, number - n + 1),
+        ]
+    }
+
+    // The samples of a row. As many lie before such a point, and after it, and one more.
+    fn row_length(&self, number: usize) -> usize
+        requires site { (p : Point) × (IsTrue (has_level self.now p) × (place_in self.now p ≡ number)) }
+        requires deep { is_deep self.now.side (number % (self.now.side * self.now.side)) ≡ true }
+        ensures value { result ≡ self.now.side }
+        ensures before { result + 1 ≤ number }
+        ensures after { number + result + 1 < length self.now.levels }
+    {
+        let _levels = self.levels();
+        self.side().samples() as usize
+    }
+
+    // The same for any point: over edges that tiles share.
+    fn around_edges(&self, point: Point) -> [Option<usize>; 8]
         requires { IsTrue (has_level self.now point) }
         ensures { result ≡ around_of self.now point }
     {
@@ -138,6 +184,29 @@ impl Filled {
         } else {
             None
         }
+    }
+}
+
+// Whether a sample of a tile lies at least two samples from its edges.
+fn lies_deep(n: usize, index: usize) -> bool
+    requires side { (3 ≤ n) × (n ≤ 3601) }
+    requires index { index < n * n }
+    ensures { result ≡ is_deep n index }
+{
+    let row = index / n;
+    let column = index % n;
+    2 <= row && row + 3 <= n && 2 <= column && column + 3 <= n
+}
+
+// The place, where its point has a level.
+fn level_place(levels: &[i16], number: usize) -> Option<usize>
+    requires { number < length levels.now }
+    ensures { result ≡ (if not (is_void (slice_index_or levels.now number void)) then Some number else None) }
+{
+    if is_level(levels, number) {
+        Some(number)
+    } else {
+        None
     }
 }
 

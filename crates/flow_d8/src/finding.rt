@@ -95,7 +95,7 @@ fn begin(
     let Some(point) = filled.site(number) else {
         return Ok(());
     };
-    let around = filled.around(point);
+    let around = filled.around(point, number);
     let way = steepest(filled, point, number, &around);
     if way.is_none() && is_enclosed(&around) {
         return Ok(());

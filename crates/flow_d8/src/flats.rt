@@ -74,7 +74,7 @@ fn spread(
     let Some(point) = filled.site(number) else {
         return Ok(());
     };
-    let around = filled.around(point);
+    let around = filled.around(point, number);
     for i in 0..8 {
         visit(
             filled,
@@ -139,7 +139,7 @@ pub(crate) fn nearer(
     requires some { 0 < distance }
     ensures { MatchOption result ⊥ (λ d. IsFirstNearer (surface filled.now) (level_at filled.now) point d) }
 {
-    let around = filled.around(point);
+    let around = filled.around(point, number);
     for i in 0..8 {
         if is_nearer(
             filled,
