@@ -28,7 +28,7 @@ pub use rows::{
     adjacency_rows, depth_rows, edit_rows, import_rows, patch_rows, refusal_rows, rim_rows,
     seam_rows, step_rows, void_rows,
 };
-pub use runs::{Run, watershed};
+pub use runs::watershed;
 pub use seam::{disagrees, height};
 
 #[cfg(test)]

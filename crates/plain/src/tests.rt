@@ -1,6 +1,6 @@
 //! Worked rows: tiles of three by three samples, written as rows from the north.
 use crate::{
-    Plain, Run, direction, disagrees, effect, filled_levels, flat_distance, flow_path, height,
+    Plain, direction, disagrees, effect, filled_levels, flat_distance, flow_path, height,
     is_adjacent, is_ground, is_outlet, watershed,
 };
 use arrayvec::ArrayVec;
@@ -8,6 +8,7 @@ use edits::{Bytes, Command};
 use lattice::{Corner, Height, Point, Refusal, Side};
 use std::alloc::{AllocError, Global};
 use std::test::Fail;
+use watershed::Run;
 
 const V: i16 = -32768;
 

@@ -1,2 +1,4 @@
 pub mod Runs
 pub mod RunsLaws
+pub mod Order
+pub mod Search

@@ -1,0 +1,13 @@
+pub mod Added
+pub mod Building
+pub mod Heaps
+pub mod Joined
+pub mod Linked
+pub mod Parts
+pub mod Listed
+pub mod RimNumbers
+pub mod Rims
+pub mod Shared
+pub mod Surge
+pub mod Tiles
+pub mod Ways

@@ -1,0 +1,102 @@
+-- Joining: links between the rim points of all tiles, and one outlet node (this product's own profile, after the tiled
+-- flooding of Barnes 2016).
+use Rattle.std.specs.Prelude.{◌≡◌, ◌≢◌, ℕ, ◌*◌, ◌-◌, ◌<◌, ℤ, IsTrue, false, List, [], All, Contains, length, map, slice_index, slice_index_or, pos, ◌⊎◌}
+use Rattle.lattice.specs.declared.point.Point.{Point}
+use Rattle.lattice.specs.Corners.{Place}
+use Rattle.lattice.specs.Lattice.{point_of}
+use Rattle.lattice.specs.Mosaic.{Mosaic, void}
+use Rattle.lattice.specs.Ground.{is_ground, is_outlet}
+use Rattle.lattice.specs.Block.{IsBlockOf, is_rim, rim_number}
+use Rattle.tile_flood.specs.Labelling.{IsLabelling, OUT, NO_LABEL}
+use Rattle.tile_flood.specs.Spills.{AreSpills}
+use Rattle.border_graph.specs.declared.summary.RimPoint.{RimPoint}
+use Rattle.border_graph.specs.Borders.{Border}
+
+-- a rim number that isn't there
+abbrev pub nowhere : RimPoint
+nowhere = record { height = void; label = NO_LABEL; outlet = false }
+
+abbrev pub rim_point : Border → ℕ → RimPoint
+rim_point b k = slice_index_or b.rim k nowhere
+
+abbrev pub border_at : List Border → ℕ → Border
+border_at borders t = slice_index_or borders t (record { corner = record { lat = pos 0; lon = pos 0 }; rim = []; spills = [] })
+
+-- each rim point of the block with its height, its label, and whether it is an outlet of the mosaic
+pub record IsRimOf (m : Mosaic) (c : Place) (heights : List ℤ) (labels : List ℕ) (b : Border) : Type 0 where
+  pub whole : length b.rim ≡ 4 * (m.side - 1)
+  pub height : (e : ℕ) → e < m.side * m.side → IsTrue (is_rim m.side e) → (rim_point b (rim_number m.side e)).height ≡ slice_index_or heights e void
+  pub label : (e : ℕ) → e < m.side * m.side → IsTrue (is_rim m.side e) → (rim_point b (rim_number m.side e)).label ≡ slice_index labels e
+  pub outlet : (e : ℕ) → e < m.side * m.side → IsTrue (is_rim m.side e) → IsTrue (is_ground m (point_of m.side c e)) → (rim_point b (rim_number m.side e)).outlet ≡ is_outlet m (point_of m.side c e)
+
+-- the summary of a valid labelling of the tile's block
+pub record IsBorderOf (m : Mosaic) (b : Border) : Type 0 where
+  pub heights : List ℤ
+  pub levels : List ℤ
+  pub labels : List ℕ
+  pub block : IsBlockOf m b.corner heights
+  pub labelling : IsLabelling m.side heights levels labels
+  pub spills : AreSpills m.side heights levels labels b.spills
+  pub rim : IsRimOf m b.corner heights labels b
+
+-- of each present tile, in the order of tiles
+pub record AreBorders (m : Mosaic) (borders : List Border) : Type 0 where
+  pub corners : map (λ b. b.corner) borders ≡ map (λ t. t.corner) m.tiles
+  pub each : All (IsBorderOf m) borders
+
+-- the outlet node, and each rim point of each tile: by the tile's place in the list and the rim number
+pub data Node : Type 0 where
+  Outlet : Node
+  Rim : ℕ → ℕ → Node
+
+-- the rim number is that of the point in the tile
+pub record IsRimNumberOf (n : ℕ) (c : Place) (k : ℕ) (p : Point) : Type 0 where
+  pub index : ℕ
+  pub small : index < n * n
+  pub rim : IsTrue (is_rim n index)
+  pub number : rim_number n index ≡ k
+  pub point : point_of n c index ≡ p
+
+module _ (n : ℕ) (borders : List Border) where
+  -- a ground point of a rim
+  pub record IsThere (t k : ℕ) : Type 0 where
+    pub tile : t < length borders
+    pub number : k < 4 * (n - 1)
+    pub solid : (rim_point (border_at borders t) k).height ≢ void
+
+  -- and what the summary says of it
+  pub record IsThereAt (t k : ℕ) (point : RimPoint) : Type 0 where
+    pub there : IsThere t k
+    pub is : rim_point (border_at borders t) k ≡ point
+
+  -- to what its label names, at its height
+  pub record IsLabelLink (t k label : ℕ) (level : ℤ) : Type 0 where
+    pub names : (rim_point (border_at borders t) k).label ≡ label
+    pub height : (rim_point (border_at borders t) k).height ≡ level
+
+  -- between two labels of a tile, at their spill
+  abbrev pub IsSpillLink : ℕ → ℕ → ℕ → ℤ → Type 0
+  IsSpillLink t a b level = Contains (border_at borders t).spills (record { a = a; b = b; level = level })
+
+  -- an outlet of the mosaic, at its height
+  pub record IsOutletLink (t k : ℕ) (level : ℤ) : Type 0 where
+    pub outlet : IsTrue (rim_point (border_at borders t) k).outlet
+    pub height : (rim_point (border_at borders t) k).height ≡ level
+
+  -- one point of two tiles, at its height
+  pub record IsSharedLink (t k u l : ℕ) (level : ℤ) : Type 0 where
+    pub apart : t ≢ u
+    pub point : Point
+    pub here : IsRimNumberOf n (border_at borders t).corner k point
+    pub there : IsRimNumberOf n (border_at borders u).corner l point
+    pub height : (rim_point (border_at borders t) k).height ≡ level
+
+  -- between two rim points of one tile
+  abbrev pub IsInnerLink : ℕ → ℕ → ℕ → ℤ → Type 0
+  IsInnerLink t k l level = IsLabelLink t k l level ⊎ (IsLabelLink t l k level ⊎ (IsSpillLink t k l level ⊎ IsSpillLink t l k level))
+
+  -- the links
+  abbrev pub IsLink : Node → Node → ℤ → Type 0
+  IsLink Outlet y level = ⊥
+  IsLink (Rim t k) Outlet level = IsThere t k × (IsOutletLink t k level ⊎ (IsLabelLink t k OUT level ⊎ IsSpillLink t k OUT level))
+  IsLink (Rim t k) (Rim u l) level = IsThere t k × (IsThere u l × (((t ≡ u) × IsInnerLink t k l level) ⊎ IsSharedLink t k u l level))

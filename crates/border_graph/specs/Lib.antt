@@ -1,0 +1,9 @@
+pub mod Borders
+pub mod Links
+pub mod Joining
+pub mod Joins
+pub mod Waiting
+pub mod Rising
+pub mod Linking
+pub mod RimPoints
+pub mod Sharing

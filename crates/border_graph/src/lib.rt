@@ -1,0 +1,18 @@
+//! Joins the tiles of a mosaic at their rims.
+//!
+//! The layers above rest on this: from a summary of each tile's labelling, `join` gives the filled level of each ground
+//! point on the rim of a tile.
+#![tactic(auto)]
+
+mod joining;
+mod linking;
+mod rim;
+mod rising;
+mod sharing;
+mod summary;
+#[cfg(test)]
+mod tests;
+mod waiting;
+
+pub use joining::join;
+pub use summary::{RimPoint, Summary};

@@ -1,0 +1,299 @@
+//! The links between the rim points of all tiles.
+ghost use Rattle.std.specs.Prelude.{◌≡◌, Contains, ◌+◌, ◌*◌, ◌-◌, ◌<◌, ◌≤◌, ℕ, [], IfSome, IfNone, IfOk, IfErr, OnOk, length, map, vec_len, slice_index_or};
+ghost use Rattle.border_graph.specs.Joining.{IsThere, IsThereAt, Rim, border_at};
+ghost use Rattle.lattice.specs.declared.refusal.Refusal.TheVariants.{NoMemory};
+ghost use Rattle.border_graph.specs.Sharing.{AreInOrder, IsPointListed, IsTileListed};
+ghost use Rattle.border_graph.specs.Linking.{AreLinked, IsAddedTo, AreSoFar, AreSpillsListed, IsSpillListed, AreListedStill, AreOutletsListed, AreLabelsListed, place_of};
+
+use crate::sharing::link_shared;
+use crate::summary::{RimPoint, Summary};
+use crate::waiting::Link;
+use lattice::{Refusal, Side};
+use std::alloc::{AllocError, Global};
+use tile_flood::{OUT, Spill};
+
+// The rim point with this number in a tile of side n, where it is ground.
+pub(crate) fn ground_rim_point(
+    n: usize,
+    summaries: &[Summary],
+    t: usize,
+    k: usize,
+) -> Option<RimPoint>
+    requires side { (3 ≤ n) × (n ≤ 3601) }
+    requires t { t < length summaries.now }
+    ensures none { IfNone result (IsThere n summaries.now t k → ⊥) }
+    ensures some { IfSome result (λ point. IsThereAt n summaries.now t k point) }
+{
+    if k >= 4 * (n - 1) {
+        return None;
+    }
+    let point = *summaries[t].rim().get(k)?;
+    if point.height == i16::MIN {
+        None
+    } else {
+        Some(point)
+    }
+}
+
+// Lists the link to the node.
+pub(crate) fn add(links: &mut Vec<Vec<Link>>, to: usize, link: Link) -> Result<(), AllocError>
+    requires { to < vec_len links.old }
+    ensures { OnOk result (IsAddedTo (map (λ v. v.items) links.old.items) (map (λ v. v.items) links.new.items) to link) }
+{
+    links[to].push(link)?;
+    Ok(())
+}
+
+// The place of a rim point in the list of all nodes.
+pub(crate) fn place(n: usize, nodes: usize, t: usize, k: usize) -> usize
+    requires side { (3 ≤ n) × (n ≤ 3601) }
+    requires room { 1 + t * (4 * (n - 1)) + k < nodes }
+    ensures { result ≡ place_of n (Rim t k) }
+{
+    1 + t * (4 * (n - 1)) + k
+}
+
+// Lists the links from a rim point to the outlet node.
+fn link_outlet(
+    n: usize,
+    summaries: &[Summary],
+    t: usize,
+    k: usize,
+    links: &mut Vec<Vec<Link>>,
+) -> Result<(), AllocError>
+    requires side { (3 ≤ n) × (n ≤ 3601) }
+    requires t { t < length summaries.now }
+    requires so_far { AreSoFar n summaries.now (map (λ v. v.items) links.old.items) }
+    ensures so_far { OnOk result (AreSoFar n summaries.now (map (λ v. v.items) links.new.items)) }
+    ensures still { OnOk result (AreListedStill (map (λ v. v.items) links.old.items) (map (λ v. v.items) links.new.items)) }
+    ensures listed { OnOk result (AreOutletsListed n summaries.now (map (λ v. v.items) links.new.items) t k) }
+{
+    let Some(point) = ground_rim_point(n, summaries, t, k) else {
+        return Ok(());
+    };
+    if !point.outlet && point.label != OUT {
+        return Ok(());
+    }
+    let nodes = links.len();
+    let from = place(n, nodes, t, k);
+    add(
+        links,
+        0,
+        Link {
+            level: point.height,
+            from,
+        },
+    )?;
+    Ok(())
+}
+
+// Lists the links between a rim point and what its label names.
+fn link_label(
+    n: usize,
+    summaries: &[Summary],
+    t: usize,
+    k: usize,
+    links: &mut Vec<Vec<Link>>,
+) -> Result<(), AllocError>
+    requires side { (3 ≤ n) × (n ≤ 3601) }
+    requires t { t < length summaries.now }
+    requires so_far { AreSoFar n summaries.now (map (λ v. v.items) links.old.items) }
+    ensures so_far { OnOk result (AreSoFar n summaries.now (map (λ v. v.items) links.new.items)) }
+    ensures still { OnOk result (AreListedStill (map (λ v. v.items) links.old.items) (map (λ v. v.items) links.new.items)) }
+    ensures listed { OnOk result (AreLabelsListed n summaries.now (map (λ v. v.items) links.new.items) t k) }
+{
+    let Some(point) = ground_rim_point(n, summaries, t, k) else {
+        return Ok(());
+    };
+    let named = point.label as usize;
+    let Some(_) = ground_rim_point(n, summaries, t, named) else {
+        return Ok(());
+    };
+    let nodes = links.len();
+    let here = place(n, nodes, t, k);
+    let there = place(n, nodes, t, named);
+    add(
+        links,
+        there,
+        Link {
+            level: point.height,
+            from: here,
+        },
+    )?;
+    add(
+        links,
+        here,
+        Link {
+            level: point.height,
+            from: there,
+        },
+    )?;
+    Ok(())
+}
+
+// Lists the links between the rim points that a spill names, or from one to the outlet node.
+fn link_spill(
+    n: usize,
+    summaries: &[Summary],
+    t: usize,
+    spill: Spill,
+    links: &mut Vec<Vec<Link>>,
+) -> Result<(), AllocError>
+    requires side { (3 ≤ n) × (n ≤ 3601) }
+    requires t { t < length summaries.now }
+    requires spill { Contains (border_at summaries.now t).spills spill }
+    requires so_far { AreSoFar n summaries.now (map (λ v. v.items) links.old.items) }
+    ensures so_far { OnOk result (AreSoFar n summaries.now (map (λ v. v.items) links.new.items)) }
+    ensures still { OnOk result (AreListedStill (map (λ v. v.items) links.old.items) (map (λ v. v.items) links.new.items)) }
+    ensures listed { OnOk result (IsSpillListed n summaries.now (map (λ v. v.items) links.new.items) t spill) }
+{
+    let a = spill.a as usize;
+    let b = spill.b as usize;
+    let Some(_) = ground_rim_point(n, summaries, t, a) else {
+        return Ok(());
+    };
+    if spill.level == i16::MIN {
+        return Ok(());
+    }
+    let nodes = links.len();
+    let first = place(n, nodes, t, a);
+    if spill.b == OUT {
+        add(
+            links,
+            0,
+            Link {
+                level: spill.level,
+                from: first,
+            },
+        )?;
+        return Ok(());
+    }
+    let Some(_) = ground_rim_point(n, summaries, t, b) else {
+        return Ok(());
+    };
+    let second = place(n, nodes, t, b);
+    add(
+        links,
+        second,
+        Link {
+            level: spill.level,
+            from: first,
+        },
+    )?;
+    add(
+        links,
+        first,
+        Link {
+            level: spill.level,
+            from: second,
+        },
+    )?;
+    Ok(())
+}
+
+// Lists the links between the rim points of a tile that its spills name.
+fn link_spills(
+    n: usize,
+    summaries: &[Summary],
+    t: usize,
+    links: &mut Vec<Vec<Link>>,
+) -> Result<(), AllocError>
+    requires side { (3 ≤ n) × (n ≤ 3601) }
+    requires t { t < length summaries.now }
+    requires so_far { AreSoFar n summaries.now (map (λ v. v.items) links.old.items) }
+    ensures so_far { OnOk result (AreSoFar n summaries.now (map (λ v. v.items) links.new.items)) }
+    ensures still { OnOk result (AreListedStill (map (λ v. v.items) links.old.items) (map (λ v. v.items) links.new.items)) }
+    ensures listed { OnOk result (AreSpillsListed n summaries.now (map (λ v. v.items) links.new.items) t (length (border_at summaries.now t).spills)) }
+{
+    let spills = spills_of(summaries, t);
+    for j in 0..spills.len() {
+        link_spill(n, summaries, t, spills[j], links)?;
+    }
+    Ok(())
+}
+
+fn spills_of(summaries: &[Summary], t: usize) -> &[Spill]
+    requires { t < length summaries.now }
+    ensures { result.now ≡ (border_at summaries.now t).spills }
+{
+    summaries[t].spills()
+}
+
+// Lists the links of a rim point, but for spills.
+fn link_point(
+    side: Side,
+    summaries: &[Summary],
+    t: usize,
+    k: usize,
+    links: &mut Vec<Vec<Link>>,
+) -> Result<(), AllocError>
+    requires t { t < length summaries.now }
+    requires k { k < 4 * (side - 1) }
+    requires so_far { AreSoFar side summaries.now (map (λ v. v.items) links.old.items) }
+    ensures so_far { OnOk result (AreSoFar side summaries.now (map (λ v. v.items) links.new.items)) }
+    ensures still { OnOk result (AreListedStill (map (λ v. v.items) links.old.items) (map (λ v. v.items) links.new.items)) }
+    ensures listed { OnOk result (IsPointListed side summaries.now (map (λ v. v.items) links.new.items) t k) }
+{
+    let n = side.samples() as usize;
+    link_outlet(n, summaries, t, k, links)?;
+    link_label(n, summaries, t, k, links)?;
+    link_shared(side, summaries, t, k, links)?;
+    Ok(())
+}
+
+// Lists the links of a tile.
+fn link_tile(
+    side: Side,
+    summaries: &[Summary],
+    t: usize,
+    links: &mut Vec<Vec<Link>>,
+) -> Result<(), AllocError>
+    requires t { t < length summaries.now }
+    requires so_far { AreSoFar side summaries.now (map (λ v. v.items) links.old.items) }
+    ensures so_far { OnOk result (AreSoFar side summaries.now (map (λ v. v.items) links.new.items)) }
+    ensures still { OnOk result (AreListedStill (map (λ v. v.items) links.old.items) (map (λ v. v.items) links.new.items)) }
+    ensures listed { OnOk result (IsTileListed side summaries.now (map (λ v. v.items) links.new.items) t) }
+{
+    let size = 4 * side.edge() as usize;
+    for k in 0..size {
+        link_point(side, summaries, t, k, links)?;
+    }
+    link_spills(side.samples() as usize, summaries, t, links)?;
+    Ok(())
+}
+
+// No links, for so many nodes.
+fn no_links(alloc: Global, nodes: usize) -> Result<Vec<Vec<Link>>, AllocError>
+    ensures whole { IfOk result (λ links. length links.items ≡ nodes) }
+    ensures none { IfOk result (λ links. (y : ℕ) → slice_index_or (map (λ v. v.items) links.items) y [] ≡ []) }
+{
+    let mut links = Vec::with_capacity(alloc, nodes)?;
+    for _ in 0..nodes {
+        links.push(Vec::new(alloc))?;
+    }
+    Ok(links)
+}
+
+/// The links, by the node that they lead to: first the outlet node, then the rim points, tile by tile and by rim number.
+pub(crate) fn links_between(
+    alloc: Global,
+    side: Side,
+    summaries: &[Summary],
+) -> Result<Vec<Vec<Link>>, Refusal>
+    ensures so_far { IfOk result (λ links. AreSoFar side summaries.now (map (λ v. v.items) links.items)) }
+    ensures linked { IfOk result (λ links. AreInOrder summaries.now → AreLinked side summaries.now (map (λ v. v.items) links.items)) }
+    ensures refusal { IfErr result (λ refusal. refusal ≡ NoMemory) }
+{
+    let size = 4 * side.edge() as usize;
+    let Some(points) = summaries.len().checked_mul(size) else {
+        return Err(Refusal::NoMemory);
+    };
+    let Some(nodes) = points.checked_add(1) else {
+        return Err(Refusal::NoMemory);
+    };
+    let mut links = no_links(alloc, nodes)?;
+    for t in 0..summaries.len() {
+        link_tile(side, summaries, t, &mut links)?;
+    }
+    Ok(links)
+}

@@ -1,0 +1,64 @@
+//! What the tiles around need to know of a tile.
+ghost use Rattle.std.specs.Prelude.{◌≡◌};
+
+use lattice::Corner;
+use std::marker::Model;
+use tile_flood::Spill;
+
+/// A point on the rim of a block: its height in metres, -32768 where it is void, its label, and whether it is an outlet
+/// of the mosaic.
+#[derive(Clone, Copy, Debug, PartialEq, Eq)]
+pub struct RimPoint {
+    pub height: i16,
+    pub label: u16,
+    pub outlet: bool,
+}
+
+/// A tile's corner, the points of its rim by rim number, and the spills between its labels.
+#[derive(Drop)]
+pub struct Summary {
+    corner: Corner,
+    rim: Vec<RimPoint>,
+    spills: Vec<Spill>,
+}
+
+impl Model for Summary {
+    ghost use Rattle.border_graph.specs.Borders.{Border};
+
+    ghost Value = { Border };
+
+    ghost view = { λ s. record { corner = s.corner; rim = s.rim.items; spills = s.spills.items } };
+}
+
+impl Summary {
+    pub fn new(corner: Corner, rim: Vec<RimPoint>, spills: Vec<Spill>) -> Summary
+        ensures { result ≡ record { corner = corner; rim = rim.items; spills = spills.items } }
+    {
+        Summary {
+            corner,
+            rim,
+            spills,
+        }
+    }
+
+    /// The corner of its tile.
+    pub fn corner(&self) -> Corner
+        ensures { result ≡ self.now.corner }
+    {
+        self.corner
+    }
+
+    /// The points of its rim, by rim number.
+    pub fn rim(&self) -> &[RimPoint]
+        ensures { result.now ≡ self.now.rim }
+    {
+        &self.rim
+    }
+
+    /// The spills between its labels.
+    pub fn spills(&self) -> &[Spill]
+        ensures { result.now ≡ self.now.spills }
+    {
+        &self.spills
+    }
+}

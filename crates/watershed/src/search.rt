@@ -1,0 +1,84 @@
+//! The search up the flow paths.
+ghost use Rattle.std.specs.Prelude.{◌≡◌, ◌↔◌, ℤ, IsTrue, IsFalse, IfOk, IfErr, OnOk, Some, []};
+ghost use Rattle.lattice.specs.declared.point.Point.{Point};
+ghost use Rattle.lattice.specs.declared.refusal.Refusal.TheVariants.{NoMemory};
+ghost use Rattle.lattice.specs.Mosaic.{Mosaic, IsMosaic};
+ghost use Rattle.lattice.specs.Ground.{is_ground, terrain};
+ghost use Rattle.flow_d8.specs.FlowPath.{IsInWatershed};
+ghost use Rattle.flow_d8.specs.Drained.{AreDirectionsOf, direction_in};
+ghost use Rattle.watershed.specs.Runs.{AreRuns};
+ghost use Rattle.watershed.specs.Search.{back_of, AreFeeders, AreUpstream};
+
+use crate::runs::{Run, runs_of, sort};
+use flow_d8::Directions;
+use lattice::{Dir, Point, Refusal, Step, steps};
+use std::alloc::{AllocError, Global};
+
+/// The watershed of the point: the ground points whose flow path contains it, as maximal runs, from the north down, in
+/// a row from the west. Empty where the point isn't ground. NoMemory is the only refusal.
+pub fn watershed(alloc: Global, directions: &Directions, point: Point) -> Result<Vec<Run>, Refusal>
+    ensures runs { IfOk result (λ runs. (m : Mosaic) (level : Point → ℤ) → IsMosaic m → AreDirectionsOf m level directions.now → AreRuns (IsInWatershed (terrain m) level point) runs.items) }
+    ensures elsewhere { IfOk result (λ runs. (m : Mosaic) (level : Point → ℤ) → IsMosaic m → AreDirectionsOf m level directions.now → IsFalse (is_ground m point) → runs.items ≡ []) }
+    ensures refusal { IfErr result (λ r. r ≡ NoMemory) }
+{
+    let mut points = upstream(alloc, directions, point)?;
+    sort(&mut points)?;
+    Ok(runs_of(alloc, &points)?)
+}
+
+// The points whose flow path contains the point, each after the one that it drains to.
+fn upstream(alloc: Global, directions: &Directions, point: Point) -> Result<Vec<Point>, AllocError>
+    ensures { IfOk result (λ found. AreUpstream directions.now point found.items) }
+{
+    let mut found = Vec::new(alloc);
+    if directions.flat_distance(point).is_some() {
+        found.push(point)?;
+    }
+    let mut done = 0;
+    'search: while done < found.len() {
+        let at = found[done];
+        add_feeders(directions, at, &mut found)?;
+        done += 1;
+    }
+    Ok(found)
+}
+
+// Adds the points that drain straight to the point.
+fn add_feeders(
+    directions: &Directions,
+    point: Point,
+    found: &mut Vec<Point>,
+) -> Result<(), AllocError>
+    ensures { OnOk result (AreFeeders directions.now point found.old.items found.new.items) }
+{
+    let around = steps(point);
+    for step in around.as_slice() {
+        if drains_back(directions, *step) {
+            found.push(step.to)?;
+        }
+    }
+    Ok(())
+}
+
+// Whether the point that the step leads to drains straight back.
+fn drains_back(directions: &Directions, step: Step) -> bool
+    ensures { IsTrue result ↔ (direction_in directions.now step.to ≡ Some (back_of step.direction)) }
+{
+    directions.direction(step.to) == Some(opposite(step.direction))
+}
+
+// The direction of the step back.
+fn opposite(direction: Dir) -> Dir
+    ensures { result ≡ back_of direction }
+{
+    match direction {
+        Dir::East => Dir::West,
+        Dir::SouthEast => Dir::NorthWest,
+        Dir::South => Dir::North,
+        Dir::SouthWest => Dir::NorthEast,
+        Dir::West => Dir::East,
+        Dir::NorthWest => Dir::SouthEast,
+        Dir::North => Dir::South,
+        Dir::NorthEast => Dir::SouthWest,
+    }
+}
