@@ -15,4 +15,5 @@ mod tests;
 mod waiting;
 
 pub use joining::join;
+pub use rim::index_of_rim;
 pub use summary::{RimPoint, Summary};

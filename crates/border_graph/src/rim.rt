@@ -6,8 +6,8 @@ ghost use Rattle.border_graph.specs.RimPoints.{IsRimPoint};
 
 use lattice::{Corner, Point, Side, index_in};
 
-// The index of the rim point with this number in a tile of side n.
-pub(crate) fn index_of_rim(n: u32, k: u32) -> u32
+/// The index of the rim point with this number in a tile of side n.
+pub fn index_of_rim(n: u32, k: u32) -> u32
     requires side { (3 ≤ n) × (n ≤ 3601) }
     requires k { k < 4 * (n - 1) }
     ensures { IsRimPoint n k result }

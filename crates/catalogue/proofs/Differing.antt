@@ -1,5 +1,5 @@
 -- Whether samples differ, as far as a search has come.
-use Rattle.std.proofs.Common.{◌≡◌, ℤ, Bool, false, not, ◌||◌, List, [], ◌∷◌}
+use Rattle.std.proofs.Common.{ℤ, Bool, not, List}
 use Rattle.std.specs.Prelude.{Option, Some, None}
 use Rattle.std.specs.Ordering.{int_eq}
 use Rattle.std.specs.List.{list_any}

@@ -1,5 +1,5 @@
 -- A map from corners to samples, and the tiles that it holds.
-use Rattle.std.proofs.Common.{◌≡◌, ℕ, ◌*◌, ◌<◌, ℤ, Bool, true, false, cond, not, ◌||◌, IsTrue, IsFalse, List, [], ◌∷◌, length, map, Option, Some, None, option_map, refl, sym, ◌∙◌, ap, ap₂, subst, vec_len}
+use Rattle.std.proofs.Common.{◌≡◌, ℕ, ◌*◌, ◌<◌, ◌≤◌, ℤ, Bool, true, false, cond, not, ◌||◌, IsTrue, IsFalse, List, [], ◌∷◌, length, map, Some, None, option_map, refl, sym, ◌∙◌, ap, ap₂, subst, vec_len}
 use Rattle.std.specs.Global.{Vec}
 use Rattle.std.specs.List.{All, filter, list_any}
 use Rattle.std.specs.Ordering.{MatchOrdering, match_ordering, is_eq}
@@ -9,7 +9,7 @@ use Rattle.std.specs.Map.{lookup, keys_of, remove_entry, set_value}
 use Rattle.std.specs.declared.cmp.Ordering.{Ordering}
 use Rattle.std.specs.declared.cmp.Ordering.TheVariants.{Less, Equal, Greater}
 use Rattle.std.proofs.lemmas.List.Elements.{All-head, All-tail}
-use Rattle.std.proofs.lemmas.Bool.{or_parts, false≢true, cond-true, cond-false}
+use Rattle.std.proofs.lemmas.Bool.{or_parts, false≢true, cond-false}
 use Rattle.lattice.specs.Corners.{Place, is_corner, is_before, same_place}
 use Rattle.lattice.specs.Mosaic.{Tile, Mosaic, IsSample, IsTile, IsMosaic, is_present, samples_among, samples_of}
 use Rattle.catalogue.specs.Entries.{tiles_in}
@@ -155,6 +155,12 @@ module _ (n : ℕ) (es new : List Entry) (now : Mosaic) (view : mosaic_in n es �
 
   pub removed_valid : new ≡ remove_entry (is_at (place_cmp c)) es → IsMosaic (mosaic_in n new)
   removed_valid e = subst IsMosaic (sym (mosaic-removed e)) (mosaic-without c (mosaic_in n es) valid)
+
+  -- as many samples as every tile has
+  pub range_within : (k : ℕ) (v : Vec ℤ) → Some v ≡ lookup (is_at (place_cmp c)) es → k ≤ now.side * now.side → k ≤ length v.items
+  range_within k v found small =
+      let side : now.side ≡ n = sym (ap (λ (m : Mosaic). m.side) view) in
+      subst (λ l. k ≤ l) (sym (length-found n c v es valid.tiles (sym found))) (subst (λ l. k ≤ l * l) side small)
 
   -- the samples v of the corner with another one at an index
   module _ (i : ℕ) (s : ℤ) (v w : Vec ℤ) (found : Some v ≡ lookup (is_at (place_cmp c)) es) where

@@ -1,21 +1,21 @@
 -- No two tiles hold a point inside one of them.
-use Rattle.std.proofs.Common.{◌≡◌, ℕ, zero, suc, ◌+◌, ◌-◌, ◌*◌, ◌/◌, ◌%◌, ◌<◌, ◌≤◌, ℤ, pos, negsuc, ◌+ℤ◌, ◌-ℤ◌, ◌*ℤ◌, ◌≤ℤ◌, ◌<ℤ◌, Bool, true, false, cond, ◌&&◌, ◌||◌, IsTrue, List, [], ◌∷◌, map, refl, sym, ◌∙◌, ap, ap₂, subst, arith}
+use Rattle.std.proofs.Common.{◌≡◌, ℕ, zero, suc, ◌+◌, ◌-◌, ◌*◌, ◌/◌, ◌%◌, ◌<◌, ◌≤◌, ℤ, pos, negsuc, ◌+ℤ◌, ◌-ℤ◌, ◌*ℤ◌, ◌<ℤ◌, true, false, ◌||◌, IsTrue, List, [], ◌∷◌, map, refl, sym, ◌∙◌, ap, ap₂, arith}
 use Rattle.std.specs.Prelude.{All, ◌==◌, nat_abs}
 use Rattle.std.specs.List.{filter}
 use Rattle.std.proofs.Math.IntN.{+ℤ_idr, suc_ℤ-*ℤ, suc_ℤ}
 use Rattle.std.proofs.lemmas.Int.{ints, by_lt_z}
 use Rattle.std.proofs.lemmas.Grind.{rows}
-use Rattle.std.proofs.lemmas.Bool.{or_parts, and_right, eqb-false, false_from_ne_true, false≢true}
+use Rattle.std.proofs.lemmas.Bool.{or_parts, eqb-false, false_from_ne_true, false≢true}
 use Rattle.std.proofs.lemmas.List.Elements.{All-head, All-tail, All-filter, filter_passes}
-use Rattle.std.proofs.Math.Nat.{mul-le-mul_left, mul-le-mul_right}
+use Rattle.std.proofs.Math.Nat.{mul-le-mul_right}
 use Rattle.lattice.specs.Corners.{Place, is_corner, is_before}
-use Rattle.lattice.specs.Lattice.{Holds, IsSampleAt, IsIndexOf, holds, point_of}
+use Rattle.lattice.specs.Lattice.{Holds, IsSampleAt, IsIndexOf, holds}
 use Rattle.lattice.specs.Mosaic.{Tile, Mosaic, IsTile, IsMosaic}
 use Rattle.lattice.specs.Height.{sample_at, differ, disagrees}
 use Rattle.lattice.specs.declared.point.Point.{Point}
 use Rattle.lattice.proofs.Along.{distance}
 use Rattle.lattice.proofs.Samples.{holds_is}
-use Rattle.catalogue.specs.Seams.{is_first, present_holders, is_own_seam, is_on_rim}
+use Rattle.catalogue.specs.Seams.{is_on_rim}
 use Rattle.catalogue.proofs.Places.{before_apart}
 use Rattle.catalogue.proofs.Rising.{Rising, rising-filter}
 use Rattle.catalogue.proofs.Mosaics.{corner_of, rising_tiles}
@@ -25,7 +25,7 @@ one_more (pos n) = omega (arith, ints)
 one_more (negsuc zero) = refl
 one_more (negsuc (suc n)) = omega (arith, ints)
 
-product_plus : (a : ℤ) (d m : ℕ) → ((a +ℤ pos d) *ℤ pos m) ≡ a *ℤ pos m +ℤ pos (d * m)
+pub product_plus : (a : ℤ) (d m : ℕ) → ((a +ℤ pos d) *ℤ pos m) ≡ a *ℤ pos m +ℤ pos (d * m)
 product_plus a zero m = ap (λ (z : ℤ). z *ℤ pos m) (+ℤ_idr a) ∙ omega (arith, ints)
 product_plus a (suc d) m =
     let once_more : a +ℤ pos (suc d) ≡ (a +ℤ pos d) +ℤ pos 1 = omega (arith, ints) in
@@ -99,6 +99,25 @@ above_zero i some = omega arith
 below_end : (i n : ℕ) → i < n → (i ≡ n - 1 → ⊥) → i < n - 1
 below_end i n small other = omega arith
 
+-- no other tile holds a point inside
+pub inner_only : (n : ℕ) (c : Place) (e : ℕ) (p : Point) → IsIndexOf n c p e → is_on_rim n e ≡ false → (o : Place) → Holds n o p → o ≡ c
+inner_only n c e p at inside o held =
+    let i = at.sample.0 in
+    let j = at.sample.1 in
+    let here = at.sample.2.0 in
+    let row : e / n ≡ i = ap (λ x. x / n) at.sample.2.1 ∙ quotient n i j here.column in
+    let column : e % n ≡ j = ap (λ x. x % n) at.sample.2.1 ∙ remainder n i j here.column in
+    let three = or_parts ((e / n == 0) || (e / n == n - 1) || (e % n == 0)) (e % n == n - 1) inside in
+    let two = or_parts ((e / n == 0) || (e / n == n - 1)) (e % n == 0) three.0 in
+    let one = or_parts (e / n == 0) (e / n == n - 1) two.0 in
+    let north = eqb-false (e / n) 0 one.0 in
+    let south = eqb-false (e / n) (n - 1) one.1 in
+    let west = eqb-false (e % n) 0 two.1 in
+    let east = eqb-false (e % n) (n - 1) three.1 in
+    inner_holder n c o p i j here
+    (above_zero i (λ z. north (row ∙ z))) (below_end i n here.row (λ z. south (row ∙ z)))
+    (above_zero j (λ z. west (column ∙ z))) (below_end j n here.column (λ z. east (column ∙ z))) held
+
 -- a point inside a tile doesn't disagree
 pub inner_agrees : (m : Mosaic) (c : Place) (e : ℕ) (p : Point) → IsMosaic m → IsIndexOf m.side c p e → is_on_rim m.side e ≡ false → disagrees m p ≡ false
 inner_agrees m c e p valid index inner = false_from_ne_true (disagrees m p) (λ some.
@@ -107,25 +126,7 @@ inner_agrees m c e p valid index inner = false_from_ne_true (disagrees m p) (λ 
     (rising-filter corner_of (λ t. holds n t.corner p) m.tiles (rising_tiles m valid))
     (All-filter (λ t. holds n t.corner p) (IsTile n) m.tiles valid.tiles)
     (filter_passes (λ (t : Tile). holds n t.corner p) m.tiles) some in
-    let is = places n c e p index inner in
+    let is = inner_only n c e p index inner in
     let first = is two.0 ((holds_is n two.0 p valid.side_low two.2.1.0).0 two.2.1.1) in
     let second = is two.1 ((holds_is n two.1 p valid.side_low two.2.2.0).0 two.2.2.1) in
     before_apart two.0 two.1 two.2.0 (first ∙ sym second))
-  where
-    places : (n : ℕ) (d : Place) (k : ℕ) (q : Point) → IsIndexOf n d q k → is_on_rim n k ≡ false → (o : Place) → Holds n o q → o ≡ d
-    places n d k q at inside o held =
-        let i = at.sample.0 in
-        let j = at.sample.1 in
-        let here = at.sample.2.0 in
-        let row : k / n ≡ i = ap (λ x. x / n) at.sample.2.1 ∙ quotient n i j here.column in
-        let column : k % n ≡ j = ap (λ x. x % n) at.sample.2.1 ∙ remainder n i j here.column in
-        let three = or_parts ((k / n == 0) || (k / n == n - 1) || (k % n == 0)) (k % n == n - 1) inside in
-        let two = or_parts ((k / n == 0) || (k / n == n - 1)) (k % n == 0) three.0 in
-        let one = or_parts (k / n == 0) (k / n == n - 1) two.0 in
-        let north = eqb-false (k / n) 0 one.0 in
-        let south = eqb-false (k / n) (n - 1) one.1 in
-        let west = eqb-false (k % n) 0 two.1 in
-        let east = eqb-false (k % n) (n - 1) three.1 in
-        inner_holder n d o q i j here
-        (above_zero i (λ z. north (row ∙ z))) (below_end i n here.row (λ z. south (row ∙ z)))
-        (above_zero j (λ z. west (column ∙ z))) (below_end j n here.column (λ z. east (column ∙ z))) held

@@ -1,11 +1,11 @@
 -- What becomes of a mosaic is a mosaic.
-use Rattle.std.proofs.Common.{◌≡◌, ℕ, ◌+◌, ◌*◌, ◌<◌, ◌≤◌, ℤ, Bool, true, false, cond, not, IsTrue, IsFalse, List, [], ◌∷◌, length, map, refl, sym, ◌∙◌, ap, subst}
+use Rattle.std.proofs.Common.{◌≡◌, ℕ, ℤ, Bool, true, false, cond, not, IsTrue, IsFalse, List, [], ◌∷◌, map, refl, sym, ◌∙◌, subst}
 use Rattle.std.specs.List.{All, filter, list_any}
 use Rattle.std.specs.Prelude.{slice_set}
 use Rattle.std.proofs.lemmas.List.{length-set}
 use Rattle.std.proofs.lemmas.List.Elements.{All-nil, All-cons, All-head, All-tail, All-filter, All-set}
-use Rattle.std.proofs.lemmas.Bool.{cases_Bool, or_parts}
-use Rattle.lattice.specs.Corners.{Place, is_corner, is_before, same_place}
+use Rattle.std.proofs.lemmas.Bool.{or_parts}
+use Rattle.lattice.specs.Corners.{Place, is_before, same_place}
 use Rattle.lattice.specs.Mosaic.{Tile, Mosaic, IsSample, IsTile, IsMosaic, is_present}
 use Rattle.catalogue.specs.Tiles.{with_tile, added, without, with_sample_in, with_sample}
 use Rattle.catalogue.proofs.Places.{after_from, same_comm}

@@ -1,12 +1,12 @@
 -- What one tile says of a point, by its corner and by the point's index.
-use Rattle.std.proofs.Common.{◌≡◌, ℕ, ◌≤◌, ◌↔◌, ℤ, Bool, true, false, cond, IsTrue, List, map, get_or, refl, sym, ◌∙◌, ap, ap₂, subst}
+use Rattle.std.proofs.Common.{◌≡◌, ℕ, ℤ, true, false, cond, IsTrue, List, refl, sym, ◌∙◌, ap}
 use Rattle.std.specs.Prelude.{Option, Some, None, is_some, option_map, IsSomeAnd, slice_get, slice_index_or, Contains, All}
 use Rattle.std.proofs.lemmas.Option.{get_or_from_slice_get}
-use Rattle.std.proofs.lemmas.Bool.{cases_Bool, false_from_ne_true, false≢true}
+use Rattle.std.proofs.lemmas.Bool.{false_from_ne_true, false≢true}
 use Rattle.std.proofs.lemmas.List.Elements.{All-map, All-contains, All-weaker}
 use Rattle.lattice.specs.Corners.{Place, is_corner}
 use Rattle.lattice.specs.Lattice.{Holds, IsIndexOf, holds, index_of}
-use Rattle.lattice.specs.Mosaic.{Tile, Mosaic, IsMosaic, IsTile, void, is_present, samples_of}
+use Rattle.lattice.specs.Mosaic.{Mosaic, IsMosaic, IsTile, void, is_present, samples_of}
 use Rattle.lattice.specs.declared.point.Point.{Point}
 use Rattle.lattice.proofs.Samples.{holds_is, index_is, held_at}
 use Rattle.catalogue.specs.Reading.{IsSampleOf}

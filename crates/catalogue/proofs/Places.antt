@@ -1,5 +1,5 @@
 -- The order of corners, and which two are the same.
-use Rattle.std.proofs.Common.{◌≡◌, ℤ, ◌<ℤ◌, Bool, true, false, ◌⊎◌, inl, inr, refl, sym, ◌∙◌, ap, ap₂, arith, ◌&&◌, ◌||◌}
+use Rattle.std.proofs.Common.{◌≡◌, ℤ, ◌<ℤ◌, true, false, ◌⊎◌, inl, inr, refl, sym, ◌∙◌, ap, ap₂, arith, ◌&&◌}
 use Rattle.std.specs.Prelude.{int_lt}
 use Rattle.std.specs.Ordering.{int_eq, int_cmp, ordering_then, MatchOrdering}
 use Rattle.std.specs.declared.cmp.Ordering.{Ordering}

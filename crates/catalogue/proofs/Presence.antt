@@ -1,18 +1,14 @@
 -- Which corners are present, as a test and as a place in the list of corners.
-use Rattle.std.proofs.Common.{◌≡◌, ℕ, zero, suc, ◌+◌, ◌<◌, ◌↔◌, Bool, true, false, cond, ◌||◌, IsTrue, List, [], ◌∷◌, length, map, get_or, refl, sym, ◌∙◌, ap, ap₂, arith}
-use Rattle.std.specs.Prelude.{Contains, IsSomeAnd, Option, Some, None, is_some}
-use Rattle.std.specs.List.{list_any, AllAdjacentBelow}
+use Rattle.std.proofs.Common.{◌≡◌, zero, suc, ◌↔◌, Bool, true, false, cond, ◌||◌, IsTrue, List, [], ◌∷◌, map, refl, sym, ◌∙◌, ap, arith}
+use Rattle.std.specs.Prelude.{Contains, Some, is_some}
+use Rattle.std.specs.List.{list_any}
 use Rattle.std.proofs.lemmas.Bool.{or_left, or_right, false≢true}
-use Rattle.lattice.specs.Corners.{Place, is_before, same_place}
-use Rattle.lattice.specs.Mosaic.{Tile, Mosaic, IsMosaic, IsTile, is_present, samples_among, samples_of}
-use Rattle.catalogue.specs.Tiles.{corners_of}
+use Rattle.lattice.specs.Corners.{Place, same_place}
+use Rattle.lattice.specs.Mosaic.{Tile, Mosaic, IsMosaic, is_present, samples_among}
+use Rattle.catalogue.specs.Tiles.{corners_of, is_listed}
 use Rattle.catalogue.proofs.Places.{same_says, same_from}
 use Rattle.catalogue.proofs.Rising.{AllAfter, Rising, Adjacent, adjacent_from}
 use Rattle.catalogue.proofs.Mosaics.{corner_of, rising_tiles}
-
--- whether the place is in the list
-abbrev pub is_listed : Place → List Place → Bool
-is_listed c places = list_any (λ d. same_place d c) places
 
 pub listed_from : (c : Place) (places : List Place) → Contains places c → is_listed c places ≡ true
 listed_from c [] (k, below, here) = absurd (omega arith)
@@ -59,3 +55,18 @@ corners_rise m valid = rising-map m.tiles (rising_tiles m valid)
 
 pub corners_in_order : (m : Mosaic) → IsMosaic m → Adjacent (λ p. p) (corners_of m)
 corners_in_order m valid = adjacent_from (λ p. p) (corners_of m) (corners_rise m valid)
+
+-- ---- a test of each tile's corner
+pub any_from : (test : Place → Bool) (tiles : List Tile) (c : Place) → Contains (map corner_of tiles) c → test c ≡ true → list_any (λ t. test t.corner) tiles ≡ true
+any_from test [] c (k, below, here) passes = absurd (omega arith)
+any_from test (t ∷ ts) c (zero, below, here) passes = or_left (test t.corner) (list_any (λ u. test u.corner) ts) (ap test here ∙ passes)
+any_from test (t ∷ ts) c (suc k, below, here) passes = or_right (test t.corner) (list_any (λ u. test u.corner) ts) (any_from test ts c (k, omega arith, here) passes)
+
+pub any_says : (test : Place → Bool) (tiles : List Tile) → list_any (λ t. test t.corner) tiles ≡ true → (c : Place) × (Contains (map corner_of tiles) c × (test c ≡ true))
+any_says test [] none = absurd (false≢true none)
+any_says test (t ∷ ts) some = by (test t.corner) refl some (any_says test ts)
+  where
+    by : (b : Bool) → test t.corner ≡ b → (b || list_any (λ u. test u.corner) ts) ≡ true → (list_any (λ u. test u.corner) ts ≡ true → (c : Place) × (Contains (map corner_of ts) c × (test c ≡ true)))
+        → (c : Place) × (Contains (map corner_of (t ∷ ts)) c × (test c ≡ true))
+    by true passes e later = (t.corner, ((0, omega arith, refl), passes))
+    by false fails e later = let rest = later e in (rest.0, ((suc rest.1.0.0, omega (arith, rest.1.0.1), rest.1.0.2), rest.1.1))

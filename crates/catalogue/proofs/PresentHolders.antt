@@ -3,18 +3,18 @@ use Rattle.std.proofs.Common.{◌≡◌, ℕ, ◌+◌, ◌<◌, ◌↔◌, Bool,
 use Rattle.std.specs.Prelude.{Contains}
 use Rattle.std.specs.List.{filter}
 use Rattle.std.proofs.lemmas.List.{drop_more}
-use Rattle.std.proofs.lemmas.Bool.{and_parts, and_from, false≢true, false_from_ne_true, or_left}
+use Rattle.std.proofs.lemmas.Bool.{and_parts, and_from, false≢true, or_left}
 use Rattle.lattice.specs.Corners.{Place, is_before, same_place}
 use Rattle.lattice.specs.Lattice.{Holds, holds}
 use Rattle.lattice.specs.Mosaic.{Tile, Mosaic, IsMosaic, is_present}
 use Rattle.lattice.specs.declared.point.Point.{Point}
 use Rattle.lattice.proofs.Samples.{holds_is}
-use Rattle.catalogue.specs.Tiles.{corners_of}
+use Rattle.catalogue.specs.Tiles.{corners_of, is_listed}
 use Rattle.catalogue.specs.Seams.{is_first, present_holders}
 use Rattle.catalogue.proofs.Places.{same_says, same_from, before_not_back}
 use Rattle.catalogue.proofs.Rising.{AllAfter, Rising, Adjacent, rising_from, rising-filter}
 use Rattle.catalogue.proofs.Mosaics.{corner_of}
-use Rattle.catalogue.proofs.Presence.{is_listed, listed_from, listed_says, present-listed, corners_rise}
+use Rattle.catalogue.proofs.Presence.{listed_from, listed_says, present-listed, corners_rise}
 use Rattle.catalogue.proofs.OneTile.{corner_is}
 use Rattle.catalogue.proofs.Holders.{itself, not_listed, listed_after}
 

@@ -1,10 +1,10 @@
 -- Reads one after another are a read.
-use Rattle.std.proofs.Common.{◌≡◌, ℕ, ◌+◌, ◌≤◌, min, refl, sym, ◌∙◌, arith, Result, Ok, Err}
-use Rattle.std.specs.Prelude.{IfErr, OnOk, IsOk}
+use Rattle.std.proofs.Common.{ℕ, ◌≤◌, refl, ◌∙◌, arith, Result, Ok, Err}
+use Rattle.std.specs.Prelude.{IfErr}
 use Rattle.lattice.specs.declared.refusal.Refusal.{Refusal}
 use Rattle.lattice.specs.declared.refusal.Refusal.TheVariants.{Device, Failed, Damaged}
 use Rattle.catalogue.specs.Reading.{HasRisen, MayRefuse}
-use Rattle.catalogue.specs.Readers.{OnlyReads}
+use Rattle.catalogue.specs.Readers.{OnlyReads, reads_of}
 use Rattle.catalogue.specs.declared.samples.Samples.{Ghosts}
 
 risen_before : (before mid now : ℕ) → before ≤ mid → HasRisen mid now → HasRisen before now
@@ -27,6 +27,7 @@ module _ {S : Type 0} (g : Ghosts S) where
     refusal = tt;
     only_device = λ _ _. tt;
     ready = h.ready;
+    unready = tt;
     answers = λ _. refl;
     never_refuses = h.never_refuses;
     side = h.side;
@@ -43,6 +44,7 @@ module _ {S : Type 0} (g : Ghosts S) where
     refusal = h.refusal;
     only_device = h.only_device;
     ready = λ _. tt;
+    unready = h.unready;
     answers = λ never. h.answers never;
     never_refuses = h.never_refuses;
     side = h.side;
@@ -54,11 +56,12 @@ module _ {S : Type 0} (g : Ghosts S) where
   }
 
   -- nothing was read
-  pub reads_nothing : {T : Type 0} (keeps_itself : (s : S) → g.is_honest s → g.keeps s s) (s : S) (x : T) → OnlyReads {T = T} g s s (Ok x)
+  pub reads_nothing : {T : Type 0} (keeps_itself : (s : S) → g.keeps s s) (s : S) (x : T) → OnlyReads {T = T} g s s (Ok x)
   reads_nothing keeps_itself s x = record {
     refusal = tt;
     only_device = λ _ _. tt;
     ready = λ ready. ready;
+    unready = tt;
     answers = λ _. refl;
     never_refuses = λ never. never;
     side = refl;
@@ -75,6 +78,7 @@ module _ {S : Type 0} (g : Ghosts S) where
     refusal = refusal_before (g.failures a) (g.failures b) (g.failures c) result first.failures second.refusal;
     only_device = λ honest ready. second.only_device honest (first.ready ready);
     ready = λ ready. second.ready (first.ready ready);
+    unready = second.unready;
     answers = λ never. second.answers (first.never_refuses never);
     never_refuses = λ never. second.never_refuses (first.never_refuses never);
     side = second.side ∙ first.side;
@@ -82,5 +86,13 @@ module _ {S : Type 0} (g : Ghosts S) where
     failures = omega (arith, first.failures, second.failures);
     honest = λ honest. first.honest (second.honest honest);
     mosaic = λ honest. second.mosaic honest ∙ first.mosaic (second.honest honest);
-    keeps = λ honest. keeps_on a b c (first.keeps (second.honest honest)) (second.keeps honest);
+    keeps = keeps_on a b c first.keeps second.keeps;
   }
+
+  -- a call that may also be refused for other reasons
+  pub reads_for : {T : Type 0} (a b : S) (result : Result T Refusal) → OnlyReads {T = T} g a b result → OnlyReads {T = Unit {0}} g a b (reads_of result)
+  reads_for a b (Ok x) h = reads_as a b x tt h
+  reads_for a b (Err Device) h = reads_refused a b Device h
+  reads_for a b (Err Failed) h = reads_refused a b Failed h
+  reads_for a b (Err Damaged) h = reads_refused a b Damaged h
+  reads_for a b (Err _) h = absurd h.refusal

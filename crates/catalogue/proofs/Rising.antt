@@ -1,9 +1,8 @@
 -- Lists whose corners rise, by recursion: what the definitions say by places.
-use Rattle.std.proofs.Common.{◌≡◌, ℕ, zero, suc, ◌+◌, ◌<◌, Bool, true, false, cond, not, IsTrue, List, [], ◌∷◌, length, get_or, refl, sym, ◌∙◌, ap, arith}
+use Rattle.std.proofs.Common.{zero, suc, Bool, true, false, cond, IsTrue, List, [], ◌∷◌, length, arith}
 use native.Mathlib.Numerals.{unary_clauses}
 use Rattle.std.specs.List.{AllAdjacentBelow, filter}
-use Rattle.std.proofs.lemmas.Bool.{cases_Bool}
-use Rattle.lattice.specs.Corners.{Place, is_before, same_place}
+use Rattle.lattice.specs.Corners.{Place, is_before}
 use Rattle.catalogue.proofs.Places.{before_trans}
 
 module _ {X : Type 0} (key : X → Place) where

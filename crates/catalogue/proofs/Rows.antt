@@ -1,22 +1,19 @@
 -- The corners one after another, row by row from the south.
-use Rattle.std.proofs.Common.{◌≡◌, ℕ, ◌+◌, ◌<◌, ℤ, pos, negsuc, ◌+ℤ◌, ◌≤ℤ◌, ◌<ℤ◌, Bool, true, false, cond, ◌&&◌, ◌||◌, IsTrue, List, [], ◌∷◌, ◌++◌, length, refl, sym, ◌∙◌, ap, ap₂, subst, arith, ◌⊎◌, inl, inr}
-use Rattle.std.specs.Prelude.{int_le, int_lt, All, Option, Some, None}
-use Rattle.std.specs.Ordering.{int_eq}
+use Rattle.std.proofs.Common.{◌≡◌, ℤ, pos, negsuc, ◌+ℤ◌, ◌≤ℤ◌, ◌<ℤ◌, Bool, true, false, cond, ◌&&◌, ◌||◌, IsTrue, List, [], ◌∷◌, ◌++◌, refl, sym, ◌∙◌, ap, ap₂, subst, arith, inl, inr}
+use Rattle.std.specs.Prelude.{int_le, All, Option, Some, None}
 use Rattle.std.specs.List.{filter}
 use Rattle.std.proofs.lemmas.Int.{ints, by_lt_z, to_z-of_z}
 use mir.Syntax.{w16}
 use mir.Val.{SFits, to_z, of_z}
 use Rattle.std.proofs.lemmas.List.{append-nil}
 use Rattle.std.proofs.lemmas.List.Elements.{All-head, All-tail}
-use Rattle.std.proofs.lemmas.Bool.{and_parts, false≢true, false_from_ne_true}
+use Rattle.std.proofs.lemmas.Bool.{and_parts, and_from, false_from_ne_true}
 use Rattle.lattice.specs.Corners.{Place, is_corner, is_before, same_place}
-use Rattle.lattice.specs.Mosaic.{Mosaic, IsMosaic, is_present}
-use Rattle.lattice.proofs.Along.{le_true}
-use Rattle.catalogue.specs.Tiles.{corners_of, corners_before}
-use Rattle.catalogue.proofs.Places.{Below, before_says, before_from, same_says, same_from, before_not_same, after_not_same, before_not_back, after_from, before_apart}
+use Rattle.lattice.proofs.Along.{le_true, le_from}
+use Rattle.catalogue.specs.Tiles.{corners_before, is_listed}
+use Rattle.catalogue.proofs.Places.{Below, before_says, before_from, same_says, before_not_back, after_from, before_apart}
 use Rattle.catalogue.proofs.Rising.{AllAfter, Rising, after_later}
 use Rattle.catalogue.proofs.Holders.{itself, not_listed}
-use Rattle.catalogue.proofs.Presence.{is_listed, present-listed, corners_rise}
 
 corner_range : (c : Place) → IsTrue (is_corner c) → (negsuc 89 ≤ℤ c.lat) × (c.lat ≤ℤ pos 89) × (negsuc 179 ≤ℤ c.lon) × (c.lon ≤ℤ pos 179)
 corner_range c corner =
@@ -127,35 +124,40 @@ before-last (x ∷ xs) corners =
     let before : IsTrue (is_before x (place (pos 90) (negsuc 179))) = before_from x (place (pos 90) (negsuc 179)) (inl south) in
     rw before (ap (λ (l : List Place). x ∷ l) (before-last xs (All-tail (λ c. IsTrue (is_corner c)) x xs corners)))
 
+pub corner_from : (c : Place) → negsuc 89 ≤ℤ c.lat → c.lat ≤ℤ pos 89 → negsuc 179 ≤ℤ c.lon → c.lon ≤ℤ pos 179 → IsTrue (is_corner c)
+corner_from c south north west east =
+    and_from (int_le (negsuc 89) c.lat && int_le c.lat (pos 89) && int_le (negsuc 179) c.lon) (int_le c.lon (pos 179))
+    (and_from (int_le (negsuc 89) c.lat && int_le c.lat (pos 89)) (int_le (negsuc 179) c.lon)
+    (and_from (int_le (negsuc 89) c.lat) (int_le c.lat (pos 89)) (le_from _ _ south) (le_from _ _ north)) (le_from _ _ west)) (le_from _ _ east)
+
 -- ---- a walk over the corners
-module _ (m : Mosaic) (valid : IsMosaic m) (lat lon : ℤ) where
+module _ (cs : List Place) (rising : Rising itself cs) (lat lon : ℤ) where
   abbrev pub named : Option Place
-  named = cond (is_present m (place lat lon)) (Some (place lat lon)) None
+  named = cond (is_listed (place lat lon) cs) (Some (place lat lon)) None
 
-  pub before-step : (found : List Place) → found ≡ corners_before lat lon (corners_of m) → corners_before lat (lon +ℤ pos 1) (corners_of m) ≡ found ++ cond (is_present m (place lat lon)) (place lat lon ∷ []) []
-  before-step found so_far =
-      before-next lat lon (corners_of m) (corners_rise m valid)
-      ∙ ap₂ (λ (l : List Place) (b : Bool). l ++ cond b (place lat lon ∷ []) []) (sym so_far) (sym (present-listed (place lat lon) m.tiles))
+  pub before-step : (found : List Place) → found ≡ corners_before lat lon cs → corners_before lat (lon +ℤ pos 1) cs ≡ found ++ cond (is_listed (place lat lon) cs) (place lat lon ∷ []) []
+  before-step found so_far = before-next lat lon cs rising ∙ ap (λ (l : List Place). l ++ cond (is_listed (place lat lon) cs) (place lat lon ∷ []) []) (sym so_far)
 
-  pub step_some : (found new : List Place) (c : Place) → found ≡ corners_before lat lon (corners_of m) → Some c ≡ named → new ≡ found ++ c ∷ [] → new ≡ corners_before lat (lon +ℤ pos 1) (corners_of m)
-  step_some found new c so_far is pushed = by (is_present m (place lat lon)) is (before-step found so_far)
+  pub step_some : (found new : List Place) (c : Place) → found ≡ corners_before lat lon cs → Some c ≡ named → new ≡ found ++ c ∷ [] → new ≡ corners_before lat (lon +ℤ pos 1) cs
+  step_some found new c so_far is pushed = by (is_listed (place lat lon) cs) is (before-step found so_far)
     where
-      by : (b : Bool) → Some c ≡ cond b (Some (place lat lon)) None → corners_before lat (lon +ℤ pos 1) (corners_of m) ≡ found ++ cond b (place lat lon ∷ []) [] → new ≡ corners_before lat (lon +ℤ pos 1) (corners_of m)
+      by : (b : Bool) → Some c ≡ cond b (Some (place lat lon)) None → corners_before lat (lon +ℤ pos 1) cs ≡ found ++ cond b (place lat lon ∷ []) [] → new ≡ corners_before lat (lon +ℤ pos 1) cs
       by true e step = let this : c ≡ place lat lon = cc in pushed ∙ ap (λ (d : Place). found ++ d ∷ []) this ∙ sym step
       by false e step = absurd (cc)
 
-  pub step_none : (found : List Place) → found ≡ corners_before lat lon (corners_of m) → None ≡ named → found ≡ corners_before lat (lon +ℤ pos 1) (corners_of m)
-  step_none found so_far is = by (is_present m (place lat lon)) is (before-step found so_far)
+  pub step_none : (found : List Place) → found ≡ corners_before lat lon cs → None ≡ named → found ≡ corners_before lat (lon +ℤ pos 1) cs
+  step_none found so_far is = by (is_listed (place lat lon) cs) is (before-step found so_far)
     where
-      by : (b : Bool) → None ≡ cond b (Some (place lat lon)) None → corners_before lat (lon +ℤ pos 1) (corners_of m) ≡ found ++ cond b (place lat lon ∷ []) [] → found ≡ corners_before lat (lon +ℤ pos 1) (corners_of m)
+      by : (b : Bool) → None ≡ cond b (Some (place lat lon)) None → corners_before lat (lon +ℤ pos 1) cs ≡ found ++ cond b (place lat lon ∷ []) [] → found ≡ corners_before lat (lon +ℤ pos 1) cs
       by true e step = absurd (cc)
       by false e step = sym (append-nil found) ∙ sym step
 
-  -- what is asked for at a corner, or past the last degree
-  pub named_present : IsTrue (is_present m (place lat lon)) → named ≡ Some (place lat lon)
+-- what is asked for at a corner, or past the last degree
+module _ (cs : List Place) (lat lon : ℤ) where
+  pub named_present : is_listed (place lat lon) cs ≡ true → Some (place lat lon) ≡ cond (is_listed (place lat lon) cs) (Some (place lat lon)) None
   named_present there = rw there refl
 
-  pub named_absent : is_present m (place lat lon) ≡ false → named ≡ None
+  pub named_absent : is_listed (place lat lon) cs ≡ false → None ≡ cond (is_listed (place lat lon) cs) (Some (place lat lon)) None
   named_absent absent = rw absent refl
 
 -- degrees as they are passed

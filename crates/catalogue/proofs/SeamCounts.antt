@@ -1,27 +1,27 @@
 -- How many points disagree: counted tile by tile, each at the first present tile that holds it.
-use Rattle.std.proofs.Common.{◌≡◌, ℕ, zero, suc, ◌+◌, ◌*◌, ◌<◌, ◌≤◌, ℤ, pos, negsuc, ◌+ℤ◌, Bool, true, false, cond, ◌&&◌, ◌||◌, IsTrue, List, [], ◌∷◌, ◌++◌, length, map, refl, sym, ◌∙◌, ap, ap₂, subst, arith, add-one, add-zero, zero-add, inl, inr}
-use Rattle.std.specs.Prelude.{Option, Some, None, Result, Ok, Err, IfOk, sum_by, count_by, All, nat_lt}
+use Rattle.std.proofs.Common.{◌≡◌, ℕ, zero, suc, ◌+◌, ◌*◌, ◌<◌, ℤ, pos, negsuc, ◌+ℤ◌, Bool, true, false, cond, ◌&&◌, ◌||◌, IsTrue, List, [], ◌∷◌, ◌++◌, length, map, refl, sym, ◌∙◌, ap, ap₂, subst, arith, add-one, add-zero, zero-add, inl, inr}
+use Rattle.std.specs.Prelude.{Some, None, Result, Ok, Err, IfOk, sum_by, count_by, All, nat_lt}
 use Rattle.std.specs.Ordering.{int_eq}
 use Rattle.std.specs.List.{filter}
-use Rattle.std.proofs.lemmas.List.{append-nil, length-append}
+use Rattle.std.proofs.lemmas.List.{length-append}
 use Rattle.std.proofs.lemmas.List.Sums.{sum_by-append}
 use Rattle.std.proofs.lemmas.List.Elements.{All-head, All-tail}
-use Rattle.std.proofs.lemmas.Bool.{and_parts, and_from, or_left, cases_lt, false≢true, false_from_ne_true, lt-ltb, le-ltb}
+use Rattle.std.proofs.lemmas.Bool.{and_parts, and_from, or_left, cases_lt, false≢true, lt-ltb, le-ltb}
 use Rattle.std.proofs.lemmas.Bool.Decides.{Decides-int_eq}
 use Rattle.lattice.specs.Corners.{Place, is_corner, same_place}
 use Rattle.lattice.specs.Lattice.{Holds, holds, index_of, point_of}
-use Rattle.lattice.specs.Mosaic.{Tile, Mosaic, IsMosaic, is_present}
+use Rattle.lattice.specs.Mosaic.{Tile, Mosaic, IsMosaic}
 use Rattle.lattice.specs.Height.{sample_at, differ, disagrees}
 use Rattle.lattice.specs.Ground.{same_point}
 use Rattle.lattice.specs.declared.point.Point.{Point}
 use Rattle.lattice.specs.declared.refusal.Refusal.{Refusal}
 use Rattle.lattice.proofs.Samples.{holds_is, index_of_point_is, point_of_held, point_of_index, index_of_below}
-use Rattle.catalogue.specs.Tiles.{corners_of, corners_before}
+use Rattle.catalogue.specs.Tiles.{corners_of, corners_before, is_listed}
 use Rattle.catalogue.specs.Seams.{IsSeamCount, is_first, present_holders, is_own_seam, own_seams_below, seams_of, seams_before}
 use Rattle.catalogue.proofs.Places.{same_says, same_from, same_comm}
 use Rattle.catalogue.proofs.Rising.{AllAfter, Rising}
 use Rattle.catalogue.proofs.Mosaics.{corner_of}
-use Rattle.catalogue.proofs.Presence.{is_listed, corners_rise}
+use Rattle.catalogue.proofs.Presence.{corners_rise}
 use Rattle.catalogue.proofs.OneTile.{corners_are}
 use Rattle.catalogue.proofs.Holders.{itself, not_listed}
 use Rattle.catalogue.proofs.PresentHolders.{holders_filtered, listed-filter}
@@ -39,27 +39,27 @@ unfolding own_seams_below
 tile_start m c = refl
 
 module _ (m : Mosaic) (valid : IsMosaic m) (lat lon : ℤ) where
-  seams-next : seams_before m lat (lon +ℤ pos 1) ≡ seams_before m lat lon + sum_by (seams_of m) (cond (is_present m (place lat lon)) (place lat lon ∷ []) [])
+  seams-next : seams_before m lat (lon +ℤ pos 1) ≡ seams_before m lat lon + sum_by (seams_of m) (cond (is_listed (place lat lon) (corners_of m)) (place lat lon ∷ []) [])
   seams-next =
-      ap (sum_by (seams_of m)) (before-step m valid lat lon (corners_before lat lon (corners_of m)) refl)
-      ∙ sum_by-append (seams_of m) (corners_before lat lon (corners_of m)) (cond (is_present m (place lat lon)) (place lat lon ∷ []) [])
+      ap (sum_by (seams_of m)) (before-step (corners_of m) (corners_rise m valid) lat lon (corners_before lat lon (corners_of m)) refl)
+      ∙ sum_by-append (seams_of m) (corners_before lat lon (corners_of m)) (cond (is_listed (place lat lon) (corners_of m)) (place lat lon ∷ []) [])
 
-  pub seams_some : (c : Place) → Some c ≡ named m valid lat lon → seams_before m lat (lon +ℤ pos 1) ≡ seams_before m lat lon + seams_of m c
-  seams_some c is = seams-next ∙ by (is_present m (place lat lon)) is
+  pub seams_some : (c : Place) → Some c ≡ named (corners_of m) (corners_rise m valid) lat lon → seams_before m lat (lon +ℤ pos 1) ≡ seams_before m lat lon + seams_of m c
+  seams_some c is = seams-next ∙ by (is_listed (place lat lon) (corners_of m)) is
     where
       by : (b : Bool) → Some c ≡ cond b (Some (place lat lon)) None → seams_before m lat lon + sum_by (seams_of m) (cond b (place lat lon ∷ []) []) ≡ seams_before m lat lon + seams_of m c
       by true e = let this : place lat lon ≡ c = cc in ap (λ n. seams_before m lat lon + n) (zero-add (seams_of m (place lat lon)) ∙ ap (seams_of m) this)
       by false e = absurd (cc)
 
-  pub seams_none : None ≡ named m valid lat lon → seams_before m lat (lon +ℤ pos 1) ≡ seams_before m lat lon
-  seams_none is = seams-next ∙ by (is_present m (place lat lon)) is
+  pub seams_none : None ≡ named (corners_of m) (corners_rise m valid) lat lon → seams_before m lat (lon +ℤ pos 1) ≡ seams_before m lat lon
+  seams_none is = seams-next ∙ by (is_listed (place lat lon) (corners_of m)) is
     where
       by : (b : Bool) → None ≡ cond b (Some (place lat lon)) None → seams_before m lat lon + sum_by (seams_of m) (cond b (place lat lon ∷ []) []) ≡ seams_before m lat lon
       by true e = absurd (cc)
       by false e = add-zero (seams_before m lat lon)
 
 -- the tile's count is what its place adds
-pub seams_ok : (m : Mosaic) (valid : IsMosaic m) (lat lon : ℤ) (c : Place) (result : Result ℕ Refusal) → Some c ≡ named m valid lat lon
+pub seams_ok : (m : Mosaic) (valid : IsMosaic m) (lat lon : ℤ) (c : Place) (result : Result ℕ Refusal) → Some c ≡ named (corners_of m) (corners_rise m valid) lat lon
     → IfOk result (λ n. n ≡ seams_of m c) → IfOk result (λ n. seams_before m lat (lon +ℤ pos 1) ≡ seams_before m lat lon + n)
 seams_ok m valid lat lon c (Ok n) is counted = seams_some m valid lat lon c is ∙ ap (λ k. seams_before m lat lon + k) (sym counted)
 seams_ok m valid lat lon c (Err r) is counted = tt

@@ -1,19 +1,18 @@
 -- Points that one present tile holds.
-use Rattle.std.proofs.Common.{◌≡◌, ℕ, zero, suc, ◌+◌, ◌<◌, ◌≤◌, Bool, true, false, cond, ◌&&◌, ◌||◌, IsTrue, List, [], ◌∷◌, length, map, get_or, refl, sym, ◌∙◌, ap, subst, arith, ◌↔◌}
-use Rattle.std.specs.Prelude.{Contains, All}
+use Rattle.std.proofs.Common.{◌≡◌, ℕ, ◌<◌, Bool, true, false, ◌&&◌, ◌||◌, List, [], ◌∷◌, length, map, get_or, refl, sym, subst}
+use Rattle.std.specs.Prelude.{Contains}
 use Rattle.std.specs.List.{list_any}
 use Rattle.std.proofs.lemmas.Bool.{and_parts, and_from, or_left, or_right, false≢true, false_from_ne_true}
-use Rattle.std.proofs.lemmas.List.Elements.{All-head, All-tail}
-use Rattle.lattice.specs.Corners.{Place, is_corner, same_place}
+use Rattle.lattice.specs.Corners.{Place, same_place}
 use Rattle.lattice.specs.Lattice.{Holds, holds}
-use Rattle.lattice.specs.Mosaic.{Tile, Mosaic, IsTile, IsMosaic}
+use Rattle.lattice.specs.Mosaic.{Tile, Mosaic, IsMosaic}
 use Rattle.lattice.specs.Ground.{share_tile}
 use Rattle.lattice.specs.declared.point.Point.{Point}
 use Rattle.lattice.proofs.Samples.{holds_is}
-use Rattle.catalogue.specs.Tiles.{corners_of}
+use Rattle.catalogue.specs.Tiles.{corners_of, is_listed}
 use Rattle.catalogue.proofs.Places.{same_says, same_from}
 use Rattle.catalogue.proofs.Mosaics.{corner_of}
-use Rattle.catalogue.proofs.Presence.{is_listed, listed_from, listed_says}
+use Rattle.catalogue.proofs.Presence.{listed_from, listed_says}
 use Rattle.catalogue.proofs.OneTile.{corner_is}
 
 module _ (n : ℕ) (p q : Point) where

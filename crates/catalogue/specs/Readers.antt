@@ -1,9 +1,16 @@
 -- What a call that reads a `Samples` does to it, and how it may be refused.
-use Rattle.std.specs.Prelude.{◌≡◌, ◌≤◌, Result, IsOk, IfErr, OnOk}
+use Rattle.std.specs.Prelude.{◌≡◌, ◌≤◌, Result, Ok, Err, IsOk, IfErr, OnOk, OnErr}
 use Rattle.lattice.specs.declared.refusal.Refusal.{Refusal}
-use Rattle.lattice.specs.declared.refusal.Refusal.TheVariants.{Device}
+use Rattle.lattice.specs.declared.refusal.Refusal.TheVariants.{Device, Failed, Damaged}
 use Rattle.catalogue.specs.Reading.{MayRefuse}
 use Rattle.catalogue.specs.declared.samples.Samples.{Ghosts}
+
+-- how the reads of a call went that may also be refused for other reasons
+abbrev pub reads_of : {T : Type 0} → Result T Refusal → Result (Unit {0}) Refusal
+reads_of (Err Device) = Err Device
+reads_of (Err Failed) = Err Failed
+reads_of (Err Damaged) = Err Damaged
+reads_of _ = Ok tt
 
 -- the call read samples, and did nothing else
 pub record OnlyReads {S T : Type 0} (g : Ghosts S) (old new : S) (result : Result T Refusal) : Type 0 where
@@ -12,6 +19,8 @@ pub record OnlyReads {S T : Type 0} (g : Ghosts S) (old new : S) (result : Resul
   -- where it is ready and honest, only the disk refuses
   pub only_device : g.is_honest new → g.is_ready old → IfErr result (λ r. r ≡ Device)
   pub ready : g.is_ready old → OnOk result (g.is_ready new)
+  -- after a refusal no further read is tried
+  pub unready : OnErr result (¬ g.is_ready new)
   pub answers : g.never_refuses old → IsOk result
   pub never_refuses : g.never_refuses old → g.never_refuses new
   pub side : g.side_of new ≡ g.side_of old
@@ -20,4 +29,4 @@ pub record OnlyReads {S T : Type 0} (g : Ghosts S) (old new : S) (result : Resul
   -- no call makes a dishonest one honest
   pub honest : g.is_honest new → g.is_honest old
   pub mosaic : g.is_honest new → g.mosaic new ≡ g.mosaic old
-  pub keeps : g.is_honest new → g.keeps old new
+  pub keeps : g.keeps old new

@@ -1,11 +1,20 @@
 -- The tiles of a mosaic in their order, and what becomes of them (this product's own profile).
-use Rattle.std.specs.Prelude.{ℕ, ℤ, not, if◌then◌else◌, List, [], ◌∷◌, map, filter, slice_set}
-use Rattle.lattice.specs.Corners.{Place, is_before, same_place}
+use Rattle.std.specs.Prelude.{ℕ, ℤ, Bool, not, IsTrue, if◌then◌else◌, List, [], ◌∷◌, All, map, filter, slice_set}
+use Rattle.std.specs.List.{list_any}
+use Rattle.lattice.specs.Corners.{Place, is_corner, is_before, same_place}
 use Rattle.lattice.specs.Mosaic.{Tile, Mosaic}
 
 -- the corners of the present tiles, in order
 abbrev pub corners_of : Mosaic → List Place
 corners_of m = map (λ t. t.corner) m.tiles
+
+-- whole degrees at which tiles can lie
+abbrev pub AreCorners : List Place → Type 0
+AreCorners places = All (λ c. IsTrue (is_corner c)) places
+
+-- the place is in the list
+abbrev pub is_listed : Place → List Place → Bool
+is_listed c places = list_any (λ d. same_place d c) places
 
 -- the tiles with one more, in their order
 abbrev pub with_tile : Tile → List Tile → List Tile

@@ -7,6 +7,8 @@
 mod adjacency;
 mod listing;
 mod samples;
+mod sealing;
+mod sealing_laws;
 mod seam_rule;
 mod seams_between;
 mod table;
@@ -16,6 +18,8 @@ mod tests;
 pub use adjacency::{adjacent, degree, outlet};
 pub use listing::tiles;
 pub use samples::Samples;
+pub use sealing::sealed;
+pub use sealing_laws::{blocks_are_local, sealed_tiles_agree, sealing_keeps_the_terrain};
 pub use seam_rule::height;
 pub use seams_between::seams;
 pub use table::Table;

@@ -1,16 +1,16 @@
 //! Where samples come from.
-ghost use Rattle.std.specs.Prelude.{◌≡◌, ◌≤◌, ◌<◌, ◌*◌, ◌↔◌, ℕ, List, length, map, IsTrue, IsOk, IfOk, IfErr, OnOk, Contains};
+ghost use Rattle.std.specs.Prelude.{◌≡◌, ◌≤◌, ◌<◌, ◌+◌, ◌*◌, ◌↔◌, ℕ, List, length, map, IsTrue, IsOk, IfOk, IfErr, OnOk, OnErr, Contains};
 ghost use Rattle.std.specs.List.{AllAdjacentBelow};
 ghost use Rattle.lattice.specs.Corners.{Place};
 ghost use Rattle.lattice.specs.Lattice.{IsBefore};
 ghost use Rattle.lattice.specs.Mosaic.{Mosaic, IsMosaic};
 ghost use Rattle.lattice.specs.declared.refusal.Refusal.TheVariants.{Device};
-ghost use Rattle.catalogue.specs.Reading.{IsSampleOf, MayRefuse};
-ghost use Rattle.catalogue.specs.Tiles.{corners_of};
+ghost use Rattle.catalogue.specs.Reading.{IsSampleOf, AreSamplesOf, MayRefuse};
+ghost use Rattle.catalogue.specs.Tiles.{corners_of, AreCorners};
 
 use lattice::{Corner, Refusal, Side};
 
-/// Tiles whose samples can be read one by one: in memory, or from a disk.
+/// Tiles whose samples can be read, one by one or many at once: in memory, or from a disk.
 ///
 /// A read may be refused with Device (the disk failed in it), Failed (it failed before) or Damaged, and changes no tile
 /// and no sample in any case.
@@ -28,7 +28,7 @@ pub trait Samples {
     /// clause that holds where it is honest at the end of a call speaks of one that was honest all along.
     ghost is_honest: { Self → Type 0 };
 
-    /// What reading keeps: the new may have come from the old by reads alone.
+    /// What reading keeps, whatever a disk does: the new may have come from the old by reads alone.
     ghost keeps: { Self → Self → Type 0 };
 
     /// How many calls of the disk have failed. The count stays at the largest 64-bit number, where each further failure
@@ -48,7 +48,8 @@ pub trait Samples {
     /// Whether the corner's tile is present.
     fn present(&self, c: Corner) -> bool
         ensures answer { IsTrue result ↔ Contains (corners self.now) c }
-        ensures in_order { AllAdjacentBelow IsBefore (corners self.now) (length (corners self.now)) };
+        ensures in_order { AllAdjacentBelow IsBefore (corners self.now) (length (corners self.now)) }
+        ensures whole_degrees { AreCorners (corners self.now) };
 
     /// The sample at the index in the corner's tile: rows from the north, samples from the west.
     fn sample(&mut self, c: Corner, i: u32) -> Result<i16, Refusal>
@@ -62,6 +63,9 @@ pub trait Samples {
         // Where it is ready and honest, only the disk refuses.
         ensures only_device { is_honest self.new → is_ready self.old → IfErr result (λ r. r ≡ Device) }
         ensures ready { is_ready self.old → OnOk result (is_ready self.new) }
+
+        // After a refusal no further read is tried.
+        ensures unready { OnErr result (¬ is_ready self.new) }
         ensures answers { never_refuses self.old → IsOk result }
         ensures never_refuses { never_refuses self.old → never_refuses self.new }
         ensures side { side_of self.new ≡ side_of self.old }
@@ -71,7 +75,35 @@ pub trait Samples {
         // No call makes a dishonest one honest.
         ensures honest { is_honest self.new → is_honest self.old }
         ensures mosaic { is_honest self.new → mosaic self.new ≡ mosaic self.old }
-        ensures keeps { is_honest self.new → keeps self.old self.new };
+        ensures keeps { keeps self.old self.new };
+
+    /// Reads samples of the corner's tile, from the index `first` on, as many as the slice has room for. After a refusal
+    /// the slice may hold anything.
+    fn read_samples(&mut self, c: Corner, first: u32, into: &mut [i16]) -> Result<(), Refusal>
+        requires present { Contains (corners self.old) c }
+        requires range { first + length into.old ≤ side_of self.old * side_of self.old }
+        ensures samples { is_honest self.new → OnOk result (AreSamplesOf (mosaic self.old) c first into.new) }
+        ensures length { length into.new ≡ length into.old }
+
+        // On any disk a refusal is Device, and then the count of failures has risen, or Failed or Damaged.
+        ensures refusal { IfErr result (MayRefuse (failures self.old) (failures self.new)) }
+
+        // Where it is ready and honest, only the disk refuses.
+        ensures only_device { is_honest self.new → is_ready self.old → IfErr result (λ r. r ≡ Device) }
+        ensures ready { is_ready self.old → OnOk result (is_ready self.new) }
+
+        // After a refusal no further read is tried.
+        ensures unready { OnErr result (¬ is_ready self.new) }
+        ensures answers { never_refuses self.old → IsOk result }
+        ensures never_refuses { never_refuses self.old → never_refuses self.new }
+        ensures side { side_of self.new ≡ side_of self.old }
+        ensures corners { corners self.new ≡ corners self.old }
+        ensures failures { failures self.old ≤ failures self.new }
+
+        // No call makes a dishonest one honest.
+        ensures honest { is_honest self.new → is_honest self.old }
+        ensures mosaic { is_honest self.new → mosaic self.new ≡ mosaic self.old }
+        ensures keeps { keeps self.old self.new };
 
     /// What it stands for is a mosaic.
     ghost is_mosaic: { (s : Self) → is_honest s → IsMosaic (mosaic s) };
@@ -83,7 +115,7 @@ pub trait Samples {
     ghost same_corners: { (s : Self) → is_honest s → corners_of (mosaic s) ≡ corners s };
 
     /// To do nothing keeps it.
-    ghost keeps_itself: { (s : Self) → is_honest s → keeps s s };
+    ghost keeps_itself: { (s : Self) → keeps s s };
 
     /// Reads one after another keep it.
     ghost keeps_on: { (a b c : Self) → keeps a b → keeps b c → keeps a c };

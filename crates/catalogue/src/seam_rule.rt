@@ -8,7 +8,7 @@ use crate::Samples;
 use lattice::{Corner, Height, Point, Refusal, holders, index_in};
 
 // The sample of a data void.
-const VOID: i16 = i16::MIN;
+pub(crate) const VOID: i16 = i16::MIN;
 
 /// The height of the point: the first sample that isn't void among those of the present tiles that hold it, in the
 /// order of tiles. Tiles that share an edge may disagree there.

@@ -116,7 +116,7 @@ impl Samples for Table {
     ghost use Rattle.std.specs.List.{AllAdjacentBelow};
     ghost use Rattle.lattice.specs.Lattice.{IsBefore};
     ghost use Rattle.lattice.specs.Mosaic.{IsMosaic, is_present};
-    ghost use Rattle.catalogue.specs.Tiles.{corners_of};
+    ghost use Rattle.catalogue.specs.Tiles.{corners_of, AreCorners};
 
     ghost side_of = { λ table. table.side };
 
@@ -140,7 +140,7 @@ impl Samples for Table {
 
     ghost same_corners = { λ _ _. refl };
 
-    ghost keeps_itself = { λ _ _. refl };
+    ghost keeps_itself = { λ _. refl };
 
     ghost keeps_on = { λ _ _ _ first second. second ∙ first };
 
@@ -153,6 +153,7 @@ impl Samples for Table {
     fn present(&self, c: Corner) -> bool
         ensures answer { IsTrue result ↔ Contains (corners_of self.now) c }
         ensures in_order { AllAdjacentBelow IsBefore (corners_of self.now) (length (corners_of self.now)) }
+        ensures whole_degrees { AreCorners (corners_of self.now) }
         ensures tile { result ≡ is_present self.now c }
         ensures valid { IsMosaic self.now }
     {
@@ -162,5 +163,12 @@ impl Samples for Table {
     fn sample(&mut self, c: Corner, i: u32) -> Result<i16, Refusal> {
         let samples = &self.tiles[&c];
         Ok(samples[i as usize])
+    }
+
+    fn read_samples(&mut self, c: Corner, first: u32, into: &mut [i16]) -> Result<(), Refusal> {
+        let samples = &self.tiles[&c];
+        let first = first as usize;
+        into.copy_from_slice(&samples[first..first + into.len()]);
+        Ok(())
     }
 }

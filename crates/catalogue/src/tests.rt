@@ -1,7 +1,7 @@
 //! Rows worked by hand, with tiles of side 3, written as three rows from the north.
 ghost use Rattle.std.specs.Prelude.{◌≡◌, IfOk};
 
-use crate::{Samples, Table, adjacent, degree, height, outlet, seams, tiles};
+use crate::{Samples, Table, adjacent, degree, height, outlet, sealed, seams, tiles};
 use lattice::{Corner, Height, Point, Side};
 use std::alloc::Global;
 use std::test::Fail;
@@ -43,6 +43,13 @@ fn add(table: &mut Table, alloc: Global, corner: Corner, samples: [i16; 9]) -> R
     let samples = Vec::from_slice(alloc, &samples).ok().ok_or("no memory")?;
     table.add(corner, samples).ok().ok_or("no memory")?;
     Ok(())
+}
+
+fn has_tile(table: &Table, corner: Corner, samples: [i16; 9]) -> bool {
+    match table.samples(corner) {
+        Some(found) => found == samples.as_slice(),
+        None => false,
+    }
 }
 
 fn height_at(table: &mut Table, y: i32, x: i32) -> Result<Height, Fail>
@@ -182,5 +189,58 @@ fn a_table_keeps_its_tiles_in_order(rt: HostRuntime) -> Result<(), Fail> {
     assert_eq!(rt; removed.as_slice(), A.as_slice());
     assert!(rt; table.remove(S01W001).is_none());
     assert!(rt; !table.present(S01W001));
+    Ok(())
+}
+
+#[test]
+fn samples_are_read_from_an_index_on(rt: HostRuntime) -> Result<(), Fail> {
+    let alloc = rt.alloc();
+    let mut table = table(alloc)?;
+    add(&mut table, alloc, N00E000, A)?;
+    let mut some = [0; 3];
+    if table.present(N00E000) {
+        assert_eq!(rt; table.read_samples(N00E000, 4, &mut some), Ok(()));
+    }
+    assert_eq!(rt; some, [1, 9, 9]);
+    Ok(())
+}
+
+#[test]
+fn sealed_tiles_have_one_height_at_a_shared_point(rt: HostRuntime) -> Result<(), Fail> {
+    let alloc = rt.alloc();
+    let mut table = table(alloc)?;
+    add(&mut table, alloc, N00E000, G)?;
+    add(&mut table, alloc, N00E001, H)?;
+    let mut agreeing = sealed(alloc, &mut table).ok().ok_or("no memory")?;
+    assert!(rt; has_tile(&agreeing, N00E000, G));
+    assert!(rt; has_tile(&agreeing, N00E001, [9, 9, 9, 7, 9, 9, 9, 9, 9]));
+    assert_eq!(rt; seams(&mut agreeing), Ok(0));
+    assert_eq!(rt; seams(&mut table), Ok(1));
+    Ok(())
+}
+
+#[test]
+fn a_shared_void_is_sealed_with_a_height(rt: HostRuntime) -> Result<(), Fail> {
+    let alloc = rt.alloc();
+    let mut table = table(alloc)?;
+    add(&mut table, alloc, N00E000, K)?;
+    add(&mut table, alloc, N00E001, H)?;
+    let agreeing = sealed(alloc, &mut table).ok().ok_or("no memory")?;
+    assert!(rt; has_tile(&agreeing, N00E000, [9, 9, 9, 9, 9, 8, 9, 9, 9]));
+    assert!(rt; has_tile(&agreeing, N00E001, H));
+    Ok(())
+}
+
+#[test]
+fn what_no_other_tile_holds_is_sealed_as_it_is(rt: HostRuntime) -> Result<(), Fail> {
+    let alloc = rt.alloc();
+    let mut table = table(alloc)?;
+    add(&mut table, alloc, N00E000, V)?;
+    add(&mut table, alloc, N01E001, [1; 9])?;
+    let agreeing = sealed(alloc, &mut table).ok().ok_or("no memory")?;
+    assert!(rt; has_tile(&agreeing, N00E000, V));
+    assert!(rt; has_tile(&agreeing, N01E001, [1, 1, 1, 1, 1, 1, 9, 1, 1]));
+    let corners = agreeing.corners(alloc).ok().ok_or("no memory")?;
+    assert_eq!(rt; corners.as_slice(), [N00E000, N01E001].as_slice());
     Ok(())
 }

@@ -11,8 +11,8 @@ use Rattle.lattice.specs.Corners.{Place, is_corner, same_place}
 use Rattle.catalogue.proofs.Places.{same_says, after_not_same}
 use Rattle.catalogue.proofs.Rising.{AllAfter, Rising}
 use Rattle.lattice.specs.Mosaic.{Mosaic, IsTile, IsMosaic}
-use Rattle.catalogue.specs.Tiles.{corners_of}
-use Rattle.catalogue.proofs.Presence.{is_listed, listed_from, listed_says, corners_rise}
+use Rattle.catalogue.specs.Tiles.{corners_of, is_listed}
+use Rattle.catalogue.proofs.Presence.{listed_from, listed_says, corners_rise}
 
 -- 1 for a test that holds
 abbrev pub one_if : Bool → ℕ

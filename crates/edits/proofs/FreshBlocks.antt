@@ -16,6 +16,7 @@ use Rattle.lattice.specs.Mosaic.{Tile, Mosaic, IsTile, IsMosaic}
 use Rattle.lattice.proofs.Along.{steps}
 use Rattle.hgt.specs.Bytes.{samples_in}
 use Rattle.catalogue.specs.Tiles.{with_tile, added, without}
+use Rattle.catalogue.proofs.Nearby.{holders_near}
 use Rattle.catalogue.proofs.Places.{same_says}
 use Rattle.edits.specs.declared.command.Command.{Command}
 use Rattle.edits.specs.declared.command.Command.TheVariants.{Import, Remove, Patch, Burn, Wall}
@@ -29,48 +30,10 @@ use Rattle.edits.proofs.Voids.{any_from, is_void_within}
 
 -- ---- tiles that hold one point are neighbours
 
-few_steps : (m d : ℕ) → 2 ≤ m → d * m ≤ m → d < 2
-few_steps m zero side small = omega arith
-few_steps m (suc zero) side small = omega arith
-few_steps m (suc (suc d)) side small = absurd (omega arith)
-
-spread : (y : ℤ) (m d : ℕ) → (y +ℤ pos d) *ℤ pos m ≡ y *ℤ pos m +ℤ pos (d * m)
-spread y m zero = ap (λ z. z *ℤ pos m) (+ℤ_idr y) ∙ sym (+ℤ_idr (y *ℤ pos m)) ∙ ap (λ k. y *ℤ pos m +ℤ pos k) none
-  where
-    none : 0 ≡ 0 * m
-    none = omega arith
-spread y m (suc d) =
-    ap (λ z. z *ℤ pos m) (+ℤ-suc_ℤ y (pos d)) ∙ suc_ℤ-*ℤ (y +ℤ pos d) (pos m) ∙ ap (λ z. z +ℤ pos m) (spread y m d) ∙ gather (y *ℤ pos m) (d * m) (suc d * m) (omega arith)
-  where
-    gather : (z : ℤ) (a b : ℕ) → b ≡ a + m → z +ℤ pos a +ℤ pos m ≡ z +ℤ pos b
-    gather z a b is = omega (arith, ints)
-
-apart : (m : ℕ) (x y v : ℤ) (d i j : ℕ) → x ≡ y +ℤ pos d → v ≡ x *ℤ pos m +ℤ pos i → v ≡ y *ℤ pos m +ℤ pos j → j ≤ m → d * m ≤ m
-apart m x y v d i j is at_x at_y within =
-    let product : x *ℤ pos m ≡ y *ℤ pos m +ℤ pos (d * m) = ap (λ z. z *ℤ pos m) is ∙ spread y m d in
-    omega (arith, ints)
-
-gap : (x y : ℤ) → (d : ℕ) × ((nat_abs (x -ℤ y) ≡ d) × ((x ≡ y +ℤ pos d) ⊎ (y ≡ x +ℤ pos d)))
-gap x y = (nat_abs (x -ℤ y), (refl, by_lt_z x y (λ less. inr (grind (arith, ints))) (λ not_less. inl (grind (arith, ints)))))
-
-along_near : (m : ℕ) (x y v : ℤ) → 2 ≤ m → IsTrue (is_along (pos m) x v) → IsTrue (is_along (pos m) y v) → nat_lt (nat_abs (x -ℤ y)) 2 ≡ true
-along_near m x y v side at_x at_y =
-    let from_x = steps m x v at_x in
-    let from_y = steps m y v at_y in
-    let between = gap x y in
-    let small : between.0 < 2 = elim between.1.1 [
-      | inl above ↦ few_steps m between.0 side (apart m x y v between.0 from_x.0 from_y.0 above from_x.1.1 from_y.1.1 from_y.1.0)
-      | inr below ↦ few_steps m between.0 side (apart m y x v between.0 from_y.0 from_x.0 below from_y.1.1 from_x.1.1 from_x.1.0)
-    ] in
-    lt-ltb (nat_abs (x -ℤ y)) 2 (subst (λ k. k < 2) (sym between.1.0) small)
-
 both_hold : (n : ℕ) (a b : Place) (q : Point) → 3 ≤ n → holds n a q ≡ true → holds n b q ≡ true → are_neighbours a b ≡ true
 both_hold n a b q side at_a at_b =
-    let in_a = and_parts (is_along (pos (n - 1)) a.lat q.y) (is_along (pos (n - 1)) a.lon q.x) at_a in
-    let in_b = and_parts (is_along (pos (n - 1)) b.lat q.y) (is_along (pos (n - 1)) b.lon q.x) at_b in
-    and_from (nat_lt (nat_abs (a.lat -ℤ b.lat)) 2) (nat_lt (nat_abs (a.lon -ℤ b.lon)) 2)
-    (along_near (n - 1) a.lat b.lat q.y (omega arith) in_a.0 in_b.0)
-    (along_near (n - 1) a.lon b.lon q.x (omega arith) in_a.1 in_b.1)
+    let near = holders_near n a b q side at_a at_b in
+    and_from (nat_lt (nat_abs (a.lat -ℤ b.lat)) 2) (nat_lt (nat_abs (a.lon -ℤ b.lon)) 2) (lt-ltb _ 2 near.0) (lt-ltb _ 2 near.1)
 
 -- ---- what the tiles say of a point
 

@@ -1,4 +1,5 @@
 mod Accepted
+pub mod AllStale
 mod Beside
 mod CarryingOut
 mod Counting
@@ -11,6 +12,7 @@ mod PatchSteps
 mod PlanLemmas
 mod PutLemmas
 mod Putting
+pub mod Refusals
 mod Repeats
 mod SamePoints
 mod StaleTiles

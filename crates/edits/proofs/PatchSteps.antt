@@ -24,7 +24,7 @@ pub record IsPatched {S : Type 0} (g : Ghosts S) (test : Mosaic → Point → Bo
   pub once : PutsOnce (g.side_of old) box before changes
 
 module _ {S : Type 0} (g : Ghosts S) (s : ℤ) where
-  pub patched_none : ((s : S) → g.is_honest s → g.keeps s s) → (test : Mosaic → Point → Bool) → ((m : Mosaic) (p : Point) → test m p ≡ false) → (box : Point → Bool) (old : S) (changes : List Change) → IsPatched g test box s old old changes changes
+  pub patched_none : ((s : S) → g.keeps s s) → (test : Mosaic → Point → Bool) → ((m : Mosaic) (p : Point) → test m p ≡ false) → (box : Point → Bool) (old : S) (changes : List Change) → IsPatched g test box s old old changes changes
   patched_none keeps_itself test none box old changes = record {
     reads = reads_nothing g keeps_itself old tt;
     fits = λ fit. fit;

@@ -9,7 +9,7 @@ use Rattle.lattice.specs.Mosaic.{Mosaic}
 use Rattle.lattice.specs.declared.refusal.Refusal.{Refusal}
 use Rattle.lattice.specs.declared.refusal.Refusal.TheVariants.{Device, NoMemory, Failed, Damaged}
 use Rattle.catalogue.specs.declared.samples.Samples.{Ghosts}
-use Rattle.catalogue.specs.Readers.{OnlyReads}
+use Rattle.catalogue.specs.Readers.{OnlyReads, reads_of}
 use Rattle.catalogue.proofs.Reading.{reads_nothing}
 use Rattle.edits.specs.declared.change.Change.{Change}
 use Rattle.edits.specs.declared.command.Command.{Command}
@@ -17,7 +17,7 @@ use Rattle.edits.specs.declared.command.Command.TheVariants.{Import, Remove, Pat
 use Rattle.edits.specs.declared.change.Change.TheVariants.{Set}
 use Rattle.edits.specs.Changes.{CanBeMade, CanBeSet, IsSet, StandAlone, SetOnce, all_changed}
 use Rattle.edits.specs.Effect.{effect}
-use Rattle.edits.specs.Plans.{is_own, ends_any, may_end, reads_of}
+use Rattle.edits.specs.Plans.{is_own, ends_any, may_end}
 
 module _ (capacity : ℕ) (m : Mosaic) (result : Result (Vec Change) Refusal) (a b : Command) (same : a ≡ b) where
   pub made_as : IfOk result (λ changes. effect capacity m a ≡ Ok (all_changed changes.items m)) → IfOk result (λ changes. effect capacity m b ≡ Ok (all_changed changes.items m))
@@ -93,7 +93,7 @@ module _ {T : Type 0} (command : Command) where
   nothing_read (Err Damaged) (inr own) = absurd (both_ways (is_own command Damaged) (not_read command Damaged refl) own)
   nothing_read (Err _) why = refl
 
-  pub unread : {S : Type 0} (g : Ghosts S) → ((s : S) → g.is_honest s → g.keeps s s) → (s : S) (result : Result T Refusal) → IfErr result (λ r. (r ≡ NoMemory) ⊎ IsTrue (is_own command r)) →
+  pub unread : {S : Type 0} (g : Ghosts S) → ((s : S) → g.keeps s s) → (s : S) (result : Result T Refusal) → IfErr result (λ r. (r ≡ NoMemory) ⊎ IsTrue (is_own command r)) →
       OnlyReads {T = Unit {0}} g s s (reads_of result)
   unread {S = S} g keeps_itself s result why = subst (λ (r : Result (Unit {0}) Refusal). OnlyReads {T = Unit {0}} g s s r) (sym (nothing_read result why)) (reads_nothing g keeps_itself s tt)
 

@@ -95,7 +95,7 @@ pub record AreTreated {S : Type 0} (g : Ghosts S) (t : Treatment) (points : List
   pub once : is_repeated points ≡ false → PutsOnce (g.side_of old) (is_named (take i points)) [] changes
 
 module _ {S : Type 0} (g : Ghosts S) (t : Treatment) (points : List Point) where
-  pub treated_none : ((s : S) → g.is_honest s → g.keeps s s) → (s : S) → AreTreated g t points 0 s s []
+  pub treated_none : ((s : S) → g.keeps s s) → (s : S) → AreTreated g t points 0 s s []
   treated_none keeps_itself s = record {
     reads = reads_nothing g keeps_itself s tt;
     fits = λ k d below. absurd (omega arith);

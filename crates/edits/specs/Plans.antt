@@ -1,9 +1,12 @@
 -- How planning a command may be refused (this product's own profile).
-use Rattle.std.specs.Prelude.{◌≡◌, ◌≤◌, ◌*◌, ℕ, length, Bool, true, false, ◌||◌, Result, Ok, Err}
+use Rattle.std.specs.Prelude.{◌≡◌, ◌≤◌, ◌*◌, ℕ, length, Bool, true, false, ◌||◌, Result, Ok, Err, List, All}
+use Rattle.lattice.specs.Corners.{Place}
 use Rattle.lattice.specs.declared.refusal.Refusal.{Refusal}
 use Rattle.lattice.specs.declared.refusal.Refusal.TheVariants.{BadLength, TileThere, NoTile, Full, Outside, Void, NothingVoid, BadHeight, BadDepth, BadBox, Repeated, TooDeep, Device, NoMemory, Failed, Damaged}
 use Rattle.edits.specs.declared.command.Command.{Command}
 use Rattle.edits.specs.declared.command.Command.TheVariants.{Import, Remove, Patch, Burn, Wall}
+use Rattle.edits.specs.declared.change.Change.{Change}
+use Rattle.edits.specs.Changes.{CanBeSet}
 
 -- the refusals of a command's own tests
 abbrev pub is_own : Command → Refusal → Bool
@@ -36,13 +39,6 @@ ends_any _ = false
 abbrev pub may_end : Command → Refusal → Bool
 may_end command r = is_own command r || ends_any r
 
--- how the reads of a call went that may also be refused for other reasons
-abbrev pub reads_of : {T : Type 0} → Result T Refusal → Result (Unit {0}) Refusal
-reads_of (Err Device) = Err Device
-reads_of (Err Failed) = Err Failed
-reads_of (Err Damaged) = Err Damaged
-reads_of _ = Ok tt
-
 -- how many changes a command comes to
 abbrev pub IsFew : Command → ℕ → Type 0
 IsFew (Import c bytes) changes = changes ≡ 1
@@ -50,3 +46,11 @@ IsFew (Remove c) changes = changes ≡ 1
 IsFew (Patch from to h) changes = Unit {0}
 IsFew (Burn depth points) changes = changes ≤ 4 * length points.items
 IsFew (Wall h points) changes = changes ≤ 4 * length points.items
+
+-- a patch, a burn and a wall come to samples set in present tiles
+abbrev pub SetsOnly : ℕ → List Place → Command → List Change → Type 0
+SetsOnly n corners (Import c bytes) changes = Unit {0}
+SetsOnly n corners (Remove c) changes = Unit {0}
+SetsOnly n corners (Patch from to h) changes = All (CanBeSet n corners) changes
+SetsOnly n corners (Burn depth points) changes = All (CanBeSet n corners) changes
+SetsOnly n corners (Wall h points) changes = All (CanBeSet n corners) changes

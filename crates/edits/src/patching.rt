@@ -2,12 +2,12 @@
 ghost use Rattle.std.specs.Prelude.{◌≡◌, ℕ, true, false, ◌||◌, ◌&&◌, ◌^◌, ◌≤ℤ◌, ◌+ℤ◌, ◌-ℤ◌, ◌<ℤ◌, int_le, int_lt, pos, All, IsTrue, IfOk, IfErr, OnOk, IfSome, IfNone};
 ghost use Rattle.lattice.specs.Corners.{Place};
 ghost use Rattle.lattice.specs.Ground.{same_point};
-ghost use Rattle.catalogue.specs.Readers.{OnlyReads};
+ghost use Rattle.catalogue.specs.Readers.{OnlyReads, reads_of};
 ghost use Rattle.edits.specs.Boxes.{is_in_row, is_void_in_row, is_void_in_rows};
 ghost use Rattle.edits.specs.Changes.{CanBeSet, SetOnce, all_changed};
 ghost use Rattle.edits.specs.Effect.{effect, is_void_at};
 ghost use Rattle.edits.specs.LeftStale.{is_beside};
-ghost use Rattle.edits.specs.Plans.{is_own, ends_any, may_end, reads_of};
+ghost use Rattle.edits.specs.Plans.{is_own, ends_any, may_end};
 ghost use Rattle.edits.specs.Puts.{Puts, PutsAlso, PutsOnce};
 ghost use Rattle.edits.specs.Touched.{goes_stale};
 ghost use Rattle.edits.specs.declared.command.Command.TheVariants.{Patch};

@@ -2,11 +2,11 @@
 ghost use Rattle.std.specs.Prelude.{◌≡◌, List, All, IsTrue, IfOk, IfErr, vec_len};
 ghost use Rattle.lattice.specs.Corners.{Place};
 ghost use Rattle.lattice.specs.Mosaic.{Mosaic};
-ghost use Rattle.catalogue.specs.Readers.{OnlyReads};
+ghost use Rattle.catalogue.specs.Readers.{OnlyReads, reads_of};
 ghost use Rattle.edits.specs.Changes.{CanBeMade, StandAlone, SetOnce, all_changed};
 ghost use Rattle.edits.specs.Effect.{effect};
 ghost use Rattle.edits.specs.LeftStale.{left_stale};
-ghost use Rattle.edits.specs.Plans.{IsFew, is_own, may_end, reads_of};
+ghost use Rattle.edits.specs.Plans.{IsFew, SetsOnly, is_own, may_end};
 ghost use Rattle.edits.specs.Touched.{stale_after};
 
 use crate::named::{burn, wall};
@@ -35,6 +35,7 @@ pub fn plan<S: Samples>(
     // Any other is of a read, or for want of memory.
     ensures causes { IfErr result (λ r. IsTrue (may_end command.now r)) }
     ensures fits { IfOk result (λ changes. All (CanBeMade (S.side_of samples.old) (S.corners samples.old)) changes.items) }
+    ensures sets { IfOk result (λ changes. SetsOnly (S.side_of samples.old) (S.corners samples.old) command.now changes.items) }
     ensures alone { IfOk result (λ changes. StandAlone changes.items) }
     ensures once { IfOk result (λ changes. SetOnce changes.items) }
 

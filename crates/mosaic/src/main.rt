@@ -4,24 +4,28 @@
 use std::process::ExitCode;
 use std::{env, io};
 
-fn main(rt: HostRuntime) -> io::Result<ExitCode> {
-    let mut texts = Vec::new(rt.alloc());
-    match env::args(&rt) {
+fn main(rt: HostRuntime) -> ExitCode {
+    let mut reader = rt.reader();
+    let mut writer = io::writer(&rt);
+    let status = match words(&rt) {
+        Ok(words) => server::program(rt.alloc(), &words, &mut reader, &mut writer),
+        Err(_) => server::no_room(&mut writer),
+    };
+    ExitCode::from(status)
+}
+
+/// The words after the program's own name, where there is room for them. Words that aren't UTF-8 ask for nothing, as no
+/// words do.
+fn words(rt: &HostRuntime) -> io::Result<Vec<String>> {
+    let mut words = Vec::new(rt.alloc());
+    match env::args(rt) {
         Ok(args) => {
-            for text in args.skip(1) {
-                texts.push(text)?;
+            for word in args.skip(1) {
+                words.push(word)?;
             }
         }
-        // Words that aren't UTF-8 ask for nothing, as no words do.
         Err(error) if error.kind() == io::ErrorKind::InvalidData => {}
         Err(error) => return Err(error),
     }
-    let mut words = Vec::new(rt.alloc());
-    for text in &texts {
-        words.push(text.as_str())?;
-    }
-    let mut reader = rt.reader();
-    let mut writer = io::writer(&rt);
-    let status = server::program(rt.alloc(), &words, &mut reader, &mut writer);
-    Ok(ExitCode::from(status))
+    Ok(words)
 }

@@ -1,9 +1,4 @@
-pub mod AheadLemmas
-pub mod KeywordLemmas
-pub mod NumberLemmas
-pub mod RequestLemmas
+pub mod CommandLineLemmas
+pub mod ProgramLemmas
 pub mod SessionLemmas
 pub mod TableLemmas
-pub mod WordLemmas
-pub mod WriteLemmas
-pub mod GrammarLaws

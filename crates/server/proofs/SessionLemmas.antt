@@ -8,21 +8,21 @@ use Rattle.std.proofs.lemmas.List.{append-nil}
 use Rattle.std.proofs.lemmas.List.Elements.{All-nil, All-push}
 use Rattle.std.proofs.lemmas.Grind.{flat_map-append}
 use Rattle.edits.specs.State.{State}
-use Rattle.server.specs.declared.request.Request.{Request}
+use Rattle.lines.specs.declared.request.Request.{Request}
 use Rattle.server.specs.declared.session.ServeFault.{ServeFault}
 use Rattle.server.specs.declared.session.ServeFault.TheVariants.{Input, Output}
 use Rattle.server.specs.declared.session.Next.{Next}
 use Rattle.server.specs.declared.session.Next.TheVariants.{More, End}
-use Rattle.server.specs.declared.source.Extent.{Extent}
-use Rattle.server.specs.declared.source.Extent.TheVariants.{Whole, Cut}
-use Rattle.server.specs.Grammar.{Asked, AskQuit}
-use Rattle.server.specs.Lines.{IsLine, line_feed, kept, Reaches}
-use Rattle.server.specs.Requests.{asked, IsRequestOf}
+use Rattle.lines.specs.declared.source.Extent.{Extent}
+use Rattle.lines.specs.declared.source.Extent.TheVariants.{Whole, Cut}
+use Rattle.lines.specs.Grammar.{Asked, AskQuit}
+use Rattle.lines.specs.Lines.{IsLine, line_feed, kept, Reaches}
+use Rattle.lines.specs.Requests.{asked, IsRequestOf}
 use Rattle.server.specs.Items.{Heard, spelled, AsksFor, payload_len, IsItem, GoesOn}
 use Rattle.server.specs.Answers.{Replied}
 use Rattle.server.specs.Served.{Replies, Ends, Served, Outcome}
 use Rattle.server.specs.Session.{Stored, Holds, Steps, SoFar}
-use Rattle.server.proofs.WriteLemmas.{Appends-second}
+use Rattle.lines.proofs.WriteLemmas.{Appends-second}
 
 -- what a request asks for is what its line asks for
 pub asks_for : (line : List ℕ) (o : Option Request) → IsRequestOf line o → AsksFor line (option_map asked o)

@@ -1,172 +1,24 @@
--- What a command makes of a mosaic in memory.
-use Rattle.std.proofs.Common.{◌≡◌, ℕ, zero, suc, ◌+◌, ◌*◌, ◌<◌, ℤ, pos, ◌-ℤ◌, Bool, true, false, cond, ◌||◌, ◌&&◌, IsTrue, IsFalse, List, [], ◌∷◌, length, map, filter, nat_eq, nat_lt, nat_abs, get_or, refl, sym, ◌∙◌, ap, ap₂, subst, arith, not, inl, inr, ◌⊎◌}
-use Rattle.std.specs.Prelude.{Result, Ok, Err, Option, Some, None, if◌then◌else◌}
-use Rattle.std.specs.Int.{int_max}
-use Rattle.std.specs.List.{All, list_any}
-use Rattle.std.proofs.lemmas.Bool.{or_left, or_right, or_cases, both_ways}
-use Rattle.std.proofs.lemmas.Int.{ints}
-use Rattle.std.proofs.lemmas.List.Elements.{All-nil, All-cons, All-head, All-tail}
-use Rattle.lattice.specs.Corners.{Place, is_before, same_place}
-use Rattle.lattice.specs.Mosaic.{Tile, Mosaic, is_present}
-use Rattle.lattice.specs.Lattice.{point_of}
-use Rattle.lattice.specs.Height.{height_of}
-use Rattle.lattice.specs.Ground.{metres}
+-- What a call of the mosaic in memory that is held leaves.
+use Rattle.std.proofs.Common.{◌≡◌, ℕ, ◌+◌, ◌<◌, IsTrue, IsFalse, List, refl, sym, ◌∙◌, ap, ap₂, subst, arith, ℤ}
+use Rattle.std.specs.Prelude.{Result, Ok, Err, MatchResult}
+use Rattle.std.specs.Global.{Vec}
+use Rattle.lattice.specs.Corners.{Place}
+use Rattle.lattice.specs.Mosaic.{Mosaic, IsMosaic}
 use Rattle.lattice.specs.declared.point.Point.{Point}
 use Rattle.lattice.specs.declared.refusal.Refusal.{Refusal}
-use Rattle.lattice.specs.declared.refusal.Refusal.TheVariants.{BadLength, TileThere, NoTile, Full, NothingVoid, BadHeight, BadDepth, BadBox, Repeated, Device, NoMemory, Failed, Damaged, Worn}
-use Rattle.hgt.specs.Bytes.{samples_in}
-use Rattle.catalogue.specs.Tiles.{with_tile, added, without, with_sample, corners_of}
-use Rattle.catalogue.proofs.Places.{same_from}
 use Rattle.edits.specs.declared.command.Command.{Command}
-use Rattle.edits.specs.declared.command.Command.TheVariants.{Import, Remove, Patch, Burn, Wall}
-use Rattle.edits.specs.declared.change.Change.{Change}
-use Rattle.edits.specs.declared.change.Change.TheVariants.{Add, Drop, Set}
-use Rattle.edits.specs.Changes.{all_changed}
-use Rattle.edits.specs.Effect.{effect, edited, changed_from, is_in_box, is_void_at, is_named, patched, burnt, walled, unless_fault, first_fault, is_height, is_depth, is_box, has_void, is_repeated}
-use Rattle.edits.specs.Plans.{is_own, ends_any, may_end, reads_of}
-use Rattle.edits.specs.Touched.{are_neighbours, goes_stale, stale_after}
+use Rattle.edits.specs.Effect.{effect}
+use Rattle.catalogue.specs.Readers.{reads_of}
+use Rattle.edits.specs.Plans.{is_own, may_end}
 use Rattle.edits.specs.State.{State, made_by}
 use Rattle.edits.specs.Outcomes.{Stays, Accepts, IsWorn, AppliesNot, last_number}
+use Rattle.edits.proofs.AllStale.{all_stale}
+use Rattle.edits.proofs.Refusals.{applies_not}
+use Rattle.watershed.specs.declared.runs.Run.{Run}
+use Rattle.drainage.specs.Outcomes.{Fills, Directs, Traces, Sheds}
+use Rattle.server.specs.Answers.{items_in}
 use Rattle.server.specs.TableState.{Held, held_of, contents_of, working}
 
-abbrev corner_of : Tile → Place
-corner_of t = t.corner
-
--- what holds of each corner holds of each that is left, or of each and one more
-
-with_tile_each : (P : Place → Type 0) (t : Tile) (ts : List Tile) → P t.corner → All P (map corner_of ts) → All P (map corner_of (with_tile t ts))
-with_tile_each P t [] h each = All-cons P t.corner [] h (All-nil P)
-with_tile_each P t (u ∷ us) h each = elim (is_before t.corner u.corner) as (λ b. All P (map corner_of (cond b (t ∷ (u ∷ us)) (u ∷ with_tile t us)))) [
-  | true ↦ All-cons P t.corner (map corner_of (u ∷ us)) h each
-  | false ↦ All-cons P u.corner (map corner_of (with_tile t us)) (All-head P u.corner (map corner_of us) each) (with_tile_each P t us h (All-tail P u.corner (map corner_of us) each))
-]
-
-filter_each : (P : Place → Type 0) (f : Tile → Bool) (ts : List Tile) → All P (map corner_of ts) → All P (map corner_of (filter f ts))
-filter_each P f [] each = each
-filter_each P f (t ∷ ts) each =
-    let rest = filter_each P f ts (All-tail P t.corner (map corner_of ts) each) in
-    elim (f t) as (λ b. All P (map corner_of (cond b (t ∷ filter f ts) (filter f ts)))) [
-      | true ↦ All-cons P t.corner (map corner_of (filter f ts)) (All-head P t.corner (map corner_of ts) each) rest
-      | false ↦ rest
-    ]
-
--- an edit changes no corner
-same_corners : (g : Tile → List ℤ) (ts : List Tile) → map corner_of (map (λ t. record { corner = t.corner; samples = g t }) ts) ≡ map corner_of ts
-same_corners g [] = refl
-same_corners g (t ∷ ts) = ap (λ (cs : List Place). t.corner ∷ cs) (same_corners g ts)
-
-edited_corners : (f : Point → ℤ → ℤ) (m : Mosaic) → corners_of (edited f m) ≡ corners_of m
-edited_corners f m = same_corners (λ t. changed_from (λ e s. f (point_of m.side t.corner e) s) 0 t.samples) m.tiles
-
--- changes keep the side
-pub all_changed_side : (changes : List Change) (m : Mosaic) → (all_changed changes m).side ≡ m.side
-all_changed_side [] m = refl
-all_changed_side (Add c samples ∷ rest) m = all_changed_side rest (added (record { corner = c; samples = samples }) m)
-all_changed_side (Drop c ∷ rest) m = all_changed_side rest (without c m)
-all_changed_side (Set c i s ∷ rest) m = all_changed_side rest (with_sample c i s m)
-
--- all tiles are stale, and stay so
-
-filter_same : (p : Place → Bool) (cs : List Place) → All (λ c. p c ≡ true) cs → filter p cs ≡ cs
-filter_same p [] each = refl
-filter_same p (c ∷ cs) each =
-    rw (All-head (λ d. p d ≡ true) c cs each, filter_same p cs (All-tail (λ d. p d ≡ true) c cs each)) refl
-
-listed_at : (cs : List Place) (k : ℕ) (d : Place) → k < length cs → list_any (same_place (get_or cs k d)) cs ≡ true
-listed_at [] k d within = absurd (omega arith)
-listed_at (c ∷ cs) zero d within = or_left (same_place c c) (list_any (same_place c) cs) (same_from c c refl)
-listed_at (c ∷ cs) (suc k) d within = or_right (same_place (get_or cs k d) c) (list_any (same_place (get_or cs k d)) cs) (listed_at cs k d (omega arith))
-
-no_way : (z : ℤ) → nat_lt (nat_abs (z -ℤ z)) 2 ≡ true
-no_way z = let e : z -ℤ z ≡ pos 0 = omega (arith, ints) in rw e refl
-
-near_itself : (c : Place) → are_neighbours c c ≡ true
-near_itself c = rw (no_way c.lat, no_way c.lon) refl
-
--- tests that let through
-
-passes : (b : Bool) (r : Refusal) (rest : Result Mosaic Refusal) (new : Mosaic) → (if b then Err r else rest) ≡ Ok new → rest ≡ Ok new
-passes true r rest new e = cc
-passes false r rest new e = e
-
-made_is : (made new : Mosaic) (r : Result Mosaic Refusal) → r ≡ Ok made → r ≡ Ok new → made ≡ new
-made_is made new r f e = cc
-
-no_fault : (f : Option Refusal) (made new : Mosaic) → unless_fault f made ≡ Ok new → made ≡ new
-no_fault None made new e = cc
-no_fault (Some r) made new e = cc
-
-module _ (a b c : Bool) (p q r : Refusal) (made new : Mosaic) where
-  passes_three : (if a then Err p else (if b then Err q else (if c then Err r else Ok made))) ≡ Ok new → made ≡ new
-  passes_three e = made_is made new (Ok made) refl (passes c r (Ok made) new (passes b q (if c then Err r else Ok made) new (passes a p (if b then Err q else (if c then Err r else Ok made)) new e)))
-
-module _ (a b : Bool) (p q : Refusal) (f : Option Refusal) (made new : Mosaic) where
-  passes_faults : (if a then Err p else (if b then Err q else unless_fault f made)) ≡ Ok new → made ≡ new
-  passes_faults e = no_fault f made new (passes b q (unless_fault f made) new (passes a p (if b then Err q else unless_fault f made) new e))
-
-module _ (m : Mosaic) (c : Command) where
-  abbrev stays_stale : Place → Type 0
-  stays_stale p = (list_any (same_place p) (corners_of m) || goes_stale m c p) ≡ true
-
-  old_stale : All stays_stale (corners_of m)
-  old_stale k d within = or_left (list_any (same_place (get_or (corners_of m) k d)) (corners_of m)) (goes_stale m c (get_or (corners_of m) k d)) (listed_at (corners_of m) k d within)
-
-  abbrev AllStale : Mosaic → Type 0
-  AllStale new = All stays_stale (corners_of new)
-
-  same_stale : (made new : Mosaic) → corners_of made ≡ corners_of m → made ≡ new → AllStale new
-  same_stale made new same is = subst (λ (cs : List Place). All stays_stale cs) (sym same ∙ ap corners_of is) old_stale
-
-new_stale : (capacity : ℕ) (m new : Mosaic) (c : Command) → effect capacity m c ≡ Ok new → AllStale m c new
-new_stale capacity m new (Import c bytes) e =
-    let tile : Tile = record { corner = c; samples = samples_in bytes } in
-    subst (AllStale m (Import c bytes))
-    (passes_three (not (nat_eq (length bytes) (2 * (m.side * m.side)))) (is_present m c) (not (nat_lt (length m.tiles) capacity)) BadLength TileThere Full (added tile m) new e)
-    (with_tile_each (stays_stale m (Import c bytes)) tile m.tiles (or_right (list_any (same_place c) (corners_of m)) (are_neighbours c c) (near_itself c)) (old_stale m (Import c bytes)))
-new_stale capacity m new (Remove c) e =
-    subst (AllStale m (Remove c)) (made_is (without c m) new (Ok (without c m)) refl (passes (not (is_present m c)) NoTile (Ok (without c m)) new e))
-    (filter_each (stays_stale m (Remove c)) (λ t. not (same_place t.corner c)) m.tiles (old_stale m (Remove c)))
-new_stale capacity m new (Patch from to h) e =
-    same_stale m (Patch from to h) (patched from to h m) new (edited_corners (λ p s. if is_in_box from to p && is_void_at m p then h else s) m)
-    (passes_three (not (is_height h)) (not (is_box m.side from to)) (not (has_void m from to)) BadHeight BadBox NothingVoid (patched from to h m) new e)
-new_stale capacity m new (Burn depth points) e =
-    same_stale m (Burn depth points) (burnt depth points.items m) new (edited_corners (λ p s. if is_named points.items p then metres (height_of m p) -ℤ depth else s) m)
-    (passes_faults (not (is_depth depth)) (is_repeated points.items) BadDepth Repeated (first_fault m depth points.items) (burnt depth points.items m) new e)
-new_stale capacity m new (Wall h points) e =
-    same_stale m (Wall h points) (walled h points.items m) new (edited_corners (λ p s. if is_named points.items p then int_max (metres (height_of m p)) h else s) m)
-    (passes_faults (not (is_height h)) (is_repeated points.items) BadHeight Repeated (first_fault m (pos 0) points.items) (walled h points.items m) new e)
-
-pub all_stale : (capacity : ℕ) (m new : Mosaic) (c : Command) → effect capacity m c ≡ Ok new → stale_after m c (corners_of m) new ≡ corners_of new
-all_stale capacity m new c e =
-    filter_same (λ p. list_any (same_place p) (corners_of m) || goes_stale m c p) (corners_of new) (new_stale capacity m new c e)
-
--- a plan's refusal, where no read is refused
-
-not_worn : (c : Command) → IsTrue (may_end c Worn) → ⊥
-not_worn (Import c bytes) e = both_ways false refl e
-not_worn (Remove c) e = both_ways false refl e
-not_worn (Patch from to h) e = both_ways false refl e
-not_worn (Burn depth points) e = both_ways false refl e
-not_worn (Wall h points) e = both_ways false refl e
-
-own_from : (c : Command) (r : Refusal) → ends_any r ≡ false → IsTrue (may_end c r) → IsTrue (is_own c r)
-own_from c r other e = by (or_cases (is_own c r) (ends_any r) e)
-  where
-    by : (is_own c r ≡ true) ⊎ (ends_any r ≡ true) → IsTrue (is_own c r)
-    by (inl own) = own
-    by (inr ends) = absurd (both_ways (ends_any r) other ends)
-
-applies_not : (capacity : ℕ) (s : State) (c : Command) (r : Refusal) → IsFalse s.failed → IsTrue (may_end c r) → reads_of {T = Unit {0}} (Err r) ≡ Ok tt
-    → (IsTrue (is_own c r) → effect capacity s.contents.mosaic c ≡ Err r) → AppliesNot capacity s c r s
-applies_not capacity s c Device working may read refused = cc
-applies_not capacity s c Failed working may read refused = cc
-applies_not capacity s c Damaged working may read refused = cc
-applies_not capacity s c NoMemory working may read refused = record { working = working; same = refl }
-applies_not capacity s c Worn working may read refused = absurd (not_worn c may)
-applies_not capacity s c r working may read refused =
-    record { stays = record { working = working; same = refl }; refused = refused (own_from c r refl may) }
-
--- what a call of the mosaic that is held leaves
 module _ (held : Held) (m : Mosaic) (capacity k g : ℕ) (view : held_of capacity m k g ≡ held) (c : Command) (s : State) (at : s ≡ working held.contents) where
   now : s ≡ working (contents_of m k g)
   now = at ∙ ap (λ (h : Held). working h.contents) (sym view)
@@ -203,3 +55,37 @@ module _ (held : Held) (m : Mosaic) (capacity k g : ℕ) (view : held_of capacit
         counted = ap (λ (z : State). z.contents.count + 1) (sym now);
         room = omega (arith, below, number);
       }
+
+-- what a query of drainage may answer over the mosaic that is held, of which it refuses no read
+module _ (held : Held) (m : Mosaic) (capacity k g : ℕ) (view : held_of capacity m k g ≡ held) (s : State) (at : s ≡ working held.contents) where
+  abbrev this : State
+  this = working (contents_of m k g)
+
+  this_is : s ≡ this
+  this_is = at ∙ ap (λ (h : Held). working h.contents) (sym view)
+
+  -- the state that it was in, where the mosaic stays
+  pub stands : (new : Mosaic) → new ≡ m → s ≡ working (contents_of new k g)
+  stands new same = this_is ∙ ap (λ (x : Mosaic). working (contents_of x k g)) (sym same)
+
+  -- nothing changes where memory is refused
+  pub no_room : Stays s s
+  no_room = record { working = ap (λ (z : State). z.failed) this_is; same = refl }
+
+  pub stays_this : Stays this this
+  stays_this = record { working = refl; same = refl }
+
+  module _ (valid : IsMosaic m) (p : Point) where
+    pub filled : (r : Result ℤ Refusal) → Fills this p r this → Fills s p r s
+    filled r h = subst (λ (z : State). Fills z p r z) (sym this_is) h
+
+    pub directed : (r : Result ℕ Refusal) → Directs this p r this → Directs s p r s
+    directed r h = subst (λ (z : State). Directs z p r z) (sym this_is) h
+
+    pub traced : (r : Result (Vec Point) Refusal) → MatchResult r (λ path. Traces this p (Ok path.items) this) (λ e. Traces this p (Err e) this) → Traces s p (items_in r) s
+    traced (Ok path) h = subst (λ (z : State). Traces z p (Ok path.items) z) (sym this_is) h
+    traced (Err e) h = subst (λ (z : State). Traces z p (Err e) z) (sym this_is) h
+
+    pub shed : (r : Result (Vec Run) Refusal) → MatchResult r (λ runs. Sheds this p (Ok runs.items) this) (λ e. Sheds this p (Err e) this) → Sheds s p (items_in r) s
+    shed (Ok runs) h = subst (λ (z : State). Sheds z p (Ok runs.items) z) (sym this_is) h
+    shed (Err e) h = subst (λ (z : State). Sheds z p (Err e) z) (sym this_is) h

@@ -1,6 +1,6 @@
 -- What is replied to one item over a store in a state (this product's own profile).
 -- Each relation reads: in the state s the text may be replied and the state t left.
-use Rattle.std.specs.Prelude.{◌≡◌, ◌≢◌, ◌⊎◌, ℕ, ◌*◌, ◌<◌, List, ◌++◌, length, Option, Some, None, Result, Ok, Err, Vec, codes, decimal}
+use Rattle.std.specs.Prelude.{◌≡◌, ◌≢◌, ◌⊎◌, ℕ, ◌*◌, ◌<◌, List, ◌++◌, length, ℤ, Option, Some, None, Result, Ok, Err, Vec, codes, decimal}
 use Rattle.std.specs.Fmt.{signed_decimal}
 use Rattle.lattice.specs.Corners.{Place}
 use Rattle.lattice.specs.declared.point.Point.{Point}
@@ -14,9 +14,11 @@ use Rattle.edits.specs.declared.command.Command.{Command}
 use Rattle.edits.specs.declared.command.Command.TheVariants.{Import, Remove, Patch, Burn, Wall}
 use Rattle.edits.specs.Outcomes.{Applies, Elevates, Exports, Lists}
 use Rattle.edits.specs.State.{State}
-use Rattle.server.specs.Grammar.{Asked, AskImport, AskRemove, AskPatch, AskBurn, AskWall, AskElevation, AskExport, AskTiles, AskCount, AskQuit}
+use Rattle.watershed.specs.declared.runs.Run.{Run}
+use Rattle.drainage.specs.Outcomes.{Fills, Directs, Traces, Sheds}
+use Rattle.lines.specs.Grammar.{Asked, AskImport, AskRemove, AskPatch, AskBurn, AskWall, AskElevation, AskFill, AskDirection, AskTrace, AskWatershed, AskExport, AskTiles, AskStep, AskCount, AskQuit}
 use Rattle.server.specs.Items.{Heard}
-use Rattle.server.specs.Replies.{ok_line, done_text, names_line, refusal_text}
+use Rattle.lines.specs.Replies.{ok_line, done_text, names_line, path_text, runs_text, refusal_text}
 
 -- a command's number, or its refusal
 abbrev pub command_text : Result ℕ Refusal → List ℕ
@@ -39,6 +41,26 @@ bytes_text (Err r) = refusal_text r
 abbrev pub names_text : Result (List Place) Refusal → List ℕ
 names_text (Ok corners) = names_line corners
 names_text (Err r) = refusal_text r
+
+-- a filled level in metres, or a refusal
+abbrev pub level_text : Result ℤ Refusal → List ℕ
+level_text (Ok level) = ok_line (signed_decimal level)
+level_text (Err r) = refusal_text r
+
+-- a direction's code, or a refusal
+abbrev pub code_text : Result ℕ Refusal → List ℕ
+code_text (Ok code) = ok_line (decimal code)
+code_text (Err r) = refusal_text r
+
+-- a flow path, or a refusal
+abbrev pub trace_text : Result (List Point) Refusal → List ℕ
+trace_text (Ok path) = path_text path
+trace_text (Err r) = refusal_text r
+
+-- a watershed, or a refusal
+abbrev pub watershed_text : Result (List Run) Refusal → List ℕ
+watershed_text (Ok runs) = runs_text runs
+watershed_text (Err r) = refusal_text r
 
 -- the items of a vector, or the refusal
 abbrev pub items_in : {T A : Type 0} → Result (Vec T A) Refusal → Result (List T) Refusal
@@ -82,10 +104,22 @@ AnswersExport s name text t =
 abbrev pub AnswersElevation : State → Point → List ℕ → State → Type 0
 AnswersElevation s p text t = (r : Result Height Refusal) × (Elevates s p r t × (text ≡ height_text r))
 
+abbrev pub AnswersFill : State → Point → List ℕ → State → Type 0
+AnswersFill s p text t = (r : Result ℤ Refusal) × (Fills s p r t × (text ≡ level_text r))
+
+abbrev pub AnswersDirection : State → Point → List ℕ → State → Type 0
+AnswersDirection s p text t = (r : Result ℕ Refusal) × (Directs s p r t × (text ≡ code_text r))
+
+abbrev pub AnswersTrace : State → Point → List ℕ → State → Type 0
+AnswersTrace s p text t = (r : Result (List Point) Refusal) × (Traces s p r t × (text ≡ trace_text r))
+
+abbrev pub AnswersWatershed : State → Point → List ℕ → State → Type 0
+AnswersWatershed s p text t = (r : Result (List Run) Refusal) × (Sheds s p r t × (text ≡ watershed_text r))
+
 abbrev pub AnswersTiles : State → List ℕ → State → Type 0
 AnswersTiles s text t = (r : Result (List Place) Refusal) × (Lists s r t × (text ≡ names_text r))
 
--- what is asked with this payload; no other words are served yet
+-- what is asked with this payload; `step` isn't served yet
 abbrev pub Answers : ℕ → State → Asked → List ℕ → List ℕ → State → Type 0
 Answers capacity s (AskImport name len) payload text t = AnswersImport capacity s name len payload text t
 Answers capacity s (AskRemove name) payload text t = AnswersRemove capacity s name text t
@@ -93,11 +127,15 @@ Answers capacity s (AskPatch from to height) payload text t = Commanded capacity
 Answers capacity s (AskBurn depth points) payload text t = Commanded capacity s (Burn depth (record { items = points })) text t
 Answers capacity s (AskWall height points) payload text t = Commanded capacity s (Wall height (record { items = points })) text t
 Answers capacity s (AskElevation p) payload text t = AnswersElevation s p text t
+Answers capacity s (AskFill p) payload text t = AnswersFill s p text t
+Answers capacity s (AskDirection p) payload text t = AnswersDirection s p text t
+Answers capacity s (AskTrace p) payload text t = AnswersTrace s p text t
+Answers capacity s (AskWatershed p) payload text t = AnswersWatershed s p text t
 Answers capacity s (AskExport name) payload text t = AnswersExport s name text t
 Answers capacity s AskTiles payload text t = AnswersTiles s text t
 Answers capacity s AskCount payload text t = (text ≡ ok_line (decimal s.contents.count)) × (t ≡ s)
 Answers capacity s AskQuit payload text t = (text ≡ done_text) × (t ≡ s)
-Answers capacity s _ payload text t = Refused BadLine s text t
+Answers capacity s AskStep payload text t = Refused BadLine s text t
 
 -- a line that isn't in the grammar is BadLine
 abbrev pub Replied : ℕ → State → Heard → List ℕ → State → Type 0

@@ -1,9 +1,9 @@
 -- The items of an input: a line, or an import line with its payload (this product's own profile).
 use Rattle.std.specs.Prelude.{◌≡◌, ◌≢◌, ℕ, ◌<◌, List, [], ◌∷◌, ◌++◌, length, Option, Some, None, ◌⊎◌}
-use Rattle.server.specs.Grammar.{Asked, AskImport, AskQuit, LineAsks}
-use Rattle.server.specs.Lines.{IsLine, line_feed, Reaches}
-use Rattle.server.specs.declared.source.Extent.{Extent}
-use Rattle.server.specs.declared.source.Extent.TheVariants.{Whole, Cut}
+use Rattle.lines.specs.Grammar.{Asked, AskImport, AskQuit, LineAsks}
+use Rattle.lines.specs.Lines.{IsLine, line_feed, Reaches}
+use Rattle.lines.specs.declared.source.Extent.{Extent}
+use Rattle.lines.specs.declared.source.Extent.TheVariants.{Whole, Cut}
 
 -- a line, whether an LF ended it, what it asks for, and the bytes of its payload that came
 pub record Heard : Type 0 where

@@ -1,11 +1,6 @@
-pub mod Ahead
 pub mod Answers
-pub mod Grammar
+pub mod CommandLine
 pub mod Items
-pub mod Lines
-pub mod Replies
-pub mod Requests
 pub mod Served
 pub mod Session
 pub mod TableState
-pub mod Words

@@ -3,10 +3,10 @@ use Rattle.std.specs.Prelude.{◌≡◌, ◌⊎◌, ℕ, List, [], ◌∷◌, �
 use Rattle.std.specs.Io.KnownBytes.{Consumes, Appends}
 use Rattle.edits.specs.State.{State}
 use Rattle.server.specs.Answers.{Replied}
-use Rattle.server.specs.Grammar.{AskQuit}
+use Rattle.lines.specs.Grammar.{AskQuit}
 use Rattle.server.specs.Items.{Heard, spelled, IsItem, GoesOn, IsBegun}
-use Rattle.server.specs.declared.source.Extent.{Extent}
-use Rattle.server.specs.declared.source.Extent.TheVariants.{Whole, Cut}
+use Rattle.lines.specs.declared.source.Extent.{Extent}
+use Rattle.lines.specs.declared.source.Extent.TheVariants.{Whole, Cut}
 use Rattle.server.specs.declared.session.ServeFault.{ServeFault}
 use Rattle.server.specs.declared.session.ServeFault.TheVariants.{Input, Output}
 

@@ -4,9 +4,9 @@ use Rattle.std.specs.Io.KnownBytes.{Consumes, Appends}
 use Rattle.edits.specs.State.{State}
 use Rattle.server.specs.Answers.{Replied}
 use Rattle.server.specs.Items.{Heard, spelled, IsItem, GoesOn, IsBegun}
-use Rattle.server.specs.Requests.{asked}
+use Rattle.lines.specs.Requests.{asked}
 use Rattle.server.specs.Served.{Replies, Ends}
-use Rattle.server.specs.declared.source.Extent.{Extent}
+use Rattle.lines.specs.declared.source.Extent.{Extent}
 use Rattle.server.specs.declared.hearing.Item.{Item}
 use Rattle.server.specs.declared.session.Next.{Next}
 use Rattle.server.specs.declared.session.Next.TheVariants.{More, End}

@@ -1,18 +1,16 @@
 //! Answers items over an engine.
 ghost use Rattle.std.specs.Prelude.{◌≡◌, ◌<◌, ◌⊎◌, ℕ, List, length};
 ghost use Rattle.edits.specs.State.{State};
-ghost use Rattle.server.specs.Answers.{Replied, Commanded, AnswersImport, AnswersRemove, AnswersElevation, AnswersExport, AnswersTiles};
+ghost use Rattle.server.specs.Answers.{Replied, Commanded, AnswersImport, AnswersRemove, AnswersElevation, AnswersFill, AnswersDirection, AnswersTrace, AnswersWatershed, AnswersExport, AnswersTiles};
 ghost use Rattle.server.specs.Items.{Heard};
 ghost use Rattle.server.specs.Session.{Stored, Holds};
 
 use crate::engine::Engine;
 use crate::hearing::Item;
-use crate::reply::Reply;
-use crate::request::Request;
-use crate::source::Extent;
 use edits::{Bytes, Command};
 use hgt::name_of;
 use lattice::{Height, Point, Refusal};
+use lines::{Extent, Reply, Request};
 use std::alloc::Global;
 
 /// Answers an import of this length. Its payload is there where it came whole and there was room for it.
@@ -87,6 +85,68 @@ fn elevation<E: Engine>(engine: &mut E, point: Point) -> Reply
     }
 }
 
+/// Answers with the filled level of a point.
+fn fill<E: Engine>(engine: &mut E, point: Point) -> Reply
+    ensures side { E.side_of engine.new ≡ E.side_of engine.old }
+    ensures capacity { E.capacity_of engine.new ≡ E.capacity_of engine.old }
+    ensures honest { E.is_honest engine.new → E.is_honest engine.old }
+    ensures outcome { E.is_honest engine.new → (s : State) → E.is_at engine.old s
+        → (t : State) × E.is_at engine.new t × AnswersFill s point result t }
+{
+    match engine.fill(point) {
+        Ok(level) => Reply::number(level),
+        Err(refusal) => Reply::refused(refusal),
+    }
+}
+
+/// Answers with the code of a point's direction.
+fn direction<E: Engine>(engine: &mut E, point: Point) -> Reply
+    ensures side { E.side_of engine.new ≡ E.side_of engine.old }
+    ensures capacity { E.capacity_of engine.new ≡ E.capacity_of engine.old }
+    ensures honest { E.is_honest engine.new → E.is_honest engine.old }
+    ensures outcome { E.is_honest engine.new → (s : State) → E.is_at engine.old s
+        → (t : State) × E.is_at engine.new t × AnswersDirection s point result t }
+{
+    match engine.direction(point) {
+        Ok(code) => Reply::number(code),
+        Err(refusal) => Reply::refused(refusal),
+    }
+}
+
+/// Answers with the flow path of a point.
+fn trace<E: Engine>(alloc: Global, engine: &mut E, point: Point) -> Reply
+    ensures side { E.side_of engine.new ≡ E.side_of engine.old }
+    ensures capacity { E.capacity_of engine.new ≡ E.capacity_of engine.old }
+    ensures honest { E.is_honest engine.new → E.is_honest engine.old }
+    ensures outcome { E.is_honest engine.new → (s : State) → E.is_at engine.old s
+        → (t : State) × E.is_at engine.new t × AnswersTrace s point result t }
+{
+    match engine.trace(point) {
+        Ok(path) => match Reply::path(alloc, path.as_slice()) {
+            Ok(reply) => reply,
+            Err(_) => Reply::refused(Refusal::NoMemory),
+        },
+        Err(refusal) => Reply::refused(refusal),
+    }
+}
+
+/// Answers with the watershed of a point.
+fn watershed<E: Engine>(alloc: Global, engine: &mut E, point: Point) -> Reply
+    ensures side { E.side_of engine.new ≡ E.side_of engine.old }
+    ensures capacity { E.capacity_of engine.new ≡ E.capacity_of engine.old }
+    ensures honest { E.is_honest engine.new → E.is_honest engine.old }
+    ensures outcome { E.is_honest engine.new → (s : State) → E.is_at engine.old s
+        → (t : State) × E.is_at engine.new t × AnswersWatershed s point result t }
+{
+    match engine.watershed(point) {
+        Ok(runs) => match Reply::runs(alloc, runs.as_slice()) {
+            Ok(reply) => reply,
+            Err(_) => Reply::refused(Refusal::NoMemory),
+        },
+        Err(refusal) => Reply::refused(refusal),
+    }
+}
+
 /// Answers with the bytes of a tile.
 fn export<E: Engine>(engine: &mut E, name: &[u8]) -> Reply
     ensures side { E.side_of engine.new ≡ E.side_of engine.old }
@@ -139,11 +199,15 @@ pub fn answer<E: Engine>(alloc: Global, engine: &mut E, item: Item<'_>) -> Reply
         Some(Request::Burn { depth, points }) => apply(engine, Command::Burn { depth, points }),
         Some(Request::Wall { height, points }) => apply(engine, Command::Wall { height, points }),
         Some(Request::Elevation(point)) => elevation(engine, point),
+        Some(Request::Fill(point)) => fill(engine, point),
+        Some(Request::Direction(point)) => direction(engine, point),
+        Some(Request::Trace(point)) => trace(alloc, engine, point),
+        Some(Request::Watershed(point)) => watershed(alloc, engine, point),
         Some(Request::Export { name }) => export(engine, name),
         Some(Request::Tiles) => tiles(alloc, engine),
         Some(Request::Count) => Reply::number(engine.count()),
         Some(Request::Quit) => Reply::done(),
-        // No other words are served yet.
-        _ => Reply::refused(Refusal::BadLine),
+        // Steps aren't served yet.
+        Some(Request::Step) | None => Reply::refused(Refusal::BadLine),
     }
 }

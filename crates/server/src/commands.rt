@@ -1,11 +1,16 @@
 //! The program `mosaic`.
+ghost use Rattle.std.specs.Prelude.{◌≡◌, ◌≤◌, map, SomeIff};
+ghost use Rattle.lines.specs.Replies.{refusal_text};
+ghost use Rattle.server.specs.CommandLine.{Begins, EndsFlushing, EndsServing, Runs, RunsAs, RunsTable, fault_line};
+
 use crate::arguments::{ArgumentFault, Arguments};
-use crate::reply::{Reply, write_bytes};
 use crate::session::{ServeFault, serve};
 use crate::table_engine::TableEngine;
 use hgt::side_ok;
 use lattice::{Refusal, Side};
+use lines::{Reply, write_bytes};
 use std::alloc::Global;
+use std::convert::AsStr;
 use std::io::{Read, Write};
 
 /// The most tiles that a mosaic takes.
@@ -22,42 +27,98 @@ const BAD_WORDS: u8 = 2;
 ///
 /// `table SIDE CAPACITY` serves lines on an empty mosaic held in memory. Status 1 comes with one line that says what
 /// was refused or which stream failed, status 2 with the line `mosaic: bad arguments`.
-pub fn program<R: Read, W: Write>(
+pub fn program<S: AsStr, R: Read, W: Write>(
     alloc: Global,
-    words: &[&str],
+    words: &[S],
     reader: &mut R,
     writer: &mut W,
-) -> u8 {
+) -> u8
+    ensures { Runs (map S.text words.now) (R.remaining reader.old) (R.remaining reader.new) (W.contents writer.old) (W.contents writer.new) result }
+{
     match Arguments::parse(alloc, words) {
-        Ok(Arguments::Table { side, capacity }) => table(alloc, side, capacity, reader, writer),
+        Ok(arguments) => run(alloc, arguments, reader, writer),
         Err(ArgumentFault::Bad) => end_with(writer, b"mosaic: bad arguments\n", BAD_WORDS),
-        Err(ArgumentFault::NoMemory) => refuse(writer, Refusal::NoMemory),
+        Err(ArgumentFault::NoMemory) => no_room(writer),
     }
 }
 
-/// Serves lines on an empty mosaic held in memory.
+/// Does what is asked for.
+fn run<R: Read, W: Write>(alloc: Global, arguments: Arguments, reader: &mut R, writer: &mut W) -> u8
+    ensures { RunsAs arguments (R.remaining reader.old) (R.remaining reader.new) (W.contents writer.old) (W.contents writer.new) result }
+{
+    match arguments {
+        Arguments::Table { side, capacity } => table(alloc, side, capacity, reader, writer),
+    }
+}
+
+/// Tells that memory was refused, by the line `ERR 21 NoMemory`, and answers the exit status. It is for a program that
+/// has no room for its words.
+pub fn no_room<W: Write>(writer: &mut W) -> u8
+    ensures status { result ≡ REFUSED }
+    ensures line { Begins (W.contents writer.old) (W.contents writer.new) (refusal_text Refusal.NoMemory) }
+{
+    refuse(writer, Refusal::NoMemory)
+}
+
+/// Serves lines on an empty mosaic held in memory, where there is one of this side and capacity.
 fn table<R: Read, W: Write>(
     alloc: Global,
     side: u32,
     capacity: u32,
     reader: &mut R,
     writer: &mut W,
-) -> u8 {
+) -> u8
+    ensures { RunsTable side capacity (R.remaining reader.old) (R.remaining reader.new) (W.contents writer.old) (W.contents writer.new) result }
+{
     let Some(side) = tile_side(side) else {
         return refuse(writer, Refusal::BadSide);
     };
     if capacity < 1 || capacity > MOST_TILES {
         return refuse(writer, Refusal::BadCapacity);
     }
+    serve_table(alloc, side, capacity, reader, writer)
+}
+
+/// Serves lines on an empty mosaic held in memory.
+fn serve_table<R: Read, W: Write>(
+    alloc: Global,
+    side: Side,
+    capacity: u32,
+    reader: &mut R,
+    writer: &mut W,
+) -> u8
+    ensures { EndsServing side capacity (R.remaining reader.old) (R.remaining reader.new) (W.contents writer.old) (W.contents writer.new) result }
+{
     let mut engine = TableEngine::new(alloc, side, capacity);
     match serve(alloc, reader, writer, &mut engine) {
-        Ok(()) if writer.flush().is_ok() => DONE,
-        Ok(()) | Err(ServeFault::Output) => end_with(writer, b"mosaic: output fault\n", REFUSED),
-        Err(ServeFault::Input) => end_with(writer, b"mosaic: input fault\n", REFUSED),
+        Ok(()) => flush(writer),
+        Err(fault) => end_with(writer, fault_line(fault), REFUSED),
     }
 }
 
-fn tile_side(samples: u32) -> Option<Side> {
+/// Whether all has left, as an exit status.
+fn flush<W: Write>(writer: &mut W) -> u8
+    ensures { EndsFlushing (W.contents writer.old) (W.contents writer.new) result }
+{
+    match writer.flush() {
+        Ok(()) => DONE,
+        Err(_) => end_with(writer, fault_line(ServeFault::Output), REFUSED),
+    }
+}
+
+/// The line that tells which stream failed.
+fn fault_line(fault: ServeFault) -> &'static [u8]
+    ensures { result.now ≡ fault_line fault }
+{
+    match fault {
+        ServeFault::Input => b"mosaic: input fault\n",
+        ServeFault::Output => b"mosaic: output fault\n",
+    }
+}
+
+fn tile_side(samples: u32) -> Option<Side>
+    ensures { SomeIff result ((3 ≤ samples) × (samples ≤ 1201)) samples }
+{
     if side_ok(samples) {
         Side::new(samples)
     } else {
@@ -65,7 +126,10 @@ fn tile_side(samples: u32) -> Option<Side> {
     }
 }
 
-fn refuse<W: Write>(writer: &mut W, refusal: Refusal) -> u8 {
+fn refuse<W: Write>(writer: &mut W, refusal: Refusal) -> u8
+    ensures status { result ≡ REFUSED }
+    ensures line { Begins (W.contents writer.old) (W.contents writer.new) (refusal_text refusal) }
+{
     // The status tells of the refusal where the line doesn't come through.
     let _ = Reply::refused(refusal).write(writer);
     let _ = writer.flush();
@@ -73,7 +137,10 @@ fn refuse<W: Write>(writer: &mut W, refusal: Refusal) -> u8 {
 }
 
 /// The line is tried once.
-fn end_with<W: Write>(writer: &mut W, line: &[u8], status: u8) -> u8 {
+fn end_with<W: Write>(writer: &mut W, line: &[u8], status: u8) -> u8
+    ensures status { result ≡ status }
+    ensures line { Begins (W.contents writer.old) (W.contents writer.new) line.now }
+{
     let _ = write_bytes(writer, line);
     let _ = writer.flush();
     status

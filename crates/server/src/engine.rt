@@ -4,10 +4,12 @@ ghost use Rattle.lattice.specs.declared.refusal.Refusal.TheVariants.{Device};
 ghost use Rattle.catalogue.specs.Reading.{HasRisen};
 ghost use Rattle.edits.specs.State.{State};
 ghost use Rattle.edits.specs.Outcomes.{Applies, Elevates, Exports, Lists};
+ghost use Rattle.drainage.specs.Outcomes.{Directs, Fills, Sheds, Traces};
 ghost use Rattle.server.specs.Answers.{items_in};
 
 use edits::Command;
 use lattice::{Corner, Height, Point, Refusal, Side};
+use watershed::Run;
 
 /// A store, as far as lines need it.
 ///
@@ -54,6 +56,46 @@ pub trait Engine {
         ensures honest { is_honest self.new → is_honest self.old }
         ensures outcome { is_honest self.new → (s : State) → is_at self.old s
             → (t : State) × (is_at self.new t × Elevates s point result t) };
+
+    /// The filled level of a point, in metres.
+    fn fill(&mut self, point: Point) -> Result<i16, Refusal>
+        ensures side { side_of self.new ≡ side_of self.old }
+        ensures capacity { capacity_of self.new ≡ capacity_of self.old }
+        ensures failures { failures self.old ≤ failures self.new }
+        ensures device { result ≡ Err Device → HasRisen (failures self.old) (failures self.new) }
+        ensures honest { is_honest self.new → is_honest self.old }
+        ensures outcome { is_honest self.new → (s : State) → is_at self.old s
+            → (t : State) × (is_at self.new t × Fills s point result t) };
+
+    /// The code of a point's direction, 0 where water leaves the mosaic.
+    fn direction(&mut self, point: Point) -> Result<u8, Refusal>
+        ensures side { side_of self.new ≡ side_of self.old }
+        ensures capacity { capacity_of self.new ≡ capacity_of self.old }
+        ensures failures { failures self.old ≤ failures self.new }
+        ensures device { result ≡ Err Device → HasRisen (failures self.old) (failures self.new) }
+        ensures honest { is_honest self.new → is_honest self.old }
+        ensures outcome { is_honest self.new → (s : State) → is_at self.old s
+            → (t : State) × (is_at self.new t × Directs s point result t) };
+
+    /// The flow path of a point.
+    fn trace(&mut self, point: Point) -> Result<Vec<Point>, Refusal>
+        ensures side { side_of self.new ≡ side_of self.old }
+        ensures capacity { capacity_of self.new ≡ capacity_of self.old }
+        ensures failures { failures self.old ≤ failures self.new }
+        ensures device { result ≡ Err Device → HasRisen (failures self.old) (failures self.new) }
+        ensures honest { is_honest self.new → is_honest self.old }
+        ensures outcome { is_honest self.new → (s : State) → is_at self.old s
+            → (t : State) × (is_at self.new t × Traces s point (items_in result) t) };
+
+    /// The watershed of a point, as runs.
+    fn watershed(&mut self, point: Point) -> Result<Vec<Run>, Refusal>
+        ensures side { side_of self.new ≡ side_of self.old }
+        ensures capacity { capacity_of self.new ≡ capacity_of self.old }
+        ensures failures { failures self.old ≤ failures self.new }
+        ensures device { result ≡ Err Device → HasRisen (failures self.old) (failures self.new) }
+        ensures honest { is_honest self.new → is_honest self.old }
+        ensures outcome { is_honest self.new → (s : State) → is_at self.old s
+            → (t : State) × (is_at self.new t × Sheds s point (items_in result) t) };
 
     /// The HGT bytes of a tile's own samples.
     fn export(&mut self, corner: Corner) -> Result<Vec<u8>, Refusal>

@@ -1,16 +1,14 @@
 //! Hears items, one after another: a line, or an import line with its payload.
 ghost use Rattle.std.specs.Prelude.{◌≡◌, ◌≢◌, ◌≤◌, ◌<◌, ◌⊎◌, ℕ, List, [], length, OnOk, OnErr, IfOk, Option, Some, option_map, IsTrue, ◌↔◌};
 ghost use Rattle.std.specs.Io.KnownBytes.{IsAtEnd};
-ghost use Rattle.server.specs.Ahead.{Taken, weight};
-ghost use Rattle.server.specs.Grammar.{Asked, AskQuit};
+ghost use Rattle.lines.specs.Ahead.{Taken, weight};
+ghost use Rattle.lines.specs.Grammar.{Asked, AskQuit};
 ghost use Rattle.server.specs.Items.{Heard, AsksFor, payload_len};
-ghost use Rattle.server.specs.Lines.{IsLine, kept, Reaches};
-ghost use Rattle.server.specs.Requests.{asked};
+ghost use Rattle.lines.specs.Lines.{IsLine, kept, Reaches};
+ghost use Rattle.lines.specs.Requests.{asked};
 ghost use Rattle.server.specs.Session.{Stored, Holds};
 
-use crate::grammar::request_of;
-use crate::request::Request;
-use crate::source::{Ahead, Extent, Line, ReadFault, read_payload, skip_payload};
+use lines::{Ahead, Extent, Line, ReadFault, Request, read_payload, request_of, skip_payload};
 use std::alloc::Global;
 use std::io::Read;
 

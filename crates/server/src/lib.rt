@@ -6,27 +6,19 @@
 
 mod answering;
 mod arguments;
-mod bytes;
 mod commands;
+#[cfg(test)]
+mod drainage_tests;
 mod engine;
-mod grammar;
 mod hearing;
-mod keyword;
-mod number;
-mod reply;
-mod request;
 #[cfg(test)]
 mod row_tests;
 mod session;
 #[cfg(test)]
 mod session_tests;
-mod source;
 mod table_engine;
-#[cfg(test)]
-mod tests;
-mod words;
 
-pub use commands::program;
+pub use commands::{no_room, program};
 pub use engine::Engine;
 pub use session::{ServeFault, serve};
 pub use table_engine::TableEngine;

@@ -1,14 +1,14 @@
 //! Serves items, one after another: each is heard, answered, and its reply written.
 ghost use Rattle.std.specs.Prelude.{◌≡◌, ◌<◌, Ok, Err, []};
 ghost use Rattle.edits.specs.State.{State};
-ghost use Rattle.server.specs.Ahead.{to_come, weight};
+ghost use Rattle.lines.specs.Ahead.{to_come, weight};
 ghost use Rattle.server.specs.Served.{Outcome};
 ghost use Rattle.server.specs.Session.{Steps};
 
 use crate::answering::answer;
 use crate::engine::Engine;
 use crate::hearing::{hear, is_last, is_over};
-use crate::source::{Ahead, Line, read_line};
+use lines::{Ahead, Line, read_line};
 use std::alloc::Global;
 use std::io::{Read, Write};
 use thiserror::Error;

@@ -1,5 +1,6 @@
 //! A mosaic in memory, as an engine.
-ghost use Rattle.std.specs.Prelude.{◌≡◌};
+ghost use Rattle.std.specs.Prelude.{◌≡◌, ◌≤◌, IsTrue, length};
+ghost use Rattle.catalogue.specs.Tiles.{corners_of};
 ghost use Rattle.edits.specs.State.{fresh};
 
 use crate::engine::Engine;
@@ -8,6 +9,10 @@ use edits::{Command, carry_out, plan};
 use lattice::{Corner, Height, Point, Refusal, Side};
 use std::alloc::Global;
 use std::marker::Model;
+use watershed::Run;
+
+/// The most tiles of which directions are found. No store takes more.
+const MOST_DRAINED: usize = 240;
 
 /// A mosaic held in memory. It refuses for want of memory, and never fails.
 #[derive(Drop)]
@@ -41,6 +46,16 @@ impl TableEngine {
             capacity,
             count: 0,
             number: 1,
+        }
+    }
+
+    /// Whether directions can be found: of at most 240 tiles.
+    fn is_few(&self) -> bool
+        ensures { IsTrue result → length (corners_of self.now.contents.mosaic) ≤ 240 }
+    {
+        match self.table.corners(self.alloc) {
+            Ok(corners) => corners.len() <= MOST_DRAINED,
+            Err(_) => false,
         }
     }
 }
@@ -80,6 +95,31 @@ impl Engine for TableEngine {
 
     fn elevation(&mut self, point: Point) -> Result<Height, Refusal> {
         height(&mut self.table, point)
+    }
+
+    fn fill(&mut self, point: Point) -> Result<i16, Refusal> {
+        drainage::fill(self.alloc, &mut self.table, point)
+    }
+
+    fn direction(&mut self, point: Point) -> Result<u8, Refusal> {
+        if !self.is_few() {
+            return Err(Refusal::NoMemory);
+        }
+        drainage::direction(self.alloc, &mut self.table, point)
+    }
+
+    fn trace(&mut self, point: Point) -> Result<Vec<Point>, Refusal> {
+        if !self.is_few() {
+            return Err(Refusal::NoMemory);
+        }
+        drainage::trace(self.alloc, &mut self.table, point)
+    }
+
+    fn watershed(&mut self, point: Point) -> Result<Vec<Run>, Refusal> {
+        if !self.is_few() {
+            return Err(Refusal::NoMemory);
+        }
+        drainage::watershed(self.alloc, &mut self.table, point)
     }
 
     fn export(&mut self, corner: Corner) -> Result<Vec<u8>, Refusal> {

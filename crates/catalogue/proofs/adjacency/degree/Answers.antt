@@ -1,4 +1,4 @@
-use Rattle.std.proofs.Common.{◌≡◌, ap, sym, ◌∙◌, arith, take, length, List}
+use Rattle.std.proofs.Common.{ap, ◌∙◌, arith, List}
 use Rattle.std.specs.Prelude.{count_by}
 use Rattle.std.proofs.lemmas.List.{take_all}
 use Rattle.lattice.specs.declared.direction.Step.{Step}

@@ -2,7 +2,6 @@ use Rattle.std.proofs.Common.{ℕ, ◌<◌, get_or}
 use Rattle.std.specs.Prelude.{Contains}
 use Rattle.lattice.specs.Corners.{Place}
 use Rattle.lattice.specs.Lattice.{Holds}
-use Rattle.catalogue.proofs.Sharing.{shared_from}
 use Rattle.catalogue.proofs.adjacency.share_tile.Given as goal
 
 abbrev pub invariant-loop-corner : goal.invariant-loop-corner

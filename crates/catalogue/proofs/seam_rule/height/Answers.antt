@@ -1,4 +1,4 @@
-use Rattle.std.proofs.Common.{◌≡◌, ◌↔◌, ℤ, refl, ap, sym, ◌∙◌, subst, List}
+use Rattle.std.proofs.Common.{◌↔◌, refl, ap, sym, ◌∙◌, subst, List}
 use Rattle.std.specs.Prelude.{Contains}
 use Rattle.lattice.specs.Corners.{Place}
 use Rattle.lattice.specs.Lattice.{Holds}

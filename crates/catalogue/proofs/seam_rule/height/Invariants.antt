@@ -6,8 +6,6 @@ use Rattle.lattice.specs.Ground.{is_height}
 use Rattle.catalogue.specs.Readers.{OnlyReads}
 use Rattle.catalogue.specs.SeamRule.{sample_in}
 use Rattle.catalogue.proofs.Sought.{height_from}
-use Rattle.catalogue.proofs.Reading.{reads_on}
-use Rattle.catalogue.proofs.Holders.{samples_from_holders}
 use Rattle.catalogue.proofs.seam_rule.height.Given as goal
 
 abbrev pub invariant-loop-corner : goal.invariant-loop-corner

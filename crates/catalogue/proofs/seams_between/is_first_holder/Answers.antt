@@ -1,4 +1,4 @@
-use Rattle.std.proofs.Common.{◌≡◌, ◌↔◌, ap, sym, ◌∙◌, subst, List}
+use Rattle.std.proofs.Common.{◌↔◌, ap, sym, ◌∙◌, subst, List}
 use Rattle.std.proofs.lemmas.Bool.{cond-true, cond-false, false≢true, false_from_ne_true}
 use Rattle.lattice.specs.Mosaic.{is_present}
 use Rattle.catalogue.proofs.Presence.{present_iff}
@@ -9,7 +9,6 @@ use Rattle.catalogue.specs.Seams.{is_first}
 use Rattle.catalogue.proofs.Rising.{Adjacent}
 use Rattle.catalogue.proofs.Holders.{itself}
 use Rattle.catalogue.proofs.PresentHolders.{present_holders_are, first_step}
-use Rattle.catalogue.proofs.Interior.{inner_agrees}
 use Rattle.catalogue.proofs.seams_between.is_first_holder.Goals as goal
 
 pub loop-holder-init : goal.loop-holder-init

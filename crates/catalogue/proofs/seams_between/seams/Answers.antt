@@ -1,8 +1,6 @@
 use Rattle.std.proofs.Common.{◌≡◌, ℤ, pos, negsuc, arith, ap, sym, ◌∙◌, subst}
-use Rattle.std.specs.Prelude.{sum_by}
 use Rattle.std.proofs.lemmas.Int.{ints}
-use Rattle.catalogue.specs.Seams.{IsSeamCount, seams_before, seams_of}
-use Rattle.catalogue.specs.Tiles.{corners_of}
+use Rattle.catalogue.specs.Seams.{IsSeamCount, seams_before}
 use Rattle.catalogue.proofs.Reading.{reads_nothing}
 use Rattle.catalogue.proofs.SeamCounts.{seams_counted, seams-first, seams-last}
 use Rattle.catalogue.proofs.seams_between.seams.Goals as goal

@@ -1,22 +1,35 @@
-use Rattle.std.proofs.Common.{◌≡◌, cond, Some, None, ap, sym, ◌∙◌, add-zero}
+use Rattle.std.proofs.Common.{◌≡◌, ℤ, cond, List, Option, Some, None, ap, sym, subst, ◌∙◌, add-zero}
+use mir.Syntax.{w16}
+use mir.Val.{SFits, to_z, of_z}
 use Rattle.lattice.specs.Corners.{Place}
-use Rattle.lattice.specs.Mosaic.{is_present}
+use Rattle.lattice.specs.Mosaic.{Mosaic, IsMosaic}
+use Rattle.catalogue.specs.Tiles.{corners_of, is_listed, AreCorners}
 use Rattle.catalogue.specs.Seams.{seams_before}
-use Rattle.catalogue.proofs.Rows.{place_is}
+use Rattle.catalogue.proofs.OneTile.{corners_are}
+use Rattle.catalogue.proofs.Rows.{place, place_is}
 use Rattle.catalogue.proofs.SeamCounts.{seams_ok, seams_none}
 use Rattle.catalogue.proofs.seams_between.seams_at.Goals as goal
+
+-- what was asked of the list of corners, of the mosaic
+as_listed : (m : Mosaic) (lat lon : ℤ) (cs : List Place) → IsMosaic m → corners_of m ≡ cs → SFits w16 lat → SFits w16 lon → (found : Option Place)
+    → (AreCorners cs → found ≡ cond (is_listed (place (to_z w16 (of_z w16 lat)) (to_z w16 (of_z w16 lon))) cs) (Some (place (to_z w16 (of_z w16 lat)) (to_z w16 (of_z w16 lon)))) None)
+    → found ≡ cond (is_listed (place lat lon) (corners_of m)) (Some (place lat lon)) None
+as_listed m lat lon cs valid same lat_fits lon_fits found answer =
+    answer (subst AreCorners same (corners_are m valid))
+    ∙ ap (λ (p : Place). cond (is_listed p cs) (Some p) None) (place_is lat lon lat_fits lon_fits)
+    ∙ ap (λ (l : List Place). cond (is_listed (place lat lon) l) (Some (place lat lon)) None) (sym same)
 
 pub returns-in-Some-clause-value : goal.returns-in-Some-clause-value
 returns-in-Some-clause-value g c honest_after =
     let honest = c.seams_in_tile.ensures.reads.honest honest_after in
     let m = g.S.Samples.mosaic c.args.samples.now in
     let valid = g.met.S.Samples.is_mosaic c.args.samples.now honest in
-    let asked = c.in-Some.ensures honest ∙ ap (λ (p : Place). cond (is_present m p) (Some p) None) (place_is c.args.lat c.args.lon c.ranges.lat c.ranges.lon) in
+    let asked = as_listed m c.args.lat c.args.lon (g.S.Samples.corners c.args.samples.now) valid (g.met.S.Samples.same_corners c.args.samples.now honest) c.ranges.lat c.ranges.lon (Some c.in-Some.corner) c.in-Some.ensures.answer in
     seams_ok m valid c.args.lat c.args.lon c.in-Some.corner c.seams_in_tile.result asked (c.seams_in_tile.ensures.value honest_after)
 
 pub returns-in-None-clause-value : goal.returns-in-None-clause-value
 returns-in-None-clause-value g c honest =
     let m = g.S.Samples.mosaic c.args.samples.now in
     let valid = g.met.S.Samples.is_mosaic c.args.samples.now honest in
-    let asked = c.in-None.ensures honest ∙ ap (λ (p : Place). cond (is_present m p) (Some p) None) (place_is c.args.lat c.args.lon c.ranges.lat c.ranges.lon) in
+    let asked = as_listed m c.args.lat c.args.lon (g.S.Samples.corners c.args.samples.now) valid (g.met.S.Samples.same_corners c.args.samples.now honest) c.ranges.lat c.ranges.lon None c.in-None.ensures.answer in
     seams_none m valid c.args.lat c.args.lon asked ∙ sym (add-zero (seams_before m c.args.lat c.args.lon))

@@ -1,4 +1,4 @@
-use Rattle.std.proofs.Common.{◌≡◌, ℕ, ◌+◌, ◌*◌, ◌≤◌, pos, negsuc, ◌+ℤ◌, ◌*ℤ◌, ◌≤ℤ◌, Ok}
+use Rattle.std.proofs.Common.{◌≡◌, ℕ, ◌+◌, pos, negsuc, ◌+ℤ◌, ◌*ℤ◌, ◌≤ℤ◌, Ok}
 use Rattle.catalogue.specs.Readers.{OnlyReads}
 use Rattle.catalogue.specs.Seams.{seams_before}
 use Rattle.catalogue.proofs.seams_between.seams_in_row.Given as goal

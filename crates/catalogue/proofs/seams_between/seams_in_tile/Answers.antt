@@ -1,7 +1,7 @@
-use Rattle.std.proofs.Common.{◌≡◌, ◌+◌, ℕ, cond, ap, ap₂, sym, ◌∙◌, arith, add-zero}
+use Rattle.std.proofs.Common.{◌≡◌, ◌+◌, cond, ap, ap₂, sym, ◌∙◌, arith, add-zero}
 use Rattle.lattice.specs.Lattice.{point_of}
 use Rattle.lattice.specs.Mosaic.{Mosaic}
-use Rattle.catalogue.specs.Seams.{own_seams_below, is_own_seam}
+use Rattle.catalogue.specs.Seams.{is_own_seam}
 use Rattle.catalogue.proofs.Reading.{reads_nothing, reads_on, reads_as}
 use Rattle.catalogue.proofs.SeamCounts.{tile_start, tile_step}
 use Rattle.catalogue.proofs.seams_between.seams_in_tile.Goals as goal

@@ -4,9 +4,9 @@ use Rattle.std.proofs.lemmas.Result.{err_from_is_err_and}
 use Rattle.lattice.specs.declared.refusal.Refusal.{Refusal}
 use Rattle.lattice.specs.declared.refusal.Refusal.TheVariants.{TooDeep, NoMemory}
 use Rattle.catalogue.proofs.Reading.{reads_on}
+use Rattle.catalogue.specs.Readers.{reads_of}
 use Rattle.edits.specs.declared.change.Change.{Change}
 use Rattle.edits.specs.Effect.{first_fault}
-use Rattle.edits.specs.Plans.{reads_of}
 use Rattle.edits.specs.Puts.{ArePutAt}
 use Rattle.edits.specs.Treatments.{treated, depth_of, is_fault}
 use Rattle.lattice.specs.Mosaic.{void}

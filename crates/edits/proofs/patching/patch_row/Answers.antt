@@ -6,9 +6,9 @@ use mir.Syntax.{w16}
 use Rattle.lattice.specs.declared.refusal.Refusal.{Refusal}
 use Rattle.lattice.specs.Ground.{same_point}
 use Rattle.catalogue.proofs.Reading.{reads_on}
+use Rattle.catalogue.specs.Readers.{reads_of}
 use Rattle.edits.specs.Boxes.{is_in_row, is_void_in_row}
 use Rattle.edits.specs.Effect.{is_void_at}
-use Rattle.edits.specs.Plans.{reads_of}
 use Rattle.edits.specs.Puts.{PutsAlso, PutsOnce}
 use Rattle.edits.proofs.Once.{in_row_more, not_in_row}
 use Rattle.edits.proofs.PatchLemmas.{row_none, row_more}

@@ -5,9 +5,9 @@ use Rattle.std.proofs.lemmas.Result.{err_from_is_err_and}
 use mir.Syntax.{w16}
 use Rattle.lattice.specs.declared.refusal.Refusal.{Refusal}
 use Rattle.catalogue.proofs.Reading.{reads_on}
+use Rattle.catalogue.specs.Readers.{reads_of}
 use Rattle.edits.specs.declared.change.Change.{Change}
 use Rattle.edits.specs.Boxes.{is_in_row, is_in_rows, is_void_in_row, is_void_in_rows}
-use Rattle.edits.specs.Plans.{reads_of}
 use Rattle.edits.specs.Puts.{PutsAlso}
 use Rattle.edits.proofs.Once.{in_rows_more, not_in_rows, once_from_none}
 use Rattle.edits.proofs.PatchLemmas.{rows_none, rows_more, also_from_none}

@@ -1,5 +1,5 @@
 use Rattle.std.proofs.Common.{rules, ◌≡◌, ℕ, ◌*◌, ◌∙◌, sym, ap, inr}
-use Rattle.server.specs.declared.source.Extent.TheVariants.{Whole}
+use Rattle.lines.specs.declared.source.Extent.TheVariants.{Whole}
 use Rattle.server.proofs.answering.import.Goals as goal
 
 pub returns-clause-outcome : goal.returns-clause-outcome

@@ -1,7 +1,7 @@
 use Rattle.std.proofs.Common.{rules, ◌≡◌, [], refl, sym}
 use Rattle.std.specs.Prelude.{option_map}
-use Rattle.server.specs.declared.source.Extent.TheVariants.{Whole, Cut}
-use Rattle.server.specs.Requests.{asked}
+use Rattle.lines.specs.declared.source.Extent.TheVariants.{Whole, Cut}
+use Rattle.lines.specs.Requests.{asked}
 use Rattle.server.proofs.SessionLemmas.{holds_whole, holds_cut, nothing_taken}
 use Rattle.server.proofs.hearing.hear.Goals as goal
 use Rattle.server.proofs.hearing.hear.Goals.{in-Whole+in_ok-hear_payload-in-Whole, in-Cut}

@@ -1,5 +1,5 @@
 use Rattle.std.proofs.Common.{subst, List, ℕ}
-use Rattle.server.specs.Requests.{IsRequestOf}
+use Rattle.lines.specs.Requests.{IsRequestOf}
 use Rattle.server.proofs.SessionLemmas.{asks_for, kept_some}
 use Rattle.server.proofs.hearing.request_in.Goals as goal
 

@@ -1,6 +1,6 @@
 use Rattle.std.proofs.Common.{rules, refl, ◌∙◌, ◌≡◌}
 use Rattle.server.specs.declared.session.Next.TheVariants.{More, End}
-use Rattle.server.specs.Ahead.{to_come}
+use Rattle.lines.specs.Ahead.{to_come}
 use Rattle.server.proofs.SessionLemmas.{so_far_none, so_far_more, so_far_end, so_far_fault}
 use Rattle.server.proofs.session.serve.Goals as goal
 

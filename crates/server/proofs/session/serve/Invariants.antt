@@ -1,6 +1,6 @@
 use Rattle.std.proofs.Common.{◌≡◌}
 use Rattle.edits.specs.State.{State}
-use Rattle.server.specs.Ahead.{to_come, weight}
+use Rattle.lines.specs.Ahead.{to_come, weight}
 use Rattle.server.specs.Session.{SoFar}
 use Rattle.server.proofs.session.serve.Given as goal
 

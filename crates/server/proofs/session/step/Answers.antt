@@ -2,7 +2,7 @@ use Rattle.std.proofs.Common.{rules, ◌≡◌, ◌≢◌, ℕ, [], ◌∷◌, �
 use Rattle.std.specs.Io.KnownBytes.{Appends}
 use Rattle.std.proofs.KnownBytes.{Appends-nil}
 use Rattle.std.proofs.lemmas.Bool.{both_ways}
-use Rattle.server.specs.declared.source.Extent.TheVariants.{Cut}
+use Rattle.lines.specs.declared.source.Extent.TheVariants.{Cut}
 use Rattle.server.proofs.SessionLemmas.{item_taken, begun_taken, ends_last, goes_on}
 use Rattle.server.proofs.session.step.Goals as goal
 use Rattle.server.proofs.session.step.Goals.{then-is_last, else-is_last}

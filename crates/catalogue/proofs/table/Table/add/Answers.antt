@@ -1,4 +1,4 @@
-use Rattle.std.proofs.Common.{◌≡◌, ℤ, IsTrue, subst, List, All}
+use Rattle.std.proofs.Common.{ℤ, IsTrue, subst, List, All}
 use Rattle.lattice.specs.Corners.{Place, is_corner}
 use Rattle.lattice.specs.Mosaic.{IsSample}
 use Rattle.catalogue.proofs.Entries.{added_is, added_valid}

@@ -1,7 +1,5 @@
 use Rattle.std.proofs.Common.{◌≡◌, ap, sym, ◌∙◌, rules}
 use Rattle.std.specs.Map.{keys_of}
-use Rattle.std.proofs.lemmas.Grind.{common_steps}
-use Rattle.lattice.specs.Mosaic.{Mosaic}
 use Rattle.catalogue.specs.Tiles.{corners_of}
 use Rattle.catalogue.proofs.Entries.{corners-tiles_in}
 use Rattle.catalogue.proofs.table.Table.corners.Goals as goal

@@ -1,6 +1,7 @@
-use Rattle.std.proofs.Common.{◌≡◌, sym, ◌∙◌, subst, true}
-use Rattle.lattice.specs.Mosaic.{Mosaic, IsMosaic}
+use Rattle.std.proofs.Common.{◌≡◌, sym, ◌∙◌, subst}
+use Rattle.lattice.specs.Mosaic.{IsMosaic}
 use Rattle.catalogue.proofs.Entries.{found-present}
+use Rattle.catalogue.proofs.OneTile.{corners_are}
 use Rattle.catalogue.proofs.Presence.{present_iff, corners_in_order}
 use Rattle.catalogue.proofs.table.TableSamples.present.Goals as goal
 
@@ -12,6 +13,9 @@ returns-clause-answer c =
 
 pub returns-clause-in_order : goal.returns-clause-in_order
 returns-clause-in_order c = corners_in_order c.args.self.now (subst IsMosaic c.self.view_is c.self.invariant)
+
+pub returns-clause-whole_degrees : goal.returns-clause-whole_degrees
+returns-clause-whole_degrees c = corners_are c.args.self.now (subst IsMosaic c.self.view_is c.self.invariant)
 
 pub returns-clause-tile : goal.returns-clause-tile
 returns-clause-tile c = c.contains_key.ensures ∙ found-present c.self.inside.side c.self.inside.tiles.entries _ c.self.view_is c.args.c

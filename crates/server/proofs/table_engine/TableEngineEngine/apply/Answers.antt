@@ -4,7 +4,8 @@ use Rattle.lattice.specs.Mosaic.{Mosaic}
 use Rattle.lattice.specs.declared.refusal.Refusal.{Refusal}
 use Rattle.edits.specs.Changes.{all_changed}
 use Rattle.server.specs.TableState.{Held, contents_of, working}
-use Rattle.server.proofs.TableLemmas.{unchanged, worn, accepted, all_changed_side}
+use Rattle.edits.proofs.AllStale.{all_changed_side}
+use Rattle.server.proofs.TableLemmas.{unchanged, worn, accepted}
 use Rattle.server.proofs.table_engine.TableEngineEngine.apply.Goals as goal
 
 pub returns-then-self-clause-outcome : goal.returns-then-self-clause-outcome
@@ -14,7 +15,7 @@ returns-then-self-clause-outcome c = λ honest s at.
     let valid = reads.never_refuses c.self.invariant.valid in (
       s,
       (
-        unchanged c.args.self.now e.table e.capacity e.count e.number c.self.view_is c.args.command.now s at c.plan.new.samples (reads.keeps valid),
+        unchanged c.args.self.now e.table e.capacity e.count e.number c.self.view_is c.args.command.now s at c.plan.new.samples reads.keeps,
         worn c.args.self.now e.table e.capacity e.count e.number c.self.view_is c.args.command.now s at _ (c.in_ok-changes.ensures.changes valid) c.if-self.true,
       ),
     )
@@ -25,7 +26,7 @@ returns-clause-side c =
     let valid = reads.never_refuses c.self.invariant.valid in
     ap (λ (m : Mosaic). m.side) c.in_ok-carry_out.ensures.made
     ∙ all_changed_side c.in_ok-changes.changes.items c.plan.new.samples
-    ∙ ap (λ (m : Mosaic). m.side) (reads.keeps valid)
+    ∙ ap (λ (m : Mosaic). m.side) reads.keeps
     ∙ ap (λ (h : Held). h.contents.mosaic.side) c.self.view_is
 
 pub returns-clause-outcome : goal.returns-clause-outcome
@@ -35,7 +36,7 @@ returns-clause-outcome c = λ honest s at.
     let valid = reads.never_refuses c.self.invariant.valid in
     let new = c.carry_out.new.table in
     let is : all_changed c.in_ok-changes.changes.items e.table ≡ new =
-    ap (all_changed c.in_ok-changes.changes.items) (sym (reads.keeps valid)) ∙ sym c.in_ok-carry_out.ensures.made in
+    ap (all_changed c.in_ok-changes.changes.items) (sym reads.keeps) ∙ sym c.in_ok-carry_out.ensures.made in
     let below : e.number < 18446744073709551615 = search rules in (
       working (contents_of new (e.count + 1) (e.number + 1)),
       (

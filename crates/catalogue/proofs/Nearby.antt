@@ -1,0 +1,138 @@
+-- The heights of a tile's points depend on the tile and its neighbours alone.
+use Rattle.std.proofs.Common.{◌≡◌, ℕ, zero, suc, ◌-◌, ◌*◌, ◌<◌, ◌≤◌, ◌⊎◌, inl, inr, ℤ, pos, ◌+ℤ◌, ◌-ℤ◌, ◌*ℤ◌, nat_abs, Bool, true, false, cond, IsTrue, List, [], ◌∷◌, map, Option, Some, None, refl, sym, ◌∙◌, ap, ap₂, subst, arith}
+use Rattle.std.specs.List.{filter}
+use Rattle.std.proofs.lemmas.Bool.{and_parts}
+use Rattle.std.proofs.lemmas.Int.{ints, by_lt_z}
+use Rattle.lattice.specs.Corners.{Place, is_corner, is_before, same_place}
+use Rattle.lattice.specs.declared.point.Point.{Point}
+use Rattle.lattice.specs.Block.{IsBlockOf}
+use Rattle.lattice.specs.Ground.{metres}
+use Rattle.lattice.specs.Height.{height_of, by_seam_rule, sample_at}
+use Rattle.lattice.specs.Lattice.{is_along, holds, point_of}
+use Rattle.lattice.specs.Mosaic.{Tile, Mosaic, IsMosaic, samples_among, samples_of}
+use Rattle.lattice.proofs.Along.{steps}
+use Rattle.lattice.proofs.Samples.{holds_is, point_of_held}
+use Rattle.catalogue.specs.SealingLaws.{SameNearby}
+use Rattle.catalogue.proofs.Places.{same_says, same_from, after_not_same, after_from}
+use Rattle.catalogue.proofs.Rising.{AllAfter, Rising, rising-filter, after_later}
+use Rattle.catalogue.proofs.Mosaics.{corner_of, rising_tiles}
+use Rattle.catalogue.proofs.Interior.{product_plus}
+
+-- ---- tiles that hold one point lie at most a degree apart
+few_steps : (m d : ℕ) → 2 ≤ m → d * m ≤ m → d < 2
+few_steps m zero side small = omega arith
+few_steps m (suc zero) side small = omega arith
+few_steps m (suc (suc d)) side small = absurd (omega arith)
+
+apart : (m : ℕ) (x y v : ℤ) (d i j : ℕ) → x ≡ y +ℤ pos d → v ≡ x *ℤ pos m +ℤ pos i → v ≡ y *ℤ pos m +ℤ pos j → j ≤ m → d * m ≤ m
+apart m x y v d i j is at_x at_y within =
+    let product : (x *ℤ pos m) ≡ y *ℤ pos m +ℤ pos (d * m) = ap (λ z. z *ℤ pos m) is ∙ product_plus y d m in
+    omega (arith, ints)
+
+gap : (x y : ℤ) → (d : ℕ) × ((nat_abs (x -ℤ y) ≡ d) × ((x ≡ y +ℤ pos d) ⊎ (y ≡ x +ℤ pos d)))
+gap x y = (nat_abs (x -ℤ y), (refl, by_lt_z x y (λ less. inr (grind (arith, ints))) (λ not_less. inl (grind (arith, ints)))))
+
+along_near : (m : ℕ) (x y v : ℤ) → 2 ≤ m → IsTrue (is_along (pos m) x v) → IsTrue (is_along (pos m) y v) → nat_abs (x -ℤ y) < 2
+along_near m x y v side at_x at_y =
+    let from_x = steps m x v at_x in
+    let from_y = steps m y v at_y in
+    let between = gap x y in
+    let small : between.0 < 2 = elim between.1.1 [
+      | inl above ↦ few_steps m between.0 side (apart m x y v between.0 from_x.0 from_y.0 above from_x.1.1 from_y.1.1 from_y.1.0)
+      | inr below ↦ few_steps m between.0 side (apart m y x v between.0 from_y.0 from_x.0 below from_y.1.1 from_x.1.1 from_x.1.0)
+    ] in
+    subst (λ k. k < 2) (sym between.1.0) small
+
+pub holders_near : (n : ℕ) (a b : Place) (p : Point) → 3 ≤ n → holds n a p ≡ true → holds n b p ≡ true → (nat_abs (a.lat -ℤ b.lat) < 2) × (nat_abs (a.lon -ℤ b.lon) < 2)
+holders_near n a b p side at_a at_b =
+    let in_a = and_parts (is_along (pos (n - 1)) a.lat p.y) (is_along (pos (n - 1)) a.lon p.x) at_a in
+    let in_b = and_parts (is_along (pos (n - 1)) b.lat p.y) (is_along (pos (n - 1)) b.lon p.x) at_b in (
+      along_near (n - 1) a.lat b.lat p.y (omega arith) in_a.0 in_b.0,
+      along_near (n - 1) a.lon b.lon p.x (omega arith) in_a.1 in_b.1,
+    )
+
+-- ---- lists of tiles that rise, with the same samples at each corner
+none_before : (c : Place) (tiles : List Tile) → AllAfter corner_of c tiles → samples_among tiles c ≡ None
+none_before c [] after = refl
+none_before c (t ∷ ts) after = rw (after_not_same c t.corner after.0) (none_before c ts after.1)
+
+first_among : (t : Tile) (ts : List Tile) → samples_among (t ∷ ts) t.corner ≡ Some t.samples
+first_among t ts = rw (same_from t.corner t.corner refl) refl
+
+missing_earlier : (x y : Tile) (xs ys : List Tile) → Rising corner_of (y ∷ ys) → is_before x.corner y.corner ≡ true → samples_among (x ∷ xs) x.corner ≡ samples_among (y ∷ ys) x.corner → ⊥
+missing_earlier x y xs ys rising before same =
+    let nothing : samples_among (y ∷ ys) x.corner ≡ None = none_before x.corner (y ∷ ys) (before, after_later corner_of x.corner y.corner ys before rising.0) in
+    let something = first_among x xs in
+    absurd (cc)
+
+same_tiles : (xs ys : List Tile) → Rising corner_of xs → Rising corner_of ys → ((d : Place) → samples_among xs d ≡ samples_among ys d) → xs ≡ ys
+same_tiles [] [] xr yr same = refl
+same_tiles [] (y ∷ ys) xr yr same = let here = same y.corner in let something = first_among y ys in absurd (cc)
+same_tiles (x ∷ xs) [] xr yr same = let here = same x.corner in let something = first_among x xs in absurd (cc)
+same_tiles (x ∷ xs) (y ∷ ys) xr yr same = by (same_place x.corner y.corner) refl (is_before x.corner y.corner) refl (same_tiles xs ys xr.1 yr.1)
+  where
+    tail : x.corner ≡ y.corner → (d : Place) (b : Bool) → same_place x.corner d ≡ b → samples_among xs d ≡ samples_among ys d
+    tail corners d true here =
+        let is : x.corner ≡ d = same_says x.corner d here in
+        none_before d xs (subst (λ (e : Place). AllAfter corner_of e xs) is xr.0) ∙ sym (none_before d ys (subst (λ (e : Place). AllAfter corner_of e ys) (sym corners ∙ is) yr.0))
+    tail corners d false other =
+        let other_too : same_place y.corner d ≡ false = ap (λ (e : Place). same_place e d) (sym corners) ∙ other in
+        sym (ap (λ b. cond b (Some x.samples) (samples_among xs d)) other) ∙ same d ∙ ap (λ b. cond b (Some y.samples) (samples_among ys d)) other_too
+
+    heads : x.corner ≡ y.corner → x ≡ y
+    heads corners =
+        let first = first_among x xs in
+        let second : samples_among (y ∷ ys) x.corner ≡ Some y.samples = ap (samples_among (y ∷ ys)) corners ∙ first_among y ys in
+        let here = same x.corner in
+        let samples : x.samples ≡ y.samples = cc in
+        ap₂ (λ (c : Place) (l : List ℤ). record { corner = c; samples = l }) corners samples
+
+    by : (b : Bool) → same_place x.corner y.corner ≡ b → (a : Bool) → is_before x.corner y.corner ≡ a → (((d : Place) → samples_among xs d ≡ samples_among ys d) → xs ≡ ys) → x ∷ xs ≡ y ∷ ys
+    by true here a _ rest =
+        let corners = same_says x.corner y.corner here in
+        ap₂ (λ (t : Tile) (ts : List Tile). t ∷ ts) (heads corners) (rest (λ d. tail corners d (same_place x.corner d) refl))
+    by false other true before rest = absurd (missing_earlier x y xs ys yr before (same x.corner))
+    by false other false not_before rest = absurd (missing_earlier y x ys xs xr (after_from x.corner y.corner not_before other) (sym (same y.corner)))
+
+among_filter : (test : Place → Bool) (tiles : List Tile) (d : Place) → samples_among (filter (λ t. test t.corner) tiles) d ≡ cond (test d) (samples_among tiles d) None
+among_filter test [] d = elim (test d) as (λ b. ◌≡◌ {A = Option (List ℤ)} None (cond b None None)) [ true ↦ refl | false ↦ refl ]
+among_filter test (t ∷ ts) d = by (test t.corner) refl (same_place t.corner d) refl (among_filter test ts d)
+  where
+    by : (a : Bool) → test t.corner ≡ a → (b : Bool) → same_place t.corner d ≡ b
+        → samples_among (filter (λ u. test u.corner) ts) d ≡ cond (test d) (samples_among ts d) None
+        → samples_among (cond a (t ∷ filter (λ u. test u.corner) ts) (filter (λ u. test u.corner) ts)) d ≡ cond (test d) (cond b (Some t.samples) (samples_among ts d)) None
+    by true passes true here rest =
+        let passes_here : test d ≡ true = ap test (sym (same_says t.corner d here)) ∙ passes in
+        rw (here, passes_here) refl
+    by true passes false other rest = rw other rest
+    by false fails true here rest =
+        let fails_here : test d ≡ false = ap test (sym (same_says t.corner d here)) ∙ fails in
+        rest ∙ rw fails_here refl
+    by false fails false other rest = rest
+
+-- ---- two mosaics with the same tiles near the corner
+module _ (m new : Mosaic) (m_valid : IsMosaic m) (new_valid : IsMosaic new) (same_side : new.side ≡ m.side) (c : Place) (same : SameNearby m new c) where
+  same_at : (p : Point) → holds m.side c p ≡ true → (d : Place) (b : Bool) → holds m.side d p ≡ b → cond b (samples_of new d) None ≡ cond b (samples_of m d) None
+  same_at p held d true there = let near = holders_near m.side d c p m_valid.side_low there held in same d near.0 near.1
+  same_at p held d false out = refl
+
+  pub near_height : (p : Point) → holds m.side c p ≡ true → height_of new p ≡ height_of m p
+  near_height p held =
+      let test : Place → Bool = λ d. holds m.side d p in
+      let tiles : filter (λ t. holds m.side t.corner p) new.tiles ≡ filter (λ t. holds m.side t.corner p) m.tiles =
+      same_tiles (filter (λ t. test t.corner) new.tiles) (filter (λ t. test t.corner) m.tiles)
+      (rising-filter corner_of (λ t. test t.corner) new.tiles (rising_tiles new new_valid)) (rising-filter corner_of (λ t. test t.corner) m.tiles (rising_tiles m m_valid))
+      (λ d. among_filter test new.tiles d ∙ same_at p held d (holds m.side d p) refl ∙ sym (among_filter test m.tiles d)) in
+      ap (λ n. by_seam_rule (map (λ t. sample_at n t p) (filter (λ t. holds n t.corner p) new.tiles))) same_side
+      ∙ ap (λ (ts : List Tile). by_seam_rule (map (λ t. sample_at m.side t p) ts)) tiles
+
+  pub near_block : IsTrue (is_corner c) → (heights : List ℤ) → IsBlockOf m c heights → IsBlockOf new c heights
+  near_block corner heights block = record {
+    whole = block.whole ∙ ap (λ n. n * n) (sym same_side);
+    values = λ e small.
+        let small_too = subst (λ n. e < n * n) same_side small in
+        let at = point_of_held m.side c e (omega (arith, m_valid.side_low)) corner small_too in
+        block.values e small_too
+        ∙ ap metres (sym (near_height (point_of m.side c e) ((holds_is m.side c (point_of m.side c e) m_valid.side_low corner).1 at)))
+        ∙ ap (λ n. metres (height_of new (point_of n c e))) (sym same_side);
+  }

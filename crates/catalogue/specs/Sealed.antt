@@ -1,0 +1,32 @@
+-- The mosaic sealed: each tile with the heights of its points by the seam rule in place of its own samples (this
+-- product's own profile).
+use Rattle.std.specs.Prelude.{◌≡◌, ◌⊎◌, ℕ, ◌+◌, ◌-◌, ◌*◌, nat_lt, ℤ, Bool, ◌&&◌, not, if◌then◌else◌, All}
+use Rattle.std.specs.List.{list_any}
+use Rattle.lattice.specs.Corners.{Place, same_place}
+use Rattle.lattice.specs.Lattice.{holds, point_of}
+use Rattle.lattice.specs.Mosaic.{Mosaic}
+use Rattle.lattice.specs.Height.{height_of}
+use Rattle.lattice.specs.Ground.{metres}
+use Rattle.lattice.specs.Block.{IsBlockOf}
+use Rattle.lattice.specs.declared.point.Point.{Point}
+use Rattle.catalogue.specs.Reading.{IsSampleOf}
+use Rattle.catalogue.specs.Tiles.{corners_of}
+
+-- each tile's samples are its block: the heights of its points by the seam rule, void where a point has none
+pub record IsSealed (m sealed : Mosaic) : Type 0 where
+  pub side : sealed.side ≡ m.side
+  pub corners : corners_of sealed ≡ corners_of m
+  pub blocks : All (λ t. IsBlockOf m t.corner t.samples) sealed.tiles
+
+-- round the rim of a tile of n by n samples, clockwise from the north-west one: the index after so many steps
+abbrev pub rim_index : ℕ → ℕ → ℕ
+rim_index n k = if nat_lt k (n - 1) then k else (if nat_lt k (2 * (n - 1)) then (k - (n - 1)) * n + (n - 1)
+    else (if nat_lt k (3 * (n - 1)) then (n - 1) * n + (3 * (n - 1) - k) else (4 * (n - 1) - k) * n))
+
+-- a present tile other than the corner's holds the point
+abbrev pub is_held_elsewhere : Mosaic → Place → Point → Bool
+is_held_elsewhere m c p = list_any (λ t. not (same_place t.corner c) && holds m.side t.corner p) m.tiles
+
+-- the value is the sample of the corner's tile at the index, or the height of that sample's point
+abbrev pub IsOwnOrHeight : Mosaic → Place → ℕ → ℤ → Type 0
+IsOwnOrHeight m c e s = IsSampleOf m c e s ⊎ (s ≡ metres (height_of m (point_of m.side c e)))

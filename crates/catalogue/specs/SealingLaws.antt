@@ -1,0 +1,46 @@
+-- Laws of sealing: what a sealed mosaic keeps, and which tiles a block depends on.
+use Rattle.std.specs.Prelude.{◌≡◌, ◌<◌, ℤ, ◌-ℤ◌, nat_abs, IsTrue, IsFalse, List}
+use Rattle.lattice.specs.Corners.{Place, is_corner}
+use Rattle.lattice.specs.Lattice.{holds}
+use Rattle.lattice.specs.Mosaic.{Mosaic, IsMosaic, samples_of}
+use Rattle.lattice.specs.Height.{height_of, disagrees}
+use Rattle.lattice.specs.Ground.{is_ground, is_adjacent, degree_of, is_outlet, terrain}
+use Rattle.lattice.specs.Block.{IsBlockOf}
+use Rattle.lattice.specs.declared.point.Point.{Point}
+use Rattle.catalogue.specs.Sealed.{IsSealed}
+
+-- each point keeps its height
+abbrev pub SealingKeepsHeights : Type 0
+SealingKeepsHeights = (m s : Mosaic) → IsMosaic m → IsMosaic s → IsSealed m s → (p : Point) → height_of s p ≡ height_of m p
+
+abbrev pub SealingKeepsGround : Type 0
+SealingKeepsGround = (m s : Mosaic) → IsMosaic m → IsMosaic s → IsSealed m s → (p : Point) → is_ground s p ≡ is_ground m p
+
+abbrev pub SealingKeepsAdjacency : Type 0
+SealingKeepsAdjacency = (m s : Mosaic) → IsMosaic m → IsMosaic s → IsSealed m s → (p q : Point) → is_adjacent s p q ≡ is_adjacent m p q
+
+abbrev pub SealingKeepsDegrees : Type 0
+SealingKeepsDegrees = (m s : Mosaic) → IsMosaic m → IsMosaic s → IsSealed m s → (p : Point) → degree_of s p ≡ degree_of m p
+
+abbrev pub SealingKeepsOutlets : Type 0
+SealingKeepsOutlets = (m s : Mosaic) → IsMosaic m → IsMosaic s → IsSealed m s → (p : Point) → is_outlet s p ≡ is_outlet m p
+
+-- so both are one terrain
+abbrev pub SealingKeepsTheTerrain : Type 0
+SealingKeepsTheTerrain = (m s : Mosaic) → IsMosaic m → IsMosaic s → IsSealed m s → terrain s ≡ terrain m
+
+-- no point of a sealed mosaic disagrees
+abbrev pub SealedTilesAgree : Type 0
+SealedTilesAgree = (m s : Mosaic) → IsMosaic m → IsMosaic s → IsSealed m s → (p : Point) → IsFalse (disagrees s p)
+
+-- the same tiles at most one degree of latitude and one of longitude from the corner: the tile itself and its neighbours
+abbrev pub SameNearby : Mosaic → Mosaic → Place → Type 0
+SameNearby m new c = (d : Place) → nat_abs (d.lat -ℤ c.lat) < 2 → nat_abs (d.lon -ℤ c.lon) < 2 → samples_of new d ≡ samples_of m d
+
+-- the heights of a tile's points depend on no other tile
+abbrev pub HeightsAreLocal : Type 0
+HeightsAreLocal = (m new : Mosaic) → IsMosaic m → IsMosaic new → new.side ≡ m.side → (c : Place) → SameNearby m new c → (p : Point) → IsTrue (holds m.side c p) → height_of new p ≡ height_of m p
+
+-- nor does its block
+abbrev pub BlocksAreLocal : Type 0
+BlocksAreLocal = (m new : Mosaic) → IsMosaic m → IsMosaic new → new.side ≡ m.side → (c : Place) → SameNearby m new c → IsTrue (is_corner c) → (heights : List ℤ) → IsBlockOf m c heights → IsBlockOf new c heights

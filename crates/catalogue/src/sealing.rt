@@ -1,0 +1,137 @@
+//! The mosaic sealed by the seam rule.
+ghost use Rattle.std.specs.Prelude.{◌≡◌, ◌<◌, ◌*◌, ◌-◌, ◌⊎◌, IfOk, IfErr, OnOk, length, vec_len, slice_index_or, slice_set, Contains};
+ghost use Rattle.lattice.specs.Block.{IsBlockOf};
+ghost use Rattle.lattice.specs.Ground.{metres as metres_of};
+ghost use Rattle.lattice.specs.Height.{height_of};
+ghost use Rattle.lattice.specs.Lattice.{point_of};
+ghost use Rattle.lattice.specs.Mosaic.{IsMosaic, void};
+ghost use Rattle.lattice.specs.declared.refusal.Refusal.TheVariants.{NoMemory};
+ghost use Rattle.catalogue.specs.Readers.{OnlyReads, reads_of};
+ghost use Rattle.catalogue.specs.Reading.{AreSamplesOf, MayRefuse};
+ghost use Rattle.catalogue.specs.Sealed.{IsSealed, IsOwnOrHeight, rim_index as on_rim, is_held_elsewhere as held_elsewhere};
+ghost use Rattle.catalogue.specs.Tiles.{corners_of};
+
+use crate::listing::tiles;
+use crate::seam_rule::{VOID, height};
+use crate::{Samples, Table};
+use lattice::{Corner, Height, Point, Refusal, Side, holders, point_at};
+use std::alloc::Global;
+
+/// The mosaic with each tile's samples replaced by the heights of its points by the seam rule, void where a point has
+/// none. Its tiles agree wherever they meet, and each point keeps its height.
+///
+/// It takes memory for all tiles at once. Of each tile it reads the samples in one read, and further ones only for the
+/// points of the rim that another tile holds too. It is refused with NoMemory, or as a read of samples is.
+pub fn sealed<S: Samples>(alloc: Global, samples: &mut S) -> Result<Table, Refusal>
+    ensures sealed { S.is_honest samples.new → IfOk result (λ table. IsSealed (S.mosaic samples.old) table) }
+
+    // On any disk it is a mosaic with the side and the corners that were there.
+    ensures valid { IfOk result (λ table. IsMosaic table) }
+    ensures side { IfOk result (λ table. table.side ≡ S.side_of samples.old) }
+    ensures corners { IfOk result (λ table. corners_of table ≡ S.corners samples.old) }
+    ensures refusal { IfErr result (λ r. (r ≡ NoMemory) ⊎ MayRefuse (S.failures samples.old) (S.failures samples.new) r) }
+    ensures reads { OnlyReads S.Samples samples.old samples.new (reads_of result) }
+{
+    let corners = tiles(alloc, samples)?;
+    let mut table = Table::new(alloc, samples.side());
+    for corner in corners.as_slice() {
+        let heights = block(alloc, samples, *corner)?;
+        table.add(*corner, heights)?;
+    }
+    Ok(table)
+}
+
+// The heights of the points of the corner's tile by the seam rule, by index, void where a point has none.
+fn block<S: Samples>(alloc: Global, samples: &mut S, corner: Corner) -> Result<Vec<i16>, Refusal>
+    requires { Contains (S.corners samples.old) corner }
+    ensures block { S.is_honest samples.new → IfOk result (λ heights. IsBlockOf (S.mosaic samples.old) corner heights.items) }
+    ensures whole { IfOk result (λ heights. vec_len heights ≡ S.side_of samples.old * S.side_of samples.old) }
+    ensures refusal { IfErr result (λ r. (r ≡ NoMemory) ⊎ MayRefuse (S.failures samples.old) (S.failures samples.new) r) }
+    ensures reads { OnlyReads S.Samples samples.old samples.new (reads_of result) }
+{
+    let mut heights = vec![in alloc; 0; samples.side().area() as usize]?;
+    samples.read_samples(corner, 0, heights.as_mut_slice())?;
+    seal_rim(samples, corner, heights.as_mut_slice())?;
+    Ok(heights)
+}
+
+// Puts the heights by the seam rule in place of the samples of the rim. No other tile holds a point inside.
+fn seal_rim<S: Samples>(samples: &mut S, corner: Corner, heights: &mut [i16]) -> Result<(), Refusal>
+    requires present { Contains (S.corners samples.old) corner }
+    requires whole { length heights.old ≡ S.side_of samples.old * S.side_of samples.old }
+    ensures block { S.is_honest samples.new
+        → AreSamplesOf (S.mosaic samples.old) corner 0 heights.old
+        → OnOk result (IsBlockOf (S.mosaic samples.old) corner heights.new) }
+    ensures reads { OnlyReads S.Samples samples.old samples.new result }
+{
+    let side = samples.side();
+    for step in 0..4 * side.edge() {
+        seal_at(samples, corner, rim_index(side, step), heights)?;
+    }
+    Ok(())
+}
+
+// Puts the height of the sample's point by the seam rule at the index, where the tile's own sample may stand.
+fn seal_at<S: Samples>(
+    samples: &mut S,
+    corner: Corner,
+    index: u32,
+    heights: &mut [i16],
+) -> Result<(), Refusal>
+    requires present { Contains (S.corners samples.old) corner }
+    requires index { index < S.side_of samples.old * S.side_of samples.old }
+    requires whole { length heights.old ≡ S.side_of samples.old * S.side_of samples.old }
+    ensures height { S.is_honest samples.new
+        → IsOwnOrHeight (S.mosaic samples.old) corner index (slice_index_or heights.old index void)
+        → OnOk result (heights.new
+        ≡ slice_set heights.old index (metres_of (height_of (S.mosaic samples.old) (point_of (S.side_of samples.old) corner index)))) }
+    ensures reads { OnlyReads S.Samples samples.old samples.new result }
+{
+    let point = point_at(samples.side(), corner, index);
+    if is_held_elsewhere(samples, corner, point) {
+        let height = height(samples, point)?;
+        heights[index as usize] = metres(height);
+    }
+    Ok(())
+}
+
+// The index after so many steps round the rim.
+fn rim_index(side: Side, step: u32) -> u32
+    requires { step < 4 * (side - 1) }
+    ensures value { result ≡ on_rim side step }
+    ensures inside { result < side * side }
+{
+    let edge = side.edge();
+    if step < edge {
+        step
+    } else if step < 2 * edge {
+        (step - edge) * side.samples() + edge
+    } else if step < 3 * edge {
+        edge * side.samples() + (3 * edge - step)
+    } else {
+        (4 * edge - step) * side.samples()
+    }
+}
+
+// Whether a present tile other than the corner's holds the point.
+fn is_held_elsewhere<S: Samples>(samples: &S, corner: Corner, point: Point) -> bool
+    ensures { S.is_honest samples.now → result ≡ held_elsewhere (S.mosaic samples.now) corner point }
+{
+    let corners = holders(samples.side(), point);
+    for holder in corners.as_slice() {
+        if *holder != corner && samples.present(*holder) {
+            return true;
+        }
+    }
+    false
+}
+
+// The height in metres, or the sample of a void.
+fn metres(height: Height) -> i16
+    ensures { result ≡ metres_of height }
+{
+    match height {
+        Height::At(metres) => metres,
+        _ => VOID,
+    }
+}

@@ -1,0 +1,96 @@
+-- What a disk stands for that was formatted, or opened.
+use Rattle.std.proofs.lemmas.Bool.{false≢true}
+use Rattle.std.proofs.Common.{zero, suc, ◌∷◌, lit<, ◌≡◌, ◌⊎◌, inl, inr, ⊎_elim, ℕ, ◌<◌, ◌≤◌, Result, Ok, Err, List, [], All, map, refl, sym, ◌∙◌, subst, arith}
+use Rattle.std.proofs.lemmas.List.Elements.{All-nil}
+use Rattle.disk.specs.Disk.{Image}
+use Rattle.lattice.specs.declared.refusal.Refusal.{Refusal}
+use Rattle.lattice.specs.declared.refusal.Refusal.TheVariants as refusal
+use Rattle.page_codec.specs.Roots.{RootValue, AreNumbers, empty_root, root_bytes}
+use Rattle.page_codec.specs.Entries.{IsEntry}
+use Rattle.page_codec.specs.Sizes.{sectors_of}
+use Rattle.roots.specs.Opening.{OpensAs, StoresOpen}
+use Rattle.roots.specs.Slots.{is_open, IsCurrent}
+use Rattle.roots.specs.declared.slot.Slot.TheVariants.{A}
+use Rattle.cow_tree.specs.Charts.{ChartValue, IsChart, IsClean}
+use Rattle.cow_tree.specs.Layout.{TilePlace, entry_of, stored_in, HasRecords, KeepsPageRule, IsLaidOut, StoresAt, Stands, NoTilesStand}
+use Rattle.cow_tree.specs.Pagers.{IsRefusedFor}
+use Rattle.cow_tree.specs.Staged.{AreStaged}
+use Rattle.cow_tree.specs.Stored.{Stored, no_tiles}
+use Rattle.roots.proofs.OneAnswer.{one_is_current, stores_open, only_root}
+use Rattle.cow_tree.specs.Trees.{MayRefuse}
+use Rattle.cow_tree.proofs.Commits.{nothing_staged}
+
+pub formatted_stands : (n side capacity : ℕ) (root : RootValue) (seen image : Image) → root ≡ empty_root side capacity → IsCurrent root seen → image ≡ seen → sectors_of side capacity ≤ n → Stands n image (no_tiles side capacity)
+formatted_stands n side capacity root seen image is_root current same room = (
+  empty_root side capacity,
+  [],
+  record {
+    laid_out = record {
+      store = (subst (λ (i : Image). IsCurrent (empty_root side capacity) i) (sym same) (subst (λ (r : RootValue). IsCurrent r seen) is_root current), room);
+      entries = refl;
+      records = All-nil (HasRecords side image);
+      page_rule = record { low = All-nil (λ p. 4 ≤ p); high = All-nil (λ p. p < n); once = λ p. omega arith };
+    };
+    stands = refl;
+  },
+)
+
+-- the tiles of a chart that was read
+pub opened_stores : (n : ℕ) (root : RootValue) (chart : ChartValue) (image : Image) → IsCurrent root image → IsChart chart → chart.sectors ≡ n → chart.side ≡ root.side → chart.capacity ≡ root.capacity → map entry_of chart.committed ≡ root.entries → All (HasRecords root.side image) chart.committed
+    → StoresAt n root chart.committed (stored_in image root chart.committed) image
+opened_stores n root chart image current rules sectors side capacity entries records = record {
+  laid_out = record {
+    store = (current, subst (λ (k : ℕ). sectors_of root.side root.capacity ≤ k) sectors (subst (λ (k : ℕ). sectors_of root.side k ≤ chart.sectors) capacity (subst (λ (k : ℕ). sectors_of k chart.capacity ≤ chart.sectors) side rules.size)));
+    entries = entries;
+    records = records;
+    page_rule = subst (λ (k : ℕ). KeepsPageRule k chart.committed) sectors rules.committed.page_rule;
+  };
+  stands = refl;
+}
+
+pub clean_staged : (n : ℕ) (root : RootValue) (chart : ChartValue) (image : Image) → IsClean chart → StoresAt n root chart.committed (stored_in image root chart.committed) image → AreStaged root.side chart.committed chart.staged image
+clean_staged n root chart image clean stores =
+    subst (λ (tiles : List TilePlace). AreStaged root.side chart.committed tiles image) (sym clean) (nothing_staged n root chart.committed (stored_in image root chart.committed) image stores)
+
+-- the refusals of opening
+pub roots_refuse : (n : ℕ) (image : Image) (why : Refusal) (answer : Result RootValue Refusal) → answer ≡ Err why → (answer ≡ Err refusal.Device) ⊎ OpensAs n image answer → MayRefuse n image why
+roots_refuse n image why answer same opens =
+    ⊎_elim (λ device. inl (let e : Err why ≡ Err refusal.Device = sym same ∙ device in cc)) (λ as_roots. inr (inr (inl (subst (OpensAs n image) same as_roots)))) opens
+
+pub records_refuse : (n : ℕ) (image : Image) (root : RootValue) (why : Refusal) → StoresOpen → OpensAs n image (Ok root) → (n < sectors_of root.side root.capacity) ⊎ IsRefusedFor ((tiles : List TilePlace) → ¬ IsLaidOut n image root tiles) why → MayRefuse n image why
+records_refuse n image root why law opens refused =
+    ⊎_elim (λ small. let store = (law n image root).0 opens in absurd (omega (arith, small, store.1)))
+    (λ other. ⊎_elim (λ device. inl device) (λ rest. ⊎_elim (λ memory. inr (inl memory)) (λ damaged. inr (inr (inr (damaged.0, (root, (opens, damaged.1)))))) rest) other) refused
+
+-- an image that stands for something is refused only for the disk or for memory
+pub stands_opens : (n : ℕ) (image : Image) (s : Stored) (why : Refusal) → Stands n image s → MayRefuse n image why → (why ≡ refusal.Device) ⊎ (why ≡ refusal.NoMemory)
+stands_opens n image s why (root, tiles, stores) refused =
+    ⊎_elim (λ device. inl device) (λ rest. ⊎_elim (λ memory. inr memory) (λ bad. absurd (⊎_elim by_roots by_records bad)) rest) refused
+  where
+    by_roots : OpensAs n image (Err why) → ⊥
+    by_roots opens = let no : Err why ≡ Ok root = only_root n image root (Err why) stores.laid_out.store opens in cc
+
+    by_records : (why ≡ refusal.Damaged) × ((other : RootValue) × (OpensAs n image (Ok other) × ((ts : List TilePlace) → ¬ IsLaidOut n image other ts))) → ⊥
+    by_records (damaged, (other, (opens, none))) =
+        let same : root ≡ other = one_is_current image root other stores.laid_out.store.0 ((stores_open n image other).0 opens).0 in
+        none tiles (subst (λ (r : RootValue). IsLaidOut n image r tiles) same stores.laid_out)
+
+-- an image that was just formatted
+abbrev pub formatted : (side capacity : ℕ) → Image
+formatted side capacity zero = 167 ∷ []
+formatted side capacity (suc zero) = root_bytes (empty_root side capacity)
+formatted side capacity _ = []
+
+pub no_tiles_stand : NoTilesStand
+unfolding is_open
+no_tiles_stand sectors side capacity side_low side_high capacity_low capacity_high room =
+    let numbers : AreNumbers side capacity 0 1 0 = record { side_low = side_low; side_high = side_high; capacity_low = capacity_low; capacity_high = capacity_high; room = omega arith; fits = lit< tt; before = omega arith } in
+    let current : IsCurrent (empty_root side capacity) (formatted side capacity) = (
+      A,
+      record {
+        opened = refl;
+        here = record { rules = record { numbers = numbers; entries = All-nil IsEntry; in_order = λ k d below. absurd (omega arith) }; spelled = refl };
+        greatest = λ opened. absurd (false≢true opened);
+      },
+    ) in
+    (formatted side capacity, formatted_stands sectors side capacity (empty_root side capacity) (formatted side capacity) (formatted side capacity) refl current refl room)

@@ -1,0 +1,75 @@
+-- Reads one after another, and why they were refused.
+use Rattle.std.proofs.Common.{◌≡◌, ◌⊎◌, inl, inr, ⊎_elim, Bool, false, Result, Ok, Err, IsErrOf, IfErr, refl, sym, ◌∙◌, subst, arith}
+use Rattle.disk.specs.Disk.{Image}
+use Rattle.disk.specs.Stops.{nothing_done, nothing_twice}
+use Rattle.disk.specs.declared.disk.Disk.{Ghosts}
+use Rattle.lattice.specs.declared.refusal.Refusal.{Refusal}
+use Rattle.lattice.specs.declared.refusal.Refusal.TheVariants.{Device}
+use Rattle.cow_tree.specs.Pagers.{OnlyReads, IsRefusedFor, disk_of, has_failed}
+use Rattle.cow_tree.specs.declared.pager.Pager.{Pager}
+
+pub refused_for : (A B : Type 0) (why : Refusal) → (A → B) → IsRefusedFor A why → IsRefusedFor B why
+refused_for A B why implies refused = ⊎_elim (λ h. inl h) (λ rest. inr (⊎_elim (λ h. inl h) (λ h. inr (h.0, implies h.1)) rest)) refused
+
+-- a refusal that is handed on
+pub handed_on : {T E : Type 0} (P : E → Type 0) (r : Result T E) (e : E) → r ≡ Err e → P e → IfErr r P
+handed_on {T} {E} P r e same p = subst (λ (x : Result T E). IfErr x P) (sym same) p
+
+-- reads so far, none of them refused
+abbrev pub HasRead : {D : Type 0} (g : Ghosts D) → Pager D g → Pager D g → Type 0
+HasRead g old new = OnlyReads {T = Unit {0}} g old new (Ok tt)
+
+module _ {D : Type 0} (g : Ghosts D) where
+  -- nothing was read
+  pub none_read : (pager : Pager D g) → ((c : Image) → g.honest (disk_of pager) → g.since (disk_of pager) (g.moment (disk_of pager)) c → g.may (disk_of pager) c) → has_failed pager ≡ false → HasRead g pager pager
+  none_read pager only_now works = record {
+    size = refl;
+    writes = refl;
+    later = omega arith;
+    device = λ no. cc;
+    root = refl;
+    begun = refl;
+    works = inl works;
+    honest = λ h. h;
+    seen = λ _. refl;
+    nothing = λ h. nothing_done g (disk_of pager) only_now h;
+    ready = λ _ r _. r;
+  }
+
+  -- more was read
+  pub read_on : {T : Type 0} (old mid new : Pager D g) (result : Result T Refusal) → HasRead g old mid → has_failed mid ≡ false → OnlyReads g mid new result → OnlyReads g old new result
+  read_on old mid new result first works second = record {
+    size = second.size ∙ first.size;
+    writes = second.writes ∙ first.writes;
+    later = omega (arith, first.later, second.later);
+    device = λ is. let risen = second.device is in omega (arith, risen, first.later);
+    root = second.root ∙ first.root;
+    begun = second.begun ∙ first.begun;
+    works = second.works;
+    honest = λ h. first.honest (second.honest h);
+    seen = λ h. second.seen h ∙ first.seen (second.honest h);
+    nothing = λ h. nothing_twice g (disk_of old) (disk_of mid) (disk_of new) (first.nothing (second.honest h)) (second.nothing h);
+    ready = λ h r w. second.ready h (first.ready (second.honest h) r works) w;
+  }
+
+  -- the same with another answer, where the disk refused nothing
+  pub read_as : {T U : Type 0} (old new : Pager D g) (was : Result T Refusal) (now : Result U Refusal) → OnlyReads g old new was → has_failed new ≡ false → (IsErrOf now Device → IsErrOf was Device) → OnlyReads g old new now
+  read_as old new was now reads works same = record {
+    size = reads.size;
+    writes = reads.writes;
+    later = reads.later;
+    device = λ is. reads.device (same is);
+    root = reads.root;
+    begun = reads.begun;
+    works = inl works;
+    honest = reads.honest;
+    seen = reads.seen;
+    nothing = reads.nothing;
+    ready = reads.ready;
+  }
+
+pub never_refused : {T A : Type 0} (x : T) (why : Refusal) → IsErrOf (Ok x) why → A
+never_refused {T} {A} x why is = cc
+
+pub works_ok : {T : Type 0} (x : T) (failed : Bool) → (failed ≡ false) ⊎ IsErrOf {T = T} {E = Refusal} (Ok x) Device → failed ≡ false
+works_ok x failed works = ⊎_elim (λ h. h) (λ is. never_refused x Device is) works

@@ -1,0 +1,69 @@
+-- Tiles in the order of their corners: a corner has one tile.
+use Rattle.std.proofs.Common.{◌≡◌, ℕ, zero, suc, Bool, true, false, cond, ◌||◌, IsTrue, List, [], ◌∷◌, All, Contains, length, map, refl, sym, ap, ◌∙◌, subst, arith}
+use Rattle.std.specs.List.{AllAdjacentBelow, filter, list_any}
+use Rattle.std.proofs.lemmas.List.Elements.{All-nil, All-cons, All-head, All-tail}
+use Rattle.lattice.specs.Corners.{Place, same_place, is_before}
+use Rattle.lattice.specs.Lattice.{IsBefore}
+use Rattle.catalogue.proofs.Places.{before_apart}
+use Rattle.catalogue.proofs.Presence.{listed_from, listed_says}
+use Rattle.catalogue.proofs.Rising.{AllAfter, Rising, rising_from, adjacent_from}
+use Rattle.cow_tree.specs.Layout.{TilePlace, pages_of_tile, reached}
+use Rattle.cow_tree.specs.Charts.{is_at, corners_of_places, IsPlaced}
+use Rattle.cow_tree.proofs.Standing.{All-front, All-back}
+
+abbrev pub corner_of : TilePlace → Place
+corner_of t = t.corner
+
+after_says : (c : Place) (tiles : List TilePlace) (t : TilePlace) → AllAfter corner_of c tiles → Contains tiles t → IsTrue (is_before c t.corner)
+after_says c [] t after (k, lt, here) = absurd (omega (arith, lt))
+after_says c (u ∷ rest) t after (zero, lt, here) = subst (λ (v : TilePlace). IsTrue (is_before c v.corner)) here after.0
+after_says c (u ∷ rest) t after (suc k, lt, here) = after_says c rest t after.1 (k, omega arith, here)
+
+rising_one : (tiles : List TilePlace) (t u : TilePlace) → Rising corner_of tiles → Contains tiles t → Contains tiles u → t.corner ≡ u.corner → t ≡ u
+rising_one [] t u rising (k, lt, here) there same = absurd (omega (arith, lt))
+rising_one (v ∷ rest) t u rising (zero, lt, here) (zero, lt_2, there) same = sym here ∙ there
+rising_one (v ∷ rest) t u rising (zero, lt, here) (suc j, lt_2, there) same =
+    absurd (before_apart v.corner u.corner (after_says v.corner rest u rising.0 (j, omega arith, there)) (ap corner_of here ∙ same))
+rising_one (v ∷ rest) t u rising (suc k, lt, here) (zero, lt_2, there) same =
+    absurd (before_apart v.corner t.corner (after_says v.corner rest t rising.0 (k, omega arith, here)) (ap corner_of there ∙ sym same))
+rising_one (v ∷ rest) t u rising (suc k, lt, here) (suc j, lt_2, there) same = rising_one rest t u rising.1 (k, omega arith, here) (j, omega arith, there) same
+
+pub one_at_corner : (tiles : List TilePlace) (t u : TilePlace) → AllAdjacentBelow (λ a b. IsBefore a.corner b.corner) tiles (length tiles) → Contains tiles t → Contains tiles u → t.corner ≡ u.corner → t ≡ u
+one_at_corner tiles t u in_order has_t has_u same = rising_one tiles t u (rising_from corner_of tiles in_order) has_t has_u same
+
+-- the corner's tile is among them, as a test
+pub placed_test : (c : Place) (tiles : List TilePlace) → list_any (is_at c) tiles ≡ list_any (λ d. same_place d c) (corners_of_places tiles)
+placed_test c [] = refl
+placed_test c (t ∷ rest) = ap (λ (b : Bool). same_place t.corner c || b) (placed_test c rest)
+
+pub placed_is : (c : Place) (tiles : List TilePlace) → IsPlaced c tiles → list_any (is_at c) tiles ≡ true
+placed_is c tiles placed = placed_test c tiles ∙ listed_from c (corners_of_places tiles) placed
+
+pub placed_says : (c : Place) (tiles : List TilePlace) → list_any (is_at c) tiles ≡ true → IsPlaced c tiles
+placed_says c tiles some = listed_says c (corners_of_places tiles) (sym (placed_test c tiles) ∙ some)
+
+-- what holds of all pages that tiles reach holds of those of each tile
+pub each_tile : (P : ℕ → Type 0) (tiles : List TilePlace) → All P (reached tiles) → All (λ t. All P (pages_of_tile t)) tiles
+each_tile P [] all = All-nil (λ t. All P (pages_of_tile t))
+each_tile P (t ∷ rest) all = All-cons (λ t. All P (pages_of_tile t)) t rest (All-front P (pages_of_tile t) (reached rest) all) (each_tile P rest (All-back P (pages_of_tile t) (reached rest) all))
+
+-- what holds of those that pass a test
+pub unfiltered : {X : Type 0} (test : X → Bool) (P : X → Type 0) (xs : List X) → All P (filter test xs) → All (λ x. test x ≡ true → P x) xs
+unfiltered test P [] all = All-nil (λ x. test x ≡ true → P x)
+unfiltered test P (x ∷ xs) all =
+    elim (test x) as (λ (v : Bool). test x ≡ v → All P (cond v (x ∷ filter test xs) (filter test xs)) → All (λ x. test x ≡ true → P x) (x ∷ xs)) [
+      | true ↦ λ here all. All-cons (λ x. test x ≡ true → P x) x xs (λ _. All-head P x (filter test xs) all) (unfiltered test P xs (All-tail P x (filter test xs) all))
+      | false ↦ λ other all. All-cons (λ x. test x ≡ true → P x) x xs (λ yes. absurd (let no : true ≡ false = sym yes ∙ other in cc)) (unfiltered test P xs all)
+    ] refl all
+
+-- their corners are in order
+corners_after : (c : Place) (tiles : List TilePlace) → AllAfter corner_of c tiles → AllAfter (λ d. d) c (map corner_of tiles)
+corners_after c [] after = tt
+corners_after c (t ∷ rest) after = (after.0, corners_after c rest after.1)
+
+corners_rise : (tiles : List TilePlace) → Rising corner_of tiles → Rising (λ d. d) (map corner_of tiles)
+corners_rise [] rising = tt
+corners_rise (t ∷ rest) rising = (corners_after t.corner rest rising.0, corners_rise rest rising.1)
+
+pub corners_adjacent : (tiles : List TilePlace) → AllAdjacentBelow (λ a b. IsBefore a.corner b.corner) tiles (length tiles) → AllAdjacentBelow IsBefore (corners_of_places tiles) (length (corners_of_places tiles))
+corners_adjacent tiles in_order = adjacent_from (λ d. d) (map corner_of tiles) (corners_rise tiles (rising_from corner_of tiles in_order))

@@ -1,0 +1,30 @@
+use Rattle.std.proofs.Common.{◌≡◌, subst}
+use Rattle.std.specs.Prelude.{IfSome, IfNone, Contains, None}
+use Rattle.catalogue.proofs.Rising.{rising_from}
+use Rattle.cow_tree.specs.Layout.{TilePlace}
+use Rattle.cow_tree.specs.Charts.{ChartValue, HasKept}
+use Rattle.cow_tree.specs.Slots.{IsSlotAt, IsRoomAt}
+use Rattle.cow_tree.proofs.SlotLists.{corner_of}
+use Rattle.cow_tree.proofs.Lookup.{kept_found, kept_none, none_placed, placed-from_tile}
+use Rattle.cow_tree.proofs.chart.Chart.kept.Goals as goal
+
+pub returns-in-Ok-clause-found : goal.returns-in-Ok-clause-found
+returns-in-Ok-clause-found c =
+    let slots = c.self.inside.slots.items in
+    let found : IsSlotAt c.args.c c.in-Ok.at slots = rw c.deref.ensures.value at c.in-Ok.ensures.found in
+    subst (λ (v : ChartValue). IfSome c.kept.result (λ kept. HasKept c.args.c kept.now v.staged)) c.self.view_is
+    (kept_found slots (rising_from corner_of slots c.self.invariant.in_order) c.args.c c.in-Ok.at found c.index.result.now c.index.ensures c.kept.result c.kept.ensures)
+
+pub returns-in-Ok-clause-none : goal.returns-in-Ok-clause-none
+returns-in-Ok-clause-none c =
+    let slots = c.self.inside.slots.items in
+    let found : IsSlotAt c.args.c c.in-Ok.at slots = rw c.deref.ensures.value at c.in-Ok.ensures.found in
+    subst (λ (v : ChartValue). IfNone c.kept.result ((t : TilePlace) → Contains v.staged t → t.corner ≡ c.args.c → t.kept ≡ None)) c.self.view_is
+    (kept_none slots (rising_from corner_of slots c.self.invariant.in_order) c.args.c c.in-Ok.at found c.index.result.now c.index.ensures c.kept.result c.kept.ensures)
+
+pub returns-in-Err-clause-none : goal.returns-in-Err-clause-none
+returns-in-Err-clause-none c =
+    let slots = c.self.inside.slots.items in
+    let room : IsRoomAt c.args.c c.in-Err.field-0 slots = rw c.deref.ensures.value at c.in-Err.ensures.absent in
+    subst (λ (v : ChartValue). (t : TilePlace) → Contains v.staged t → t.corner ≡ c.args.c → t.kept ≡ None) c.self.view_is
+    (λ t there at_corner. absurd (none_placed c.args.c c.in-Err.field-0 slots room (placed-from_tile c.args.c _ t there at_corner)))

@@ -1,0 +1,5 @@
+use Rattle.cow_tree.proofs.Planes.{plane_read_back}
+use Rattle.cow_tree.proofs.laws.planes_read_back.Goals as goal
+
+pub returns : goal.returns
+returns c = plane_read_back

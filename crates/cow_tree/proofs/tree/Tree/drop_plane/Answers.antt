@@ -1,0 +1,34 @@
+use Rattle.std.proofs.Common.{not, map, List, sym, ap, ◌∙◌, subst}
+use Rattle.lattice.specs.Corners.{Place, same_place}
+use Rattle.cow_tree.specs.Charts.{ChartValue, corners_of_places}
+use Rattle.cow_tree.specs.Layout.{TilePlace, tile_in, StoresAt}
+use Rattle.cow_tree.specs.Staged.{AreStaged}
+use Rattle.cow_tree.specs.Stored.{StoredTile}
+use Rattle.cow_tree.proofs.Dropping.{filter-map, staged_without}
+use Rattle.cow_tree.proofs.Due.{without_due}
+use Rattle.cow_tree.proofs.tree.Tree.drop_plane.Goals as goal
+
+pub returns-clause-corners : goal.returns-clause-corners
+returns-clause-corners g c =
+    ap (λ (x : ChartValue). corners_of_places x.staged) c.remove_tile.ensures.removed
+    ∙ filter-map (λ (other : Place). not (same_place other c.args.c)) (λ (t : TilePlace). t.corner) c.args.self.now.chart.staged
+
+pub returns-clause-staged : goal.returns-clause-staged
+returns-clause-staged g c =
+    let seen = g.D.Disk.seen c.args.self.now.pager.roots.disk in
+    ap (λ (x : ChartValue). map (tile_in seen) x.staged) c.remove_tile.ensures.removed
+    ∙ filter-map (λ (t : StoredTile). not (same_place t.corner c.args.c)) (tile_in seen) c.args.self.now.chart.staged
+
+pub returns-clause-at : goal.returns-clause-at
+returns-clause-at g c s is =
+    let old = c.args.self.now in
+    let removed = c.remove_tile.ensures.removed in
+    record {
+      ready = is.ready;
+      each = λ image may. subst (λ (tiles : List TilePlace). StoresAt (g.D.Disk.size old.pager.roots.disk) old.pager.roots.root tiles s image) (sym (ap (λ (x : ChartValue). x.committed) removed)) (is.each image may);
+      staged = subst (λ (x : ChartValue). AreStaged old.root.side x.committed x.staged (g.D.Disk.seen old.pager.roots.disk)) (sym removed)
+          (staged_without old.root.side old.chart.committed old.chart.staged c.args.c (g.D.Disk.seen old.pager.roots.disk) is.staged);
+    }
+
+pub returns-clause-due : goal.returns-clause-due
+returns-clause-due g c = without_due c.args.self.now.chart c.remove_tile.new.self c.args.c c.remove_tile.ensures.removed

@@ -1,0 +1,82 @@
+use Rattle.std.proofs.Common.{◌<◌, ℕ, length, arith, sym, ap, ◌∙◌, subst}
+use Rattle.page_codec.specs.Sizes.{pages_of}
+use Rattle.std.proofs.lemmas.Bool.{false≢true}
+use Rattle.cow_tree.specs.Charts.{ChartValue, HasFreshHeights, corners_of_places, fresh_corners}
+use Rattle.cow_tree.proofs.Steps.{corners_same, stage_pages, stage_stays, page_unreached, still_stands, each_still, stores_along, ok_where_works, on_ok_both, ok_where, failed_where, only_device}
+use Rattle.cow_tree.proofs.Due.{written_due, written_due_same, written_here, written_still}
+use Rattle.cow_tree.proofs.tree.Tree.stage.Goals as goal
+
+pub returns-clause-corners : goal.returns-clause-corners
+returns-clause-corners g c =
+    let rw = c.in_ok-number.ensures.written in
+    ap (λ (chart : ChartValue). corners_of_places chart.staged) rw.changed ∙ corners_same c.args.c c.args.i c.in_ok-number.number rw.record_page c.args.self.now.chart.staged
+
+pub returns-clause-staged : goal.returns-clause-staged
+returns-clause-staged g c honest s is =
+    let d = g.D.Disk in
+    let old = c.args.self.now in
+    let rw = c.in_ok-number.ensures.written in
+    let index : c.args.i < pages_of old.chart.side = subst (λ (n : ℕ). c.args.i < pages_of n) (sym old.side) c.requires.index in
+    on_ok_both c.write.result
+    (stage_pages old.chart c.page_for_writing.new.self c.args.c c.args.i c.in_ok-number.number c.args.page.now (d.seen old.pager.roots.disk) (d.seen c.write.new.self.roots.disk) c.rules.ensures c.in_ok-number.ensures.rules rw c.requires.present index)
+    (c.write.ensures.others honest is.ready) (c.write.ensures.written honest)
+
+pub returns-clause-at : goal.returns-clause-at
+returns-clause-at g c honest s is works =
+    let d = g.D.Disk in
+    let old = c.args.self.now in
+    let new_chart = c.page_for_writing.new.self in
+    let rw = c.in_ok-number.ensures.written in
+    let index : c.args.i < pages_of old.chart.side = subst (λ (n : ℕ). c.args.i < pages_of n) (sym old.side) c.requires.index in
+    let failed = c.write.ensures.failed in
+    record {
+      ready = ok_where_works c.write.result c.write.new.self.failed failed works (c.write.ensures.ready honest is.ready);
+      each = λ image may. stores_along (d.size old.pager.roots.disk) (d.size c.write.new.self.roots.disk) old.pager.roots.root c.write.new.self.roots.root old.chart.committed new_chart.committed s image
+          c.write.ensures.size c.write.ensures.root (ap (λ (chart : ChartValue). chart.committed) rw.changed)
+          (each_still d old.pager.roots.disk c.write.new.self.roots.disk c.in_ok-number.number (d.size old.pager.roots.disk) old.pager.roots.root old.chart.committed s is.each
+          (page_unreached old.chart new_chart c.args.c c.args.i c.in_ok-number.number c.args.page.now (d.seen old.pager.roots.disk) (d.seen c.write.new.self.roots.disk) c.rules.ensures c.in_ok-number.ensures.rules rw)
+          (c.write.ensures.any_moment honest is.ready) image may);
+      staged = ok_where_works c.write.result c.write.new.self.failed failed works
+          (on_ok_both c.write.result
+          (λ same written. stage_stays old.chart new_chart c.args.c c.args.i c.in_ok-number.number c.args.page.now (d.seen old.pager.roots.disk) (d.seen c.write.new.self.roots.disk) c.rules.ensures c.in_ok-number.ensures.rules rw old.root.side c.requires.present index same written is.staged)
+          (c.write.ensures.others honest is.ready) (c.write.ensures.written honest));
+    }
+
+pub returns-clause-any_moment : goal.returns-clause-any_moment
+returns-clause-any_moment g c honest s is =
+    let d = g.D.Disk in
+    let old = c.args.self.now in
+    let rw = c.in_ok-number.ensures.written in
+    still_stands d old.pager.roots.disk c.write.new.self.roots.disk c.in_ok-number.number (d.size old.pager.roots.disk) old.pager.roots.root old.chart.committed s is.each
+    (page_unreached old.chart c.page_for_writing.new.self c.args.c c.args.i c.in_ok-number.number c.args.page.now (d.seen old.pager.roots.disk) (d.seen c.write.new.self.roots.disk) c.rules.ensures c.in_ok-number.ensures.rules rw)
+    (c.write.ensures.any_moment honest is.ready)
+
+pub returns-in_err-number-clause-sure : goal.returns-in_err-number-clause-sure
+returns-in_err-number-clause-sure g c had _ = false≢true (c.in_err-number.ensures.sure had)
+
+pub returns-in_err-number-clause-due : goal.returns-in_err-number-clause-due
+returns-in_err-number-clause-due g c = let due = ap (λ (x : ChartValue). length (fresh_corners x)) c.in_err-number.ensures.unchanged in omega (arith, due)
+
+pub returns-in_err-number-clause-due_same : goal.returns-in_err-number-clause-due_same
+returns-in_err-number-clause-due_same g c had = ap (λ (x : ChartValue). length (fresh_corners x)) c.in_err-number.ensures.unchanged
+
+pub returns-in_err-number-clause-still_staged : goal.returns-in_err-number-clause-still_staged
+returns-in_err-number-clause-still_staged g c other had = subst (HasFreshHeights other) (sym c.in_err-number.ensures.unchanged) had
+
+pub returns-clause-device : goal.returns-clause-device
+returns-clause-device g c = failed_where c.write.result _ c.write.ensures.failed
+
+pub returns-clause-sure : goal.returns-clause-sure
+returns-clause-sure g c had = only_device c.write.result c.write.ensures.refused
+
+pub returns-clause-due : goal.returns-clause-due
+returns-clause-due g c = written_due c.args.self.now.chart c.page_for_writing.new.self c.args.c c.args.i c.in_ok-number.number c.rules.ensures c.in_ok-number.ensures.written
+
+pub returns-clause-due_same : goal.returns-clause-due_same
+returns-clause-due_same g c = written_due_same c.args.self.now.chart c.page_for_writing.new.self c.args.c c.args.i c.in_ok-number.number c.rules.ensures c.in_ok-number.ensures.written
+
+pub returns-clause-has_staged : goal.returns-clause-has_staged
+returns-clause-has_staged g c = ok_where c.write.result (written_here c.args.self.now.chart c.page_for_writing.new.self c.args.c c.args.i c.in_ok-number.number c.rules.ensures c.in_ok-number.ensures.written c.requires.present)
+
+pub returns-clause-still_staged : goal.returns-clause-still_staged
+returns-clause-still_staged g c = written_still c.args.self.now.chart c.page_for_writing.new.self c.args.c c.args.i c.in_ok-number.number c.rules.ensures c.in_ok-number.ensures.written

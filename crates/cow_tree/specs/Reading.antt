@@ -1,0 +1,91 @@
+-- What reading does to a tree, and when what it reads is a mosaic.
+use Rattle.std.specs.Prelude.{◌≡◌, ◌⊎◌, ℕ, ◌≤◌, true, false, List, [], ◌∷◌, map, Result, OnOk, OnErr, IfErr, IsErrOf}
+use Rattle.std.proofs.Common.{refl, ap, ◌∙◌, arith}
+use Rattle.disk.specs.Disk.{Image, HasRisen}
+use Rattle.disk.specs.Stops.{AddsNothing, nothing_done, nothing_twice}
+use Rattle.disk.specs.declared.disk.Disk.{Ghosts}
+use Rattle.lattice.specs.Corners.{Place}
+use Rattle.lattice.specs.Mosaic.{Mosaic, IsMosaic}
+use Rattle.lattice.specs.declared.refusal.Refusal.{Refusal}
+use Rattle.lattice.specs.declared.refusal.Refusal.TheVariants.{Device, Failed}
+use Rattle.catalogue.specs.Tiles.{corners_of as corners_in}
+use Rattle.cow_tree.specs.Layout.{TilePlace, tile_in}
+use Rattle.cow_tree.specs.Stored.{Stored, AreWhole, mosaic_of_tiles}
+use Rattle.cow_tree.specs.Trees.{disk_of, root_of, has_failed, has_begun, corners_of, staged_in, IsAt}
+use Rattle.cow_tree.specs.declared.tree.Tree.{Tree}
+
+-- the tiles as a mosaic, as the next commit will have them
+abbrev pub mosaic_of : {D : Type 0} (g : Ghosts D) → Tree D g → Mosaic
+mosaic_of g tree = mosaic_of_tiles (root_of tree).side (staged_in g tree)
+
+-- The samples of the tree are those of a mosaic: the disk is honest, each page of heights is a whole page, and the tiles
+-- make a mosaic. That a call was refused changes none of it.
+pub record IsReadable {D : Type 0} (g : Ghosts D) (tree : Tree D g) : Type 0 where
+  pub honest : g.honest (disk_of tree)
+  pub pages : AreWhole (staged_in g tree)
+  pub valid : IsMosaic (mosaic_of g tree)
+
+-- The new tree came from the old by reads alone, whatever the disk did: nothing was staged or committed, and no image was
+-- added. A tree that had failed has failed.
+pub record HasOnlyRead {D : Type 0} (g : Ghosts D) (old new : Tree D g) : Type 0 where
+  pub size : g.size (disk_of new) ≡ g.size (disk_of old)
+  pub writes : g.writes (disk_of new) ≡ g.writes (disk_of old)
+  pub later : g.failures (disk_of old) ≤ g.failures (disk_of new)
+  pub root : root_of new ≡ root_of old
+  pub chart : new.chart ≡ old.chart
+  pub corners : corners_of new ≡ corners_of old
+  pub begun : has_begun new ≡ has_begun old
+  pub works : has_failed new ≡ false → has_failed old ≡ false
+  pub honest : g.honest (disk_of new) → g.honest (disk_of old)
+  pub nothing : g.honest (disk_of new) → AddsNothing g (disk_of old) (disk_of new)
+  pub staged : g.honest (disk_of new) → staged_in g new ≡ staged_in g old
+  pub at : g.honest (disk_of new) → (s : Stored) → IsAt g old s → has_failed new ≡ false → IsAt g new s
+
+-- a read, and how it may be refused: with Device, and then the tree fails, or with Failed where it had failed before
+pub record Reads {D T : Type 0} (g : Ghosts D) (old new : Tree D g) (result : Result T Refusal) : Type 0 where
+  pub keeps : HasOnlyRead g old new
+  pub refused : IfErr result (λ why. (why ≡ Device) ⊎ (why ≡ Failed))
+  pub device : IsErrOf result Device → HasRisen (g.failures (disk_of old)) (g.failures (disk_of new))
+  pub only_device : has_failed old ≡ false → IfErr result (λ why. why ≡ Device)
+  pub not_failed : OnOk result (has_failed new ≡ false)
+  pub failed : OnErr result (has_failed new ≡ true)
+
+module _ {D : Type 0} (g : Ghosts D) where
+  -- no read at all
+  pub read_nothing : ((disk : D) (image : Image) → g.honest disk → g.since disk (g.moment disk) image → g.may disk image) → (tree : Tree D g) → HasOnlyRead g tree tree
+  read_nothing only_now tree = record {
+    size = refl;
+    writes = refl;
+    later = omega arith;
+    root = refl;
+    chart = refl;
+    corners = refl;
+    begun = refl;
+    works = λ works. works;
+    honest = λ honest. honest;
+    nothing = λ honest. nothing_done g (disk_of tree) (only_now (disk_of tree)) honest;
+    staged = λ _. refl;
+    at = λ _ s is _. is;
+  }
+
+  -- one read after another
+  pub read_again : (a b c : Tree D g) → HasOnlyRead g a b → HasOnlyRead g b c → HasOnlyRead g a c
+  read_again a b c first second = record {
+    size = second.size ∙ first.size;
+    writes = second.writes ∙ first.writes;
+    later = omega (arith, first.later, second.later);
+    root = second.root ∙ first.root;
+    chart = second.chart ∙ first.chart;
+    corners = second.corners ∙ first.corners;
+    begun = second.begun ∙ first.begun;
+    works = λ works. first.works (second.works works);
+    honest = λ honest. first.honest (second.honest honest);
+    nothing = λ honest. nothing_twice g (disk_of a) (disk_of b) (disk_of c) (first.nothing (second.honest honest)) (second.nothing honest);
+    staged = λ honest. second.staged honest ∙ first.staged (second.honest honest);
+    at = λ honest s is works. second.at honest s (first.at (second.honest honest) s is (second.works works)) works;
+  }
+
+-- the mosaic has the corners of the staged tiles
+pub corners_in_mosaic : (n : ℕ) (image : Image) (tiles : List TilePlace) → corners_in (mosaic_of_tiles n (map (tile_in image) tiles)) ≡ map (λ (t : TilePlace). t.corner) tiles
+corners_in_mosaic n image [] = refl
+corners_in_mosaic n image (t ∷ rest) = ap (λ (cs : List Place). t.corner ∷ cs) (corners_in_mosaic n image rest)

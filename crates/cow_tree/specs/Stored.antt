@@ -1,0 +1,107 @@
+-- What a store's disk holds, without where on the disk it lies: the planes of its tiles, page by page (this product's
+-- own profile).
+use Rattle.std.specs.Prelude.{◌≡◌, ℕ, ℤ, ◌+◌, ◌*◌, ◌<◌, List, [], All, length, map, filter, not, take, drop, zero, suc, ◌∷◌, Option, None, if◌then◌else◌, slice_set}
+use Rattle.std.specs.List.{concat}
+use Rattle.lattice.specs.Corners.{Place, same_place, is_before}
+use Rattle.lattice.specs.Mosaic.{Mosaic}
+use Rattle.page_codec.specs.Numbers.{padded}
+use Rattle.page_codec.specs.Sizes.{pages_of}
+use Rattle.hgt.specs.Bytes.{samples_in}
+
+-- the pages of a plane in their order
+abbrev pub PlanePages : Type 0
+PlanePages = List (List ℕ)
+
+-- the levels and the labels of a tile, where they are kept
+pub record KeptPlanes : Type 0 where
+  pub levels : PlanePages
+  pub labels : PlanePages
+
+pub record StoredTile : Type 0 where
+  pub corner : Place
+  pub heights : PlanePages
+  pub kept : Option KeptPlanes
+
+-- the side of the tiles, how many there is room for, the commit number, how many commands were accepted, and the tiles
+-- in order
+pub record Stored : Type 0 where
+  pub side : ℕ
+  pub capacity : ℕ
+  pub number : ℕ
+  pub count : ℕ
+  pub tiles : List StoredTile
+
+-- as formatted
+abbrev pub no_tiles : (side capacity : ℕ) → Stored
+no_tiles side capacity = record { side = side; capacity = capacity; number = 1; count = 0; tiles = [] }
+
+-- the next commit, with these tiles and this count of commands
+abbrev pub next_commit : Stored → List StoredTile → ℕ → Stored
+next_commit was tiles count = record was { number = was.number + 1; count = count; tiles = tiles }
+
+-- a page has 4096 bytes
+pub record IsPage (page : List ℕ) : Type 0 where
+  pub whole : length page ≡ 4096
+  pub bytes : All (λ b. b < 256) page
+
+-- each page of heights is a page
+abbrev pub AreWhole : List StoredTile → Type 0
+AreWhole tiles = All (λ t. All IsPage t.heights) tiles
+
+-- the values of a plane stand in its pages joined, two bytes a value; what follows them isn't read
+abbrev pub plane_bytes : ℕ → PlanePages → List ℕ
+plane_bytes n pages = take (2 * (n * n)) (concat pages)
+
+-- the bytes of a plane as so many pages, the last of them filled up with zeros
+abbrev pub pages_of_bytes : ℕ → List ℕ → PlanePages
+pages_of_bytes zero bytes = []
+pages_of_bytes (suc count) bytes = padded 4096 (take 4096 bytes) ∷ pages_of_bytes count (drop 4096 bytes)
+
+-- they are read back from its pages
+abbrev pub PlanesReadBack : Type 0
+PlanesReadBack = (n : ℕ) (bytes : List ℕ) → length bytes ≡ 2 * (n * n) → plane_bytes n (pages_of_bytes (pages_of n) bytes) ≡ bytes
+
+-- the samples of a plane of heights
+abbrev pub samples_of_plane : ℕ → PlanePages → List ℤ
+samples_of_plane n pages = samples_in (plane_bytes n pages)
+
+-- the tiles as tiles of a mosaic
+abbrev pub mosaic_of_tiles : ℕ → List StoredTile → Mosaic
+mosaic_of_tiles n tiles = record { side = n; tiles = map (λ t. record { corner = t.corner; samples = samples_of_plane n t.heights }) tiles }
+
+-- what staging makes of the tiles
+
+-- the tiles with this page of heights at the index, if the tile is the corner's
+abbrev pub with_page_in : Place → ℕ → List ℕ → StoredTile → StoredTile
+with_page_in c i page t = if same_place t.corner c then record t { heights = slice_set t.heights i page } else t
+
+abbrev pub with_page : Place → ℕ → List ℕ → List StoredTile → List StoredTile
+with_page c i page tiles = map (with_page_in c i page) tiles
+
+-- without the corner's tile
+abbrev pub without_tile : Place → List StoredTile → List StoredTile
+without_tile c tiles = filter (λ t. not (same_place t.corner c)) tiles
+
+-- the tiles with these pages of heights, if the tile is the corner's
+abbrev pub with_plane_in : Place → PlanePages → StoredTile → StoredTile
+with_plane_in c pages t = if same_place t.corner c then record t { heights = pages } else t
+
+abbrev pub with_plane : Place → PlanePages → List StoredTile → List StoredTile
+with_plane c pages tiles = map (with_plane_in c pages) tiles
+
+-- the tiles with one more, in order
+abbrev pub with_tile : StoredTile → List StoredTile → List StoredTile
+with_tile new [] = new ∷ []
+with_tile new (t ∷ rest) = if is_before new.corner t.corner then new ∷ (t ∷ rest) else t ∷ with_tile new rest
+
+-- the corners with one more, in order
+abbrev pub with_corner : Place → List Place → List Place
+with_corner new [] = new ∷ []
+with_corner new (c ∷ rest) = if is_before new c then new ∷ (c ∷ rest) else c ∷ with_corner new rest
+
+-- a tile of which no levels and labels are kept
+abbrev pub stale_tile : Place → PlanePages → StoredTile
+stale_tile c pages = record { corner = c; heights = pages; kept = None }
+
+abbrev pub corners_of_stored : List StoredTile → List Place
+corners_of_stored tiles = map (λ t. t.corner) tiles

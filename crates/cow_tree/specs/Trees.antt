@@ -1,0 +1,76 @@
+-- What contracts see of a tree.
+use Rattle.std.specs.Prelude.{◌≡◌, ◌⊎◌, ℕ, Bool, List, length, map, Result, Ok, Err}
+use Rattle.disk.specs.Disk.{Image}
+use Rattle.disk.specs.declared.disk.Disk.{Ghosts}
+use Rattle.lattice.specs.Corners.{Place}
+use Rattle.lattice.specs.declared.refusal.Refusal.{Refusal}
+use Rattle.lattice.specs.declared.refusal.Refusal.TheVariants as refusal
+use Rattle.page_codec.specs.Roots.{RootValue}
+use Rattle.roots.specs.Opening.{OpensAs}
+use Rattle.roots.specs.declared.roots.NotOpened.{NotOpened}
+use Rattle.cow_tree.specs.declared.plane.Plane.{Plane}
+use Rattle.cow_tree.specs.Stored.{StoredTile, Stored}
+use Rattle.cow_tree.specs.Layout.{TilePlace, tile_in, IsLaidOut}
+use Rattle.cow_tree.specs.Charts.{corners_of_places, fresh_corners, HasFreshHeights}
+use Rattle.cow_tree.specs.Planes.{HasPlane}
+use Rattle.cow_tree.specs.Staged.{AreStaged}
+use Rattle.cow_tree.specs.Pagers.{EachStores, IsReady, disk_of as disk_under, has_begun as have_begun, has_failed as have_failed}
+use Rattle.cow_tree.specs.declared.tree.Tree.{Tree}
+
+module _ {D : Type 0} {g : Ghosts D} where
+  abbrev pub disk_of : Tree D g → D
+  disk_of tree = disk_under tree.pager
+
+  -- the current root, as it was last known
+  abbrev pub root_of : Tree D g → RootValue
+  root_of tree = tree.root
+
+  -- a call was refused by the disk, or a reopening was refused, and no opening succeeded since
+  abbrev pub has_failed : Tree D g → Bool
+  has_failed tree = have_failed tree.pager
+
+  -- a page was written since the last commit or opening
+  abbrev pub has_begun : Tree D g → Bool
+  has_begun tree = have_begun tree.pager
+
+  -- the corners of the staged tiles, in order. They are held in memory, and so known whatever a disk does.
+  abbrev pub corners_of : Tree D g → List Place
+  corners_of tree = corners_of_places tree.chart.staged
+
+  -- the corner has such a plane
+  abbrev pub Holds : Tree D g → Place → Plane → Type 0
+  Holds tree c plane = HasPlane tree.chart.staged c plane
+
+  -- heights of the corner were staged since the last commit
+  abbrev pub HasStaged : Tree D g → Place → Type 0
+  HasStaged tree c = HasFreshHeights c tree.chart
+
+  -- how many records the next commit writes: one a tile whose heights were staged
+  abbrev pub records_due : Tree D g → ℕ
+  records_due tree = length (fresh_corners tree.chart)
+
+  -- the disk, opened or handed back
+  abbrev pub disk_after : Result (Tree D g) (NotOpened D) → D
+  disk_after (Ok tree) = disk_under tree.pager
+  disk_after (Err e) = e.disk
+
+-- the tiles as the next commit will have them
+abbrev pub staged_in : {D : Type 0} (g : Ghosts D) → Tree D g → List StoredTile
+staged_in g tree = map (tile_in (g.seen (disk_of tree))) tree.chart.staged
+
+-- The tree stands for this: it hasn't failed, each image that a stop may leave stands for it in the places of the chart,
+-- and what the chart has staged is on the disk but for the records that a commit writes.
+pub record IsAt {D : Type 0} (g : Ghosts D) (tree : Tree D g) (s : Stored) : Type 0 where
+  pub ready : IsReady g tree.pager
+  pub each : EachStores g tree.pager tree.chart.committed s
+  pub staged : AreStaged tree.root.side tree.chart.committed tree.chart.staged (g.seen (disk_of tree))
+
+-- an image is refused so by opening where no call fails and memory is had: as roots refuse it, or Damaged where the tiles
+-- of its current root lie nowhere
+abbrev pub IsRefused : ℕ → Image → Refusal → Type 0
+IsRefused sectors image why = OpensAs sectors image (Err why)
+    ⊎ ((why ≡ refusal.Damaged) × ((root : RootValue) × (OpensAs sectors image (Ok root) × ((tiles : List TilePlace) → ¬ IsLaidOut sectors image root tiles))))
+
+-- .. or for the disk or for memory
+abbrev pub MayRefuse : ℕ → Image → Refusal → Type 0
+MayRefuse sectors image why = (why ≡ refusal.Device) ⊎ ((why ≡ refusal.NoMemory) ⊎ IsRefused sectors image why)

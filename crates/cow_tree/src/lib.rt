@@ -1,0 +1,27 @@
+//! Tiles and their planes as pages of a disk: copy on write by page, above the roots.
+//!
+//! A [`Tree`] reads pages by corner, plane and index, stages new ones on pages that no committed tile reaches, and
+//! commits all that was staged at once. The layer above rests on this: where the disk is honest, a stop at any moment
+//! leaves what was committed or, inside a commit, all that was staged, whole; after an Ok of a commit a stop leaves
+//! nothing else; and an image stands for at most one list of tiles. `specs/Stored.antt` says what a disk stores,
+//! `specs/Layout.antt` when an image stands for it.
+#![tactic(auto)]
+
+mod chart;
+mod laws;
+mod opening;
+mod pager;
+mod pages;
+mod places;
+mod plane;
+mod samples;
+mod slot;
+#[cfg(test)]
+mod tests;
+mod tree;
+mod writing;
+
+pub use laws::{images_stand_for_one, no_tiles_stand, planes_read_back};
+pub use plane::Plane;
+pub use roots::NotOpened;
+pub use tree::Tree;

@@ -1,0 +1,95 @@
+//! Samples of the tiles of a tree, read from their pages.
+ghost use Rattle.std.specs.Prelude.{◌≡◌, ◌≤◌, ◌<◌, ◌+◌, ◌*◌, ◌%◌, ℤ, List, Contains, Some, length, false, OnOk, slice_range, refl};
+ghost use Rattle.lattice.specs.Mosaic.{samples_of};
+ghost use Rattle.cow_tree.specs.Reading.{mosaic_of, IsReadable, HasOnlyRead, Reads, read_nothing, read_again, corners_in_mosaic};
+ghost use Rattle.cow_tree.specs.Trees.{disk_of, root_of, has_failed, corners_of};
+
+use crate::plane::Plane;
+use crate::tree::Tree;
+use catalogue::Samples;
+use disk::Disk;
+use lattice::{Corner, Refusal, Side};
+use page_codec::PAGE_BYTES;
+
+const SAMPLES_IN_PAGE: u32 = 2048;
+
+/// Reads samples that stand in one page of the corner's heights.
+fn read_part<D: Disk>(
+    tree: &mut Tree<D>,
+    c: Corner,
+    first: u32,
+    into: &mut [i16],
+) -> Result<(), Refusal>
+    requires present { Contains (corners_of tree.old) c }
+    requires some { 0 < length into.old }
+    requires one_page { first % 2048 + length into.old ≤ 2048 }
+    requires range { first + length into.old ≤ (root_of tree.old).side * (root_of tree.old).side }
+    ensures reads { Reads D.Disk tree.old tree.new result }
+    ensures samples { IsReadable D.Disk tree.new → OnOk result ((all : List ℤ) → samples_of (mosaic_of D.Disk tree.old) c ≡ Some all
+        → slice_range all first (first + length into.new) ≡ into.new) }
+    ensures length { length into.new ≡ length into.old }
+{
+    let mut page = [0; PAGE_BYTES];
+    tree.read_page(c, Plane::Heights, first / SAMPLES_IN_PAGE, &mut page)?;
+    let from = 2 * (first % SAMPLES_IN_PAGE) as usize;
+    hgt::read_samples(&page[from..from + 2 * into.len()], into);
+    Ok(())
+}
+
+impl<D: Disk> Samples for Tree<D> {
+    ghost side_of = { λ tree. (root_of tree).side };
+
+    ghost corners = { corners_of };
+
+    ghost mosaic = { mosaic_of D.Disk };
+
+    ghost is_honest = { IsReadable D.Disk };
+
+    ghost keeps = { HasOnlyRead D.Disk };
+
+    ghost failures = { λ tree. D.failures (disk_of tree) };
+
+    ghost is_ready = { λ tree. has_failed tree ≡ false };
+
+    ghost never_refuses = { λ _. ⊥ };
+
+    ghost is_mosaic = { λ _ readable. readable.valid };
+
+    ghost same_side = { λ _ _. refl };
+
+    ghost same_corners = { λ tree _. corners_in_mosaic (root_of tree).side (D.seen (disk_of tree)) tree.chart.staged };
+
+    ghost keeps_itself = { read_nothing _ D.only_now };
+
+    ghost keeps_on = { read_again _ };
+
+    ghost sure_is_honest = { λ _ never. absurd never };
+
+    fn side(&self) -> Side {
+        self.current().side()
+    }
+
+    fn present(&self, c: Corner) -> bool {
+        Tree::present(self, c)
+    }
+
+    fn sample(&mut self, c: Corner, i: u32) -> Result<i16, Refusal> {
+        let mut one = [0];
+        read_part(self, c, i, &mut one)?;
+        Ok(one[0])
+    }
+
+    fn read_samples(&mut self, c: Corner, first: u32, into: &mut [i16]) -> Result<(), Refusal> {
+        // That the samples of a tile are counted in 32 bits is told by its side.
+        let _side = self.current().side();
+        let mut done = 0;
+        while done < into.len() {
+            let at = first + done as u32;
+            let behind = done + (SAMPLES_IN_PAGE - at % SAMPLES_IN_PAGE) as usize;
+            let end = into.len().min(behind);
+            read_part(self, c, at, &mut into[done..end])?;
+            done = end;
+        }
+        Ok(())
+    }
+}

@@ -1,0 +1,433 @@
+//! The tree.
+ghost use Rattle.std.specs.Prelude.{◌≡◌, ◌≢◌, ◌≤◌, ◌<◌, ◌+◌, ◌*◌, ◌^◌, ◌⊎◌, ◌↔◌, ℕ, [], List, All, Contains, IsTrue, length, map, filter, not, true, false, Ok, Err, OnOk, OnErr, IfOk, IfErr, IsErrOf, if◌then◌else◌};
+ghost use Rattle.disk.specs.Disk.{Image, Only, HasRisen};
+ghost use Rattle.disk.specs.Stops.{LeavesOnly, AddsNothing, HasCause};
+ghost use Rattle.lattice.specs.Corners.{Place, same_place, is_corner};
+ghost use Rattle.lattice.specs.Lattice.{IsBefore};
+ghost use Rattle.std.specs.List.{AllAdjacentBelow};
+ghost use Rattle.lattice.specs.declared.refusal.Refusal.TheVariants.{Device, NoMemory, Failed};
+ghost use Rattle.page_codec.specs.Roots.{RootValue};
+ghost use Rattle.page_codec.specs.Sizes.{pages_of, sectors_of};
+ghost use Rattle.cow_tree.specs.declared.plane.Plane.TheVariants.{Heights};
+ghost use Rattle.cow_tree.specs.Layout.{Stands, entry_of};
+ghost use Rattle.cow_tree.specs.Pagers.{disk_of as disk_under, root_of as root_under, has_failed as have_failed};
+ghost use Rattle.cow_tree.specs.Planes.{HasPage};
+ghost use Rattle.cow_tree.specs.Stored.{Stored, no_tiles, next_commit, pages_of_bytes, stale_tile, with_corner, with_page, with_plane, with_tile, without_tile};
+
+use crate::chart::Chart;
+use crate::opening::read_chart;
+use crate::pager::Pager;
+use crate::plane::Plane;
+use crate::writing::{write_plane, write_records};
+use disk::Disk;
+use lattice::{Corner, Refusal, Side};
+use page_codec::Root;
+use roots::{NotOpened, Roots};
+use std::alloc::Global;
+
+/// The tiles of a store and their planes, page by page, on a disk.
+///
+/// Pages are staged, and a commit makes all that was staged current at once. A call that the disk fails answers Device;
+/// from then on, and after a refused reopening, only reopening helps.
+#[derive(Drop)]
+pub struct Tree<D: Disk> {
+    alloc: Global,
+    pager: Pager<D>,
+    chart: Chart,
+    root: Root,
+    ghost sectors: { chart.sectors ≡ D.Disk.size (disk_under pager) },
+    ghost fits: { chart.sectors < 2 ^ 32 },
+    ghost side: { chart.side ≡ root.side },
+    ghost capacity: { chart.capacity ≡ root.capacity },
+    ghost entries: { map entry_of chart.committed ≡ root.entries },
+    ghost known: { have_failed pager ≡ false → root_under pager ≡ root },
+}
+
+fn copy_of(root: &Root) -> Root
+    ensures { result ≡ root.now }
+{
+    // That it keeps the rules of a root is told by its entries.
+    let _entries = root.entries();
+    match Root::read(&root.write()) {
+        Ok(copy) => copy,
+        Err(_) => unreachable!(),
+    }
+}
+
+impl<D: Disk> Tree<D> {
+    ghost use Rattle.cow_tree.specs.Reading.{Reads};
+    ghost use Rattle.cow_tree.specs.Trees.{disk_of, root_of, has_failed, has_begun, corners_of, Holds, HasStaged, records_due, disk_after, staged_in, IsAt, MayRefuse};
+
+    /// Makes an empty store of this side and capacity (in tiles) on a disk. A fault before the Ok may leave anything.
+    pub fn format(disk: &mut D, side: Side, capacity: u32) -> Result<(), Refusal>
+        requires side { side ≤ 1201 }
+        requires capacity_low { 1 ≤ capacity }
+        requires capacity_high { capacity ≤ 240 }
+        requires room { sectors_of side capacity ≤ D.size disk.old }
+        ensures size { D.size disk.new ≡ D.size disk.old }
+        ensures cause { HasCause (D.failures disk.old) (D.failures disk.new) result }
+        ensures refused { IfErr result (λ refusal. refusal ≡ Device) }
+        ensures writes { D.writes disk.new ≤ D.writes disk.old + 4 }
+        ensures honest { D.honest disk.new → D.honest disk.old }
+        ensures formatted { D.honest disk.new → OnOk result ((image : Image) → D.may disk.new image → Stands (D.size disk.new) image (no_tiles side capacity)) }
+    {
+        Roots::format(disk, &Root::empty(side, capacity))
+    }
+
+    /// Opens a disk, which a stop may have left in the middle of a commit: the roots, and then the records that the
+    /// current root reaches. Nothing is written. A refusal hands the disk back.
+    ///
+    /// It is refused as the roots refuse it, and as Damaged where a record has bytes behind its pages that aren't zero,
+    /// or the pages that the records and entries name aren't pages of the disk or not all distinct; or for memory.
+    pub fn open(alloc: Global, disk: D) -> Result<Tree<D>, NotOpened<D>>
+        ensures size { D.size (disk_after result) ≡ D.size disk }
+        ensures writes { D.writes (disk_after result) ≡ D.writes disk }
+        ensures later { D.failures disk ≤ D.failures (disk_after result) }
+        ensures device { IfErr result (λ e. e.refusal ≡ Device → HasRisen (D.failures disk) (D.failures e.disk)) }
+        ensures nothing { D.honest (disk_after result) → AddsNothing D.Disk disk (disk_after result) }
+        ensures at { IfOk result (λ tree. D.honest (disk_of tree)
+            → (s : Stored) × (Stands (D.size disk) (D.seen disk) s × (IsAt D.Disk tree s × (staged_in D.Disk tree ≡ s.tiles)))) }
+        ensures refused { D.honest (disk_after result) → IfErr result (λ e. MayRefuse (D.size disk) (D.seen disk) e.refusal) }
+
+        // An image that stands for something is refused only for the disk or for memory.
+        ensures sure { D.honest (disk_after result) → (s : Stored) → Stands (D.size disk) (D.seen disk) s
+            → IfErr result (λ e. (e.refusal ≡ Device) ⊎ (e.refusal ≡ NoMemory)) }
+        ensures durable { D.honest (disk_after result) → OnOk result (Only (D.seen (disk_after result)) (D.may (disk_after result))) }
+        ensures not_failed { IfOk result (λ tree. has_failed tree ≡ false) }
+        ensures not_begun { IfOk result (λ tree. has_begun tree ≡ false) }
+        ensures clean { IfOk result (λ tree. (c : Place) → ¬ HasStaged tree c) }
+        ensures none_due { IfOk result (λ tree. records_due tree ≡ 0) }
+        ensures corners { IfOk result (λ tree. corners_of tree ≡ map (λ e. e.corner) (root_of tree).entries) }
+    {
+        let roots = Roots::open(disk)?;
+        let root = copy_of(roots.current());
+        let mut pager = Pager::new(roots);
+        match read_chart(alloc, &mut pager, &root) {
+            Ok(chart) => Ok(Tree {
+                alloc,
+                pager,
+                chart,
+                root,
+            }),
+            Err(refusal) => Err(NotOpened {
+                disk: pager.into_disk(),
+                refusal,
+            }),
+        }
+    }
+
+    /// Opens the disk again, as after a fault: what was known and what was staged is forgotten. Where it is refused, the
+    /// root that was last known stays.
+    pub fn reopen(&mut self) -> Result<(), Refusal>
+        ensures size { D.size (disk_of self.new) ≡ D.size (disk_of self.old) }
+        ensures writes { D.writes (disk_of self.new) ≡ D.writes (disk_of self.old) }
+        ensures later { D.failures (disk_of self.old) ≤ D.failures (disk_of self.new) }
+        ensures device { IsErrOf result Device → HasRisen (D.failures (disk_of self.old)) (D.failures (disk_of self.new)) }
+        ensures nothing { D.honest (disk_of self.new) → AddsNothing D.Disk (disk_of self.old) (disk_of self.new) }
+        ensures at { D.honest (disk_of self.new)
+            → OnOk result ((s : Stored) × (Stands (D.size (disk_of self.old)) (D.seen (disk_of self.old)) s × (IsAt D.Disk self.new s × (staged_in D.Disk self.new ≡ s.tiles)))) }
+        ensures refused { D.honest (disk_of self.new) → IfErr result (MayRefuse (D.size (disk_of self.old)) (D.seen (disk_of self.old))) }
+
+        // An image that stands for something is refused only for the disk or for memory.
+        ensures sure { D.honest (disk_of self.new) → (s : Stored) → Stands (D.size (disk_of self.old)) (D.seen (disk_of self.old)) s
+            → IfErr result (λ refusal. (refusal ≡ Device) ⊎ (refusal ≡ NoMemory)) }
+        ensures durable { D.honest (disk_of self.new) → OnOk result (Only (D.seen (disk_of self.new)) (D.may (disk_of self.new))) }
+        ensures not_failed { OnOk result (has_failed self.new ≡ false) }
+        ensures not_begun { OnOk result (has_begun self.new ≡ false) }
+        ensures failed { OnErr result (has_failed self.new ≡ true) }
+        ensures last_known { OnErr result (root_of self.new ≡ root_of self.old) }
+        ensures clean { OnOk result ((c : Place) → ¬ HasStaged self.new c) }
+        ensures none_due { OnOk result (records_due self.new ≡ 0) }
+        ensures corners { OnOk result (corners_of self.new ≡ map (λ e. e.corner) (root_of self.new).entries) }
+    {
+        self.pager.reopen()?;
+        let root = copy_of(self.pager.current());
+        match read_chart(self.alloc, &mut self.pager, &root) {
+            Ok(chart) => {
+                self.chart = chart;
+                self.root = root;
+                Ok(())
+            }
+            Err(refusal) => {
+                self.pager.fail();
+                Err(refusal)
+            }
+        }
+    }
+
+    /// The current root, as it was last known.
+    pub fn current(&self) -> &Root
+        ensures { result.now ≡ root_of self.now }
+    {
+        &self.root
+    }
+
+    /// Whether the disk refused a call, or a reopening was refused, and no opening succeeded since.
+    pub fn has_failed(&self) -> bool
+        ensures { result ≡ has_failed self.now }
+    {
+        self.pager.has_failed()
+    }
+
+    /// Only reopening helps from here on, as after a refused read. No call of the disk is made.
+    pub fn fail(&mut self)
+        ensures disk { disk_of self.new ≡ disk_of self.old }
+        ensures root { root_of self.new ≡ root_of self.old }
+        ensures corners { corners_of self.new ≡ corners_of self.old }
+        ensures staged { staged_in D.Disk self.new ≡ staged_in D.Disk self.old }
+        ensures failed { has_failed self.new ≡ true }
+    {
+        self.pager.fail();
+    }
+
+    /// Whether the corner has a tile, as the next commit will have it.
+    pub fn present(&self, c: Corner) -> bool
+        ensures answer { IsTrue result ↔ Contains (corners_of self.now) c }
+        ensures in_order { AllAdjacentBelow IsBefore (corners_of self.now) (length (corners_of self.now)) }
+        ensures whole_degrees { All (λ d. IsTrue (is_corner d)) (corners_of self.now) }
+    {
+        self.chart.rules();
+        self.chart.is_present(c)
+    }
+
+    /// How many sectors the disk has, at least four.
+    pub fn sectors(&self) -> u32
+        ensures value { result ≡ D.size (disk_of self.now) }
+        ensures large { 4 ≤ result }
+    {
+        self.pager.sectors()
+    }
+
+    /// The disk as it is.
+    pub fn into_disk(self) -> D
+        ensures { result ≡ disk_of self }
+    {
+        let Tree { pager, .. } = self;
+        pager.into_disk()
+    }
+
+    /// Reads page `i` of a plane, as the next commit will have it. Nothing is written. Refused with Device, or with Failed
+    /// where the tree had failed; then no call of the disk is made.
+    pub fn read_page(
+        &mut self,
+        c: Corner,
+        plane: Plane,
+        i: u32,
+        into: &mut [u8; 4096],
+    ) -> Result<(), Refusal>
+        requires held { Holds self.old c plane }
+        requires index { i < pages_of (root_of self.old).side }
+        ensures reads { Reads D.Disk self.old self.new result }
+        ensures page { D.honest (disk_of self.new) → OnOk result (HasPage (staged_in D.Disk self.old) c plane i into.new) }
+        ensures failed { has_failed self.old ≡ true → (result ≡ Err Failed) × (disk_of self.new ≡ disk_of self.old) }
+    {
+        if self.pager.has_failed() {
+            return Err(Refusal::Failed);
+        }
+        self.chart.rules();
+        match self.chart.plane(c, plane) {
+            Some(place) => {
+                let number = place.pages()[i as usize];
+                self.pager.read(number, into)
+            }
+            None => unreachable!(),
+        }
+    }
+
+    /// Stages new content for page `i` of a plane, which is heights. What is committed stays on the disk until the next
+    /// commit is done. Refused with NoMemory, and then nothing was done, or with Device.
+    pub fn stage(
+        &mut self,
+        c: Corner,
+        plane: Plane,
+        i: u32,
+        page: &[u8; 4096],
+    ) -> Result<(), Refusal>
+        requires not_failed { has_failed self.old ≡ false }
+        requires heights { plane ≡ Heights }
+        requires present { Contains (corners_of self.old) c }
+        requires index { i < pages_of (root_of self.old).side }
+        ensures size { D.size (disk_of self.new) ≡ D.size (disk_of self.old) }
+        ensures cause { IsErrOf result Device → HasRisen (D.failures (disk_of self.old)) (D.failures (disk_of self.new)) }
+        ensures later { D.failures (disk_of self.old) ≤ D.failures (disk_of self.new) }
+        ensures refused { IfErr result (λ refusal. (refusal ≡ Device) ⊎ (refusal ≡ NoMemory)) }
+        ensures writes { D.writes (disk_of self.new) ≤ D.writes (disk_of self.old) + (if has_begun self.old then 1 else 2) }
+        ensures honest { D.honest (disk_of self.new) → D.honest (disk_of self.old) }
+        ensures root { root_of self.new ≡ root_of self.old }
+        ensures corners { corners_of self.new ≡ corners_of self.old }
+        ensures works { has_failed self.new ≡ false ⊎ IsErrOf result Device }
+        ensures not_failed { OnOk result (has_failed self.new ≡ false) }
+        ensures begun { OnOk result (has_begun self.new ≡ true) }
+        ensures unchanged { IsErrOf result NoMemory → disk_of self.new ≡ disk_of self.old }
+        ensures same { IsErrOf result NoMemory → staged_in D.Disk self.new ≡ staged_in D.Disk self.old }
+        ensures device { IsErrOf result Device → has_failed self.new ≡ true }
+
+        // Heights that were staged before ask for no memory, and for no further record.
+        ensures sure { HasStaged self.old c → ¬ IsErrOf result NoMemory }
+        ensures due { records_due self.new ≤ records_due self.old + 1 }
+        ensures due_same { HasStaged self.old c → records_due self.new ≡ records_due self.old }
+        ensures has_staged { OnOk result (HasStaged self.new c) }
+        ensures still_staged { (other : Place) → HasStaged self.old other → HasStaged self.new other }
+
+        // The page is staged, and nothing else.
+        ensures staged { D.honest (disk_of self.new) → (s : Stored) → IsAt D.Disk self.old s
+            → OnOk result (staged_in D.Disk self.new ≡ with_page c i page.now (staged_in D.Disk self.old)) }
+        ensures at { D.honest (disk_of self.new) → (s : Stored) → IsAt D.Disk self.old s
+            → has_failed self.new ≡ false → IsAt D.Disk self.new s }
+
+        // A stop at any moment leaves what is committed.
+        ensures any_moment { D.honest (disk_of self.new) → (s : Stored) → IsAt D.Disk self.old s
+            → LeavesOnly D.Disk (disk_of self.old) (disk_of self.new) (λ image. Stands (D.size (disk_of self.old)) image s) }
+    {
+        prove!(plane == Plane::Heights);
+        self.chart.rules();
+        let number = self.chart.page_for_writing(c, i)?;
+        self.pager.write(number, page)
+    }
+
+    /// Stages the heights of the corner's tile as they are, so that staging pages of them asks for no memory until the
+    /// next commit or until they are given up. No call of the disk is made. Refused with NoMemory, and then nothing was
+    /// done.
+    pub fn prepare(&mut self, c: Corner) -> Result<(), Refusal>
+        requires present { Contains (corners_of self.old) c }
+        ensures refused { IfErr result (λ refusal. refusal ≡ NoMemory) }
+        ensures disk { disk_of self.new ≡ disk_of self.old }
+        ensures root { root_of self.new ≡ root_of self.old }
+        ensures corners { corners_of self.new ≡ corners_of self.old }
+        ensures failed { has_failed self.new ≡ has_failed self.old }
+        ensures begun { has_begun self.new ≡ has_begun self.old }
+        ensures staged { staged_in D.Disk self.new ≡ staged_in D.Disk self.old }
+        ensures due { records_due self.new ≤ records_due self.old + 1 }
+        ensures due_same { HasStaged self.old c → records_due self.new ≡ records_due self.old }
+        ensures has_staged { OnOk result (HasStaged self.new c) }
+        ensures still_staged { (other : Place) → HasStaged self.old other → HasStaged self.new other }
+        ensures at { (s : Stored) → IsAt D.Disk self.old s → IsAt D.Disk self.new s }
+    {
+        self.chart.rules();
+        self.chart.prepare(c)
+    }
+
+    /// Stages a tile for a corner that has none, with these bytes of heights, two a sample; the plane named is heights.
+    /// Refused with NoMemory, and then nothing was done, or with Device.
+    pub fn stage_plane(&mut self, c: Corner, plane: Plane, bytes: &[u8]) -> Result<(), Refusal>
+        requires not_failed { has_failed self.old ≡ false }
+        requires heights { plane ≡ Heights }
+        requires absent { ¬ Contains (corners_of self.old) c }
+        requires room { length (corners_of self.old) < (root_of self.old).capacity }
+        requires whole { length bytes.now ≡ 2 * ((root_of self.old).side * (root_of self.old).side) }
+        ensures size { D.size (disk_of self.new) ≡ D.size (disk_of self.old) }
+        ensures cause { IsErrOf result Device → HasRisen (D.failures (disk_of self.old)) (D.failures (disk_of self.new)) }
+        ensures later { D.failures (disk_of self.old) ≤ D.failures (disk_of self.new) }
+        ensures refused { IfErr result (λ refusal. (refusal ≡ Device) ⊎ (refusal ≡ NoMemory)) }
+        ensures writes { D.writes (disk_of self.new) ≤ D.writes (disk_of self.old) + pages_of (root_of self.old).side + (if has_begun self.old then 0 else 1) }
+        ensures honest { D.honest (disk_of self.new) → D.honest (disk_of self.old) }
+        ensures root { root_of self.new ≡ root_of self.old }
+        ensures works { has_failed self.new ≡ false ⊎ IsErrOf result Device }
+        ensures not_failed { OnOk result (has_failed self.new ≡ false) }
+        ensures unchanged { IsErrOf result NoMemory → disk_of self.new ≡ disk_of self.old }
+        ensures same { IsErrOf result NoMemory → staged_in D.Disk self.new ≡ staged_in D.Disk self.old }
+        ensures device { IsErrOf result Device → has_failed self.new ≡ true }
+        ensures corners { OnOk result (corners_of self.new ≡ with_corner c (corners_of self.old)) }
+        ensures same_corners { IsErrOf result NoMemory → corners_of self.new ≡ corners_of self.old }
+        ensures begun { OnOk result (D.writes (disk_of self.new) + (if has_begun self.new then 0 else 1)
+            ≤ D.writes (disk_of self.old) + pages_of (root_of self.old).side + (if has_begun self.old then 0 else 1)) }
+        ensures due { OnOk result (records_due self.new ≡ records_due self.old + 1) }
+        ensures has_staged { OnOk result (HasStaged self.new c) }
+
+        // The tile is staged, and nothing else.
+        ensures staged { D.honest (disk_of self.new) → (s : Stored) → IsAt D.Disk self.old s
+            → OnOk result (staged_in D.Disk self.new ≡ with_tile (stale_tile c (pages_of_bytes (pages_of (root_of self.old).side) bytes.now)) (staged_in D.Disk self.old)) }
+        ensures at { D.honest (disk_of self.new) → (s : Stored) → IsAt D.Disk self.old s
+            → has_failed self.new ≡ false → IsAt D.Disk self.new s }
+
+        // A stop at any moment leaves what is committed.
+        ensures any_moment { D.honest (disk_of self.new) → (s : Stored) → IsAt D.Disk self.old s
+            → LeavesOnly D.Disk (disk_of self.old) (disk_of self.new) (λ image. Stands (D.size (disk_of self.old)) image s) }
+    {
+        prove!(plane == Plane::Heights);
+        self.chart.tile_for_writing(c)?;
+        match self.chart.heights(c) {
+            Some(plane) => write_plane(&mut self.pager, plane.pages(), bytes),
+            None => unreachable!(),
+        }
+    }
+
+    /// Makes all that was staged current, at this count of accepted commands, with the commit number raised by one. A stop
+    /// at any moment leaves what was current or, once the new root is written, all that was staged. After Ok a stop
+    /// leaves nothing else. The only refusal is Device.
+    pub fn commit(&mut self, count: u64) -> Result<(), Refusal>
+        requires not_failed { has_failed self.old ≡ false }
+        requires number { (root_of self.old).number + 1 < 2 ^ 64 }
+        requires count { count ≤ (root_of self.old).number }
+        ensures size { D.size (disk_of self.new) ≡ D.size (disk_of self.old) }
+        ensures cause { HasCause (D.failures (disk_of self.old)) (D.failures (disk_of self.new)) result }
+        ensures refused { IfErr result (λ refusal. refusal ≡ Device) }
+        ensures writes { D.writes (disk_of self.new) ≤ D.writes (disk_of self.old) + records_due self.old + (if has_begun self.old then 2 else 3) }
+        ensures honest { D.honest (disk_of self.new) → D.honest (disk_of self.old) }
+        ensures corners { corners_of self.new ≡ corners_of self.old }
+        ensures not_failed { OnOk result (has_failed self.new ≡ false) }
+        ensures failed { OnErr result (has_failed self.new ≡ true) }
+        ensures last_known { OnErr result (root_of self.new ≡ root_of self.old) }
+        ensures number { OnOk result ((root_of self.new).number ≡ (root_of self.old).number + 1) }
+        ensures count { OnOk result ((root_of self.new).count ≡ count) }
+        ensures side { (root_of self.new).side ≡ (root_of self.old).side }
+        ensures capacity { (root_of self.new).capacity ≡ (root_of self.old).capacity }
+        ensures not_begun { OnOk result (has_begun self.new ≡ false) }
+        ensures none_staged { OnOk result ((c : Place) → ¬ HasStaged self.new c) }
+        ensures none_due { OnOk result (records_due self.new ≡ 0) }
+        ensures entries { OnOk result (corners_of self.new ≡ map (λ e. e.corner) (root_of self.new).entries) }
+        ensures at { D.honest (disk_of self.new) → (s : Stored) → IsAt D.Disk self.old s
+            → OnOk result (IsAt D.Disk self.new (next_commit s (staged_in D.Disk self.old) count)) }
+        ensures staged { D.honest (disk_of self.new) → (s : Stored) → IsAt D.Disk self.old s
+            → OnOk result (staged_in D.Disk self.new ≡ staged_in D.Disk self.old) }
+        ensures durable { D.honest (disk_of self.new)
+            → OnOk result (Only (D.seen (disk_of self.new)) (D.may (disk_of self.new))) }
+        ensures any_moment { D.honest (disk_of self.new) → (s : Stored) → IsAt D.Disk self.old s
+            → LeavesOnly D.Disk (disk_of self.old) (disk_of self.new)
+            (λ image. Stands (D.size (disk_of self.old)) image s ⊎ Stands (D.size (disk_of self.old)) image (next_commit s (staged_in D.Disk self.old) count)) }
+    {
+        self.chart.rules();
+        let entries = self.chart.entries();
+        let root = self.root.next(count, entries);
+        write_records(&mut self.pager, &self.chart)?;
+        self.pager.commit(&root)?;
+        self.root = root;
+        self.chart.settle();
+        Ok(())
+    }
+
+    /// Gives up what was staged.
+    pub fn abandon(&mut self)
+        ensures disk { disk_of self.new ≡ disk_of self.old }
+        ensures root { root_of self.new ≡ root_of self.old }
+        ensures failed { has_failed self.new ≡ has_failed self.old }
+        ensures begun { has_begun self.new ≡ has_begun self.old }
+        ensures corners { corners_of self.new ≡ map (λ e. e.corner) (root_of self.new).entries }
+        ensures none_staged { (c : Place) → ¬ HasStaged self.new c }
+        ensures none_due { records_due self.new ≡ 0 }
+        ensures at { D.honest (disk_of self.old) → (s : Stored) → IsAt D.Disk self.old s → IsAt D.Disk self.new s }
+        ensures committed { D.honest (disk_of self.old) → (s : Stored) → IsAt D.Disk self.old s → staged_in D.Disk self.new ≡ s.tiles }
+    {
+        self.chart.undo();
+    }
+
+    /// Takes the corner's tile out, with all its planes; the plane named is heights. Nothing of it was staged since the last
+    /// commit. No call of the disk is made.
+    pub fn drop_plane(&mut self, c: Corner, plane: Plane)
+        requires not_failed { has_failed self.old ≡ false }
+        requires heights { plane ≡ Heights }
+        requires present { Contains (corners_of self.old) c }
+        requires settled { ¬ HasStaged self.old c }
+        ensures disk { disk_of self.new ≡ disk_of self.old }
+        ensures root { root_of self.new ≡ root_of self.old }
+        ensures not_failed { has_failed self.new ≡ false }
+        ensures begun { has_begun self.new ≡ has_begun self.old }
+        ensures corners { corners_of self.new ≡ filter (λ other. not (same_place other c)) (corners_of self.old) }
+        ensures due { records_due self.new ≤ records_due self.old }
+        ensures staged { staged_in D.Disk self.new ≡ without_tile c (staged_in D.Disk self.old) }
+        ensures at { (s : Stored) → IsAt D.Disk self.old s → IsAt D.Disk self.new s }
+    {
+        prove!(plane == Plane::Heights);
+        self.chart.remove_tile(c);
+    }
+}

@@ -1,0 +1,133 @@
+//! Planes and their records, written to fresh pages.
+ghost use Rattle.std.specs.Prelude.{◌≡◌, ◌≤◌, ◌<◌, ◌+◌, ◌*◌, ℕ, List, All, Contains, true, false, length, map, take, drop, OnOk, OnErr, IfErr, if◌then◌else◌};
+ghost use Rattle.disk.specs.Stops.{LeavesOnly, HasCause};
+ghost use Rattle.lattice.specs.declared.refusal.Refusal.TheVariants.{Device};
+ghost use Rattle.page_codec.specs.Numbers.{padded};
+ghost use Rattle.page_codec.specs.Records.{record_bytes};
+ghost use Rattle.page_codec.specs.Sizes.{pages_of};
+ghost use Rattle.cow_tree.specs.Charts.{IsChart, is_changed, fresh_corners};
+ghost use Rattle.cow_tree.specs.Staged.{changed_tiles, record_pages};
+ghost use Rattle.cow_tree.specs.Layout.{TilePlace, StoresAt, reached};
+ghost use Rattle.cow_tree.specs.Places.{times};
+ghost use Rattle.cow_tree.specs.Stored.{Stored, pages_of_bytes};
+ghost use Rattle.cow_tree.specs.Pagers.{disk_of, root_of, has_begun, has_failed, IsReady, EachStores};
+
+use crate::chart::Chart;
+use crate::pager::Pager;
+use crate::places::PagedPlane;
+use arrayvec::ArrayVec;
+use disk::Disk;
+use lattice::Refusal;
+use page_codec::{PAGE_BYTES, RECORD_PAGES, Record};
+
+// A page that begins with these bytes, and zeros behind them.
+#[tactic(auto, unfolding(page_codec::specs::Numbers::zeros))]
+fn page_of(bytes: &[u8]) -> [u8; 4096]
+    requires { length bytes.now ≤ 4096 }
+    ensures { result ≡ padded 4096 bytes.now }
+{
+    let mut page = [0; PAGE_BYTES];
+    page[..bytes.len()].copy_from_slice(bytes);
+    page
+}
+
+// The bytes of the first page, and those behind them.
+fn split_page(bytes: &[u8]) -> (&[u8], &[u8])
+    ensures front { result.0.now ≡ take 4096 bytes.now }
+    ensures behind { result.1.now ≡ drop 4096 bytes.now }
+    ensures page { length result.0.now ≤ 4096 }
+{
+    bytes.split_at(bytes.len().min(PAGE_BYTES))
+}
+
+// A plane's record.
+fn record_of(plane: &PagedPlane) -> [u8; 4096]
+    requires { length plane.now.pages ≤ RECORD_PAGES }
+    ensures { result ≡ record_bytes plane.now.pages }
+{
+    let mut pages = ArrayVec::new();
+    if pages.try_extend_from_slice(plane.pages()).is_err() {
+        unreachable!();
+    }
+    Record { pages }.write()
+}
+
+/// Writes the bytes of a plane to its pages, which are all distinct. What the last page has past them is zero.
+pub(crate) fn write_plane<D: Disk>(
+    pager: &mut Pager<D>,
+    pages: &[u32],
+    bytes: &[u8],
+) -> Result<(), Refusal>
+    requires not_failed { has_failed pager.old ≡ false }
+    requires low { All (λ p. 4 ≤ p) pages.now }
+    requires high { All (λ p. p < D.size (disk_of pager.old)) pages.now }
+    requires distinct { (p : ℕ) → times p pages.now ≤ 1 }
+    ensures size { D.size (disk_of pager.new) ≡ D.size (disk_of pager.old) }
+    ensures cause { HasCause (D.failures (disk_of pager.old)) (D.failures (disk_of pager.new)) result }
+    ensures refused { IfErr result (λ refusal. refusal ≡ Device) }
+    ensures writes { D.writes (disk_of pager.new) ≤ D.writes (disk_of pager.old) + length pages.now + (if has_begun pager.old then 0 else 1) }
+    ensures begun { OnOk result (D.writes (disk_of pager.new) + (if has_begun pager.new then 0 else 1)
+        ≤ D.writes (disk_of pager.old) + length pages.now + (if has_begun pager.old then 0 else 1)) }
+    ensures honest { D.honest (disk_of pager.new) → D.honest (disk_of pager.old) }
+    ensures root { root_of pager.new ≡ root_of pager.old }
+    ensures not_failed { OnOk result (has_failed pager.new ≡ false) }
+    ensures failed { OnErr result (has_failed pager.new ≡ true) }
+    ensures ready { D.honest (disk_of pager.new) → IsReady D.Disk pager.old → OnOk result (IsReady D.Disk pager.new) }
+    ensures written { D.honest (disk_of pager.new) → IsReady D.Disk pager.old
+        → OnOk result (map (D.seen (disk_of pager.new)) pages.now ≡ pages_of_bytes (length pages.now) bytes.now) }
+    ensures others { D.honest (disk_of pager.new) → IsReady D.Disk pager.old
+        → OnOk result ((p : ℕ) → 4 ≤ p → ¬ Contains pages.now p → D.seen (disk_of pager.old) p ≡ D.seen (disk_of pager.new) p) }
+
+    // Where no stored tile reaches the pages, a stop at any moment leaves what is stored.
+    ensures any_moment { D.honest (disk_of pager.new) → IsReady D.Disk pager.old
+        → (tiles : List TilePlace) (s : Stored) → EachStores D.Disk pager.old tiles s
+        → All (λ p. ¬ Contains (reached tiles) p) pages.now
+        → LeavesOnly D.Disk (disk_of pager.old) (disk_of pager.new) (StoresAt (D.size (disk_of pager.old)) (root_of pager.old) tiles s) }
+{
+    let mut rest = bytes;
+    for page in pages {
+        let (front, behind) = split_page(rest);
+        pager.write(*page, &page_of(front))?;
+        rest = behind;
+    }
+    Ok(())
+}
+
+/// Writes the records of the staged tiles whose heights are staged.
+pub(crate) fn write_records<D: Disk>(pager: &mut Pager<D>, chart: &Chart) -> Result<(), Refusal>
+    requires not_failed { has_failed pager.old ≡ false }
+    requires sectors { chart.now.sectors ≡ D.size (disk_of pager.old) }
+    requires side { pages_of chart.now.side ≤ RECORD_PAGES }
+    ensures size { D.size (disk_of pager.new) ≡ D.size (disk_of pager.old) }
+    ensures cause { HasCause (D.failures (disk_of pager.old)) (D.failures (disk_of pager.new)) result }
+    ensures refused { IfErr result (λ refusal. refusal ≡ Device) }
+    ensures writes { OnOk result (D.writes (disk_of pager.new) + (if has_begun pager.new then 0 else 1)
+        ≤ D.writes (disk_of pager.old) + length (fresh_corners chart.now) + (if has_begun pager.old then 0 else 1)) }
+    ensures few { OnErr result (D.writes (disk_of pager.new) ≤ D.writes (disk_of pager.old) + length (fresh_corners chart.now) + (if has_begun pager.old then 0 else 1)) }
+    ensures honest { D.honest (disk_of pager.new) → D.honest (disk_of pager.old) }
+    ensures root { root_of pager.new ≡ root_of pager.old }
+    ensures not_failed { OnOk result (has_failed pager.new ≡ false) }
+    ensures failed { OnErr result (has_failed pager.new ≡ true) }
+    ensures ready { D.honest (disk_of pager.new) → IsReady D.Disk pager.old → OnOk result (IsReady D.Disk pager.new) }
+    ensures recorded { D.honest (disk_of pager.new) → IsReady D.Disk pager.old
+        → OnOk result (All (λ t. is_changed chart.now.committed t ≡ true
+        → D.seen (disk_of pager.new) t.heights.record_page ≡ record_bytes t.heights.pages) chart.now.staged) }
+    ensures others { D.honest (disk_of pager.new) → IsReady D.Disk pager.old
+        → OnOk result ((p : ℕ) → 4 ≤ p → times p (record_pages (changed_tiles chart.now)) ≡ 0
+        → D.seen (disk_of pager.old) p ≡ D.seen (disk_of pager.new) p) }
+
+    // A stop at any moment leaves what is stored.
+    ensures any_moment { D.honest (disk_of pager.new) → IsReady D.Disk pager.old
+        → (s : Stored) → EachStores D.Disk pager.old chart.now.committed s
+        → LeavesOnly D.Disk (disk_of pager.old) (disk_of pager.new) (StoresAt (D.size (disk_of pager.old)) (root_of pager.old) chart.now.committed s) }
+{
+    chart.rules();
+    let corners = chart.fresh();
+    for corner in corners.as_slice() {
+        match chart.heights(*corner) {
+            Some(plane) => pager.write(plane.record_page(), &record_of(plane))?,
+            None => unreachable!(),
+        }
+    }
+    Ok(())
+}

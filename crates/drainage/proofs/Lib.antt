@@ -1,0 +1,10 @@
+pub mod Held
+pub mod Tiles
+pub mod Summed
+pub mod Joined
+pub mod Sealing
+pub mod Asked
+pub mod Levels
+pub mod Refused
+pub mod Answered
+pub mod LevelFunctions

@@ -1,0 +1,24 @@
+-- How a query may be refused (this product's own profile).
+use Rattle.std.specs.Prelude.{ℕ, Bool, true, List, Contains}
+use Rattle.lattice.specs.Corners.{Place}
+use Rattle.lattice.specs.Lattice.{Holds}
+use Rattle.lattice.specs.declared.point.Point.{Point}
+use Rattle.lattice.specs.declared.refusal.Refusal.{Refusal}
+use Rattle.lattice.specs.declared.refusal.Refusal.TheVariants.{Outside, Void}
+use Rattle.lattice.specs.Mosaic.{Mosaic, IsMosaic}
+use Rattle.catalogue.specs.Sealed.{IsSealed}
+use Rattle.edits.specs.Plans.{ends_any}
+
+-- none of these corners' tiles holds the point
+abbrev pub IsHeldByNone : ℕ → List Place → Point → Type 0
+IsHeldByNone n corners p = (c : Place) → Contains corners c → Holds n c p → ⊥
+
+-- no ground there, no memory, or a read
+abbrev pub may_refuse : Refusal → Bool
+may_refuse Outside = true
+may_refuse Void = true
+may_refuse r = ends_any r
+
+-- the table is a mosaic sealed
+abbrev pub IsSealedOfSome : Mosaic → Type 0
+IsSealedOfSome table = (m : Mosaic) × (IsMosaic m × IsSealed m table)

@@ -1,0 +1,33 @@
+-- Directions by their codes, and the levels that they are found from.
+use Rattle.std.specs.Prelude.{◌≡◌, ℕ, ◌+◌, ◌*◌, ◌<◌, ℤ, IsTrue, IsFalse, Option, Some, None, List, length, slice_index_or}
+use Rattle.lattice.specs.declared.point.Point.{Point}
+use Rattle.lattice.specs.declared.direction.Dir.{Dir}
+use Rattle.lattice.specs.Corners.{Place}
+use Rattle.lattice.specs.Lattice.{point_of}
+use Rattle.lattice.specs.Steps.{code_of}
+use Rattle.lattice.specs.Terrain.{Terrain, IsFilledLevel}
+use Rattle.lattice.specs.Mosaic.{Mosaic, IsMosaic, void}
+use Rattle.lattice.specs.Ground.{is_ground, terrain}
+use Rattle.flow_d8.specs.Drainage.{AreFilledLevels, IsDirection}
+use Rattle.drainage.specs.Flooded.{corner_at}
+
+-- the code in replies, 0 off the mosaic
+abbrev pub code_by : Option Dir → ℕ
+code_by None = 0
+code_by (Some d) = code_of d
+
+-- the point drains in the direction with this code
+abbrev pub DrainsBy : Terrain Point → (Point → ℤ) → Point → ℕ → Type 0
+DrainsBy t level p code = (d : Option Dir) × (IsDirection t level p d × (code ≡ code_by d))
+
+-- on every mosaic some function gives the filled levels of all ground points
+abbrev pub LevelFunctionsExist : Type 0
+LevelFunctionsExist = (m : Mosaic) → IsMosaic m → (level : Point → ℤ) × AreFilledLevels (terrain m) level
+
+-- of the first tiles the filled levels, tile after tile
+pub record AreTilesFilled (m : Mosaic) (corners : List Place) (levels : List ℤ) (count : ℕ) : Type 0 where
+  pub whole : length levels ≡ count * (m.side * m.side)
+  pub on_ground : (k e : ℕ) → k < count → e < m.side * m.side → IsTrue (is_ground m (point_of m.side (corner_at corners k) e))
+      → IsFilledLevel (terrain m) (point_of m.side (corner_at corners k) e) (slice_index_or levels (k * (m.side * m.side) + e) void)
+  pub elsewhere : (k e : ℕ) → k < count → e < m.side * m.side → IsFalse (is_ground m (point_of m.side (corner_at corners k) e))
+      → slice_index_or levels (k * (m.side * m.side) + e) void ≡ void

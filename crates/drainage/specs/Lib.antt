@@ -1,0 +1,4 @@
+pub mod Flooded
+pub mod Asking
+pub mod Draining
+pub mod Outcomes

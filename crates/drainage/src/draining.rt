@@ -1,0 +1,114 @@
+//! Where water goes from a point, and where it comes from.
+ghost use Rattle.std.specs.Prelude.{◌≡◌, ◌≤◌, ◌⊎◌, ◌↔◌, ℤ, IsTrue, IsOk, IfOk, IfErr, IsErrOf, length};
+ghost use Rattle.lattice.specs.declared.point.Point.{Point};
+ghost use Rattle.lattice.specs.Mosaic.{Mosaic, IsMosaic};
+ghost use Rattle.lattice.specs.Height.{height_of};
+ghost use Rattle.lattice.specs.Ground.{is_ground, terrain};
+ghost use Rattle.lattice.specs.declared.height.Height.TheVariants as height_is;
+ghost use Rattle.lattice.specs.declared.refusal.Refusal.TheVariants.{Outside, Void, NoMemory, Damaged};
+ghost use Rattle.catalogue.specs.Readers.{OnlyReads, reads_of};
+ghost use Rattle.catalogue.specs.Tiles.{corners_of};
+ghost use Rattle.flow_d8.specs.Drainage.{AreFilledLevels};
+ghost use Rattle.flow_d8.specs.Drained.{AreDirectionsOf};
+ghost use Rattle.flow_d8.specs.FlowPath.{IsFlowPath, IsInWatershed};
+ghost use Rattle.watershed.specs.Runs.{AreRuns};
+ghost use Rattle.catalogue.specs.Sealed.{IsSealed};
+ghost use Rattle.drainage.specs.Asking.{IsHeldByNone, may_refuse};
+ghost use Rattle.drainage.specs.Draining.{code_by, DrainsBy};
+
+use crate::asking::survey;
+use crate::flooding::{all_levels, flood};
+use catalogue::{Samples, Table};
+use flow_d8::{Directions, Filled, directions};
+use lattice::{Dir, Point, Refusal};
+use std::alloc::Global;
+use watershed::Run;
+
+/// The code of the direction in which water leaves the point: east is 1, and each next one clockwise twice as much; 0
+/// where it leaves the mosaic.
+///
+/// Outside where no present tile holds the point, then Void where its height is void. Otherwise it is refused only for
+/// want of memory, or as a read may be.
+pub fn direction<S: Samples>(alloc: Global, samples: &mut S, point: Point) -> Result<u8, Refusal>
+    requires few { length (S.corners samples.old) ≤ 240 }
+    ensures direction { S.is_honest samples.new → IfOk result (λ code. (level : Point → ℤ) → AreFilledLevels (terrain (S.mosaic samples.old)) level
+        → DrainsBy (terrain (S.mosaic samples.old)) level point code) }
+    ensures on_ground { S.is_honest samples.new → IsOk result → IsTrue (is_ground (S.mosaic samples.old) point) }
+    ensures outside { IsErrOf result Outside ↔ IsHeldByNone (S.side_of samples.old) (S.corners samples.old) point }
+    ensures void { S.is_honest samples.new → IsErrOf result Void → height_of (S.mosaic samples.old) point ≡ height_is.Void }
+    ensures causes { IfErr result (λ r. IsTrue (may_refuse r)) }
+    ensures reads { OnlyReads S.Samples samples.old samples.new (reads_of result) }
+{
+    let mut table = survey(alloc, samples, point)?;
+    let directions = drained(alloc, &mut table)?;
+    Ok(code(directions.direction(point)))
+}
+
+/// The flow path of the point: the point, then the one that its direction leads to, and so on, to one where water
+/// leaves the mosaic. It is refused as a direction is.
+pub fn trace<S: Samples>(
+    alloc: Global,
+    samples: &mut S,
+    point: Point,
+) -> Result<Vec<Point>, Refusal>
+    requires few { length (S.corners samples.old) ≤ 240 }
+    ensures path { S.is_honest samples.new → IfOk result (λ path. (level : Point → ℤ) → AreFilledLevels (terrain (S.mosaic samples.old)) level
+        → IsFlowPath (terrain (S.mosaic samples.old)) level point path.items) }
+    ensures on_ground { S.is_honest samples.new → IsOk result → IsTrue (is_ground (S.mosaic samples.old) point) }
+    ensures outside { IsErrOf result Outside ↔ IsHeldByNone (S.side_of samples.old) (S.corners samples.old) point }
+    ensures void { S.is_honest samples.new → IsErrOf result Void → height_of (S.mosaic samples.old) point ≡ height_is.Void }
+    ensures causes { IfErr result (λ r. IsTrue (may_refuse r)) }
+    ensures reads { OnlyReads S.Samples samples.old samples.new (reads_of result) }
+{
+    let mut table = survey(alloc, samples, point)?;
+    let directions = drained(alloc, &mut table)?;
+    directions.trace(alloc, point)
+}
+
+/// The watershed of the point: the ground points whose flow path contains it, as maximal runs, north first, west first.
+/// It is refused as a direction is.
+pub fn watershed<S: Samples>(
+    alloc: Global,
+    samples: &mut S,
+    point: Point,
+) -> Result<Vec<Run>, Refusal>
+    requires few { length (S.corners samples.old) ≤ 240 }
+    ensures runs { S.is_honest samples.new → IfOk result (λ runs. (level : Point → ℤ) → AreFilledLevels (terrain (S.mosaic samples.old)) level
+        → AreRuns (IsInWatershed (terrain (S.mosaic samples.old)) level point) runs.items) }
+    ensures on_ground { S.is_honest samples.new → IsOk result → IsTrue (is_ground (S.mosaic samples.old) point) }
+    ensures outside { IsErrOf result Outside ↔ IsHeldByNone (S.side_of samples.old) (S.corners samples.old) point }
+    ensures void { S.is_honest samples.new → IsErrOf result Void → height_of (S.mosaic samples.old) point ≡ height_is.Void }
+    ensures causes { IfErr result (λ r. IsTrue (may_refuse r)) }
+    ensures reads { OnlyReads S.Samples samples.old samples.new (reads_of result) }
+{
+    let mut table = survey(alloc, samples, point)?;
+    let directions = drained(alloc, &mut table)?;
+    watershed::watershed(alloc, &directions, point)
+}
+
+// The directions of all ground points, where each tile of the table is its block.
+fn drained(alloc: Global, table: &mut Table) -> Result<Directions, Refusal>
+    requires valid { IsMosaic table.old }
+    requires few { length (corners_of table.old) ≤ 240 }
+    ensures directions { IfOk result (λ d. (m : Mosaic) (level : Point → ℤ) → IsMosaic m → IsSealed m table.old → AreFilledLevels (terrain m) level → AreDirectionsOf m level d) }
+    ensures not_damaged { (m : Mosaic) → IsMosaic m → IsSealed m table.old → IfErr result (λ r. r ≡ NoMemory) }
+    ensures causes { IfErr result (λ r. (r ≡ NoMemory) ⊎ (r ≡ Damaged)) }
+{
+    let side = table.side();
+    let flooded = flood(alloc, table)?;
+    let levels = all_levels(alloc, &flooded)?;
+    let Some(filled) = Filled::new(side, flooded.corners, levels) else {
+        return Err(Refusal::Damaged);
+    };
+    directions(alloc, &filled)
+}
+
+// The direction's code in replies.
+fn code(direction: Option<Dir>) -> u8
+    ensures { result ≡ code_by direction }
+{
+    match direction {
+        Some(direction) => direction.code(),
+        None => 0,
+    }
+}

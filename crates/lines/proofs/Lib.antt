@@ -1,0 +1,7 @@
+pub mod AheadLemmas
+pub mod GrammarLaws
+pub mod KeywordLemmas
+pub mod NumberLemmas
+pub mod RequestLemmas
+pub mod WordLemmas
+pub mod WriteLemmas

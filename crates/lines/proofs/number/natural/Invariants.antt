@@ -1,0 +1,10 @@
+use Rattle.std.proofs.Common.{◌≡◌, ◌<◌, ◌^◌, take}
+use Rattle.std.specs.Str.Parse.{AllDigits, digits_value}
+use Rattle.lines.proofs.number.natural.Given as goal
+
+abbrev pub invariant-loop-digit : goal.invariant-loop-digit
+invariant-loop-digit l = record {
+  bound : l.value < 10 ^ l.digit-index;
+  digits : AllDigits 10 (take l.digit-index l.word);
+  value : l.value ≡ digits_value 10 (take l.digit-index l.word);
+}

@@ -1,0 +1,181 @@
+//! The grammar of lines: which of them ask for what.
+ghost use Rattle.std.specs.Prelude.{◌≡◌, ◌≢◌, ◌≤◌, ◌*◌, ℕ, ℤ, List, [], ◌∷◌, length, MatchOption, IfSome, IsTrue, ◌↔◌};
+ghost use Rattle.lattice.specs.declared.point.Point.{Point};
+ghost use Rattle.lines.specs.Grammar.{IsWord, IsNat, AreInts, IsPointCount, coordinates, IsTextOf, Asked, LineAsks};
+ghost use Rattle.lines.specs.Requests.{IsRequest, IsRequestOf, asked};
+
+use crate::keyword::Keyword;
+use crate::number::{integers, natural};
+use crate::request::{MOST_POINTS, Request};
+use crate::words::{Words, first_word};
+use arrayvec::ArrayVec;
+use lattice::Point;
+
+/// What a line asks for, if the grammar has it.
+pub fn request_of(line: &[u8]) -> Option<Request<'_>>
+    requires { length line.now ≤ 2048 }
+    ensures exact { IsRequestOf line.now result }
+    ensures only { IfSome result (λ r. (a : Asked) → LineAsks line.now a → a ≡ asked r) }
+{
+    let (command, arguments) = first_word(text_of(line));
+    with_arguments(Keyword::of(command)?, arguments)
+}
+
+/// The line without the CR that may end it.
+fn text_of(line: &[u8]) -> &[u8]
+    ensures { IsTextOf line.now result.now }
+{
+    match line {
+        [text @ .., b'\r'] => text,
+        text => text,
+    }
+}
+
+/// What a command with these arguments asks for.
+fn with_arguments<'a>(command: Keyword, arguments: Words<'a>) -> Option<Request<'a>>
+    ensures { IsRequest command arguments.entry result }
+{
+    match command {
+        Keyword::Import => import(arguments),
+        Keyword::Remove => {
+            let name = name(arguments)?;
+            Some(Request::Remove { name })
+        }
+        Keyword::Export => {
+            let name = name(arguments)?;
+            Some(Request::Export { name })
+        }
+        Keyword::Patch => patch(arguments),
+        Keyword::Burn => {
+            let (depth, points) = number_and_points(arguments)?;
+            Some(Request::Burn { depth, points })
+        }
+        Keyword::Wall => {
+            let (height, points) = number_and_points(arguments)?;
+            Some(Request::Wall { height, points })
+        }
+        Keyword::Elev => Some(Request::Elevation(point(arguments)?)),
+        Keyword::Fill => Some(Request::Fill(point(arguments)?)),
+        Keyword::Dir => Some(Request::Direction(point(arguments)?)),
+        Keyword::Trace => Some(Request::Trace(point(arguments)?)),
+        Keyword::Watershed => Some(Request::Watershed(point(arguments)?)),
+        Keyword::Tiles => alone(arguments, Request::Tiles),
+        Keyword::Step => alone(arguments, Request::Step),
+        Keyword::Count => alone(arguments, Request::Count),
+        Keyword::Quit => alone(arguments, Request::Quit),
+    }
+}
+
+/// Whether all bytes are from 0x21 to 0x7E, and there is one at least.
+fn is_word(word: &[u8]) -> bool
+    ensures { IsTrue result ↔ IsWord word.now }
+{
+    !word.is_empty() && word.iter().all(|&byte| byte >= 0x21 && byte <= 0x7e)
+}
+
+/// The one argument, as a WORD.
+fn name(mut arguments: Words<'_>) -> Option<&[u8]>
+    ensures { MatchOption result ((w : List ℕ) → arguments.entry ≡ w ∷ [] → IsWord w → ⊥)
+        (λ w. (arguments.entry ≡ w.now ∷ []) × IsWord w.now) }
+{
+    let name = arguments.next()?;
+    if arguments.next().is_none() && is_word(name) {
+        Some(name)
+    } else {
+        None
+    }
+}
+
+/// A name and a length.
+fn import(mut arguments: Words<'_>) -> Option<Request<'_>>
+    ensures { IsRequest Keyword.Import arguments.entry result }
+{
+    let name = arguments.next()?;
+    let len = arguments.next()?;
+    if arguments.next().is_some() || !is_word(name) {
+        return None;
+    }
+    let len = natural(len)?;
+    Some(Request::Import { name, len })
+}
+
+/// Two points and a height.
+fn patch(arguments: Words<'_>) -> Option<Request<'static>>
+    ensures { IsRequest Keyword.Patch arguments.entry result }
+{
+    let numbers = integers(arguments)?;
+    let numbers = numbers.as_slice();
+    if numbers.len() != 5 {
+        return None;
+    }
+    Some(Request::Patch {
+        from: Point {
+            y: numbers[0],
+            x: numbers[1],
+        },
+        to: Point {
+            y: numbers[2],
+            x: numbers[3],
+        },
+        height: numbers[4],
+    })
+}
+
+/// One point.
+fn point(arguments: Words<'_>) -> Option<Point>
+    ensures { MatchOption result ((p : Point) → AreInts arguments.entry (p.y ∷ p.x ∷ []) → ⊥) (λ p. AreInts arguments.entry (p.y ∷ p.x ∷ [])) }
+{
+    let numbers = integers(arguments)?;
+    let numbers = numbers.as_slice();
+    if numbers.len() != 2 {
+        return None;
+    }
+    Some(Point {
+        y: numbers[0],
+        x: numbers[1],
+    })
+}
+
+/// A number and 1 to 64 points.
+fn number_and_points(arguments: Words<'_>) -> Option<(i32, ArrayVec<Point, MOST_POINTS>)>
+    ensures { MatchOption result ((z : ℤ) (ps : List Point) → AreInts arguments.entry (z ∷ coordinates ps) → IsPointCount (length ps) → ⊥)
+        (λ r. AreInts arguments.entry (r.0 ∷ coordinates r.1.items) × IsPointCount (length r.1.items)) }
+{
+    let numbers = integers(arguments)?;
+    match numbers.as_slice() {
+        [number, rest @ ..] => {
+            let points = points(rest)?;
+            Some((*number, points))
+        }
+        [] => None,
+    }
+}
+
+/// The points that the numbers are, where they are 1 to 64 points.
+fn points(numbers: &[i32]) -> Option<ArrayVec<Point, MOST_POINTS>>
+    ensures { MatchOption result ((n : ℕ) → IsPointCount n → length numbers.now ≢ 2 * n)
+        (λ v. (coordinates v.items ≡ numbers.now) × IsPointCount (length v.items)) }
+{
+    let count = numbers.len() / 2;
+    if count < 1 || count > MOST_POINTS || numbers.len() % 2 != 0 {
+        return None;
+    }
+    let mut points = ArrayVec::new();
+    for place in 0..count {
+        points.push(Point {
+            y: numbers[2 * place],
+            x: numbers[2 * place + 1],
+        });
+    }
+    Some(points)
+}
+
+/// The request, where no argument stands beside the command.
+fn alone<'a>(mut arguments: Words<'_>, request: Request<'a>) -> Option<Request<'a>>
+    ensures { MatchOption result (arguments.entry ≢ []) (λ r. (r ≡ request.entry) × (arguments.entry ≡ [])) }
+{
+    match arguments.next() {
+        None => Some(request),
+        Some(_) => None,
+    }
+}

@@ -1,0 +1,53 @@
+-- How the program ends.
+use Rattle.std.proofs.Common.{◌≡◌, ℕ, List, Option, Result, Ok, Err, OnOk, OnErr, take, length, arith, refl, sym, subst, inl, inr}
+use Rattle.std.specs.Io.KnownBytes.{Appends, Keeps}
+use Rattle.std.proofs.KnownBytes.{Appends-kept}
+use Rattle.std.proofs.lemmas.List.{take_all}
+use Rattle.edits.specs.State.{State, fresh}
+use Rattle.server.specs.CommandLine.{Begins, EndsFlushing, EndsServing, RunsAs, RunsTable, fault_line}
+use Rattle.server.specs.Served.{Outcome}
+use Rattle.server.specs.TableState.{working}
+use Rattle.server.specs.declared.arguments.Arguments.{Arguments}
+use Rattle.server.specs.declared.arguments.Arguments.TheVariants.{Table}
+use Rattle.server.specs.declared.session.ServeFault.{ServeFault}
+
+-- a text that was tried, and then a flush
+pub begins : {E : Type 0} (r : Result (Unit {0}) E) (a b c : Option (List ℕ)) (text : List ℕ) → OnOk r (Appends a b text)
+    → OnErr r ((n : ℕ) × Appends a b (take n text)) → Keeps b c → Begins a c text
+begins (Ok u) a b c text ok err kept =
+    let all : take (length text) text ≡ text = take_all (length text) text (omega arith) in
+    (length text, Appends-kept a b c (take (length text) text) (subst (Appends a b) (sym all) ok) kept)
+begins (Err e) a b c text ok (n, begun) kept = (n, Appends-kept a b c (take n text) begun kept)
+
+module _ (capacity : ℕ) (before after written mid new : Option (List ℕ)) (s t : State) where
+  -- a flush keeps what was served
+  outcome_kept : Outcome capacity before after written mid s t (Ok tt) → Keeps mid new → Outcome capacity before after written new s t (Ok tt)
+  outcome_kept (output, appends, served) kept = (output, Appends-kept written mid new output appends kept, served)
+
+module _ (side n capacity : ℕ) (same : n ≡ capacity) (before after written mid new : Option (List ℕ)) (t : State) (status : ℕ) where
+  abbrev RunsTo : Option (List ℕ) → Result (Unit {0}) ServeFault → Type 0
+  RunsTo now r = Outcome capacity before after written now (working (fresh side)) t r
+
+  with_capacity : (r : Result (Unit {0}) ServeFault) → Outcome n before after written mid (working (fresh side)) t r → RunsTo mid r
+  with_capacity r served = subst (λ (k : ℕ). Outcome k before after written mid (working (fresh side)) t r) same served
+
+  kept_until : (now : Option (List ℕ)) → RunsTo mid (Ok tt) → Keeps mid now → RunsTo now (Ok tt)
+  kept_until now served kept = outcome_kept capacity before after written mid now (working (fresh side)) t served kept
+
+  -- all was served, and then a flush
+  pub flushed : Outcome n before after written mid (working (fresh side)) t (Ok tt) → EndsFlushing mid new status → EndsServing side capacity before after written new status
+  flushed served (inl (kept, is)) = inl (t, kept_until new (with_capacity (Ok tt) served) kept, is)
+  flushed served (inr (now, kept, line, is)) = inr (inl (t, now, kept_until now (with_capacity (Ok tt) served) kept, line, is))
+
+  -- a stream failed, and then the line that tells which
+  pub failed : (fault : ServeFault) → Outcome n before after written mid (working (fresh side)) t (Err fault) → Begins mid new (fault_line fault) → status ≡ 1
+      → EndsServing side capacity before after written new status
+  failed fault served line is = inr (inr (t, mid, fault, with_capacity (Err fault) served, line, is))
+
+-- what is run is what is asked for
+pub run_as : (a : Arguments) (n k : ℕ) (before after written new : Option (List ℕ)) (status : ℕ) → RunsTable n k before after written new status
+    → ((side capacity : ℕ) → a ≡ Table side capacity → (n ≡ side) × (k ≡ capacity)) → RunsAs a before after written new status
+run_as (Table side capacity) n k before after written new status runs same =
+    let are = same side capacity refl in
+    subst (λ (i : ℕ). RunsTable i capacity before after written new status) are.0
+    (subst (λ (j : ℕ). RunsTable n j before after written new status) are.1 runs)

@@ -1,0 +1,8 @@
+use Rattle.std.specs.Prelude.{Err}
+use Rattle.lattice.specs.declared.refusal.Refusal.TheVariants.{NoMemory}
+use Rattle.server.proofs.answering.trace.Goals as goal
+
+pub returns-in-Ok-clause-outcome : goal.returns-in-Ok-clause-outcome
+returns-in-Ok-clause-outcome g c = λ honest s at.
+    let traced = c.in-Ok.ensures.outcome honest s at in
+    (traced.0, traced.1.0, (Err NoMemory, (traced.1.1.0, c.refused.ensures)))

@@ -1,0 +1,14 @@
+use Rattle.std.proofs.Common.{rules, ◌≡◌, ◌≤◌, ℕ, inr, subst}
+use Rattle.server.specs.CommandLine.{EndsServing}
+use Rattle.server.proofs.commands.table.Goals as goal
+
+pub returns : goal.returns
+returns g c =
+    let side_is : c.in-Some.side ≡ c.args.side = search rules in
+    let ends = subst (λ (n : ℕ). EndsServing n c.args.capacity (g.R.Read.remaining c.args.reader.now) (g.R.Read.remaining c.serve_table.new.reader) (g.W.Write.contents c.args.writer.now) (g.W.Write.contents c.serve_table.new.writer) c.serve_table.result)
+    side_is c.serve_table.ensures in
+    let low : 3 ≤ c.args.side = search rules in
+    let high : c.args.side ≤ 1201 = search rules in
+    let some : 1 ≤ c.args.capacity = search rules in
+    let few : c.args.capacity ≤ 240 = search rules in
+    inr (inr (low, high, some, few, ends))

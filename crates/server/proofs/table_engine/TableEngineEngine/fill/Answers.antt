@@ -1,0 +1,22 @@
+use Rattle.drainage.proofs.Answered.{fills}
+use Rattle.server.specs.TableState.{contents_of, working}
+use Rattle.server.proofs.TableLemmas.{filled, stands, stays_this}
+use Rattle.server.proofs.table_engine.TableEngineEngine.fill.Goals as goal
+
+pub returns-clause-outcome : goal.returns-clause-outcome
+returns-clause-outcome c = λ honest s at.
+    let e = c.self.inside in
+    let held = c.args.self.now in
+    let view = c.self.view_is in
+    let valid = c.self.invariant.valid in
+    let says = c.fill.ensures in
+    let new_valid = says.reads.never_refuses valid in
+    let this = working (contents_of e.table e.count e.number) in (
+      s,
+      (
+        stands held e.table e.capacity e.count e.number view s at c.fill.new.samples says.reads.keeps,
+        filled held e.table e.capacity e.count e.number view s at valid c.args.point c.fill.result
+            (fills this this (stays_this held e.table e.capacity e.count e.number view s at) valid c.args.point c.fill.result (says.reads.answers valid) (says.level new_valid)
+            says.outside (says.void new_valid) says.causes),
+      ),
+    )

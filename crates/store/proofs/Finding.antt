@@ -1,0 +1,73 @@
+-- The stored tile of a corner: its samples and its bytes are those of the mosaic's tile.
+use Rattle.std.proofs.Common.{◌≡◌, ℕ, zero, suc, ◌+◌, ◌*◌, ◌<◌, ℤ, pos, Bool, cond, IsTrue, List, [], ◌∷◌, length, get_or, map, Contains, sym, ap, ◌∙◌, subst, arith}
+use Rattle.std.specs.Prelude.{Option, Some, IsSomeAnd, slice_get}
+use Rattle.std.proofs.lemmas.List.Elements.{All-contains}
+use Rattle.std.proofs.lemmas.Option.{get_or_from_slice_get, slice_get_within, slice_get-get_or}
+use Rattle.lattice.specs.Corners.{Place, is_before}
+use Rattle.lattice.specs.Mosaic.{Mosaic, IsMosaic, samples_among, samples_of}
+use Rattle.hgt.specs.Bytes.{sample_of, hgt_bytes}
+use Rattle.hgt.proofs.BytesLemmas.{hgt_bytes-samples_in}
+use Rattle.catalogue.specs.Reading.{IsSampleOf}
+use Rattle.catalogue.proofs.Mosaics.{corner_of, rising_tiles}
+use Rattle.catalogue.proofs.Places.{before_not_same, same_from}
+use Rattle.catalogue.proofs.Rising.{AllAfter, Rising}
+use Rattle.cow_tree.specs.Stored.{StoredTile, plane_bytes, samples_of_plane}
+use Rattle.store.proofs.Pages.{bytes_of_plane, length_plane, length_samples, sample_in_page}
+use Rattle.store.proofs.HeldTiles.{IsFilled, AreTilesOf, as_tile}
+
+abbrev pub stored_corner : StoredTile → Place
+stored_corner t = t.corner
+
+pub after_contained : (c : Place) (tiles : List StoredTile) (t : StoredTile) → AllAfter stored_corner c tiles → Contains tiles t → IsTrue (is_before c t.corner)
+after_contained c [] t after (k, below, here) = absurd (omega (arith, below))
+after_contained c (u ∷ rest) t after (zero, below, here) = subst (λ (x : StoredTile). IsTrue (is_before c x.corner)) here after.0
+after_contained c (u ∷ rest) t after (suc k, below, here) = after_contained c rest t after.1 (k, omega (arith, below), here)
+
+-- the stored tiles stand in the order of the mosaic's
+after_stored : (n : ℕ) (c : Place) (tiles : List StoredTile) → AllAfter corner_of c (map (as_tile n) tiles) → AllAfter stored_corner c tiles
+after_stored n c [] after = tt
+after_stored n c (t ∷ rest) after = (after.0, after_stored n c rest after.1)
+
+rising_back : (n : ℕ) (tiles : List StoredTile) → Rising corner_of (map (as_tile n) tiles) → Rising stored_corner tiles
+rising_back n [] rising = tt
+rising_back n (t ∷ rest) rising = (after_stored n t.corner rest rising.0, rising_back n rest rising.1)
+
+pub rising_stored : (n : ℕ) (tiles : List StoredTile) (m : Mosaic) → AreTilesOf n tiles m → IsMosaic m → Rising stored_corner tiles
+rising_stored n tiles m are valid = rising_back n tiles (subst (λ (x : Mosaic). Rising corner_of x.tiles) are.mosaic (rising_tiles m valid))
+
+samples_found : (n : ℕ) (c : Place) (tiles : List StoredTile) (t : StoredTile) → Rising stored_corner tiles → Contains tiles t → t.corner ≡ c
+    → samples_among (map (as_tile n) tiles) c ≡ Some (samples_of_plane n t.heights)
+samples_found n c [] t rising (k, below, here) corner = absurd (omega (arith, below))
+samples_found n c (u ∷ rest) t rising (zero, below, here) corner =
+    ap (λ (b : Bool). cond b (Some (samples_of_plane n u.heights)) (samples_among (map (as_tile n) rest) c)) (same_from u.corner c (ap stored_corner here ∙ corner))
+    ∙ ap (λ (x : StoredTile). Some (samples_of_plane n x.heights)) here
+samples_found n c (u ∷ rest) t rising (suc k, below, here) corner =
+    let there : Contains rest t = (k, omega (arith, below), here) in
+    let before : IsTrue (is_before u.corner c) = subst (λ (d : Place). IsTrue (is_before u.corner d)) corner (after_contained u.corner rest t rising.0 there) in
+    ap (λ (b : Bool). cond b (Some (samples_of_plane n u.heights)) (samples_among (map (as_tile n) rest) c)) (before_not_same u.corner c before)
+    ∙ samples_found n c rest t rising.1 there corner
+
+module _ (n : ℕ) (tiles : List StoredTile) (m : Mosaic) (c : Place) (t : StoredTile) (are : AreTilesOf n tiles m) (valid : IsMosaic m) (there : Contains tiles t) (corner : t.corner ≡ c) where
+  pub samples_stored : samples_of m c ≡ Some (samples_of_plane n t.heights)
+  samples_stored = ap (λ (x : Mosaic). samples_of x c) are.mosaic ∙ samples_found n c tiles t (rising_stored n tiles m are valid) there corner
+
+  filled : IsFilled n t
+  filled = All-contains (IsFilled n) tiles t are.filled there
+
+  -- a sample read from its page is the mosaic's
+  pub sample_stored : (i j e : ℕ) (page : List ℕ) → e ≡ 2048 * i + j → j < 2048 → e < n * n → slice_get t.heights i ≡ Some page
+      → IsSampleOf m c e (sample_of (get_or page (2 * j) 0) (get_or page (2 * j + 1) 0))
+  sample_stored i j e page here below inside read =
+      let samples : List ℤ = samples_of_plane n t.heights in
+      let within : e < length samples = omega (arith, inside, length_samples n t.heights filled.pages filled.enough) in
+      let page_is : get_or t.heights i [] ≡ page = get_or_from_slice_get t.heights i page [] read in
+      let value : get_or samples e (pos 0) ≡ sample_of (get_or page (2 * j) 0) (get_or page (2 * j + 1) 0) =
+      sample_in_page t.heights i j e filled.pages (slice_get_within t.heights i page read) here below n (pos 0) inside filled.enough
+      ∙ ap (λ (p : List ℕ). sample_of (get_or p (2 * j) 0) (get_or p (2 * j + 1) 0)) page_is in
+      subst (λ (o : Option (List ℤ)). IsSomeAnd o (λ l. slice_get l e ≡ Some (sample_of (get_or page (2 * j) 0) (get_or page (2 * j + 1) 0)))) (sym samples_stored)
+      (slice_get-get_or samples e (pos 0) within ∙ ap (λ (s : ℤ). Some s) value)
+
+  -- the pages joined and cut are the HGT bytes of the tile's own samples
+  pub bytes_stored : (samples : List ℤ) × ((samples_of m c ≡ Some samples) × (plane_bytes n t.heights ≡ hgt_bytes samples))
+  bytes_stored =
+      (samples_of_plane n t.heights, (samples_stored, sym (hgt_bytes-samples_in (plane_bytes n t.heights) (bytes_of_plane n t.heights filled.pages) (omega (arith, length_plane n t.heights filled.pages filled.enough)))))

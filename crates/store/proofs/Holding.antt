@@ -1,0 +1,86 @@
+-- What a store holds from one commit to the next.
+use Rattle.std.proofs.Common.{◌≡◌, ℕ, ◌+◌, ◌≤◌, List, All, refl, sym, ap, ap₂, ◌∙◌, subst, arith}
+use Rattle.std.specs.Prelude.{Ok}
+use Rattle.std.specs.List.{AllZip}
+use Rattle.std.proofs.lemmas.List.Elements.{All-nil}
+use Rattle.lattice.specs.Corners.{Place}
+use Rattle.lattice.specs.Mosaic.{Tile, Mosaic, IsTile, IsMosaic}
+use Rattle.catalogue.specs.Tiles.{corners_of}
+use Rattle.edits.specs.declared.command.Command.{Command}
+use Rattle.edits.specs.Effect.{effect}
+use Rattle.edits.specs.State.{Contents, fresh, made_by}
+use Rattle.edits.specs.Touched.{stale_after}
+use Rattle.cow_tree.specs.Stored.{StoredTile, Stored, no_tiles, next_commit, mosaic_of_tiles}
+use Rattle.cow_tree.proofs.OneStored.{one_stored}
+use Rattle.store.specs.Standing.{HoldsTile, Holds, AreSame, StandsForOneContents}
+use Rattle.store.proofs.HeldTiles.{AreTilesOf, tiles_held, tiles_filled, filled_hold, none_kept_filled, no_tiles_of}
+use Rattle.store.proofs.Stale.{all_stale}
+
+-- the mosaic is that of the stored tiles
+pub held : (side capacity : ℕ) (stored : Stored) (c : Contents) → Holds side capacity stored c → AreTilesOf side stored.tiles c.mosaic
+held side capacity stored c holds = record {
+  mosaic = ap₂ (λ (n : ℕ) (ts : List Tile). record { side = n; tiles = ts }) holds.side_is (tiles_held side stored.tiles c.mosaic.tiles tiles holds.tiles);
+  filled = tiles_filled side stored.tiles c.mosaic.tiles holds.tiles holds.none_kept;
+}
+  where
+    tiles : All (IsTile side) c.mosaic.tiles
+    tiles = subst (λ (n : ℕ). All (IsTile n) c.mosaic.tiles) holds.side_is holds.valid.tiles
+
+-- and tiles of the mosaic hold it
+pub holds_from : (side capacity : ℕ) (stored : Stored) (c : Contents) → stored.side ≡ side → stored.capacity ≡ capacity → stored.number ≡ c.number → stored.count ≡ c.count
+    → IsMosaic c.mosaic → AreTilesOf side stored.tiles c.mosaic → c.stale ≡ corners_of c.mosaic → Holds side capacity stored c
+holds_from side capacity stored c stored_side stored_capacity number count valid are stale = record {
+  stored_side = stored_side;
+  stored_capacity = stored_capacity;
+  number = number;
+  count = count;
+  valid = valid;
+  side_is = ap (λ (m : Mosaic). m.side) are.mosaic;
+  tiles = subst (λ (m : Mosaic). AllZip (HoldsTile side) stored.tiles m.tiles) (sym are.mosaic) (filled_hold side stored.tiles are.filled);
+  none_kept = none_kept_filled side stored.tiles are.filled;
+  stale = stale;
+}
+
+-- as formatted
+pub holds_fresh : (side capacity : ℕ) → 3 ≤ side → side ≤ 3601 → Holds side capacity (no_tiles side capacity) (fresh side)
+holds_fresh side capacity low high =
+    holds_from side capacity (no_tiles side capacity) (fresh side) refl refl refl refl
+    (record {
+      side_low = low;
+      side_high = high;
+      tiles = All-nil (IsTile side);
+      in_order = λ k d below. absurd (omega (arith, below));
+    }) (no_tiles_of side) refl
+
+-- the next commit, by a command that isn't refused
+pub holds_next : (side capacity : ℕ) (stored : Stored) (c : Contents) (command : Command) (new : Mosaic) (tiles : List StoredTile) → Holds side capacity stored c
+    → effect capacity c.mosaic command ≡ Ok new → IsMosaic new → AreTilesOf side tiles new
+    → Holds side capacity (next_commit stored tiles (c.count + 1)) (made_by c command new)
+holds_next side capacity stored c command new tiles holds makes valid are =
+    holds_from side capacity (next_commit stored tiles (c.count + 1)) (made_by c command new) holds.stored_side holds.stored_capacity
+    (ap (λ (k : ℕ). k + 1) holds.number) refl valid are
+    (ap (λ (l : List Place). stale_after c.mosaic command l new) holds.stale ∙ all_stale capacity c.mosaic new command makes)
+
+-- ---- an image stands for at most one
+
+same_contents : (a b : Contents) → a.mosaic ≡ b.mosaic → a.count ≡ b.count → a.number ≡ b.number → a.stale ≡ b.stale → a ≡ b
+same_contents a b mosaic count number stale =
+    ap₂ (λ (m : Mosaic) (k : ℕ). record { mosaic = m; count = k; number = a.number; stale = a.stale }) mosaic count
+    ∙ ap₂ (λ (k : ℕ) (l : List Place). record { mosaic = b.mosaic; count = b.count; number = k; stale = l }) number stale
+
+one_held : (side capacity other_side other_capacity : ℕ) (stored : Stored) (a b : Contents) → Holds side capacity stored a → Holds other_side other_capacity stored b
+    → AreSame side capacity a other_side other_capacity b
+one_held side capacity other_side other_capacity stored a b p q =
+    let sides : side ≡ other_side = sym p.stored_side ∙ q.stored_side in
+    let mosaic : a.mosaic ≡ b.mosaic =
+    (held side capacity stored a p).mosaic ∙ ap (λ (n : ℕ). mosaic_of_tiles n stored.tiles) sides ∙ sym (held other_side other_capacity stored b q).mosaic in
+    record {
+      sides = sides;
+      capacities = sym p.stored_capacity ∙ q.stored_capacity;
+      contents = same_contents a b mosaic (sym p.count ∙ q.count) (sym p.number ∙ q.number) (p.stale ∙ ap corners_of mosaic ∙ sym q.stale);
+    }
+
+pub one_contents : StandsForOneContents
+one_contents sectors image side capacity other_side other_capacity a b p q =
+    let same : q.0 ≡ p.0 = one_stored sectors image q.0 p.0 q.1 p.1 in
+    one_held side capacity other_side other_capacity p.0 a b p.2 (subst (λ (s : Stored). Holds other_side other_capacity s b) same q.2)

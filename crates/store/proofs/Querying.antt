@@ -1,0 +1,131 @@
+-- What a query leaves, by the tree before and after its reads.
+use Rattle.std.proofs.Common.{◌≡◌, ℕ, Bool, true, false, List, map, refl, sym, ap, ap₂, ◌∙◌, subst, arith, true≢false}
+use Rattle.std.specs.Prelude.{None, Result, Ok, Err, IsErrOf, IfOk, IfErr, OnOk, OnErr}
+use Rattle.disk.specs.Disk.{Image, HasRisen}
+use Rattle.disk.specs.Stops.{nothing_done}
+use Rattle.disk.specs.declared.disk.Disk.{Ghosts}
+use Rattle.lattice.specs.Corners.{Place}
+use Rattle.lattice.specs.Mosaic.{IsMosaic}
+use Rattle.lattice.specs.declared.refusal.Refusal.{Refusal}
+use Rattle.lattice.specs.declared.refusal.Refusal.TheVariants.{Device, Failed}
+use Rattle.page_codec.specs.Roots.{RootValue}
+use Rattle.edits.specs.Outcomes.{Stays, StaysFailed, Fails}
+use Rattle.edits.specs.State.{State, failing}
+use Rattle.cow_tree.specs.Reading.{mosaic_of, IsReadable, HasOnlyRead}
+use Rattle.cow_tree.specs.Stored.{StoredTile, Stored, AreWhole, mosaic_of_tiles}
+use Rattle.cow_tree.specs.Charts.{HasFreshHeights}
+use Rattle.cow_tree.specs.Trees.{HasStaged, disk_of, root_of, has_failed, corners_of, staged_in, IsAt as IsTreeAt}
+use Rattle.cow_tree.specs.declared.tree.Tree.{Tree}
+use Rattle.store.specs.Queried.{IsQueried}
+use Rattle.store.specs.TreeStates.{IsInState}
+use Rattle.store.proofs.HeldTiles.{AreTilesOf, whole_filled}
+use Rattle.store.proofs.Holding.{held}
+use Rattle.store.proofs.InMemory.{is_working}
+use Rattle.store.proofs.States.{reads_keep, reads_fail}
+
+-- ---- the samples of a tree in a state are those of the state's mosaic
+
+module _ {D : Type 0} (g : Ghosts D) (tree : Tree D g) (works : has_failed tree ≡ false) (s : State) (at : IsInState g tree s) where
+  pub tiles_at : AreTilesOf (root_of tree).side (staged_in g tree) s.contents.mosaic
+  tiles_at =
+      let sound = at.sound works in
+      subst (λ (tiles : List StoredTile). AreTilesOf (root_of tree).side tiles s.contents.mosaic) (sym sound.nothing_staged)
+      (held (root_of tree).side (root_of tree).capacity sound.stored s.contents sound.holds)
+
+  pub valid_at : IsMosaic s.contents.mosaic
+  valid_at = (at.sound works).holds.valid
+
+  pub mosaic_at : mosaic_of g tree ≡ s.contents.mosaic
+  mosaic_at = sym tiles_at.mosaic
+
+  pub readable_at : g.honest (disk_of tree) → IsReadable g tree
+  readable_at honest = record {
+    honest = honest;
+    pages = whole_filled (root_of tree).side (staged_in g tree) tiles_at.filled;
+    valid = subst IsMosaic (sym mosaic_at) valid_at;
+  }
+
+  pub stays_at : Stays s s
+  stays_at = record { working = is_working g tree works s at; same = refl }
+
+-- ---- a store that failed before
+
+module _ {D : Type 0} (g : Ghosts D) (tree : Tree D g) (fails : has_failed tree ≡ true) where
+  pub stays_failed_at : (s : State) → IsInState g tree s → StaysFailed s s
+  stays_failed_at s at = record { failed = sym at.failed_is ∙ fails; same = refl }
+
+-- ---- no read
+
+module _ {D : Type 0} (g : Ghosts D) (only_now : (disk : D) (image : Image) → g.honest disk → g.since disk (g.moment disk) image → g.may disk image) (tree : Tree D g) where
+  pub unread : {T : Type 0} (result : Result T Refusal) → (IsErrOf result Device → ⊥) → (has_failed tree ≡ true → result ≡ Err Failed) → IsQueried g tree tree result
+  unread result not_device failed = record {
+    size = refl;
+    writes = refl;
+    root = refl;
+    later = omega arith;
+    device = λ is. absurd (not_device is);
+    failed = λ fails. (failed fails, refl);
+    nothing = λ honest. nothing_done g (disk_of tree) (only_now (disk_of tree)) honest;
+  }
+
+-- ---- reads
+
+pub true_where : (b : Bool) → ¬ (b ≡ false) → b ≡ true
+true_where true none = refl
+true_where false none = absurd (none refl)
+
+module _ {D : Type 0} (g : Ghosts D) (old new : Tree D g) (works : has_failed old ≡ false) (keeps : HasOnlyRead g old new) where
+  pub queried : {T : Type 0} (result : Result T Refusal) → (IsErrOf result Device → HasRisen (g.failures (disk_of old)) (g.failures (disk_of new))) → IsQueried g old new result
+  queried result device = record {
+    size = keeps.size;
+    writes = keeps.writes;
+    root = keeps.root;
+    later = keeps.later;
+    device = device;
+    failed = λ fails. absurd (true≢false (sym fails ∙ works));
+    nothing = keeps.nothing;
+  }
+
+  -- between two calls nothing is staged
+  pub still_clean : (has_failed old ≡ false → (c : Place) → ¬ HasStaged old c) → has_failed new ≡ false → (c : Place) → ¬ HasStaged new c
+  still_clean clean still c staged = clean works c (subst (λ chart. HasFreshHeights c chart) keeps.chart staged)
+
+  pub still_corners : (has_failed old ≡ false → corners_of old ≡ map (λ e. e.corner) (root_of old).entries) → has_failed new ≡ false → corners_of new ≡ map (λ e. e.corner) (root_of new).entries
+  still_corners corners still = keeps.corners ∙ corners works ∙ ap (λ (r : RootValue). map (λ e. e.corner) r.entries) (sym keeps.root)
+
+  module _ (honest : g.honest (disk_of new)) (s : State) (at : IsInState g old s) where
+    none_new : (image : Image) → g.may (disk_of new) image → g.may (disk_of old) image
+    none_new = (keeps.nothing honest).run.now
+
+    -- the state stays where no read was refused
+    pub still_at : has_failed new ≡ false → IsInState g new s
+    still_at still =
+        reads_keep g (disk_of old) (disk_of new) keeps.size none_new (root_of old) (root_of new) keeps.root (has_failed old) (has_failed new) (λ (stored : Stored). IsTreeAt g old stored)
+        (λ (stored : Stored). IsTreeAt g new stored) (staged_in g old) (staged_in g new) s at (still ∙ sym works) (λ stored is. keeps.at honest stored is still) (keeps.staged honest)
+
+    -- and fails where one was
+    pub failing_at : has_failed new ≡ true → IsInState g new (failing s None)
+    failing_at fails =
+        reads_fail g (disk_of old) (disk_of new) keeps.size none_new (root_of old) (root_of new) keeps.root (has_failed old) (has_failed new) (λ (stored : Stored). IsTreeAt g old stored)
+        (λ (stored : Stored). IsTreeAt g new stored) (staged_in g old) (staged_in g new) s at None fails (is_working g old works s at)
+
+    pub fails_so : Fails s None (failing s None)
+    fails_so = record { working = is_working g old works s at; fails = refl }
+
+    pub still_readable : IsReadable g new
+    still_readable =
+        let was = readable_at g old works s at (keeps.honest honest) in
+        record {
+          honest = honest;
+          pages = subst AreWhole (sym (keeps.staged honest)) was.pages;
+          valid = subst IsMosaic (sym (ap₂ (λ (n : ℕ) (tiles : List StoredTile). mosaic_of_tiles n tiles) (ap (λ (r : RootValue). r.side) keeps.root) (keeps.staged honest))) was.valid;
+        }
+
+    -- the answer of a call that the disk alone refuses
+    pub answered : {T : Type 0} (Answers : State → Result T Refusal → State → Type 0) (result : Result T Refusal)
+        → OnOk result (has_failed new ≡ false) → OnErr result (¬ (has_failed new ≡ false)) → IfErr result (λ r. r ≡ Device)
+        → Answers s (Err Device) (failing s None) → IfOk result (λ x. Answers s (Ok x) s)
+        → (t : State) × (IsInState g new t × Answers s result t)
+    answered Answers (Ok x) still fails device refused ok = (s, (still_at still, ok))
+    answered Answers (Err r) still fails device refused ok =
+        (failing s None, (failing_at (true_where (has_failed new) fails), subst (λ (why : Refusal). Answers s (Err why) (failing s None)) (sym device) refused))

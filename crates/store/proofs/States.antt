@@ -1,0 +1,115 @@
+-- The states of a store, by what is seen of its tree.
+use Rattle.std.proofs.Common.{◌≡◌, ◌⊎◌, inl, inr, ⊎_elim, ℕ, Bool, true, false, List, refl, sym, ap, ◌∙◌, subst, true≢false}
+use Rattle.std.specs.Prelude.{Option, Some, None}
+use Rattle.disk.specs.Disk.{Image}
+use Rattle.disk.specs.declared.disk.Disk.{Ghosts}
+use Rattle.page_codec.specs.Roots.{RootValue}
+use Rattle.edits.specs.declared.command.Command.{Command}
+use Rattle.edits.specs.State.{Contents, State, in_doubt, failing}
+use Rattle.cow_tree.specs.Stored.{StoredTile, Stored}
+use Rattle.cow_tree.specs.Layout.{TilePlace, StoresAt, Stands}
+use Rattle.store.specs.Standing.{Holds, StandsFor}
+use Rattle.store.specs.States.{StandsForState, EachStandsFor, StandsForMade, working, IsStateOf}
+
+-- the known root's numbers are those of what is stored
+module _ (sectors : ℕ) (root : RootValue) (tiles : List TilePlace) (stored : Stored) (image : Image) (stores : StoresAt sectors root tiles stored image) where
+  pub root_side : stored.side ≡ root.side
+  root_side = ap (λ (s : Stored). s.side) stores.stands
+
+  pub root_capacity : stored.capacity ≡ root.capacity
+  root_capacity = ap (λ (s : Stored). s.capacity) stores.stands
+
+  pub root_count : stored.count ≡ root.count
+  root_count = ap (λ (s : Stored). s.count) stores.stands
+
+  pub root_number : stored.number ≡ root.number
+  root_number = ap (λ (s : Stored). s.number) stores.stands
+
+  -- so what is held is held with the root's side and capacity
+  pub held_by_root : (side capacity : ℕ) (c : Contents) → Holds side capacity stored c → Holds root.side root.capacity stored c
+  held_by_root side capacity c holds =
+      subst (λ (n : ℕ). Holds n root.capacity stored c) (sym holds.stored_side ∙ root_side)
+      (subst (λ (n : ℕ). Holds side n stored c) (sym holds.stored_capacity ∙ root_capacity) holds)
+
+module _ {D : Type 0} (g : Ghosts D) (disk : D) (root : RootValue) (failed : Bool) (IsTreeAt : Stored → Type 0) (staged : List StoredTile) where
+  -- a tree that hasn't failed and has nothing staged, at what holds the contents
+  pub at_contents : (tiles : List TilePlace) (stored : Stored) (c : Contents) → failed ≡ false → ((image : Image) → g.may disk image → StoresAt (g.size disk) root tiles stored image) → g.may disk (g.seen disk)
+      → IsTreeAt stored → staged ≡ stored.tiles → Holds root.side root.capacity stored c → IsStateOf g disk root failed IsTreeAt staged (working c)
+  at_contents tiles stored c works each seen tree clean holds = record {
+    images = λ image may. inl (stored, (root, tiles, each image may), holds);
+    count = sym (root_count (g.size disk) root tiles stored (g.seen disk) (each (g.seen disk) seen)) ∙ holds.count;
+    number = sym (root_number (g.size disk) root tiles stored (g.seen disk) (each (g.seen disk) seen)) ∙ holds.number;
+    failed_is = works;
+    sound = λ _. record { stored = stored; tree = tree; holds = holds; nothing_staged = clean; no_doubt = refl };
+  }
+
+  -- one that failed
+  pub at_failure : (s : State) → failed ≡ true → s.failed ≡ true → root.count ≡ s.contents.count → root.number ≡ s.contents.number → EachStandsFor g disk root.side root.capacity s
+      → IsStateOf g disk root failed IsTreeAt staged s
+  at_failure s fails is count number images = record {
+    images = images;
+    count = count;
+    number = number;
+    failed_is = fails ∙ sym is;
+    sound = λ works. absurd (true≢false (sym fails ∙ works));
+  }
+
+  -- where no commit is in doubt, a stop leaves the contents
+  pub leaves_contents : (s : State) → IsStateOf g disk root failed IsTreeAt staged s → s.doubt ≡ None → (image : Image) → g.may disk image → StandsFor (g.size disk) root.side root.capacity image s.contents
+  leaves_contents s at none image may = by (at.images image may)
+    where
+      by : StandsForState (g.size disk) root.side root.capacity image s → StandsFor (g.size disk) root.side root.capacity image s.contents
+      by (inl is) = is
+      by (inr (made, some, is)) = let no : ◌≡◌ {A = Option Contents} None (Some made) = sym none ∙ some in cc
+
+-- what becomes of the images in a call that failed: the contents stay, and the commit that the call made is in doubt
+
+pub still_contents : {D : Type 0} (g : Ghosts D) (disk : D) (side capacity : ℕ) (s : State) (doubt : Option Contents)
+    → ((image : Image) → g.may disk image → StandsFor (g.size disk) side capacity image s.contents) → EachStandsFor g disk side capacity (failing s doubt)
+still_contents g disk side capacity s doubt each = λ image may. inl (each image may)
+
+pub one_of_two : {D : Type 0} (g : Ghosts D) (disk : D) (side capacity : ℕ) (s : State) (stored next : Stored) (made : Contents) → Holds side capacity stored s.contents → Holds side capacity next made
+    → ((image : Image) → g.may disk image → Stands (g.size disk) image stored ⊎ Stands (g.size disk) image next) → EachStandsFor g disk side capacity (failing s (Some made))
+one_of_two g disk side capacity s stored next made was will each =
+    λ image may. ⊎_elim (λ stands. inl (stored, stands, was)) (λ stands. inr (made, refl, (next, stands, will))) (each image may)
+
+-- and of one image at any moment of a commit
+pub one_made : (sectors side capacity : ℕ) (c made : Contents) (command : Command) (stored next : Stored) (image : Image) → in_doubt capacity c command ≡ Some made
+    → Holds side capacity stored c → Holds side capacity next made → Stands sectors image stored ⊎ Stands sectors image next
+    → StandsFor sectors side capacity image c ⊎ StandsForMade sectors side capacity image c command
+one_made sectors side capacity c made command stored next image makes was will (inl stands) = inl (stored, stands, was)
+one_made sectors side capacity c made command stored next image makes was will (inr stands) = inr (made, makes, (next, stands, will))
+
+-- what calls that only read leave: no image is new
+
+module _ {D : Type 0} (g : Ghosts D) (old new : D) (size : g.size new ≡ g.size old) (none_new : (image : Image) → g.may new image → g.may old image)
+    (was now : RootValue) (root : now ≡ was) (failed fails : Bool) (IsOld IsNew : Stored → Type 0) (staged still : List StoredTile) (s : State) (at : IsStateOf g old was failed IsOld staged s) where
+  images_kept : EachStandsFor g new was.side was.capacity s
+  images_kept = λ image may. subst (λ (n : ℕ). StandsForState n was.side was.capacity image s) (sym size) (at.images image (none_new image may))
+
+  by_root : (t : State) → IsStateOf g new was fails IsNew still t → IsStateOf g new now fails IsNew still t
+  by_root t is = subst (λ (r : RootValue). IsStateOf g new r fails IsNew still t) (sym root) is
+
+  -- the state stays where no call failed
+  pub reads_keep : fails ≡ failed → ((stored : Stored) → IsOld stored → IsNew stored) → still ≡ staged → IsStateOf g new now fails IsNew still s
+  reads_keep same moves stays =
+      by_root s (record {
+        images = images_kept;
+        count = at.count;
+        number = at.number;
+        failed_is = same ∙ at.failed_is;
+        sound = λ works.
+            let sound = at.sound (sym same ∙ works) in
+            record { stored = sound.stored; tree = moves sound.stored sound.tree; holds = sound.holds; nothing_staged = stays ∙ sound.nothing_staged; no_doubt = sound.no_doubt };
+      })
+
+  -- where one did, the contents stay, and no commit is in doubt, or one that was never begun
+  pub reads_fail : (doubt : Option Contents) → fails ≡ true → s.failed ≡ false → IsStateOf g new now fails IsNew still (failing s doubt)
+  reads_fail doubt fail working_before =
+      let none : s.doubt ≡ None = (at.sound (at.failed_is ∙ working_before)).no_doubt in
+      by_root (failing s doubt) (at_failure g new was fails IsNew still (failing s doubt) fail refl at.count at.number
+      (still_contents g new was.side was.capacity s doubt (λ image may. subst (λ (n : ℕ). StandsFor n was.side was.capacity image s.contents) (sym size) (leaves_contents g old was failed IsOld staged s at none image (none_new image may)))))
+
+  -- where an opening is refused, the state stays but for the failure
+  pub stays_failed : fails ≡ true → IsStateOf g new now fails IsNew still (record s { failed = true })
+  stays_failed fail = by_root (record s { failed = true }) (at_failure g new was fails IsNew still (record s { failed = true }) fail refl at.count at.number images_kept)

@@ -1,0 +1,13 @@
+use Rattle.std.proofs.Common.{◌≡◌, ℕ, ◌<◌, get_or, Ok}
+use Rattle.edits.specs.declared.change.Change.{Change}
+use Rattle.edits.specs.LeftStale.{tile_of}
+use Rattle.cow_tree.specs.Trees.{disk_of, staged_in, HasStaged}
+use Rattle.store.specs.Editing.{StagesOnly}
+use Rattle.store.proofs.editing.prepare_tiles.Given as goal
+
+abbrev pub invariant-loop-change : goal.invariant-loop-change
+invariant-loop-change g l = record {
+  stages : StagesOnly {T = Unit {0}} g.D.Disk l.fn.tree l.tree (Ok tt);
+  staged : staged_in g.D.Disk l.tree ≡ staged_in g.D.Disk l.fn.tree;
+  prepared : (k : ℕ) (change : Change) → k < l.change-index → HasStaged l.tree (tile_of (get_or l.changes k change));
+}

@@ -1,0 +1,91 @@
+use Rattle.std.proofs.Common.{◌≡◌, ◌<◌, ◌/◌, ℕ, Ok, Err, List, length, get_or, take, refl, sym, ap, ◌∙◌, ⊎_elim, subst}
+use Rattle.std.proofs.lemmas.List.{get_or_default}
+use Rattle.lattice.specs.Corners.{Place}
+use Rattle.lattice.specs.declared.refusal.Refusal.{Refusal}
+use Rattle.edits.specs.declared.change.Change.{Change}
+use Rattle.edits.specs.declared.change.Change.TheVariants.{Set}
+use Rattle.edits.specs.Changes.{CanBeSet, all_changed}
+use Rattle.edits.specs.LeftStale.{tile_of}
+use Rattle.cow_tree.specs.Stored.{StoredTile, with_page}
+use Rattle.cow_tree.specs.Trees.{root_of, corners_of, HasStaged, staged_in}
+use Rattle.store.specs.Editing.{HoldsMosaic}
+use Rattle.store.proofs.EditingPages.{page_as_read}
+use Rattle.store.proofs.EditingReads.{page_read, heights_held}
+use Rattle.store.proofs.EditingSteps.{stages_on, stages_ok, stages_err}
+use Rattle.store.proofs.editing.stage_page.Goals as goal
+
+pub read_page-requires-clause-held : goal.read_page-requires-clause-held
+read_page-requires-clause-held g c =
+    let old = c.args.tree.now in
+    let can : CanBeSet (root_of old).side (corners_of old) (Set c.in-Set.corner c.in-Set.index c.in-Set.sample) =
+    subst (CanBeSet (root_of old).side (corners_of old)) (sym c.index-changes-first.is ∙ c.in-Set.is) (c.requires.sets c.args.first c.index-changes-first.result c.requires.within) in
+    heights_held c.in-Set.corner old.chart.staged can.0
+
+pub returns-in-Err-clause-stages : goal.returns-in-Err-clause-stages
+returns-in-Err-clause-stages g c =
+    let mid = c.read_page.new.self in
+    stages_err g.D.Disk c.args.tree.now mid c.in-Err.refusal (page_read g.D.Disk c.args.tree.now mid (Err c.in-Err.refusal) c.in-Err.ensures.reads)
+
+pub returns-in-Ok-clause-stages : goal.returns-in-Ok-clause-stages
+returns-in-Ok-clause-stages g c =
+    let d = g.D.Disk in
+    let old = c.args.tree.now in
+    let mid = c.read_page.new.self in
+    let new = c.stage.new.self in
+    let is = c.in-Ok.ensures in
+    stages_ok d old new c.in-Ok.field-0 c.set_in_page-next.result
+    (stages_on d old mid new c.in_default-read_page.field-0 (Ok c.in-Ok.field-0) (page_read d old mid (Ok c.in_default-read_page.field-0) c.in_default-read_page.ensures.reads)
+    (record {
+      uncommitted = record { size = is.size; later = is.later; device = is.cause; failed = is.device; works = is.not_failed; honest = is.honest; root = is.root; at = is.at; run = is.any_moment };
+      corners = is.corners;
+      still_staged = is.still_staged;
+    }))
+
+pub returns-in-Err-stage-clause-stages : goal.returns-in-Err-stage-clause-stages
+returns-in-Err-stage-clause-stages g c =
+    let d = g.D.Disk in
+    let old = c.args.tree.now in
+    let mid = c.read_page.new.self in
+    let new = c.stage.new.self in
+    let is = c.in-Err-stage.ensures in
+    stages_on d old mid new c.in_default-read_page.field-0 (Err c.in-Err-stage.refusal) (page_read d old mid (Ok c.in_default-read_page.field-0) c.in_default-read_page.ensures.reads)
+    (stages_err d mid new c.in-Err-stage.refusal
+    (record {
+      uncommitted = record { size = is.size; later = is.later; device = is.cause; failed = is.device; works = is.not_failed; honest = is.honest; root = is.root; at = is.at; run = is.any_moment };
+      corners = is.corners;
+      still_staged = is.still_staged;
+    }))
+
+first_there : (changes : List Change) (k : ℕ) (x y : Change) → k < length changes → x ≡ get_or changes k x → x ≡ y → get_or changes k y ≡ y
+first_there changes k x y within read is = get_or_default changes k y x within ∙ sym read ∙ is
+
+pub returns-in-Ok-clause-next : goal.returns-in-Ok-clause-next
+returns-in-Ok-clause-next g c =
+    let set : Change = Set c.in-Set.corner c.in-Set.index c.in-Set.sample in (
+      c.set_in_page-next.ensures.first c.in-Set.index c.in-Set.sample c.requires.within (first_there c.args.changes.now c.args.first c.index-changes-first.result set c.requires.within c.index-changes-first.is c.in-Set.is) refl,
+      c.set_in_page-next.ensures.high,
+    )
+
+pub returns-in-Ok-clause-set : goal.returns-in-Ok-clause-set
+returns-in-Ok-clause-set g c honest s m at start =
+    let d = g.D.Disk in
+    let old = c.args.tree.now in
+    let mid = c.read_page.new.self in
+    let changes = c.args.changes.now in
+    let corner = c.in-Set.corner in
+    let index : ℕ = c.in-Set.index / 2048 in
+    let read = c.in_default-read_page.ensures in
+    let mid_honest = c.stage.ensures.honest honest in
+    let mid_at = read.reads.keeps.at mid_honest s at read.reads.not_failed in
+    let staged = c.in-Ok.ensures.staged honest s mid_at ∙ ap (with_page corner index c.set_in_page-next.new.page) (read.reads.keeps.staged mid_honest) in
+    subst (λ (tiles : List StoredTile). HoldsMosaic (root_of old).side tiles (all_changed (take c.set_in_page-next.result changes) m)) (sym staged)
+    (c.set_in_page-next.ensures.set (root_of old).side (corners_of old) (staged_in d old) m c.requires.sets
+    (page_as_read (root_of old).side changes m (staged_in d old) c.args.first corner index c.read_page.new.into (read.page mid_honest) start))
+
+pub returns-in-Err-stage-clause-refused : goal.returns-in-Err-stage-clause-refused
+returns-in-Err-stage-clause-refused g c =
+    let mid = c.read_page.new.self in
+    let prepared : HasStaged mid c.in-Set.corner =
+    (page_read g.D.Disk c.args.tree.now mid (Ok c.in_default-read_page.field-0) c.in_default-read_page.ensures.reads).still_staged c.in-Set.corner
+    (subst (λ (p : Place). HasStaged c.args.tree.now p) (ap tile_of (sym c.index-changes-first.is ∙ c.in-Set.is)) (c.requires.prepared c.args.first c.index-changes-first.result c.requires.within)) in
+    ⊎_elim (λ device. device) (λ none. absurd (c.stage.ensures.sure prepared (c.in-Err-stage.is ∙ ap (λ (r : Refusal). Err r) none))) c.in-Err-stage.ensures.refused

@@ -1,0 +1,64 @@
+use Rattle.std.proofs.Common.{◌≡◌, ℕ, ◌+◌, ◌-◌, ◌*◌, min, List, ◌++◌, length, take, Contains, IsOk, Result, Ok, Err, is_ok, if◌then◌else◌, vec_len, refl, sym, ap, ◌∙◌, subst, arith, length-take-le}
+use Rattle.lattice.specs.Corners.{Place}
+use Rattle.page_codec.specs.Roots.{RootValue}
+use Rattle.page_codec.specs.Sizes.{pages_of}
+use Rattle.cow_tree.specs.Planes.{HasPage}
+use Rattle.cow_tree.specs.Reading.{read_again}
+use Rattle.cow_tree.specs.Stored.{StoredTile}
+use Rattle.cow_tree.specs.Trees.{staged_in}
+use Rattle.cow_tree.specs.declared.plane.Plane.TheVariants.{Heights}
+use Rattle.cow_tree.proofs.Due.{placed_tile}
+use Rattle.store.proofs.QueryingPages.{IsReadTo, read_more, all_read, page_of_tile}
+use Rattle.store.proofs.exporting.read_heights.Goals as goal
+
+pub read_page-requires-clause-held : goal.read_page-requires-clause-held
+read_page-requires-clause-held g c =
+    let tree = c.loop-i.tree in
+    let found = placed_tile c.args.corner tree.chart.staged (subst (λ (cs : List Place). Contains cs c.args.corner) (sym c.loop-i.invariant.keeps.corners) c.requires.present) in
+    (found.0, (found.1.0, (found.1.1, (found.0.heights, refl))))
+
+-- a choice by a result that is Ok
+grown_items : {A E B : Type 0} (r : Result A E) (new more same : B) → new ≡ (if is_ok r then more else same) → IsOk r → new ≡ more
+grown_items (Ok x) new more same e ok = e
+grown_items (Err x) new more same e ok = absurd (cc)
+
+pub loop-i-preserved : goal.loop-i-preserved
+loop-i-preserved g c =
+    let d = g.D.Disk in
+    let old = c.args.tree.now in
+    let mid = c.loop-i.tree in
+    let reads = c.in_ok-read_page.ensures.reads in
+    let so_far = c.loop-i.invariant in
+    let len = c.file_bytes-len.result in
+    let bytes = c.loop-i.bytes in
+    let page = c.read_page.new.into in
+    let count = c.min-count.result in
+    let some : length (take count page) ≡ count = length-take-le count page (omega (arith, c.min-count.ensures, c.read_page.array_long)) in
+    let ok : IsOk c.extend_from_slice.result = c.extend_from_slice.ensures.succeeds (omega (arith, some, c.min-count.ensures, so_far.within, so_far.room, c.len.ensures)) in
+    let grown : c.extend_from_slice.new.self.items ≡ bytes.items ++ take count page = grown_items _ _ _ _ c.extend_from_slice.ensures.items ok in
+    let longer : vec_len c.extend_from_slice.new.self ≡ vec_len bytes + length (take count page) = grown_items _ _ _ _ c.extend_from_slice.ensures.len ok in
+    let long : vec_len bytes ≡ length bytes.items = omega (arith, bytes.ok.0) in
+    let counted : count ≡ min (len - length bytes.items) 4096 = c.min-count.ensures ∙ ap (λ (k : ℕ). min (len - k) 4096) (c.len.ensures ∙ long) in
+    record {
+      keeps = read_again d old mid c.read_page.new.self so_far.keeps reads.keeps;
+      works = reads.not_failed;
+      within = omega (arith, longer, some, c.min-count.ensures, so_far.within, c.len.ensures);
+      room = omega (arith, c.extend_from_slice.ensures.capacity, so_far.room);
+      read = λ honest t is.
+          let was = reads.keeps.honest honest in
+          let here : HasPage (staged_in d old) c.args.corner Heights c.loop-i.i page =
+          subst (λ (tiles : List StoredTile). HasPage tiles c.args.corner Heights c.loop-i.i page) (so_far.keeps.staged was) (c.in_ok-read_page.ensures.page honest) in
+          subst (λ (l : List ℕ). IsReadTo len t.heights (c.loop-i.i + 1) l) (sym (grown ∙ ap (λ (k : ℕ). bytes.items ++ take k page) counted))
+          (read_more len t.heights c.loop-i.i bytes.items page (so_far.read was t is) (page_of_tile (staged_in d old) c.args.corner t c.loop-i.i page is here) c.read_page.array_long);
+    }
+
+pub returns-clause-bytes : goal.returns-clause-bytes
+returns-clause-bytes g c honest t is =
+    let n : ℕ = c.args.tree.now.root.side in
+    let bytes = c.loop-i.bytes.items in
+    let side : c.side-side.result ≡ n = c.side-side.ensures.value ∙ ap (λ (r : RootValue). r.side) c.current.ensures in
+    let len : c.file_bytes-len.result ≡ 2 * (n * n) = c.file_bytes-len.ensures.value ∙ ap (λ (k : ℕ). 2 * (k * k)) side in
+    let ended : c.loop-i.i ≡ c.pages_in_plane-i-end.result = omega (arith, c.loop-i-test.false, c.loop-i.auto.i-end) in
+    let count : c.loop-i.i ≡ pages_of n = ended ∙ c.pages_in_plane-i-end.ensures.value ∙ ap pages_of side in
+    all_read n t.heights bytes (subst (λ (k : ℕ). IsReadTo (2 * (n * n)) t.heights k bytes) count
+    (subst (λ (k : ℕ). IsReadTo k t.heights c.loop-i.i bytes) len (c.loop-i.invariant.read honest t is)))

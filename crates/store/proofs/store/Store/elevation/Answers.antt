@@ -1,0 +1,31 @@
+use Rattle.std.proofs.Common.{◌≡◌, false, Result, sym, ap, ◌∙◌}
+use Rattle.std.proofs.lemmas.Result.{IfOk-weaker}
+use Rattle.lattice.specs.Height.{height_of}
+use Rattle.lattice.specs.Mosaic.{Mosaic}
+use Rattle.lattice.specs.declared.height.Height.{Height}
+use Rattle.lattice.specs.declared.refusal.Refusal.{Refusal}
+use Rattle.edits.specs.Outcomes.{Elevates}
+use Rattle.edits.specs.State.{State}
+use Rattle.cow_tree.specs.Trees.{has_failed}
+use Rattle.store.proofs.Querying.{mosaic_at, stays_at, still_clean, still_corners, still_readable, fails_so, answered}
+use Rattle.store.proofs.store.Store.elevation.Goals as goal
+
+pub invariant_of-self : goal.invariant_of-self
+invariant_of-self g c =
+    let d = g.D.Disk in
+    let old = c.args.self.now in
+    let new = c.height.new.samples in
+    let works : has_failed old.tree ≡ false = sym c.has_failed.ensures ∙ c.if-has_failed.false in
+    let keeps = c.height.ensures.reads.keeps in
+    record { clean = still_clean d old.tree new works keeps old.clean; corners = still_corners d old.tree new works keeps old.corners }
+
+pub returns-clause-outcome : goal.returns-clause-outcome
+returns-clause-outcome g c honest s at =
+    let d = g.D.Disk in
+    let old = c.args.self.now.tree in
+    let new = c.height.new.samples in
+    let works : has_failed old ≡ false = sym c.has_failed.ensures ∙ c.if-has_failed.false in
+    let reads = c.height.ensures.reads in
+    let readable = still_readable d old new works reads.keeps honest s at in
+    answered d old new works reads.keeps honest s at (λ (s : State) (r : Result Height Refusal) (t : State). Elevates s c.args.point r t) c.height.result (reads.ready works) reads.unready (reads.only_device readable works)
+    (fails_so d old new works reads.keeps honest s at) (IfOk-weaker c.height.result _ _ (λ h is. (stays_at d old works s at, is ∙ ap (λ (m : Mosaic). height_of m c.args.point) (mosaic_at d old works s at))) (c.height.ensures.value readable))

@@ -1,0 +1,35 @@
+use Rattle.std.proofs.Common.{⊎_elim}
+use Rattle.std.proofs.lemmas.Result.{on_ok_weaker, IfErr-weaker}
+use Rattle.cow_tree.proofs.Steps.{ok_where_works}
+use Rattle.store.proofs.Opened.{in_known}
+use Rattle.store.proofs.Openings.{refused_for}
+use Rattle.store.proofs.store.Store.reopen.Goals as goal
+
+pub invariant_of-self : goal.invariant_of-self
+invariant_of-self g c = record {
+  clean = λ works. ok_where_works c.reopen.result _ c.reopen.ensures.failed works c.reopen.ensures.clean;
+  corners = λ works. ok_where_works c.reopen.result _ c.reopen.ensures.failed works c.reopen.ensures.corners;
+}
+
+pub returns-clause-at : goal.returns-clause-at
+returns-clause-at g c honest s at =
+    let d = g.D.Disk in
+    let old = c.args.self.now.tree in
+    let new = c.reopen.new.self in
+    let seen = d.seen old.pager.roots.disk in
+    let was_honest = (c.reopen.ensures.nothing honest).honest in
+    on_ok_weaker c.reopen.result
+    (λ is. in_known d new is.0 is.1.1.0 is.1.1.1 (g.met.D.Disk.seen_may new.pager.roots.disk honest) old.root.side old.root.capacity (d.size old.pager.roots.disk) seen s is.1.0
+    (at.images seen (g.met.D.Disk.seen_may old.pager.roots.disk was_honest)))
+    (c.reopen.ensures.at honest)
+
+pub returns-clause-sure : goal.returns-clause-sure
+returns-clause-sure g c honest s at =
+    let d = g.D.Disk in
+    let old = c.args.self.now.tree in
+    let seen = d.seen old.pager.roots.disk in
+    let n = d.size old.pager.roots.disk in
+    let was_honest = (c.reopen.ensures.nothing honest).honest in
+    IfErr-weaker c.reopen.result _ _
+    (λ why refused. ⊎_elim (λ is. refused_for n seen is.0 why is.1 refused) (λ is. refused_for n seen is.2.0 why is.2.1 refused) (at.images seen (g.met.D.Disk.seen_may old.pager.roots.disk was_honest)))
+    (c.reopen.ensures.refused honest)

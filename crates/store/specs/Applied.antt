@@ -1,0 +1,48 @@
+-- What doing a command leaves, by the store's tree.
+use Rattle.std.specs.Prelude.{◌≡◌, ◌≢◌, ◌≤◌, ◌⊎◌, ℕ, false, Result, IfErr, IsErrOf}
+use Rattle.disk.specs.Disk.{Image, HasRisen}
+use Rattle.disk.specs.Stops.{LeavesOnly}
+use Rattle.disk.specs.declared.disk.Disk.{Ghosts}
+use Rattle.lattice.specs.declared.refusal.Refusal.{Refusal}
+use Rattle.lattice.specs.declared.refusal.Refusal.TheVariants.{Device}
+use Rattle.edits.specs.declared.command.Command.{Command}
+use Rattle.edits.specs.declared.command.Command.TheVariants.{Import, Remove}
+use Rattle.edits.specs.Outcomes.{Applies}
+use Rattle.edits.specs.State.{Contents, State}
+use Rattle.cow_tree.specs.Trees.{disk_of, root_of}
+use Rattle.cow_tree.specs.declared.tree.Tree.{Tree}
+use Rattle.store.specs.Standing.{StandsFor}
+use Rattle.store.specs.States.{StandsForMade}
+use Rattle.store.specs.TreeStates.{IsInState}
+
+module _ {D : Type 0} (g : Ghosts D) (tree : Tree D g) where
+  -- an image of the tree's disk stands for these contents, with the tree's side and capacity
+  abbrev pub HasContents : Contents → Image → Type 0
+  HasContents c image = StandsFor (g.size (disk_of tree)) (root_of tree).side (root_of tree).capacity image c
+
+  -- .. or for what the command makes of them
+  abbrev pub MayHaveMade : Contents → Command → Image → Type 0
+  MayHaveMade c command image =
+      HasContents c image ⊎ StandsForMade (g.size (disk_of tree)) (root_of tree).side (root_of tree).capacity image c command
+
+-- a patch, a burn or a wall: it sets samples of present tiles
+abbrev pub SetsSamples : Command → Type 0
+SetsSamples (Import c bytes) = ⊥
+SetsSamples (Remove c) = ⊥
+SetsSamples _ = Unit {0}
+
+-- the command was done, and answered so
+pub record IsApplied {D : Type 0} (g : Ghosts D) (command : Command) (result : Result ℕ Refusal) (old new : Tree D g) : Type 0 where
+  pub size : g.size (disk_of new) ≡ g.size (disk_of old)
+  pub side : (root_of new).side ≡ (root_of old).side
+  pub capacity : (root_of new).capacity ≡ (root_of old).capacity
+  pub later : g.failures (disk_of old) ≤ g.failures (disk_of new)
+  pub device : IsErrOf result Device → HasRisen (g.failures (disk_of old)) (g.failures (disk_of new))
+  pub honest : g.honest (disk_of new) → g.honest (disk_of old)
+  -- the answer, and the state that it leaves
+  pub outcome : g.honest (disk_of new) → (s : State) → IsInState g old s → (t : State) × (IsInState g new t × Applies (root_of old).capacity s command result t)
+  -- a stop at any moment leaves the contents as they were, or as the command makes them
+  pub any_moment : g.honest (disk_of new) → (s : State) → IsInState g old s → s.failed ≡ false → LeavesOnly g (disk_of old) (disk_of new) (MayHaveMade g old s.contents command)
+  -- .. and where it is refused for another reason than the disk, as they were
+  pub refused_any_moment : g.honest (disk_of new) → (s : State) → IsInState g old s → s.failed ≡ false
+      → IfErr result (λ r. r ≢ Device → LeavesOnly g (disk_of old) (disk_of new) (HasContents g old s.contents))

@@ -1,0 +1,49 @@
+-- What an edit makes of a tree before its commit (this product's own profile).
+use Rattle.std.specs.Prelude.{◌≡◌, ◌≤◌, ◌<◌, ◌+◌, ◌*◌, ℕ, ℤ, false, true, List, Result, OnOk, IsErrOf}
+use Rattle.std.specs.List.{AllZip}
+use Rattle.disk.specs.Disk.{HasRisen}
+use Rattle.disk.specs.Stops.{LeavesOnly}
+use Rattle.disk.specs.declared.disk.Disk.{Ghosts}
+use Rattle.lattice.specs.Corners.{Place}
+use Rattle.lattice.specs.Mosaic.{Mosaic, IsSample, IsMosaic}
+use Rattle.lattice.specs.declared.refusal.Refusal.{Refusal}
+use Rattle.lattice.specs.declared.refusal.Refusal.TheVariants.{Device}
+use Rattle.edits.specs.declared.change.Change.{Change}
+use Rattle.edits.specs.declared.change.Change.TheVariants.{Set}
+use Rattle.cow_tree.specs.Layout.{Stands}
+use Rattle.cow_tree.specs.Stored.{StoredTile, Stored}
+use Rattle.cow_tree.specs.Trees.{disk_of, root_of, has_failed, corners_of, HasStaged, IsAt}
+use Rattle.cow_tree.specs.declared.tree.Tree.{Tree}
+use Rattle.store.specs.Standing.{HoldsTile, KeepNone}
+
+-- the stored tiles are the tiles of the mosaic, with this side
+pub record HoldsMosaic (side : ℕ) (tiles : List StoredTile) (m : Mosaic) : Type 0 where
+  pub valid : IsMosaic m
+  pub side_is : m.side ≡ side
+  pub tiles_are : AllZip (HoldsTile side) tiles m.tiles
+  pub none_kept : KeepNone tiles
+
+-- the change sets sample j of page i of the corner's heights
+pub record SetsInPage (c : Place) (i : ℕ) (change : Change) (j : ℕ) (s : ℤ) : Type 0 where
+  pub sets : change ≡ Set c (2048 * i + j) s
+  pub below : j < 2048
+  pub sample : IsSample s
+
+-- The call read pages of the tree, and may have staged some or given up what was staged. What is committed stays, and a
+-- stop at any moment leaves it.
+pub record CommitsNothing {D T : Type 0} (g : Ghosts D) (old new : Tree D g) (result : Result T Refusal) : Type 0 where
+  pub size : g.size (disk_of new) ≡ g.size (disk_of old)
+  pub later : g.failures (disk_of old) ≤ g.failures (disk_of new)
+  pub device : IsErrOf result Device → HasRisen (g.failures (disk_of old)) (g.failures (disk_of new))
+  pub failed : IsErrOf result Device → has_failed new ≡ true
+  pub works : OnOk result (has_failed new ≡ false)
+  pub honest : g.honest (disk_of new) → g.honest (disk_of old)
+  pub root : root_of new ≡ root_of old
+  pub at : g.honest (disk_of new) → (s : Stored) → IsAt g old s → has_failed new ≡ false → IsAt g new s
+  pub run : g.honest (disk_of new) → (s : Stored) → IsAt g old s → LeavesOnly g (disk_of old) (disk_of new) (λ image. Stands (g.size (disk_of old)) image s)
+
+-- it may have staged pages of tiles that are there, and nothing else
+pub record StagesOnly {D T : Type 0} (g : Ghosts D) (old new : Tree D g) (result : Result T Refusal) : Type 0 where
+  pub uncommitted : CommitsNothing g old new result
+  pub corners : corners_of new ≡ corners_of old
+  pub still_staged : (c : Place) → HasStaged old c → HasStaged new c

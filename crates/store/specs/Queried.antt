@@ -1,0 +1,47 @@
+-- What a query does to a store: it reads, and changes nothing but the count of failures and whether the store failed.
+use Rattle.std.specs.Prelude.{◌≡◌, ◌≤◌, ℕ, true, List, Contains, Result, Ok, Err, IsErrOf}
+use Rattle.disk.specs.Disk.{HasRisen}
+use Rattle.disk.specs.Stops.{AddsNothing}
+use Rattle.disk.specs.declared.disk.Disk.{Ghosts}
+use Rattle.lattice.specs.Corners.{Place}
+use Rattle.lattice.specs.declared.refusal.Refusal.{Refusal}
+use Rattle.lattice.specs.declared.refusal.Refusal.TheVariants.{Device, Failed}
+use Rattle.catalogue.specs.Seams.{IsSeamCount}
+use Rattle.edits.specs.Outcomes.{Stays, ElevatesNot}
+use Rattle.edits.specs.State.{State}
+use Rattle.cow_tree.specs.Stored.{StoredTile}
+use Rattle.cow_tree.specs.Trees.{disk_of, root_of, has_failed}
+use Rattle.cow_tree.specs.declared.tree.Tree.{Tree}
+use Rattle.store.specs.TreeStates.{IsInState}
+use Rattle.store.specs.declared.store.Store.{Store}
+
+-- the query was made, and answered so, by the store's tree
+pub record IsQueried {D T : Type 0} (g : Ghosts D) (old new : Tree D g) (result : Result T Refusal) : Type 0 where
+  pub size : g.size (disk_of new) ≡ g.size (disk_of old)
+  pub writes : g.writes (disk_of new) ≡ g.writes (disk_of old)
+  pub root : root_of new ≡ root_of old
+  pub later : g.failures (disk_of old) ≤ g.failures (disk_of new)
+  pub device : IsErrOf result Device → HasRisen (g.failures (disk_of old)) (g.failures (disk_of new))
+  -- a store that failed makes no call of the disk
+  pub failed : has_failed old ≡ true → (result ≡ Err Failed) × (disk_of new ≡ disk_of old)
+  -- a stop at any moment leaves nothing new
+  pub nothing : g.honest (disk_of new) → AddsNothing g (disk_of old) (disk_of new)
+
+-- .. and by the store
+abbrev pub Queries : {D T : Type 0} (g : Ghosts D) → Store D g → Store D g → Result T Refusal → Type 0
+Queries g old new result = IsQueried g old.tree new.tree result
+
+-- the answer is right in each state that the store may have been in, and leaves it in a state that the answer may leave
+abbrev pub IsAnswered : {D T : Type 0} (g : Ghosts D) → Tree D g → Tree D g → (State → Result T Refusal → State → Type 0) → Result T Refusal → Type 0
+IsAnswered g old new Answers result = g.honest (disk_of new) → (s : State) → IsInState g old s → (t : State) × (IsInState g new t × Answers s result t)
+
+-- the corner's one tile among these
+pub record IsTileOf (tiles : List StoredTile) (c : Place) (t : StoredTile) : Type 0 where
+  pub there : Contains tiles t
+  pub corner : t.corner ≡ c
+  pub only : (other : StoredTile) → Contains tiles other → other.corner ≡ c → other ≡ t
+
+-- how many points of the mosaic disagree
+abbrev pub CountsSeams : State → Result ℕ Refusal → State → Type 0
+CountsSeams s (Ok count) t = Stays s t × IsSeamCount s.contents.mosaic count
+CountsSeams s (Err r) t = ElevatesNot s r t

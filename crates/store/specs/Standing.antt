@@ -1,0 +1,48 @@
+-- What an image of a store's disk stands for (this product's own profile; SRTM documentation for the bytes of a tile).
+use Rattle.std.specs.Prelude.{◌≡◌, ℕ, List, All, None}
+use Rattle.std.specs.List.{AllZip}
+use Rattle.disk.specs.Disk.{Image}
+use Rattle.lattice.specs.Mosaic.{Tile, IsMosaic}
+use Rattle.hgt.specs.Bytes.{AreHgtBytes}
+use Rattle.catalogue.specs.Tiles.{corners_of}
+use Rattle.edits.specs.State.{Contents}
+use Rattle.cow_tree.specs.Stored.{IsPage, plane_bytes, StoredTile, Stored}
+use Rattle.cow_tree.specs.Layout.{Stands}
+
+-- this stored tile is the tile: its heights are whole pages, which joined and cut are the HGT bytes of the samples
+pub record HoldsTile (n : ℕ) (stored : StoredTile) (t : Tile) : Type 0 where
+  pub corner : stored.corner ≡ t.corner
+  pub pages : All IsPage stored.heights
+  pub heights : AreHgtBytes n (plane_bytes n stored.heights) t.samples
+
+-- no levels and labels are kept
+abbrev pub KeepNone : List StoredTile → Type 0
+KeepNone tiles = All (λ t. t.kept ≡ None) tiles
+
+-- What is stored, with tiles of this side and room for so many, are these contents. No planes are kept yet, so every
+-- present tile is stale.
+pub record Holds (side capacity : ℕ) (stored : Stored) (c : Contents) : Type 0 where
+  pub stored_side : stored.side ≡ side
+  pub stored_capacity : stored.capacity ≡ capacity
+  pub number : stored.number ≡ c.number
+  pub count : stored.count ≡ c.count
+  pub valid : IsMosaic c.mosaic
+  pub side_is : c.mosaic.side ≡ side
+  pub tiles : AllZip (HoldsTile side) stored.tiles c.mosaic.tiles
+  pub none_kept : KeepNone stored.tiles
+  pub stale : c.stale ≡ corners_of c.mosaic
+
+-- on a disk of so many sectors this image stands for the contents of a store of this side and capacity
+abbrev pub StandsFor : (sectors side capacity : ℕ) → Image → Contents → Type 0
+StandsFor sectors side capacity image c = (stored : Stored) × Stands sectors image stored × Holds side capacity stored c
+
+-- the side, the capacity and the contents that an image stands for are the only ones
+pub record AreSame (side capacity : ℕ) (a : Contents) (other_side other_capacity : ℕ) (b : Contents) : Type 0 where
+  pub sides : side ≡ other_side
+  pub capacities : capacity ≡ other_capacity
+  pub contents : a ≡ b
+
+abbrev pub StandsForOneContents : Type 0
+StandsForOneContents = (sectors : ℕ) (image : Image) (side capacity other_side other_capacity : ℕ) (a b : Contents)
+    → StandsFor sectors side capacity image a → StandsFor sectors other_side other_capacity image b
+    → AreSame side capacity a other_side other_capacity b

@@ -1,0 +1,42 @@
+-- What contracts see of a store (this product's own profile).
+use Rattle.std.specs.Prelude.{ℕ, Bool, List, Vec, Result, Ok, Err}
+use Rattle.disk.specs.declared.disk.Disk.{Ghosts}
+use Rattle.lattice.specs.declared.refusal.Refusal.{Refusal}
+use Rattle.page_codec.specs.Roots.{RootValue}
+use Rattle.edits.specs.State.{State}
+use Rattle.cow_tree.specs.Trees.{disk_of as disk_under, root_of as root_under, has_failed as have_failed}
+use Rattle.roots.specs.declared.roots.NotOpened.{NotOpened}
+use Rattle.store.specs.TreeStates.{IsInState}
+use Rattle.store.specs.declared.store.Store.{Store}
+
+module _ {D : Type 0} {g : Ghosts D} where
+  abbrev pub disk_of : Store D g → D
+  disk_of store = disk_under store.tree
+
+  -- the current root, as it was last known
+  abbrev pub root_of : Store D g → RootValue
+  root_of store = root_under store.tree
+
+  abbrev pub side_of : Store D g → ℕ
+  side_of store = (root_of store).side
+
+  abbrev pub capacity_of : Store D g → ℕ
+  capacity_of store = (root_of store).capacity
+
+  -- a call failed on the disk, or a reopening was refused, and no opening succeeded since
+  abbrev pub has_failed : Store D g → Bool
+  has_failed store = have_failed store.tree
+
+  -- the disk, opened or handed back
+  abbrev pub disk_after : Result (Store D g) (NotOpened D) → D
+  disk_after (Ok store) = disk_of store
+  disk_after (Err e) = e.disk
+
+-- the store is in this state
+abbrev pub IsAt : {D : Type 0} (g : Ghosts D) → Store D g → State → Type 0
+IsAt g store s = IsInState g store.tree s
+
+-- what a call answered, with a list for the vector that holds it
+abbrev pub items_in : {X A : Type 0} → Result (Vec X A) Refusal → Result (List X) Refusal
+items_in (Ok xs) = Ok xs.items
+items_in (Err r) = Err r

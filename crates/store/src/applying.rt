@@ -1,0 +1,163 @@
+//! Doing a command.
+ghost use Rattle.std.specs.Prelude.{◌≡◌, ◌≢◌, ◌≤◌, ◌<◌, ◌+◌, ◌*◌, ◌^◌, ◌⊎◌, false, true, length, All, Contains, IsTrue, IsFalse, Ok, Err, OnOk, IfErr, IsErrOf};
+ghost use Rattle.disk.specs.Disk.{HasRisen};
+ghost use Rattle.disk.specs.Stops.{LeavesOnly};
+ghost use Rattle.lattice.specs.Corners.{is_corner};
+ghost use Rattle.lattice.specs.declared.refusal.Refusal.TheVariants.{Device, Failed};
+ghost use Rattle.lattice.specs.Mosaic.{Mosaic};
+ghost use Rattle.edits.specs.declared.command.Command.TheVariants.{Import, Remove};
+ghost use Rattle.edits.specs.Effect.{effect};
+ghost use Rattle.edits.specs.Outcomes.{Applies, AppliesNot};
+ghost use Rattle.edits.specs.State.{State};
+ghost use Rattle.cow_tree.specs.Trees.{corners_of};
+ghost use Rattle.store.specs.Standing.{StandsFor};
+ghost use Rattle.store.specs.States.{StandsForMade};
+ghost use Rattle.store.specs.Applied.{IsApplied};
+ghost use Rattle.store.specs.Stores.{disk_of, root_of, side_of, capacity_of, has_failed, IsAt};
+
+use crate::Store;
+use cow_tree::Plane;
+use disk::Disk;
+use edits::{Command, commands_make_mosaics};
+use lattice::{Corner, Refusal};
+
+impl<D: Disk> Store<D> {
+    /// Does a command, and answers how many were accepted with it. Refused with Failed, by the command's own tests, with
+    /// Worn where the commit number can't grow, or for the disk or for memory.
+    pub fn apply(&mut self, command: &Command) -> Result<u64, Refusal>
+        ensures size { D.size (disk_of self.new) ≡ D.size (disk_of self.old) }
+        ensures side { side_of self.new ≡ side_of self.old }
+        ensures capacity { capacity_of self.new ≡ capacity_of self.old }
+        ensures later { D.failures (disk_of self.old) ≤ D.failures (disk_of self.new) }
+        ensures device { IsErrOf result Device → HasRisen (D.failures (disk_of self.old)) (D.failures (disk_of self.new)) }
+        ensures honest { D.honest (disk_of self.new) → D.honest (disk_of self.old) }
+
+        // The answer, and the state that it leaves.
+        ensures outcome { D.honest (disk_of self.new) → (s : State) → IsAt D.Disk self.old s
+            → (t : State) × (IsAt D.Disk self.new t × Applies (capacity_of self.old) s command.now result t) }
+
+        // A stop at any moment leaves the contents as they were, or as the command makes them.
+        ensures any_moment { D.honest (disk_of self.new) → (s : State) → IsAt D.Disk self.old s → s.failed ≡ false
+            → LeavesOnly D.Disk (disk_of self.old) (disk_of self.new)
+            (λ image. StandsFor (D.size (disk_of self.old)) (side_of self.old) (capacity_of self.old) image s.contents
+            ⊎ StandsForMade (D.size (disk_of self.old)) (side_of self.old) (capacity_of self.old) image s.contents command.now) }
+
+        // Where it is refused for another reason than the disk, it leaves nothing else than the contents as they were.
+        ensures refused_any_moment { D.honest (disk_of self.new) → (s : State) → IsAt D.Disk self.old s → s.failed ≡ false
+            → IfErr result (λ r. r ≢ Device → LeavesOnly D.Disk (disk_of self.old) (disk_of self.new)
+            (λ image. StandsFor (D.size (disk_of self.old)) (side_of self.old) (capacity_of self.old) image s.contents)) }
+
+        // A store that failed makes no call of the disk.
+        ensures failed { has_failed self.old ≡ true → (result ≡ Err Failed) × (disk_of self.new ≡ disk_of self.old) }
+    {
+        if self.tree.has_failed() {
+            return Err(Refusal::Failed);
+        }
+        match command {
+            Command::Import { corner, bytes } => self.import(*corner, bytes.as_slice()),
+            Command::Remove { corner } => self.remove(*corner),
+            Command::Patch { .. } | Command::Burn { .. } | Command::Wall { .. } => {
+                self.edit(command)
+            }
+        }
+    }
+
+    // Adds a tile with the bytes as they are.
+    fn import(&mut self, corner: Corner, bytes: &[u8]) -> Result<u64, Refusal>
+        requires { has_failed self.old ≡ false }
+        ensures { IsApplied D.Disk (Import corner bytes.now) result self.old.tree self.new.tree }
+    {
+        if let Err(refusal) = self.can_import(corner, bytes) {
+            return Err(refusal);
+        }
+        // What is made is a mosaic.
+        commands_make_mosaics();
+        match self.tree.stage_plane(corner, Plane::Heights, bytes) {
+            Ok(()) => {}
+            Err(refusal) => {
+                self.tree.abandon();
+                return Err(refusal);
+            }
+        }
+        let count = self.tree.current().count() + 1;
+        match self.tree.commit(count) {
+            Ok(()) => Ok(count),
+            Err(refusal) => Err(refusal),
+        }
+    }
+
+    // Takes a tile out.
+    fn remove(&mut self, corner: Corner) -> Result<u64, Refusal>
+        requires { has_failed self.old ≡ false }
+        ensures { IsApplied D.Disk (Remove corner) result self.old.tree self.new.tree }
+    {
+        if let Err(refusal) = self.can_remove(corner) {
+            return Err(refusal);
+        }
+        commands_make_mosaics();
+        self.tree.drop_plane(corner, Plane::Heights);
+        let accepted = self.tree.current().count() + 1;
+        match self.tree.commit(accepted) {
+            Ok(()) => Ok(accepted),
+            Err(fault) => Err(fault),
+        }
+    }
+
+    // Whether an import is accepted, by what is held in memory.
+    fn can_import(&self, corner: Corner, bytes: &[u8]) -> Result<(), Refusal>
+        requires { has_failed self.now ≡ false }
+        ensures corner { IsTrue (is_corner corner) }
+        ensures bytes { All (λ b. b < 256) bytes.now }
+        ensures whole { OnOk result (length bytes.now ≡ 2 * (side_of self.now * side_of self.now)) }
+        ensures absent { OnOk result (¬ Contains (corners_of self.now.tree) corner) }
+        ensures room { OnOk result (length (corners_of self.now.tree) < capacity_of self.now) }
+        ensures number { OnOk result ((root_of self.now).number + 1 < 2 ^ 64) }
+        ensures refused { (s : State) → IsAt D.Disk self.now s → IfErr result (λ r. AppliesNot (capacity_of self.now) s (Import corner bytes.now) r s) }
+        ensures not_device { IfErr result (λ r. r ≢ Device) }
+    {
+        // That it is a corner is told by its fields.
+        let _lat = corner.lat;
+        let root = self.tree.current();
+        if bytes.len() != root.side().file_bytes() as usize {
+            return Err(Refusal::BadLength);
+        }
+        if self.tree.present(corner) {
+            return Err(Refusal::TileThere);
+        }
+        if self.is_full() {
+            return Err(Refusal::Full);
+        }
+        if root.number() == u64::MAX {
+            return Err(Refusal::Worn);
+        }
+        Ok(())
+    }
+
+    // Whether as many tiles are present as there is room for.
+    #[tactic(auto, using(crate::proofs::InMemory::entries_counted))]
+    fn is_full(&self) -> bool
+        requires { has_failed self.now ≡ false }
+        ensures full { IsTrue result → capacity_of self.now ≤ length (corners_of self.now.tree) }
+        ensures room { IsFalse result → length (corners_of self.now.tree) < capacity_of self.now }
+    {
+        let root = self.tree.current();
+        root.entries().len() >= root.capacity() as usize
+    }
+
+    // Whether a removal is accepted, by what is held in memory.
+    fn can_remove(&self, corner: Corner) -> Result<(), Refusal>
+        requires { has_failed self.now ≡ false }
+        ensures present { OnOk result (Contains (corners_of self.now.tree) corner) }
+        ensures number { OnOk result ((root_of self.now).number + 1 < 2 ^ 64) }
+        ensures refused { (s : State) → IsAt D.Disk self.now s → IfErr result (λ r. AppliesNot (capacity_of self.now) s (Remove corner) r s) }
+        ensures not_device { IfErr result (λ r. r ≢ Device) }
+    {
+        if !self.tree.present(corner) {
+            return Err(Refusal::NoTile);
+        }
+        if self.tree.current().number() == u64::MAX {
+            return Err(Refusal::Worn);
+        }
+        Ok(())
+    }
+}

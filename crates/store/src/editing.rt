@@ -1,0 +1,223 @@
+//! Commands that set samples of present tiles: patches, burns and walls.
+ghost use Rattle.std.specs.Prelude.{◌≡◌, ◌≢◌, ◌≤◌, ◌<◌, ◌/◌, ◌⊎◌, ℕ, ℤ, List, length, get_or, take, false, All, Contains, IfSome, IfNone, IfOk, IfErr, OnOk};
+ghost use Rattle.lattice.specs.Corners.{Place};
+ghost use Rattle.lattice.specs.Mosaic.{Mosaic};
+ghost use Rattle.lattice.specs.declared.refusal.Refusal.TheVariants.{Device, NoMemory};
+ghost use Rattle.page_codec.specs.Sizes.{pages_of};
+ghost use Rattle.edits.specs.declared.change.Change.TheVariants.{Set};
+ghost use Rattle.edits.specs.Changes.{CanBeSet, all_changed};
+ghost use Rattle.edits.specs.Effect.{effect};
+ghost use Rattle.edits.specs.LeftStale.{tile_of};
+ghost use Rattle.edits.specs.Outcomes.{AppliesNot};
+ghost use Rattle.edits.specs.State.{State};
+ghost use Rattle.cow_tree.specs.Stored.{StoredTile, Stored, with_page};
+ghost use Rattle.cow_tree.specs.Trees.{disk_of, root_of, has_failed, corners_of, HasStaged, staged_in, IsAt};
+ghost use Rattle.store.specs.Applied.{SetsSamples, IsApplied};
+ghost use Rattle.store.specs.Editing.{HoldsMosaic, SetsInPage, CommitsNothing, StagesOnly};
+ghost use Rattle.store.specs.TreeStates.{IsInState};
+
+use crate::Store;
+use cow_tree::{Plane, Tree};
+use disk::Disk;
+use edits::{Change, Command, plan};
+use hgt::put_sample;
+use lattice::{Corner, Refusal};
+use std::alloc::Global;
+
+// Samples in a page, two bytes each.
+const SAMPLES_IN_PAGE: u32 = 2048;
+
+impl<D: Disk> Store<D> {
+    // A patch, a burn or a wall.
+    pub(crate) fn edit(&mut self, command: &Command) -> Result<u64, Refusal>
+        requires not_failed { has_failed self.old.tree ≡ false }
+        requires samples { SetsSamples command.now }
+        ensures { IsApplied D.Disk command.now result self.old.tree self.new.tree }
+    {
+        let changes = match plan_changes(self.alloc, &mut self.tree, command) {
+            Ok(changes) => changes,
+            Err(refusal) => return Err(refusal),
+        };
+        if self.tree.current().number() == u64::MAX {
+            return Err(Refusal::Worn);
+        }
+        match stage_changes(&mut self.tree, &changes) {
+            Ok(()) => {}
+            Err(refusal) => {
+                self.tree.abandon();
+                return Err(refusal);
+            }
+        }
+        let count = self.tree.current().count() + 1;
+        match self.tree.commit(count) {
+            Ok(()) => Ok(count),
+            Err(refusal) => Err(refusal),
+        }
+    }
+}
+
+// The changes that the command comes to, or its refusal. Samples are read, and nothing is staged.
+fn plan_changes<D: Disk>(
+    alloc: Global,
+    tree: &mut Tree<D>,
+    command: &Command,
+) -> Result<Vec<Change>, Refusal>
+    requires works { has_failed tree.old ≡ false }
+    requires sets { SetsSamples command.now }
+    ensures reads { CommitsNothing D.Disk tree.old tree.new result }
+    ensures corners { corners_of tree.new ≡ corners_of tree.old }
+    ensures clean { has_failed tree.new ≡ false → (c : Place) → HasStaged tree.new c → HasStaged tree.old c }
+    ensures staged { D.honest (disk_of tree.new) → staged_in D.Disk tree.new ≡ staged_in D.Disk tree.old }
+    ensures sets { IfOk result (λ changes. All (CanBeSet (root_of tree.old).side (corners_of tree.old)) changes.items) }
+    ensures changes { D.honest (disk_of tree.new) → (s : State) → IsInState D.Disk tree.old s
+        → IfOk result (λ changes. effect (root_of tree.old).capacity s.contents.mosaic command.now ≡ Ok (all_changed changes.items s.contents.mosaic)) }
+    ensures refused { D.honest (disk_of tree.new) → (s : State) → IsInState D.Disk tree.old s
+        → IfErr result (λ r. r ≢ Device → (has_failed tree.new ≡ false) × AppliesNot (root_of tree.old).capacity s command.now r s) }
+{
+    let capacity = tree.current().capacity();
+    match plan(alloc, tree, capacity, command) {
+        Ok(changes) => Ok(changes),
+        Err(refusal) => match refusal {
+            Refusal::Device => {
+                tree.fail();
+                Err(refusal)
+            }
+            _ => Err(refusal),
+        },
+    }
+}
+
+// Stages the pages that the changes set samples in. Memory for all of them is had before the first is written: refused
+// with NoMemory, and then no call of the disk was made, or with Device.
+fn stage_changes<D: Disk>(tree: &mut Tree<D>, changes: &[Change]) -> Result<(), Refusal>
+    requires works { has_failed tree.old ≡ false }
+    requires sets { All (CanBeSet (root_of tree.old).side (corners_of tree.old)) changes.now }
+    ensures stages { StagesOnly D.Disk tree.old tree.new result }
+    ensures refused { IfErr result (λ r. (r ≡ Device) ⊎ ((r ≡ NoMemory) × (has_failed tree.new ≡ false))) }
+    ensures set { D.honest (disk_of tree.new) → (s : Stored) (m : Mosaic) → IsAt D.Disk tree.old s
+        → HoldsMosaic (root_of tree.old).side (staged_in D.Disk tree.old) m
+        → OnOk result (HoldsMosaic (root_of tree.old).side (staged_in D.Disk tree.new) (all_changed changes.now m)) }
+{
+    match prepare_tiles(tree, changes) {
+        Ok(()) => stage_pages(tree, changes),
+        Err(refusal) => Err(refusal),
+    }
+}
+
+// Has the memory to stage pages of each tile that a change is of.
+fn prepare_tiles<D: Disk>(tree: &mut Tree<D>, changes: &[Change]) -> Result<(), Refusal>
+    requires works { has_failed tree.old ≡ false }
+    requires sets { All (CanBeSet (root_of tree.old).side (corners_of tree.old)) changes.now }
+    ensures stages { StagesOnly D.Disk tree.old tree.new result }
+    ensures refused { IfErr result (λ r. r ≡ NoMemory) }
+    ensures not_failed { has_failed tree.new ≡ false }
+    ensures staged { staged_in D.Disk tree.new ≡ staged_in D.Disk tree.old }
+    ensures prepared { OnOk result (All (λ change. HasStaged tree.new (tile_of change)) changes.now) }
+{
+    for change in changes {
+        match tree.prepare(change.corner()) {
+            Ok(()) => {}
+            Err(refusal) => return Err(refusal),
+        }
+    }
+    Ok(())
+}
+
+// Stages the pages that the changes set samples in, where their tiles are prepared.
+fn stage_pages<D: Disk>(tree: &mut Tree<D>, changes: &[Change]) -> Result<(), Refusal>
+    requires works { has_failed tree.old ≡ false }
+    requires sets { All (CanBeSet (root_of tree.old).side (corners_of tree.old)) changes.now }
+    requires prepared { All (λ change. HasStaged tree.old (tile_of change)) changes.now }
+    ensures stages { StagesOnly D.Disk tree.old tree.new result }
+    ensures refused { IfErr result (λ r. r ≡ Device) }
+    ensures set { D.honest (disk_of tree.new) → (s : Stored) (m : Mosaic) → IsAt D.Disk tree.old s
+        → HoldsMosaic (root_of tree.old).side (staged_in D.Disk tree.old) m
+        → OnOk result (HoldsMosaic (root_of tree.old).side (staged_in D.Disk tree.new) (all_changed changes.now m)) }
+{
+    let mut done = 0;
+    while done < changes.len() {
+        match stage_page(tree, changes, done) {
+            Ok(next) => done = next,
+            Err(refusal) => return Err(refusal),
+        }
+    }
+    Ok(())
+}
+
+// Stages the page that the change at `first` sets a sample in, with the samples of all changes of it that follow one
+// another from there. Answers the index behind them.
+fn stage_page<D: Disk>(
+    tree: &mut Tree<D>,
+    changes: &[Change],
+    first: usize,
+) -> Result<usize, Refusal>
+    requires works { has_failed tree.old ≡ false }
+    requires within { first < length changes.now }
+    requires sets { All (CanBeSet (root_of tree.old).side (corners_of tree.old)) changes.now }
+    requires prepared { All (λ change. HasStaged tree.old (tile_of change)) changes.now }
+    ensures stages { StagesOnly D.Disk tree.old tree.new result }
+    ensures refused { IfErr result (λ r. r ≡ Device) }
+    ensures next { IfOk result (λ next. (first < next) × (next ≤ length changes.now)) }
+    ensures set { D.honest (disk_of tree.new) → (s : Stored) (m : Mosaic) → IsAt D.Disk tree.old s
+        → HoldsMosaic (root_of tree.old).side (staged_in D.Disk tree.old) (all_changed (take first changes.now) m)
+        → IfOk result (λ next. HoldsMosaic (root_of tree.old).side (staged_in D.Disk tree.new) (all_changed (take next changes.now) m)) }
+{
+    let (corner, index) = match &changes[first] {
+        Change::Set { corner, index, .. } => (*corner, *index / SAMPLES_IN_PAGE),
+        _ => unreachable!(),
+    };
+    let mut page = [0; 4096];
+    if let Err(refusal) = tree.read_page(corner, Plane::Heights, index, &mut page) {
+        return Err(refusal);
+    }
+    let next = set_in_page(changes, first, corner, index, &mut page);
+    match tree.stage(corner, Plane::Heights, index, &page) {
+        Ok(()) => Ok(next),
+        Err(refusal) => Err(refusal),
+    }
+}
+
+// Sets the samples of a page of the corner's heights, by the changes of it that follow one another from the index `first`
+// on. Answers the index behind them.
+fn set_in_page(
+    changes: &[Change],
+    first: usize,
+    corner: Corner,
+    index: u32,
+    page: &mut [u8; 4096],
+) -> usize
+    requires { first ≤ length changes.now }
+    ensures low { first ≤ result }
+    ensures high { result ≤ length changes.now }
+    ensures first { (e : ℕ) (s : ℤ) → first < length changes.now → get_or changes.now first (Set corner e s) ≡ Set corner e s → e / 2048 ≡ index → first < result }
+    ensures set { (side : ℕ) (corners : List Place) (tiles : List StoredTile) (m : Mosaic) → All (CanBeSet side corners) changes.now
+        → HoldsMosaic side (with_page corner index page.old tiles) (all_changed (take first changes.now) m)
+        → HoldsMosaic side (with_page corner index page.new tiles) (all_changed (take result changes.now) m) }
+{
+    let mut next = first;
+    while next < changes.len() {
+        let Some((place, sample)) = sample_in(&changes[next], corner, index) else {
+            return next;
+        };
+        put_sample(page, place, sample);
+        next += 1;
+    }
+    next
+}
+
+// Where in a page of the corner's heights the change sets a sample, and to what, if it sets one there.
+fn sample_in(change: &Change, corner: Corner, index: u32) -> Option<(usize, i16)>
+    ensures some { IfSome result (λ found. SetsInPage corner index change.now found.0 found.1) }
+    ensures none { IfNone result ((e : ℕ) (s : ℤ) → change.now ≡ Set corner e s → e / 2048 ≢ index) }
+{
+    match change {
+        Change::Set {
+            corner: of,
+            index: at,
+            sample,
+        } if *of == corner && *at / SAMPLES_IN_PAGE == index => {
+            Some(((*at % SAMPLES_IN_PAGE) as usize, *sample))
+        }
+        _ => None,
+    }
+}

@@ -1,0 +1,27 @@
+//! An elevation store: tiles of elevation samples on a disk whose power may be cut at any moment.
+//!
+//! The layer above rests on this, where the disk is honest: each call answers what its definition asks of the state that
+//! the store was in, and leaves the state that goes with the answer; a stop at any moment inside a command leaves the
+//! contents as they were or as the command makes them, whole; after an Ok it leaves nothing else. An image stands for at
+//! most one contents. `specs/Standing.antt` says when an image stands for contents, `specs/States.antt` when a store is in a
+//! state, and the crate edits has the states and answers.
+#![tactic(auto)]
+
+mod applying;
+mod editing;
+#[cfg(test)]
+mod editing_tests;
+mod exporting;
+mod in_memory;
+mod laws;
+mod listing;
+mod queries;
+#[cfg(test)]
+mod query_tests;
+mod store;
+#[cfg(test)]
+mod tests;
+
+pub use in_memory::store_in_memory;
+pub use laws::images_stand_for_one_contents;
+pub use store::Store;

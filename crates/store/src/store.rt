@@ -1,0 +1,156 @@
+//! The store.
+ghost use Rattle.std.specs.Prelude.{◌≡◌, ◌≢◌, ◌≤◌, ◌<◌, ◌⊎◌, ◌↔◌, ℕ, map, true, false, Some, Ok, Err, OnOk, IfOk, IfErr, IsErrOf};
+ghost use Rattle.disk.specs.Disk.{Image, HasRisen};
+ghost use Rattle.disk.specs.Stops.{AddsNothing};
+ghost use Rattle.lattice.specs.Corners.{Place};
+ghost use Rattle.lattice.specs.declared.refusal.Refusal.TheVariants.{Device, NoMemory, BadSide, BadCapacity, TooSmall};
+ghost use Rattle.page_codec.specs.Sizes.{sectors_of};
+ghost use Rattle.edits.specs.State.{Contents, State, fresh};
+ghost use Rattle.cow_tree.specs.Trees.{HasStaged, MayRefuse, corners_of as corners_under, root_of as root_under, has_failed as have_failed};
+ghost use Rattle.store.specs.Standing.{StandsFor};
+ghost use Rattle.store.specs.States.{working};
+
+use cow_tree::{NotOpened, Tree};
+use disk::Disk;
+use lattice::{Refusal, Side};
+use page_codec::{MAX_CAPACITY, MAX_SIDE, sectors_needed};
+use std::alloc::Global;
+
+/// A store of elevation tiles on a disk.
+///
+/// What a call answers, and the state that it leaves, is said by the states that a store may be in: for each that it was
+/// in there is one that it is in now. That is promised where the disk was honest. A call that the disk fails answers
+/// Device; from then on each call that can refuse answers Failed until a reopening succeeds.
+#[derive(Drop)]
+pub struct Store<D: Disk> {
+    pub(crate) alloc: Global,
+    pub(crate) tree: Tree<D>,
+    // Between two calls nothing is staged.
+    ghost clean: { have_failed tree ≡ false → (c : Place) → ¬ HasStaged tree c },
+    ghost corners: { have_failed tree ≡ false → corners_under tree ≡ map (λ e. e.corner) (root_under tree).entries },
+}
+
+impl<D: Disk> Store<D> {
+    ghost use Rattle.store.specs.Stores.{disk_of, root_of, side_of, capacity_of, has_failed, disk_after, IsAt};
+
+    /// Makes an empty store on a disk: of tiles of this side (3 to 1201 samples), with room for so many (1 to 240).
+    /// Refused as BadSide, BadCapacity or TooSmall, in this order, and then nothing was done; or with Device, and then
+    /// the disk may hold anything.
+    pub fn format(disk: &mut D, side: u32, capacity: u32) -> Result<(), Refusal>
+        ensures size { D.size disk.new ≡ D.size disk.old }
+        ensures bad_side { (result ≡ Err BadSide) ↔ ((side < 3) ⊎ (1201 < side)) }
+        ensures bad_capacity { (result ≡ Err BadCapacity) ↔ ((3 ≤ side) × (side ≤ 1201) × ((capacity < 1) ⊎ (240 < capacity))) }
+        ensures too_small { (result ≡ Err TooSmall)
+            ↔ ((3 ≤ side) × (side ≤ 1201) × (1 ≤ capacity) × (capacity ≤ 240) × (D.size disk.old < sectors_of side capacity)) }
+        ensures refused { IfErr result (λ r. (r ≡ BadSide) ⊎ ((r ≡ BadCapacity) ⊎ ((r ≡ TooSmall) ⊎ (r ≡ Device)))) }
+        ensures untouched { IfErr result (λ r. r ≢ Device → disk.new ≡ disk.old) }
+        ensures later { D.failures disk.old ≤ D.failures disk.new }
+        ensures device { IsErrOf result Device → HasRisen (D.failures disk.old) (D.failures disk.new) }
+        ensures honest { D.honest disk.new → D.honest disk.old }
+        ensures formatted { D.honest disk.new
+            → OnOk result ((image : Image) → D.may disk.new image → StandsFor (D.size disk.new) side capacity image (fresh side)) }
+    {
+        let side = match Side::new(side) {
+            Some(side) if side.samples() <= MAX_SIDE => side,
+            _ => return Err(Refusal::BadSide),
+        };
+        if capacity < 1 || MAX_CAPACITY < capacity {
+            return Err(Refusal::BadCapacity);
+        }
+        if disk.sectors() < sectors_needed(side, capacity) {
+            return Err(Refusal::TooSmall);
+        }
+        Tree::format(disk, side, capacity)
+    }
+
+    /// Opens a disk, which a stop may have left in the middle of a commit. Nothing is written. A refusal hands the disk
+    /// back.
+    pub fn open(alloc: Global, disk: D) -> Result<Store<D>, NotOpened<D>>
+        ensures size { D.size (disk_after result) ≡ D.size disk }
+        ensures writes { D.writes (disk_after result) ≡ D.writes disk }
+        ensures later { D.failures disk ≤ D.failures (disk_after result) }
+        ensures device { IfErr result (λ e. e.refusal ≡ Device → HasRisen (D.failures disk) (D.failures e.disk)) }
+        ensures nothing { D.honest (disk_after result) → AddsNothing D.Disk disk (disk_after result) }
+        ensures works { IfOk result (λ store. has_failed store ≡ false) }
+
+        // Where each image stands for one of two contents, the store is at one of them, and each image stands for it.
+        ensures at { D.honest (disk_after result) → (side capacity : ℕ) (a b : Contents)
+            → ((image : Image) → D.may disk image → StandsFor (D.size disk) side capacity image a ⊎ StandsFor (D.size disk) side capacity image b)
+            → IfOk result (λ store. (side_of store ≡ side) × ((capacity_of store ≡ capacity) × (IsAt D.Disk store (working a) ⊎ IsAt D.Disk store (working b)))) }
+
+        // It is refused then only for the disk or for memory.
+        ensures sure { D.honest (disk_after result) → (side capacity : ℕ) (a b : Contents)
+            → ((image : Image) → D.may disk image → StandsFor (D.size disk) side capacity image a ⊎ StandsFor (D.size disk) side capacity image b)
+            → IfErr result (λ e. (e.refusal ≡ Device) ⊎ (e.refusal ≡ NoMemory)) }
+
+        // On any image it is refused as the roots and records ask.
+        ensures refused { D.honest (disk_after result) → IfErr result (λ e. MayRefuse (D.size disk) (D.seen disk) e.refusal) }
+    {
+        match Tree::open(alloc, disk) {
+            Ok(tree) => Ok(Store { alloc, tree }),
+            Err(refused) => Err(refused),
+        }
+    }
+
+    /// Opens the disk again, as after a fault: all that was held in memory is forgotten. Where it is refused, what was last
+    /// known stays, and the store has failed.
+    pub fn reopen(&mut self) -> Result<(), Refusal>
+        ensures size { D.size (disk_of self.new) ≡ D.size (disk_of self.old) }
+        ensures writes { D.writes (disk_of self.new) ≡ D.writes (disk_of self.old) }
+        ensures later { D.failures (disk_of self.old) ≤ D.failures (disk_of self.new) }
+        ensures device { IsErrOf result Device → HasRisen (D.failures (disk_of self.old)) (D.failures (disk_of self.new)) }
+        ensures nothing { D.honest (disk_of self.new) → AddsNothing D.Disk (disk_of self.old) (disk_of self.new) }
+        ensures works { OnOk result (has_failed self.new ≡ false) }
+        ensures failed { IfErr result (λ r. has_failed self.new ≡ true) }
+        ensures last_known { IfErr result (λ r. root_of self.new ≡ root_of self.old) }
+
+        // It comes to the contents that were last known, or to those of the commit in doubt.
+        ensures at { D.honest (disk_of self.new) → (s : State) → IsAt D.Disk self.old s
+            → OnOk result (IsAt D.Disk self.new (working s.contents)
+            ⊎ ((doubted : Contents) × (s.doubt ≡ Some doubted) × IsAt D.Disk self.new (working doubted))) }
+        ensures stays { D.honest (disk_of self.new) → (s : State) → IsAt D.Disk self.old s
+            → IfErr result (λ r. IsAt D.Disk self.new (record s { failed = true })) }
+        ensures sure { D.honest (disk_of self.new) → (s : State) → IsAt D.Disk self.old s
+            → IfErr result (λ r. (r ≡ Device) ⊎ (r ≡ NoMemory)) }
+    {
+        self.tree.reopen()
+    }
+
+    /// The disk as it is.
+    pub fn into_disk(self) -> D
+        ensures { result ≡ disk_of self }
+    {
+        let Store { tree, .. } = self;
+        tree.into_disk()
+    }
+
+    /// How many commands were accepted since the store was formatted, as last known.
+    pub fn count(&self) -> u64
+        ensures value { result ≡ (root_of self.now).count }
+        ensures state { (s : State) → IsAt D.Disk self.now s → result ≡ s.contents.count }
+    {
+        self.tree.current().count()
+    }
+
+    /// The number of the last commit, as last known.
+    pub fn commits(&self) -> u64
+        ensures value { result ≡ (root_of self.now).number }
+        ensures state { (s : State) → IsAt D.Disk self.now s → result ≡ s.contents.number }
+    {
+        self.tree.current().number()
+    }
+
+    /// Samples along an edge of its tiles.
+    pub fn side(&self) -> u32
+        ensures { result ≡ side_of self.now }
+    {
+        self.tree.current().side().samples()
+    }
+
+    /// How many tiles it has room for.
+    pub fn capacity(&self) -> u32
+        ensures { result ≡ capacity_of self.now }
+    {
+        self.tree.current().capacity()
+    }
+}
