@@ -16,6 +16,7 @@ pub mod Openings
 pub mod Outcomes
 pub mod Pages
 pub mod Querying
+pub mod QueryingDrainage
 pub mod QueryingPages
 pub mod Sets
 pub mod Stale

@@ -8,6 +8,9 @@
 #![tactic(auto)]
 
 mod applying;
+mod draining;
+#[cfg(test)]
+mod draining_tests;
 mod editing;
 #[cfg(test)]
 mod editing_tests;
@@ -18,6 +21,8 @@ mod listing;
 mod queries;
 #[cfg(test)]
 mod query_tests;
+#[cfg(test)]
+mod real_tile_tests;
 mod store;
 #[cfg(test)]
 mod tests;

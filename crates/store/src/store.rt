@@ -147,6 +147,13 @@ impl<D: Disk> Store<D> {
         self.tree.current().side().samples()
     }
 
+    /// The side of its tiles.
+    pub fn tile_side(&self) -> Side
+        ensures { result ≡ side_of self.now }
+    {
+        self.tree.current().side()
+    }
+
     /// How many tiles it has room for.
     pub fn capacity(&self) -> u32
         ensures { result ≡ capacity_of self.now }

@@ -1,0 +1,52 @@
+use Rattle.std.proofs.Common.{◌≡◌, ℕ, ℤ, false, IsTrue, Result, sym, ◌∙◌}
+use Rattle.std.specs.Prelude.{IsOk, IfOk, IsErrOf}
+use Rattle.lattice.specs.Ground.{is_ground, terrain}
+use Rattle.lattice.specs.Height.{height_of}
+use Rattle.lattice.specs.Mosaic.{Mosaic}
+use Rattle.lattice.specs.declared.height.Height.TheVariants as height
+use Rattle.lattice.specs.declared.point.Point.{Point}
+use Rattle.lattice.specs.declared.refusal.Refusal.{Refusal}
+use Rattle.lattice.specs.declared.refusal.Refusal.TheVariants.{Outside, Void}
+use Rattle.edits.specs.State.{State}
+use Rattle.flow_d8.specs.Drainage.{AreFilledLevels}
+use Rattle.drainage.specs.Draining.{DrainsBy}
+use Rattle.drainage.specs.Outcomes.{Directs}
+use Rattle.drainage.proofs.Answered.{directs}
+use Rattle.cow_tree.specs.Trees.{has_failed}
+use Rattle.store.proofs.Querying.{valid_at, stays_at, still_clean, still_corners, still_readable, queried, fails_so}
+use Rattle.store.proofs.QueryingDrainage.{of_here, held_here, risen_read, read_answered}
+use Rattle.store.proofs.store.Store.direction.Goals as goal
+
+pub invariant_of-self : goal.invariant_of-self
+invariant_of-self g c =
+    let d = g.D.Disk in
+    let old = c.args.self.now in
+    let new = c.direction.new.samples in
+    let works : has_failed old.tree ≡ false = sym c.has_failed.ensures ∙ c.if-has_failed.false in
+    let keeps = c.direction.ensures.reads.keeps in
+    record { clean = still_clean d old.tree new works keeps old.clean; corners = still_corners d old.tree new works keeps old.corners }
+
+pub returns-clause-reads : goal.returns-clause-reads
+returns-clause-reads g c =
+    let old = c.args.self.now.tree in
+    let works : has_failed old ≡ false = sym c.has_failed.ensures ∙ c.if-has_failed.false in
+    let reads = c.direction.ensures.reads in
+    queried g.D.Disk old c.direction.new.samples works reads.keeps c.direction.result (risen_read c.direction.result _ _ reads.refusal)
+
+pub returns-clause-outcome : goal.returns-clause-outcome
+returns-clause-outcome g c honest s at =
+    let d = g.D.Disk in
+    let old = c.args.self.now.tree in
+    let new = c.direction.new.samples in
+    let works : has_failed old ≡ false = sym c.has_failed.ensures ∙ c.if-has_failed.false in
+    let ensures = c.direction.ensures in
+    let keeps = ensures.reads.keeps in
+    let result : Result ℕ Refusal = c.direction.result in
+    let readable = still_readable d old new works keeps honest s at in
+    read_answered d old new works keeps honest s at (λ (s : State) (r : Result ℕ Refusal) (t : State). Directs s c.args.point (r) t) result (ensures.reads.ready works) ensures.reads.unready
+    (ensures.reads.only_device readable works) (fails_so d old new works keeps honest s at)
+    (λ unread. directs s s (stays_at d old works s at) (valid_at d old works s at) c.args.point result unread
+    (of_here d old new works keeps honest s at (λ (m : Mosaic). IfOk result (λ code. (level : Point → ℤ) → AreFilledLevels (terrain m) level → DrainsBy (terrain m) level c.args.point code)) (ensures.direction readable))
+    (of_here d old new works keeps honest s at (λ (m : Mosaic). IsOk result → IsTrue (is_ground m c.args.point)) (ensures.on_ground readable))
+    (held_here d old new works keeps honest s at (IsErrOf result Outside) c.args.point ensures.outside)
+    (of_here d old new works keeps honest s at (λ (m : Mosaic). IsErrOf result Void → height_of m c.args.point ≡ height.Void) (ensures.void readable)) ensures.causes)

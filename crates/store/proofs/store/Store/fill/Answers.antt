@@ -1,0 +1,49 @@
+use Rattle.std.proofs.Common.{◌≡◌, ℤ, false, Result, sym, ◌∙◌}
+use Rattle.std.specs.Prelude.{IfOk, IsErrOf}
+use Rattle.lattice.specs.Ground.{terrain}
+use Rattle.lattice.specs.Height.{height_of}
+use Rattle.lattice.specs.Mosaic.{Mosaic}
+use Rattle.lattice.specs.Terrain.{IsFilledLevel}
+use Rattle.lattice.specs.declared.height.Height.TheVariants as height
+use Rattle.lattice.specs.declared.refusal.Refusal.{Refusal}
+use Rattle.lattice.specs.declared.refusal.Refusal.TheVariants.{Outside, Void}
+use Rattle.edits.specs.State.{State}
+use Rattle.drainage.specs.Outcomes.{Fills}
+use Rattle.drainage.proofs.Answered.{fills}
+use Rattle.cow_tree.specs.Trees.{has_failed}
+use Rattle.store.proofs.Querying.{valid_at, stays_at, still_clean, still_corners, still_readable, queried, fails_so}
+use Rattle.store.proofs.QueryingDrainage.{of_here, held_here, risen_read, read_answered}
+use Rattle.store.proofs.store.Store.fill.Goals as goal
+
+pub invariant_of-self : goal.invariant_of-self
+invariant_of-self g c =
+    let d = g.D.Disk in
+    let old = c.args.self.now in
+    let new = c.fill.new.samples in
+    let works : has_failed old.tree ≡ false = sym c.has_failed.ensures ∙ c.if-has_failed.false in
+    let keeps = c.fill.ensures.reads.keeps in
+    record { clean = still_clean d old.tree new works keeps old.clean; corners = still_corners d old.tree new works keeps old.corners }
+
+pub returns-clause-reads : goal.returns-clause-reads
+returns-clause-reads g c =
+    let old = c.args.self.now.tree in
+    let works : has_failed old ≡ false = sym c.has_failed.ensures ∙ c.if-has_failed.false in
+    let reads = c.fill.ensures.reads in
+    queried g.D.Disk old c.fill.new.samples works reads.keeps c.fill.result (risen_read c.fill.result _ _ reads.refusal)
+
+pub returns-clause-outcome : goal.returns-clause-outcome
+returns-clause-outcome g c honest s at =
+    let d = g.D.Disk in
+    let old = c.args.self.now.tree in
+    let new = c.fill.new.samples in
+    let works : has_failed old ≡ false = sym c.has_failed.ensures ∙ c.if-has_failed.false in
+    let ensures = c.fill.ensures in
+    let keeps = ensures.reads.keeps in
+    let result : Result ℤ Refusal = c.fill.result in
+    let readable = still_readable d old new works keeps honest s at in
+    read_answered d old new works keeps honest s at (λ (s : State) (r : Result ℤ Refusal) (t : State). Fills s c.args.point (r) t) result (ensures.reads.ready works) ensures.reads.unready
+    (ensures.reads.only_device readable works) (fails_so d old new works keeps honest s at)
+    (λ unread. fills s s (stays_at d old works s at) (valid_at d old works s at) c.args.point result unread
+    (of_here d old new works keeps honest s at (λ (m : Mosaic). IfOk result (λ level. IsFilledLevel (terrain m) c.args.point level)) (ensures.level readable))
+    (held_here d old new works keeps honest s at (IsErrOf result Outside) c.args.point ensures.outside)
+    (of_here d old new works keeps honest s at (λ (m : Mosaic). IsErrOf result Void → height_of m c.args.point ≡ height.Void) (ensures.void readable)) ensures.causes)
