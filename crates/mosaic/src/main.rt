@@ -8,7 +8,7 @@ fn main(rt: HostRuntime) -> ExitCode {
     let mut reader = rt.reader();
     let mut writer = io::writer(&rt);
     let status = match words(&rt) {
-        Ok(words) => server::program(rt.alloc(), &words, &mut reader, &mut writer),
+        Ok(words) => server::program(&rt, &words, &mut reader, &mut writer),
         Err(_) => server::no_room(&mut writer),
     };
     ExitCode::from(status)

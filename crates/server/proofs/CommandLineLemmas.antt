@@ -1,6 +1,6 @@
 -- What clap makes of the program's words.
-use Rattle.std.proofs.Common.{◌≡◌, ℕ, get_or, Bool, true, false, zero, suc, List, [], ◌∷◌, ◌++◌, Option, Some, None, refl, sym, ap, ◌∙◌, subst, arith, map, append_assoc, eqb-true, ap₂, codes, true≢false}
-use Rattle.std.specs.Prelude.{if◌then◌else◌, ◌==◌, fold, All, Any, MatchOption, IfOk, Err}
+use Rattle.std.proofs.Common.{◌≡◌, ℕ, get_or, Bool, true, false, zero, suc, List, [], ◌∷◌, ◌++◌, Option, Some, None, refl, sym, ap, ◌∙◌, subst, arith, map, append_assoc, eqb-true, ap₂, codes, true≢false, inl, inr}
+use Rattle.std.specs.Prelude.{if◌then◌else◌, ◌==◌, fold, All, Any, MatchOption, IfOk, Err, ◌⊎◌, unwrap_or}
 use Rattle.std.specs.Option.{ok_or}
 use Rattle.std.specs.Str.{bytes_eq}
 use Rattle.std.proofs.lemmas.Slice.Eq.{bytes_eq-Decides}
@@ -15,12 +15,10 @@ use Rattle.clap.specs.Walk.{Names, Rule, Text, Walk, nothing_held, is_empty, wal
 use Rattle.clap.proofs.OnLiterals.{clap_on_literals}
 use Rattle.clap.specs.declared.error.ErrorKind.{ErrorKind}
 use Rattle.clap.specs.declared.error.ErrorKind.TheVariants.{UnknownArgument}
-use Rattle.lines.specs.Grammar.{IsNat}
-use Rattle.lines.proofs.GrammarLaws.{no_sign}
-use Rattle.server.specs.CommandLine.{AskedBy, AskedIn, AskNothing, IsOption, program_app, texts_of}
+use Rattle.server.specs.CommandLine.{AskedBy, AskedIn, AskNothing, IsOption, Reads, SpellsOut, Texts, program_app, texts_of}
 use Rattle.server.specs.declared.arguments.ArgumentFault.TheVariants.{Bad}
 use Rattle.server.specs.declared.arguments.Arguments.{Arguments}
-use Rattle.server.specs.declared.arguments.Arguments.TheVariants.{Table}
+use Rattle.server.specs.declared.arguments.Arguments.TheVariants.{Format, Import, Serve, Table, Check}
 
 pub simple_app : is_simple program_app ≡ true
 unfolding clap_on_literals
@@ -53,16 +51,65 @@ other_text word text not_it = by (bytes_eq word text) refl
 plain_word : (word : Text) → (IsOption word → ⊥) → IsPlain word
 plain_word word none = record { strips = no_strip word none; other = other_text word (45 ∷ 45 ∷ []) (λ e. none (45 ∷ [], e)) }
 
--- the words of a table are taken, and give its texts
+abbrev texts_by : List Text → Option Texts
+texts_by ws = texts_of (subcommand_of program_app ws)
 
-taken : (s c : Text) → IsPlain s → IsPlain c → takes program_app (codes "table" ∷ s ∷ c ∷ []) ≡ true
-unfolding clap_on_literals
-taken s c p q = rw (p.other, p.strips, p.strips, q.other, q.strips, q.strips) refl
+-- the words of each subcommand are taken, and give its texts
 
-given : (s c : Text) → IsPlain s → IsPlain c
-    → texts_of (subcommand_of program_app (codes "table" ∷ s ∷ c ∷ [])) ≡ Some (codes "table", Some s, Some c)
+abbrev format_texts : Text → Text → Text → Texts
+format_texts p s c = record { name = codes "format"; path = Some p; tile = None; side = Some s; capacity = Some c }
+
+taken_format : (p s c : Text) → IsPlain p → IsPlain s → IsPlain c → takes program_app (codes "format" ∷ p ∷ s ∷ c ∷ []) ≡ true
 unfolding clap_on_literals
-given s c p q = rw (p.other, p.strips, p.strips, q.other, q.strips, q.strips) refl
+taken_format p s c qp qs qc = rw (qp.other, qp.strips, qp.strips, qs.other, qs.strips, qs.strips, qc.other, qc.strips, qc.strips) refl
+
+given_format : (p s c : Text) → IsPlain p → IsPlain s → IsPlain c → texts_by (codes "format" ∷ p ∷ s ∷ c ∷ []) ≡ Some (format_texts p s c)
+unfolding clap_on_literals
+given_format p s c qp qs qc = rw (qp.other, qp.strips, qp.strips, qs.other, qs.strips, qs.strips, qc.other, qc.strips, qc.strips) refl
+
+abbrev import_texts : Text → Text → Texts
+import_texts p f = record { name = codes "import"; path = Some p; tile = Some f; side = None; capacity = None }
+
+taken_import : (p f : Text) → IsPlain p → IsPlain f → takes program_app (codes "import" ∷ p ∷ f ∷ []) ≡ true
+unfolding clap_on_literals
+taken_import p f qp qf = rw (qp.other, qp.strips, qp.strips, qf.other, qf.strips, qf.strips) refl
+
+given_import : (p f : Text) → IsPlain p → IsPlain f → texts_by (codes "import" ∷ p ∷ f ∷ []) ≡ Some (import_texts p f)
+unfolding clap_on_literals
+given_import p f qp qf = rw (qp.other, qp.strips, qp.strips, qf.other, qf.strips, qf.strips) refl
+
+abbrev serve_texts : Text → Texts
+serve_texts p = record { name = codes "serve"; path = Some p; tile = None; side = None; capacity = None }
+
+taken_serve : (p : Text) → IsPlain p → takes program_app (codes "serve" ∷ p ∷ []) ≡ true
+unfolding clap_on_literals
+taken_serve p qp = rw (qp.other, qp.strips, qp.strips) refl
+
+given_serve : (p : Text) → IsPlain p → texts_by (codes "serve" ∷ p ∷ []) ≡ Some (serve_texts p)
+unfolding clap_on_literals
+given_serve p qp = rw (qp.other, qp.strips, qp.strips) refl
+
+abbrev table_texts : Text → Text → Texts
+table_texts s c = record { name = codes "table"; path = None; tile = None; side = Some s; capacity = Some c }
+
+taken_table : (s c : Text) → IsPlain s → IsPlain c → takes program_app (codes "table" ∷ s ∷ c ∷ []) ≡ true
+unfolding clap_on_literals
+taken_table s c qs qc = rw (qs.other, qs.strips, qs.strips, qc.other, qc.strips, qc.strips) refl
+
+given_table : (s c : Text) → IsPlain s → IsPlain c → texts_by (codes "table" ∷ s ∷ c ∷ []) ≡ Some (table_texts s c)
+unfolding clap_on_literals
+given_table s c qs qc = rw (qs.other, qs.strips, qs.strips, qc.other, qc.strips, qc.strips) refl
+
+abbrev check_texts : Text → Texts
+check_texts p = record { name = codes "check"; path = Some p; tile = None; side = None; capacity = None }
+
+taken_check : (p : Text) → IsPlain p → takes program_app (codes "check" ∷ p ∷ []) ≡ true
+unfolding clap_on_literals
+taken_check p qp = rw (qp.other, qp.strips, qp.strips) refl
+
+given_check : (p : Text) → IsPlain p → texts_by (codes "check" ∷ p ∷ []) ≡ Some (check_texts p)
+unfolding clap_on_literals
+given_check p qp = rw (qp.other, qp.strips, qp.strips) refl
 
 -- a walk that has stopped keeps the words that are left, and finds no fault in them
 
@@ -89,34 +136,138 @@ second_fault a b c k e f none = let bad : or_else [] (or_else (k ∷ []) c) ≡ 
 abbrev program : App
 program = built program_app
 
-below : (s c d : Text) (rest : List Text) → IsPlain s → IsPlain c → IsPlain d → entered_fault program (Some (codes "table", s ∷ c ∷ d ∷ rest)) ≡ UnknownArgument ∷ []
+below_format : (p s c d : Text) (rest : List Text) → IsPlain p → IsPlain s → IsPlain c → IsPlain d → entered_fault program (Some (codes "format", p ∷ s ∷ c ∷ d ∷ rest)) ≡ UnknownArgument ∷ []
 unfolding clap_on_literals
-below s c d rest p q r = rw (p.other, p.strips, p.strips, q.other, q.strips, q.strips, r.other, r.strips, r.strips) refl
+below_format p s c d rest qp qs qc qd = rw (qp.other, qp.strips, qp.strips, qs.other, qs.strips, qs.strips, qc.other, qc.strips, qc.strips, qd.other, qd.strips, qd.strips) refl
+
+abbrev at_format : Walk
+at_format = walked program.top.rules (names_of program) (walk_from nothing_held) (codes "format")
+
+stops_format : at_format.stopped ≡ Some (codes "format", [])
+unfolding clap_on_literals
+stops_format = refl
+
+too_many_format : (p s c d : Text) (rest : List Text) → IsPlain p → IsPlain s → IsPlain c → IsPlain d → fault_of program_app (codes "format" ∷ p ∷ s ∷ c ∷ d ∷ rest) ≡ [] → ⊥
+unfolding clap_on_literals
+too_many_format p s c d rest qp qs qc qd e =
+    second_fault (walk_fault program.top (names_of program) (walk_from nothing_held) (codes "format" ∷ p ∷ s ∷ c ∷ d ∷ rest)) _ _ UnknownArgument
+    (no_fault_after program.top (names_of program) at_format (codes "format") [] (p ∷ s ∷ c ∷ d ∷ rest) stops_format)
+    (ap (entered_fault program) (stopped_after program.top.rules (names_of program) at_format (codes "format") [] (p ∷ s ∷ c ∷ d ∷ rest) stops_format) ∙ below_format p s c d rest qp qs qc qd)
+    e
+
+below_import : (p f d : Text) (rest : List Text) → IsPlain p → IsPlain f → IsPlain d → entered_fault program (Some (codes "import", p ∷ f ∷ d ∷ rest)) ≡ UnknownArgument ∷ []
+unfolding clap_on_literals
+below_import p f d rest qp qf qd = rw (qp.other, qp.strips, qp.strips, qf.other, qf.strips, qf.strips, qd.other, qd.strips, qd.strips) refl
+
+abbrev at_import : Walk
+at_import = walked program.top.rules (names_of program) (walk_from nothing_held) (codes "import")
+
+stops_import : at_import.stopped ≡ Some (codes "import", [])
+unfolding clap_on_literals
+stops_import = refl
+
+too_many_import : (p f d : Text) (rest : List Text) → IsPlain p → IsPlain f → IsPlain d → fault_of program_app (codes "import" ∷ p ∷ f ∷ d ∷ rest) ≡ [] → ⊥
+unfolding clap_on_literals
+too_many_import p f d rest qp qf qd e =
+    second_fault (walk_fault program.top (names_of program) (walk_from nothing_held) (codes "import" ∷ p ∷ f ∷ d ∷ rest)) _ _ UnknownArgument
+    (no_fault_after program.top (names_of program) at_import (codes "import") [] (p ∷ f ∷ d ∷ rest) stops_import)
+    (ap (entered_fault program) (stopped_after program.top.rules (names_of program) at_import (codes "import") [] (p ∷ f ∷ d ∷ rest) stops_import) ∙ below_import p f d rest qp qf qd)
+    e
+
+below_serve : (p d : Text) (rest : List Text) → IsPlain p → IsPlain d → entered_fault program (Some (codes "serve", p ∷ d ∷ rest)) ≡ UnknownArgument ∷ []
+unfolding clap_on_literals
+below_serve p d rest qp qd = rw (qp.other, qp.strips, qp.strips, qd.other, qd.strips, qd.strips) refl
+
+abbrev at_serve : Walk
+at_serve = walked program.top.rules (names_of program) (walk_from nothing_held) (codes "serve")
+
+stops_serve : at_serve.stopped ≡ Some (codes "serve", [])
+unfolding clap_on_literals
+stops_serve = refl
+
+too_many_serve : (p d : Text) (rest : List Text) → IsPlain p → IsPlain d → fault_of program_app (codes "serve" ∷ p ∷ d ∷ rest) ≡ [] → ⊥
+unfolding clap_on_literals
+too_many_serve p d rest qp qd e =
+    second_fault (walk_fault program.top (names_of program) (walk_from nothing_held) (codes "serve" ∷ p ∷ d ∷ rest)) _ _ UnknownArgument
+    (no_fault_after program.top (names_of program) at_serve (codes "serve") [] (p ∷ d ∷ rest) stops_serve)
+    (ap (entered_fault program) (stopped_after program.top.rules (names_of program) at_serve (codes "serve") [] (p ∷ d ∷ rest) stops_serve) ∙ below_serve p d rest qp qd)
+    e
+
+below_table : (s c d : Text) (rest : List Text) → IsPlain s → IsPlain c → IsPlain d → entered_fault program (Some (codes "table", s ∷ c ∷ d ∷ rest)) ≡ UnknownArgument ∷ []
+unfolding clap_on_literals
+below_table s c d rest qs qc qd = rw (qs.other, qs.strips, qs.strips, qc.other, qc.strips, qc.strips, qd.other, qd.strips, qd.strips) refl
 
 abbrev at_table : Walk
 at_table = walked program.top.rules (names_of program) (walk_from nothing_held) (codes "table")
 
-stops : at_table.stopped ≡ Some (codes "table", [])
+stops_table : at_table.stopped ≡ Some (codes "table", [])
 unfolding clap_on_literals
-stops = refl
+stops_table = refl
 
-too_many : (s c d : Text) (rest : List Text) → IsPlain s → IsPlain c → IsPlain d → fault_of program_app (codes "table" ∷ s ∷ c ∷ d ∷ rest) ≡ [] → ⊥
+too_many_table : (s c d : Text) (rest : List Text) → IsPlain s → IsPlain c → IsPlain d → fault_of program_app (codes "table" ∷ s ∷ c ∷ d ∷ rest) ≡ [] → ⊥
 unfolding clap_on_literals
-too_many s c d rest p q r e =
+too_many_table s c d rest qs qc qd e =
     second_fault (walk_fault program.top (names_of program) (walk_from nothing_held) (codes "table" ∷ s ∷ c ∷ d ∷ rest)) _ _ UnknownArgument
-    (no_fault_after program.top (names_of program) at_table (codes "table") [] (s ∷ c ∷ d ∷ rest) stops)
-    (ap (entered_fault program) (stopped_after program.top.rules (names_of program) at_table (codes "table") [] (s ∷ c ∷ d ∷ rest) stops) ∙ below s c d rest p q r)
+    (no_fault_after program.top (names_of program) at_table (codes "table") [] (s ∷ c ∷ d ∷ rest) stops_table)
+    (ap (entered_fault program) (stopped_after program.top.rules (names_of program) at_table (codes "table") [] (s ∷ c ∷ d ∷ rest) stops_table) ∙ below_table s c d rest qs qc qd)
+    e
+
+below_check : (p d : Text) (rest : List Text) → IsPlain p → IsPlain d → entered_fault program (Some (codes "check", p ∷ d ∷ rest)) ≡ UnknownArgument ∷ []
+unfolding clap_on_literals
+below_check p d rest qp qd = rw (qp.other, qp.strips, qp.strips, qd.other, qd.strips, qd.strips) refl
+
+abbrev at_check : Walk
+at_check = walked program.top.rules (names_of program) (walk_from nothing_held) (codes "check")
+
+stops_check : at_check.stopped ≡ Some (codes "check", [])
+unfolding clap_on_literals
+stops_check = refl
+
+too_many_check : (p d : Text) (rest : List Text) → IsPlain p → IsPlain d → fault_of program_app (codes "check" ∷ p ∷ d ∷ rest) ≡ [] → ⊥
+unfolding clap_on_literals
+too_many_check p d rest qp qd e =
+    second_fault (walk_fault program.top (names_of program) (walk_from nothing_held) (codes "check" ∷ p ∷ d ∷ rest)) _ _ UnknownArgument
+    (no_fault_after program.top (names_of program) at_check (codes "check") [] (p ∷ d ∷ rest) stops_check)
+    (ap (entered_fault program) (stopped_after program.top.rules (names_of program) at_check (codes "check") [] (p ∷ d ∷ rest) stops_check) ∙ below_check p d rest qp qd)
     e
 
 -- faults that are met at once
 
-missing_both : is_empty (fault_of program_app (codes "table" ∷ [])) ≡ false
+missing_format_0 : is_empty (fault_of program_app (codes "format" ∷ [])) ≡ false
 unfolding clap_on_literals
-missing_both = refl
+missing_format_0 = refl
 
-missing_one : (s : Text) → IsPlain s → is_empty (fault_of program_app (codes "table" ∷ s ∷ [])) ≡ false
+missing_format_1 : (p : Text) → IsPlain p → is_empty (fault_of program_app (codes "format" ∷ p ∷ [])) ≡ false
 unfolding clap_on_literals
-missing_one s p = rw (p.other, p.strips, p.strips) refl
+missing_format_1 p qp = rw (qp.other, qp.strips, qp.strips) refl
+
+missing_format_2 : (p s : Text) → IsPlain p → IsPlain s → is_empty (fault_of program_app (codes "format" ∷ p ∷ s ∷ [])) ≡ false
+unfolding clap_on_literals
+missing_format_2 p s qp qs = rw (qp.other, qp.strips, qp.strips, qs.other, qs.strips, qs.strips) refl
+
+missing_import_0 : is_empty (fault_of program_app (codes "import" ∷ [])) ≡ false
+unfolding clap_on_literals
+missing_import_0 = refl
+
+missing_import_1 : (p : Text) → IsPlain p → is_empty (fault_of program_app (codes "import" ∷ p ∷ [])) ≡ false
+unfolding clap_on_literals
+missing_import_1 p qp = rw (qp.other, qp.strips, qp.strips) refl
+
+missing_serve_0 : is_empty (fault_of program_app (codes "serve" ∷ [])) ≡ false
+unfolding clap_on_literals
+missing_serve_0 = refl
+
+missing_table_0 : is_empty (fault_of program_app (codes "table" ∷ [])) ≡ false
+unfolding clap_on_literals
+missing_table_0 = refl
+
+missing_table_1 : (s : Text) → IsPlain s → is_empty (fault_of program_app (codes "table" ∷ s ∷ [])) ≡ false
+unfolding clap_on_literals
+missing_table_1 s qs = rw (qs.other, qs.strips, qs.strips) refl
+
+missing_check_0 : is_empty (fault_of program_app (codes "check" ∷ [])) ≡ false
+unfolding clap_on_literals
+missing_check_0 = refl
 
 no_words : is_empty (fault_of program_app []) ≡ false
 unfolding clap_on_literals
@@ -126,10 +277,10 @@ asks_help : (ws : List Text) → is_empty (fault_of program_app (codes "help" �
 unfolding clap_on_literals
 asks_help ws = refl
 
-stray : (w : Text) (ws : List Text) → IsPlain w → bytes_eq (codes "table") w ≡ false → bytes_eq (codes "help") w ≡ false
-    → is_empty (fault_of program_app (w ∷ ws)) ≡ false
+stray : (w : Text) (ws : List Text) → IsPlain w → bytes_eq (codes "format") w ≡ false → bytes_eq (codes "import") w ≡ false → bytes_eq (codes "serve") w ≡ false → bytes_eq (codes "table") w ≡ false → bytes_eq (codes "check") w ≡ false → bytes_eq (codes "help") w ≡ false →
+    is_empty (fault_of program_app (w ∷ ws)) ≡ false
 unfolding clap_on_literals
-stray w ws p t h = rw (t, h, p.other, p.strips, p.strips) refl
+stray w ws q eformat eimport eserve etable echeck ehelp = rw (eformat, eimport, eserve, etable, echeck, ehelp, q.other, q.strips, q.strips) refl
 
 clash : (k : Kinds) → is_empty k ≡ false → k ≡ [] → ⊥
 clash k some none = true≢false (sym (ap is_empty none) ∙ some)
@@ -137,70 +288,228 @@ clash k some none = true≢false (sym (ap is_empty none) ∙ some)
 abbrev NoOption : Text → Type 0
 NoOption word = IsOption word → ⊥
 
-two_texts : (ws : List Text) → All NoOption ws → fault_of program_app (codes "table" ∷ ws) ≡ [] → (s c : Text) × (ws ≡ s ∷ c ∷ [])
-two_texts [] plain e = absurd (clash _ missing_both e)
-two_texts (s ∷ []) plain e = absurd (clash _ (missing_one s (plain_word s (All-head NoOption s [] plain))) e)
-two_texts (s ∷ c ∷ []) plain e = (s, c, refl)
-two_texts (s ∷ c ∷ d ∷ rest) plain e =
-    let p = All-tail NoOption s (c ∷ d ∷ rest) plain in
-    let q = All-tail NoOption c (d ∷ rest) p in
-    absurd (too_many s c d rest (plain_word s (All-head NoOption s (c ∷ d ∷ rest) plain)) (plain_word c (All-head NoOption c (d ∷ rest) p)) (plain_word d (All-head NoOption d rest q)) e)
+abbrev IsFormat : List Text → Type 0
+IsFormat ws = (p s c : Text) × (ws ≡ codes "format" ∷ p ∷ s ∷ c ∷ [])
 
-asks_table : (ws : List Text) → All NoOption ws → fault_of program_app ws ≡ [] → (s c : Text) × (ws ≡ codes "table" ∷ s ∷ c ∷ [])
-asks_table [] plain e = absurd (clash _ no_words e)
-asks_table (w ∷ ws) plain e = by_table (bytes_eq (codes "table") w) refl
+abbrev IsImport : List Text → Type 0
+IsImport ws = (p f : Text) × (ws ≡ codes "import" ∷ p ∷ f ∷ [])
+
+abbrev IsServe : List Text → Type 0
+IsServe ws = (p : Text) × (ws ≡ codes "serve" ∷ p ∷ [])
+
+abbrev IsTable : List Text → Type 0
+IsTable ws = (s c : Text) × (ws ≡ codes "table" ∷ s ∷ c ∷ [])
+
+abbrev IsCheck : List Text → Type 0
+IsCheck ws = (p : Text) × (ws ≡ codes "check" ∷ p ∷ [])
+
+texts_format : (ws : List Text) → All NoOption ws → fault_of program_app (codes "format" ∷ ws) ≡ [] → IsFormat (codes "format" ∷ ws)
+texts_format [] plain e = absurd (clash _ missing_format_0 e)
+texts_format (p ∷ []) plain e = absurd (clash _ (missing_format_1 p (plain_word p (All-head NoOption p ([]) plain))) e)
+texts_format (p ∷ s ∷ []) plain e = absurd (clash _ (missing_format_2 p s (plain_word p (All-head NoOption p (s ∷ []) plain)) (plain_word s (All-head NoOption s ([]) (All-tail NoOption p (s ∷ []) plain)))) e)
+texts_format (p ∷ s ∷ c ∷ []) plain e = (p, s, c, refl)
+texts_format (p ∷ s ∷ c ∷ d ∷ rest) plain e =
+    absurd (too_many_format p s c d rest
+    (plain_word p (All-head NoOption p (s ∷ c ∷ d ∷ rest) plain))
+    (plain_word s (All-head NoOption s (c ∷ d ∷ rest) (All-tail NoOption p (s ∷ c ∷ d ∷ rest) plain)))
+    (plain_word c (All-head NoOption c (d ∷ rest) (All-tail NoOption s (c ∷ d ∷ rest) (All-tail NoOption p (s ∷ c ∷ d ∷ rest) plain))))
+    (plain_word d (All-head NoOption d (rest) (All-tail NoOption c (d ∷ rest) (All-tail NoOption s (c ∷ d ∷ rest) (All-tail NoOption p (s ∷ c ∷ d ∷ rest) plain)))))
+    e)
+
+texts_import : (ws : List Text) → All NoOption ws → fault_of program_app (codes "import" ∷ ws) ≡ [] → IsImport (codes "import" ∷ ws)
+texts_import [] plain e = absurd (clash _ missing_import_0 e)
+texts_import (p ∷ []) plain e = absurd (clash _ (missing_import_1 p (plain_word p (All-head NoOption p ([]) plain))) e)
+texts_import (p ∷ f ∷ []) plain e = (p, f, refl)
+texts_import (p ∷ f ∷ d ∷ rest) plain e =
+    absurd (too_many_import p f d rest
+    (plain_word p (All-head NoOption p (f ∷ d ∷ rest) plain))
+    (plain_word f (All-head NoOption f (d ∷ rest) (All-tail NoOption p (f ∷ d ∷ rest) plain)))
+    (plain_word d (All-head NoOption d (rest) (All-tail NoOption f (d ∷ rest) (All-tail NoOption p (f ∷ d ∷ rest) plain))))
+    e)
+
+texts_serve : (ws : List Text) → All NoOption ws → fault_of program_app (codes "serve" ∷ ws) ≡ [] → IsServe (codes "serve" ∷ ws)
+texts_serve [] plain e = absurd (clash _ missing_serve_0 e)
+texts_serve (p ∷ []) plain e = (p, refl)
+texts_serve (p ∷ d ∷ rest) plain e =
+    absurd (too_many_serve p d rest
+    (plain_word p (All-head NoOption p (d ∷ rest) plain))
+    (plain_word d (All-head NoOption d (rest) (All-tail NoOption p (d ∷ rest) plain)))
+    e)
+
+texts_table : (ws : List Text) → All NoOption ws → fault_of program_app (codes "table" ∷ ws) ≡ [] → IsTable (codes "table" ∷ ws)
+texts_table [] plain e = absurd (clash _ missing_table_0 e)
+texts_table (s ∷ []) plain e = absurd (clash _ (missing_table_1 s (plain_word s (All-head NoOption s ([]) plain))) e)
+texts_table (s ∷ c ∷ []) plain e = (s, c, refl)
+texts_table (s ∷ c ∷ d ∷ rest) plain e =
+    absurd (too_many_table s c d rest
+    (plain_word s (All-head NoOption s (c ∷ d ∷ rest) plain))
+    (plain_word c (All-head NoOption c (d ∷ rest) (All-tail NoOption s (c ∷ d ∷ rest) plain)))
+    (plain_word d (All-head NoOption d (rest) (All-tail NoOption c (d ∷ rest) (All-tail NoOption s (c ∷ d ∷ rest) plain))))
+    e)
+
+texts_check : (ws : List Text) → All NoOption ws → fault_of program_app (codes "check" ∷ ws) ≡ [] → IsCheck (codes "check" ∷ ws)
+texts_check [] plain e = absurd (clash _ missing_check_0 e)
+texts_check (p ∷ []) plain e = (p, refl)
+texts_check (p ∷ d ∷ rest) plain e =
+    absurd (too_many_check p d rest
+    (plain_word p (All-head NoOption p (d ∷ rest) plain))
+    (plain_word d (All-head NoOption d (rest) (All-tail NoOption p (d ∷ rest) plain)))
+    e)
+
+-- what the words are
+abbrev Asks : List Text → Type 0
+Asks ws = IsFormat ws ⊎ IsImport ws ⊎ IsServe ws ⊎ IsTable ws ⊎ IsCheck ws
+
+asks : (ws : List Text) → All NoOption ws → fault_of program_app ws ≡ [] → Asks ws
+asks [] plain e = absurd (clash _ no_words e)
+asks (w ∷ ws) plain e = by_format (bytes_eq (codes "format") w) refl
   where
-    first : IsPlain w
-    first = plain_word w (All-head NoOption w ws plain)
+    rest : All NoOption ws
+    rest = All-tail NoOption w ws plain
+
+    word_is : (v : Text) → bytes_eq v w ≡ true → w ≡ v
+    word_is v t = sym ((bytes_eq-Decides v w).0 t)
 
     as_word : (v : Text) → bytes_eq v w ≡ true → fault_of program_app (v ∷ ws) ≡ []
-    as_word v t = subst (λ (u : Text). fault_of program_app (u ∷ ws) ≡ []) (sym ((bytes_eq-Decides v w).0 t)) e
+    as_word v t = subst (λ (u : Text). fault_of program_app (u ∷ ws) ≡ []) (word_is v t) e
 
-    by_help : (t : Bool) → bytes_eq (codes "help") w ≡ t → bytes_eq (codes "table") w ≡ false → (s c : Text) × (w ∷ ws ≡ codes "table" ∷ s ∷ c ∷ [])
-    by_help true h other = absurd (clash _ (asks_help ws) (as_word (codes "help") h))
-    by_help false h other = absurd (clash _ (stray w ws first other h) e)
+    by_help : (t : Bool) → bytes_eq (codes "help") w ≡ t → bytes_eq (codes "format") w ≡ false → bytes_eq (codes "import") w ≡ false → bytes_eq (codes "serve") w ≡ false → bytes_eq (codes "table") w ≡ false → bytes_eq (codes "check") w ≡ false → Asks (w ∷ ws)
+    by_help true t eformat eimport eserve etable echeck = absurd (clash _ (asks_help ws) (as_word (codes "help") t))
+    by_help false t eformat eimport eserve etable echeck = absurd (clash _ (stray w ws (plain_word w (All-head NoOption w ws plain)) eformat eimport eserve etable echeck t) e)
 
-    by_table : (t : Bool) → bytes_eq (codes "table") w ≡ t → (s c : Text) × (w ∷ ws ≡ codes "table" ∷ s ∷ c ∷ [])
-    by_table true t =
-        let rest = two_texts ws (All-tail NoOption w ws plain) (as_word (codes "table") t) in
-        (rest.0, rest.1, ap₂ (λ (v : Text) (vs : List Text). v ∷ vs) (sym ((bytes_eq-Decides (codes "table") w).0 t)) rest.2)
-    by_table false t = by_help (bytes_eq (codes "help") w) refl t
+    by_check : (t : Bool) → bytes_eq (codes "check") w ≡ t → bytes_eq (codes "format") w ≡ false → bytes_eq (codes "import") w ≡ false → bytes_eq (codes "serve") w ≡ false → bytes_eq (codes "table") w ≡ false → Asks (w ∷ ws)
+    by_check true t eformat eimport eserve etable = subst (λ (v : Text). Asks (v ∷ ws)) (sym (word_is (codes "check") t)) (inr (inr (inr (inr (texts_check ws rest (as_word (codes "check") t))))))
+    by_check false t eformat eimport eserve etable = by_help (bytes_eq (codes "help") w) refl eformat eimport eserve etable t
+
+    by_table : (t : Bool) → bytes_eq (codes "table") w ≡ t → bytes_eq (codes "format") w ≡ false → bytes_eq (codes "import") w ≡ false → bytes_eq (codes "serve") w ≡ false → Asks (w ∷ ws)
+    by_table true t eformat eimport eserve = subst (λ (v : Text). Asks (v ∷ ws)) (sym (word_is (codes "table") t)) (inr (inr (inr (inl (texts_table ws rest (as_word (codes "table") t))))))
+    by_table false t eformat eimport eserve = by_check (bytes_eq (codes "check") w) refl eformat eimport eserve t
+
+    by_serve : (t : Bool) → bytes_eq (codes "serve") w ≡ t → bytes_eq (codes "format") w ≡ false → bytes_eq (codes "import") w ≡ false → Asks (w ∷ ws)
+    by_serve true t eformat eimport = subst (λ (v : Text). Asks (v ∷ ws)) (sym (word_is (codes "serve") t)) (inr (inr (inl (texts_serve ws rest (as_word (codes "serve") t)))))
+    by_serve false t eformat eimport = by_table (bytes_eq (codes "table") w) refl eformat eimport t
+
+    by_import : (t : Bool) → bytes_eq (codes "import") w ≡ t → bytes_eq (codes "format") w ≡ false → Asks (w ∷ ws)
+    by_import true t eformat = subst (λ (v : Text). Asks (v ∷ ws)) (sym (word_is (codes "import") t)) (inr (inl (texts_import ws rest (as_word (codes "import") t))))
+    by_import false t eformat = by_serve (bytes_eq (codes "serve") w) refl eformat t
+
+    by_format : (t : Bool) → bytes_eq (codes "format") w ≡ t → Asks (w ∷ ws)
+    by_format true t = subst (λ (v : Text). Asks (v ∷ ws)) (sym (word_is (codes "format") t)) (inl (texts_format ws rest (as_word (codes "format") t)))
+    by_format false t = by_import (bytes_eq (codes "import") w) refl t
 
 -- what the words ask for, and what clap makes of them
 
-nat_plain : (w : Text) (n : ℕ) → IsNat w n → NoOption w
-nat_plain w n h (ds, e) = no_sign ds n (subst (λ v. IsNat v n) e h)
+same_text : (a b : Text) → Some a ≡ Some b → a ≡ b
+same_text a b e = ap (λ (o : Option Text). unwrap_or o []) e
 
-table_plain : NoOption (codes "table")
-table_plain (rest, e) = let first : ◌≡◌ {A = ℕ} 116 45 = ap (λ (l : List ℕ). get_or l 0 0) e in absurd (omega (arith, first))
+format_spelled : (ws : List Text) (p s c : Text) → ws ≡ codes "format" ∷ p ∷ s ∷ c ∷ [] → (a : Arguments) → AskedIn (Some (format_texts p s c)) a → SpellsOut ws a
+format_spelled ws p s c is (Format path side capacity) (n, path_is, side_is, capacity_is) = (s, c, is ∙ ap (λ (v : Text). codes "format" ∷ v ∷ s ∷ c ∷ []) (same_text p path.now path_is), side_is, capacity_is)
+format_spelled ws p s c is (Import path tile) (n, path_is, tile_is) =
+    let first : ◌≡◌ {A = ℕ} 102 105 = ap (λ (l : List ℕ). get_or l 0 0) n in absurd (omega (arith, first))
+format_spelled ws p s c is (Serve path) (n, path_is) =
+    let first : ◌≡◌ {A = ℕ} 102 115 = ap (λ (l : List ℕ). get_or l 0 0) n in absurd (omega (arith, first))
+format_spelled ws p s c is (Table side capacity) (n, side_is, capacity_is) =
+    let first : ◌≡◌ {A = ℕ} 102 116 = ap (λ (l : List ℕ). get_or l 0 0) n in absurd (omega (arith, first))
+format_spelled ws p s c is (Check path) (n, path_is) =
+    let first : ◌≡◌ {A = ℕ} 102 99 = ap (λ (l : List ℕ). get_or l 0 0) n in absurd (omega (arith, first))
 
-pub none_is_option : (ws : List Text) (a : Arguments) → AskedBy ws a → All NoOption ws
-none_is_option ws (Table side capacity) (s, c, is, side_is, capacity_is) =
-    subst (All NoOption) (sym is)
-    (All-cons NoOption (codes "table") (s ∷ c ∷ []) table_plain
-    (All-cons NoOption s (c ∷ []) (nat_plain s side side_is) (All-cons NoOption c [] (nat_plain c capacity capacity_is) (All-nil NoOption))))
+import_spelled : (ws : List Text) (p f : Text) → ws ≡ codes "import" ∷ p ∷ f ∷ [] → (a : Arguments) → AskedIn (Some (import_texts p f)) a → SpellsOut ws a
+import_spelled ws p f is (Format path side capacity) (n, path_is, side_is, capacity_is) =
+    let first : ◌≡◌ {A = ℕ} 105 102 = ap (λ (l : List ℕ). get_or l 0 0) n in absurd (omega (arith, first))
+import_spelled ws p f is (Import path tile) (n, path_is, tile_is) = is ∙ ap₂ (λ (v u : Text). codes "import" ∷ v ∷ u ∷ []) (same_text p path.now path_is) (same_text f tile.now tile_is)
+import_spelled ws p f is (Serve path) (n, path_is) =
+    let first : ◌≡◌ {A = ℕ} 105 115 = ap (λ (l : List ℕ). get_or l 0 0) n in absurd (omega (arith, first))
+import_spelled ws p f is (Table side capacity) (n, side_is, capacity_is) =
+    let first : ◌≡◌ {A = ℕ} 105 116 = ap (λ (l : List ℕ). get_or l 0 0) n in absurd (omega (arith, first))
+import_spelled ws p f is (Check path) (n, path_is) =
+    let first : ◌≡◌ {A = ℕ} 105 99 = ap (λ (l : List ℕ). get_or l 0 0) n in absurd (omega (arith, first))
+
+serve_spelled : (ws : List Text) (p : Text) → ws ≡ codes "serve" ∷ p ∷ [] → (a : Arguments) → AskedIn (Some (serve_texts p)) a → SpellsOut ws a
+serve_spelled ws p is (Format path side capacity) (n, path_is, side_is, capacity_is) =
+    let first : ◌≡◌ {A = ℕ} 115 102 = ap (λ (l : List ℕ). get_or l 0 0) n in absurd (omega (arith, first))
+serve_spelled ws p is (Import path tile) (n, path_is, tile_is) =
+    let first : ◌≡◌ {A = ℕ} 115 105 = ap (λ (l : List ℕ). get_or l 0 0) n in absurd (omega (arith, first))
+serve_spelled ws p is (Serve path) (n, path_is) = is ∙ ap (λ (v : Text). codes "serve" ∷ v ∷ []) (same_text p path.now path_is)
+serve_spelled ws p is (Table side capacity) (n, side_is, capacity_is) =
+    let first : ◌≡◌ {A = ℕ} 115 116 = ap (λ (l : List ℕ). get_or l 0 0) n in absurd (omega (arith, first))
+serve_spelled ws p is (Check path) (n, path_is) =
+    let first : ◌≡◌ {A = ℕ} 115 99 = ap (λ (l : List ℕ). get_or l 0 0) n in absurd (omega (arith, first))
+
+table_spelled : (ws : List Text) (s c : Text) → ws ≡ codes "table" ∷ s ∷ c ∷ [] → (a : Arguments) → AskedIn (Some (table_texts s c)) a → SpellsOut ws a
+table_spelled ws s c is (Format path side capacity) (n, path_is, side_is, capacity_is) =
+    let first : ◌≡◌ {A = ℕ} 116 102 = ap (λ (l : List ℕ). get_or l 0 0) n in absurd (omega (arith, first))
+table_spelled ws s c is (Import path tile) (n, path_is, tile_is) =
+    let first : ◌≡◌ {A = ℕ} 116 105 = ap (λ (l : List ℕ). get_or l 0 0) n in absurd (omega (arith, first))
+table_spelled ws s c is (Serve path) (n, path_is) =
+    let first : ◌≡◌ {A = ℕ} 116 115 = ap (λ (l : List ℕ). get_or l 0 0) n in absurd (omega (arith, first))
+table_spelled ws s c is (Table side capacity) (n, side_is, capacity_is) = (s, c, is, side_is, capacity_is)
+table_spelled ws s c is (Check path) (n, path_is) =
+    let first : ◌≡◌ {A = ℕ} 116 99 = ap (λ (l : List ℕ). get_or l 0 0) n in absurd (omega (arith, first))
+
+check_spelled : (ws : List Text) (p : Text) → ws ≡ codes "check" ∷ p ∷ [] → (a : Arguments) → AskedIn (Some (check_texts p)) a → SpellsOut ws a
+check_spelled ws p is (Format path side capacity) (n, path_is, side_is, capacity_is) =
+    let first : ◌≡◌ {A = ℕ} 99 102 = ap (λ (l : List ℕ). get_or l 0 0) n in absurd (omega (arith, first))
+check_spelled ws p is (Import path tile) (n, path_is, tile_is) =
+    let first : ◌≡◌ {A = ℕ} 99 105 = ap (λ (l : List ℕ). get_or l 0 0) n in absurd (omega (arith, first))
+check_spelled ws p is (Serve path) (n, path_is) =
+    let first : ◌≡◌ {A = ℕ} 99 115 = ap (λ (l : List ℕ). get_or l 0 0) n in absurd (omega (arith, first))
+check_spelled ws p is (Table side capacity) (n, side_is, capacity_is) =
+    let first : ◌≡◌ {A = ℕ} 99 116 = ap (λ (l : List ℕ). get_or l 0 0) n in absurd (omega (arith, first))
+check_spelled ws p is (Check path) (n, path_is) = is ∙ ap (λ (v : Text). codes "check" ∷ v ∷ []) (same_text p path.now path_is)
 
 pub takes_asked : (ws : List Text) (a : Arguments) → AskedBy ws a → takes program_app ws ≡ true
-takes_asked ws (Table side capacity) (s, c, is, side_is, capacity_is) =
-    ap (takes program_app) is ∙ taken s c (plain_word s (nat_plain s side side_is)) (plain_word c (nat_plain c capacity capacity_is))
-
-abbrev texts_by : List Text → Option (Text × Option Text × Option Text)
-texts_by ws = texts_of (subcommand_of program_app ws)
+takes_asked ws (Format path side capacity) (plain, (s, c, is, side_is, capacity_is)) =
+    let all = subst (All NoOption) is plain in
+    ap (takes program_app) is ∙ taken_format path.now s c (plain_word path.now (All-head NoOption path.now (s ∷ c ∷ []) (All-tail NoOption (codes "format") (path.now ∷ s ∷ c ∷ []) all))) (plain_word s (All-head NoOption s (c ∷ []) (All-tail NoOption path.now (s ∷ c ∷ []) (All-tail NoOption (codes "format") (path.now ∷ s ∷ c ∷ []) all)))) (plain_word c (All-head NoOption c ([]) (All-tail NoOption s (c ∷ []) (All-tail NoOption path.now (s ∷ c ∷ []) (All-tail NoOption (codes "format") (path.now ∷ s ∷ c ∷ []) all)))))
+takes_asked ws (Import path tile) (plain, is) =
+    let all = subst (All NoOption) is plain in
+    ap (takes program_app) is ∙ taken_import path.now tile.now (plain_word path.now (All-head NoOption path.now (tile.now ∷ []) (All-tail NoOption (codes "import") (path.now ∷ tile.now ∷ []) all))) (plain_word tile.now (All-head NoOption tile.now ([]) (All-tail NoOption path.now (tile.now ∷ []) (All-tail NoOption (codes "import") (path.now ∷ tile.now ∷ []) all))))
+takes_asked ws (Serve path) (plain, is) =
+    let all = subst (All NoOption) is plain in
+    ap (takes program_app) is ∙ taken_serve path.now (plain_word path.now (All-head NoOption path.now ([]) (All-tail NoOption (codes "serve") (path.now ∷ []) all)))
+takes_asked ws (Table side capacity) (plain, (s, c, is, side_is, capacity_is)) =
+    let all = subst (All NoOption) is plain in
+    ap (takes program_app) is ∙ taken_table s c (plain_word s (All-head NoOption s (c ∷ []) (All-tail NoOption (codes "table") (s ∷ c ∷ []) all))) (plain_word c (All-head NoOption c ([]) (All-tail NoOption s (c ∷ []) (All-tail NoOption (codes "table") (s ∷ c ∷ []) all))))
+takes_asked ws (Check path) (plain, is) =
+    let all = subst (All NoOption) is plain in
+    ap (takes program_app) is ∙ taken_check path.now (plain_word path.now (All-head NoOption path.now ([]) (All-tail NoOption (codes "check") (path.now ∷ []) all)))
 
 pub asked_in : (ws : List Text) (a : Arguments) → AskedBy ws a → AskedIn (texts_by ws) a
-asked_in ws (Table side capacity) (s, c, is, side_is, capacity_is) =
-    subst (λ o. AskedIn o (Table side capacity))
-    (sym (ap texts_by is ∙ given s c (plain_word s (nat_plain s side side_is)) (plain_word c (nat_plain c capacity capacity_is))))
-    (refl, side_is, capacity_is)
+asked_in ws (Format path side capacity) (plain, (s, c, is, side_is, capacity_is)) =
+    let all = subst (All NoOption) is plain in
+    subst (λ o. AskedIn o (Format path side capacity)) (sym (ap texts_by is ∙ given_format path.now s c (plain_word path.now (All-head NoOption path.now (s ∷ c ∷ []) (All-tail NoOption (codes "format") (path.now ∷ s ∷ c ∷ []) all))) (plain_word s (All-head NoOption s (c ∷ []) (All-tail NoOption path.now (s ∷ c ∷ []) (All-tail NoOption (codes "format") (path.now ∷ s ∷ c ∷ []) all)))) (plain_word c (All-head NoOption c ([]) (All-tail NoOption s (c ∷ []) (All-tail NoOption path.now (s ∷ c ∷ []) (All-tail NoOption (codes "format") (path.now ∷ s ∷ c ∷ []) all))))))) (refl, refl, side_is, capacity_is)
+asked_in ws (Import path tile) (plain, is) =
+    let all = subst (All NoOption) is plain in
+    subst (λ o. AskedIn o (Import path tile)) (sym (ap texts_by is ∙ given_import path.now tile.now (plain_word path.now (All-head NoOption path.now (tile.now ∷ []) (All-tail NoOption (codes "import") (path.now ∷ tile.now ∷ []) all))) (plain_word tile.now (All-head NoOption tile.now ([]) (All-tail NoOption path.now (tile.now ∷ []) (All-tail NoOption (codes "import") (path.now ∷ tile.now ∷ []) all)))))) (refl, refl, refl)
+asked_in ws (Serve path) (plain, is) =
+    let all = subst (All NoOption) is plain in
+    subst (λ o. AskedIn o (Serve path)) (sym (ap texts_by is ∙ given_serve path.now (plain_word path.now (All-head NoOption path.now ([]) (All-tail NoOption (codes "serve") (path.now ∷ []) all))))) (refl, refl)
+asked_in ws (Table side capacity) (plain, (s, c, is, side_is, capacity_is)) =
+    let all = subst (All NoOption) is plain in
+    subst (λ o. AskedIn o (Table side capacity)) (sym (ap texts_by is ∙ given_table s c (plain_word s (All-head NoOption s (c ∷ []) (All-tail NoOption (codes "table") (s ∷ c ∷ []) all))) (plain_word c (All-head NoOption c ([]) (All-tail NoOption s (c ∷ []) (All-tail NoOption (codes "table") (s ∷ c ∷ []) all)))))) (refl, side_is, capacity_is)
+asked_in ws (Check path) (plain, is) =
+    let all = subst (All NoOption) is plain in
+    subst (λ o. AskedIn o (Check path)) (sym (ap texts_by is ∙ given_check path.now (plain_word path.now (All-head NoOption path.now ([]) (All-tail NoOption (codes "check") (path.now ∷ []) all))))) (refl, refl)
 
 pub asked_by : (ws : List Text) → All NoOption ws → fault_of program_app ws ≡ [] → (a : Arguments) → AskedIn (texts_by ws) a → AskedBy ws a
-asked_by ws plain e (Table side capacity) asked =
-    let words = asks_table ws plain e in
-    let all = All-tail NoOption (codes "table") (words.0 ∷ words.1 ∷ []) (subst (All NoOption) words.2 plain) in
-    let s = plain_word words.0 (All-head NoOption words.0 (words.1 ∷ []) all) in
-    let c = plain_word words.1 (All-head NoOption words.1 [] (All-tail NoOption words.0 (words.1 ∷ []) all)) in
-    let is = subst (λ o. AskedIn o (Table side capacity)) (ap texts_by words.2 ∙ given words.0 words.1 s c) asked in
-    (words.0, words.1, words.2, is.1, is.2)
+asked_by ws plain e a asked = (plain, by (asks ws plain e))
+  where
+    by : Asks ws → SpellsOut ws a
+    by (inl (p, s, c, is)) =
+        let all = subst (All NoOption) is plain in
+        format_spelled ws p s c is a (subst (λ o. AskedIn o a) (ap texts_by is ∙ given_format p s c (plain_word p (All-head NoOption p (s ∷ c ∷ []) (All-tail NoOption (codes "format") (p ∷ s ∷ c ∷ []) all))) (plain_word s (All-head NoOption s (c ∷ []) (All-tail NoOption p (s ∷ c ∷ []) (All-tail NoOption (codes "format") (p ∷ s ∷ c ∷ []) all)))) (plain_word c (All-head NoOption c ([]) (All-tail NoOption s (c ∷ []) (All-tail NoOption p (s ∷ c ∷ []) (All-tail NoOption (codes "format") (p ∷ s ∷ c ∷ []) all)))))) asked)
+    by (inr (inl (p, f, is))) =
+        let all = subst (All NoOption) is plain in
+        import_spelled ws p f is a (subst (λ o. AskedIn o a) (ap texts_by is ∙ given_import p f (plain_word p (All-head NoOption p (f ∷ []) (All-tail NoOption (codes "import") (p ∷ f ∷ []) all))) (plain_word f (All-head NoOption f ([]) (All-tail NoOption p (f ∷ []) (All-tail NoOption (codes "import") (p ∷ f ∷ []) all))))) asked)
+    by (inr (inr (inl (p, is)))) =
+        let all = subst (All NoOption) is plain in
+        serve_spelled ws p is a (subst (λ o. AskedIn o a) (ap texts_by is ∙ given_serve p (plain_word p (All-head NoOption p ([]) (All-tail NoOption (codes "serve") (p ∷ []) all)))) asked)
+    by (inr (inr (inr (inl (s, c, is))))) =
+        let all = subst (All NoOption) is plain in
+        table_spelled ws s c is a (subst (λ o. AskedIn o a) (ap texts_by is ∙ given_table s c (plain_word s (All-head NoOption s (c ∷ []) (All-tail NoOption (codes "table") (s ∷ c ∷ []) all))) (plain_word c (All-head NoOption c ([]) (All-tail NoOption s (c ∷ []) (All-tail NoOption (codes "table") (s ∷ c ∷ []) all))))) asked)
+    by (inr (inr (inr (inr (p, is))))) =
+        let all = subst (All NoOption) is plain in
+        check_spelled ws p is a (subst (λ o. AskedIn o a) (ap texts_by is ∙ given_check p (plain_word p (All-head NoOption p ([]) (All-tail NoOption (codes "check") (p ∷ []) all)))) asked)
 
 -- words behind any texts
 
@@ -218,7 +527,7 @@ some_option text (w ∷ ws) (suc k, x, within, is, h) plain =
     some_option text ws (k, x, omega (arith, within), is, h) (All-tail NoOption (text w) (map text ws) plain)
 
 -- what was read of the matches
-module _ (ws : List Text) (o : Option Arguments) (t : Option (Text × Option Text × Option Text)) (is : t ≡ texts_by ws)
+module _ (ws : List Text) (o : Option Arguments) (t : Option Texts) (is : t ≡ texts_by ws)
     (read : MatchOption o ((a : Arguments) → AskedIn t a → ⊥) (AskedIn t)) where
   pub read_ok : All NoOption ws → fault_of program_app ws ≡ [] → IfOk (ok_or o Bad) (AskedBy ws)
   read_ok plain e = by o read

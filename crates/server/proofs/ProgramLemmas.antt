@@ -4,11 +4,9 @@ use Rattle.std.specs.Io.KnownBytes.{Appends, Keeps}
 use Rattle.std.proofs.KnownBytes.{Appends-kept}
 use Rattle.std.proofs.lemmas.List.{take_all}
 use Rattle.edits.specs.State.{State, fresh}
-use Rattle.server.specs.CommandLine.{Begins, EndsFlushing, EndsServing, RunsAs, RunsTable, fault_line}
+use Rattle.server.specs.CommandLine.{Begins, EndsFlushing, EndsServing, fault_line}
 use Rattle.server.specs.Served.{Outcome}
 use Rattle.server.specs.TableState.{working}
-use Rattle.server.specs.declared.arguments.Arguments.{Arguments}
-use Rattle.server.specs.declared.arguments.Arguments.TheVariants.{Table}
 use Rattle.server.specs.declared.session.ServeFault.{ServeFault}
 
 -- a text that was tried, and then a flush
@@ -43,11 +41,3 @@ module _ (side n capacity : ℕ) (same : n ≡ capacity) (before after written m
   pub failed : (fault : ServeFault) → Outcome n before after written mid (working (fresh side)) t (Err fault) → Begins mid new (fault_line fault) → status ≡ 1
       → EndsServing side capacity before after written new status
   failed fault served line is = inr (inr (t, mid, fault, with_capacity (Err fault) served, line, is))
-
--- what is run is what is asked for
-pub run_as : (a : Arguments) (n k : ℕ) (before after written new : Option (List ℕ)) (status : ℕ) → RunsTable n k before after written new status
-    → ((side capacity : ℕ) → a ≡ Table side capacity → (n ≡ side) × (k ≡ capacity)) → RunsAs a before after written new status
-run_as (Table side capacity) n k before after written new status runs same =
-    let are = same side capacity refl in
-    subst (λ (i : ℕ). RunsTable i capacity before after written new status) are.0
-    (subst (λ (j : ℕ). RunsTable n j before after written new status) are.1 runs)

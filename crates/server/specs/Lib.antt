@@ -3,4 +3,5 @@ pub mod CommandLine
 pub mod Items
 pub mod Served
 pub mod Session
+pub mod StoreState
 pub mod TableState

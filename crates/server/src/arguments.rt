@@ -1,7 +1,7 @@
 //! The words of the command line.
-ghost use Rattle.std.specs.Prelude.{◌≡◌, ◌↔◌, ℕ, Any, Err, IfOk, IsTrue, MatchOption, Some, codes, map};
+ghost use Rattle.std.specs.Prelude.{◌≡◌, ◌↔◌, ℕ, Any, Err, IfOk, IsTrue, MatchOption, Some, codes, map, option_map};
 ghost use Rattle.clap.specs.Words.{app_of, first_of, found_of, rows_of, subcommand_rows_of};
-ghost use Rattle.server.specs.CommandLine.{AskNothing, AskedBy, AskedIn, IsNatIn, IsOption, program_app, texts_of};
+ghost use Rattle.server.specs.CommandLine.{AskNothing, AskedBy, IsNatIn, IsOption, Reads, check_app, format_app, import_app, program_app, serve_app, table_app, texts_of};
 
 use clap::error::ErrorKind;
 use clap::{Arg, ArgMatches, Command};
@@ -11,9 +11,31 @@ use std::convert::AsStr;
 
 /// What the program is asked to do.
 #[derive(Clone, Copy, Debug, PartialEq, Eq)]
-pub enum Arguments {
+pub enum Arguments<'a> {
+    /// To make a store's file.
+    Format {
+        path: &'a str,
+        side: u32,
+        capacity: u32,
+    },
+    /// To import a tile's file into the store at a path.
+    Import {
+        path: &'a str,
+        tile: &'a str,
+    },
+    /// To serve lines on the store at a path.
+    Serve {
+        path: &'a str,
+    },
     /// To serve lines on an empty mosaic held in memory.
-    Table { side: u32, capacity: u32 },
+    Table {
+        side: u32,
+        capacity: u32,
+    },
+    /// To report on the store at a path.
+    Check {
+        path: &'a str,
+    },
 }
 
 /// Why the words ask for nothing.
@@ -23,9 +45,9 @@ pub enum ArgumentFault {
     NoMemory,
 }
 
-impl Arguments {
+impl<'a> Arguments<'a> {
     /// What the words after the program's own name ask for. There are no options.
-    pub fn parse<S: AsStr>(alloc: Global, words: &[S]) -> Result<Arguments, ArgumentFault>
+    pub fn parse<S: AsStr>(alloc: Global, words: &'a [S]) -> Result<Arguments<'a>, ArgumentFault>
         ensures ok { IfOk result (AskedBy (map S.text words.now)) }
         ensures bad { result ≡ Err ArgumentFault.Bad → AskNothing (map S.text words.now) }
     {
@@ -61,34 +83,130 @@ fn is_option(word: &str) -> bool
 fn command<'a>(alloc: Global) -> Result<Command<'a>, AllocError>
     ensures { IfOk result (λ c. app_of c ≡ program_app) }
 {
-    let side = Arg::new(alloc, "SIDE").required(true);
-    let capacity = Arg::new(alloc, "CAPACITY").required(true);
-    let table = Command::new(alloc, "table").arg(side)?.arg(capacity)?;
+    let format = format_words(alloc)?;
+    let import = import_words(alloc)?;
+    let serve = serve_words(alloc)?;
+    let table = table_words(alloc)?;
+    let check = check_words(alloc)?;
     Command::new(alloc, "mosaic")
         .no_binary_name(true)
         .subcommand_required(true)
-        .subcommand(table)
+        .subcommand(format)?
+        .subcommand(import)?
+        .subcommand(serve)?
+        .subcommand(table)?
+        .subcommand(check)
+}
+
+fn format_words<'a>(alloc: Global) -> Result<Command<'a>, AllocError>
+    ensures { IfOk result (λ c. app_of c ≡ format_app) }
+{
+    let path = Arg::new(alloc, "PATH").required(true);
+    let side = Arg::new(alloc, "SIDE").required(true);
+    let capacity = Arg::new(alloc, "CAPACITY").required(true);
+    Command::new(alloc, "format")
+        .arg(path)?
+        .arg(side)?
+        .arg(capacity)
+}
+
+fn import_words<'a>(alloc: Global) -> Result<Command<'a>, AllocError>
+    ensures { IfOk result (λ c. app_of c ≡ import_app) }
+{
+    let path = Arg::new(alloc, "PATH").required(true);
+    let tile = Arg::new(alloc, "FILE").required(true);
+    Command::new(alloc, "import").arg(path)?.arg(tile)
+}
+
+fn serve_words<'a>(alloc: Global) -> Result<Command<'a>, AllocError>
+    ensures { IfOk result (λ c. app_of c ≡ serve_app) }
+{
+    let path = Arg::new(alloc, "PATH").required(true);
+    Command::new(alloc, "serve").arg(path)
+}
+
+fn table_words<'a>(alloc: Global) -> Result<Command<'a>, AllocError>
+    ensures { IfOk result (λ c. app_of c ≡ table_app) }
+{
+    let side = Arg::new(alloc, "SIDE").required(true);
+    let capacity = Arg::new(alloc, "CAPACITY").required(true);
+    Command::new(alloc, "table").arg(side)?.arg(capacity)
+}
+
+fn check_words<'a>(alloc: Global) -> Result<Command<'a>, AllocError>
+    ensures { IfOk result (λ c. app_of c ≡ check_app) }
+{
+    let path = Arg::new(alloc, "PATH").required(true);
+    Command::new(alloc, "check").arg(path)
 }
 
 /// What the matches ask for.
-fn asked(matches: &ArgMatches<'_>) -> Option<Arguments>
-    ensures { MatchOption result ((a : Arguments) → AskedIn (texts_of (subcommand_rows_of matches.now)) a → ⊥)
-        (AskedIn (texts_of (subcommand_rows_of matches.now))) }
+fn asked<'a>(matches: &ArgMatches<'a>) -> Option<Arguments<'a>>
+    ensures { Reads (texts_of (subcommand_rows_of matches.now)) result }
 {
     match matches.subcommand() {
+        Some(("format", found)) => format(found),
+        Some(("import", found)) => import(found),
+        Some(("serve", found)) => serve(found),
         Some(("table", found)) => table(found),
+        Some(("check", found)) => check(found),
         _ => None,
     }
 }
 
+/// The path, the side and the capacity, where there are such.
+fn format<'a>(found: &ArgMatches<'a>) -> Option<Arguments<'a>>
+    ensures { Reads (texts_of (Some (codes "format", rows_of (found_of found.now)))) result }
+{
+    let path = text(found, "PATH")?;
+    let side = number(found, "SIDE")?;
+    let capacity = number(found, "CAPACITY")?;
+    Some(Arguments::Format {
+        path,
+        side,
+        capacity,
+    })
+}
+
+/// The two paths.
+fn import<'a>(found: &ArgMatches<'a>) -> Option<Arguments<'a>>
+    ensures { Reads (texts_of (Some (codes "import", rows_of (found_of found.now)))) result }
+{
+    let path = text(found, "PATH")?;
+    let tile = text(found, "FILE")?;
+    Some(Arguments::Import { path, tile })
+}
+
+/// The path.
+fn serve<'a>(found: &ArgMatches<'a>) -> Option<Arguments<'a>>
+    ensures { Reads (texts_of (Some (codes "serve", rows_of (found_of found.now)))) result }
+{
+    let path = text(found, "PATH")?;
+    Some(Arguments::Serve { path })
+}
+
 /// The side and the capacity, where both are NATs.
-fn table(found: &ArgMatches<'_>) -> Option<Arguments>
-    ensures { MatchOption result ((a : Arguments) → AskedIn (texts_of (Some (codes "table", rows_of (found_of found.now)))) a → ⊥)
-        (AskedIn (texts_of (Some (codes "table", rows_of (found_of found.now))))) }
+fn table<'a>(found: &ArgMatches<'a>) -> Option<Arguments<'a>>
+    ensures { Reads (texts_of (Some (codes "table", rows_of (found_of found.now)))) result }
 {
     let side = number(found, "SIDE")?;
     let capacity = number(found, "CAPACITY")?;
     Some(Arguments::Table { side, capacity })
+}
+
+/// The path.
+fn check<'a>(found: &ArgMatches<'a>) -> Option<Arguments<'a>>
+    ensures { Reads (texts_of (Some (codes "check", rows_of (found_of found.now)))) result }
+{
+    let path = text(found, "PATH")?;
+    Some(Arguments::Check { path })
+}
+
+/// The text of this name.
+fn text<'a>(found: &ArgMatches<'a>, name: &str) -> Option<&'a str>
+    ensures { option_map (λ t. t.now) result ≡ first_of name.now (rows_of (found_of found.now)) }
+{
+    found.get_str(name)
 }
 
 /// The NAT of this name.

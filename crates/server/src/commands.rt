@@ -1,9 +1,10 @@
 //! The program `mosaic`.
 ghost use Rattle.std.specs.Prelude.{◌≡◌, ◌≤◌, map, SomeIff};
 ghost use Rattle.lines.specs.Replies.{refusal_text};
-ghost use Rattle.server.specs.CommandLine.{Begins, EndsFlushing, EndsServing, Runs, RunsAs, RunsTable, fault_line};
+ghost use Rattle.server.specs.CommandLine.{Begins, EndsFlushing, EndsReplying, EndsServing, Runs, RunsAs, RunsTable, fault_line};
 
 use crate::arguments::{ArgumentFault, Arguments};
+use crate::files::{check_file, format_file, import_file, serve_file};
 use crate::session::{ServeFault, serve};
 use crate::table_engine::TableEngine;
 use hgt::side_ok;
@@ -14,40 +15,55 @@ use std::convert::AsStr;
 use std::io::{Read, Write};
 
 /// The most tiles that a mosaic takes.
-const MOST_TILES: u32 = 240;
+pub const MOST_TILES: u32 = 240;
 
 /// The exit statuses: done; refused, or a stream failed; other words than the program takes.
 const DONE: u8 = 0;
 
-const REFUSED: u8 = 1;
+pub const REFUSED: u8 = 1;
 
 const BAD_WORDS: u8 = 2;
 
 /// Does what the words after the program's own name ask for, and answers the exit status.
 ///
-/// `table SIDE CAPACITY` serves lines on an empty mosaic held in memory. Status 1 comes with one line that says what
-/// was refused or which stream failed, status 2 with the line `mosaic: bad arguments`.
+/// `format PATH SIDE CAPACITY` makes a store's file of the least size; `import PATH FILE` imports one HGT file into it;
+/// `serve PATH` serves lines on it; `check PATH` reports on it; `table SIDE CAPACITY` serves lines on an empty mosaic held
+/// in memory. Status 1 comes with one line that says what was refused or which file or stream failed, status 2 with the
+/// line `mosaic: bad arguments`.
 pub fn program<S: AsStr, R: Read, W: Write>(
-    alloc: Global,
+    rt: &HostRuntime,
     words: &[S],
     reader: &mut R,
     writer: &mut W,
 ) -> u8
     ensures { Runs (map S.text words.now) (R.remaining reader.old) (R.remaining reader.new) (W.contents writer.old) (W.contents writer.new) result }
 {
-    match Arguments::parse(alloc, words) {
-        Ok(arguments) => run(alloc, arguments, reader, writer),
+    match Arguments::parse(rt.alloc(), words) {
+        Ok(arguments) => run(rt, arguments, reader, writer),
         Err(ArgumentFault::Bad) => end_with(writer, b"mosaic: bad arguments\n", BAD_WORDS),
         Err(ArgumentFault::NoMemory) => no_room(writer),
     }
 }
 
 /// Does what is asked for.
-fn run<R: Read, W: Write>(alloc: Global, arguments: Arguments, reader: &mut R, writer: &mut W) -> u8
-    ensures { RunsAs arguments (R.remaining reader.old) (R.remaining reader.new) (W.contents writer.old) (W.contents writer.new) result }
+fn run<R: Read, W: Write>(
+    rt: &HostRuntime,
+    arguments: Arguments<'_>,
+    reader: &mut R,
+    writer: &mut W,
+) -> u8
+    ensures { RunsAs arguments.entry (R.remaining reader.old) (R.remaining reader.new) (W.contents writer.old) (W.contents writer.new) result }
 {
     match arguments {
-        Arguments::Table { side, capacity } => table(alloc, side, capacity, reader, writer),
+        Arguments::Format {
+            path,
+            side,
+            capacity,
+        } => format_file(rt, path, side, capacity, writer),
+        Arguments::Import { path, tile } => import_file(rt, path, tile, writer),
+        Arguments::Serve { path } => serve_file(rt, path, reader, writer),
+        Arguments::Table { side, capacity } => { table(rt.alloc(), side, capacity, reader, writer) }
+        Arguments::Check { path } => check_file(rt, path, writer),
     }
 }
 
@@ -96,8 +112,28 @@ fn serve_table<R: Read, W: Write>(
     }
 }
 
+/// Writes a reply, and answers the exit status.
+pub fn reply<W: Write>(writer: &mut W, reply: Reply) -> u8
+    ensures { EndsReplying reply (W.contents writer.old) (W.contents writer.new) result }
+{
+    match reply.write(writer) {
+        Ok(()) => flush(writer),
+        Err(_) => end_with(writer, fault_line(ServeFault::Output), REFUSED),
+    }
+}
+
+/// Writes a reply of several lines, and answers the exit status.
+pub fn reply_text<W: Write>(writer: &mut W, text: &[u8]) -> u8
+    ensures { EndsReplying text.now (W.contents writer.old) (W.contents writer.new) result }
+{
+    match write_bytes(writer, text) {
+        Ok(()) => flush(writer),
+        Err(_) => end_with(writer, fault_line(ServeFault::Output), REFUSED),
+    }
+}
+
 /// Whether all has left, as an exit status.
-fn flush<W: Write>(writer: &mut W) -> u8
+pub fn flush<W: Write>(writer: &mut W) -> u8
     ensures { EndsFlushing (W.contents writer.old) (W.contents writer.new) result }
 {
     match writer.flush() {
@@ -107,7 +143,7 @@ fn flush<W: Write>(writer: &mut W) -> u8
 }
 
 /// The line that tells which stream failed.
-fn fault_line(fault: ServeFault) -> &'static [u8]
+pub fn fault_line(fault: ServeFault) -> &'static [u8]
     ensures { result.now ≡ fault_line fault }
 {
     match fault {
@@ -116,7 +152,8 @@ fn fault_line(fault: ServeFault) -> &'static [u8]
     }
 }
 
-fn tile_side(samples: u32) -> Option<Side>
+/// The side of so many samples, where tiles of it are taken.
+pub fn tile_side(samples: u32) -> Option<Side>
     ensures { SomeIff result ((3 ≤ samples) × (samples ≤ 1201)) samples }
 {
     if side_ok(samples) {
@@ -126,7 +163,8 @@ fn tile_side(samples: u32) -> Option<Side>
     }
 }
 
-fn refuse<W: Write>(writer: &mut W, refusal: Refusal) -> u8
+/// Tells of a refusal, and answers the exit status.
+pub fn refuse<W: Write>(writer: &mut W, refusal: Refusal) -> u8
     ensures status { result ≡ REFUSED }
     ensures line { Begins (W.contents writer.old) (W.contents writer.new) (refusal_text refusal) }
 {
@@ -136,8 +174,8 @@ fn refuse<W: Write>(writer: &mut W, refusal: Refusal) -> u8
     REFUSED
 }
 
-/// The line is tried once.
-fn end_with<W: Write>(writer: &mut W, line: &[u8], status: u8) -> u8
+/// Ends with a line of the program's own, which is tried once.
+pub fn end_with<W: Write>(writer: &mut W, line: &[u8], status: u8) -> u8
     ensures status { result ≡ status }
     ensures line { Begins (W.contents writer.old) (W.contents writer.new) line.now }
 {

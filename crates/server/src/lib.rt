@@ -10,12 +10,18 @@ mod commands;
 #[cfg(test)]
 mod drainage_tests;
 mod engine;
+#[cfg(test)]
+mod file_tests;
+mod files;
 mod hearing;
 #[cfg(test)]
 mod row_tests;
 mod session;
 #[cfg(test)]
 mod session_tests;
+mod store_engine;
+#[cfg(test)]
+mod store_tests;
 mod table_engine;
 
 pub use commands::{no_room, program};

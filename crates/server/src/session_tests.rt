@@ -5,7 +5,7 @@ use std::io::{self, Read};
 use std::test::Fail;
 
 /// 9 9 9 / 9 1 9 / 9 9 5, rows from the north.
-const TILE: &[u8] = b"\x00\x09\x00\x09\x00\x09\x00\x09\x00\x01\x00\x09\x00\x09\x00\x09\x00\x05";
+pub const TILE: &[u8] = b"\x00\x09\x00\x09\x00\x09\x00\x09\x00\x01\x00\x09\x00\x09\x00\x09\x00\x05";
 
 /// Gives the bytes in two reads, the first of `cut` bytes.
 #[derive(Drop)]
@@ -189,22 +189,22 @@ fn a_writer_that_fails_at_each_byte(rt: HostRuntime) -> Result<(), Fail> {
     Ok(())
 }
 
-fn run(alloc: Global, words: &[&str], input: &[u8]) -> (u8, Vec<u8>) {
+pub fn run(rt: &HostRuntime, words: &[&str], input: &[u8]) -> (u8, Vec<u8>) {
     let mut reader = input;
-    let mut output = Vec::new(alloc);
-    let status = program(alloc, words, &mut reader, &mut output);
+    let mut output = Vec::new(rt.alloc());
+    let status = program(rt, words, &mut reader, &mut output);
     (status, output)
 }
 
 #[test]
 fn programs(rt: HostRuntime) {
-    let (status, output) = run(rt.alloc(), &["table", "3", "1"], b"count\n");
+    let (status, output) = run(&rt, &["table", "3", "1"], b"count\n");
     assert_eq!(rt; status, 0);
     assert!(rt; output.as_slice() == b"OK 0\n".as_slice());
-    let (status, output) = run(rt.alloc(), &["table", "2", "0"], b"");
+    let (status, output) = run(&rt, &["table", "2", "0"], b"");
     assert_eq!(rt; status, 1);
     assert!(rt; output.as_slice() == b"ERR 32 BadSide\n".as_slice());
-    let (status, output) = run(rt.alloc(), &["table", "1201", "241"], b"");
+    let (status, output) = run(&rt, &["table", "1201", "241"], b"");
     assert_eq!(rt; status, 1);
     assert!(rt; output.as_slice() == b"ERR 33 BadCapacity\n".as_slice());
     for words in [
@@ -212,9 +212,14 @@ fn programs(rt: HostRuntime) {
         &["help"],
         &[],
         &["table", "-h"],
-        &["serve", "x"],
+        &["serve"],
+        &["import", "m"],
+        &["import", "m", "--all"],
+        &["format", "m", "3"],
+        &["format", "m", "3", "x"],
+        &["check", "m", "m"],
     ] {
-        let (status, output) = run(rt.alloc(), words, b"");
+        let (status, output) = run(&rt, words, b"");
         assert_eq!(rt; status, 2);
         assert!(rt; output.as_slice() == b"mosaic: bad arguments\n".as_slice());
     }

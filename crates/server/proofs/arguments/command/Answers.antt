@@ -1,18 +1,35 @@
-use Rattle.std.proofs.Common.{rules, ◌≡◌, ◌∙◌, ap, ap₂, true, codes}
+use Rattle.std.proofs.Common.{◌≡◌, ◌∙◌, ◌&&◌, not, ap, ap₂, sym, refl, Bool, true, false, true≢false}
 use Rattle.std.proofs.lemmas.Result.{IfOk-weaker}
 use Rattle.clap.specs.Simple.{Shape, app_of_fields, on_top}
-use Rattle.clap.specs.Words.{App, app_of, rule_of, with_rule, with_subcommand}
-use Rattle.server.specs.CommandLine.{empty_app, required_text, table_app}
+use Rattle.clap.specs.Words.{App, app_of, with_subcommand}
+use Rattle.server.specs.CommandLine.{empty_app, format_app, import_app, serve_app, table_app, check_app}
 use Rattle.server.proofs.arguments.command.Goals as goal
+
+abbrev shape : App → Shape
+shape a = a.top
+
+abbrev is_plain : App → Bool
+is_plain a = a.top.is_plain
+
+no_globals : (a b c rest : Bool) → (a && (not b && (not c && rest))) ≡ true → c ≡ false
+no_globals false b c rest e = absurd (true≢false (sym e))
+no_globals true true c rest e = absurd (true≢false (sym e))
+no_globals true false true rest e = sym e
+no_globals true false false rest e = refl
 
 pub returns : goal.returns
 returns c =
-    let side_is : rule_of c.required-side.result ≡ required_text (codes "SIDE") = search rules in
-    let capacity_is : rule_of c.required-capacity.result ≡ required_text (codes "CAPACITY") = search rules in
-    let table_is : app_of c.in_ok-table.table ≡ table_app = c.in_ok-table.ensures.shape (search rules)
-    ∙ ap₂ with_rule (c.in_ok-arg.ensures.shape (search rules) ∙ ap₂ with_rule c.new-3.ensures.app side_is) capacity_is in
     let empty_is : app_of c.subcommand_required.result ≡ empty_app =
     ap app_of_fields c.subcommand_required.ensures
     ∙ ap (on_top (λ (s : Shape). record s { subcommand_required = true }))
-    (ap app_of_fields c.no_binary_name.ensures ∙ ap (on_top (λ (s : Shape). record s { no_binary_name = true })) c.new-4.ensures.app) in
-    IfOk-weaker c.subcommand.result _ _ (λ m h. h.shape (search rules) ∙ ap₂ with_subcommand empty_is (ap (λ (a : App). a.top) table_is)) c.subcommand.ensures
+    (ap app_of_fields c.no_binary_name.ensures ∙ ap (on_top (λ (s : Shape). record s { no_binary_name = true })) c.new.ensures.app) in
+    let one : app_of c.in_ok-subcommand.field-0 ≡ with_subcommand empty_app format_app.top =
+    c.in_ok-subcommand.ensures.shape (no_globals _ _ _ _ (ap is_plain c.in_ok-format.ensures)) ∙ ap₂ with_subcommand empty_is (ap shape c.in_ok-format.ensures) in
+    let two : app_of c.in_ok-subcommand-2.field-0 ≡ with_subcommand (with_subcommand empty_app format_app.top) import_app.top =
+    c.in_ok-subcommand-2.ensures.shape (no_globals _ _ _ _ (ap is_plain c.in_ok-import.ensures)) ∙ ap₂ with_subcommand one (ap shape c.in_ok-import.ensures) in
+    let three : app_of c.in_ok-subcommand-3.field-0 ≡ with_subcommand (with_subcommand (with_subcommand empty_app format_app.top) import_app.top) serve_app.top =
+    c.in_ok-subcommand-3.ensures.shape (no_globals _ _ _ _ (ap is_plain c.in_ok-serve.ensures)) ∙ ap₂ with_subcommand two (ap shape c.in_ok-serve.ensures) in
+    let four : app_of c.in_ok-subcommand-4.field-0
+    ≡ with_subcommand (with_subcommand (with_subcommand (with_subcommand empty_app format_app.top) import_app.top) serve_app.top) table_app.top =
+    c.in_ok-subcommand-4.ensures.shape (no_globals _ _ _ _ (ap is_plain c.in_ok-table.ensures)) ∙ ap₂ with_subcommand three (ap shape c.in_ok-table.ensures) in
+    IfOk-weaker c.subcommand-5.result _ _ (λ m h. h.shape (no_globals _ _ _ _ (ap is_plain c.in_ok-check.ensures)) ∙ ap₂ with_subcommand four (ap shape c.in_ok-check.ensures)) c.subcommand-5.ensures

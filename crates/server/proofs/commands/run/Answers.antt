@@ -1,6 +1,8 @@
 use Rattle.std.proofs.Common.{refl}
-use Rattle.server.proofs.ProgramLemmas.{run_as}
 use Rattle.server.proofs.commands.run.Goals as goal
 
-pub returns : goal.returns
-returns g c = run_as c.args.arguments _ _ _ _ _ _ _ c.table.ensures (λ side capacity e. (rw e refl, rw e refl))
+pub returns-in-Import : goal.returns-in-Import
+returns-in-Import g c = rw c.in-Import.is (refl, c.import_file.ensures)
+
+pub returns-in-Table : goal.returns-in-Table
+returns-in-Table g c = rw c.in-Table.is c.table.ensures
