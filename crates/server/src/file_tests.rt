@@ -123,3 +123,23 @@ fn files_that_are_none(rt: HostRuntime) -> Result<(), Fail> {
     fs::remove_file(&rt, tile)?;
     Ok(())
 }
+
+#[test]
+fn a_real_tile_comes_back(rt: HostRuntime) -> Result<(), Fail> {
+    let m = cleared(&rt, "server_test_real");
+    let tile = "N01E002.hgt";
+    let mut bytes = Vec::new(rt.alloc());
+    for i in 0..2_884_802_u32 {
+        bytes.push((i % 251) as u8)?;
+    }
+    let mut wanted = Vec::new(rt.alloc());
+    wanted.extend_from_slice(b"OK 2884802\n")?;
+    wanted.extend_from_slice(&bytes)?;
+    fs::write(&rt, tile, &bytes)?;
+    assert!(rt; ends(&rt, &["format", m, "1201", "1"], b"", 0, b"OK 0\n"));
+    assert!(rt; ends(&rt, &["import", m, tile], b"", 0, b"OK 1\n"));
+    assert!(rt; ends(&rt, &["serve", m], b"export N01E002\n", 0, &wanted));
+    fs::remove_file(&rt, m)?;
+    fs::remove_file(&rt, tile)?;
+    Ok(())
+}
