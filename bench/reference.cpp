@@ -2,18 +2,22 @@
 // buckets, D-8 with flats, watershed by reverse search, and raw writes of pages.
 //
 // usage: reference answer SIDE ROWS COLUMNS FOLDER < LINES     replies to elev, fill, dir, trace and watershed lines
-//        reference time SIDE ROWS COLUMNS FOLDER               one line a pass: its name and its least time in ms of three
-//        reference write FILE PAGES SYNCS                      time in ms of so many page writes and syncs
+//        reference time SIDE ROWS COLUMNS FOLDER               one line a pass: its name and its time in ms;
+//                                                              then the most memory that the passes took, in MB
+//        reference cpu SIDE ROWS COLUMNS FOLDER                the same by time on the processor
+//        reference write FILE PAGES                            time in ms of so many pages and a sync, and one more and a
+//                                                              sync, in a file of its size
 //        reference read FILE                                   time in ms of reading the file
 //
 // The tiles are N00E000.hgt and so on, ROWS northwards and COLUMNS eastwards, and agree on their common edges, so that
 // they are one grid.
 #include <fcntl.h>
+#include <sys/resource.h>
+#include <time.h>
 #include <unistd.h>
 
 #include <algorithm>
 #include <array>
-#include <chrono>
 #include <cstdint>
 #include <cstdio>
 #include <cstdlib>
@@ -29,8 +33,12 @@ constexpr int16_t kVoid = -32768;
 constexpr std::array<int, 8> kRowSteps = {0, 1, 1, 1, 0, -1, -1, -1};  // E SE S SW W NW N NE; rows run southwards
 constexpr std::array<int, 8> kColumnSteps = {1, 1, 0, -1, -1, -1, 0, 1};
 
+clockid_t clock_used = CLOCK_MONOTONIC;
+
 double now() {
-    return std::chrono::duration<double, std::milli>(std::chrono::steady_clock::now().time_since_epoch()).count();
+    timespec time;
+    clock_gettime(clock_used, &time);
+    return double(time.tv_sec) * 1e3 + double(time.tv_nsec) / 1e6;
 }
 
 std::vector<uint8_t> contents(const std::string& path) {
@@ -275,13 +283,15 @@ private:
 
 template <class Pass>
 void report(const char* name, Pass pass) {
-    double least = 1e300;
-    for (int turn = 0; turn < 3; turn++) {
-        double start = now();
-        pass();
-        least = std::min(least, now() - start);
-    }
-    std::printf("%s %.3f\n", name, least);
+    double start = now();
+    pass();
+    std::printf("%s %.3f\n", name, now() - start);
+}
+
+double peak() {
+    rusage used;
+    getrusage(RUSAGE_SELF, &used);
+    return double(used.ru_maxrss) / 1024;
 }
 
 int time_passes(Mosaic& mosaic) {
@@ -289,6 +299,7 @@ int time_passes(Mosaic& mosaic) {
     report("mark", [&] { mosaic.mark(); });
     report("flood", [&] { mosaic.flood(); });
     report("direct", [&] { mosaic.direct(); });
+    std::printf("memory %.1f\n", peak());
     uint32_t largest = mosaic.largest(), farthest = mosaic.farthest();
     size_t bytes = 0;
     report("watershed", [&] { bytes += mosaic.watershed(largest).size(); });
@@ -306,16 +317,19 @@ int answer(Mosaic& mosaic) {
     return 0;
 }
 
-int write_pages(const char* path, long pages, long syncs) {
+bool write_at(int file, const std::vector<uint8_t>& page, long at) { return pwrite(file, page.data(), page.size(), at * 4096) == 4096; }
+
+// Pages settled by a sync, and then one that makes them count.
+int write_pages(const char* path, long pages) {
     std::vector<uint8_t> page(4096, 7);
-    double start = now();
     int file = open(path, O_WRONLY | O_CREAT | O_TRUNC, 0644);
-    for (long at = 0; at < pages; at++)
-        if (pwrite(file, page.data(), page.size(), at * 4096) != 4096) return 1;
-    for (long sync = 0; sync < syncs; sync++)
-        if (fdatasync(file) != 0) return 1;
-    close(file);
+    if (file < 0 || ftruncate(file, (pages + 1) * 4096) != 0 || fsync(file) != 0) return 1;
+    double start = now();
+    for (long at = 1; at <= pages; at++)
+        if (!write_at(file, page, at)) return 1;
+    if (fdatasync(file) != 0 || !write_at(file, page, 0) || fdatasync(file) != 0) return 1;
     std::printf("write %.3f\n", now() - start);
+    close(file);
     return 0;
 }
 
@@ -330,12 +344,14 @@ int read_file(const char* path) {
 
 int main(int count, char** words) {
     std::string what = count > 1 ? words[1] : "";
-    if (what == "write" && count == 5) return write_pages(words[2], std::atol(words[3]), std::atol(words[4]));
+    if (what == "write" && count == 4) return write_pages(words[2], std::atol(words[3]));
     if (what == "read" && count == 3) return read_file(words[2]);
-    if ((what != "answer" && what != "time") || count != 6) {
-        std::fprintf(stderr, "usage: reference answer|time SIDE ROWS COLUMNS FOLDER | write FILE PAGES SYNCS | read FILE\n");
+    if ((what != "answer" && what != "time" && what != "cpu") || count != 6) {
+        std::fprintf(stderr, "usage: reference answer|time|cpu SIDE ROWS COLUMNS FOLDER | write FILE PAGES | read FILE\n");
         return 2;
     }
     Mosaic mosaic(std::atoi(words[2]), std::atoi(words[3]), std::atoi(words[4]), words[5]);
-    return what == "time" ? time_passes(mosaic) : answer(mosaic);
+    if (what == "answer") return answer(mosaic);
+    if (what == "cpu") clock_used = CLOCK_PROCESS_CPUTIME_ID;
+    return time_passes(mosaic);
 }

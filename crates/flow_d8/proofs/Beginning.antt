@@ -13,15 +13,9 @@ use Rattle.lattice.specs.Steps.{step, directions}
 use Rattle.flow_d8.specs.Drainage.{HasLower, IsSteepest, IsFlatDistance, IsFirstNearer, IsDirection}
 use Rattle.flow_d8.specs.Levels.{Levels, AreLevels}
 use Rattle.flow_d8.specs.Surface.{place_in, level_at, has_level, adjoins, leads_off, surface, beside_of, around_of}
-use Rattle.flow_d8.specs.Crossing.{unknown, distance_at, gap, gaps, Crosses, IsPlaceOf, IsWave, AreDistances, IsDownhill, drain_at, AreDownhill, AreDrained, IsBegun, IsFinishing, LeadsNowhere}
+use Rattle.flow_d8.specs.Crossing.{unknown, distance_at, Crosses, IsPlaceOf, AreDistances, IsDownhill, drain_at, AreDownhill, AreDrained, IsBegun, IsStart, IsFinishing, LeadsNowhere}
 use Rattle.flow_d8.proofs.Surfaces.{same_site, level_within, beside_there, beside_none}
 use Rattle.flow_d8.proofs.Nearest.{on_flat, across_flat}
-
-single : (g : ℕ) → Contains (g ∷ []) g
-single g = (0, omega arith, refl)
-
-all_single : (P : ℕ → Type 0) (g : ℕ) → P g → All P (g ∷ [])
-all_single P g h = λ k d lt. let zero_k : k ≡ 0 = omega arith in subst (λ j. P (get_or (g ∷ []) j d)) (sym zero_k) h
 
 -- eight tests, of which fewer than eight hold where not all do
 one : Bool → ℕ
@@ -75,19 +69,15 @@ module _ (f : Levels) (p : Point) where
   pub at_once : Crosses f p 0 → IsFlatDistance (surface f) (level_at f) p 0
   at_once crosses = record { crosses = crosses; least = λ j c. omega arith }
 
-module _ (f : Levels) (whole : AreLevels f) (drains : List (Option Dir)) (distances : List ℕ) (wave : List ℕ) (k : ℕ) (s : IsBegun f drains distances wave k) where
+module _ (f : Levels) (whole : AreLevels f) (drains : List (Option Dir)) (distances : List ℕ) (k : ℕ) (s : IsBegun f drains distances k) where
   -- where no point has the next place
-  pub begin_none : ((p : Point) → IsTrue (has_level f p) → place_in f p ≡ k → ⊥) → IsBegun f drains distances wave (k + 1)
+  pub begin_none : ((p : Point) → IsTrue (has_level f p) → place_in f p ≡ k → ⊥) → IsBegun f drains distances (k + 1)
   begin_none none = record {
     right = s.right;
     drains_whole = s.drains_whole;
     downhill = λ p level below. elim (cases_eq (place_in f p) k) [ inl same ↦ absurd (none p level same) | inr other ↦ s.downhill p level (omega arith) ];
     known = λ p level below crosses. elim (cases_eq (place_in f p) k) [ inl same ↦ absurd (none p level same) | inr other ↦ s.known p level (omega arith) crosses ];
-    waits = s.waits;
-    members = s.members;
     no_drain = λ g above. s.no_drain g (omega arith);
-    no_distance = λ g above. s.no_distance g (omega arith);
-    count = s.count;
   }
 
   module _ (p : Point) (level : IsTrue (has_level f p)) (at : place_in f p ≡ k) where
@@ -95,7 +85,7 @@ module _ (f : Levels) (whole : AreLevels f) (drains : List (Option Dir)) (distan
     this q q_level same = same_site f whole p q level q_level (at ∙ sym same)
 
     -- where the point lies on a flat
-    pub begin_flat : (HasLower (surface f) (level_at f) p → ⊥) → IsFalse (leads_off f p) → IsBegun f drains distances wave (k + 1)
+    pub begin_flat : (HasLower (surface f) (level_at f) p → ⊥) → IsFalse (leads_off f p) → IsBegun f drains distances (k + 1)
     begin_flat no_lower inside = record {
       right = s.right;
       drains_whole = s.drains_whole;
@@ -111,11 +101,7 @@ module _ (f : Levels) (whole : AreLevels f) (drains : List (Option Dir)) (distan
             absurd (⊎_elim (λ low. no_lower low) (λ out. true≢false (sym out ∙ inside)) c)
         | inr other ↦ s.known q q_level (omega arith) crosses
       ];
-      waits = s.waits;
-      members = s.members;
       no_drain = λ g above. s.no_drain g (omega arith);
-      no_distance = λ g above. s.no_distance g (omega arith);
-      count = s.count;
     }
 
     module _ (way : Option Dir) (down : IsDownhill f p way) (crosses : Crosses f p 0) where
@@ -137,11 +123,8 @@ module _ (f : Levels) (whole : AreLevels f) (drains : List (Option Dir)) (distan
       other_drain : (g : ℕ) → (g ≡ k → ⊥) → get_or (set drains k way) g None ≡ get_or drains g None
       other_drain g other = get_or-set_other drains k g way None other
 
-      at_zero : (g : ℕ) → distance_at distances g ≡ 0 → distance_at (set distances k 0) g ≡ 0
-      at_zero g zero_g = elim (cases_eq g k) [ inl same ↦ ap (distance_at (set distances k 0)) same ∙ this_distance | inr other ↦ other_distance g other ∙ zero_g ]
-
       -- where the point drains downhill or off the mosaic
-      pub begin_set : IsBegun f (set drains k way) (set distances k 0) (wave ++ k ∷ []) (k + 1)
+      pub begin_set : IsBegun f (set drains k way) (set distances k 0) (k + 1)
       begin_set = record {
         right = record {
           valid = whole;
@@ -167,51 +150,25 @@ module _ (f : Levels) (whole : AreLevels f) (drains : List (Option Dir)) (distan
           | inl same ↦ let is : distance_at (set distances k 0) (place_in f q) ≡ 0 = ap (distance_at (set distances k 0)) same ∙ this_distance in omega arith
           | inr other ↦ let is = other_distance (place_in f q) other in let old = s.known q q_level (omega arith) c in omega arith
         ];
-        waits = λ q q_level zero_q. elim (cases_eq (place_in f q) k) [
-          | inl same ↦ subst (Contains (wave ++ k ∷ [])) (sym same) (Contains-append_right wave (k ∷ []) k (single k))
-          | inr other ↦ Contains-append_left wave (k ∷ []) (place_in f q) (s.waits q q_level (sym (other_distance (place_in f q) other) ∙ zero_q))
-        ];
-        members = All-append (λ g. distance_at (set distances k 0) g ≡ 0) wave (k ∷ []) (λ i d lt. at_zero (get_or wave i d) (s.members i d lt))
-            (all_single (λ g. distance_at (set distances k 0) g ≡ 0) k this_distance);
         no_drain = λ g above. let other : g ≢ k = omega arith in other_drain g other ∙ s.no_drain g (omega arith);
-        no_distance = λ g above. let other : g ≢ k = omega arith in other_distance g other ∙ s.no_distance g (omega arith);
-        count = counted_on;
       }
-        where
-          counted_on : gaps (set distances k 0) + length (wave ++ k ∷ []) ≡ length f.levels
-          counted_on =
-              let total : gaps (set distances k 0) + gap (distance_at distances k) ≡ gaps distances + gap 0 = sum_by-set gap distances k 0 unknown in_distances in
-              let old : gap (distance_at distances k) ≡ 1 = ap gap (s.no_distance k (omega arith)) in
-              let longer : length (wave ++ k ∷ []) ≡ length wave + 1 = simp length-append (omega arith) in
-              let now : gap 0 ≡ 0 = refl in
-              let so_far = s.count in
-              omega arith
 
   -- at the end
   module _ (all : length f.levels ≤ k) where
     pub begun_downhill : AreDownhill f drains
     begun_downhill = record { whole = s.drains_whole; downhill = λ p level. s.downhill p level (omega (arith, level_within f whole p level)) }
 
-    pub begun_wave : IsWave f distances 0 wave
-    begun_wave = record {
-      right = s.right;
-      known = λ p j level none crosses. s.known p level (omega (arith, level_within f whole p level)) (let zero_j : j ≡ 0 = omega arith in subst (λ i. Crosses f p i) zero_j crosses);
-      waits = s.waits;
-      members = s.members;
-    }
+    pub begun_distances : IsStart f distances
+    begun_distances = record { right = s.right; known = λ p level crosses. s.known p level (omega (arith, level_within f whole p level)) crosses }
 
 pub begin_start : (f : Levels) (drains : List (Option Dir)) (distances : List ℕ) → AreLevels f → length drains ≡ length f.levels → length distances ≡ length f.levels
-    → ((g : ℕ) → get_or drains g None ≡ None) → ((g : ℕ) → distance_at distances g ≡ unknown) → gaps distances ≡ length f.levels → IsBegun f drains distances [] 0
-begin_start f drains distances whole drains_whole distances_whole no_drains no_distances count = record {
+    → ((g : ℕ) → get_or drains g None ≡ None) → ((g : ℕ) → distance_at distances g ≡ unknown) → IsBegun f drains distances 0
+begin_start f drains distances whole drains_whole distances_whole no_drains no_distances = record {
   right = record { valid = whole; whole = distances_whole; right = λ g known. absurd (omega (arith, no_distances g)) };
   drains_whole = drains_whole;
   downhill = λ p level below. absurd (omega arith);
   known = λ p level below crosses. absurd (omega arith);
-  waits = λ p level zero_p. absurd (omega (arith, no_distances (place_in f p)));
-  members = λ i d lt. absurd (omega arith);
   no_drain = λ g above. no_drains g;
-  no_distance = λ g above. no_distances g;
-  count = omega (arith, count);
 }
 
 -- the points of flats
@@ -235,7 +192,7 @@ module _ (f : Levels) (drains : List (Option Dir)) (distances : List ℕ) (dist 
     pub finish_nowhere : distance_at distances k ≡ unknown → LeadsNowhere f
     finish_nowhere none = (p, (level, (λ j crosses. let known = dist.all p j level crosses in let here = ap (distance_at distances) at in absurd (omega arith))))
 
-    pub finish_off : distance_at distances k ≡ 0 → IsFinishing f drains distances (k + 1)
+    finish_off : distance_at distances k ≡ 0 → IsFinishing f drains distances (k + 1)
     finish_off zero_k = record {
       whole = s.whole;
       drained = λ q q_level below. elim (cases_eq (place_in f q) k) [
@@ -278,6 +235,10 @@ module _ (f : Levels) (drains : List (Option Dir)) (distances : List ℕ) (dist 
         downhill = λ q q_level above. let other : place_in f q ≢ k = omega arith in
             subst (IsDownhill f q) (sym (drain_elsewhere (place_in f q) other)) (s.downhill q q_level (omega arith));
       }
+
+  -- a point whose distance is 0 drains already
+  pub finish_done : distance_at distances k ≡ 0 → IsFinishing f drains distances (k + 1)
+  finish_done zero_k = let s = (dist.right k (omega arith)).1 in finish_off s.point s.level s.place zero_k
 
   module _ (all : length f.levels ≤ k) where
     pub finished : AreDrained f drains

@@ -7,6 +7,7 @@ use Rattle.std.proofs.Math.IntN.{+ℤ_idr, suc_ℤ-*ℤ, suc_ℤ}
 use Rattle.std.proofs.Math.Nat.{mul-le-mul_right}
 use Rattle.std.proofs.lemmas.Int.{ints, by_lt_z}
 use Rattle.std.proofs.lemmas.Grind.{rows}
+use Rattle.std.proofs.lemmas.Option.{slice_get_read, get_or_from_slice_get}
 use Rattle.std.proofs.lemmas.Bool.{cases_Bool, cases_order, cond-true, cond-false, and_parts, and_from, or_cases, or_left, or_right}
 use Rattle.std.proofs.lemmas.Bool.Decides.{Decides-int_eq, nat_tests}
 use Rattle.lattice.specs.declared.point.Point.{Point}
@@ -14,13 +15,13 @@ use Rattle.lattice.specs.declared.direction.Dir.{Dir}
 use Rattle.lattice.specs.Corners.{Place, is_corner, is_before}
 use Rattle.lattice.specs.declared.direction.Dir.TheVariants.{East, SouthEast, South, SouthWest, West, NorthWest, North, NorthEast}
 use Rattle.lattice.specs.Steps.{step, north_of, east_of}
-use Rattle.lattice.specs.Lattice.{IsBefore, Holds, IsSampleAt, index_of}
+use Rattle.lattice.specs.Lattice.{IsBefore, Holds, IsSampleAt, IsIndexOf, index_of}
 use Rattle.lattice.specs.Mosaic.{void, is_void}
 use Rattle.lattice.proofs.Along.{distance}
 use Rattle.lattice.proofs.Samples.{index_is, index_of_held}
 use Rattle.flow_d8.specs.Levels.{Levels, AreLevels, is_holder, is_held, is_deep}
 use Rattle.flow_d8.specs.Surface.{place_in, has_level, is_shared, beside_of}
-use Rattle.flow_d8.proofs.Places.{seat_of, holder_holds, holds_holder, index_small}
+use Rattle.flow_d8.proofs.Places.{seat_of, holder_holds, holds_holder, index_small, number_below}
 use Rattle.flow_d8.proofs.Surfaces.{level_held, level_from, step_adjoins, beside_there, beside_none, not_adjoins}
 
 one_more : (z : ℤ) → z +ℤ pos 1 ≡ suc_ℤ z
@@ -73,13 +74,13 @@ inner_holder n c d p i j at i_some i_inside j_some j_inside held =
     ap₂ (λ (y x : ℤ). record { lat = y; lon = x }) (sym lat) lon
 
 -- the order of corners
-Below : Place → Place → Type 0
+unfoldable pub Below : Place → Place → Type 0
 Below a b = (a.lat <ℤ b.lat) ⊎ ((a.lat ≡ b.lat) × (a.lon <ℤ b.lon))
 
 lt_says : (x y : ℤ) → int_lt x y ≡ true → x <ℤ y
 lt_says x y e = grind (arith, ints)
 
-says : (a b : Place) → is_before a b ≡ true → Below a b
+pub says : (a b : Place) → is_before a b ≡ true → Below a b
 unfolding Below
 says a b e = elim (or_cases (int_lt a.lat b.lat) (int_eq a.lat b.lat && int_lt a.lon b.lon) e) [
   | inl below ↦ inl (lt_says a.lat b.lat below)
@@ -88,20 +89,20 @@ says a b e = elim (or_cases (int_lt a.lat b.lat) (int_eq a.lat b.lat && int_lt a
       inr ((Decides-int_eq a.lat b.lat).0 both.0, lt_says a.lon b.lon both.1)
 ]
 
-chain : (a b c : Place) → Below a b → Below b c → Below a c
+pub chain : (a b c : Place) → Below a b → Below b c → Below a c
 unfolding Below
 chain a b c (inl p) (inl q) = inl (omega (arith, ints))
 chain a b c (inl p) (inr q) = inl (let e = q.0 in omega (arith, ints))
 chain a b c (inr p) (inl q) = inl (let e = p.0 in omega (arith, ints))
 chain a b c (inr p) (inr q) = inr (p.0 ∙ q.0, (let e = p.1 in let e' = q.1 in omega (arith, ints)))
 
-apart : (a b : Place) → Below a b → a ≡ b → ⊥
+pub apart : (a b : Place) → Below a b → a ≡ b → ⊥
 unfolding Below
 apart a b (inl p) same = let e = ap (λ (c : Place). c.lat) same in omega (arith, ints)
 apart a b (inr p) same = let e = ap (λ (c : Place). c.lon) same in let h = p.1 in omega (arith, ints)
 
 -- corners in order are listed once
-rising : (corners : List Place) (x : Place) → AllAdjacentBelow IsBefore corners (length corners) → (gap j : ℕ) → j + suc gap < length corners → Below (get_or corners j x) (get_or corners (j + suc gap) x)
+pub rising : (corners : List Place) (x : Place) → AllAdjacentBelow IsBefore corners (length corners) → (gap j : ℕ) → j + suc gap < length corners → Below (get_or corners j x) (get_or corners (j + suc gap) x)
 rising corners x order zero j lt = subst (λ k. Below (get_or corners j x) (get_or corners k x)) (let e : j + 1 ≡ j + suc zero = omega arith in e) (says (get_or corners j x) (get_or corners (j + 1) x) (order j x (omega arith)))
 rising corners x order (suc gap) j lt =
     let next : j + suc (suc gap) ≡ (j + suc gap) + 1 = omega arith in
@@ -118,7 +119,7 @@ listed_once corners x j k order lj lk same = elim (cases_order j k) [
       other
 ]
 
-any_at : (P : Place → Bool) (corners : List Place) (k : ℕ) (c : Place) → slice_get corners k ≡ Some c → P c ≡ true → IsTrue (list_any P corners)
+pub any_at : (P : Place → Bool) (corners : List Place) (k : ℕ) (c : Place) → slice_get corners k ≡ Some c → P c ≡ true → IsTrue (list_any P corners)
 any_at P [] k c at h = absurd (no_some at)
   where
     no_some : ◌≡◌ {A = Option Place} None (Some c) → ⊥
@@ -335,3 +336,55 @@ module _ (f : Levels) (whole : AreLevels f) (p : Point) (level : IsTrue (has_lev
         let rows : 2 * f.side ≤ deep.i * f.side = mul-le-mul_right f.side deep.i_low in
         let low = whole.side_low in
         omega arith
+
+deep_says : (n e : ℕ) → is_deep n e ≡ true → (2 ≤ e / n) × (e / n + 3 ≤ n) × (2 ≤ e % n) × (e % n + 3 ≤ n)
+deep_says n e test =
+    let q = e / n in
+    let r = e % n in
+    let one = and_parts (nat_le 2 q && nat_le (q + 3) n && nat_le 2 r) (nat_le (r + 3) n) test in
+    let two = and_parts (nat_le 2 q && nat_le (q + 3) n) (nat_le 2 r) one.0 in
+    let three = and_parts (nat_le 2 q) (nat_le (q + 3) n) two.0 in
+    (le_said 2 q three.0, le_said (q + 3) n three.1, le_said 2 r two.1, le_said (r + 3) n one.1)
+
+-- the point of a deep sample has that sample's number as its place
+pub deep_place : (f : Levels) → AreLevels f → (p : Point) (k e : ℕ) (c : Place) → slice_get f.corners k ≡ Some c → k < length f.corners → IsIndexOf f.side c p e → is_deep f.side e ≡ true
+    → place_in f p ≡ k * (f.side * f.side) + e
+deep_place f whole p k e c listed in_range index test =
+    let i = index.sample.0 in
+    let j = index.sample.1 in
+    let at = index.sample.2.0 in
+    let is : e ≡ i * f.side + j = index.sample.2.1 in
+    let row : e / f.side ≡ i = ap (λ v. v / f.side) is ∙ quotient f.side i j at.column in
+    let column : e % f.side ≡ j = ap (λ v. v % f.side) is ∙ remainder f.side i j at.column in
+    let said = deep_says f.side e test in
+    let i_low : 2 ≤ i = subst (λ v. 2 ≤ v) row said.0 in
+    let i_high : i + 3 ≤ f.side = subst (λ v. v + 3 ≤ f.side) row said.1 in
+    let j_low : 2 ≤ j = subst (λ v. 2 ≤ v) column said.2 in
+    let j_high : j + 3 ≤ f.side = subst (λ v. v + 3 ≤ f.side) column said.3 in
+    inside_place f whole p k c i j (record {
+      listed = listed;
+      at = λ d. get_or_from_slice_get f.corners k c d listed;
+      in_range = in_range;
+      corner = index.corner;
+      sample = at;
+      i_some = omega arith;
+      i_inside = omega arith;
+      j_some = omega arith;
+      j_inside = omega arith;
+    })
+    ∙ ap (λ v. k * (f.side * f.side) + v) (sym is)
+
+tile_and_index : (a number : ℕ) → number / a * a + number % a ≡ number
+tile_and_index a number = grind (arith, rows)
+
+-- the same for a point that was read from the number
+pub deep_site : (f : Levels) → AreLevels f → (p : Point) (number area : ℕ) (corners : List Place) (c : Place) (n : ℕ) → corners ≡ f.corners → n ≡ f.side → area ≡ f.side * f.side
+    → c ≡ get_or corners (number / area) c → number < length f.levels → IsIndexOf n c p (number % area) → is_deep f.side (number % (f.side * f.side)) ≡ true → place_in f p ≡ number
+deep_site f whole p number area corners c n same side area_is read small index test =
+    let k = number / (f.side * f.side) in
+    let at : c ≡ get_or f.corners k c = read ∙ ap₂ (λ ks a. get_or ks (number / a) c) same area_is in
+    let some : 1 * 1 ≤ f.side * f.side = grind (arith, whole.side_low) in
+    let within : k < length f.corners = number_below (f.side * f.side) (length f.corners) number (omega arith) (omega (arith, small, whole.whole)) in
+    let listed : slice_get f.corners k ≡ Some c = slice_get_read f.corners (length f.corners) k c refl within at in
+    let here : IsIndexOf f.side c p (number % (f.side * f.side)) = subst (λ m. IsIndexOf m c p (number % (f.side * f.side))) side (subst (λ a. IsIndexOf n c p (number % a)) area_is index) in
+    deep_place f whole p k (number % (f.side * f.side)) c listed within here test ∙ tile_and_index (f.side * f.side) number

@@ -4,9 +4,9 @@ pub mod Exists
 pub mod FlowPaths
 pub mod MosaicGrid
 pub mod Places
-pub mod Seeking
 pub mod Surfaces
 pub mod Inside
+pub mod Tiles
 pub mod Waves
 pub mod Steepest
 pub mod Nearest
@@ -16,3 +16,4 @@ pub mod FilledOf
 pub mod Found
 pub mod Fitting
 pub mod Tracing
+pub mod Feeding

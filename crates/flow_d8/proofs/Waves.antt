@@ -1,15 +1,15 @@
 -- How a wave spreads over the flats: each point that it reaches gets its flat distance.
-use Rattle.std.proofs.Common.{◌≡◌, ℕ, zero, suc, ◌+◌, ◌<◌, ◌≤◌, cond, IsTrue, List, [], ◌∷◌, ◌++◌, length, get_or, set, inl, inr, refl, sym, ap, ◌∙◌, subst, arith, get_or-set_other, get_or-set_same, length-set}
-use Rattle.std.specs.Prelude.{All, Contains}
+use Rattle.std.proofs.Common.{◌≡◌, ℕ, zero, suc, ◌+◌, ◌<◌, ◌≤◌, Bool, true, false, cond, IsTrue, List, [], ◌∷◌, ◌++◌, length, get_or, set, inl, inr, refl, sym, ap, ◌∙◌, subst, arith, get_or-set_other, get_or-set_same, length-set}
+use Rattle.std.specs.Prelude.{All, Contains, nat_eq}
 use Rattle.std.proofs.lemmas.Bool.{cases_eq, cases_lt, ne_eqb}
-use Rattle.std.proofs.lemmas.List.Sums.{sum_by-set}
+use Rattle.std.proofs.lemmas.List.Sums.{sum_by-set, sum_by-cons}
 use Rattle.std.proofs.lemmas.List.Elements.{Contains-append_left, Contains-append_right, All-append, All-nil}
 use Rattle.std.proofs.lemmas.List.{get_or_past}
 use Rattle.lattice.specs.declared.point.Point.{Point}
 use Rattle.flow_d8.specs.Drainage.{CrossesFlat, IsFlatDistance}
 use Rattle.flow_d8.specs.Levels.{Levels, AreLevels}
 use Rattle.flow_d8.specs.Surface.{place_in, level_at, has_level, adjoins, surface}
-use Rattle.flow_d8.specs.Crossing.{unknown, distance_at, gap, gaps, AreKept, Crosses, IsPlaceOf, AreRight, IsWave, IsSpreading, IsSpread, AreDistances}
+use Rattle.flow_d8.specs.Crossing.{unknown, distance_at, gap, gaps, AreKept, Crosses, IsPlaceOf, AreRight, IsStart, IsWave, IsWayOut, IsReaching, IsSpreading, IsSpread, AreDistances}
 use Rattle.flow_d8.proofs.Surfaces.{surface_lawful, same_site, level_within}
 
 single : (g : ℕ) → Contains (g ∷ []) g
@@ -152,6 +152,77 @@ module _ (f : Levels) (whole : AreLevels f) where
         | inr other ↦ s.known p i level (omega arith) crosses
       ]
 
+  -- a look at one place after another for points beside a way out
+  pub reaching_start : (distances : List ℕ) → IsStart f distances → IsReaching f distances [] 0
+  reaching_start distances s = record {
+    spreading = record {
+      right = record {
+        valid = whole;
+        whole = s.right.whole;
+        right = λ g known. let at = s.right.right g known in record { point = at.point; level = at.level; place = at.place; near = omega (arith, at.near); exact = at.exact };
+      };
+      known = λ p j level below crosses. s.known p level (let zero_j : j ≡ 0 = omega arith in subst (λ i. CrossesFlat (surface f) (level_at f) p i) zero_j crosses);
+      waits = λ p level at. absurd (omega (arith, (right_at distances 0 p s.right level (omega arith)).0));
+      members = All-nil (λ g. distance_at distances g ≡ 1);
+    };
+    reached = λ p q below. absurd (omega arith);
+  }
+
+  module _ (distances next : List ℕ) (k : ℕ) (s : IsReaching f distances next k) where
+    -- where the point with the next place, if there is one, has its distance or no way out beside it
+    pub reaching_on : ((p q : Point) → place_in f p ≡ k → IsWayOut f distances p q → distance_at distances (place_in f p) < unknown) → IsReaching f distances next (k + 1)
+    reaching_on here = record {
+      spreading = s.spreading;
+      reached = λ p q below out. elim (cases_eq (place_in f p) k) [ inl same ↦ here p q same out | inr other ↦ s.reached p q (omega arith) out ];
+    }
+
+    -- where it has a way out beside it, and no distance yet
+    module _ (p q : Point) (at : place_in f p ≡ k) (out : IsWayOut f distances p q) (new : distance_at distances (place_in f p) ≡ unknown) where
+      back : IsTrue (adjoins f q p)
+      back = (surface_lawful f).both_ways p q out.beside
+
+      reaching_at : IsReaching f (set distances (place_in f p) 1) (next ++ place_in f p ∷ []) (k + 1)
+      reaching_at = record {
+        spreading = reached distances 1 next s.spreading (omega arith) q p (omega (arith, out.drains)) back (sym out.same_level) new;
+        reached = λ r t below r_out. elim (cases_eq (place_in f r) (place_in f p)) [
+          | inl same ↦ subst (λ g. distance_at (set distances (place_in f p) 1) g < unknown) (sym same)
+              (reached_known distances 1 next s.spreading (omega arith) q p (omega (arith, out.drains)) back (sym out.same_level) new)
+          | inr other ↦
+              let apart : place_in f t ≡ place_in f p → ⊥ = λ same. absurd (omega (arith, r_out.drains, ap (distance_at (set distances (place_in f p) 1)) same, get_or-set_same distances (place_in f p) 1 unknown within_p)) in
+              let old : IsWayOut f distances r t = record { beside = r_out.beside; same_level = r_out.same_level; drains = sym (get_or-set_other distances (place_in f p) (place_in f t) 1 unknown apart) ∙ r_out.drains } in
+              let known = s.reached r t (omega (arith, at)) old in
+              omega (arith, get_or-set_other distances (place_in f p) (place_in f r) 1 unknown other)
+        ];
+      }
+        where
+          within_p : place_in f p < length distances
+          within_p = subst (λ n. place_in f p < n) (sym s.spreading.right.whole) (level_within f whole p ((surface_lawful f).from_ground p q out.beside))
+
+      pub reaching_more : IsReaching f (set distances k 1) (next ++ k ∷ []) (k + 1)
+      reaching_more = subst (λ g. IsReaching f (set distances g 1) (next ++ g ∷ []) (k + 1)) at reaching_at
+
+      pub reaching_count : gaps (set distances k 1) + 1 ≡ gaps distances
+      reaching_count = subst (λ g. gaps (set distances g 1) + 1 ≡ gaps distances) at (reached_count distances 1 next s.spreading (omega arith) q p (omega (arith, out.drains)) back (sym out.same_level) new)
+
+  -- at the end the points at 1 are the wave
+  pub reaching_end : (distances next : List ℕ) (k : ℕ) → length f.levels ≤ k → IsReaching f distances next k → IsWave f distances 1 next
+  reaching_end distances next k all s = record {
+    right = s.spreading.right;
+    known = known_now;
+    waits = s.spreading.waits;
+    members = s.spreading.members;
+  }
+    where
+      known_now : (p : Point) (i : ℕ) → IsTrue (has_level f p) → i ≤ 1 → CrossesFlat (surface f) (level_at f) p i → distance_at distances (place_in f p) < unknown
+      known_now p zero level below crosses = s.spreading.known p zero level (omega arith) crosses
+      known_now p (suc i) level below crosses =
+          let y = crosses.0 in
+          let y_level = (surface_lawful f).to_ground p y crosses.1.0 in
+          let ends : CrossesFlat (surface f) (level_at f) y 0 = (let zero_i : i ≡ 0 = omega arith in subst (λ j. CrossesFlat (surface f) (level_at f) y j) zero_i crosses.1.2) in
+          let y_known = s.spreading.known y 0 y_level (omega arith) ends in
+          let least = (right_at distances 1 y s.spreading.right y_level y_known).1.least 0 ends in
+          s.reached p y (omega (arith, level_within f whole p level, all)) (record { beside = crosses.1.0; same_level = crosses.1.1; drains = omega arith })
+
   -- where no point waits, all points that lead anywhere have their distance
   pub wave_end : (distances : List ℕ) (k : ℕ) → IsWave f distances k [] → AreDistances f distances
   wave_end distances k w = record {
@@ -172,3 +243,15 @@ module _ (f : Levels) (whole : AreLevels f) where
             | inl here ↦ absurd (omega (arith, (w.waits y y_level here).1))
             | inr other ↦ w.known p (suc (distance_at distances (place_in f y))) level (omega (arith, at.0)) (y, (crosses.1.0, crosses.1.1, at.1.crosses))
           ]
+
+-- no more distances are unknown than there are
+gap_small : (v : ℕ) → gap v ≤ 1
+gap_small v = small (nat_eq v unknown)
+  where
+    small : (b : Bool) → cond b 1 0 ≤ 1
+    small true = omega arith
+    small false = omega arith
+
+pub gaps_within : (xs : List ℕ) → gaps xs ≤ length xs
+gaps_within [] = omega arith
+gaps_within (x ∷ rest) = let more = gaps_within rest in let one = gap_small x in omega (arith, sum_by-cons gap x rest)

@@ -83,17 +83,29 @@ module _ (f : Levels) where
     pub whole : length drains ≡ length f.levels
     pub drained : (p : Point) → IsTrue (has_level f p) → IsDirection (surface f) (level_at f) p (drain_at drains p)
 
-  -- of the points with places below k the downhill ones are drained, and those with a flat distance of 0 have it and wait
-  pub record IsBegun (drains : List (Option Dir)) (distances : List ℕ) (wave : List ℕ) (k : ℕ) : Type 0 where
+  -- of the points with places below k the downhill ones are drained, and those with a flat distance of 0 have it
+  pub record IsBegun (drains : List (Option Dir)) (distances : List ℕ) (k : ℕ) : Type 0 where
     pub right : AreRight distances 0
     pub drains_whole : length drains ≡ length f.levels
     pub downhill : (p : Point) → IsTrue (has_level f p) → place_in f p < k → IsDownhill p (drain_at drains p)
     pub known : (p : Point) → IsTrue (has_level f p) → place_in f p < k → Crosses p 0 → distance_at distances (place_in f p) < unknown
-    pub waits : (p : Point) → IsTrue (has_level f p) → distance_at distances (place_in f p) ≡ 0 → Contains wave (place_in f p)
-    pub members : All (λ g. distance_at distances g ≡ 0) wave
     pub no_drain : (g : ℕ) → k ≤ g → slice_index_or drains g None ≡ None
-    pub no_distance : (g : ℕ) → k ≤ g → distance_at distances g ≡ unknown
-    pub count : gaps distances + length wave ≡ length f.levels
+
+  -- the points with a flat distance of 0 have it, and no others have one
+  pub record IsStart (distances : List ℕ) : Type 0 where
+    pub right : AreRight distances 0
+    pub known : (p : Point) → IsTrue (has_level f p) → Crosses p 0 → distance_at distances (place_in f p) < unknown
+
+  -- q lies beside p, has its level and the distance 0
+  pub record IsWayOut (distances : List ℕ) (p q : Point) : Type 0 where
+    pub beside : IsTrue (adjoins f p q)
+    pub same_level : level_at f q ≡ level_at f p
+    pub drains : distance_at distances (place_in f q) ≡ 0
+
+  -- of the points with places below k those beside a way out have their distances; the next wave has those at 1
+  pub record IsReaching (distances : List ℕ) (next : List ℕ) (k : ℕ) : Type 0 where
+    pub spreading : IsSpreading distances 1 next
+    pub reached : (p q : Point) → place_in f p < k → IsWayOut distances p q → distance_at distances (place_in f p) < unknown
 
   -- the points with places below k are drained, the others as far as they lead downhill
   pub record IsFinishing (drains : List (Option Dir)) (distances : List ℕ) (k : ℕ) : Type 0 where

@@ -1,12 +1,17 @@
 -- Where each point of a mosaic drains, kept by the places of samples.
-use Rattle.std.specs.Prelude.{◌≡◌, ℕ, ◌*◌, ◌<◌, ◌≤◌, ℤ, IsTrue, IsFalse, Option, Some, None, List, length, nat_lt, if◌then◌else◌, slice_index_or}
+use Rattle.std.specs.Prelude.{◌≡◌, ℕ, ◌*◌, ◌<◌, ◌≤◌, ℤ, ◌&&◌, IsTrue, IsFalse, Option, Some, None, List, length, nat_lt, if◌then◌else◌, slice_index_or}
 use Rattle.lattice.specs.declared.point.Point.{Point}
 use Rattle.lattice.specs.declared.direction.Dir.{Dir}
+use Rattle.lattice.specs.declared.direction.Dir.TheVariants.{East, SouthEast, South, SouthWest, West, NorthWest, North, NorthEast}
+use Rattle.lattice.specs.Steps.{step}
+use Rattle.lattice.specs.Stepping.{fits_point}
+use Rattle.std.specs.List.{AllAdjacentBelow}
 use Rattle.lattice.specs.Corners.{Place}
+use Rattle.lattice.specs.Lattice.{IsBefore}
 use Rattle.lattice.specs.Mosaic.{Mosaic}
 use Rattle.lattice.specs.Ground.{is_ground, terrain}
 use Rattle.flow_d8.specs.Drainage.{IsFlatDistance, IsDirection}
-use Rattle.flow_d8.specs.Levels.{place_of}
+use Rattle.flow_d8.specs.Levels.{is_held, place_of}
 use Rattle.flow_d8.specs.Crossing.{unknown, distance_at}
 
 -- the corners of the tiles, and for each of their samples a direction and a flat distance
@@ -18,7 +23,9 @@ pub record Drained : Type 0 where
 
 pub record AreWhole (d : Drained) : Type 0 where
   pub side_low : 3 ≤ d.side
+  pub side_high : d.side ≤ 3601
   pub few : length d.corners ≤ 240
+  pub in_order : AllAdjacentBelow IsBefore d.corners (length d.corners)
   pub drains : length d.drains ≡ length d.corners * (d.side * d.side)
   pub distances : length d.distances ≡ length d.corners * (d.side * d.side)
 
@@ -33,6 +40,25 @@ direction_in d p = if nat_lt (distance_at d.distances (place_of d.side d.corners
 -- the point's flat distance, where it is known
 abbrev pub distance_in : Drained → Point → Option ℕ
 distance_in d p = if nat_lt (distance_at d.distances (place_of d.side d.corners p)) unknown then Some (distance_at d.distances (place_of d.side d.corners p)) else None
+
+-- the place of the point one step away, where some tile holds it and its coordinates are numbers of 32 bits
+abbrev pub place_beside : Drained → Point → Dir → Option ℕ
+place_beside d p e = if fits_point (step e p) && is_held d.side d.corners (step e p) then Some (place_of d.side d.corners (step e p)) else None
+
+-- the direction of the step back
+abbrev pub back_of : Dir → Dir
+back_of East = West
+back_of SouthEast = NorthWest
+back_of South = North
+back_of SouthWest = NorthEast
+back_of West = East
+back_of NorthWest = SouthEast
+back_of North = South
+back_of NorthEast = SouthWest
+
+-- x drains straight to p
+abbrev pub DrainsTo : Drained → Point → Point → Type 0
+DrainsTo d x p = (e : Dir) × ((direction_in d x ≡ Some e) × (step e x ≡ p))
 
 -- each ground point's direction and flat distance; a point that isn't ground has neither
 pub record AreDirectionsOf (m : Mosaic) (level : Point → ℤ) (d : Drained) : Type 0 where

@@ -1,19 +1,22 @@
 //! Where each point drains.
-ghost use Rattle.std.specs.Prelude.{◌≡◌, ℤ, [], IsTrue, IsFalse, IfOk, IfErr, IfSome, IfNone, SomeIff};
+ghost use Rattle.std.specs.Prelude.{◌≡◌, ℕ, ℤ, ◌+◌, ◌*◌, ◌%◌, ◌<◌, ◌≤◌, ◌↔◌, [], Some, None, true, IsTrue, IsFalse, IfOk, IfErr, IfSome, IfNone, SomeIff, MatchOption, Contains, length, map, slice_index_or};
 ghost use Rattle.lattice.specs.declared.point.Point.{Point};
 ghost use Rattle.lattice.specs.declared.direction.Dir.{Dir};
-ghost use Rattle.lattice.specs.Steps.{step};
+ghost use Rattle.lattice.specs.Steps.{step, directions as lattice_directions};
 ghost use Rattle.lattice.specs.Stepping.{fits_point};
 ghost use Rattle.lattice.specs.declared.refusal.Refusal.TheVariants.{NoMemory};
 ghost use Rattle.lattice.specs.Mosaic.{Mosaic, IsMosaic};
 ghost use Rattle.lattice.specs.Ground.{is_ground, terrain};
 ghost use Rattle.flow_d8.specs.FlowPath.{IsFlowPath};
-ghost use Rattle.flow_d8.specs.Levels.{place_of};
-ghost use Rattle.flow_d8.specs.Drained.{AreDirectionsOf, AreWhole, IsKnown, direction_in, distance_in};
+ghost use Rattle.flow_d8.specs.Levels.{is_held, is_deep, place_of};
+ghost use Rattle.flow_d8.specs.Crossing.{unknown, distance_at};
+ghost use Rattle.flow_d8.specs.Drained.{AreDirectionsOf, AreWhole, DrainsTo, IsKnown, back_of, direction_in, distance_in, place_beside};
 
+use crate::filled::lies_deep;
 use crate::flats::UNKNOWN;
 use crate::place::{place, stepped};
-use lattice::{Corner, Dir, Point, Refusal, Side};
+use arrayvec::ArrayVec;
+use lattice::{Corner, DIRECTIONS, Dir, Point, Refusal, Side};
 use std::alloc::{AllocError, Global};
 use std::marker::Model;
 
@@ -84,6 +87,155 @@ impl Directions {
         }
     }
 
+    /// The points that drain straight to this one, each once, in the order of the codes of the steps that lead to them.
+    /// Takes no memory.
+    pub fn feeders(&self, point: Point) -> ArrayVec<Point, 8>
+        ensures exactly { (q : Point) → Contains result.items q ↔ DrainsTo self.now q point }
+        ensures once { (j k : ℕ) (x : Point) → j < k → k < length result.items → slice_index_or result.items j x ≡ slice_index_or result.items k x → ⊥ }
+    {
+        let _drains = self.drains();
+        let around = self.places_around(point);
+        let mut found = ArrayVec::new();
+        for i in 0..8 {
+            if let Some(feeder) = self.feeder(point, DIRECTIONS[i], around[i]) {
+                found.push(feeder);
+            }
+        }
+        found
+    }
+
+    // The point one step away, which has this place, where it drains straight back.
+    fn feeder(&self, point: Point, direction: Dir, place: Option<usize>) -> Option<Point>
+        requires { place ≡ place_beside self.now point direction }
+        ensures { MatchOption result (direction_in self.now (step direction point) ≡ Some (back_of direction) → ⊥) (λ q. (q ≡ step direction point) × (direction_in self.now (step direction point) ≡ Some (back_of direction))) }
+    {
+        let _drains = self.drains();
+        let number = place?;
+        if self.drains_by(number, opposite(direction)) && self.is_known(number) {
+            stepped(point, direction)
+        } else {
+            None
+        }
+    }
+
+    fn drains_by(&self, number: usize, direction: Dir) -> bool
+        requires { number < length self.now.drains }
+        ensures { IsTrue result ↔ (slice_index_or self.now.drains number None ≡ Some direction) }
+    {
+        self.drains()[number] == Some(direction)
+    }
+
+    fn is_known(&self, number: usize) -> bool
+        requires { number < length self.now.distances }
+        ensures { IsTrue result ↔ (distance_at self.now.distances number < unknown) }
+    {
+        self.distances()[number] < UNKNOWN
+    }
+
+    // The places of the points one step away, by direction in the order of codes.
+    fn places_around(&self, point: Point) -> [Option<usize>; 8]
+        ensures { result ≡ map (place_beside self.now point) lattice_directions }
+    {
+        match self.deep_place(point) {
+            Some(number) => self.places_inside(number),
+            None => self.places_over_edges(point),
+        }
+    }
+
+    // The place of a point that isn't near the edges of its tile.
+    fn deep_place(&self, point: Point) -> Option<usize>
+        ensures { IfSome result (λ number. IsTrue (is_held self.now.side self.now.corners point) × (place_of self.now.side self.now.corners point ≡ number) × (is_deep self.now.side (number % (self.now.side * self.now.side)) ≡ true)) }
+    {
+        let number = place(self.side(), self.corners(), point)?;
+        if lies_deep(self.side(), number) {
+            Some(number)
+        } else {
+            None
+        }
+    }
+
+    // The places around such a point: all lie inside its tile.
+    fn places_inside(&self, number: usize) -> [Option<usize>; 8]
+        requires site { (p : Point) × (IsTrue (is_held self.now.side self.now.corners p) × (place_of self.now.side self.now.corners p ≡ number)) }
+        requires deep { is_deep self.now.side (number % (self.now.side * self.now.side)) ≡ true }
+        ensures { (p : Point) → IsTrue (is_held self.now.side self.now.corners p) → place_of self.now.side self.now.corners p ≡ number → result ≡ map (place_beside self.now p) lattice_directions }
+    {
+        let n = self.row_length(number);
+        [
+            Some(number + 1),
+            Some(number + n + 1),
+            Some(number + n),
+            Some(number + n - 1),
+            Some(number - 1),
+            Some(number - n - 1),
+            Some(number - n),
+            Some(number - n + 1),
+        ]
+    }
+
+    // The samples of a row. As many lie before such a point, and after it, and one more.
+    fn row_length(&self, number: usize) -> usize
+        requires site { (p : Point) × (IsTrue (is_held self.now.side self.now.corners p) × (place_of self.now.side self.now.corners p ≡ number)) }
+        requires deep { is_deep self.now.side (number % (self.now.side * self.now.side)) ≡ true }
+        ensures value { result ≡ self.now.side }
+        ensures before { result + 1 ≤ number }
+        ensures after { number + result + 1 < 3112192240 }
+        ensures valid { AreWhole self.now }
+    {
+        let _drains = self.drains();
+        self.side().samples() as usize
+    }
+
+    // The places around any point.
+    fn places_over_edges(&self, point: Point) -> [Option<usize>; 8]
+        ensures { result ≡ map (place_beside self.now point) lattice_directions }
+    {
+        [
+            self.place_beside(point, Dir::East),
+            self.place_beside(point, Dir::SouthEast),
+            self.place_beside(point, Dir::South),
+            self.place_beside(point, Dir::SouthWest),
+            self.place_beside(point, Dir::West),
+            self.place_beside(point, Dir::NorthWest),
+            self.place_beside(point, Dir::North),
+            self.place_beside(point, Dir::NorthEast),
+        ]
+    }
+
+    fn place_beside(&self, point: Point, direction: Dir) -> Option<usize>
+        ensures { result ≡ place_beside self.now point direction }
+    {
+        let to = stepped(point, direction)?;
+        place(self.side(), self.corners(), to)
+    }
+
+    fn side(&self) -> Side
+        ensures { result ≡ self.now.side }
+    {
+        self.side
+    }
+
+    fn corners(&self) -> &[Corner]
+        ensures value { result.now ≡ self.now.corners }
+        ensures valid { AreWhole self.now }
+    {
+        &self.corners
+    }
+
+    fn drains(&self) -> &[Option<Dir>]
+        ensures value { result.now ≡ self.now.drains }
+        ensures valid { AreWhole self.now }
+    {
+        &self.drains
+    }
+
+    fn distances(&self) -> &[u32]
+        ensures value { result.now ≡ self.now.distances }
+        ensures valid { AreWhole self.now }
+    {
+        &self.distances
+    }
+
     /// The point's flow path: the point, then the one that it drains to, and so on, to one that drains off the mosaic.
     /// Empty where the point isn't ground. NoMemory is the only refusal.
     pub fn trace(&self, alloc: Global, point: Point) -> Result<Vec<Point>, Refusal>
@@ -118,5 +270,21 @@ impl Directions {
     {
         let direction = self.direction(point)?;
         stepped(point, direction)
+    }
+}
+
+// The direction of the step back.
+fn opposite(direction: Dir) -> Dir
+    ensures { result ≡ back_of direction }
+{
+    match direction {
+        Dir::East => Dir::West,
+        Dir::SouthEast => Dir::NorthWest,
+        Dir::South => Dir::North,
+        Dir::SouthWest => Dir::NorthEast,
+        Dir::West => Dir::East,
+        Dir::NorthWest => Dir::SouthEast,
+        Dir::North => Dir::South,
+        Dir::NorthEast => Dir::SouthWest,
     }
 }

@@ -1,15 +1,15 @@
 //! The filled levels of a mosaic.
 ghost use Rattle.std.specs.Prelude.{◌≡◌, ◌≤◌, ◌<◌, ◌*◌, IsTrue, IsSome, IfSome, MatchOption, SomeIff, length, ◌↔◌, ◌&&◌, not, if◌then◌else◌, true, slice_index_or, ◌%◌, ◌+◌};
-ghost use Rattle.std.specs.List.{AllAdjacentBelow, list_any};
+ghost use Rattle.std.specs.List.{AllAdjacentBelow};
 ghost use Rattle.lattice.specs.Corners.{is_before};
 ghost use Rattle.lattice.specs.Lattice.{IsBefore};
 ghost use Rattle.lattice.specs.Mosaic.{void, is_void};
 ghost use Rattle.lattice.specs.declared.point.Point.{Point};
-ghost use Rattle.flow_d8.specs.Levels.{AreLevels, is_held, is_holder, is_deep};
+ghost use Rattle.flow_d8.specs.Levels.{AreLevels, is_held, is_deep};
 ghost use Rattle.flow_d8.specs.Surface.{place_in, has_level, beside_of, around_of};
 
-use crate::place::{place, stepped};
-use lattice::{Corner, Dir, Point, Side, index_in, point_at};
+use crate::place::{place, share_tile, stepped};
+use lattice::{Corner, Dir, Point, Side, point_at};
 use std::marker::Model;
 
 // The most tiles that a store has room for.
@@ -83,6 +83,7 @@ impl Filled {
 
     /// The point with a level that has this place, if there is one: a point that several tiles hold has its place in
     /// the first of them.
+    #[inline(always)]
     pub(crate) fn site(&self, number: usize) -> Option<Point>
         requires { number < length self.now.levels }
         ensures { MatchOption result ((p : Point) → IsTrue (has_level self.now p) → place_in self.now p ≡ number → ⊥) (λ p. IsTrue (has_level self.now p) × (place_in self.now p ≡ number)) }
@@ -91,14 +92,18 @@ impl Filled {
             return None;
         }
         let point = self.point(number);
+        if lies_deep(self.side(), number) {
+            return Some(point);
+        }
         let first = place(self.side(), self.corners(), point)?;
         if first == number { Some(point) } else { None }
     }
 
-    // The point of a sample.
+    // The point of a sample. Where the sample lies deep in its tile, no other tile holds the point.
     fn point(&self, number: usize) -> Point
         requires { number < length self.now.levels }
-        ensures { (p : Point) → IsTrue (is_held self.now.side self.now.corners p) → place_in self.now p ≡ number → result ≡ p }
+        ensures first { (p : Point) → IsTrue (is_held self.now.side self.now.corners p) → place_in self.now p ≡ number → result ≡ p }
+        ensures deep { is_deep self.now.side (number % (self.now.side * self.now.side)) ≡ true → place_in self.now result ≡ number }
     {
         let area = self.side().area() as usize;
         let corners = self.corners();
@@ -106,13 +111,13 @@ impl Filled {
     }
 
     /// The places of the points that are adjacent to the one with this place, by direction in the order of codes.
+    #[inline(always)]
     pub(crate) fn around(&self, point: Point, number: usize) -> [Option<usize>; 8]
         requires level { IsTrue (has_level self.now point) }
         requires place { place_in self.now point ≡ number }
         ensures { result ≡ around_of self.now point }
     {
-        let n = self.side().samples() as usize;
-        if lies_deep(n, number % (n * n)) {
+        if lies_deep(self.side(), number) {
             self.around_inside(number)
         } else {
             self.around_edges(point)
@@ -120,6 +125,7 @@ impl Filled {
     }
 
     // The same for a point that isn't near the edges of its tile: all around it lies inside that tile alone.
+    #[inline(always)]
     fn around_inside(&self, number: usize) -> [Option<usize>; 8]
         requires site { (p : Point) × (IsTrue (has_level self.now p) × (place_in self.now p ≡ number)) }
         requires deep { is_deep self.now.side (number % (self.now.side * self.now.side)) ≡ true }
@@ -187,12 +193,14 @@ impl Filled {
     }
 }
 
-// Whether a sample of a tile lies at least two samples from its edges.
-fn lies_deep(n: usize, index: usize) -> bool
-    requires side { (3 ≤ n) × (n ≤ 3601) }
-    requires index { index < n * n }
-    ensures { result ≡ is_deep n index }
+/// Whether the sample with this number, where samples are numbered tile after tile, lies at least two samples from the
+/// edges of its tile.
+#[inline(always)]
+pub(crate) fn lies_deep(side: Side, number: usize) -> bool
+    ensures { result ≡ is_deep side (number % (side * side)) }
 {
+    let n = side.samples();
+    let index = (number % side.area() as usize) as u32;
     let row = index / n;
     let column = index % n;
     2 <= row && row + 3 <= n && 2 <= column && column + 3 <= n
@@ -225,21 +233,6 @@ pub(crate) fn same_level(levels: &[i16], number: usize, other: usize) -> bool
     ensures { IsTrue result ↔ (slice_index_or levels.now other void ≡ slice_index_or levels.now number void) }
 {
     levels[other] == levels[number]
-}
-
-// Whether some one tile holds both points.
-fn share_tile(side: Side, corners: &[Corner], point: Point, other: Point) -> bool
-    ensures { result ≡ list_any (λ c. is_holder side c point && is_holder side c other) corners.now }
-{
-    corners.iter().any(|corner| holds_point(side, *corner, point)
-        && holds_point(side, *corner, other))
-}
-
-fn holds_point(side: Side, corner: Corner, point: Point) -> bool
-    ensures { result ≡ is_holder side corner point }
-{
-    let _low = side.edge();
-    index_in(side, corner, point).is_some()
 }
 
 // Whether each corner comes after the one before it.

@@ -8,7 +8,7 @@ ghost use Rattle.lattice.specs.Ground.{terrain};
 ghost use Rattle.flow_d8.specs.Drainage.{AreFilledLevels};
 ghost use Rattle.flow_d8.specs.Levels.{IsFilledOf, IsOfNoMosaic};
 ghost use Rattle.flow_d8.specs.Surface.{place_in, has_level};
-ghost use Rattle.flow_d8.specs.Crossing.{unknown, distance_at, gaps, IsWave, IsBegun, IsFinishing, AreDownhill, AreDistances, AreDrained};
+ghost use Rattle.flow_d8.specs.Crossing.{unknown, distance_at, IsStart, IsBegun, IsFinishing, AreDownhill, AreDistances, AreDrained};
 ghost use Rattle.flow_d8.specs.Drained.{AreDirectionsOf};
 
 use crate::downhill::steepest;
@@ -16,7 +16,7 @@ use crate::drained::Directions;
 use crate::filled::Filled;
 use crate::flats::{UNKNOWN, cross, nearer};
 use lattice::{Dir, Refusal};
-use std::alloc::{AllocError, Global};
+use std::alloc::Global;
 
 /// The directions of all ground points, from their filled levels. Damaged where the levels aren't the filled levels of
 /// any mosaic; the other refusal is NoMemory.
@@ -43,67 +43,50 @@ fn drain(
     requires distances_whole { length distances.old ≡ length filled.now.levels }
     requires no_drains { (g : ℕ) → slice_index_or drains.old g None ≡ None }
     requires no_distances { (g : ℕ) → distance_at distances.old g ≡ unknown }
-    requires gaps { gaps distances.old ≡ length filled.now.levels }
     ensures drained { OnOk result (AreDrained filled.now drains.new) }
     ensures distances { OnOk result (AreDistances filled.now distances.new) }
     ensures known { OnOk result ((p : Point) → IsTrue (has_level filled.now p) → distance_at distances.new (place_in filled.now p) < unknown) }
     ensures refusal { IfErr result (λ r. (r ≡ NoMemory) ⊎ ((r ≡ Damaged) × IsOfNoMosaic filled.now)) }
 {
-    let wave = drain_downhill(alloc, filled, drains, distances)?;
-    cross(alloc, filled, distances, wave)?;
+    drain_downhill(filled, drains, distances);
+    cross(alloc, filled, distances)?;
     drain_flats(filled, drains, distances)?;
     Ok(())
 }
 
-// Drains each point that has a lower one beside it, and gives it and each outlet the distance 0. Returns their places.
-fn drain_downhill(
-    alloc: Global,
-    filled: &Filled,
-    drains: &mut [Option<Dir>],
-    distances: &mut [u32],
-) -> Result<Vec<u32>, AllocError>
+// Drains each point that has a lower one beside it, and gives it and each outlet the distance 0.
+fn drain_downhill(filled: &Filled, drains: &mut [Option<Dir>], distances: &mut [u32])
     requires drains_whole { length drains.old ≡ length filled.now.levels }
     requires distances_whole { length distances.old ≡ length filled.now.levels }
     requires no_drains { (g : ℕ) → slice_index_or drains.old g None ≡ None }
     requires no_distances { (g : ℕ) → distance_at distances.old g ≡ unknown }
-    requires gaps { gaps distances.old ≡ length filled.now.levels }
-    ensures downhill { OnOk result (AreDownhill filled.now drains.new) }
-    ensures wave { IfOk result (λ wave. IsWave filled.now distances.new 0 wave.items) }
-    ensures count { IfOk result (λ wave. gaps distances.new + length wave.items ≡ length filled.now.levels) }
+    ensures downhill { AreDownhill filled.now drains.new }
+    ensures distances { IsStart filled.now distances.new }
 {
     let count = filled.levels().len();
-    let mut wave = Vec::new(alloc);
     for number in 0..count {
-        begin(filled, drains, distances, number, &mut wave)?;
+        begin(filled, drains, distances, number);
     }
-    Ok(wave)
 }
 
-// Drains the point with this place, if there is one and it has a lower one beside it. It waits then, as an outlet does.
-fn begin(
-    filled: &Filled,
-    drains: &mut [Option<Dir>],
-    distances: &mut [u32],
-    number: usize,
-    wave: &mut Vec<u32>,
-) -> Result<(), AllocError>
-    requires state { IsBegun filled.now drains.old distances.old wave.old.items number }
+// Drains the point with this place, if there is one and it has a lower one beside it. It gets the distance 0 then, as an
+// outlet does.
+fn begin(filled: &Filled, drains: &mut [Option<Dir>], distances: &mut [u32], number: usize)
+    requires state { IsBegun filled.now drains.old distances.old number }
     requires number { number < length filled.now.levels }
-    ensures { OnOk result (IsBegun filled.now drains.new distances.new wave.new.items (number + 1)) }
+    ensures { IsBegun filled.now drains.new distances.new (number + 1) }
 {
     let _levels = filled.levels();
     let Some(point) = filled.site(number) else {
-        return Ok(());
+        return;
     };
     let around = filled.around(point, number);
     let way = steepest(filled, point, number, &around);
     if way.is_none() && is_enclosed(&around) {
-        return Ok(());
+        return;
     }
-    wave.push(number as u32)?;
     distances[number] = 0;
     drains[number] = way;
-    Ok(())
 }
 
 // Whether there is a point in each of the eight directions.
@@ -145,15 +128,15 @@ fn finish(
     ensures state { OnOk result (IsFinishing filled.now drains.new distances.now (number + 1)) }
     ensures damaged { IfErr result (λ r. (r ≡ Damaged) × IsOfNoMosaic filled.now) }
 {
+    let distance = distances[number];
+    if distance == 0 {
+        return Ok(());
+    }
     let Some(point) = filled.site(number) else {
         return Ok(());
     };
-    let distance = distances[number];
     if distance == UNKNOWN {
         return Err(Refusal::Damaged);
-    }
-    if distance == 0 {
-        return Ok(());
     }
     drains[number] = nearer(filled, distances, point, number, distance);
     Ok(())

@@ -5,7 +5,7 @@ ghost use Rattle.lattice.specs.declared.direction.Dir.{Dir};
 ghost use Rattle.lattice.specs.declared.point.Point.{Point};
 ghost use Rattle.flow_d8.specs.Drainage.{IsFirstNearer, IsNearer, IsFlatDistance};
 ghost use Rattle.flow_d8.specs.Surface.{place_in, level_at, has_level, adjoins, beside_of, surface};
-ghost use Rattle.flow_d8.specs.Crossing.{unknown, distance_at, gaps, AreKept, IsWave, IsSpreading, IsSpread, AreDistances};
+ghost use Rattle.flow_d8.specs.Crossing.{unknown, distance_at, gaps, AreKept, IsStart, IsWave, IsWayOut, IsReaching, IsSpreading, IsSpread, AreDistances};
 
 use crate::filled::{Filled, same_level};
 use lattice::{DIRECTIONS, Dir, Point};
@@ -14,25 +14,102 @@ use std::alloc::{AllocError, Global};
 /// The distance of a point whose distance isn't known.
 pub(crate) const UNKNOWN: u32 = u32::MAX;
 
-/// Gives each point that leads anywhere over its flat its distance, where the points of the first wave have theirs: 0.
-pub(crate) fn cross(
-    alloc: Global,
-    filled: &Filled,
-    distances: &mut [u32],
-    first: Vec<u32>,
-) -> Result<(), AllocError>
-    requires wave { IsWave filled.now distances.old 0 first.items }
-    requires room { gaps distances.old + length first.items ≤ length filled.now.levels }
+/// Gives each point that leads anywhere over its flat its distance, where those that drain downhill or off the mosaic
+/// have theirs: 0.
+pub(crate) fn cross(alloc: Global, filled: &Filled, distances: &mut [u32]) -> Result<(), AllocError>
+    requires { IsStart filled.now distances.old }
     ensures { OnOk result (AreDistances filled.now distances.new) }
 {
     let _levels = filled.levels();
-    let mut wave = first;
-    let mut reached = 0;
+    let mut wave = first_wave(alloc, filled, distances)?;
+    let mut reached = 1;
     'waves: while !wave.is_empty() {
         wave = next_wave(alloc, filled, distances, &wave, reached)?;
         reached += 1;
     }
     Ok(())
+}
+
+// The points of flats beside one of their level that drains downhill or off the mosaic: each gets the distance 1. Most
+// points drain downhill, so a look at all distances costs less than a step from each of those points.
+fn first_wave(alloc: Global, filled: &Filled, distances: &mut [u32]) -> Result<Vec<u32>, AllocError>
+    requires { IsStart filled.now distances.old }
+    ensures wave { IfOk result (λ wave. IsWave filled.now distances.new 1 wave.items) }
+    ensures count { IfOk result (λ wave. gaps distances.new + length wave.items ≤ length filled.now.levels) }
+{
+    let count = filled.levels().len();
+    let mut wave = Vec::new(alloc);
+    for number in 0..count {
+        reach(filled, distances, number, &mut wave)?;
+    }
+    Ok(wave)
+}
+
+// Gives the point with this place the distance 1, if there is one that has no distance and lies beside a way out.
+fn reach(
+    filled: &Filled,
+    distances: &mut [u32],
+    number: usize,
+    wave: &mut Vec<u32>,
+) -> Result<(), AllocError>
+    requires state { IsReaching filled.now distances.old wave.old.items number }
+    requires number { number < length filled.now.levels }
+    ensures state { OnOk result (IsReaching filled.now distances.new wave.new.items (number + 1)) }
+    ensures count { OnOk result (gaps distances.new + length wave.new.items ≡ gaps distances.old + length wave.old.items) }
+{
+    let _levels = filled.levels();
+    if distances[number] != UNKNOWN {
+        return Ok(());
+    }
+    let Some(point) = filled.site(number) else {
+        return Ok(());
+    };
+    if !has_way_out(filled, distances, point, number) {
+        return Ok(());
+    }
+    wave.push(number as u32)?;
+    distances[number] = 1;
+    Ok(())
+}
+
+// Whether a point beside this one has its level and the distance 0.
+fn has_way_out(filled: &Filled, distances: &[u32], point: Point, number: usize) -> bool
+    requires whole { length distances.now ≡ length filled.now.levels }
+    requires level { IsTrue (has_level filled.now point) }
+    requires place { place_in filled.now point ≡ number }
+    ensures { IsTrue result ↔ ((d : Dir) × IsWayOut filled.now distances.now point (step d point)) }
+{
+    let around = filled.around(point, number);
+    for i in 0..8 {
+        if is_way_out(filled, distances, point, number, DIRECTIONS[i], around[i]) {
+            return true;
+        }
+    }
+    false
+}
+
+// Whether the point one step away has the same level and the distance 0.
+fn is_way_out(
+    filled: &Filled,
+    distances: &[u32],
+    point: Point,
+    number: usize,
+    direction: Dir,
+    beside: Option<usize>,
+) -> bool
+    requires whole { length distances.now ≡ length filled.now.levels }
+    requires level { IsTrue (has_level filled.now point) }
+    requires place { place_in filled.now point ≡ number }
+    requires beside { beside ≡ beside_of filled.now point direction }
+    ensures { IsTrue result ↔ IsWayOut filled.now distances.now point (step direction point) }
+{
+    let Some(other) = beside else {
+        return false;
+    };
+    if !same_level(filled.levels(), number, other) {
+        return false;
+    }
+    distances[other] == 0
 }
 
 // The points that are first reached from those of a wave, which have this distance: each gets the next one.

@@ -1,5 +1,5 @@
 -- The texts of replies (this product's own profile).
-use Rattle.std.specs.Prelude.{ℕ, ◌+◌, ◌-ℤ◌, List, [], ◌∷◌, ◌++◌, Option, Some, None, Vec, codes, decimal, flat_map, length, nat_abs}
+use Rattle.std.specs.Prelude.{ℕ, ◌+◌, ◌-ℤ◌, List, [], ◌∷◌, ◌++◌, codes, decimal, flat_map, length, nat_abs}
 use Rattle.std.specs.Fmt.{signed_decimal}
 use Rattle.std.specs.List.{sum_by}
 use Rattle.std.specs.Coded.{Coded, coded_list, coded_ℕ}
@@ -53,11 +53,6 @@ run_count r = nat_abs (r.last -ℤ r.first) + 1
 -- how many points they have, how many runs there are, and a line for each
 abbrev pub runs_text : List Run → List ℕ
 runs_text runs = ok_line (decimal (sum_by run_count runs) ++ 32 ∷ decimal (length runs)) ++ flat_map run_line runs
-
--- the first line of a reply, and what follows it
-abbrev pub reply_of : {A : Type 0} → List ℕ → Option (Vec ℕ A) → List ℕ
-reply_of head None = head
-reply_of head (Some body) = head ++ body.items
 
 abbrev pub reply_code : Coded (List ℕ)
 reply_code = coded_list coded_ℕ

@@ -1,34 +1,44 @@
-//! Lines of numbers: points, and runs of points.
-ghost use Rattle.std.specs.Prelude.{◌≡◌, ◌++◌, ◌∷◌, [], IfOk, OnOk, flat_map};
+//! Names of tiles, and lines of numbers: points, and runs of points.
+ghost use Rattle.std.specs.Prelude.{◌≡◌, ◌++◌, ◌∷◌, [], OnOk, flat_map};
 ghost use Rattle.std.specs.Fmt.{signed_decimal};
 ghost use Rattle.std.specs.List.{sum_by};
-ghost use Rattle.lines.specs.Replies.{line_of, point_line, run_line, run_count};
+ghost use Rattle.lines.specs.Replies.{line_of, point_line, run_line, run_count, spaced_names};
 
+use hgt::name_text;
 use itoa::Buffer;
-use lattice::Point;
-use std::alloc::{AllocError, Global};
+use lattice::{Corner, Point};
+use std::alloc::AllocError;
 use watershed::Run;
 
-/// A line `y x` for each point.
-pub fn point_lines(alloc: Global, points: &[Point]) -> Result<Vec<u8>, AllocError>
-    ensures { IfOk result (λ v. v.items ≡ flat_map point_line points.now) }
+/// The text goes on by the tiles' names, each after a space.
+pub fn extend_names(text: &mut Vec<u8>, corners: &[Corner]) -> Result<(), AllocError>
+    ensures { OnOk result (text.new.items ≡ text.old.items ++ spaced_names corners.now) }
 {
-    let mut lines = Vec::new(alloc);
-    for point in points {
-        extend_point(&mut lines, *point)?;
+    for corner in corners {
+        text.push(b' ')?;
+        text.extend_from_slice(name_text(*corner).as_bytes())?;
     }
-    Ok(lines)
+    Ok(())
 }
 
-/// A line `y first last` for each run.
-pub fn run_lines(alloc: Global, runs: &[Run]) -> Result<Vec<u8>, AllocError>
-    ensures { IfOk result (λ v. v.items ≡ flat_map run_line runs.now) }
+/// The text goes on by a line `y x` for each point.
+pub fn extend_points(text: &mut Vec<u8>, points: &[Point]) -> Result<(), AllocError>
+    ensures { OnOk result (text.new.items ≡ text.old.items ++ flat_map point_line points.now) }
 {
-    let mut lines = Vec::new(alloc);
-    for run in runs {
-        extend_run(&mut lines, *run)?;
+    for point in points {
+        extend_point(text, *point)?;
     }
-    Ok(lines)
+    Ok(())
+}
+
+/// The text goes on by a line `y first last` for each run.
+pub fn extend_runs(text: &mut Vec<u8>, runs: &[Run]) -> Result<(), AllocError>
+    ensures { OnOk result (text.new.items ≡ text.old.items ++ flat_map run_line runs.now) }
+{
+    for run in runs {
+        extend_run(text, *run)?;
+    }
+    Ok(())
 }
 
 /// How many points the runs have.

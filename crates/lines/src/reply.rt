@@ -2,11 +2,10 @@
 //! reply ends in an LF.
 ghost use Rattle.std.specs.Prelude.{◌≡◌, ◌+◌, ◌≤◌, ℕ, List, [], ◌++◌, length, IfErr, IfOk, OnOk, OnErr, take, codes, decimal};
 ghost use Rattle.std.specs.Io.KnownBytes.{Appends};
-ghost use Rattle.lines.specs.Replies.{reply_code, reply_of, ok_line, done_text, spaced_names, names_line, path_text, refusal_text, runs_text};
+ghost use Rattle.lines.specs.Replies.{ok_line, done_text, names_line, path_text, refusal_text, runs_text};
 
-use crate::lists::{point_count, point_lines, run_lines};
+use crate::lists::{extend_names, extend_points, extend_runs, point_count};
 use arrayvec::ArrayVec;
-use hgt::name_text;
 use itoa::{Buffer, Integer};
 use lattice::{Corner, Point, Refusal};
 use std::alloc::{AllocError, Global};
@@ -14,22 +13,48 @@ use std::io::Write;
 use std::marker::Model;
 use watershed::Run;
 
-/// Room for the first line of any reply but a list of names: `OK`, 39 digits, 20 digits.
-const LONGEST_HEAD: usize = 64;
+/// Room for `OK`, a number and an LF, and for `ERR`, a refusal and an LF.
+const LONGEST_LINE: usize = 64;
 
-/// A reply, made whole.
+/// A reply, made whole before any of it is written.
+///
+/// One line of a bounded length needs no memory; `bytes`, `names`, `path` and `runs` do.
 #[derive(Drop)]
 pub struct Reply {
-    head: ArrayVec<u8, LONGEST_HEAD>,
-    body: Option<Vec<u8>>,
+    text: Text,
+}
+
+/// Where the text of a reply is held.
+#[derive(Drop)]
+enum Text {
+    Short(ArrayVec<u8, LONGEST_LINE>),
+    Long(Vec<u8>),
 }
 
 impl Model for Reply {
+    ghost use Rattle.std.specs.Prelude.{ℕ, List};
+    ghost use Rattle.lines.specs.Replies.{reply_code};
+
     ghost Value = { List ℕ };
 
     ghost coded = { reply_code };
 
-    ghost view = { λ r. reply_of r.head.items r.body };
+    ghost use Rattle.lines.specs.ReplyText.{text_of};
+
+    ghost view = { λ r. text_of r.text };
+}
+
+impl Text {
+    ghost use Rattle.lines.specs.ReplyText.{text_of};
+
+    fn as_slice(&self) -> &[u8]
+        ensures { result.now ≡ text_of self.now }
+    {
+        match self {
+            Text::Short(line) => line.as_slice(),
+            Text::Long(text) => text.as_slice(),
+        }
+    }
 }
 
 impl Reply {
@@ -37,10 +62,7 @@ impl Reply {
     pub fn done() -> Reply
         ensures { result ≡ done_text }
     {
-        Reply {
-            head: joined(b"OK", b"", b"\n"),
-            body: None,
-        }
+        Reply::line(joined(b"OK", b"", b"\n"))
     }
 
     /// `OK` and a number.
@@ -49,75 +71,14 @@ impl Reply {
     {
         let mut buffer = Buffer::new();
         let digits = buffer.format(number).as_bytes();
-        Reply {
-            head: joined(b"OK ", digits, b"\n"),
-            body: None,
-        }
+        Reply::line(joined(b"OK ", digits, b"\n"))
     }
 
     /// `OK void`, the height of a point that is void.
     pub fn void() -> Reply
         ensures { result ≡ ok_line (codes "void") }
     {
-        Reply {
-            head: joined(b"OK ", b"void", b"\n"),
-            body: None,
-        }
-    }
-
-    /// `OK`, the number of bytes, and the bytes themselves, with no LF after them.
-    pub fn bytes(bytes: Vec<u8>) -> Reply
-        ensures { result ≡ ok_line (decimal (length bytes.items)) ++ bytes.items }
-    {
-        let mut buffer = Buffer::new();
-        let digits = buffer.format(bytes.len()).as_bytes();
-        Reply {
-            head: joined(b"OK ", digits, b"\n"),
-            body: Some(bytes),
-        }
-    }
-
-    /// `OK`, the number of tiles, and their names.
-    pub fn names(alloc: Global, corners: &[Corner]) -> Result<Reply, AllocError>
-        ensures { IfOk result (λ r. r ≡ names_line corners.now) }
-    {
-        let mut buffer = Buffer::new();
-        let count = buffer.format(corners.len()).as_bytes();
-        let mut names = spaced_names(alloc, corners)?;
-        names.push(b'\n')?;
-        Ok(Reply {
-            head: joined(b"OK ", count, b""),
-            body: Some(names),
-        })
-    }
-
-    /// `OK` and the number of points, then a line `y x` for each.
-    pub fn path(alloc: Global, points: &[Point]) -> Result<Reply, AllocError>
-        ensures { IfOk result (λ r. r ≡ path_text points.now) }
-    {
-        let mut buffer = Buffer::new();
-        let count = buffer.format(points.len()).as_bytes();
-        let lines = point_lines(alloc, points)?;
-        Ok(Reply {
-            head: joined(b"OK ", count, b"\n"),
-            body: Some(lines),
-        })
-    }
-
-    /// `OK`, the number of the runs' points and that of the runs, then a line `y first last` for each run.
-    pub fn runs(alloc: Global, runs: &[Run]) -> Result<Reply, AllocError>
-        ensures { IfOk result (λ r. r ≡ runs_text runs.now) }
-    {
-        let mut points = Buffer::new();
-        let mut count = Buffer::new();
-        let lines = run_lines(alloc, runs)?;
-        let mut head = joined(b"OK ", points.format(point_count(runs)).as_bytes(), b" ");
-        extend(&mut head, count.format(runs.len()).as_bytes());
-        extend(&mut head, b"\n");
-        Ok(Reply {
-            head,
-            body: Some(lines),
-        })
+        Reply::line(joined(b"OK ", b"void", b"\n"))
     }
 
     /// `ERR`, the refusal's number and its word.
@@ -126,28 +87,85 @@ impl Reply {
     {
         let mut buffer = Buffer::new();
         let number = buffer.format(refusal.number()).as_bytes();
-        let mut head = joined(b"ERR ", number, b" ");
-        extend(&mut head, refusal.word().as_bytes());
-        extend(&mut head, b"\n");
-        Reply { head, body: None }
+        let mut line = joined(b"ERR ", number, b" ");
+        extend(&mut line, refusal.word().as_bytes());
+        extend(&mut line, b"\n");
+        Reply::line(line)
     }
-}
 
-/// The names of the tiles, each after a space.
-fn spaced_names(alloc: Global, corners: &[Corner]) -> Result<Vec<u8>, AllocError>
-    ensures { IfOk result (λ v. v.items ≡ spaced_names corners.now) }
-{
-    let mut names = Vec::new(alloc);
-    for corner in corners {
-        names.push(b' ')?;
-        names.extend_from_slice(name_text(*corner).as_bytes())?;
+    /// `OK`, the number of bytes, and the bytes themselves, with no LF after them.
+    pub fn bytes(alloc: Global, bytes: &[u8]) -> Result<Reply, AllocError>
+        ensures { IfOk result (λ r. r ≡ ok_line (decimal (length bytes.now)) ++ bytes.now) }
+    {
+        let mut buffer = Buffer::new();
+        let count = buffer.format(bytes.len()).as_bytes();
+        let head = joined(b"OK ", count, b"\n");
+        let mut text = Vec::with_capacity(alloc, head.len() + bytes.len())?;
+        text.extend_from_slice(head.as_slice())?;
+        text.extend_from_slice(bytes)?;
+        Ok(Reply::text(text))
     }
-    Ok(names)
+
+    /// `OK`, the number of tiles, and their names.
+    pub fn names(alloc: Global, corners: &[Corner]) -> Result<Reply, AllocError>
+        ensures { IfOk result (λ r. r ≡ names_line corners.now) }
+    {
+        let mut buffer = Buffer::new();
+        let count = buffer.format(corners.len()).as_bytes();
+        let head = joined(b"OK ", count, b"");
+        let mut text = Vec::from_slice(alloc, head.as_slice())?;
+        extend_names(&mut text, corners)?;
+        text.push(b'\n')?;
+        Ok(Reply::text(text))
+    }
+
+    /// `OK` and the number of points, then a line `y x` for each.
+    pub fn path(alloc: Global, points: &[Point]) -> Result<Reply, AllocError>
+        ensures { IfOk result (λ r. r ≡ path_text points.now) }
+    {
+        let mut buffer = Buffer::new();
+        let count = buffer.format(points.len()).as_bytes();
+        let head = joined(b"OK ", count, b"\n");
+        let mut text = Vec::from_slice(alloc, head.as_slice())?;
+        extend_points(&mut text, points)?;
+        Ok(Reply::text(text))
+    }
+
+    /// `OK`, the number of the runs' points and that of the runs, then a line `y first last` for each run.
+    pub fn runs(alloc: Global, runs: &[Run]) -> Result<Reply, AllocError>
+        ensures { IfOk result (λ r. r ≡ runs_text runs.now) }
+    {
+        let mut points = Buffer::new();
+        let mut count = Buffer::new();
+        let mut text = Vec::from_slice(alloc, b"OK ")?;
+        text.extend_from_slice(points.format(point_count(runs)).as_bytes())?;
+        text.push(b' ')?;
+        text.extend_from_slice(count.format(runs.len()).as_bytes())?;
+        text.push(b'\n')?;
+        extend_runs(&mut text, runs)?;
+        Ok(Reply::text(text))
+    }
+
+    fn line(line: ArrayVec<u8, LONGEST_LINE>) -> Reply
+        ensures { result ≡ line.items }
+    {
+        Reply {
+            text: Text::Short(line),
+        }
+    }
+
+    fn text(text: Vec<u8>) -> Reply
+        ensures { result ≡ text.items }
+    {
+        Reply {
+            text: Text::Long(text),
+        }
+    }
 }
 
 /// Three parts as one line.
-fn joined(first: &[u8], second: &[u8], third: &[u8]) -> ArrayVec<u8, LONGEST_HEAD>
-    requires { length first.now + length second.now + length third.now ≤ LONGEST_HEAD }
+fn joined(first: &[u8], second: &[u8], third: &[u8]) -> ArrayVec<u8, LONGEST_LINE>
+    requires { length first.now + length second.now + length third.now ≤ LONGEST_LINE }
     ensures { result.items ≡ first.now ++ second.now ++ third.now }
 {
     let mut line = ArrayVec::new();
@@ -158,8 +176,8 @@ fn joined(first: &[u8], second: &[u8], third: &[u8]) -> ArrayVec<u8, LONGEST_HEA
 }
 
 /// The line goes on by these bytes, for which it has room.
-fn extend(line: &mut ArrayVec<u8, LONGEST_HEAD>, more: &[u8])
-    requires { length line.old.items + length more.now ≤ LONGEST_HEAD }
+fn extend(line: &mut ArrayVec<u8, LONGEST_LINE>, more: &[u8])
+    requires { length line.old.items + length more.now ≤ LONGEST_LINE }
     ensures { line.new.items ≡ line.old.items ++ more.now }
 {
     let _ = line.try_extend_from_slice(more);
@@ -170,16 +188,13 @@ fn extend(line: &mut ArrayVec<u8, LONGEST_HEAD>, more: &[u8])
 pub struct WriteFault;
 
 impl Reply {
-    /// Writes the reply. After a fault a beginning of it was written.
+    /// Writes the reply, by one call of `write` where the writer takes it whole. After a fault a beginning of it was
+    /// written.
     pub fn write<W: Write>(&self, writer: &mut W) -> Result<(), WriteFault>
         ensures ok { OnOk result (Appends (W.contents writer.old) (W.contents writer.new) self.now) }
         ensures err { OnErr result ((n : ℕ) × Appends (W.contents writer.old) (W.contents writer.new) (take n self.now)) }
     {
-        write_bytes(writer, self.head.as_slice())?;
-        match &self.body {
-            Some(body) => write_bytes(writer, body.as_slice()),
-            None => Ok(()),
-        }
+        write_bytes(writer, self.text.as_slice())
     }
 }
 

@@ -248,8 +248,8 @@ fn texts_of_replies(rt: HostRuntime) -> Result<(), Fail> {
             .write(&mut output)
             .is_ok()
     );
-    let bytes = Vec::from_slice(rt.alloc(), b"\x00\x0a\xff")?;
-    assert!(rt; Reply::bytes(bytes).write(&mut output).is_ok());
+    let bytes = Reply::bytes(rt.alloc(), b"\x00\x0a\xff")?;
+    assert!(rt; bytes.write(&mut output).is_ok());
     assert!(rt;
         output.as_slice()
             == b"OK\nOK void\nOK -32767\nOK 18446744073709551615\nERR 7 Outside\nERR 33 BadCapacity\nOK 3\n\x00\n\xff".as_slice()

@@ -1,4 +1,5 @@
 pub mod CommandLineLemmas
 pub mod ProgramLemmas
 pub mod SessionLemmas
+pub mod StoreLemmas
 pub mod TableLemmas

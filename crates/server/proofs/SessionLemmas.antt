@@ -1,11 +1,11 @@
 -- Items that are heard one after another, and what is written for them.
-use Rattle.std.proofs.Common.{◌≡◌, ◌≢◌, ℕ, List, [], ◌∷◌, ◌++◌, length, Option, Some, None, refl, sym, ap, ◌∙◌, subst, append_assoc, inl, inr, ◌⊎◌}
-use Rattle.std.specs.Prelude.{IfSome, flat_map, All, Result, Ok, Err, Vec, option_map, nat_le, if◌then◌else◌, Bool, true, false}
+use Rattle.std.proofs.Common.{◌≡◌, ◌≢◌, ℕ, List, [], ◌∷◌, ◌++◌, length, Option, Some, None, refl, sym, ap, ◌∙◌, subst, append_assoc, arith, inl, inr, ◌⊎◌}
+use Rattle.std.specs.Prelude.{IfSome, flat_map, All, Contains, Result, Ok, Err, Vec, option_map, nat_le, if◌then◌else◌, Bool, true, false}
 use Rattle.std.specs.declared.alloc.Global.{Global}
 use Rattle.std.specs.Io.KnownBytes.{Appends, Consumes, IsAtEnd, prepend_known}
 use Rattle.std.proofs.KnownBytes.{Appends-nil, Appends-trans, Consumes-nil, Consumes-trans}
 use Rattle.std.proofs.lemmas.List.{append-nil}
-use Rattle.std.proofs.lemmas.List.Elements.{All-nil, All-push}
+use Rattle.std.proofs.lemmas.List.Elements.{All-nil, All-push, Contains-push, Contains-push_cases, Contains-append_left, Contains-append_right, Contains-append_cases}
 use Rattle.std.proofs.lemmas.Grind.{flat_map-append}
 use Rattle.edits.specs.State.{State}
 use Rattle.lines.specs.declared.request.Request.{Request}
@@ -20,7 +20,7 @@ use Rattle.lines.specs.Lines.{IsLine, line_feed, kept, Reaches}
 use Rattle.lines.specs.Requests.{asked, IsRequestOf}
 use Rattle.server.specs.Items.{Heard, spelled, AsksFor, payload_len, IsItem, GoesOn}
 use Rattle.server.specs.Answers.{Replied}
-use Rattle.server.specs.Served.{Replies, Ends, Served, Outcome}
+use Rattle.server.specs.Served.{last_of, Replies, Ends, AreItemsOf, Outcome}
 use Rattle.server.specs.Session.{Stored, Holds, Steps, SoFar}
 use Rattle.lines.proofs.WriteLemmas.{Appends-second}
 
@@ -65,58 +65,57 @@ pub begun_taken : (a b c : Option (List ℕ)) (text bytes : List ℕ) → Consum
 begun_taken a b c text bytes x y =
     subst (Consumes a c) (append_assoc text (10 ∷ []) bytes) (Consumes-trans a b c (text ++ (10 ∷ [])) bytes x y)
 
--- one more item and its reply
-pub replies_more : (n : ℕ) (s : State) (items : List Heard) (text : List ℕ) (mid : State) (i : Heard) (reply : List ℕ) (t : State)
-    → Replies n s items text mid → Replied n mid i reply t → Replies n s (items ++ i ∷ []) (text ++ reply) t
-replies_more n s [] text mid i reply t (e, m) q =
-    (t, reply, [], rw e (sym (append-nil reply)), subst (λ (z : State). Replied n z i reply t) m q, (refl, refl))
-replies_more n s (j ∷ js) text mid i reply t (next, first, more, e, p, rest) q =
-    (next, first, more ++ reply, ap (λ l. l ++ reply) e ∙ append_assoc first more reply, p, replies_more n next js more mid i reply t rest q)
+-- one item and its reply
+pub one_reply : (n : ℕ) (s : State) (i : Heard) (reply : List ℕ) (t : State) → Replied n s i reply t → Replies n s (i ∷ []) reply (t ∷ [])
+one_reply n s i reply t q = (reply, [], sym (append-nil reply), q, refl)
+
+-- some items and their replies, and then more
+replies_append : (n : ℕ) (s : State) (items more : List Heard) (text reply : List ℕ) (us vs : List State) → Replies n s items text us → Replies n (last_of s us) more reply vs
+    → Replies n s (items ++ more) (text ++ reply) (us ++ vs)
+replies_append n s [] more text reply [] vs e q = rw e q
+replies_append n s [] more text reply (t ∷ us) vs h q = absurd h
+replies_append n s (i ∷ is) more text reply [] vs h q = absurd h
+replies_append n s (i ∷ is) more text reply (t ∷ us) vs (first, rest, e, p, r) q =
+    (first, rest ++ reply, ap (λ l. l ++ reply) e ∙ append_assoc first rest reply, p, replies_append n t is more rest reply us vs r q)
 
 -- nothing is to come
-pub ends_none : (n : ℕ) (ahead : List ℕ) (r s : Option (List ℕ)) (old : Option (List ℕ)) (t : State) → Consumes old (prepend_known ahead s) [] → ahead ≡ [] → IsAtEnd s
-    → IfSome old (λ input. Ends n t input [] t)
-ends_none n ahead r s None t c e end = tt
-ends_none n ahead r None (Some xs) t c e end = absurd c
-ends_none n ahead r (Some ys) (Some xs) t c e end = inl (c ∙ rw (e, end) refl, refl, refl)
+pub ends_none : (ahead : List ℕ) (r old : Option (List ℕ)) → Consumes old (prepend_known ahead r) [] → ahead ≡ [] → IsAtEnd r → IfSome old (λ input. Ends input [])
+ends_none ahead r None c e end = tt
+ends_none ahead None (Some xs) c e end = absurd c
+ends_none ahead (Some ys) (Some xs) c e end = c ∙ rw (e, end) refl
 
 -- the last item, which the end of the input cuts short
-pub ends_cut : (n : ℕ) (old : Option (List ℕ)) (ahead : List ℕ) (r : Option (List ℕ)) (i : Heard) (s t : State) (reply : List ℕ) → Consumes old (prepend_known ahead r) (spelled i)
-    → ahead ≡ [] → IsAtEnd r → IsItem Cut i → Replied n s i reply t → IfSome old (λ input. Ends n s input reply t)
-ends_cut n None ahead r i s t reply c e end item q = tt
-ends_cut n (Some xs) ahead None i s t reply c e end item q = absurd c
-ends_cut n (Some xs) ahead (Some ys) i s t reply c e end item q =
+ends_cut : (old : Option (List ℕ)) (ahead : List ℕ) (r : Option (List ℕ)) (i : Heard) → Consumes old (prepend_known ahead r) (spelled i)
+    → ahead ≡ [] → IsAtEnd r → IsItem Cut i → IfSome old (λ input. Ends input (i ∷ []))
+ends_cut None ahead r i c e end item = tt
+ends_cut (Some xs) ahead None i c e end item = absurd c
+ends_cut (Some xs) ahead (Some ys) i c e end item =
     let nothing : ahead ++ ys ≡ [] = rw (e, end) refl in
-    inr (inl (i, item, c ∙ ap (λ l. spelled i ++ l) nothing ∙ append-nil (spelled i), q))
+    inl (item, c ∙ ap (λ l. spelled i ++ l) nothing ∙ append-nil (spelled i))
 
 -- quit, and whatever follows it
-pub ends_quit : (n : ℕ) (before after : Option (List ℕ)) (i : Heard) (s t : State) (reply : List ℕ) → Consumes before after (spelled i) → IsItem Whole i → i.asked ≡ Some AskQuit
-    → Replied n s i reply t → IfSome before (λ input. Ends n s input reply t)
-ends_quit n None after i s t reply c item e q = tt
-ends_quit n (Some xs) None i s t reply c item e q = absurd c
-ends_quit n (Some xs) (Some ys) i s t reply c item e q = inr (inr (i, ys, item, e, c, q))
+ends_quit : (before after : Option (List ℕ)) (i : Heard) → Consumes before after (spelled i) → IsItem Whole i → i.asked ≡ Some AskQuit → IfSome before (λ input. Ends input (i ∷ []))
+ends_quit None after i c item e = tt
+ends_quit (Some xs) None i c item e = absurd c
+ends_quit (Some xs) (Some ys) i c item e = inr (ys, item, e, c)
 
 -- the last item: the end of the input cuts it short, or it is quit
-pub ends_last : (n : ℕ) (old : Option (List ℕ)) (ahead : List ℕ) (r : Option (List ℕ)) (i : Heard) (e : Extent) (o : Option Asked) (s t : State) (reply : List ℕ)
-    → Consumes old (prepend_known ahead r) (spelled i) → o ≡ i.asked → IsItem e i → (e ≡ Cut → (ahead ≡ []) × IsAtEnd r) → (e ≡ Cut) ⊎ (o ≡ Some AskQuit)
-    → Replied n s i reply t → IfSome old (λ input. Ends n s input reply t)
-ends_last n old ahead r i Cut o s t reply c same item end last q = let none = end refl in ends_cut n old ahead r i s t reply c none.0 none.1 item q
-ends_last n old ahead r i Whole o s t reply c same item end (inl cut) q = absurd (cc)
-ends_last n old ahead r i Whole o s t reply c same item end (inr quit) q = ends_quit n old (prepend_known ahead r) i s t reply c item (sym same ∙ quit) q
+pub ends_last : (old : Option (List ℕ)) (ahead : List ℕ) (r : Option (List ℕ)) (i : Heard) (e : Extent) (o : Option Asked) → Consumes old (prepend_known ahead r) (spelled i)
+    → o ≡ i.asked → IsItem e i → (e ≡ Cut → (ahead ≡ []) × IsAtEnd r) → (e ≡ Cut) ⊎ (o ≡ Some AskQuit) → IfSome old (λ input. Ends input (i ∷ []))
+ends_last old ahead r i Cut o c same item end last = let none = end refl in ends_cut old ahead r i c none.0 none.1 item
+ends_last old ahead r i Whole o c same item end (inl cut) = absurd (cc)
+ends_last old ahead r i Whole o c same item end (inr quit) = ends_quit old (prepend_known ahead r) i c item (sym same ∙ quit)
 
 pub goes_on : (i : Heard) (e : Extent) (o : Option Asked) → o ≡ i.asked → IsItem e i → ((e ≡ Cut) ⊎ (o ≡ Some AskQuit) → ⊥) → GoesOn i
 goes_on i Cut o same item not_last = absurd (not_last (inl refl))
 goes_on i Whole o same item not_last = record { whole = item; on = (λ quit. not_last (inr (same ∙ quit))) }
 
 -- the items so far, and then the end
-served_end : (n : ℕ) (before after written mid new : Option (List ℕ)) (s m t : State) (items : List Heard) (text last : List ℕ)
-    → All GoesOn items → Consumes before after (flat_map spelled items) → Appends written mid text → Replies n s items text m
-    → Appends mid new last → IfSome after (λ input. Ends n m input last t)
-    → (output : List ℕ) × Appends written new output × IfSome before (λ input. Served n s input output t)
-served_end n None after written mid new s m t items text last each c w r v e = (text ++ last, Appends-trans written mid new text last w v, tt)
-served_end n (Some xs) None written mid new s m t items text last each c w r v e = absurd c
-served_end n (Some xs) (Some ys) written mid new s m t items text last each c w r v e =
-    (text ++ last, Appends-trans written mid new text last w v, (items, m, ys, text, last, each, c, refl, r, e))
+items_end : (before after : Option (List ℕ)) (items last : List Heard) → All GoesOn items → Consumes before after (flat_map spelled items)
+    → IfSome after (λ input. Ends input last) → IfSome before (λ input. AreItemsOf input (items ++ last))
+items_end None after items last each c e = tt
+items_end (Some xs) None items last each c e = absurd c
+items_end (Some xs) (Some ys) items last each c e = (items, last, ys, each, e, refl, c)
 
 one_spelled : (items : List Heard) (i : Heard) → flat_map spelled (items ++ i ∷ []) ≡ flat_map spelled items ++ spelled i
 one_spelled items i = flat_map-append spelled items (i ∷ []) ∙ ap (λ l. flat_map spelled items ++ l) (append-nil (spelled i))
@@ -126,31 +125,41 @@ none_ahead : (ahead : List ℕ) (r : Option (List ℕ)) → ahead ≡ [] → pre
 none_ahead ahead None e = refl
 none_ahead ahead (Some xs) e = rw e refl
 
-pub so_far_none : (n : ℕ) (ahead : List ℕ) (r w : Option (List ℕ)) (s : State) → ahead ≡ [] → SoFar n r (prepend_known ahead r) w w s s
+pub so_far_none : (n : ℕ) (ahead : List ℕ) (r w : Option (List ℕ)) (s : State) → ahead ≡ [] → SoFar n r (prepend_known ahead r) w w s []
 so_far_none n ahead r w s e =
-    ([], [], All-nil GoesOn, subst (λ l. Consumes r l []) (sym (none_ahead ahead r e)) (Consumes-nil r), Appends-nil w, (refl, refl))
+    ([], [], All-nil GoesOn, subst (λ l. Consumes r l []) (sym (none_ahead ahead r e)) (Consumes-nil r), Appends-nil w, refl)
 
 -- (a step's capacity is the one at the start)
-pub so_far_more : (l n : ℕ) (b a c w m v : Option (List ℕ)) (s u t : State) → l ≡ n → SoFar n b a w m s u → Steps l a c m v u t (Ok More) → SoFar n b c w v s t
-so_far_more l n b a c w m v s u t same (items, text, each, k, x, r) (i, reply, on, k2, x2, p) = let q = subst (λ (j : ℕ). Replied j u i reply t) same p in (
+same_capacity : (l n : ℕ) (s : State) (items : List Heard) (text : List ℕ) (states : List State) → l ≡ n → Replies l s items text states → Replies n s items text states
+same_capacity l n s items text states same r = subst (λ (k : ℕ). Replies k s items text states) same r
+
+pub so_far_more : (l n : ℕ) (b a c w m v : Option (List ℕ)) (s : State) (us vs : List State) → l ≡ n → SoFar n b a w m s us → Steps l a c m v (last_of s us) vs (Ok More)
+    → SoFar n b c w v s (us ++ vs)
+so_far_more l n b a c w m v s us vs same (items, text, each, k, x, r) (i, reply, on, k2, x2, p) = (
   items ++ i ∷ [],
   text ++ reply,
   All-push GoesOn items i each on,
   subst (Consumes b c) (sym (one_spelled items i)) (Consumes-trans b a c _ _ k k2),
   Appends-trans w m v _ _ x x2,
-  replies_more n s items text u i reply t r q,
+  replies_append n s items (i ∷ []) text reply us vs r (same_capacity l n (last_of s us) (i ∷ []) reply vs same p),
 )
 
-pub so_far_end : (l n : ℕ) (b a c d w m v : Option (List ℕ)) (s u t : State) → l ≡ n → SoFar n b a w m s u → Steps l a c m v u t (Ok End) → Outcome n b d w v s t (Ok tt)
-so_far_end l n b a c d w m v s u t same (items, text, each, k, x, r) (last, x2, e) =
-    served_end n b a w m v s u t items text last each k x r x2 (subst (λ (j : ℕ). IfSome a (λ input. Ends j u input last t)) same e)
+pub so_far_end : (l n : ℕ) (b a c d w m v : Option (List ℕ)) (s : State) (us vs : List State) → l ≡ n → SoFar n b a w m s us → Steps l a c m v (last_of s us) vs (Ok End)
+    → Outcome n b d w v s (us ++ vs) (Ok tt)
+so_far_end l n b a c d w m v s us vs same (items, text, each, k, x, r) (last, reply, e, x2, p) = (
+  items ++ last,
+  text ++ reply,
+  items_end b a items last each k e,
+  Appends-trans w m v text reply x x2,
+  replies_append n s items last text reply us vs r (same_capacity l n (last_of s us) last reply vs same p),
+)
 
 abbrev fault_of : ServeFault → Result Next ServeFault
 fault_of e = Err e
 
-pub so_far_fault : (l n : ℕ) (b a w m v : Option (List ℕ)) (ahead : List ℕ) (d : Option (List ℕ)) (s u t : State) (e : ServeFault) → l ≡ n → SoFar n b a w m s u
-    → (fault_of e ≡ fault_of Input → ahead ≡ []) → Steps l a (prepend_known ahead d) m v u t (Err e) → Outcome n b d w v s t (Err e)
-so_far_fault l n b a w m v ahead d s u t Input same (items, text, each, k, x, r) none (rest, begun, k2, x2, e) = (
+pub so_far_fault : (l n : ℕ) (b a w m v : Option (List ℕ)) (ahead : List ℕ) (d : Option (List ℕ)) (s : State) (us vs : List State) (e : ServeFault) → l ≡ n → SoFar n b a w m s us
+    → (fault_of e ≡ fault_of Input → ahead ≡ []) → Steps l a (prepend_known ahead d) m v (last_of s us) vs (Err e) → Outcome n b d w v s (us ++ vs) (Err e)
+so_far_fault l n b a w m v ahead d s us vs Input same (items, text, each, k, x, r) none (rest, begun, k2, x2, e) = (
   items,
   rest,
   text,
@@ -158,9 +167,48 @@ so_far_fault l n b a w m v ahead d s u t Input same (items, text, each, k, x, r)
   begun,
   subst (λ l. Consumes b l (flat_map spelled items ++ rest)) (none_ahead ahead d (none refl)) (Consumes-trans b a (prepend_known ahead d) _ _ k k2),
   subst (Appends w v) (append-nil text) (Appends-trans w m v text [] x x2),
-  subst (λ (z : State). Replies n s items text z) (sym e) r,
+  subst (λ (states : List State). Replies n s items text states) (sym (ap (λ l. us ++ l) e ∙ append-nil us)) r,
 )
-so_far_fault l n b a w m v ahead d s u t Output same (items, text, each, k, x, r) none (i, extent, reply, j, item, k2, x2, p) =
-    let q = subst (λ (c : ℕ). Replied c u i reply t) same p in
-    let more = Appends-second w m v text reply j x x2 in
-    (items, i, extent, text ++ reply, more.0, prepend_known ahead d, each, item, Consumes-trans b a (prepend_known ahead d) _ _ k k2, replies_more n s items text u i reply t r q, more.1)
+so_far_fault l n b a w m v ahead d s us vs Output same (items, text, each, k, x, r) none (i, extent, reply, j, item, k2, x2, p) =
+    let q = same_capacity l n (last_of s us) (i ∷ []) reply vs same p in
+    let more = Appends-second w m v text reply j x x2 in (
+      items,
+      i,
+      extent,
+      text ++ reply,
+      more.0,
+      prepend_known ahead d,
+      each,
+      item,
+      Consumes-trans b a (prepend_known ahead d) _ _ k k2,
+      replies_append n s items (i ∷ []) text reply us vs r q,
+      more.1,
+    )
+
+-- the state that a run and then another ends in
+pub last_of-append : (s : State) (us vs : List State) → last_of s (us ++ vs) ≡ last_of (last_of s us) vs
+last_of-append s [] vs = refl
+last_of-append s (t ∷ us) vs = last_of-append t us vs
+
+last_contained : (s : State) (us : List State) → Contains (s ∷ us) (last_of s us)
+last_contained s [] = Contains-push [] s
+last_contained s (t ∷ us) = Contains-append_right (s ∷ []) (t ∷ us) (last_of t us) (last_contained t us)
+
+only_one : (x y : State) → Contains (y ∷ []) x → y ≡ x
+only_one x y h = by (Contains-push_cases [] y x h)
+  where
+    by : Contains [] x ⊎ (y ≡ x) → y ≡ x
+    by (inl none) = absurd (let below = none.1 in omega (arith, below))
+    by (inr is) = is
+
+-- a run begins in the state that the one before it ends in
+pub run_joined : (s : State) (us vs : List State) (x : State) → Contains ((s ∷ us) ++ (last_of s us ∷ vs)) x → Contains (s ∷ (us ++ vs)) x
+run_joined s us vs x h = by (Contains-append_cases (s ∷ us) (last_of s us ∷ vs) x h)
+  where
+    later : Contains (last_of s us ∷ []) x ⊎ Contains vs x → Contains (s ∷ (us ++ vs)) x
+    later (inl last) = Contains-append_left (s ∷ us) vs x (subst (Contains (s ∷ us)) (only_one x (last_of s us) last) (last_contained s us))
+    later (inr more) = Contains-append_right (s ∷ us) vs x more
+
+    by : Contains (s ∷ us) x ⊎ Contains (last_of s us ∷ vs) x → Contains (s ∷ (us ++ vs)) x
+    by (inl before) = Contains-append_left (s ∷ us) vs x before
+    by (inr after) = later (Contains-append_cases (last_of s us ∷ []) vs x after)

@@ -9,6 +9,7 @@ use Rattle.hgt.specs.Names.{IsFileName}
 use Rattle.edits.specs.State.{State, fresh}
 use Rattle.lines.specs.Grammar.{IsNat}
 use Rattle.lines.specs.Replies.{line_of, ok_line, refusal_text}
+use Rattle.server.specs.Report.{IsReportText}
 use Rattle.server.specs.Served.{Outcome}
 use Rattle.server.specs.TableState.{working}
 use Rattle.server.specs.declared.arguments.Arguments.{Arguments}
@@ -122,10 +123,10 @@ EndsFlushing written new status =
 -- line tells which.
 abbrev pub EndsServing : ℕ → ℕ → Option (List ℕ) → Option (List ℕ) → Option (List ℕ) → Option (List ℕ) → ℕ → Type 0
 EndsServing side capacity before after written new status =
-    ((t : State) × Outcome capacity before after written new (working (fresh side)) t (Ok tt) × (status ≡ 0))
-    ⊎ ((t : State) × (mid : Option (List ℕ)) × Outcome capacity before after written mid (working (fresh side)) t (Ok tt)
+    ((states : List State) × Outcome capacity before after written new (working (fresh side)) states (Ok tt) × (status ≡ 0))
+    ⊎ ((states : List State) × (mid : Option (List ℕ)) × Outcome capacity before after written mid (working (fresh side)) states (Ok tt)
     × Begins mid new (fault_line Output) × (status ≡ 1))
-    ⊎ ((t : State) × (mid : Option (List ℕ)) × (fault : ServeFault) × Outcome capacity before after written mid (working (fresh side)) t (Err fault)
+    ⊎ ((states : List State) × (mid : Option (List ℕ)) × (fault : ServeFault) × Outcome capacity before after written mid (working (fresh side)) states (Err fault)
     × Begins mid new (fault_line fault) × (status ≡ 1))
 
 -- the side is tested first, then the capacity
@@ -176,8 +177,9 @@ RunsImport path tile written new status =
 abbrev pub RunsServe : List ℕ → Option (List ℕ) → Option (List ℕ) → ℕ → Type 0
 RunsServe path written new status = EndsClosed path written new status ⊎ (status ≤ 1)
 
+-- no contract sees what the file holds; over any disk `report` says on what the report is
 abbrev pub RunsCheck : List ℕ → Option (List ℕ) → Option (List ℕ) → ℕ → Type 0
-RunsCheck path written new status = EndsClosed path written new status ⊎ ((text : List ℕ) × EndsReplying text written new status)
+RunsCheck path written new status = EndsClosed path written new status ⊎ ((text : List ℕ) × IsReportText text × EndsReplying text written new status)
 
 abbrev pub RunsAs : Arguments → Option (List ℕ) → Option (List ℕ) → Option (List ℕ) → Option (List ℕ) → ℕ → Type 0
 RunsAs (Format path side capacity) before after written new status = (after ≡ before) × RunsFormat path.now side capacity written new status

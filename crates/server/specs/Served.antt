@@ -10,31 +10,36 @@ use Rattle.lines.specs.declared.source.Extent.TheVariants.{Whole, Cut}
 use Rattle.server.specs.declared.session.ServeFault.{ServeFault}
 use Rattle.server.specs.declared.session.ServeFault.TheVariants.{Input, Output}
 
--- the replies to the items in order, as one text
-abbrev pub Replies : ℕ → State → List Heard → List ℕ → State → Type 0
-Replies capacity s [] text t = (text ≡ []) × (t ≡ s)
-Replies capacity s (i ∷ is) text t = (mid : State) × (reply more : List ℕ) × (text ≡ reply ++ more) × Replied capacity s i reply mid × Replies capacity mid is more t
+-- the state that a run from s through these states ends in
+abbrev pub last_of : State → List State → State
+last_of s [] = s
+last_of s (t ∷ states) = last_of t states
+
+-- the replies to the items in order, as one text, and the states that they leave, one after each
+abbrev pub Replies : ℕ → State → List Heard → List ℕ → List State → Type 0
+Replies capacity s [] text [] = text ≡ []
+Replies capacity s (i ∷ is) text (t ∷ states) = (reply more : List ℕ) × (text ≡ reply ++ more) × Replied capacity s i reply t × Replies capacity t is more states
+Replies capacity s _ text _ = ⊥
 
 -- how an input ends: with nothing more, with an item that its end cuts short, or with quit and anything
-abbrev pub Ends : ℕ → State → List ℕ → List ℕ → State → Type 0
-Ends capacity s input text t =
-    ((input ≡ []) × (text ≡ []) × (t ≡ s))
-    ⊎ ((i : Heard) × IsItem Cut i × (input ≡ spelled i) × Replied capacity s i text t)
-    ⊎ ((i : Heard) × (rest : List ℕ) × IsItem Whole i × (i.asked ≡ Some AskQuit) × (input ≡ spelled i ++ rest) × Replied capacity s i text t)
+abbrev pub Ends : List ℕ → List Heard → Type 0
+Ends end [] = end ≡ []
+Ends end (i ∷ []) = (IsItem Cut i × (end ≡ spelled i)) ⊎ ((rest : List ℕ) × IsItem Whole i × (i.asked ≡ Some AskQuit) × (end ≡ spelled i ++ rest))
+Ends end _ = ⊥
 
--- the output for an input
-abbrev pub Served : ℕ → State → List ℕ → List ℕ → State → Type 0
-Served capacity s input output t = (items : List Heard) × (mid : State) × (end text last : List ℕ) × All GoesOn items
-    × (input ≡ flat_map spelled items ++ end) × (output ≡ text ++ last) × Replies capacity s items text mid × Ends capacity mid end last t
+-- the items of an input
+abbrev pub AreItemsOf : List ℕ → List Heard → Type 0
+AreItemsOf input items = (first last : List Heard) × (end : List ℕ) × All GoesOn first × Ends end last × (items ≡ first ++ last) × (input ≡ flat_map spelled first ++ end)
 
--- what serve answers for what the reader and the writer had before and have after
-abbrev pub Outcome : ℕ → Option (List ℕ) → Option (List ℕ) → Option (List ℕ) → Option (List ℕ) → State → State → Result (Unit {0}) ServeFault → Type 0
--- the whole output for the input
-Outcome capacity before after written new s t (Ok u) =
-    (output : List ℕ) × Appends written new output × IfSome before (λ input. Served capacity s input output t)
+-- what serve answers for what the reader and the writer had before and have after, and the states from s that it leads
+-- through, one after each item
+abbrev pub Outcome : ℕ → Option (List ℕ) → Option (List ℕ) → Option (List ℕ) → Option (List ℕ) → State → List State → Result (Unit {0}) ServeFault → Type 0
+-- the replies to the items of the input
+Outcome capacity before after written new s states (Ok u) = (items : List Heard) × (text : List ℕ)
+    × IfSome before (λ input. AreItemsOf input items) × Appends written new text × Replies capacity s items text states
 -- the replies to all items that were read whole; of the next a beginning was read, and nothing else
-Outcome capacity before after written new s t (Err Input) = (items : List Heard) × (rest text : List ℕ) × All GoesOn items × IsBegun rest
-    × Consumes before after (flat_map spelled items ++ rest) × Appends written new text × Replies capacity s items text t
+Outcome capacity before after written new s states (Err Input) = (items : List Heard) × (rest text : List ℕ) × All GoesOn items × IsBegun rest
+    × Consumes before after (flat_map spelled items ++ rest) × Appends written new text × Replies capacity s items text states
 -- a beginning of the replies to the items that were read
-Outcome capacity before after written new s t (Err Output) = (items : List Heard) × (i : Heard) × (extent : Extent) × (text : List ℕ) × (n : ℕ) × (left : Option (List ℕ))
-    × All GoesOn items × IsItem extent i × Consumes before left (flat_map spelled items ++ spelled i) × Replies capacity s (items ++ i ∷ []) text t × Appends written new (take n text)
+Outcome capacity before after written new s states (Err Output) = (items : List Heard) × (i : Heard) × (extent : Extent) × (text : List ℕ) × (n : ℕ) × (left : Option (List ℕ))
+    × All GoesOn items × IsItem extent i × Consumes before left (flat_map spelled items ++ spelled i) × Replies capacity s (items ++ i ∷ []) text states × Appends written new (take n text)

@@ -1,8 +1,7 @@
 -- An item as the server keeps it, and one step of a session.
-use Rattle.std.specs.Prelude.{◌≡◌, ℕ, List, [], take, flat_map, All, Option, Some, None, option_map, IfSome, Result, Ok, Err, Vec}
+use Rattle.std.specs.Prelude.{◌≡◌, ℕ, List, [], ◌∷◌, take, flat_map, All, Option, Some, None, option_map, IfSome, Result, Ok, Err, Vec}
 use Rattle.std.specs.Io.KnownBytes.{Consumes, Appends}
 use Rattle.edits.specs.State.{State}
-use Rattle.server.specs.Answers.{Replied}
 use Rattle.server.specs.Items.{Heard, spelled, IsItem, GoesOn, IsBegun}
 use Rattle.lines.specs.Requests.{asked}
 use Rattle.server.specs.Served.{Replies, Ends}
@@ -25,17 +24,18 @@ pub record Holds (kept : Item) (i : Heard) : Type 0 where
   pub item : IsItem kept.extent i
 
 -- one step, from what was to come and what was written before it to both after it
-abbrev pub Steps : ℕ → Option (List ℕ) → Option (List ℕ) → Option (List ℕ) → Option (List ℕ) → State → State → Result Next ServeFault → Type 0
-Steps capacity before after written new s t (Ok More) =
-    (i : Heard) × (text : List ℕ) × GoesOn i × Consumes before after (spelled i) × Appends written new text × Replied capacity s i text t
-Steps capacity before after written new s t (Ok End) =
-    (text : List ℕ) × Appends written new text × IfSome before (λ input. Ends capacity s input text t)
-Steps capacity before after written new s t (Err Input) =
-    (rest : List ℕ) × IsBegun rest × Consumes before after rest × Appends written new [] × (t ≡ s)
-Steps capacity before after written new s t (Err Output) =
-    (i : Heard) × (extent : Extent) × (text : List ℕ) × (n : ℕ) × IsItem extent i × Consumes before after (spelled i) × Appends written new (take n text) × Replied capacity s i text t
+abbrev pub Steps : ℕ → Option (List ℕ) → Option (List ℕ) → Option (List ℕ) → Option (List ℕ) → State → List State → Result Next ServeFault → Type 0
+Steps capacity before after written new s states (Ok More) =
+    (i : Heard) × (text : List ℕ) × GoesOn i × Consumes before after (spelled i) × Appends written new text × Replies capacity s (i ∷ []) text states
+Steps capacity before after written new s states (Ok End) =
+    (last : List Heard) × (text : List ℕ) × IfSome before (λ input. Ends input last) × Appends written new text × Replies capacity s last text states
+Steps capacity before after written new s states (Err Input) =
+    (rest : List ℕ) × IsBegun rest × Consumes before after rest × Appends written new [] × (states ≡ [])
+Steps capacity before after written new s states (Err Output) =
+    (i : Heard) × (extent : Extent) × (text : List ℕ) × (n : ℕ) × IsItem extent i × Consumes before after (spelled i) × Appends written new (take n text)
+    × Replies capacity s (i ∷ []) text states
 
 -- the items so far with their replies
-abbrev pub SoFar : ℕ → Option (List ℕ) → Option (List ℕ) → Option (List ℕ) → Option (List ℕ) → State → State → Type 0
-SoFar capacity before after written new s t = (items : List Heard) × (text : List ℕ) × All GoesOn items
-    × Consumes before after (flat_map spelled items) × Appends written new text × Replies capacity s items text t
+abbrev pub SoFar : ℕ → Option (List ℕ) → Option (List ℕ) → Option (List ℕ) → Option (List ℕ) → State → List State → Type 0
+SoFar capacity before after written new s states = (items : List Heard) × (text : List ℕ) × All GoesOn items
+    × Consumes before after (flat_map spelled items) × Appends written new text × Replies capacity s items text states

@@ -1,11 +1,26 @@
--- The state that an engine on a disk is in (this product's own profile).
-use Rattle.std.specs.Prelude.{◌≡◌}
+-- The state that an engine on a disk is in, and what a stop leaves of it (this product's own profile).
+use Rattle.std.specs.Prelude.{◌≡◌, ℕ, List, Contains}
+use Rattle.disk.specs.Disk.{Image}
+use Rattle.disk.specs.Stops.{LeavesOnly}
 use Rattle.disk.specs.declared.disk.Disk.{Ghosts}
 use Rattle.edits.specs.State.{State}
-use Rattle.store.specs.Stores.{IsAt, side_of}
+use Rattle.store.specs.States.{StandsForState}
+use Rattle.store.specs.Stores.{IsAt, disk_of, side_of, capacity_of}
 use Rattle.store.specs.declared.store.Store.{Store}
 
 -- the store is in this state, whose tiles have its side
 pub record IsStoreAt {D : Type 0} (g : Ghosts D) (store : Store D g) (s : State) : Type 0 where
   pub at : IsAt g store s
   pub same_side : s.contents.mosaic.side ≡ side_of store
+
+-- the image stands for the contents of one of the states, or for those of its commit in doubt
+abbrev pub StandsForOne : (sectors side capacity : ℕ) → List State → Image → Type 0
+StandsForOne sectors side capacity states image = (s : State) × Contains states s × StandsForState sectors side capacity image s
+
+-- A stop at any moment of the run from old to new leaves an image that stands for one of the states. Nothing that the
+-- reading of images rests on changes.
+pub record LeavesStates {D : Type 0} (g : Ghosts D) (old new : Store D g) (states : List State) : Type 0 where
+  pub size : g.size (disk_of new) ≡ g.size (disk_of old)
+  pub side : side_of new ≡ side_of old
+  pub capacity : capacity_of new ≡ capacity_of old
+  pub run : LeavesOnly g (disk_of old) (disk_of new) (StandsForOne (g.size (disk_of old)) (side_of old) (capacity_of old) states)

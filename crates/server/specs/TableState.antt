@@ -1,5 +1,5 @@
 -- The state that an engine in memory is in (this product's own profile).
-use Rattle.std.specs.Prelude.{ℕ, ◌<◌, false, None}
+use Rattle.std.specs.Prelude.{ℕ, ◌<◌, ◌≤◌, false, None, length}
 use Rattle.lattice.specs.Mosaic.{Mosaic, IsMosaic}
 use Rattle.catalogue.specs.Tiles.{corners_of}
 use Rattle.edits.specs.State.{Contents, State}
@@ -20,7 +20,9 @@ held_of capacity m k g = record { capacity = capacity; contents = contents_of m 
 abbrev pub working : Contents → State
 working contents = record { contents = contents; failed = false; doubt = None }
 
--- it is a mosaic, and commits come to one more than commands
-pub record IsKept (m : Mosaic) (k g : ℕ) : Type 0 where
+-- a mosaic of no more tiles than it takes, of which directions can be found; commits come to one more than commands
+pub record IsKept (capacity : ℕ) (m : Mosaic) (k g : ℕ) : Type 0 where
   pub valid : IsMosaic m
   pub above : k < g
+  pub within : length m.tiles ≤ capacity
+  pub few : capacity ≤ 240

@@ -1,5 +1,5 @@
 //! Answers items over an engine.
-ghost use Rattle.std.specs.Prelude.{◌≡◌, ◌<◌, ◌⊎◌, ℕ, List, length};
+ghost use Rattle.std.specs.Prelude.{◌≡◌, ◌<◌, ◌⊎◌, ℕ, List, [], ◌∷◌, length};
 ghost use Rattle.edits.specs.State.{State};
 ghost use Rattle.server.specs.Answers.{Replied, Commanded, AnswersImport, AnswersRemove, AnswersElevation, AnswersFill, AnswersDirection, AnswersTrace, AnswersWatershed, AnswersExport, AnswersTiles};
 ghost use Rattle.server.specs.Items.{Heard};
@@ -26,7 +26,8 @@ fn import<E: Engine>(
     ensures honest { E.is_honest engine.new → E.is_honest engine.old }
     ensures outcome { E.is_honest engine.new → (s : State) → E.is_at engine.old s → (bytes : List ℕ) → Stored payload bytes
         → (extent ≡ Extent.Whole → length bytes ≡ len) → (extent ≡ Extent.Cut → (length bytes < len) ⊎ (length bytes ≡ 0))
-        → (t : State) × E.is_at engine.new t × AnswersImport (E.capacity_of engine.old) s name.now len bytes result t }
+        → (t : State) × E.is_at engine.new t × E.leaves_only engine.old engine.new (s ∷ t ∷ [])
+        × AnswersImport (E.capacity_of engine.old) s name.now len bytes result t }
 {
     let Ok(corner) = name_of(name) else {
         return Reply::refused(Refusal::BadName);
@@ -47,7 +48,8 @@ fn remove<E: Engine>(engine: &mut E, name: &[u8]) -> Reply
     ensures capacity { E.capacity_of engine.new ≡ E.capacity_of engine.old }
     ensures honest { E.is_honest engine.new → E.is_honest engine.old }
     ensures outcome { E.is_honest engine.new → (s : State) → E.is_at engine.old s
-        → (t : State) × E.is_at engine.new t × AnswersRemove (E.capacity_of engine.old) s name.now result t }
+        → (t : State) × E.is_at engine.new t × E.leaves_only engine.old engine.new (s ∷ t ∷ [])
+        × AnswersRemove (E.capacity_of engine.old) s name.now result t }
 {
     let Ok(corner) = name_of(name) else {
         return Reply::refused(Refusal::BadName);
@@ -61,7 +63,8 @@ fn apply<E: Engine>(engine: &mut E, command: Command) -> Reply
     ensures capacity { E.capacity_of engine.new ≡ E.capacity_of engine.old }
     ensures honest { E.is_honest engine.new → E.is_honest engine.old }
     ensures outcome { E.is_honest engine.new → (s : State) → E.is_at engine.old s
-        → (t : State) × E.is_at engine.new t × Commanded (E.capacity_of engine.old) s command result t }
+        → (t : State) × E.is_at engine.new t × E.leaves_only engine.old engine.new (s ∷ t ∷ [])
+        × Commanded (E.capacity_of engine.old) s command result t }
 {
     match engine.apply(&command) {
         Ok(count) => Reply::number(count),
@@ -75,7 +78,8 @@ fn elevation<E: Engine>(engine: &mut E, point: Point) -> Reply
     ensures capacity { E.capacity_of engine.new ≡ E.capacity_of engine.old }
     ensures honest { E.is_honest engine.new → E.is_honest engine.old }
     ensures outcome { E.is_honest engine.new → (s : State) → E.is_at engine.old s
-        → (t : State) × E.is_at engine.new t × AnswersElevation s point result t }
+        → (t : State) × E.is_at engine.new t × E.leaves_only engine.old engine.new (s ∷ t ∷ [])
+        × AnswersElevation s point result t }
 {
     match engine.elevation(point) {
         Ok(Height::Outside) => Reply::refused(Refusal::Outside),
@@ -91,7 +95,8 @@ fn fill<E: Engine>(engine: &mut E, point: Point) -> Reply
     ensures capacity { E.capacity_of engine.new ≡ E.capacity_of engine.old }
     ensures honest { E.is_honest engine.new → E.is_honest engine.old }
     ensures outcome { E.is_honest engine.new → (s : State) → E.is_at engine.old s
-        → (t : State) × E.is_at engine.new t × AnswersFill s point result t }
+        → (t : State) × E.is_at engine.new t × E.leaves_only engine.old engine.new (s ∷ t ∷ [])
+        × AnswersFill s point result t }
 {
     match engine.fill(point) {
         Ok(level) => Reply::number(level),
@@ -105,7 +110,8 @@ fn direction<E: Engine>(engine: &mut E, point: Point) -> Reply
     ensures capacity { E.capacity_of engine.new ≡ E.capacity_of engine.old }
     ensures honest { E.is_honest engine.new → E.is_honest engine.old }
     ensures outcome { E.is_honest engine.new → (s : State) → E.is_at engine.old s
-        → (t : State) × E.is_at engine.new t × AnswersDirection s point result t }
+        → (t : State) × E.is_at engine.new t × E.leaves_only engine.old engine.new (s ∷ t ∷ [])
+        × AnswersDirection s point result t }
 {
     match engine.direction(point) {
         Ok(code) => Reply::number(code),
@@ -119,7 +125,8 @@ fn trace<E: Engine>(alloc: Global, engine: &mut E, point: Point) -> Reply
     ensures capacity { E.capacity_of engine.new ≡ E.capacity_of engine.old }
     ensures honest { E.is_honest engine.new → E.is_honest engine.old }
     ensures outcome { E.is_honest engine.new → (s : State) → E.is_at engine.old s
-        → (t : State) × E.is_at engine.new t × AnswersTrace s point result t }
+        → (t : State) × E.is_at engine.new t × E.leaves_only engine.old engine.new (s ∷ t ∷ [])
+        × AnswersTrace s point result t }
 {
     match engine.trace(point) {
         Ok(path) => match Reply::path(alloc, path.as_slice()) {
@@ -136,7 +143,8 @@ fn watershed<E: Engine>(alloc: Global, engine: &mut E, point: Point) -> Reply
     ensures capacity { E.capacity_of engine.new ≡ E.capacity_of engine.old }
     ensures honest { E.is_honest engine.new → E.is_honest engine.old }
     ensures outcome { E.is_honest engine.new → (s : State) → E.is_at engine.old s
-        → (t : State) × E.is_at engine.new t × AnswersWatershed s point result t }
+        → (t : State) × E.is_at engine.new t × E.leaves_only engine.old engine.new (s ∷ t ∷ [])
+        × AnswersWatershed s point result t }
 {
     match engine.watershed(point) {
         Ok(runs) => match Reply::runs(alloc, runs.as_slice()) {
@@ -148,18 +156,22 @@ fn watershed<E: Engine>(alloc: Global, engine: &mut E, point: Point) -> Reply
 }
 
 /// Answers with the bytes of a tile.
-fn export<E: Engine>(engine: &mut E, name: &[u8]) -> Reply
+fn export<E: Engine>(alloc: Global, engine: &mut E, name: &[u8]) -> Reply
     ensures side { E.side_of engine.new ≡ E.side_of engine.old }
     ensures capacity { E.capacity_of engine.new ≡ E.capacity_of engine.old }
     ensures honest { E.is_honest engine.new → E.is_honest engine.old }
     ensures outcome { E.is_honest engine.new → (s : State) → E.is_at engine.old s
-        → (t : State) × E.is_at engine.new t × AnswersExport s name.now result t }
+        → (t : State) × E.is_at engine.new t × E.leaves_only engine.old engine.new (s ∷ t ∷ [])
+        × AnswersExport s name.now result t }
 {
     let Ok(corner) = name_of(name) else {
         return Reply::refused(Refusal::BadName);
     };
     match engine.export(corner) {
-        Ok(bytes) => Reply::bytes(bytes),
+        Ok(bytes) => match Reply::bytes(alloc, bytes.as_slice()) {
+            Ok(reply) => reply,
+            Err(_) => Reply::refused(Refusal::NoMemory),
+        },
         Err(refusal) => Reply::refused(refusal),
     }
 }
@@ -183,7 +195,8 @@ pub fn answer<E: Engine>(alloc: Global, engine: &mut E, item: Item<'_>) -> Reply
     ensures capacity { E.capacity_of engine.new ≡ E.capacity_of engine.old }
     ensures honest { E.is_honest engine.new → E.is_honest engine.old }
     ensures outcome { E.is_honest engine.new → (s : State) → E.is_at engine.old s → (i : Heard) → Holds item.entry i
-        → (t : State) × E.is_at engine.new t × Replied (E.capacity_of engine.old) s i result t }
+        → (t : State) × E.is_at engine.new t × E.leaves_only engine.old engine.new (s ∷ t ∷ [])
+        × Replied (E.capacity_of engine.old) s i result t }
 {
     let Item {
         request,
@@ -203,7 +216,7 @@ pub fn answer<E: Engine>(alloc: Global, engine: &mut E, item: Item<'_>) -> Reply
         Some(Request::Direction(point)) => direction(engine, point),
         Some(Request::Trace(point)) => trace(alloc, engine, point),
         Some(Request::Watershed(point)) => watershed(alloc, engine, point),
-        Some(Request::Export { name }) => export(engine, name),
+        Some(Request::Export { name }) => export(alloc, engine, name),
         Some(Request::Tiles) => tiles(alloc, engine),
         Some(Request::Count) => Reply::number(engine.count()),
         Some(Request::Quit) => Reply::done(),

@@ -103,6 +103,7 @@ fn serve_table<R: Read, W: Write>(
     reader: &mut R,
     writer: &mut W,
 ) -> u8
+    requires { capacity ≤ MOST_TILES }
     ensures { EndsServing side capacity (R.remaining reader.old) (R.remaining reader.new) (W.contents writer.old) (W.contents writer.new) result }
 {
     let mut engine = TableEngine::new(alloc, side, capacity);

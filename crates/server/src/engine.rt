@@ -1,5 +1,5 @@
 //! What lines need of a store.
-ghost use Rattle.std.specs.Prelude.{◌≡◌, ◌≢◌, ◌≤◌, ℕ, Err};
+ghost use Rattle.std.specs.Prelude.{◌≡◌, ◌≢◌, ◌≤◌, ℕ, List, [], ◌∷◌, ◌++◌, Contains, Err};
 ghost use Rattle.lattice.specs.declared.refusal.Refusal.TheVariants.{Device};
 ghost use Rattle.catalogue.specs.Reading.{HasRisen};
 ghost use Rattle.edits.specs.State.{State};
@@ -23,6 +23,10 @@ pub trait Engine {
     /// That it is in this state.
     ghost is_at: { Self → State → Type 0 };
 
+    /// A stop (a power cut) at any moment from the first to the second, also inside a call, leaves the contents of one of
+    /// these states, or those of its commit in doubt, and nothing else.
+    ghost leaves_only: { Self → Self → List State → Type 0 };
+
     /// The side of its tiles.
     ghost side_of: { Self → ℕ };
 
@@ -45,7 +49,8 @@ pub trait Engine {
         ensures device { result ≡ Err Device → HasRisen (failures self.old) (failures self.new) }
         ensures honest { is_honest self.new → is_honest self.old }
         ensures outcome { is_honest self.new → (s : State) → is_at self.old s
-            → (t : State) × (is_at self.new t × Applies (capacity_of self.old) s command.now result t) };
+            → (t : State) × is_at self.new t × leaves_only self.old self.new (s ∷ t ∷ [])
+            × Applies (capacity_of self.old) s command.now result t };
 
     /// The height of a point.
     fn elevation(&mut self, point: Point) -> Result<Height, Refusal>
@@ -55,7 +60,7 @@ pub trait Engine {
         ensures device { result ≡ Err Device → HasRisen (failures self.old) (failures self.new) }
         ensures honest { is_honest self.new → is_honest self.old }
         ensures outcome { is_honest self.new → (s : State) → is_at self.old s
-            → (t : State) × (is_at self.new t × Elevates s point result t) };
+            → (t : State) × is_at self.new t × leaves_only self.old self.new (s ∷ t ∷ []) × Elevates s point result t };
 
     /// The filled level of a point, in metres.
     fn fill(&mut self, point: Point) -> Result<i16, Refusal>
@@ -65,7 +70,7 @@ pub trait Engine {
         ensures device { result ≡ Err Device → HasRisen (failures self.old) (failures self.new) }
         ensures honest { is_honest self.new → is_honest self.old }
         ensures outcome { is_honest self.new → (s : State) → is_at self.old s
-            → (t : State) × (is_at self.new t × Fills s point result t) };
+            → (t : State) × is_at self.new t × leaves_only self.old self.new (s ∷ t ∷ []) × Fills s point result t };
 
     /// The code of a point's direction, 0 where water leaves the mosaic.
     fn direction(&mut self, point: Point) -> Result<u8, Refusal>
@@ -75,7 +80,7 @@ pub trait Engine {
         ensures device { result ≡ Err Device → HasRisen (failures self.old) (failures self.new) }
         ensures honest { is_honest self.new → is_honest self.old }
         ensures outcome { is_honest self.new → (s : State) → is_at self.old s
-            → (t : State) × (is_at self.new t × Directs s point result t) };
+            → (t : State) × is_at self.new t × leaves_only self.old self.new (s ∷ t ∷ []) × Directs s point result t };
 
     /// The flow path of a point.
     fn trace(&mut self, point: Point) -> Result<Vec<Point>, Refusal>
@@ -85,7 +90,7 @@ pub trait Engine {
         ensures device { result ≡ Err Device → HasRisen (failures self.old) (failures self.new) }
         ensures honest { is_honest self.new → is_honest self.old }
         ensures outcome { is_honest self.new → (s : State) → is_at self.old s
-            → (t : State) × (is_at self.new t × Traces s point (items_in result) t) };
+            → (t : State) × is_at self.new t × leaves_only self.old self.new (s ∷ t ∷ []) × Traces s point (items_in result) t };
 
     /// The watershed of a point, as runs.
     fn watershed(&mut self, point: Point) -> Result<Vec<Run>, Refusal>
@@ -95,7 +100,7 @@ pub trait Engine {
         ensures device { result ≡ Err Device → HasRisen (failures self.old) (failures self.new) }
         ensures honest { is_honest self.new → is_honest self.old }
         ensures outcome { is_honest self.new → (s : State) → is_at self.old s
-            → (t : State) × (is_at self.new t × Sheds s point (items_in result) t) };
+            → (t : State) × is_at self.new t × leaves_only self.old self.new (s ∷ t ∷ []) × Sheds s point (items_in result) t };
 
     /// The HGT bytes of a tile's own samples.
     fn export(&mut self, corner: Corner) -> Result<Vec<u8>, Refusal>
@@ -105,7 +110,7 @@ pub trait Engine {
         ensures device { result ≡ Err Device → HasRisen (failures self.old) (failures self.new) }
         ensures honest { is_honest self.new → is_honest self.old }
         ensures outcome { is_honest self.new → (s : State) → is_at self.old s
-            → (t : State) × (is_at self.new t × Exports s corner (items_in result) t) };
+            → (t : State) × is_at self.new t × leaves_only self.old self.new (s ∷ t ∷ []) × Exports s corner (items_in result) t };
 
     /// The corners of the present tiles, in order. They are held in memory, so that no disk refuses.
     fn tiles(&self) -> Result<Vec<Corner>, Refusal>
@@ -115,6 +120,17 @@ pub trait Engine {
     /// How many commands were accepted, as last known.
     fn count(&self) -> u64
         ensures { (s : State) → is_at self.now s → result ≡ s.contents.count };
+
+    /// Where nothing was done a stop leaves what the state that it is in allows.
+    ghost stays: { (e : Self) (s : State) (others : List State) → is_honest e → is_at e s → leaves_only e e (s ∷ others) };
+
+    /// One run, and then another.
+    ghost in_turn: { (first mid last : Self) (states more : List State)
+        → leaves_only first mid states → leaves_only mid last more → leaves_only first last (states ++ more) };
+
+    /// A run that leaves one of these states leaves one of those among which they all are.
+    ghost weaker: { (first last : Self) (states more : List State)
+        → ((s : State) → Contains states s → Contains more s) → leaves_only first last states → leaves_only first last more };
 
     /// A state's tiles have the store's side.
     ghost same_side: { (e : Self) (s : State) → is_at e s → s.contents.mosaic.side ≡ side_of e };

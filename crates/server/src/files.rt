@@ -6,12 +6,12 @@ ghost use Rattle.server.specs.CommandLine.{EndsClosed, RunsCheck, RunsFormat, Ru
 use crate::commands::{
     MOST_TILES, REFUSED, end_with, fault_line, flush, refuse, reply, reply_text, tile_side,
 };
+use crate::reporting::report;
 use crate::session::serve;
-use disk::{Disk, FileDisk};
+use disk::FileDisk;
 use edits::{Bytes, Command};
-use hgt::{file_name, name_text};
-use itoa::Buffer;
-use lattice::{Corner, Refusal};
+use hgt::file_name;
+use lattice::Refusal;
 use lines::Reply;
 use page_codec::sectors_needed;
 use std::alloc::{AllocError, Global};
@@ -169,48 +169,6 @@ fn fill<R: Read>(reader: &mut R, bytes: &mut [u8]) -> Option<usize> {
         }
     }
     Some(at)
-}
-
-// The lines of a report.
-fn report<D: Disk>(alloc: Global, store: &mut Store<D>) -> Result<Vec<u8>, Refusal> {
-    let corners = store.tiles()?;
-    let seams = store.seams()?;
-    let text = report_of(
-        alloc,
-        store.count(),
-        store.commits(),
-        corners.as_slice(),
-        seams,
-    )?;
-    Ok(text)
-}
-
-fn report_of(
-    alloc: Global,
-    count: u64,
-    commits: u64,
-    corners: &[Corner],
-    seams: u64,
-) -> Result<Vec<u8>, AllocError> {
-    let mut text = Vec::new(alloc);
-    push_number(&mut text, b"count ", count)?;
-    push_number(&mut text, b" commits ", commits)?;
-    for corner in corners {
-        text.push(b'\n')?;
-        text.extend_from_slice(name_text(*corner).as_bytes())?;
-        // No planes are kept yet.
-        text.extend_from_slice(b" stale")?;
-    }
-    push_number(&mut text, b"\nseams ", seams)?;
-    text.push(b'\n')?;
-    Ok(text)
-}
-
-// The text goes on by the words and the number.
-fn push_number(text: &mut Vec<u8>, words: &[u8], number: u64) -> Result<(), AllocError> {
-    let mut buffer = Buffer::new();
-    text.extend_from_slice(words)?;
-    text.extend_from_slice(buffer.format(number).as_bytes())
 }
 
 // Tells in one line what is wrong at a path.

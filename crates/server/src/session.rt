@@ -1,8 +1,8 @@
 //! Serves items, one after another: each is heard, answered, and its reply written.
-ghost use Rattle.std.specs.Prelude.{◌≡◌, ◌<◌, Ok, Err, []};
+ghost use Rattle.std.specs.Prelude.{◌≡◌, ◌<◌, List, [], ◌∷◌, Ok, Err};
 ghost use Rattle.edits.specs.State.{State};
 ghost use Rattle.lines.specs.Ahead.{to_come, weight};
-ghost use Rattle.server.specs.Served.{Outcome};
+ghost use Rattle.server.specs.Served.{Outcome, last_of};
 ghost use Rattle.server.specs.Session.{Steps};
 
 use crate::answering::answer;
@@ -43,9 +43,10 @@ fn step<R: Read, W: Write, E: Engine>(
     ensures side { E.side_of engine.new ≡ E.side_of engine.old }
     ensures capacity { E.capacity_of engine.new ≡ E.capacity_of engine.old }
     ensures honest { E.is_honest engine.new → E.is_honest engine.old }
-    ensures outcome { E.is_honest engine.new → (s : State) → E.is_at engine.old s → (t : State) × E.is_at engine.new t
+    ensures outcome { E.is_honest engine.new → (s : State) → E.is_at engine.old s
+        → (states : List State) × E.is_at engine.new (last_of s states) × E.leaves_only engine.old engine.new (s ∷ states)
         × Steps (E.capacity_of engine.old) (to_come ahead.old (R.remaining reader.old)) (to_come ahead.new (R.remaining reader.new))
-        (W.contents writer.old) (W.contents writer.new) s t result }
+        (W.contents writer.old) (W.contents writer.new) s states result }
     ensures spent { result ≡ Ok Next.More → weight ahead.new < weight ahead.old }
     ensures none_ahead { result ≡ Err ServeFault.Input → ahead.new.bytes ≡ [] }
 {
@@ -74,6 +75,9 @@ fn step<R: Read, W: Write, E: Engine>(
 ///
 /// How the reader cuts the bytes makes no difference. A fault leaves the accepted commands accepted. After `Input` the
 /// replies to all items read whole are written; after `Output` a beginning of the replies.
+///
+/// A power cut at any moment since the start leaves the contents that the store had at the start or after one of the
+/// items, or the commit that was then in doubt.
 pub fn serve<R: Read, W: Write, E: Engine>(
     alloc: Global,
     reader: &mut R,
@@ -83,8 +87,13 @@ pub fn serve<R: Read, W: Write, E: Engine>(
     ensures side { E.side_of engine.new ≡ E.side_of engine.old }
     ensures capacity { E.capacity_of engine.new ≡ E.capacity_of engine.old }
     ensures honest { E.is_honest engine.new → E.is_honest engine.old }
-    ensures outcome { E.is_honest engine.new → (s : State) → E.is_at engine.old s → (t : State) × E.is_at engine.new t
-        × Outcome (E.capacity_of engine.old) (R.remaining reader.old) (R.remaining reader.new) (W.contents writer.old) (W.contents writer.new) s t result }
+
+    // The run: the states that the items lead through. A stop at any moment leaves the contents of one of them, or of its
+    // commit in doubt.
+    ensures outcome { E.is_honest engine.new → (s : State) → E.is_at engine.old s
+        → (states : List State) × E.is_at engine.new (last_of s states) × E.leaves_only engine.old engine.new (s ∷ states)
+        × Outcome (E.capacity_of engine.old) (R.remaining reader.old) (R.remaining reader.new)
+        (W.contents writer.old) (W.contents writer.new) s states result }
 {
     let mut ahead = Ahead::new(alloc);
     let mut line = Line::new();

@@ -1,7 +1,7 @@
 use crate::{ServeFault, TableEngine, program, serve};
 use lattice::Side;
 use std::alloc::Global;
-use std::io::{self, Read};
+use std::io::{self, Read, Write};
 use std::test::Fail;
 
 /// 9 9 9 / 9 1 9 / 9 9 5, rows from the north.
@@ -47,6 +47,23 @@ impl Read for Broken<'_> {
     }
 }
 
+/// Takes all that it is given, and counts the calls.
+#[derive(Drop)]
+struct Counting {
+    writes: u32,
+}
+
+impl Write for Counting {
+    fn write(&mut self, buf: &[u8]) -> io::Result<usize> {
+        self.writes = self.writes.saturating_add(1);
+        Ok(buf.len())
+    }
+
+    fn flush(&mut self) -> io::Result<()> {
+        Ok(())
+    }
+}
+
 pub fn joined(alloc: Global, parts: &[&[u8]]) -> Result<Vec<u8>, Fail> {
     let mut all = Vec::new(alloc);
     for part in parts {
@@ -57,7 +74,7 @@ pub fn joined(alloc: Global, parts: &[&[u8]]) -> Result<Vec<u8>, Fail> {
 
 fn empty(alloc: Global, capacity: u32) -> Result<TableEngine, Fail> {
     let side = Side::new(3).ok_or("a side")?;
-    Ok(TableEngine::new(alloc, side, capacity))
+    Ok(TableEngine::new(alloc, side, capacity.min(240)))
 }
 
 pub fn replies(alloc: Global, capacity: u32, parts: &[&[u8]]) -> Result<Vec<u8>, Fail> {
@@ -186,6 +203,22 @@ fn a_writer_that_fails_at_each_byte(rt: HostRuntime) -> Result<(), Fail> {
         assert!(rt; served == Err(ServeFault::Output));
         assert!(rt; bytes.as_slice() == &SESSION[..room]);
     }
+    Ok(())
+}
+
+#[test]
+fn a_write_for_each_reply(rt: HostRuntime) -> Result<(), Fail> {
+    let parts: [&[u8]; 3] = [
+        b"import N00E000 18\n",
+        TILE,
+        b"export N00E000\ntiles\ntrace 0 0\nwatershed 0 2\nelev 9 9\n",
+    ];
+    let input = joined(rt.alloc(), &parts)?;
+    let mut engine = empty(rt.alloc(), 4)?;
+    let mut reader = input.as_slice();
+    let mut writer = Counting { writes: 0 };
+    serve(rt.alloc(), &mut reader, &mut writer, &mut engine)?;
+    assert_eq!(rt; writer.writes, 6);
     Ok(())
 }
 

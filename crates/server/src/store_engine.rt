@@ -1,4 +1,8 @@
 //! A store on a disk, as an engine.
+//!
+//! So `serve` over a store promises through power cuts: each image that a stop may have left at any moment since its start,
+//! inside a call of the disk or between two, stands for the contents that the store had at the start or after one of the
+//! items, or for those of the commit then in doubt. What the next opening makes of such an image is the contract of `Store`.
 ghost use Rattle.std.specs.Prelude.{◌≡◌};
 
 use crate::engine::Engine;
@@ -9,19 +13,30 @@ use store::Store;
 use watershed::Run;
 
 impl<D: Disk> Engine for Store<D> {
-    ghost use Rattle.std.specs.Prelude.{◌≡◌, ◌≤◌, Err};
+    ghost use Rattle.std.specs.Prelude.{◌≡◌, ◌≤◌, List, [], ◌∷◌, Err};
     ghost use Rattle.store.specs.Stores.{disk_of, side_of, capacity_of};
-    ghost use Rattle.server.specs.StoreState.{IsStoreAt};
+    ghost use Rattle.server.specs.StoreState.{IsStoreAt, LeavesStates};
+    ghost use Rattle.server.specs.StoreRuns.{nothing_done, one_by_one, among_more};
 
     ghost is_honest = { λ e. D.honest (disk_of e) };
 
     ghost is_at = { λ e s. IsStoreAt D.Disk e s };
+
+    // Each image that a stop leaves on the disk stands for the contents of one of the states, or for those of its commit in
+    // doubt.
+    ghost leaves_only = { λ first last states. LeavesStates D.Disk first last states };
 
     ghost side_of = { λ e. side_of e };
 
     ghost capacity_of = { λ e. capacity_of e };
 
     ghost failures = { λ e. D.failures (disk_of e) };
+
+    ghost stays = { λ e s others honest at. nothing_done e s others (λ image. D.only_now (disk_of e) image) honest at };
+
+    ghost in_turn = { λ first mid last states more before after. one_by_one first mid last states more before after };
+
+    ghost weaker = { λ first last states more among before. among_more first last states more among before };
 
     ghost same_side = { λ e s at. at.same_side };
 

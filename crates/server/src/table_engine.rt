@@ -1,18 +1,14 @@
 //! A mosaic in memory, as an engine.
-ghost use Rattle.std.specs.Prelude.{◌≡◌, ◌≤◌, IsTrue, length};
-ghost use Rattle.catalogue.specs.Tiles.{corners_of};
+ghost use Rattle.std.specs.Prelude.{◌≡◌, ◌≤◌};
 ghost use Rattle.edits.specs.State.{fresh};
 
 use crate::engine::Engine;
 use catalogue::{Samples, Table, height};
-use edits::{Command, carry_out, plan};
+use edits::{Command, carry_out, commands_make_mosaics, plan};
 use lattice::{Corner, Height, Point, Refusal, Side};
 use std::alloc::Global;
 use std::marker::Model;
 use watershed::Run;
-
-/// The most tiles of which directions are found. No store takes more.
-const MOST_DRAINED: usize = 240;
 
 /// A mosaic held in memory. It refuses for want of memory, and never fails.
 #[derive(Drop)]
@@ -31,12 +27,13 @@ impl Model for TableEngine {
 
     ghost view = { λ e. held_of e.capacity e.table e.count e.number };
 
-    ghost invariant = { λ e. IsKept e.table e.count e.number };
+    ghost invariant = { λ e. IsKept e.capacity e.table e.count e.number };
 }
 
 impl TableEngine {
-    /// An empty mosaic of tiles of this side, which takes so many of them.
+    /// An empty mosaic of tiles of this side, which takes so many of them: at most 240, as a store does.
     pub fn new(alloc: Global, side: Side, capacity: u32) -> TableEngine
+        requires { capacity ≤ 240 }
         ensures empty { result.contents ≡ fresh side }
         ensures capacity { result.capacity ≡ capacity }
     {
@@ -48,20 +45,10 @@ impl TableEngine {
             number: 1,
         }
     }
-
-    /// Whether directions can be found: of at most 240 tiles.
-    fn is_few(&self) -> bool
-        ensures { IsTrue result → length (corners_of self.now.contents.mosaic) ≤ 240 }
-    {
-        match self.table.corners(self.alloc) {
-            Ok(corners) => corners.len() <= MOST_DRAINED,
-            Err(_) => false,
-        }
-    }
 }
 
 impl Engine for TableEngine {
-    ghost use Rattle.std.specs.Prelude.{◌≡◌, refl, ⊤};
+    ghost use Rattle.std.specs.Prelude.{◌≡◌, List, [], ◌∷◌, refl, ⊤};
     ghost use Rattle.std.proofs.Common.{ap};
     ghost use Rattle.edits.specs.State.{State};
     ghost use Rattle.server.specs.TableState.{working};
@@ -70,11 +57,20 @@ impl Engine for TableEngine {
 
     ghost is_at = { λ e s. s ≡ working e.contents };
 
+    // It has no disk, so that a stop leaves nothing.
+    ghost leaves_only = { λ first last states. ⊤ };
+
     ghost side_of = { λ e. e.contents.mosaic.side };
 
     ghost capacity_of = { λ e. e.capacity };
 
     ghost failures = { λ _. 0 };
+
+    ghost stays = { λ e s others honest at. tt };
+
+    ghost in_turn = { λ first mid last states more before after. tt };
+
+    ghost weaker = { λ first last states more among before. tt };
 
     ghost same_side = { λ e s at. ap (λ (t : State). t.contents.mosaic.side) at };
 
@@ -88,6 +84,8 @@ impl Engine for TableEngine {
             return Err(Refusal::Worn);
         }
         carry_out(changes, &mut self.table)?;
+        // By this law the capacity is kept.
+        commands_make_mosaics();
         self.count += 1;
         self.number += 1;
         Ok(self.count)
@@ -102,23 +100,14 @@ impl Engine for TableEngine {
     }
 
     fn direction(&mut self, point: Point) -> Result<u8, Refusal> {
-        if !self.is_few() {
-            return Err(Refusal::NoMemory);
-        }
         drainage::direction(self.alloc, &mut self.table, point)
     }
 
     fn trace(&mut self, point: Point) -> Result<Vec<Point>, Refusal> {
-        if !self.is_few() {
-            return Err(Refusal::NoMemory);
-        }
         drainage::trace(self.alloc, &mut self.table, point)
     }
 
     fn watershed(&mut self, point: Point) -> Result<Vec<Run>, Refusal> {
-        if !self.is_few() {
-            return Err(Refusal::NoMemory);
-        }
         drainage::watershed(self.alloc, &mut self.table, point)
     }
 

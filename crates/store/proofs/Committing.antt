@@ -1,8 +1,8 @@
 -- A command that is staged, and its commit.
-use Rattle.std.proofs.Common.{◌≡◌, ◌⊎◌, inl, inr, ⊎_elim, ℕ, ◌+◌, ◌<◌, false, List, refl, sym, ap, ap₂, ◌∙◌, subst}
+use Rattle.std.proofs.Common.{◌≡◌, ◌⊎◌, inl, ℕ, ◌+◌, ◌<◌, ap, subst}
 use Rattle.std.specs.Prelude.{Ok}
 use Rattle.disk.specs.Disk.{Image}
-use Rattle.disk.specs.Stops.{LeavesOnly, weaker, in_turn, nothing_done}
+use Rattle.disk.specs.Stops.{LeavesOnly, weaker, in_turn}
 use Rattle.disk.specs.declared.disk.Disk.{Ghosts}
 use Rattle.lattice.specs.Mosaic.{Mosaic}
 use Rattle.edits.specs.declared.command.Command.{Command}
@@ -10,11 +10,10 @@ use Rattle.edits.specs.Effect.{effect}
 use Rattle.edits.specs.Outcomes.{last_number}
 use Rattle.edits.specs.State.{State, made_by}
 use Rattle.cow_tree.specs.Layout.{Stands}
-use Rattle.cow_tree.specs.Stored.{StoredTile, Stored, next_commit}
-use Rattle.cow_tree.specs.Trees.{disk_of, root_of, has_failed, staged_in, IsAt as IsTreeAt}
+use Rattle.cow_tree.specs.Stored.{Stored, next_commit}
+use Rattle.cow_tree.specs.Trees.{disk_of, root_of, staged_in, IsAt as IsTreeAt}
 use Rattle.cow_tree.specs.declared.tree.Tree.{Tree}
 use Rattle.store.specs.Standing.{Holds}
-use Rattle.store.specs.TreeStates.{IsInState}
 use Rattle.store.proofs.DoneCommands.{IsUnderWay, IsCommitted}
 
 -- The next commit is what the command makes of the contents, and a stop leaves these.

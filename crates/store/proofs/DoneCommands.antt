@@ -1,5 +1,5 @@
 -- Doing a command, by the tree before and after it: what is known at each of its ends.
-use Rattle.std.proofs.Common.{◌≡◌, ◌≢◌, ◌⊎◌, inl, inr, ⊎_elim, ℕ, ◌+◌, ◌≤◌, ◌<◌, Bool, true, false, refl, sym, ap, ap₂, ◌∙◌, subst, arith}
+use Rattle.std.proofs.Common.{◌≡◌, ◌≢◌, ◌⊎◌, inl, ℕ, ◌+◌, ◌≤◌, ◌<◌, Bool, true, false, refl, sym, ap, ap₂, ◌∙◌, subst, arith}
 use Rattle.std.specs.Prelude.{Option, Some, None, Result, Ok, Err}
 use Rattle.disk.specs.Disk.{Image, HasRisen}
 use Rattle.disk.specs.Stops.{LeavesOnly, weaker, nothing_done}
@@ -13,7 +13,7 @@ use Rattle.edits.specs.Effect.{effect}
 use Rattle.edits.specs.Outcomes.{AppliesNot, last_number}
 use Rattle.edits.specs.State.{Contents, State, made_by, in_doubt, failing}
 use Rattle.cow_tree.specs.Layout.{Stands}
-use Rattle.cow_tree.specs.Stored.{StoredTile, Stored}
+use Rattle.cow_tree.specs.Stored.{Stored}
 use Rattle.cow_tree.specs.Trees.{disk_of, root_of, has_failed, staged_in, IsAt as IsTreeAt}
 use Rattle.cow_tree.specs.declared.tree.Tree.{Tree}
 use Rattle.store.specs.Applied.{HasContents, MayHaveMade, IsApplied}
@@ -70,6 +70,8 @@ module _ {D : Type 0} (g : Ghosts D) (old : Tree D g) (command : Command) where
         capacity = ap (λ (x : RootValue). x.capacity) root;
         later = subst (λ (disk : D). g.failures (disk_of old) ≤ g.failures disk) (sym same) (omega arith);
         device = λ is. absurd (other (let e : r ≡ Device = cc in e));
+        works = tt;
+        fails = λ is. absurd (other (let e : r ≡ Device = cc in e));
         honest = subst g.honest same;
         outcome = λ honest s at. (s, still honest s at);
         any_moment = λ honest s at is_working.
@@ -102,6 +104,8 @@ module _ {D : Type 0} (g : Ghosts D) (old : Tree D g) (command : Command) where
           capacity = ap (λ (x : RootValue). x.capacity) root;
           later = later;
           device = λ _. risen;
+          works = tt;
+          fails = λ _. failed;
           honest = honest;
           outcome = λ h s at.
               let doubt : Option Contents = in_doubt (root_of old).capacity s.contents command in
@@ -127,6 +131,8 @@ module _ {D : Type 0} (g : Ghosts D) (old : Tree D g) (command : Command) where
           capacity = ap (λ (x : RootValue). x.capacity) root;
           later = later;
           device = λ _. risen;
+          works = tt;
+          fails = λ _. failed;
           honest = honest;
           outcome = λ h s at.
               let doubt : Option Contents = in_doubt (root_of old).capacity s.contents command in
@@ -147,15 +153,17 @@ module _ {D : Type 0} (g : Ghosts D) (old : Tree D g) (command : Command) where
 
       -- ---- the commit was done
 
-      pub done : (root_of new).side ≡ (root_of old).side → (root_of new).capacity ≡ (root_of old).capacity → (g.honest (disk_of new) → g.may (disk_of new) (g.seen (disk_of new)))
+      pub done : has_failed new ≡ false → (root_of new).side ≡ (root_of old).side → (root_of new).capacity ≡ (root_of old).capacity → (g.honest (disk_of new) → g.may (disk_of new) (g.seen (disk_of new)))
           → ((s : State) → IsInState g old s → s.failed ≡ false) → (k : ℕ) → (g.honest (disk_of new) → (s : State) → IsInState g old s → IsCommitted g old new command s k)
           → IsApplied g command (Ok k) old new
-      done side capacity seen works k commits = record {
+      done works_now side capacity seen works k commits = record {
         size = size;
         side = side;
         capacity = capacity;
         later = later;
         device = λ is. absurd (let e : ◌≡◌ {A = Result ℕ Refusal} (Ok k) (Err Device) = is in cc);
+        works = works_now;
+        fails = λ is. absurd (let e : ◌≡◌ {A = Result ℕ Refusal} (Ok k) (Err Device) = is in cc);
         honest = honest;
         outcome = λ h s at.
             let is = commits h s at in

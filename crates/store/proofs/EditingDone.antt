@@ -1,7 +1,6 @@
 -- An edit by the trees that it goes through.
-use Rattle.std.proofs.Common.{◌≡◌, ◌≢◌, inl, ℕ, ◌+◌, ◌≤◌, false, List, refl, sym, ap, ◌∙◌, subst, arith}
+use Rattle.std.proofs.Common.{◌≡◌, ◌≢◌, inl, ℕ, false, List, sym, ap, ◌∙◌, subst}
 use Rattle.std.specs.Prelude.{Result, Ok, Err}
-use Rattle.disk.specs.Disk.{Image, HasRisen}
 use Rattle.disk.specs.Stops.{LeavesOnly, weaker}
 use Rattle.disk.specs.declared.disk.Disk.{Ghosts}
 use Rattle.lattice.specs.Mosaic.{Mosaic}
@@ -13,15 +12,15 @@ use Rattle.edits.specs.declared.command.Command.{Command}
 use Rattle.edits.specs.Changes.{all_changed}
 use Rattle.edits.specs.Effect.{effect}
 use Rattle.edits.specs.Outcomes.{AppliesNot}
-use Rattle.edits.specs.State.{State, made_by}
+use Rattle.edits.specs.State.{State}
 use Rattle.cow_tree.specs.Layout.{Stands}
-use Rattle.cow_tree.specs.Stored.{StoredTile, Stored}
+use Rattle.cow_tree.specs.Stored.{Stored}
 use Rattle.cow_tree.specs.Trees.{disk_of, root_of, has_failed, staged_in, IsAt as IsTreeAt}
 use Rattle.cow_tree.specs.declared.tree.Tree.{Tree}
 use Rattle.store.specs.Applied.{HasContents, MayHaveMade, IsApplied}
 use Rattle.store.specs.Editing.{HoldsMosaic, CommitsNothing}
 use Rattle.store.specs.Standing.{Holds}
-use Rattle.store.specs.States.{StandsForState, EachStandsFor, IsStateOf}
+use Rattle.store.specs.States.{StandsForState, IsStateOf}
 use Rattle.store.specs.TreeStates.{IsInState}
 use Rattle.store.proofs.Committing.{IsStaged}
 use Rattle.store.proofs.DoneCommands.{broken}
@@ -73,6 +72,8 @@ module _ {D T : Type 0} (g : Ghosts D) (old new : Tree D g) (command : Command) 
       capacity = ap (λ (x : RootValue). x.capacity) done.root;
       later = done.later;
       device = λ is. absurd (other (let e : ◌≡◌ {A = Result ℕ Refusal} (Err r) (Err Device) = is in cc));
+      works = tt;
+      fails = λ is. absurd (other (let e : ◌≡◌ {A = Result ℕ Refusal} (Err r) (Err Device) = is in cc));
       honest = done.honest;
       outcome = λ honest s at. (s, (still_in_state honest s at, refused honest s at));
       any_moment = λ honest s at _.

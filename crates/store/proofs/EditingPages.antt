@@ -1,5 +1,5 @@
 -- Samples set in a page, change after change.
-use Rattle.std.proofs.Common.{◌≡◌, ℕ, ◌+◌, ◌*◌, ◌<◌, ◌≤◌, ℤ, pos, negsuc, List, length, get_or, take, All, refl, sym, ap, ap₂, ◌∙◌, subst, take_all, arith}
+use Rattle.std.proofs.Common.{◌≡◌, ℕ, ◌+◌, ◌*◌, ◌<◌, ◌≤◌, ℤ, pos, negsuc, List, length, get_or, take, All, refl, sym, ap, ap₂, subst, take_all, arith}
 use Rattle.std.specs.Prelude.{Some, slice_get, FitsSigned}
 use Rattle.std.specs.List.{AllZip}
 use Rattle.std.proofs.lemmas.Int.{to_z-of_z, ints}

@@ -1,6 +1,6 @@
 -- A command planned by reading the tree.
 use Rattle.std.proofs.Common.{◌≡◌, ◌≢◌, ◌⊎◌, inl, inr, ℕ, false, true, Result, Ok, Err, OnOk, OnErr, IfErr, IsErrOf, List, [], ◌∷◌, Contains, zero, suc, refl, sym, ap, ◌∙◌, subst, arith}
-use Rattle.disk.specs.Disk.{Image, HasRisen}
+use Rattle.disk.specs.Disk.{HasRisen}
 use Rattle.disk.specs.Stops.{weaker}
 use Rattle.disk.specs.declared.disk.Disk.{Ghosts}
 use Rattle.lattice.specs.Corners.{Place}
@@ -15,7 +15,7 @@ use Rattle.cow_tree.specs.Layout.{TilePlace, Stands}
 use Rattle.cow_tree.specs.Planes.{HasPlane}
 use Rattle.cow_tree.specs.declared.plane.Plane.TheVariants.{Heights}
 use Rattle.cow_tree.specs.Reading.{mosaic_of, IsReadable, HasOnlyRead, Reads}
-use Rattle.cow_tree.specs.Stored.{StoredTile, Stored, AreWhole, mosaic_of_tiles}
+use Rattle.cow_tree.specs.Stored.{StoredTile, AreWhole, mosaic_of_tiles}
 use Rattle.cow_tree.specs.Trees.{disk_of, root_of, has_failed, staged_in, HasStaged}
 use Rattle.cow_tree.specs.declared.tree.Tree.{Tree}
 use Rattle.store.specs.Editing.{CommitsNothing, StagesOnly}

@@ -3,12 +3,11 @@ use Rattle.std.proofs.Common.{◌≡◌, ◌≤◌, false, Result, Ok, Err, OnOk
 use Rattle.disk.specs.Disk.{Image, HasRisen}
 use Rattle.disk.specs.Stops.{LeavesOnly, weaker, in_turn, nothing_done}
 use Rattle.disk.specs.declared.disk.Disk.{Ghosts}
-use Rattle.lattice.specs.Corners.{Place}
 use Rattle.lattice.specs.declared.refusal.Refusal.{Refusal}
 use Rattle.lattice.specs.declared.refusal.Refusal.TheVariants.{Device}
 use Rattle.cow_tree.specs.Layout.{Stands}
 use Rattle.cow_tree.specs.Stored.{Stored}
-use Rattle.cow_tree.specs.Trees.{disk_of, root_of, has_failed, corners_of, HasStaged, IsAt}
+use Rattle.cow_tree.specs.Trees.{disk_of, root_of, has_failed, IsAt}
 use Rattle.cow_tree.specs.declared.tree.Tree.{Tree}
 use Rattle.cow_tree.proofs.ReadOnly.{never_refused}
 use Rattle.cow_tree.proofs.Steps.{on_ok}

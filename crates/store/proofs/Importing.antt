@@ -19,7 +19,7 @@ use Rattle.cow_tree.specs.declared.tree.Tree.{Tree}
 use Rattle.store.specs.Standing.{Holds}
 use Rattle.store.specs.TreeStates.{IsInState}
 use Rattle.store.proofs.Committing.{IsStaged}
-use Rattle.store.proofs.InMemory.{sound_at, imports_at, imported_at, removes_at, removed_at}
+use Rattle.store.proofs.InMemory.{imports_at, imported_at, removes_at, removed_at}
 
 module _ {D : Type 0} (g : Ghosts D) (old : Tree D g) (works : has_failed old ≡ false) (s : State) (at : IsInState g old s) (valid : CommandsMakeMosaics) (c : Place) where
   abbrev n : ℕ

@@ -5,9 +5,9 @@ use Rattle.std.proofs.lemmas.List.{length-map}
 use Rattle.disk.specs.Disk.{Image}
 use Rattle.disk.specs.declared.disk.Disk.{Ghosts}
 use Rattle.lattice.specs.Corners.{Place, is_corner}
-use Rattle.lattice.specs.Mosaic.{Mosaic, IsMosaic}
+use Rattle.lattice.specs.Mosaic.{Mosaic}
 use Rattle.lattice.specs.declared.refusal.Refusal.{Refusal}
-use Rattle.lattice.specs.declared.refusal.Refusal.TheVariants.{BadLength, TileThere, Full, NoTile, Worn}
+use Rattle.lattice.specs.declared.refusal.Refusal.TheVariants.{BadLength, TileThere, Full, NoTile}
 use Rattle.hgt.specs.Bytes.{samples_in}
 use Rattle.catalogue.specs.Tiles.{corners_of, added, without}
 use Rattle.page_codec.specs.Entries.{EntryValue}
@@ -20,7 +20,7 @@ use Rattle.edits.specs.State.{State, made_by}
 use Rattle.edits.specs.EffectLaws.{CommandsMakeMosaics}
 use Rattle.cow_tree.specs.Layout.{TilePlace, tile_in}
 use Rattle.cow_tree.specs.Charts.{corners_of_places}
-use Rattle.cow_tree.specs.Stored.{StoredTile, Stored, next_commit, corners_of_stored, pages_of_bytes, stale_tile, with_tile, without_tile}
+use Rattle.cow_tree.specs.Stored.{Stored, next_commit, corners_of_stored, pages_of_bytes, stale_tile, with_tile, without_tile}
 use Rattle.cow_tree.specs.Trees.{disk_of, root_of, has_failed, staged_in, corners_of as corners_under, IsAt as IsTreeAt}
 use Rattle.cow_tree.specs.declared.tree.Tree.{Tree}
 use Rattle.store.specs.Standing.{Holds}

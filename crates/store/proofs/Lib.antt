@@ -5,12 +5,14 @@ pub mod EditingDone
 pub mod EditingPages
 pub mod EditingReads
 pub mod EditingSteps
+pub mod EditingWrites
 pub mod Finding
 pub mod Grouped
 pub mod HeldTiles
 pub mod Holding
 pub mod Importing
 pub mod InMemory
+pub mod OneEvent
 pub mod Opened
 pub mod Openings
 pub mod Outcomes
@@ -18,6 +20,7 @@ pub mod Pages
 pub mod Querying
 pub mod QueryingDrainage
 pub mod QueryingPages
+pub mod Runs
 pub mod Sets
 pub mod Stale
 pub mod States

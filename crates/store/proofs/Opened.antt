@@ -49,3 +49,8 @@ module _ {D : Type 0} (g : Ghosts D) (tree : Tree D g) (stored : Stored) (at : I
         → IsInState g tree (working s.contents) ⊎ ((doubted : Contents) × (s.doubt ≡ Some doubted) × IsInState g tree (working doubted))
     in_known sectors image s stands (inl is) = inl (in_state side capacity s.contents (found_holds sectors image side capacity stored s.contents stands is))
     in_known sectors image s stands (inr (doubted, some, is)) = inr (doubted, some, in_state side capacity doubted (found_holds sectors image side capacity stored doubted stands is))
+
+    -- its side and its capacity are those of the state
+    pub sized_as_known : (sectors : ℕ) (image : Image) (s : State) → Stands sectors image stored → StandsForState sectors side capacity image s → ((root_of tree).side ≡ side) × ((root_of tree).capacity ≡ capacity)
+    sized_as_known sectors image s stands (inl is) = numbers s.contents (found_holds sectors image side capacity stored s.contents stands is)
+    sized_as_known sectors image s stands (inr (doubted, some, is)) = numbers doubted (found_holds sectors image side capacity stored doubted stands is)

@@ -1,5 +1,5 @@
 -- What a query leaves, by the tree before and after its reads.
-use Rattle.std.proofs.Common.{◌≡◌, ℕ, Bool, true, false, List, map, refl, sym, ap, ap₂, ◌∙◌, subst, arith, true≢false}
+use Rattle.std.proofs.Common.{◌≡◌, ℕ, Bool, true, false, List, length, map, refl, sym, ap, ap₂, ◌∙◌, subst, arith, true≢false}
 use Rattle.std.specs.Prelude.{None, Result, Ok, Err, IsErrOf, IfOk, IfErr, OnOk, OnErr}
 use Rattle.disk.specs.Disk.{Image, HasRisen}
 use Rattle.disk.specs.Stops.{nothing_done}
@@ -13,8 +13,8 @@ use Rattle.edits.specs.Outcomes.{Stays, StaysFailed, Fails}
 use Rattle.edits.specs.State.{State, failing}
 use Rattle.cow_tree.specs.Reading.{mosaic_of, IsReadable, HasOnlyRead}
 use Rattle.cow_tree.specs.Stored.{StoredTile, Stored, AreWhole, mosaic_of_tiles}
-use Rattle.cow_tree.specs.Charts.{HasFreshHeights}
-use Rattle.cow_tree.specs.Trees.{HasStaged, disk_of, root_of, has_failed, corners_of, staged_in, IsAt as IsTreeAt}
+use Rattle.cow_tree.specs.Charts.{ChartValue, HasFreshHeights, fresh_corners}
+use Rattle.cow_tree.specs.Trees.{HasStaged, records_due, disk_of, root_of, has_failed, corners_of, staged_in, IsAt as IsTreeAt}
 use Rattle.cow_tree.specs.declared.tree.Tree.{Tree}
 use Rattle.store.specs.Queried.{IsQueried}
 use Rattle.store.specs.TreeStates.{IsInState}
@@ -57,13 +57,16 @@ module _ {D : Type 0} (g : Ghosts D) (tree : Tree D g) (fails : has_failed tree 
 -- ---- no read
 
 module _ {D : Type 0} (g : Ghosts D) (only_now : (disk : D) (image : Image) → g.honest disk → g.since disk (g.moment disk) image → g.may disk image) (tree : Tree D g) where
-  pub unread : {T : Type 0} (result : Result T Refusal) → (IsErrOf result Device → ⊥) → (has_failed tree ≡ true → result ≡ Err Failed) → IsQueried g tree tree result
-  unread result not_device failed = record {
+  pub unread : {T : Type 0} (result : Result T Refusal) → (IsErrOf result Device → ⊥) → OnOk result (has_failed tree ≡ false) → (has_failed tree ≡ true → result ≡ Err Failed) → IsQueried g tree tree result
+  unread result not_device works failed = record {
     size = refl;
     writes = refl;
     root = refl;
     later = omega arith;
     device = λ is. absurd (not_device is);
+    works = works;
+    fails = λ is. absurd (not_device is);
+    still_failed = λ fails. fails;
     failed = λ fails. (failed fails, refl);
     nothing = λ honest. nothing_done g (disk_of tree) (only_now (disk_of tree)) honest;
   }
@@ -75,13 +78,17 @@ true_where true none = refl
 true_where false none = absurd (none refl)
 
 module _ {D : Type 0} (g : Ghosts D) (old new : Tree D g) (works : has_failed old ≡ false) (keeps : HasOnlyRead g old new) where
-  pub queried : {T : Type 0} (result : Result T Refusal) → (IsErrOf result Device → HasRisen (g.failures (disk_of old)) (g.failures (disk_of new))) → IsQueried g old new result
-  queried result device = record {
+  pub queried : {T : Type 0} (result : Result T Refusal) → (IsErrOf result Device → HasRisen (g.failures (disk_of old)) (g.failures (disk_of new))) → OnOk result (has_failed new ≡ false)
+      → (IsErrOf result Device → ¬ (has_failed new ≡ false)) → IsQueried g old new result
+  queried result device still fails = record {
     size = keeps.size;
     writes = keeps.writes;
     root = keeps.root;
     later = keeps.later;
     device = device;
+    works = still;
+    fails = λ is. true_where (has_failed new) (fails is);
+    still_failed = λ fails. absurd (true≢false (sym fails ∙ works));
     failed = λ fails. absurd (true≢false (sym fails ∙ works));
     nothing = keeps.nothing;
   }
@@ -89,6 +96,9 @@ module _ {D : Type 0} (g : Ghosts D) (old new : Tree D g) (works : has_failed ol
   -- between two calls nothing is staged
   pub still_clean : (has_failed old ≡ false → (c : Place) → ¬ HasStaged old c) → has_failed new ≡ false → (c : Place) → ¬ HasStaged new c
   still_clean clean still c staged = clean works c (subst (λ chart. HasFreshHeights c chart) keeps.chart staged)
+
+  pub still_none_due : (has_failed old ≡ false → records_due old ≡ 0) → has_failed new ≡ false → records_due new ≡ 0
+  still_none_due none still = ap (λ (chart : ChartValue). length (fresh_corners chart)) keeps.chart ∙ none works
 
   pub still_corners : (has_failed old ≡ false → corners_of old ≡ map (λ e. e.corner) (root_of old).entries) → has_failed new ≡ false → corners_of new ≡ map (λ e. e.corner) (root_of new).entries
   still_corners corners still = keeps.corners ∙ corners works ∙ ap (λ (r : RootValue). map (λ e. e.corner) r.entries) (sym keeps.root)

@@ -36,6 +36,14 @@ device_read (Err _) e = cc
 pub risen_read : {T : Type 0} (result : Result T Refusal) (before now : ℕ) → IfErr (reads_of result) (MayRefuse before now) → IsErrOf result Device → HasRisen before now
 risen_read {T} result before now reads is = let risen : IfErr (reads_of {T = T} (Err Device)) (MayRefuse before now) = subst (λ (r : Result T Refusal). IfErr (reads_of r) (MayRefuse before now)) is reads in risen
 
+-- the tree that was read works after an answer, and fails where the disk refused a read
+pub works_read : {T : Type 0} (result : Result T Refusal) (P : Type 0) → OnOk (reads_of result) P → OnOk result P
+works_read (Ok x) P reads = reads
+works_read (Err r) P reads = tt
+
+pub fails_read : {T : Type 0} (result : Result T Refusal) (P : Type 0) → OnErr (reads_of result) P → IsErrOf result Device → P
+fails_read {T} result P reads is = let fails : OnErr (reads_of {T = T} (Err Device)) P = subst (λ (r : Result T Refusal). OnErr (reads_of r) P) is reads in fails
+
 -- an answer with a list for the vector that holds it
 pub listed : {X A : Type 0} (Answers : Result (List X) Refusal → Type 0) (result : Result (Vec X A) Refusal) → MatchResult result (λ xs. Answers (Ok xs.items)) (λ r. Answers (Err r)) → Answers (items_in result)
 listed Answers (Ok xs) is = is

@@ -1,5 +1,5 @@
 -- The bytes of a tile's heights, read page by page.
-use Rattle.std.proofs.Common.{◌≡◌, ◌⊎◌, inl, inr, ⊎_elim, ℕ, zero, suc, ◌+◌, ◌-◌, ◌*◌, ◌<◌, ◌≤◌, ℤ, Bool, true, false, Option, Some, None, List, [], ◌∷◌, ◌++◌, length, take, drop, min, map, Contains, All, refl, sym, ap, ap₂, ◌∙◌, subst, arith}
+use Rattle.std.proofs.Common.{◌≡◌, ⊎_elim, ℕ, zero, suc, ◌+◌, ◌-◌, ◌*◌, ◌<◌, ◌≤◌, ℤ, true, false, Option, Some, None, List, [], ◌∷◌, ◌++◌, length, take, drop, min, Contains, refl, sym, ap, ◌∙◌, subst, arith}
 use Rattle.std.specs.Prelude.{slice_get, is_some}
 use Rattle.std.specs.List.{concat}
 use Rattle.std.proofs.Math.Seq.{take-append-add}
@@ -8,13 +8,13 @@ use Rattle.std.proofs.lemmas.List.{append-nil, length-append, length-take, take_
 use Rattle.std.proofs.lemmas.List.Folds.{concat-append}
 use Rattle.disk.specs.declared.disk.Disk.{Ghosts}
 use Rattle.lattice.specs.Corners.{Place, is_before}
-use Rattle.lattice.specs.Mosaic.{Mosaic, IsMosaic, is_present, samples_of}
+use Rattle.lattice.specs.Mosaic.{Mosaic, is_present, samples_of}
 use Rattle.page_codec.specs.Sizes.{pages_of}
 use Rattle.hgt.specs.Bytes.{hgt_bytes}
 use Rattle.catalogue.specs.Tiles.{corners_of}
 use Rattle.catalogue.proofs.Places.{before_not_same, same_from}
 use Rattle.catalogue.proofs.Presence.{present_iff, some-samples}
-use Rattle.catalogue.proofs.Rising.{AllAfter, Rising}
+use Rattle.catalogue.proofs.Rising.{Rising}
 use Rattle.cow_tree.specs.Layout.{TilePlace, tile_in}
 use Rattle.cow_tree.specs.Planes.{HasPage}
 use Rattle.cow_tree.specs.declared.plane.Plane.TheVariants.{Heights}

@@ -1,5 +1,5 @@
 -- What doing a command leaves, by the store's tree.
-use Rattle.std.specs.Prelude.{◌≡◌, ◌≢◌, ◌≤◌, ◌⊎◌, ℕ, false, Result, IfErr, IsErrOf}
+use Rattle.std.specs.Prelude.{◌≡◌, ◌≢◌, ◌≤◌, ◌⊎◌, ℕ, false, true, Result, OnOk, IfErr, IsErrOf}
 use Rattle.disk.specs.Disk.{Image, HasRisen}
 use Rattle.disk.specs.Stops.{LeavesOnly}
 use Rattle.disk.specs.declared.disk.Disk.{Ghosts}
@@ -9,7 +9,7 @@ use Rattle.edits.specs.declared.command.Command.{Command}
 use Rattle.edits.specs.declared.command.Command.TheVariants.{Import, Remove}
 use Rattle.edits.specs.Outcomes.{Applies}
 use Rattle.edits.specs.State.{Contents, State}
-use Rattle.cow_tree.specs.Trees.{disk_of, root_of}
+use Rattle.cow_tree.specs.Trees.{disk_of, root_of, has_failed}
 use Rattle.cow_tree.specs.declared.tree.Tree.{Tree}
 use Rattle.store.specs.Standing.{StandsFor}
 use Rattle.store.specs.States.{StandsForMade}
@@ -38,6 +38,8 @@ pub record IsApplied {D : Type 0} (g : Ghosts D) (command : Command) (result : R
   pub capacity : (root_of new).capacity ≡ (root_of old).capacity
   pub later : g.failures (disk_of old) ≤ g.failures (disk_of new)
   pub device : IsErrOf result Device → HasRisen (g.failures (disk_of old)) (g.failures (disk_of new))
+  pub works : OnOk result (has_failed new ≡ false)
+  pub fails : IsErrOf result Device → has_failed new ≡ true
   pub honest : g.honest (disk_of new) → g.honest (disk_of old)
   -- the answer, and the state that it leaves
   pub outcome : g.honest (disk_of new) → (s : State) → IsInState g old s → (t : State) × (IsInState g new t × Applies (root_of old).capacity s command result t)

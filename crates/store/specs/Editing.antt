@@ -1,5 +1,5 @@
 -- What an edit makes of a tree before its commit (this product's own profile).
-use Rattle.std.specs.Prelude.{◌≡◌, ◌≤◌, ◌<◌, ◌+◌, ◌*◌, ℕ, ℤ, false, true, List, Result, OnOk, IsErrOf}
+use Rattle.std.specs.Prelude.{◌≡◌, ◌≤◌, ◌<◌, ◌+◌, ◌*◌, ℕ, ℤ, false, true, List, length, Result, OnOk, IsErrOf, if◌then◌else◌}
 use Rattle.std.specs.List.{AllZip}
 use Rattle.disk.specs.Disk.{HasRisen}
 use Rattle.disk.specs.Stops.{LeavesOnly}
@@ -10,11 +10,23 @@ use Rattle.lattice.specs.declared.refusal.Refusal.{Refusal}
 use Rattle.lattice.specs.declared.refusal.Refusal.TheVariants.{Device}
 use Rattle.edits.specs.declared.change.Change.{Change}
 use Rattle.edits.specs.declared.change.Change.TheVariants.{Set}
+use Rattle.edits.specs.declared.command.Command.{Command}
+use Rattle.edits.specs.declared.command.Command.TheVariants.{Burn, Wall}
 use Rattle.cow_tree.specs.Layout.{Stands}
 use Rattle.cow_tree.specs.Stored.{StoredTile, Stored}
-use Rattle.cow_tree.specs.Trees.{disk_of, root_of, has_failed, corners_of, HasStaged, IsAt}
+use Rattle.cow_tree.specs.Trees.{disk_of, root_of, has_failed, has_begun, corners_of, HasStaged, IsAt}
 use Rattle.cow_tree.specs.declared.tree.Tree.{Tree}
 use Rattle.store.specs.Standing.{HoldsTile, KeepNone}
+
+-- the writes so far, and the one that begins a commit where none was begun
+abbrev pub writes_begun : {D : Type 0} (g : Ghosts D) → Tree D g → ℕ
+writes_begun g tree = g.writes (disk_of tree) + (if has_begun tree then 0 else 1)
+
+-- a burn or a wall makes at most four pages and four records a point, the root, and twice a gate
+abbrev pub WritesFew : Command → ℕ → ℕ → Type 0
+WritesFew (Burn depth points) before now = now ≤ before + (8 * length points.items + 3)
+WritesFew (Wall h points) before now = now ≤ before + (8 * length points.items + 3)
+WritesFew _ before now = Unit {0}
 
 -- the stored tiles are the tiles of the mosaic, with this side
 pub record HoldsMosaic (side : ℕ) (tiles : List StoredTile) (m : Mosaic) : Type 0 where

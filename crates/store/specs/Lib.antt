@@ -1,5 +1,6 @@
 pub mod Applied
 pub mod Editing
+pub mod Events
 pub mod Queried
 pub mod Standing
 pub mod States

@@ -1,5 +1,5 @@
 -- What a query does to a store: it reads, and changes nothing but the count of failures and whether the store failed.
-use Rattle.std.specs.Prelude.{◌≡◌, ◌≤◌, ℕ, true, List, Contains, Result, Ok, Err, IsErrOf}
+use Rattle.std.specs.Prelude.{◌≡◌, ◌≤◌, ℕ, true, false, List, Contains, Result, Ok, Err, OnOk, IsErrOf}
 use Rattle.disk.specs.Disk.{HasRisen}
 use Rattle.disk.specs.Stops.{AddsNothing}
 use Rattle.disk.specs.declared.disk.Disk.{Ghosts}
@@ -22,8 +22,11 @@ pub record IsQueried {D T : Type 0} (g : Ghosts D) (old new : Tree D g) (result 
   pub root : root_of new ≡ root_of old
   pub later : g.failures (disk_of old) ≤ g.failures (disk_of new)
   pub device : IsErrOf result Device → HasRisen (g.failures (disk_of old)) (g.failures (disk_of new))
-  -- a store that failed makes no call of the disk
+  pub works : OnOk result (has_failed new ≡ false)
+  pub fails : IsErrOf result Device → has_failed new ≡ true
+  -- a store that failed makes no call of the disk, and stays failed
   pub failed : has_failed old ≡ true → (result ≡ Err Failed) × (disk_of new ≡ disk_of old)
+  pub still_failed : has_failed old ≡ true → has_failed new ≡ true
   -- a stop at any moment leaves nothing new
   pub nothing : g.honest (disk_of new) → AddsNothing g (disk_of old) (disk_of new)
 

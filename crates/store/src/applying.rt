@@ -13,6 +13,7 @@ ghost use Rattle.cow_tree.specs.Trees.{corners_of};
 ghost use Rattle.store.specs.Standing.{StandsFor};
 ghost use Rattle.store.specs.States.{StandsForMade};
 ghost use Rattle.store.specs.Applied.{IsApplied};
+ghost use Rattle.store.specs.Editing.{WritesFew};
 ghost use Rattle.store.specs.Stores.{disk_of, root_of, side_of, capacity_of, has_failed, IsAt};
 
 use crate::Store;
@@ -30,6 +31,8 @@ impl<D: Disk> Store<D> {
         ensures capacity { capacity_of self.new ≡ capacity_of self.old }
         ensures later { D.failures (disk_of self.old) ≤ D.failures (disk_of self.new) }
         ensures device { IsErrOf result Device → HasRisen (D.failures (disk_of self.old)) (D.failures (disk_of self.new)) }
+        ensures works { OnOk result (has_failed self.new ≡ false) }
+        ensures fails { IsErrOf result Device → has_failed self.new ≡ true }
         ensures honest { D.honest (disk_of self.new) → D.honest (disk_of self.old) }
 
         // The answer, and the state that it leaves.
@@ -47,8 +50,12 @@ impl<D: Disk> Store<D> {
             → IfErr result (λ r. r ≢ Device → LeavesOnly D.Disk (disk_of self.old) (disk_of self.new)
             (λ image. StandsFor (D.size (disk_of self.old)) (side_of self.old) (capacity_of self.old) image s.contents)) }
 
-        // A store that failed makes no call of the disk.
+        // A burn or a wall of q points makes at most 8 q + 3 writes, on any disk.
+        ensures writes { WritesFew command.now (D.writes (disk_of self.old)) (D.writes (disk_of self.new)) }
+
+        // A store that failed makes no call of the disk, and stays failed.
         ensures failed { has_failed self.old ≡ true → (result ≡ Err Failed) × (disk_of self.new ≡ disk_of self.old) }
+        ensures still_failed { has_failed self.old ≡ true → has_failed self.new ≡ true }
     {
         if self.tree.has_failed() {
             return Err(Refusal::Failed);

@@ -1,96 +1,57 @@
-use crate::{Store, store_in_memory};
-use disk::{Disk, FaultOnceDisk, MemDisk};
-use edits::{Bytes, Command};
-use lattice::{Corner, Point, Refusal};
-use std::alloc::Global;
+//! Where water stands and goes in stores of tiles of side 3.
+use crate::Store;
+use crate::fixtures::{A, B, EAST, HERE, at, import, store_of, wall};
+use disk::MemDisk;
+use lattice::{Point, Refusal};
 use std::test::Fail;
 use watershed::Run;
 
-const HERE: Corner = Corner { lat: 0, lon: 0 };
+// 9 9 9 / 1 1 3 / 9 9 9: to the east of B the valley goes on, and ends higher.
+const C: [u8; 18] = [0, 9, 0, 9, 0, 9, 0, 1, 0, 1, 0, 3, 0, 9, 0, 9, 0, 9];
 
-const EAST: Corner = Corner { lat: 0, lon: 1 };
-
-// 9 9 9, 9 1 1, 9 9 9, and to the east 9 9 9, 1 1 3, 9 9 9.
-const WEST_HALF: [u8; 18] = [0, 9, 0, 9, 0, 9, 0, 9, 0, 1, 0, 1, 0, 9, 0, 9, 0, 9];
-
-const EAST_HALF: [u8; 18] = [0, 9, 0, 9, 0, 9, 0, 1, 0, 1, 0, 3, 0, 9, 0, 9, 0, 9];
-
-// How many calls opening a store with two tiles makes: a sync, both gates, both roots and two records.
-const CALLS_TO_OPEN: u64 = 7;
-
-// A disk with a valley through two tiles of side 3.
-fn valley(alloc: Global) -> Result<MemDisk, Fail> {
-    let mut store = store_in_memory(alloc, 24, 3, 2).map_err(|_| "not made")?;
-    for (corner, samples) in [(HERE, WEST_HALF), (EAST, EAST_HALF)] {
-        let bytes = Vec::from_array(alloc, samples).ok().ok_or("no memory")?;
-        let bytes = Bytes::new(bytes);
-        store
-            .apply(&Command::Import { corner, bytes })
-            .map_err(|_| "not imported")?;
-    }
-    Ok(store.into_disk())
+// A run from the first column on.
+fn run(y: i32, last: i32) -> Run {
+    Run { y, first: 0, last }
 }
 
-fn at(y: i32, x: i32) -> Point {
-    Point { y, x }
+fn traces(store: &mut Store<MemDisk>, point: Point, path: &[Point]) -> Result<bool, Fail> {
+    let traced = store.trace(point).ok().ok_or("not traced")?;
+    Ok(traced.as_slice() == path)
 }
 
-// The whole line of the two tiles.
-fn run(y: i32) -> Run {
-    Run {
-        y,
-        first: 0,
-        last: 4,
-    }
-}
-
-// Whether each query answers as it should over the valley.
-fn answers<D: Disk>(store: &mut Store<D>) -> Result<bool, Fail> {
-    let path = store.trace(at(1, 1)).map_err(|_| "not traced")?;
-    let runs = store.watershed(at(1, 4)).map_err(|_| "no watershed")?;
-    Ok(
-        store.fill(at(1, 1)) == Ok(3)
-            && store.fill(at(9, 9)) == Err(Refusal::Outside)
-            && store.direction(at(1, 1)) == Ok(1)
-            && store.direction(at(9, 9)) == Err(Refusal::Outside)
-            && path.as_slice() == [at(1, 1), at(1, 2), at(1, 3), at(1, 4)].as_slice()
-            && runs.as_slice() == [run(2), run(1), run(0)].as_slice()
-            && store.trace(at(9, 9)).err() == Some(Refusal::Outside)
-            && store.watershed(at(9, 9)).err() == Some(Refusal::Outside),
-    )
+fn sheds(store: &mut Store<MemDisk>, point: Point, runs: &[Run]) -> Result<bool, Fail> {
+    let watershed = store.watershed(point).ok().ok_or("no watershed")?;
+    Ok(watershed.as_slice() == runs)
 }
 
 #[test]
-fn queries_of_a_valley(rt: HostRuntime) -> Result<(), Fail> {
-    let alloc = rt.alloc();
-    let disk = valley(alloc)?;
-    let writes = disk.writes();
-    let mut store = Store::open(alloc, disk).map_err(|_| "not opened")?;
-    assert!(rt; answers(&mut store)?);
-    assert_eq!(rt; store.into_disk().writes(), writes);
+fn a_basin_that_spills(rt: HostRuntime) -> Result<(), Fail> {
+    let mut store = store_of(rt.alloc(), 4, &[(HERE, A)])?;
+    assert_eq!(rt; store.fill(at(1, 1)), Ok(5));
+    for (point, code) in [(at(1, 1), 2), (at(0, 2), 0), (at(0, 1), 1)] {
+        assert_eq!(rt; store.direction(point), Ok(code));
+    }
+    assert!(rt; traces(&mut store, at(0, 0), &[at(0, 0), at(1, 1), at(0, 2)])?);
+    assert!(rt; sheds(&mut store, at(0, 2), &[run(2, 2), run(1, 2), run(0, 2)])?);
+    assert!(rt; sheds(&mut store, at(1, 1), &[run(2, 2), run(1, 1), run(0, 0)])?);
+    let off = at(9, 9);
+    assert_eq!(rt; store.fill(off), Err(Refusal::Outside));
+    assert_eq!(rt; store.direction(off), Err(Refusal::Outside));
+    assert_eq!(rt; store.trace(off).err(), Some(Refusal::Outside));
+    assert_eq!(rt; store.watershed(off).err(), Some(Refusal::Outside));
     Ok(())
 }
 
 #[test]
-fn a_fault_in_a_flooding(rt: HostRuntime) -> Result<(), Fail> {
+fn a_valley_through_two_tiles(rt: HostRuntime) -> Result<(), Fail> {
     let alloc = rt.alloc();
-    let point = at(1, 1);
-    for query in 0..4 {
-        let faulty = FaultOnceDisk::new(valley(alloc)?, CALLS_TO_OPEN + 1);
-        let mut store = Store::open(alloc, faulty).map_err(|_| "not opened")?;
-        let refused = match query {
-            0 => store.fill(point).err(),
-            1 => store.direction(point).err(),
-            2 => store.trace(point).err(),
-            _ => store.watershed(point).err(),
-        };
-        assert_eq!(rt; refused, Some(Refusal::Device));
-        assert_eq!(rt; store.fill(at(9, 9)), Err(Refusal::Failed));
-        assert_eq!(rt; store.direction(point), Err(Refusal::Failed));
-        assert_eq!(rt; store.trace(point).err(), Some(Refusal::Failed));
-        assert_eq!(rt; store.watershed(point).err(), Some(Refusal::Failed));
-        assert_eq!(rt; store.reopen(), Ok(()));
-        assert!(rt; answers(&mut store)?);
-    }
+    let mut store = store_of(alloc, 4, &[(HERE, B)])?;
+    assert_eq!(rt; store.fill(at(1, 1)), Ok(1));
+    assert_eq!(rt; store.apply(&import(alloc, EAST, &C)?), Ok(2));
+    assert_eq!(rt; store.fill(at(1, 1)), Ok(3));
+    assert_eq!(rt; store.direction(at(1, 1)), Ok(1));
+    assert!(rt; sheds(&mut store, at(1, 4), &[run(2, 4), run(1, 4), run(0, 4)])?);
+    assert_eq!(rt; store.apply(&wall(5, &[at(1, 4)])), Ok(3));
+    assert_eq!(rt; store.fill(at(1, 1)), Ok(5));
     Ok(())
 }

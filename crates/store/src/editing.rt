@@ -1,5 +1,5 @@
 //! Commands that set samples of present tiles: patches, burns and walls.
-ghost use Rattle.std.specs.Prelude.{◌≡◌, ◌≢◌, ◌≤◌, ◌<◌, ◌/◌, ◌⊎◌, ℕ, ℤ, List, length, get_or, take, false, All, Contains, IfSome, IfNone, IfOk, IfErr, OnOk};
+ghost use Rattle.std.specs.Prelude.{◌≡◌, ◌≢◌, ◌≤◌, ◌<◌, ◌+◌, ◌/◌, ◌⊎◌, ℕ, ℤ, List, length, get_or, take, false, All, Contains, IfSome, IfNone, IfOk, IfErr, OnOk, vec_len};
 ghost use Rattle.lattice.specs.Corners.{Place};
 ghost use Rattle.lattice.specs.Mosaic.{Mosaic};
 ghost use Rattle.lattice.specs.declared.refusal.Refusal.TheVariants.{Device, NoMemory};
@@ -9,11 +9,12 @@ ghost use Rattle.edits.specs.Changes.{CanBeSet, all_changed};
 ghost use Rattle.edits.specs.Effect.{effect};
 ghost use Rattle.edits.specs.LeftStale.{tile_of};
 ghost use Rattle.edits.specs.Outcomes.{AppliesNot};
+ghost use Rattle.edits.specs.Plans.{IsFew};
 ghost use Rattle.edits.specs.State.{State};
 ghost use Rattle.cow_tree.specs.Stored.{StoredTile, Stored, with_page};
-ghost use Rattle.cow_tree.specs.Trees.{disk_of, root_of, has_failed, corners_of, HasStaged, staged_in, IsAt};
+ghost use Rattle.cow_tree.specs.Trees.{disk_of, root_of, has_failed, has_begun, corners_of, records_due, HasStaged, staged_in, IsAt};
 ghost use Rattle.store.specs.Applied.{SetsSamples, IsApplied};
-ghost use Rattle.store.specs.Editing.{HoldsMosaic, SetsInPage, CommitsNothing, StagesOnly};
+ghost use Rattle.store.specs.Editing.{HoldsMosaic, SetsInPage, CommitsNothing, StagesOnly, WritesFew, writes_begun};
 ghost use Rattle.store.specs.TreeStates.{IsInState};
 
 use crate::Store;
@@ -32,7 +33,8 @@ impl<D: Disk> Store<D> {
     pub(crate) fn edit(&mut self, command: &Command) -> Result<u64, Refusal>
         requires not_failed { has_failed self.old.tree ≡ false }
         requires samples { SetsSamples command.now }
-        ensures { IsApplied D.Disk command.now result self.old.tree self.new.tree }
+        ensures applied { IsApplied D.Disk command.now result self.old.tree self.new.tree }
+        ensures writes { WritesFew command.now (D.writes (disk_of self.old.tree)) (D.writes (disk_of self.new.tree)) }
     {
         let changes = match plan_changes(self.alloc, &mut self.tree, command) {
             Ok(changes) => changes,
@@ -68,6 +70,10 @@ fn plan_changes<D: Disk>(
     ensures corners { corners_of tree.new ≡ corners_of tree.old }
     ensures clean { has_failed tree.new ≡ false → (c : Place) → HasStaged tree.new c → HasStaged tree.old c }
     ensures staged { D.honest (disk_of tree.new) → staged_in D.Disk tree.new ≡ staged_in D.Disk tree.old }
+    ensures writes { D.writes (disk_of tree.new) ≡ D.writes (disk_of tree.old) }
+    ensures begun { OnOk result (has_begun tree.new ≡ has_begun tree.old) }
+    ensures due { has_failed tree.new ≡ false → records_due tree.new ≡ records_due tree.old }
+    ensures few { IfOk result (λ changes. IsFew command.now (vec_len changes)) }
     ensures sets { IfOk result (λ changes. All (CanBeSet (root_of tree.old).side (corners_of tree.old)) changes.items) }
     ensures changes { D.honest (disk_of tree.new) → (s : State) → IsInState D.Disk tree.old s
         → IfOk result (λ changes. effect (root_of tree.old).capacity s.contents.mosaic command.now ≡ Ok (all_changed changes.items s.contents.mosaic)) }
@@ -94,6 +100,9 @@ fn stage_changes<D: Disk>(tree: &mut Tree<D>, changes: &[Change]) -> Result<(), 
     requires sets { All (CanBeSet (root_of tree.old).side (corners_of tree.old)) changes.now }
     ensures stages { StagesOnly D.Disk tree.old tree.new result }
     ensures refused { IfErr result (λ r. (r ≡ Device) ⊎ ((r ≡ NoMemory) × (has_failed tree.new ≡ false))) }
+    ensures writes { D.writes (disk_of tree.new) ≤ writes_begun D.Disk tree.old + length changes.now }
+    ensures pages { OnOk result (writes_begun D.Disk tree.new ≤ writes_begun D.Disk tree.old + length changes.now) }
+    ensures due { OnOk result (records_due tree.new ≤ records_due tree.old + length changes.now) }
     ensures set { D.honest (disk_of tree.new) → (s : Stored) (m : Mosaic) → IsAt D.Disk tree.old s
         → HoldsMosaic (root_of tree.old).side (staged_in D.Disk tree.old) m
         → OnOk result (HoldsMosaic (root_of tree.old).side (staged_in D.Disk tree.new) (all_changed changes.now m)) }
@@ -111,6 +120,9 @@ fn prepare_tiles<D: Disk>(tree: &mut Tree<D>, changes: &[Change]) -> Result<(), 
     ensures stages { StagesOnly D.Disk tree.old tree.new result }
     ensures refused { IfErr result (λ r. r ≡ NoMemory) }
     ensures not_failed { has_failed tree.new ≡ false }
+    ensures writes { D.writes (disk_of tree.new) ≡ D.writes (disk_of tree.old) }
+    ensures begun { has_begun tree.new ≡ has_begun tree.old }
+    ensures due { records_due tree.new ≤ records_due tree.old + length changes.now }
     ensures staged { staged_in D.Disk tree.new ≡ staged_in D.Disk tree.old }
     ensures prepared { OnOk result (All (λ change. HasStaged tree.new (tile_of change)) changes.now) }
 {
@@ -130,6 +142,9 @@ fn stage_pages<D: Disk>(tree: &mut Tree<D>, changes: &[Change]) -> Result<(), Re
     requires prepared { All (λ change. HasStaged tree.old (tile_of change)) changes.now }
     ensures stages { StagesOnly D.Disk tree.old tree.new result }
     ensures refused { IfErr result (λ r. r ≡ Device) }
+    ensures writes { D.writes (disk_of tree.new) ≤ writes_begun D.Disk tree.old + length changes.now }
+    ensures pages { OnOk result (writes_begun D.Disk tree.new ≤ writes_begun D.Disk tree.old + length changes.now) }
+    ensures due { OnOk result (records_due tree.new ≡ records_due tree.old) }
     ensures set { D.honest (disk_of tree.new) → (s : Stored) (m : Mosaic) → IsAt D.Disk tree.old s
         → HoldsMosaic (root_of tree.old).side (staged_in D.Disk tree.old) m
         → OnOk result (HoldsMosaic (root_of tree.old).side (staged_in D.Disk tree.new) (all_changed changes.now m)) }
@@ -157,6 +172,9 @@ fn stage_page<D: Disk>(
     requires prepared { All (λ change. HasStaged tree.old (tile_of change)) changes.now }
     ensures stages { StagesOnly D.Disk tree.old tree.new result }
     ensures refused { IfErr result (λ r. r ≡ Device) }
+    ensures writes { D.writes (disk_of tree.new) ≤ writes_begun D.Disk tree.old + 1 }
+    ensures pages { OnOk result (writes_begun D.Disk tree.new ≤ writes_begun D.Disk tree.old + 1) }
+    ensures due { OnOk result (records_due tree.new ≡ records_due tree.old) }
     ensures next { IfOk result (λ next. (first < next) × (next ≤ length changes.now)) }
     ensures set { D.honest (disk_of tree.new) → (s : Stored) (m : Mosaic) → IsAt D.Disk tree.old s
         → HoldsMosaic (root_of tree.old).side (staged_in D.Disk tree.old) (all_changed (take first changes.now) m)

@@ -8,25 +8,32 @@
 #![tactic(auto)]
 
 mod applying;
+#[cfg(test)]
+mod counted_disk;
 mod draining;
 #[cfg(test)]
 mod draining_tests;
 mod editing;
-#[cfg(test)]
-mod editing_tests;
+mod event;
 mod exporting;
+#[cfg(test)]
+mod fixtures;
 mod in_memory;
 mod laws;
 mod listing;
 mod queries;
 #[cfg(test)]
-mod query_tests;
-#[cfg(test)]
 mod real_tile_tests;
-mod store;
 #[cfg(test)]
-mod tests;
+mod row_tests;
+#[cfg(test)]
+mod run_tests;
+mod running;
+#[cfg(test)]
+mod stop_tests;
+mod store;
 
+pub use event::{Event, Reply};
 pub use in_memory::store_in_memory;
 pub use laws::images_stand_for_one_contents;
 pub use store::Store;

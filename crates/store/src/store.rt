@@ -6,7 +6,7 @@ ghost use Rattle.lattice.specs.Corners.{Place};
 ghost use Rattle.lattice.specs.declared.refusal.Refusal.TheVariants.{Device, NoMemory, BadSide, BadCapacity, TooSmall};
 ghost use Rattle.page_codec.specs.Sizes.{sectors_of};
 ghost use Rattle.edits.specs.State.{Contents, State, fresh};
-ghost use Rattle.cow_tree.specs.Trees.{HasStaged, MayRefuse, corners_of as corners_under, root_of as root_under, has_failed as have_failed};
+ghost use Rattle.cow_tree.specs.Trees.{HasStaged, records_due, MayRefuse, corners_of as corners_under, root_of as root_under, has_failed as have_failed};
 ghost use Rattle.store.specs.Standing.{StandsFor};
 ghost use Rattle.store.specs.States.{working};
 
@@ -27,6 +27,7 @@ pub struct Store<D: Disk> {
     pub(crate) tree: Tree<D>,
     // Between two calls nothing is staged.
     ghost clean: { have_failed tree ≡ false → (c : Place) → ¬ HasStaged tree c },
+    ghost none_due: { have_failed tree ≡ false → records_due tree ≡ 0 },
     ghost corners: { have_failed tree ≡ false → corners_under tree ≡ map (λ e. e.corner) (root_under tree).entries },
 }
 
@@ -103,6 +104,10 @@ impl<D: Disk> Store<D> {
         ensures works { OnOk result (has_failed self.new ≡ false) }
         ensures failed { IfErr result (λ r. has_failed self.new ≡ true) }
         ensures last_known { IfErr result (λ r. root_of self.new ≡ root_of self.old) }
+
+        // The side and the capacity stay.
+        ensures side { D.honest (disk_of self.new) → (s : State) → IsAt D.Disk self.old s → side_of self.new ≡ side_of self.old }
+        ensures capacity { D.honest (disk_of self.new) → (s : State) → IsAt D.Disk self.old s → capacity_of self.new ≡ capacity_of self.old }
 
         // It comes to the contents that were last known, or to those of the commit in doubt.
         ensures at { D.honest (disk_of self.new) → (s : State) → IsAt D.Disk self.old s

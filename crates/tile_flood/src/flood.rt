@@ -160,7 +160,7 @@ impl Flood {
         ensures still { OnOk result (AreMarkedStill self.old.levels.items self.new.levels.items) }
         ensures count { OnOk result (unmarked self.new.levels.items + waiting self.new.queue ≡ unmarked self.old.levels.items + waiting self.old.queue) }
     {
-        if is_ground(n, heights, e) && self.is_unmarked(e) {
+        if self.is_unmarked(e) && is_ground(n, heights, e) {
             let level = higher(at(heights, e), front.level);
             self.mark(e, level, front.label)?;
         }

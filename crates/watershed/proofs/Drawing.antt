@@ -80,7 +80,7 @@ drawn_runs seen runs run drawn = record {
 ≤ℤ_trans : (a b c : ℤ) → a ≤ℤ b → b ≤ℤ c → a ≤ℤ c
 ≤ℤ_trans a b c ab bc = omega (arith, ints)
 
-take_more : (points : List Point) (k : ℕ) (p : Point) → k < length points → p ≡ get_or points k p → take (k + 1) points ≡ take k points ++ p ∷ []
+pub take_more : (points : List Point) (k : ℕ) (p : Point) → k < length points → p ≡ get_or points k p → take (k + 1) points ≡ take k points ++ p ∷ []
 take_more [] k p lt is = absurd (omega arith)
 take_more (q ∷ rest) zero p lt is = ap (λ (r : Point). r ∷ []) (sym is)
 take_more (q ∷ rest) (suc k) p lt is =

@@ -6,111 +6,42 @@ use Rattle.std.proofs.lemmas.List.{get_or_append_left, get_or_default}
 use Rattle.std.proofs.lemmas.List.Elements.{All-append, All-cons, All-nil, Contains-append_left, Contains-append_right}
 use Rattle.lattice.specs.declared.point.Point.{Point}
 use Rattle.lattice.specs.declared.direction.Dir.{Dir}
-use Rattle.lattice.specs.declared.direction.Step.{Step}
-use Rattle.lattice.specs.Steps.{step, directions}
-use Rattle.lattice.specs.Stepping.{fits_point, reach_of}
+use Rattle.lattice.specs.Steps.{step}
 use Rattle.lattice.specs.Mosaic.{Mosaic, IsMosaic}
 use Rattle.lattice.specs.Ground.{is_ground, terrain}
 use Rattle.flow_d8.specs.FlowPath.{FlowsTo, IsInWatershed}
-use Rattle.flow_d8.specs.Drained.{Drained, AreDirectionsOf, direction_in, distance_in}
+use Rattle.flow_d8.specs.Drained.{Drained, DrainsTo, AreDirectionsOf, direction_in, distance_in}
 use Rattle.flow_d8.proofs.Unique.{one_direction}
 use Rattle.flow_d8.proofs.Tracing.{drains_to_ground}
-use Rattle.flow_d8.proofs.Fitting.{ground_fits}
-use Rattle.watershed.specs.Search.{back_of, DrainsTo, LeadsTo, AreFeeders, AreUpstream}
-use Rattle.watershed.proofs.Steps.{back-back, step_back, reach_has, reach_led}
+use Rattle.watershed.specs.Search.{LeadsTo, AreFeeders, AreUpstream}
 
 module _ (d : Drained) where
-  -- of the first k steps, the points that drain back are added to the old list
-  pub record IsAdding (p : Point) (steps : List Step) (k : ℕ) (old now : List Point) : Type 0 where
-    pub more : List Point
-    pub after : now ≡ old ++ more
-    pub drain : All (λ x. DrainsTo d x p) more
-    pub whole : (i : ℕ) (s : Step) → i < k → direction_in d (slice_index_or steps i s).to ≡ Some (back_of (slice_index_or steps i s).direction) → Contains more (slice_index_or steps i s).to
-
-  pub adding_no : (p : Point) (steps : List Step) (k : ℕ) (old now : List Point) (s : Step) → k < length steps → s ≡ get_or steps k s
-      → (direction_in d s.to ≡ Some (back_of s.direction) → ⊥) → IsAdding p steps k old now → IsAdding p steps (k + 1) old now
-  adding_no p steps k old now s lt is not so_far = record {
-    more = so_far.more;
-    after = so_far.after;
-    drain = so_far.drain;
-    whole = λ i e below drains. elim (cases_eq i k) [
-      | inl here ↦
-          let same : slice_index_or steps i e ≡ s = ap (λ j. get_or steps j e) here ∙ get_or_default steps k e s lt ∙ sym is in
-          absurd (not (subst (λ (t : Step). direction_in d t.to ≡ Some (back_of t.direction)) same drains))
-      | inr other ↦ so_far.whole i e (omega arith) drains
-    ];
-  }
-
-  pub adding_one : (p : Point) (steps : List Step) (k : ℕ) (old now new : List Point) (s : Step) → steps ≡ reach_of p directions → k < length steps → s ≡ get_or steps k s
-      → direction_in d s.to ≡ Some (back_of s.direction) → new ≡ now ++ s.to ∷ [] → IsAdding p steps k old now → IsAdding p steps (k + 1) old new
-  adding_one p steps k old now new s all lt is drains added so_far = record {
-    more = so_far.more ++ s.to ∷ [];
-    after = added ∙ ap (λ (l : List Point). l ++ s.to ∷ []) so_far.after ∙ append_assoc old so_far.more (s.to ∷ []);
-    drain = All-append (λ x. DrainsTo d x p) so_far.more (s.to ∷ []) so_far.drain (All-cons (λ x. DrainsTo d x p) s.to [] here_drains (All-nil (λ x. DrainsTo d x p)));
-    whole = λ i e below drains_e. elim (cases_eq i k) [
-      | inl here ↦
-          let same : slice_index_or steps i e ≡ s = ap (λ j. get_or steps j e) here ∙ get_or_default steps k e s lt ∙ sym is in
-          subst (λ (t : Step). Contains (so_far.more ++ s.to ∷ []) t.to) (sym same) (Contains-append_right so_far.more (s.to ∷ []) s.to (0, omega arith, refl))
-      | inr other ↦ Contains-append_left so_far.more (s.to ∷ []) (slice_index_or steps i e).to (so_far.whole i e (omega arith) drains_e)
-    ];
-  }
-    where
-      led : s.to ≡ step s.direction p
-      led = let at = subst (λ (l : List Step). All (λ (t : Step). t.to ≡ step t.direction p) l) (sym all) (reach_led p) k s lt in
-          subst (λ (t : Step). t.to ≡ step t.direction p) (sym is) at
-
-      here_drains : DrainsTo d s.to p
-      here_drains = (back_of s.direction, (drains, ap (step (back_of s.direction)) led ∙ step_back s.direction p))
-
-  -- the same, where the step is read with another default
-  pub adding_read : (p : Point) (steps : List Step) (k : ℕ) (old now new : List Point) (x : Step) → steps ≡ reach_of p directions → k < length steps
-      → direction_in d (get_or steps k x).to ≡ Some (back_of (get_or steps k x).direction) → new ≡ now ++ (get_or steps k x).to ∷ [] → IsAdding p steps k old now → IsAdding p steps (k + 1) old new
-  adding_read p steps k old now new x all lt drains added so_far = adding_one p steps k old now new (get_or steps k x) all lt (get_or_default steps k x (get_or steps k x) lt) drains added so_far
-
-  pub passing_read : (p : Point) (steps : List Step) (k : ℕ) (old now : List Point) (x : Step) → k < length steps
-      → (direction_in d (get_or steps k x).to ≡ Some (back_of (get_or steps k x).direction) → ⊥) → IsAdding p steps k old now → IsAdding p steps (k + 1) old now
-  passing_read p steps k old now x lt not so_far = adding_no p steps k old now (get_or steps k x) lt (get_or_default steps k x (get_or steps k x) lt) not so_far
-
-  pub added_all : (p : Point) (steps : List Step) (old now : List Point) → steps ≡ reach_of p directions → IsAdding p steps (length steps) old now → AreFeeders d p old now
-  added_all p steps old now all so_far = record {
-    more = so_far.more;
-    after = so_far.after;
-    drain = so_far.drain;
-    whole = λ x fits drains.
-        let e = drains.0 in
-        let back : step (back_of e) p ≡ x = ap (step (back_of e)) (sym drains.1.1) ∙ step_back e x in
-        let s : Step = record { direction = back_of e; to = step (back_of e) p } in
-        let among : Contains steps s = subst (λ (l : List Step). Contains l s) (sym all) (reach_has p (back_of e) (subst (λ q. IsTrue (fits_point q)) (sym back) fits)) in
-        let way : direction_in d s.to ≡ Some (back_of s.direction) = ap (direction_in d) back ∙ drains.1.0 ∙ ap Some (sym (back-back e)) in
-        let at = so_far.whole among.0 s among.1 (subst (λ (t : Step). direction_in d t.to ≡ Some (back_of t.direction)) (sym among.2) way) in
-        subst (Contains so_far.more) (ap (λ (t : Step). t.to) among.2 ∙ back) at;
-  }
-
   -- the points found so far; what drains straight to the first `done` of them is found
   pub record IsSearching (p : Point) (found : List Point) (done : ℕ) : Type 0 where
     pub lead : All (λ x. (k : ℕ) × LeadsTo d x k p) found
     pub begins : IsTrue (is_some (distance_in d p)) → Contains found p
     pub elsewhere : IsFalse (is_some (distance_in d p)) → found ≡ []
     pub few : done ≤ length found
-    pub closed : (i : ℕ) (q x : Point) → i < done → IsTrue (fits_point x) → DrainsTo d x (slice_index_or found i q) → Contains found x
+    pub closed : (i : ℕ) (q x : Point) → i < done → DrainsTo d x (slice_index_or found i q) → Contains found x
 
   pub search_on : (p at : Point) (found new : List Point) (done : ℕ) → done < length found → at ≡ get_or found done at → AreFeeders d at found new → IsSearching p found done → IsSearching p new (done + 1)
   search_on p at found new done lt is fed so_far = subst (λ l. IsSearching p l (done + 1)) (sym fed.after) (record {
     lead = All-append (λ x. (k : ℕ) × LeadsTo d x k p) found fed.more so_far.lead (λ k x low.
-        let drains = fed.drain k x low in
+        let y = get_or fed.more k x in
+        let drains = (fed.exactly y).0 (k, low, get_or_default fed.more k y x low) in
         let on : (k : ℕ) × LeadsTo d at k p = subst (λ q. (k : ℕ) × LeadsTo d q k p) (sym is) (so_far.lead done at lt) in
         (suc on.0, (drains.0, (drains.1.0, subst (λ q. LeadsTo d q on.0 p) (sym drains.1.1) on.1))));
     begins = λ known. Contains-append_left found fed.more p (so_far.begins known);
     elsewhere = λ none. absurd (omega (arith, ap length (so_far.elsewhere none)));
     few = omega (arith, length-append found fed.more);
-    closed = λ i q x below fits drains. elim (cases_eq i done) [
+    closed = λ i q x below drains. elim (cases_eq i done) [
       | inl here ↦
           let same : slice_index_or (found ++ fed.more) i q ≡ at = ap (λ j. get_or (found ++ fed.more) j q) here ∙ get_or_append_left found fed.more q done lt ∙ get_or_default found done q at lt ∙ sym is in
-          Contains-append_right found fed.more x (fed.whole x fits (subst (DrainsTo d x) same drains))
+          Contains-append_right found fed.more x ((fed.exactly x).1 (subst (DrainsTo d x) same drains))
       | inr other ↦
           let low : i < done = omega arith in
           let same : slice_index_or (found ++ fed.more) i q ≡ slice_index_or found i q = get_or_append_left found fed.more q i (omega arith) in
-          Contains-append_left found fed.more x (so_far.closed i q x low fits (subst (DrainsTo d x) same drains))
+          Contains-append_left found fed.more x (so_far.closed i q x low (subst (DrainsTo d x) same drains))
     ];
   })
 
@@ -119,7 +50,7 @@ module _ (d : Drained) where
     lead = so_far.lead;
     begins = so_far.begins;
     elsewhere = so_far.elsewhere;
-    closed = λ q x has fits drains. so_far.closed has.0 q x (omega (arith, has.1)) fits (subst (DrainsTo d x) (sym has.2) drains);
+    closed = λ q x has drains. so_far.closed has.0 q x (omega (arith, has.1)) (subst (DrainsTo d x) (sym has.2) drains);
   }
 
 no_some : {A : Type 0} (a : A) → ◌≡◌ {A = Option A} None (Some a) → ⊥
@@ -158,7 +89,7 @@ module _ (m : Mosaic) (level : Point → ℤ) (d : Drained) (is : IsMosaic m) (a
       let e = flow.0 in
       let at : direction_in d x ≡ Some e = one_direction (terrain m) level x (direction_in d x) (Some e) (are.direction x solid) flow.1.0 in
       let on = met p (step e x) k found up (drains_to_ground m level d is are x e solid at).1 flow.1.1 in
-      (on.0, up.closed (step e x) x on.1 (ground_fits m is x solid) (e, (at, refl)))
+      (on.0, up.closed (step e x) x on.1 (e, (at, refl)))
 
   pub found_is_watershed : (p x : Point) (found : List Point) → AreUpstream d p found → Contains found x ↔ IsInWatershed (terrain m) level p x
   found_is_watershed p x found up = (

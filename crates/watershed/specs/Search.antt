@@ -1,28 +1,11 @@
--- The search up the flow paths: which points drain straight to a point, and which are found.
-use Rattle.std.specs.Prelude.{◌≡◌, ℕ, zero, suc, IsTrue, IsFalse, Some, List, [], ◌++◌, All, Contains, is_some}
+-- The search up the flow paths: which points lead to a point, and which are found.
+use Rattle.std.specs.Prelude.{◌≡◌, ◌↔◌, ℕ, zero, suc, IsTrue, IsFalse, Some, List, [], ◌++◌, All, Contains, is_some}
 use Rattle.lattice.specs.declared.point.Point.{Point}
 use Rattle.lattice.specs.declared.direction.Dir.{Dir}
-use Rattle.lattice.specs.declared.direction.Dir.TheVariants.{East, SouthEast, South, SouthWest, West, NorthWest, North, NorthEast}
 use Rattle.lattice.specs.Steps.{step}
-use Rattle.lattice.specs.Stepping.{fits_point}
-use Rattle.flow_d8.specs.Drained.{Drained, direction_in, distance_in}
-
--- the direction of the step back
-abbrev pub back_of : Dir → Dir
-back_of East = West
-back_of SouthEast = NorthWest
-back_of South = North
-back_of SouthWest = NorthEast
-back_of West = East
-back_of NorthWest = SouthEast
-back_of North = South
-back_of NorthEast = SouthWest
+use Rattle.flow_d8.specs.Drained.{Drained, DrainsTo, direction_in, distance_in}
 
 module _ (d : Drained) where
-  -- x drains straight to p
-  abbrev pub DrainsTo : Point → Point → Type 0
-  DrainsTo x p = (e : Dir) × ((direction_in d x ≡ Some e) × (step e x ≡ p))
-
   -- so many such steps lead from x to p
   abbrev pub LeadsTo : Point → ℕ → Point → Type 0
   LeadsTo x zero p = x ≡ p
@@ -32,12 +15,11 @@ module _ (d : Drained) where
   pub record AreFeeders (p : Point) (old new : List Point) : Type 0 where
     pub more : List Point
     pub after : new ≡ old ++ more
-    pub drain : All (λ x. DrainsTo x p) more
-    pub whole : (x : Point) → IsTrue (fits_point x) → DrainsTo x p → Contains more x
+    pub exactly : (x : Point) → Contains more x ↔ DrainsTo d x p
 
   -- the points that lead to p, where p has a flat distance
   pub record AreUpstream (p : Point) (found : List Point) : Type 0 where
     pub lead : All (λ x. (k : ℕ) × LeadsTo x k p) found
     pub begins : IsTrue (is_some (distance_in d p)) → Contains found p
     pub elsewhere : IsFalse (is_some (distance_in d p)) → found ≡ []
-    pub closed : (q x : Point) → Contains found q → IsTrue (fits_point x) → DrainsTo x q → Contains found x
+    pub closed : (q x : Point) → Contains found q → DrainsTo d x q → Contains found x

@@ -1,17 +1,17 @@
 //! The search up the flow paths.
-ghost use Rattle.std.specs.Prelude.{◌≡◌, ◌↔◌, ℤ, IsTrue, IsFalse, IfOk, IfErr, OnOk, Some, []};
+ghost use Rattle.std.specs.Prelude.{◌≡◌, ℤ, IsTrue, IsFalse, IfOk, IfErr, OnOk, []};
 ghost use Rattle.lattice.specs.declared.point.Point.{Point};
 ghost use Rattle.lattice.specs.declared.refusal.Refusal.TheVariants.{NoMemory};
 ghost use Rattle.lattice.specs.Mosaic.{Mosaic, IsMosaic};
 ghost use Rattle.lattice.specs.Ground.{is_ground, terrain};
 ghost use Rattle.flow_d8.specs.FlowPath.{IsInWatershed};
-ghost use Rattle.flow_d8.specs.Drained.{AreDirectionsOf, direction_in};
+ghost use Rattle.flow_d8.specs.Drained.{AreDirectionsOf};
 ghost use Rattle.watershed.specs.Runs.{AreRuns};
-ghost use Rattle.watershed.specs.Search.{back_of, AreFeeders, AreUpstream};
+ghost use Rattle.watershed.specs.Search.{AreFeeders, AreUpstream};
 
 use crate::runs::{Run, runs_of, sort};
 use flow_d8::Directions;
-use lattice::{Dir, Point, Refusal, Step, steps};
+use lattice::{Point, Refusal};
 use std::alloc::{AllocError, Global};
 
 /// The watershed of the point: the ground points whose flow path contains it, as maximal runs, from the north down, in
@@ -51,34 +51,9 @@ fn add_feeders(
 ) -> Result<(), AllocError>
     ensures { OnOk result (AreFeeders directions.now point found.old.items found.new.items) }
 {
-    let around = steps(point);
-    for step in around.as_slice() {
-        if drains_back(directions, *step) {
-            found.push(step.to)?;
-        }
+    let feeders = directions.feeders(point);
+    for feeder in feeders.as_slice() {
+        found.push(*feeder)?;
     }
     Ok(())
-}
-
-// Whether the point that the step leads to drains straight back.
-fn drains_back(directions: &Directions, step: Step) -> bool
-    ensures { IsTrue result ↔ (direction_in directions.now step.to ≡ Some (back_of step.direction)) }
-{
-    directions.direction(step.to) == Some(opposite(step.direction))
-}
-
-// The direction of the step back.
-fn opposite(direction: Dir) -> Dir
-    ensures { result ≡ back_of direction }
-{
-    match direction {
-        Dir::East => Dir::West,
-        Dir::SouthEast => Dir::NorthWest,
-        Dir::South => Dir::North,
-        Dir::SouthWest => Dir::NorthEast,
-        Dir::West => Dir::East,
-        Dir::NorthWest => Dir::SouthEast,
-        Dir::North => Dir::South,
-        Dir::NorthEast => Dir::SouthWest,
-    }
 }

@@ -1,14 +1,14 @@
-use Rattle.std.proofs.Common.{◌≡◌, ◌+◌, IsTrue, set, sym, ap, subst, ◌∙◌}
+use Rattle.std.proofs.Common.{◌≡◌, IsTrue, sym, ap, ◌∙◌}
 use Rattle.std.specs.Prelude.{is_some}
 use Rattle.std.specs.List.{list_all}
 use Rattle.flow_d8.specs.Surface.{around_of, has_level}
-use Rattle.flow_d8.specs.Crossing.{Crosses, IsBegun}
+use Rattle.flow_d8.specs.Crossing.{Crosses}
 use Rattle.flow_d8.proofs.Beginning.{begin_none, begin_flat, begin_set, downhill_of, crosses_down, no_lower, inside_of, off_of}
 use Rattle.flow_d8.proofs.finding.begin.Goals as goal
 use Rattle.flow_d8.proofs.finding.begin.Goals.{else-is_none-via-then-is_none+else-is_enclosed, else-is_none-via-else-is_none}
 
 pub returns-in_default : goal.returns-in_default
-returns-in_default c = begin_none c.args.filled.now c.levels-levels.ensures.valid c.args.drains.now c.args.distances.now c.args.wave.now.items c.args.number c.requires.state c.in_default.ensures
+returns-in_default c = begin_none c.args.filled.now c.levels-levels.ensures.valid c.args.drains.now c.args.distances.now c.args.number c.requires.state c.in_default.ensures
 
 pub returns-then-is_enclosed : goal.returns-then-is_enclosed
 returns-then-is_enclosed c =
@@ -17,7 +17,7 @@ returns-then-is_enclosed c =
     let level : IsTrue (has_level f p) = c.in-Some.ensures.0 in
     let down = downhill_of f p c.steepest-way.result c.steepest-way.ensures in
     let is : c.is_enclosed.result ≡ list_all is_some (around_of f p) = c.is_enclosed.ensures ∙ ap (list_all is_some) c.around-around.ensures in
-    begin_flat f c.levels-levels.ensures.valid c.args.drains.now c.args.distances.now c.args.wave.now.items c.args.number c.requires.state p level c.in-Some.ensures.1
+    begin_flat f c.levels-levels.ensures.valid c.args.drains.now c.args.distances.now c.args.number c.requires.state p level c.in-Some.ensures.1
     (no_lower f p c.steepest-way.result c.is_none.result down (sym c.is_none.ensures) c.if-is_none.true)
     (inside_of f p c.is_enclosed.result level is c.if-is_enclosed.true)
 
@@ -31,5 +31,4 @@ returns c =
       | else-is_none-via-then-is_none+else-is_enclosed w ↦ off_of f p w.is_enclosed.result level (w.is_enclosed.ensures ∙ ap (list_all is_some) c.around-around.ensures) w.if-is_enclosed.false
       | else-is_none-via-else-is_none w ↦ crosses_down f p c.steepest-way.result c.is_none.result down (sym c.is_none.ensures) w.if-is_none.false
     ] in
-    subst (λ xs. IsBegun f (set c.args.drains.now c.args.number c.steepest-way.result) (set c.args.distances.now c.args.number 0) xs (c.args.number + 1)) (sym c.in_ok-push.ensures.items)
-    (begin_set f c.levels-levels.ensures.valid c.args.drains.now c.args.distances.now c.args.wave.now.items c.args.number c.requires.state p level c.in-Some.ensures.1 c.steepest-way.result down crosses)
+    begin_set f c.levels-levels.ensures.valid c.args.drains.now c.args.distances.now c.args.number c.requires.state p level c.in-Some.ensures.1 c.steepest-way.result down crosses

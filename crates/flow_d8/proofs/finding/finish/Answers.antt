@@ -1,14 +1,14 @@
 use Rattle.std.proofs.Common.{◌<◌, get_or, sym, ◌∙◌, subst, arith, length, refl}
 use Rattle.std.proofs.lemmas.List.{get_or_default}
 use Rattle.flow_d8.specs.Crossing.{unknown}
-use Rattle.flow_d8.proofs.Beginning.{finish_nowhere, finish_off, finish_across}
+use Rattle.flow_d8.proofs.Beginning.{finish_nowhere, finish_done, finish_across}
 use Rattle.flow_d8.proofs.Found.{nowhere_in_no_mosaic}
 use Rattle.flow_d8.proofs.finding.finish.Goals as goal
 
 pub returns-then-distance-eq0-clause-state : goal.returns-then-distance-eq0-clause-state
 returns-then-distance-eq0-clause-state c =
     let within : c.args.number < length c.args.distances.now = subst (λ n. c.args.number < n) (sym c.requires.distances.whole) c.requires.number in
-    finish_off c.args.filled.now c.args.drains.now c.args.distances.now c.requires.distances c.args.number c.requires.state c.in-Some.point c.in-Some.ensures.0 c.in-Some.ensures.1
+    finish_done c.args.filled.now c.args.drains.now c.args.distances.now c.requires.distances c.args.number c.requires.state
     (sym (get_or_default c.args.distances.now c.args.number 0 unknown within) ∙ c.if-distance-eq0.true)
 
 pub returns-clause-state : goal.returns-clause-state

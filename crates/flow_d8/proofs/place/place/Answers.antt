@@ -1,27 +1,33 @@
-use Rattle.std.proofs.Common.{◌≡◌, ◌*◌, ◌≤◌, ◌+◌, false, true≢false, sym, ap, ◌∙◌, subst}
-use Rattle.lattice.specs.Lattice.{IsIndexOf}
-use Rattle.flow_d8.specs.Levels.{is_holder}
-use Rattle.flow_d8.proofs.Seeking.{sought_start, sought_more, sought_found, sought_none, no_holder}
+use Rattle.std.proofs.Common.{◌+◌, ◌*◌, length, List, ap, ◌∙◌, sym, subst, arith}
+use Rattle.std.specs.Prelude.{Contains, ◌↔◌}
+use Rattle.std.specs.List.{AllAdjacentBelow}
+use Rattle.lattice.specs.Corners.{Place}
+use Rattle.lattice.specs.Lattice.{IsBefore, Holds}
+use Rattle.flow_d8.proofs.Tiles.{passed_more, none_held, first_found}
 use Rattle.flow_d8.proofs.place.place.Goals as goal
 
-pub loop-number-init : goal.loop-number-init
-loop-number-init c = sought_start c.args.side c.args.corners.now c.args.point
+pub loop-corner-init : goal.loop-corner-init
+loop-corner-init c = λ j d lt. absurd (omega arith)
 
-pub loop-number-preserved : goal.loop-number-preserved
-loop-number-preserved c =
-    let corner = c.index-corners-number.result in
-    let side : 3 ≤ c.args.side = c.area-area.ensures.low in
-    sought_more c.args.side c.args.corners.now c.args.point c.loop-number.number corner c.loop-number-test.true
-    (subst (λ k. is_holder c.args.side k c.args.point ≡ false) c.index-corners-number.is
-    (no_holder c.args.side corner c.args.point side (λ held. true≢false (sym (c.in_default.ensures.held.1 held))))) c.loop-number.invariant
+pub loop-corner-preserved : goal.loop-corner-preserved
+loop-corner-preserved c = passed_more c.args.corners.now c.as_slice-corner-items.result.now c.loop-corner.corner-index c.corner-item.result c.loop-corner-test.true c.corner-item.is
+    c.in_default.ensures.found c.loop-corner.invariant
 
 pub returns-in-Some : goal.returns-in-Some
 returns-in-Some c =
-    let corner = c.index-corners-number.result in
-    let side : 3 ≤ c.args.side = c.area-area.ensures.low in
-    let found = sought_found c.args.side c.args.corners.now c.args.point c.loop-number.number c.in-Some.index corner c.loop-number-test.true side
-    (subst (λ k. IsIndexOf c.args.side k c.args.point c.in-Some.index) c.index-corners-number.is c.in-Some.ensures.index) c.loop-number.invariant in
-    (found.0, ap (λ a. c.loop-number.number * a + c.in-Some.index) c.area-area.ensures.value ∙ found.1)
+    let around = c.as_slice-corner-items.result.now in
+    let exactly : (d : Place) → Contains around d ↔ Holds c.args.side d c.args.point =
+    subst (λ (cs : List Place). (d : Place) → Contains cs d ↔ Holds c.args.side d c.args.point) (sym c.as_slice-corner-items.ensures.value) c.holders-around.ensures.exactly in
+    let in_order : AllAdjacentBelow IsBefore around (length around) =
+    subst (λ (cs : List Place). AllAdjacentBelow IsBefore cs (length cs)) (sym c.as_slice-corner-items.ensures.value) c.holders-around.ensures.in_order in
+    let found = first_found c.args.side c.args.corners.now around c.args.point c.area-area.ensures.low c.requires.in_order exactly in_order
+    c.loop-corner.corner-index c.in-Some.number c.in_ok-index.index c.corner-item.result c.loop-corner-test.true c.corner-item.is c.in-Some.ensures.found c.in-Some.ensures.within c.in_ok-index.ensures.index
+    c.loop-corner.invariant in
+    (found.0, ap (λ a. c.in-Some.number * a + c.in_ok-index.index) c.area-area.ensures.value ∙ found.1)
 
 pub returns : goal.returns
-returns c = sought_none c.args.side c.args.corners.now c.args.point c.loop-number.number c.loop-number-test.false c.loop-number.invariant
+returns c =
+    let around = c.as_slice-corner-items.result.now in
+    let exactly : (d : Place) → Contains around d ↔ Holds c.args.side d c.args.point =
+    subst (λ (cs : List Place). (d : Place) → Contains cs d ↔ Holds c.args.side d c.args.point) (sym c.as_slice-corner-items.ensures.value) c.holders-around.ensures.exactly in
+    none_held c.args.side c.args.corners.now around c.args.point c.area-area.ensures.low exactly c.loop-corner.corner-index c.loop-corner-test.false c.loop-corner.invariant

@@ -1,7 +1,7 @@
-use Rattle.std.proofs.Common.{rules, arith, ◌≡◌, ◌++◌, ◌∷◌, [], ◌∙◌, sym, ap, append_assoc, OnOk, ℕ, List}
+use Rattle.std.proofs.Common.{rules, arith, ◌≡◌, ◌++◌, ◌∷◌, [], ◌∙◌, ap, OnOk, ℕ, List}
 use Rattle.std.proofs.lemmas.Grind.{common_steps}
 use Rattle.std.specs.Fmt.{signed_decimal}
-use Rattle.lines.specs.Replies.{line_of, run_line}
+use Rattle.lines.specs.Replies.{line_of}
 use Rattle.lines.proofs.WriteLemmas.{OnOk-map}
 use Rattle.lines.proofs.lists.extend_run.Goals as goal
 

@@ -5,4 +5,4 @@ use Rattle.server.proofs.answering.trace.Goals as goal
 pub returns-in-Ok-clause-outcome : goal.returns-in-Ok-clause-outcome
 returns-in-Ok-clause-outcome g c = λ honest s at.
     let traced = c.in-Ok.ensures.outcome honest s at in
-    (traced.0, traced.1.0, (Err NoMemory, (traced.1.1.0, c.refused.ensures)))
+    (traced.0, traced.1, traced.2, (Err NoMemory, (traced.3.0, c.refused.ensures)))

@@ -5,4 +5,4 @@ use Rattle.server.proofs.answering.watershed.Goals as goal
 pub returns-in-Ok-clause-outcome : goal.returns-in-Ok-clause-outcome
 returns-in-Ok-clause-outcome g c = λ honest s at.
     let found = c.in-Ok.ensures.outcome honest s at in
-    (found.0, found.1.0, (Err NoMemory, (found.1.1.0, c.refused.ensures)))
+    (found.0, found.1, found.2, (Err NoMemory, (found.3.0, c.refused.ensures)))

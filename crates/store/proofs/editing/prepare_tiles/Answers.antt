@@ -1,4 +1,4 @@
-use Rattle.std.proofs.Common.{◌≡◌, ◌∙◌, ℕ, Bool, false, Result, Ok, Err, get_or, below_more, sym, ap, subst}
+use Rattle.std.proofs.Common.{◌≡◌, ◌∙◌, ℕ, false, Result, Ok, Err, get_or, below_more, ap, subst, arith}
 use Rattle.std.proofs.lemmas.List.{get_or_default}
 use Rattle.lattice.specs.Corners.{Place}
 use Rattle.lattice.specs.declared.refusal.Refusal.{Refusal}
@@ -41,6 +41,9 @@ loop-change-preserved g c =
             corners = c.prepare.ensures.corners;
             still_staged = c.prepare.ensures.still_staged;
           });
+      writes = ap d.writes c.prepare.ensures.disk ∙ here.writes;
+      begun = c.prepare.ensures.begun ∙ here.begun;
+      due = omega (arith, c.prepare.ensures.due, here.due);
       staged = c.prepare.ensures.staged ∙ here.staged;
       prepared = λ k change lt.
           below_more (λ (j : ℕ). (x : Change) → HasStaged new (tile_of (get_or changes j x))) index

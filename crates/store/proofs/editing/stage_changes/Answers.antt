@@ -1,11 +1,13 @@
-use Rattle.std.proofs.Common.{ℕ, List, sym, ap, subst, OnOk}
+use Rattle.std.proofs.Common.{◌≡◌, ◌≤◌, ◌+◌, ℕ, Bool, if◌then◌else◌, List, length, sym, ap, ap₂, subst, OnOk, arith}
 use Rattle.page_codec.specs.Roots.{RootValue}
 use Rattle.edits.specs.Changes.{all_changed}
 use Rattle.cow_tree.specs.Stored.{StoredTile}
-use Rattle.cow_tree.specs.Trees.{root_of, staged_in}
-use Rattle.store.specs.Editing.{HoldsMosaic}
+use Rattle.cow_tree.specs.Trees.{disk_of, root_of, staged_in}
+use Rattle.store.specs.Editing.{HoldsMosaic, writes_begun}
 use Rattle.store.proofs.EditingSteps.{stages_on}
+use Rattle.cow_tree.proofs.Steps.{on_ok}
 use Rattle.store.proofs.editing.stage_changes.Goals as goal
+use Rattle.store.proofs.editing.stage_changes.Goals.{After-stage_pages}
 
 pub returns-in-Ok-clause-stages : goal.returns-in-Ok-clause-stages
 returns-in-Ok-clause-stages g c =
@@ -23,3 +25,19 @@ returns-in-Ok-clause-set g c honest s m at start =
     subst (λ (n : ℕ). OnOk c.stage_pages.result (HoldsMosaic n (staged_in d new) (all_changed c.args.changes.now m))) side
     (c.stage_pages.ensures.set honest s m mid_at
     (subst (λ (n : ℕ). HoldsMosaic n (staged_in d mid) m) (sym side) (subst (λ (tiles : List StoredTile). HoldsMosaic (root_of old).side tiles m) (sym c.prepare_tiles.ensures.staged) start)))
+
+same_begun : (g : _) (c : After-stage_pages g) → writes_begun g.D.Disk c.prepare_tiles.new.tree ≡ writes_begun g.D.Disk c.args.tree.now
+same_begun g c = ap₂ (λ (n : ℕ) (b : Bool). n + (if b then 0 else 1)) c.in-Ok.ensures.writes c.in-Ok.ensures.begun
+
+pub returns-in-Ok-clause-writes : goal.returns-in-Ok-clause-writes
+returns-in-Ok-clause-writes g c =
+    let same = same_begun g (goal.at.returns-in-Ok-clause-writes g c).After-stage_pages in
+    subst (λ (n : ℕ). g.D.Disk.writes (disk_of c.stage_pages.new.tree) ≤ n + length c.args.changes.now) same c.stage_pages.ensures.writes
+
+pub returns-in-Ok-clause-pages : goal.returns-in-Ok-clause-pages
+returns-in-Ok-clause-pages g c =
+    let same = same_begun g (goal.at.returns-in-Ok-clause-pages g c).After-stage_pages in
+    subst (λ (n : ℕ). OnOk c.stage_pages.result (writes_begun g.D.Disk c.stage_pages.new.tree ≤ n + length c.args.changes.now)) same c.stage_pages.ensures.pages
+
+pub returns-in-Ok-clause-due : goal.returns-in-Ok-clause-due
+returns-in-Ok-clause-due g c = on_ok c.stage_pages.result (λ same. let few = c.in-Ok.ensures.due in omega (arith, same, few)) c.stage_pages.ensures.due

@@ -1,4 +1,4 @@
-use Rattle.std.proofs.Common.{◌≡◌, ◌<◌, ◌/◌, ℕ, Ok, Err, List, length, get_or, take, refl, sym, ap, ◌∙◌, ⊎_elim, subst}
+use Rattle.std.proofs.Common.{◌≡◌, ◌<◌, ◌≤◌, ◌+◌, ◌/◌, ℕ, Bool, if◌then◌else◌, Ok, Err, List, length, get_or, take, refl, sym, ap, ◌∙◌, ⊎_elim, subst, arith}
 use Rattle.std.proofs.lemmas.List.{get_or_default}
 use Rattle.lattice.specs.Corners.{Place}
 use Rattle.lattice.specs.declared.refusal.Refusal.{Refusal}
@@ -6,13 +6,16 @@ use Rattle.edits.specs.declared.change.Change.{Change}
 use Rattle.edits.specs.declared.change.Change.TheVariants.{Set}
 use Rattle.edits.specs.Changes.{CanBeSet, all_changed}
 use Rattle.edits.specs.LeftStale.{tile_of}
+use Rattle.cow_tree.specs.Charts.{ChartValue, fresh_corners}
 use Rattle.cow_tree.specs.Stored.{StoredTile, with_page}
-use Rattle.cow_tree.specs.Trees.{root_of, corners_of, HasStaged, staged_in}
-use Rattle.store.specs.Editing.{HoldsMosaic}
+use Rattle.cow_tree.specs.Trees.{disk_of, root_of, has_begun, corners_of, HasStaged, staged_in}
+use Rattle.store.specs.Editing.{HoldsMosaic, writes_begun}
 use Rattle.store.proofs.EditingPages.{page_as_read}
 use Rattle.store.proofs.EditingReads.{page_read, heights_held}
 use Rattle.store.proofs.EditingSteps.{stages_on, stages_ok, stages_err}
+use Rattle.store.proofs.EditingWrites.{page_written}
 use Rattle.store.proofs.editing.stage_page.Goals as goal
+use Rattle.store.proofs.editing.stage_page.Goals.{After-stage}
 
 pub read_page-requires-clause-held : goal.read_page-requires-clause-held
 read_page-requires-clause-held g c =
@@ -89,3 +92,38 @@ returns-in-Err-stage-clause-refused g c =
     (page_read g.D.Disk c.args.tree.now mid (Ok c.in_default-read_page.field-0) c.in_default-read_page.ensures.reads).still_staged c.in-Set.corner
     (subst (λ (p : Place). HasStaged c.args.tree.now p) (ap tile_of (sym c.index-changes-first.is ∙ c.in-Set.is)) (c.requires.prepared c.args.first c.index-changes-first.result c.requires.within)) in
     ⊎_elim (λ device. device) (λ none. absurd (c.stage.ensures.sure prepared (c.in-Err-stage.is ∙ ap (λ (r : Refusal). Err r) none))) c.in-Err-stage.ensures.refused
+
+pub returns-in-Err-clause-writes : goal.returns-in-Err-clause-writes
+returns-in-Err-clause-writes g c = let same = c.in-Err.ensures.reads.keeps.writes in omega (arith, same)
+
+written : (g : _) (c : After-stage g) → g.D.Disk.writes (disk_of c.stage.new.self) ≤ writes_begun g.D.Disk c.args.tree.now + 1
+written g c =
+    let d = g.D.Disk in
+    let old = c.args.tree.now in
+    let now : ℕ = d.writes (disk_of c.stage.new.self) in
+    let keeps = c.in_default-read_page.ensures.reads.keeps in
+    page_written (has_begun old) (d.writes (disk_of old)) now
+    (subst (λ (b : Bool). now ≤ d.writes (disk_of old) + (if b then 1 else 2)) keeps.begun
+    (subst (λ (n : ℕ). now ≤ n + (if has_begun c.read_page.new.self then 1 else 2)) keeps.writes c.stage.ensures.writes))
+
+pub returns-in-Ok-clause-writes : goal.returns-in-Ok-clause-writes
+returns-in-Ok-clause-writes g c = written g (goal.at.returns-in-Ok-clause-writes g c).After-stage
+
+pub returns-in-Err-stage-clause-writes : goal.returns-in-Err-stage-clause-writes
+returns-in-Err-stage-clause-writes g c = written g (goal.at.returns-in-Err-stage-clause-writes g c).After-stage
+
+pub returns-in-Ok-clause-pages : goal.returns-in-Ok-clause-pages
+returns-in-Ok-clause-pages g c =
+    let d = g.D.Disk in
+    let now : ℕ = d.writes (disk_of c.stage.new.self) in
+    let few = written g (goal.at.returns-in-Ok-clause-pages g c).After-stage in
+    subst (λ (b : Bool). now + (if b then 0 else 1) ≤ writes_begun d c.args.tree.now + 1) (sym c.in-Ok.ensures.begun) (omega (arith, few))
+
+pub returns-in-Ok-clause-due : goal.returns-in-Ok-clause-due
+returns-in-Ok-clause-due g c =
+    let mid = c.read_page.new.self in
+    let read = c.in_default-read_page.ensures.reads in
+    let prepared : HasStaged mid c.in-Set.corner =
+    (page_read g.D.Disk c.args.tree.now mid (Ok c.in_default-read_page.field-0) read).still_staged c.in-Set.corner
+    (subst (λ (p : Place). HasStaged c.args.tree.now p) (ap tile_of (sym c.index-changes-first.is ∙ c.in-Set.is)) (c.requires.prepared c.args.first c.index-changes-first.result c.requires.within)) in
+    c.in-Ok.ensures.due_same prepared ∙ ap (λ (chart : ChartValue). length (fresh_corners chart)) read.keeps.chart

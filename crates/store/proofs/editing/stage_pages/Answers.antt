@@ -1,4 +1,4 @@
-use Rattle.std.proofs.Common.{ℕ, Ok, Err, take, sym, ap, subst}
+use Rattle.std.proofs.Common.{ℕ, Ok, Err, take, sym, ap, ◌∙◌, subst, arith}
 use Rattle.page_codec.specs.Roots.{RootValue}
 use Rattle.edits.specs.Changes.{all_changed}
 use Rattle.cow_tree.specs.Trees.{staged_in}
@@ -24,6 +24,8 @@ loop-done-preserved g c =
     let more = c.in-Ok.ensures.stages in
     record {
       stages = stages_on d old mid new tt (Ok tt) here.stages (stages_ok d mid new c.in-Ok.next tt more);
+      pages = omega (arith, here.pages, c.in-Ok.ensures.pages, c.in-Ok.ensures.next.0);
+      due = c.in-Ok.ensures.due ∙ here.due;
       within = c.in-Ok.ensures.next.1;
       set = λ honest s m at start.
           let mid_honest = more.uncommitted.honest honest in

@@ -1,4 +1,4 @@
-use Rattle.std.proofs.Common.{◌≡◌, ◌⊎◌, inl, ⊎_elim}
+use Rattle.std.proofs.Common.{inl, ⊎_elim}
 use Rattle.edits.specs.State.{fresh}
 use Rattle.store.proofs.in_memory.store_in_memory.Goals as goal
 

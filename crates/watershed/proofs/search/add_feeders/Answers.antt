@@ -1,33 +1,37 @@
-use Rattle.std.proofs.Common.{pos, ◌∙◌, subst, sym, arith, length, ◌≤◌, ◌≡◌, true≢false}
-use Rattle.lattice.specs.declared.direction.Dir.TheVariants.{East}
-use Rattle.lattice.specs.declared.direction.Step.{Step}
-use Rattle.watershed.proofs.Upstream.{IsAdding, adding_read, passing_read, added_all}
+use Rattle.std.proofs.Common.{pos, ◌≡◌, ◌≤◌, [], ◌∷◌, ◌++◌, List, ap, sym, ◌∙◌, subst, take, get_or, length, append_assoc}
+use Rattle.std.specs.Prelude.{Contains, ◌↔◌}
+use Rattle.std.proofs.lemmas.List.{get_or_default, append-nil, take_all}
+use Rattle.lattice.specs.declared.point.Point.{Point}
+use Rattle.flow_d8.specs.Drained.{DrainsTo}
+use Rattle.watershed.proofs.Drawing.{take_more}
 use Rattle.watershed.proofs.search.add_feeders.Goals as goal
-use Rattle.watershed.proofs.search.add_feeders.Goals.{then-drains_back+in_ok-push, else-drains_back}
 
-any_step : Step
-any_step = record { direction = East; to = record { y = pos 0; x = pos 0 } }
+any_point : Point
+any_point = record { y = pos 0; x = pos 0 }
 
-pub loop-step-preserved : goal.loop-step-preserved
-unfolding any_step
-loop-step-preserved c =
-    let d = c.args.directions.now in
-    let p = c.args.point in
-    let items = c.as_slice-step-items.result.now in
-    let k = c.loop-step.step-index in
+pub loop-feeder-init : goal.loop-feeder-init
+loop-feeder-init c = sym (append-nil c.args.found.now.items)
+
+pub loop-feeder-preserved : goal.loop-feeder-preserved
+unfolding any_point
+loop-feeder-preserved c =
+    let xs = c.as_slice-feeder-items.result.now in
+    let i = c.loop-feeder.feeder-index in
     let old = c.args.found.now.items in
-    elim c.if-drains_back.branch [
-      | then-drains_back+in_ok-push w ↦ rw w.found-is (adding_read d p items k old c.loop-step.found.items w.push.new.self.items any_step (c.as_slice-step-items.ensures.value ∙ c.steps-around.ensures) c.loop-step-test.true
-          (c.drains_back.ensures.0 w.if-drains_back.true) w.in_ok-push.ensures.items c.loop-step.invariant)
-      | else-drains_back w ↦ rw w.found-is (passing_read d p items k old c.loop-step.found.items any_step c.loop-step-test.true
-          (λ drains. true≢false (sym (c.drains_back.ensures.1 drains) ∙ w.if-drains_back.false)) c.loop-step.invariant)
-    ]
+    let lt = c.loop-feeder-test.true in
+    let v : Point = get_or xs i any_point in
+    c.in_ok-push.ensures.items
+    ∙ ap (λ (l : List Point). l ++ v ∷ []) c.loop-feeder.invariant
+    ∙ append_assoc old (take i xs) (v ∷ [])
+    ∙ ap (λ (l : List Point). old ++ l) (sym (take_more xs i v lt (get_or_default xs i any_point v lt)))
 
 pub returns : goal.returns
 returns c =
-    let items = c.as_slice-step-items.result.now in
-    let ended : length items ≤ c.loop-step.step-index = c.loop-step-test.false in
-    let same = c.loop-step.auto.step-index-end in
-    let whole : length items ≡ c.loop-step.step-index = omega arith in
-    added_all c.args.directions.now c.args.point items c.args.found.now.items c.loop-step.found.items (c.as_slice-step-items.ensures.value ∙ c.steps-around.ensures)
-    (subst (λ k. IsAdding c.args.directions.now c.args.point items k c.args.found.now.items c.loop-step.found.items) (sym whole) c.loop-step.invariant)
+    let xs = c.as_slice-feeder-items.result.now in
+    let old = c.args.found.now.items in
+    let whole : take c.loop-feeder.feeder-index xs ≡ xs = take_all c.loop-feeder.feeder-index xs c.loop-feeder-test.false in
+    record {
+      more = xs;
+      after = c.loop-feeder.invariant ∙ ap (λ (l : List Point). old ++ l) whole;
+      exactly = subst (λ (l : List Point). (x : Point) → Contains l x ↔ DrainsTo c.args.directions.now x c.args.point) (sym c.as_slice-feeder-items.ensures.value) c.feeders-feeders.ensures.exactly;
+    }

@@ -1,5 +1,5 @@
-use Rattle.watershed.proofs.Upstream.{IsAdding}
+use Rattle.std.proofs.Common.{◌≡◌, ◌++◌, take}
 use Rattle.watershed.proofs.search.add_feeders.Given as goal
 
-abbrev pub invariant-loop-step : goal.invariant-loop-step
-invariant-loop-step l = IsAdding l.directions l.fn.point l.step-items l.step-index l.fn.found.items l.found.items
+abbrev pub invariant-loop-feeder : goal.invariant-loop-feeder
+invariant-loop-feeder l = l.found.items ≡ l.fn.found.items ++ take l.feeder-index l.feeder-items

@@ -1,5 +1,7 @@
 use Rattle.std.proofs.Common.{◌≡◌, ℕ, ℤ, ◌<◌, ◌≤◌, length, List, Some, ap₂, IsTrue, sym, ap, subst, ◌∙◌}
 use Rattle.std.specs.Prelude.{not, slice_index_or}
+use Rattle.std.specs.List.{AllAdjacentBelow}
+use Rattle.lattice.specs.Lattice.{IsBefore}
 use Rattle.lattice.specs.Steps.{step}
 use Rattle.lattice.specs.Mosaic.{void, is_void}
 use Rattle.flow_d8.specs.Levels.{is_held}
@@ -17,7 +19,13 @@ returns-then-not-share_tile c = beside_unshared c.args.self.now c.levels-levels.
     ∙ sym c.share_tile.ensures ∙ c.if-not-share_tile.true)
 
 pub place-requires : goal.place-requires
-place-requires c = record { few = subst (λ ks. length ks ≤ 240) (sym c.corners-2.ensures.value) c.levels-levels.ensures.valid.few }
+place-requires c = record {
+  few = subst (λ ks. length ks ≤ 240) (sym c.corners-2.ensures.value) c.levels-levels.ensures.valid.few;
+  in_order = subst (λ ks. AllAdjacentBelow IsBefore ks (length ks)) (sym c.corners-2.ensures.value) c.levels-levels.ensures.valid.in_order;
+}
+
+pub share_tile-requires : goal.share_tile-requires
+share_tile-requires c = subst (λ ks. AllAdjacentBelow IsBefore ks (length ks)) (sym c.corners.ensures.value) c.levels-levels.ensures.valid.in_order
 
 pub returns-in_err-number : goal.returns-in_err-number
 returns-in_err-number c = c.from_residual-in_err-number.ensures ∙ beside_unheld c.args.self.now c.levels-levels.ensures.valid c.args.point c.args.direction

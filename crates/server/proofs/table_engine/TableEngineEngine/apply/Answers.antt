@@ -14,10 +14,9 @@ returns-then-self-clause-outcome c = λ honest s at.
     let reads = c.in_ok-changes.ensures.reads in
     let valid = reads.never_refuses c.self.invariant.valid in (
       s,
-      (
-        unchanged c.args.self.now e.table e.capacity e.count e.number c.self.view_is c.args.command.now s at c.plan.new.samples reads.keeps,
-        worn c.args.self.now e.table e.capacity e.count e.number c.self.view_is c.args.command.now s at _ (c.in_ok-changes.ensures.changes valid) c.if-self.true,
-      ),
+      unchanged c.args.self.now e.table e.capacity e.count e.number c.self.view_is c.args.command.now s at c.plan.new.samples reads.keeps,
+      tt,
+      worn c.args.self.now e.table e.capacity e.count e.number c.self.view_is c.args.command.now s at _ (c.in_ok-changes.ensures.changes valid) c.if-self.true,
     )
 
 pub returns-clause-side : goal.returns-clause-side
@@ -39,9 +38,23 @@ returns-clause-outcome c = λ honest s at.
     ap (all_changed c.in_ok-changes.changes.items) (sym reads.keeps) ∙ sym c.in_ok-carry_out.ensures.made in
     let below : e.number < 18446744073709551615 = search rules in (
       working (contents_of new (e.count + 1) (e.number + 1)),
-      (
-        refl,
-        accepted c.args.self.now e.table e.capacity e.count e.number c.self.view_is c.args.command.now s at new
-            (c.in_ok-changes.ensures.changes valid ∙ ap (λ (m : Mosaic). let r : Result Mosaic Refusal = Ok m in r) is) below,
-      ),
+      refl,
+      tt,
+      accepted c.args.self.now e.table e.capacity e.count e.number c.self.view_is c.args.command.now s at new
+          (c.in_ok-changes.ensures.changes valid ∙ ap (λ (m : Mosaic). let r : Result Mosaic Refusal = Ok m in r) is) below,
     )
+
+pub invariant_of-self-2 : goal.invariant_of-self-2
+invariant_of-self-2 c =
+    let e = c.self.inside in
+    let reads = c.in_ok-changes.ensures.reads in
+    let valid = reads.never_refuses c.self.invariant.valid in
+    let new = c.carry_out.new.table in
+    let is : all_changed c.in_ok-changes.changes.items e.table ≡ new =
+    ap (all_changed c.in_ok-changes.changes.items) (sym reads.keeps) ∙ sym c.in_ok-carry_out.ensures.made in
+    record {
+      valid = search rules;
+      above = search rules;
+      within = c.commands_make_mosaics.ensures.capacity e.capacity e.table c.args.command.now new c.self.invariant.within (c.in_ok-changes.ensures.changes valid ∙ ap (λ (m : Mosaic). let r : Result Mosaic Refusal = Ok m in r) is);
+      few = c.self.invariant.few;
+    }

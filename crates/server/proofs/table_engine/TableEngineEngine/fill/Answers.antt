@@ -13,10 +13,9 @@ returns-clause-outcome c = λ honest s at.
     let new_valid = says.reads.never_refuses valid in
     let this = working (contents_of e.table e.count e.number) in (
       s,
-      (
-        stands held e.table e.capacity e.count e.number view s at c.fill.new.samples says.reads.keeps,
-        filled held e.table e.capacity e.count e.number view s at valid c.args.point c.fill.result
-            (fills this this (stays_this held e.table e.capacity e.count e.number view s at) valid c.args.point c.fill.result (says.reads.answers valid) (says.level new_valid)
-            says.outside (says.void new_valid) says.causes),
-      ),
+      stands held e.table e.capacity e.count e.number view s at c.fill.new.samples says.reads.keeps,
+      tt,
+      filled held e.table e.capacity e.count e.number view s at valid c.args.point c.fill.result
+          (fills this this (stays_this held e.table e.capacity e.count e.number view s at) valid c.args.point c.fill.result (says.reads.answers valid) (says.level new_valid)
+          says.outside (says.void new_valid) says.causes),
     )

@@ -1,14 +1,7 @@
-use Rattle.std.proofs.Common.{rules, ◌≡◌, ◌≤◌, subst, sym, length}
-use Rattle.catalogue.specs.Tiles.{corners_of}
 use Rattle.drainage.proofs.Answered.{traces}
-use Rattle.server.specs.TableState.{Held, contents_of, working}
+use Rattle.server.specs.TableState.{contents_of, working}
 use Rattle.server.proofs.TableLemmas.{traced, stands, stays_this}
 use Rattle.server.proofs.table_engine.TableEngineEngine.trace.Goals as goal
-
-pub trace-requires : goal.trace-requires
-trace-requires c =
-    let few = c.is_few.ensures (search rules) in
-    record { few = subst (λ (h : Held). length (corners_of h.contents.mosaic) ≤ 240) (sym c.self.view_is) few }
 
 pub returns-clause-outcome : goal.returns-clause-outcome
 returns-clause-outcome c = λ honest s at.
@@ -20,10 +13,9 @@ returns-clause-outcome c = λ honest s at.
     let new_valid = says.reads.never_refuses valid in
     let this = working (contents_of e.table e.count e.number) in (
       s,
-      (
-        stands held e.table e.capacity e.count e.number view s at c.trace.new.samples says.reads.keeps,
-        traced held e.table e.capacity e.count e.number view s at valid c.args.point c.trace.result
-            (traces this this (stays_this held e.table e.capacity e.count e.number view s at) valid c.args.point c.trace.result (says.reads.answers valid) (says.path new_valid) (says.on_ground new_valid)
-            says.outside (says.void new_valid) says.causes),
-      ),
+      stands held e.table e.capacity e.count e.number view s at c.trace.new.samples says.reads.keeps,
+      tt,
+      traced held e.table e.capacity e.count e.number view s at valid c.args.point c.trace.result
+          (traces this this (stays_this held e.table e.capacity e.count e.number view s at) valid c.args.point c.trace.result (says.reads.answers valid) (says.path new_valid) (says.on_ground new_valid)
+          says.outside (says.void new_valid) says.causes),
     )

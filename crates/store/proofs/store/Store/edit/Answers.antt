@@ -1,8 +1,8 @@
-use Rattle.std.proofs.Common.{◌≡◌, ⊎_elim, ℕ, ◌+◌, List, map, refl, sym, ap, ◌∙◌, subst, arith}
+use Rattle.std.proofs.Common.{◌≡◌, ⊎_elim, ℕ, ◌+◌, ◌*◌, ◌≤◌, List, map, vec_len, refl, sym, ap, ◌∙◌, subst, arith}
 use Rattle.std.specs.Prelude.{Ok, Err}
 use Rattle.lattice.specs.Corners.{Place}
 use Rattle.lattice.specs.declared.refusal.Refusal.{Refusal}
-use Rattle.lattice.specs.declared.refusal.Refusal.TheVariants.{Device, NoMemory, Worn}
+use Rattle.lattice.specs.declared.refusal.Refusal.TheVariants.{Device, Worn}
 use Rattle.page_codec.specs.Entries.{EntryValue}
 use Rattle.page_codec.specs.Roots.{RootValue}
 use Rattle.edits.specs.Changes.{all_changed}
@@ -10,20 +10,21 @@ use Rattle.edits.specs.declared.change.Change.{Change}
 use Rattle.edits.specs.Outcomes.{AppliesNot}
 use Rattle.edits.specs.State.{State}
 use Rattle.cow_tree.specs.Stored.{StoredTile}
-use Rattle.cow_tree.specs.Trees.{root_of, staged_in}
+use Rattle.cow_tree.specs.Trees.{root_of, has_begun, records_due, staged_in}
 use Rattle.cow_tree.proofs.Steps.{ok_where_works}
 use Rattle.store.specs.Applied.{IsApplied}
-use Rattle.store.specs.Editing.{CommitsNothing, HoldsMosaic}
+use Rattle.store.specs.Editing.{CommitsNothing, HoldsMosaic, writes_begun}
 use Rattle.store.specs.TreeStates.{IsInState}
 use Rattle.store.proofs.Committing.{IsStaged, under_way, committed}
 use Rattle.store.proofs.DoneCommands.{broken_in_commit, done, risen_later}
 use Rattle.store.proofs.EditingDone.{holds_contents, broken_before, quiet, edit_staged}
 use Rattle.store.proofs.EditingReads.{device_or_not}
 use Rattle.store.proofs.EditingSteps.{uncommitted_on, given_up}
+use Rattle.store.proofs.EditingWrites.{begun_written, commit_written, few_written, none_written}
 use Rattle.store.proofs.InMemory.{is_working, worn_at, room_at}
 use Rattle.store.proofs.Outcomes.{no_memory}
 use Rattle.store.proofs.store.Store.edit.Goals as goal
-use Rattle.store.proofs.store.Store.edit.Goals.{After-commit}
+use Rattle.store.proofs.store.Store.edit.Goals.{After-stage_changes, After-commit}
 
 abbrev corners_in : RootValue → List Place
 corners_in r = map (λ (e : EntryValue). e.corner) r.entries
@@ -31,11 +32,12 @@ corners_in r = map (λ (e : EntryValue). e.corner) r.entries
 pub invariant_of-self : goal.invariant_of-self
 invariant_of-self g c = record {
   clean = λ works corner staged. c.args.self.now.clean c.requires.not_failed corner (c.plan_changes.ensures.clean works corner staged);
+  none_due = λ works. c.plan_changes.ensures.due works ∙ c.args.self.now.none_due c.requires.not_failed;
   corners = λ works. c.plan_changes.ensures.corners ∙ c.args.self.now.corners c.requires.not_failed ∙ sym (ap corners_in c.plan_changes.ensures.reads.root);
 }
 
-pub returns-in-Err : goal.returns-in-Err
-returns-in-Err g c =
+pub returns-in-Err-clause-applied : goal.returns-in-Err-clause-applied
+returns-in-Err-clause-applied g c =
     let d = g.D.Disk in
     let old = c.args.self.now.tree in
     let new = c.plan_changes.new.tree in
@@ -53,11 +55,12 @@ returns-in-Err g c =
 pub invariant_of-self-then-number : goal.invariant_of-self-then-number
 invariant_of-self-then-number g c = record {
   clean = λ works corner staged. c.args.self.now.clean c.requires.not_failed corner (c.plan_changes.ensures.clean works corner staged);
+  none_due = λ works. c.plan_changes.ensures.due works ∙ c.args.self.now.none_due c.requires.not_failed;
   corners = λ works. c.plan_changes.ensures.corners ∙ c.args.self.now.corners c.requires.not_failed ∙ sym (ap corners_in c.plan_changes.ensures.reads.root);
 }
 
-pub returns-then-number : goal.returns-then-number
-returns-then-number g c =
+pub returns-then-number-clause-applied : goal.returns-then-number-clause-applied
+returns-then-number-clause-applied g c =
     let d = g.D.Disk in
     let old = c.args.self.now.tree in
     let new = c.plan_changes.new.tree in
@@ -68,8 +71,8 @@ returns-then-number g c =
     (λ honest s at. worn_at d old c.requires.not_failed s at command (all_changed changes.items s.contents.mosaic) (c.in-Ok.ensures.changes honest s at)
     (sym (ap (λ (r : RootValue). r.number) (c.current.ensures ∙ reads.root)) ∙ sym c.number.ensures ∙ c.if-number.true))
 
-pub returns-in-Err-stage_changes : goal.returns-in-Err-stage_changes
-returns-in-Err-stage_changes g c =
+pub returns-in-Err-stage_changes-clause-applied : goal.returns-in-Err-stage_changes-clause-applied
+returns-in-Err-stage_changes-clause-applied g c =
     let d = g.D.Disk in
     let old = c.args.self.now.tree in
     let planned = c.plan_changes.new.tree in
@@ -96,6 +99,7 @@ returns-in-Err-stage_changes g c =
 pub invariant_of-self-2 : goal.invariant_of-self-2
 invariant_of-self-2 g c = record {
   clean = λ works. ok_where_works c.commit.result _ c.commit.ensures.failed works c.commit.ensures.none_staged;
+  none_due = λ works. ok_where_works c.commit.result _ c.commit.ensures.failed works c.commit.ensures.none_due;
   corners = λ works. ok_where_works c.commit.result _ c.commit.ensures.failed works c.commit.ensures.entries;
 }
 
@@ -131,18 +135,18 @@ staged_by g c s at honest =
 counted_by : (g : _) (c : After-commit g) (s : State) → IsInState g.D.Disk c.args.self.now.tree s → c.count-count.result + 1 ≡ s.contents.count + 1
 counted_by g c s at = ap (λ (k : ℕ). k + 1) (c.count-count.ensures.value ∙ ap (λ (r : RootValue). r.count) (c.current-2.ensures ∙ (staging g c).root) ∙ at.count)
 
-pub returns-in-Ok-commit : goal.returns-in-Ok-commit
-returns-in-Ok-commit g c =
+pub returns-in-Ok-commit-clause-applied : goal.returns-in-Ok-commit-clause-applied
+returns-in-Ok-commit-clause-applied g c =
     let d = g.D.Disk in
     let old = c.args.self.now.tree in
     let mid = c.stage_changes.new.tree in
     let new = c.commit.new.self in
     let command = c.args.command.now in
-    let before = (goal.at.returns-in-Ok-commit g c).After-commit in
+    let before = (goal.at.returns-in-Ok-commit-clause-applied g c).After-commit in
     let first = staging g before in
     let number : c.number.result ≡ (root_of old).number = c.number.ensures ∙ ap (λ (r : RootValue). r.number) (c.current.ensures ∙ c.in-Ok.ensures.reads.root) in
     done d old command new (c.commit.ensures.size ∙ first.size) (omega (arith, c.commit.ensures.cause.later, first.later))
-    (λ honest. first.honest (c.commit.ensures.honest honest)) (c.commit.ensures.side ∙ ap (λ (r : RootValue). r.side) first.root)
+    (λ honest. first.honest (c.commit.ensures.honest honest)) c.in-Ok-commit.ensures.not_failed (c.commit.ensures.side ∙ ap (λ (r : RootValue). r.side) first.root)
     (c.commit.ensures.capacity ∙ ap (λ (r : RootValue). r.capacity) first.root) (g.met.D.Disk.seen_may new.pager.roots.disk) (is_working d old c.requires.not_failed) (c.count-count.result + 1)
     (λ honest s at.
     let staged = staged_by g before s at (c.commit.ensures.honest honest) in
@@ -150,14 +154,14 @@ returns-in-Ok-commit g c =
     (c.commit.ensures.any_moment honest staged.stored staged.tree) (c.in-Ok-commit.ensures.at honest staged.stored staged.tree) (c.in-Ok-commit.ensures.staged honest staged.stored staged.tree)
     (room_at d old c.requires.not_failed s at (omega (arith, number, c.if-number.false, c.number.type_inv))))
 
-pub returns : goal.returns
-returns g c =
+pub returns-clause-applied : goal.returns-clause-applied
+returns-clause-applied g c =
     let d = g.D.Disk in
     let old = c.args.self.now.tree in
     let mid = c.stage_changes.new.tree in
     let new = c.commit.new.self in
     let command = c.args.command.now in
-    let before = (goal.at.returns g c).After-commit in
+    let before = (goal.at.returns-clause-applied g c).After-commit in
     let first = staging g before in
     subst (λ (r : Refusal). IsApplied d command (Err r) old new) (sym c.in-Err-commit.ensures.refused)
     (broken_in_commit d old command new (c.commit.ensures.size ∙ first.size) (omega (arith, c.commit.ensures.cause.later, first.later))
@@ -166,3 +170,38 @@ returns g c =
     (λ honest s at.
     let staged = staged_by g before s at (c.commit.ensures.honest honest) in
     under_way d old mid new command s staged first.size (c.count-count.result + 1) (counted_by g before s at) (c.commit.ensures.any_moment honest staged.stored staged.tree)))
+
+pub returns-in-Err-clause-writes : goal.returns-in-Err-clause-writes
+returns-in-Err-clause-writes g c = let same = c.plan_changes.ensures.writes in none_written c.args.command.now _ _ (omega (arith, same))
+
+pub returns-then-number-clause-writes : goal.returns-then-number-clause-writes
+returns-then-number-clause-writes g c = let same = c.plan_changes.ensures.writes in none_written c.args.command.now _ _ (omega (arith, same))
+
+begun_by : (g : _) (c : After-stage_changes g) → writes_begun g.D.Disk c.plan_changes.new.tree ≤ g.D.Disk.writes c.args.self.now.tree.pager.roots.disk + 1
+begun_by g c =
+    let same = c.plan_changes.ensures.writes in
+    let most = begun_written (has_begun c.plan_changes.new.tree) (g.D.Disk.writes c.plan_changes.new.tree.pager.roots.disk) in
+    omega (arith, same, most)
+
+pub returns-in-Err-stage_changes-clause-writes : goal.returns-in-Err-stage_changes-clause-writes
+returns-in-Err-stage_changes-clause-writes g c =
+    let before = (goal.at.returns-in-Err-stage_changes-clause-writes g c).After-stage_changes in
+    let begun = begun_by g before in
+    let same = ap g.D.Disk.writes c.abandon.ensures.disk in
+    few_written c.args.command.now (vec_len c.in-Ok.changes) _ _ c.in-Ok.ensures.few (omega (arith, begun, same, c.stage_changes.ensures.writes, c.deref.ensures.len))
+
+commit_by : (g : _) (c : After-commit g) → g.D.Disk.writes c.commit.new.self.pager.roots.disk ≤ g.D.Disk.writes c.args.self.now.tree.pager.roots.disk + (2 * vec_len c.in-Ok.changes + 3)
+commit_by g c =
+    let d = g.D.Disk in
+    let mid = c.stage_changes.new.tree in
+    let planned = c.plan_changes.new.tree in
+    let most = begun_written (has_begun planned) (d.writes planned.pager.roots.disk) in
+    let none = c.plan_changes.ensures.due c.in-Ok.ensures.reads.works ∙ c.args.self.now.none_due c.requires.not_failed in
+    let commits = commit_written (has_begun mid) (d.writes mid.pager.roots.disk) (d.writes c.commit.new.self.pager.roots.disk) (records_due mid) c.commit.ensures.writes in
+    omega (arith, most, none, commits, c.plan_changes.ensures.writes, c.in-Ok-stage_changes.ensures.pages, c.in-Ok-stage_changes.ensures.due, c.deref.ensures.len)
+
+pub returns-in-Ok-commit-clause-writes : goal.returns-in-Ok-commit-clause-writes
+returns-in-Ok-commit-clause-writes g c = few_written c.args.command.now (vec_len c.in-Ok.changes) _ _ c.in-Ok.ensures.few (commit_by g (goal.at.returns-in-Ok-commit-clause-writes g c).After-commit)
+
+pub returns-clause-writes : goal.returns-clause-writes
+returns-clause-writes g c = few_written c.args.command.now (vec_len c.in-Ok.changes) _ _ c.in-Ok.ensures.few (commit_by g (goal.at.returns-clause-writes g c).After-commit)

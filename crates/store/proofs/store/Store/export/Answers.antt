@@ -5,7 +5,7 @@ use Rattle.lattice.specs.declared.refusal.Refusal.{Refusal}
 use Rattle.edits.specs.Outcomes.{Exports}
 use Rattle.edits.specs.State.{failing}
 use Rattle.cow_tree.specs.Trees.{has_failed}
-use Rattle.store.proofs.Querying.{stays_at, still_clean, still_corners, still_at, failing_at, fails_so}
+use Rattle.store.proofs.Querying.{stays_at, still_clean, still_none_due, still_corners, still_at, failing_at, fails_so}
 use Rattle.store.proofs.QueryingPages.{no_tile_of, tile, tile_of, exported}
 use Rattle.store.proofs.store.Store.export.Goals as goal
 
@@ -23,7 +23,7 @@ invariant_of-self g c =
     let new = c.read_heights.new.tree in
     let works : has_failed old.tree ≡ false = sym c.has_failed.ensures ∙ c.if-has_failed.false in
     let keeps = c.read_heights.ensures.reads.keeps in
-    record { clean = still_clean d old.tree new works keeps old.clean; corners = still_corners d old.tree new works keeps old.corners }
+    record { clean = still_clean d old.tree new works keeps old.clean; none_due = still_none_due d old.tree new works keeps old.none_due; corners = still_corners d old.tree new works keeps old.corners }
 
 pub returns-in-Ok-read_heights-clause-outcome : goal.returns-in-Ok-read_heights-clause-outcome
 returns-in-Ok-read_heights-clause-outcome g c honest s at =

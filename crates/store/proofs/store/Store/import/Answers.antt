@@ -1,13 +1,13 @@
-use Rattle.std.proofs.Common.{◌≡◌, ◌⊎◌, ⊎_elim, ℕ, ◌+◌, ◌≤◌, false, Result, refl, sym, ap, ◌∙◌, subst, arith}
+use Rattle.std.proofs.Common.{◌≡◌, ⊎_elim, ℕ, ◌+◌, ◌≤◌, false, Result, refl, sym, ap, ◌∙◌, subst, arith}
 use Rattle.std.specs.Prelude.{Err}
-use Rattle.disk.specs.Disk.{Image, HasRisen}
+use Rattle.disk.specs.Disk.{HasRisen}
 use Rattle.disk.specs.Stops.{LeavesOnly, weaker}
 use Rattle.lattice.specs.declared.refusal.Refusal.{Refusal}
 use Rattle.lattice.specs.declared.refusal.Refusal.TheVariants.{Device, NoMemory}
 use Rattle.page_codec.specs.Roots.{RootValue}
 use Rattle.edits.specs.State.{State}
 use Rattle.edits.specs.declared.command.Command.{Command}
-use Rattle.edits.specs.declared.command.Command.TheVariants.{Import, Remove}
+use Rattle.edits.specs.declared.command.Command.TheVariants.{Import}
 use Rattle.cow_tree.specs.Layout.{Stands}
 use Rattle.cow_tree.specs.Stored.{Stored}
 use Rattle.cow_tree.specs.Trees.{has_failed, staged_in, IsAt as IsTreeAt}
@@ -16,7 +16,7 @@ use Rattle.store.specs.Applied.{IsApplied, HasContents}
 use Rattle.store.specs.TreeStates.{IsInState}
 use Rattle.store.proofs.Committing.{IsStaged, under_way, committed}
 use Rattle.store.proofs.DoneCommands.{idle, broken, broken_in_commit, done, risen_later}
-use Rattle.store.proofs.Importing.{import_staged, remove_staged, untouched_run}
+use Rattle.store.proofs.Importing.{import_staged}
 use Rattle.store.proofs.InMemory.{is_working, room_at}
 use Rattle.store.proofs.Outcomes.{no_memory}
 use Rattle.store.proofs.States.{reads_keep}
@@ -68,6 +68,7 @@ returns-in-Err-stage_plane g c =
 pub invariant_of-self-2 : goal.invariant_of-self-2
 invariant_of-self-2 g c = record {
   clean = λ works. ok_where_works c.commit.result _ c.commit.ensures.failed works c.commit.ensures.none_staged;
+  none_due = λ works. ok_where_works c.commit.result _ c.commit.ensures.failed works c.commit.ensures.none_due;
   corners = λ works. ok_where_works c.commit.result _ c.commit.ensures.failed works c.commit.ensures.entries;
 }
 
@@ -92,7 +93,7 @@ returns-in-Ok-commit g c =
     let new = c.commit.new.self in
     let before = (goal.at.returns-in-Ok-commit g c).After-commit in
     done d old (Import c.args.corner c.args.bytes.now) new (c.commit.ensures.size ∙ c.stage_plane.ensures.size) (omega (arith, c.commit.ensures.cause.later, c.stage_plane.ensures.later))
-    (λ honest. c.stage_plane.ensures.honest (c.commit.ensures.honest honest)) (c.commit.ensures.side ∙ ap (λ (r : RootValue). r.side) c.stage_plane.ensures.root)
+    (λ honest. c.stage_plane.ensures.honest (c.commit.ensures.honest honest)) c.in-Ok-commit.ensures.not_failed (c.commit.ensures.side ∙ ap (λ (r : RootValue). r.side) c.stage_plane.ensures.root)
     (c.commit.ensures.capacity ∙ ap (λ (r : RootValue). r.capacity) c.stage_plane.ensures.root) (g.met.D.Disk.seen_may new.pager.roots.disk) (is_working d old c.requires) (c.count-count.result + 1)
     (λ honest s at.
     let mid_honest = c.commit.ensures.honest honest in

@@ -1,25 +1,18 @@
-use Rattle.std.proofs.Common.{◌≡◌, ◌⊎◌, ⊎_elim, ℕ, ◌+◌, ◌≤◌, false, Result, refl, sym, ap, ◌∙◌, subst, arith}
+use Rattle.std.proofs.Common.{◌≡◌, ℕ, ◌+◌, ◌≤◌, refl, sym, ap, ◌∙◌, subst}
 use Rattle.std.specs.Prelude.{Err}
-use Rattle.disk.specs.Disk.{Image, HasRisen}
-use Rattle.disk.specs.Stops.{LeavesOnly, weaker}
+use Rattle.disk.specs.Disk.{HasRisen}
 use Rattle.lattice.specs.declared.refusal.Refusal.{Refusal}
-use Rattle.lattice.specs.declared.refusal.Refusal.TheVariants.{Device, NoMemory}
 use Rattle.page_codec.specs.Roots.{RootValue}
 use Rattle.edits.specs.State.{State}
 use Rattle.edits.specs.declared.command.Command.{Command}
-use Rattle.edits.specs.declared.command.Command.TheVariants.{Import, Remove}
-use Rattle.cow_tree.specs.Layout.{Stands}
-use Rattle.cow_tree.specs.Stored.{Stored}
-use Rattle.cow_tree.specs.Trees.{has_failed, staged_in, IsAt as IsTreeAt}
+use Rattle.edits.specs.declared.command.Command.TheVariants.{Remove}
 use Rattle.cow_tree.proofs.Steps.{ok_where_works}
-use Rattle.store.specs.Applied.{IsApplied, HasContents}
+use Rattle.store.specs.Applied.{IsApplied}
 use Rattle.store.specs.TreeStates.{IsInState}
 use Rattle.store.proofs.Committing.{IsStaged, under_way, committed}
-use Rattle.store.proofs.DoneCommands.{idle, broken, broken_in_commit, done, risen_later}
-use Rattle.store.proofs.Importing.{import_staged, remove_staged, untouched_run}
+use Rattle.store.proofs.DoneCommands.{broken_in_commit, done}
+use Rattle.store.proofs.Importing.{remove_staged, untouched_run}
 use Rattle.store.proofs.InMemory.{is_working, room_at}
-use Rattle.store.proofs.Outcomes.{no_memory}
-use Rattle.store.proofs.States.{reads_keep}
 use Rattle.store.proofs.store.Store.remove.Goals as goal
 use Rattle.store.proofs.store.Store.remove.Goals.{After-commit}
 
@@ -29,6 +22,7 @@ drop_plane-requires-clause-settled g c = c.args.self.now.clean c.requires c.args
 pub invariant_of-self : goal.invariant_of-self
 invariant_of-self g c = record {
   clean = λ works. ok_where_works c.commit.result _ c.commit.ensures.failed works c.commit.ensures.none_staged;
+  none_due = λ works. ok_where_works c.commit.result _ c.commit.ensures.failed works c.commit.ensures.none_due;
   corners = λ works. ok_where_works c.commit.result _ c.commit.ensures.failed works c.commit.ensures.entries;
 }
 
@@ -56,7 +50,7 @@ returns-in-Ok g c =
     let same = c.drop_plane.ensures.disk in
     done d old (Remove c.args.corner) new (c.commit.ensures.size ∙ ap d.size same)
     (subst (λ (disk : _). d.failures disk ≤ d.failures new.pager.roots.disk) same c.commit.ensures.cause.later)
-    (λ honest. subst d.honest same (c.commit.ensures.honest honest)) (c.commit.ensures.side ∙ ap (λ (r : RootValue). r.side) c.drop_plane.ensures.root)
+    (λ honest. subst d.honest same (c.commit.ensures.honest honest)) c.in-Ok.ensures.not_failed (c.commit.ensures.side ∙ ap (λ (r : RootValue). r.side) c.drop_plane.ensures.root)
     (c.commit.ensures.capacity ∙ ap (λ (r : RootValue). r.capacity) c.drop_plane.ensures.root) (g.met.D.Disk.seen_may new.pager.roots.disk) (is_working d old c.requires) (c.count-accepted.result + 1)
     (λ honest s at.
     let staged = staged_by g before s at (c.commit.ensures.honest honest) in

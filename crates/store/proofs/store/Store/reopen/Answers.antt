@@ -1,13 +1,15 @@
-use Rattle.std.proofs.Common.{⊎_elim}
+use Rattle.std.proofs.Common.{⊎_elim, ap}
 use Rattle.std.proofs.lemmas.Result.{on_ok_weaker, IfErr-weaker}
-use Rattle.cow_tree.proofs.Steps.{ok_where_works}
-use Rattle.store.proofs.Opened.{in_known}
+use Rattle.page_codec.specs.Roots.{RootValue}
+use Rattle.cow_tree.proofs.Steps.{ok_where_works, either_way}
+use Rattle.store.proofs.Opened.{in_known, sized_as_known}
 use Rattle.store.proofs.Openings.{refused_for}
 use Rattle.store.proofs.store.Store.reopen.Goals as goal
 
 pub invariant_of-self : goal.invariant_of-self
 invariant_of-self g c = record {
   clean = λ works. ok_where_works c.reopen.result _ c.reopen.ensures.failed works c.reopen.ensures.clean;
+  none_due = λ works. ok_where_works c.reopen.result _ c.reopen.ensures.failed works c.reopen.ensures.none_due;
   corners = λ works. ok_where_works c.reopen.result _ c.reopen.ensures.failed works c.reopen.ensures.corners;
 }
 
@@ -33,3 +35,25 @@ returns-clause-sure g c honest s at =
     IfErr-weaker c.reopen.result _ _
     (λ why refused. ⊎_elim (λ is. refused_for n seen is.0 why is.1 refused) (λ is. refused_for n seen is.2.0 why is.2.1 refused) (at.images seen (g.met.D.Disk.seen_may old.pager.roots.disk was_honest)))
     (c.reopen.ensures.refused honest)
+
+pub returns-clause-side : goal.returns-clause-side
+returns-clause-side g c honest s at =
+    let d = g.D.Disk in
+    let old = c.args.self.now.tree in
+    let new = c.reopen.new.self in
+    let seen = d.seen old.pager.roots.disk in
+    let was_honest = (c.reopen.ensures.nothing honest).honest in
+    either_way c.reopen.result (c.reopen.ensures.at honest) c.reopen.ensures.last_known
+    (λ is. (sized_as_known d new is.0 is.1.1.0 is.1.1.1 (g.met.D.Disk.seen_may new.pager.roots.disk honest) old.root.side old.root.capacity (d.size old.pager.roots.disk) seen s is.1.0
+    (at.images seen (g.met.D.Disk.seen_may old.pager.roots.disk was_honest))).0) (ap (λ (r : RootValue). r.side))
+
+pub returns-clause-capacity : goal.returns-clause-capacity
+returns-clause-capacity g c honest s at =
+    let d = g.D.Disk in
+    let old = c.args.self.now.tree in
+    let new = c.reopen.new.self in
+    let seen = d.seen old.pager.roots.disk in
+    let was_honest = (c.reopen.ensures.nothing honest).honest in
+    either_way c.reopen.result (c.reopen.ensures.at honest) c.reopen.ensures.last_known
+    (λ is. (sized_as_known d new is.0 is.1.1.0 is.1.1.1 (g.met.D.Disk.seen_may new.pager.roots.disk honest) old.root.side old.root.capacity (d.size old.pager.roots.disk) seen s is.1.0
+    (at.images seen (g.met.D.Disk.seen_may old.pager.roots.disk was_honest))).1) (ap (λ (r : RootValue). r.capacity))

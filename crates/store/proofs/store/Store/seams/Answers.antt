@@ -6,7 +6,7 @@ use Rattle.catalogue.specs.Seams.{IsSeamCount}
 use Rattle.edits.specs.State.{State}
 use Rattle.store.specs.Queried.{CountsSeams}
 use Rattle.cow_tree.specs.Trees.{has_failed}
-use Rattle.store.proofs.Querying.{mosaic_at, stays_at, still_clean, still_corners, still_readable, fails_so, answered}
+use Rattle.store.proofs.Querying.{mosaic_at, stays_at, still_clean, still_none_due, still_corners, still_readable, fails_so, answered}
 use Rattle.store.proofs.store.Store.seams.Goals as goal
 
 pub invariant_of-self : goal.invariant_of-self
@@ -16,7 +16,7 @@ invariant_of-self g c =
     let new = c.seams.new.samples in
     let works : has_failed old.tree ≡ false = sym c.has_failed.ensures ∙ c.if-has_failed.false in
     let keeps = c.seams.ensures.reads.keeps in
-    record { clean = still_clean d old.tree new works keeps old.clean; corners = still_corners d old.tree new works keeps old.corners }
+    record { clean = still_clean d old.tree new works keeps old.clean; none_due = still_none_due d old.tree new works keeps old.none_due; corners = still_corners d old.tree new works keeps old.corners }
 
 pub returns-clause-outcome : goal.returns-clause-outcome
 returns-clause-outcome g c honest s at =

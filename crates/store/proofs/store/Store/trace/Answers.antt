@@ -15,8 +15,8 @@ use Rattle.drainage.specs.Outcomes.{Traces}
 use Rattle.drainage.proofs.Answered.{traces}
 use Rattle.cow_tree.specs.Trees.{has_failed}
 use Rattle.store.specs.Stores.{items_in}
-use Rattle.store.proofs.Querying.{valid_at, stays_at, still_clean, still_corners, still_readable, queried, fails_so}
-use Rattle.store.proofs.QueryingDrainage.{listed, of_here, held_here, risen_read, read_answered}
+use Rattle.store.proofs.Querying.{valid_at, stays_at, still_clean, still_none_due, still_corners, still_readable, queried, fails_so}
+use Rattle.store.proofs.QueryingDrainage.{listed, of_here, held_here, risen_read, works_read, fails_read, read_answered}
 use Rattle.store.proofs.store.Store.trace.Goals as goal
 
 pub invariant_of-self : goal.invariant_of-self
@@ -26,14 +26,14 @@ invariant_of-self g c =
     let new = c.trace.new.samples in
     let works : has_failed old.tree ≡ false = sym c.has_failed.ensures ∙ c.if-has_failed.false in
     let keeps = c.trace.ensures.reads.keeps in
-    record { clean = still_clean d old.tree new works keeps old.clean; corners = still_corners d old.tree new works keeps old.corners }
+    record { clean = still_clean d old.tree new works keeps old.clean; none_due = still_none_due d old.tree new works keeps old.none_due; corners = still_corners d old.tree new works keeps old.corners }
 
 pub returns-clause-reads : goal.returns-clause-reads
 returns-clause-reads g c =
     let old = c.args.self.now.tree in
     let works : has_failed old ≡ false = sym c.has_failed.ensures ∙ c.if-has_failed.false in
     let reads = c.trace.ensures.reads in
-    queried g.D.Disk old c.trace.new.samples works reads.keeps c.trace.result (risen_read c.trace.result _ _ reads.refusal)
+    queried g.D.Disk old c.trace.new.samples works reads.keeps c.trace.result (risen_read c.trace.result _ _ reads.refusal) (works_read c.trace.result _ (reads.ready works)) (fails_read c.trace.result _ reads.unready)
 
 pub returns-clause-outcome : goal.returns-clause-outcome
 returns-clause-outcome g c honest s at =

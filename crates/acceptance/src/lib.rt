@@ -1,0 +1,16 @@
+//! Random sessions: whatever commands come, an engine's replies are those of the plain programs, which answer exactly
+//! what the definitions say.
+#![tactic(auto)]
+
+#[cfg(test)]
+mod answers;
+#[cfg(test)]
+mod commands;
+#[cfg(test)]
+mod random;
+#[cfg(test)]
+mod region;
+#[cfg(test)]
+mod session;
+#[cfg(test)]
+mod tests;

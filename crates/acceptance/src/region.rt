@@ -1,0 +1,51 @@
+//! The part of the world that a session covers: three by three corners.
+use lattice::{Corner, Point, Side, point_at};
+use std::alloc::{AllocError, Global};
+
+/// The corners in the middle: where latitudes and longitudes begin, and two ends of the world.
+pub(crate) const MIDDLES: [Corner; 3] = [
+    Corner { lat: 0, lon: 0 },
+    Corner { lat: 88, lon: 178 },
+    Corner {
+        lat: -89,
+        lon: -179,
+    },
+];
+
+/// The corner so many degrees north and east of the middle, or the middle where there is none.
+pub(crate) fn corner_beside(middle: Corner, lat: i16, lon: i16) -> Corner {
+    let lat = middle.lat.saturating_add(lat);
+    let lon = middle.lon.saturating_add(lon);
+    Corner::new(lat, lon).unwrap_or(middle)
+}
+
+/// All corners of the region.
+pub(crate) fn corners_around(alloc: Global, middle: Corner) -> Result<Vec<Corner>, AllocError> {
+    let mut corners = Vec::new(alloc);
+    for lat in -1..2_i16 {
+        for lon in -1..2_i16 {
+            corners.push(corner_beside(middle, lat, lon))?;
+        }
+    }
+    Ok(corners)
+}
+
+/// All points of the region, and those around it.
+pub(crate) fn points_around(
+    alloc: Global,
+    side: Side,
+    middle: Corner,
+) -> Result<Vec<Point>, AllocError> {
+    let edge = side.edge() as i32;
+    let north_west = point_at(side, middle, 0);
+    let mut points = Vec::new(alloc);
+    for row in -2 * edge - 1..edge + 2 {
+        for column in -edge - 1..2 * edge + 2 {
+            points.push(Point {
+                y: north_west.y.saturating_add(row),
+                x: north_west.x.saturating_add(column),
+            })?;
+        }
+    }
+    Ok(points)
+}

@@ -1,0 +1,7 @@
+use Rattle.std.proofs.Common.{◌≡◌, ◌++◌, take}
+use Rattle.std.specs.Prelude.{flat_map}
+use Rattle.server.specs.Report.{tile_line}
+use Rattle.server.proofs.reporting.extend_tiles.Given as goal
+
+abbrev pub invariant-loop-corner : goal.invariant-loop-corner
+invariant-loop-corner l = l.text.items ≡ l.initial.text.items ++ flat_map (tile_line l.corners) (take l.corner-index l.corners)

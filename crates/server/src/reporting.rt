@@ -1,0 +1,78 @@
+//! What there is to report on a store.
+ghost use Rattle.std.specs.Prelude.{◌≡◌, ◌++◌, IfOk, OnOk, decimal, flat_map};
+ghost use Rattle.edits.specs.State.{State};
+ghost use Rattle.store.specs.Queried.{Queries};
+ghost use Rattle.store.specs.Stores.{disk_of, items_in, IsAt};
+ghost use Rattle.server.specs.Report.{IsReportText, Reports, report_text, tile_line};
+
+use disk::Disk;
+use hgt::name_text;
+use itoa::Buffer;
+use lattice::{Corner, Refusal};
+use std::alloc::{AllocError, Global};
+use store::Store;
+
+/// The report on a store, as lines: how many commands it accepted and commits it made, its tiles in order, each with
+/// whether levels and labels are kept of it, and how many points of seams disagree. It only reads. Refused with Failed,
+/// Device or NoMemory.
+pub fn report<D: Disk>(alloc: Global, store: &mut Store<D>) -> Result<Vec<u8>, Refusal>
+    ensures reads { Queries D.Disk store.old store.new result }
+    ensures lines { IfOk result (λ text. IsReportText text.items) }
+    ensures outcome { D.honest (disk_of store.new) → (s : State) → IsAt D.Disk store.old s
+        → (t : State) × (IsAt D.Disk store.new t × Reports s (items_in result) t) }
+{
+    let seams = store.seams()?;
+    let corners = store.tiles()?;
+    let text = lines(
+        alloc,
+        store.count(),
+        store.commits(),
+        corners.as_slice(),
+        seams,
+    )?;
+    Ok(text)
+}
+
+/// The lines of a report. No planes are kept yet, so that every tile is stale.
+fn lines(
+    alloc: Global,
+    count: u64,
+    commits: u64,
+    corners: &[Corner],
+    seams: u64,
+) -> Result<Vec<u8>, AllocError>
+    ensures { IfOk result (λ text. text.items ≡ report_text count commits corners.now corners.now seams) }
+{
+    let mut text = Vec::new(alloc);
+    extend_number(&mut text, b"count ", count, b" ")?;
+    extend_number(&mut text, b"commits ", commits, b"\n")?;
+    extend_tiles(&mut text, corners)?;
+    extend_number(&mut text, b"seams ", seams, b"\n")?;
+    Ok(text)
+}
+
+/// The text goes on by a line for each tile, all of them stale.
+fn extend_tiles(text: &mut Vec<u8>, corners: &[Corner]) -> Result<(), AllocError>
+    ensures { OnOk result (text.new.items ≡ text.old.items ++ flat_map (tile_line corners.now) corners.now) }
+{
+    for corner in corners {
+        text.extend_from_slice(name_text(*corner).as_bytes())?;
+        text.extend_from_slice(b" stale\n")?;
+    }
+    Ok(())
+}
+
+/// The text goes on by a number between two words.
+fn extend_number(
+    text: &mut Vec<u8>,
+    before: &[u8],
+    number: u64,
+    after: &[u8],
+) -> Result<(), AllocError>
+    ensures { OnOk result (text.new.items ≡ text.old.items ++ before.now ++ decimal number ++ after.now) }
+{
+    let mut buffer = Buffer::new();
+    text.extend_from_slice(before)?;
+    text.extend_from_slice(buffer.format(number).as_bytes())?;
+    text.extend_from_slice(after)
+}

@@ -1,0 +1,57 @@
+//! What a store is asked in a run, and what it answers.
+
+use edits::Command;
+use lattice::{Corner, Height, Point, Refusal};
+use watershed::Run;
+
+/// One thing that a store is asked.
+#[derive(Drop)]
+pub enum Event {
+    /// To do a command.
+    Do(Command),
+    /// The height of a point.
+    Elevation(Point),
+    /// The filled level of a point.
+    Fill(Point),
+    /// The direction in which water leaves a point.
+    Direction(Point),
+    /// The flow path of a point.
+    Trace(Point),
+    /// The watershed of a point.
+    Watershed(Point),
+    /// The bytes of a tile's HGT file.
+    Export(Corner),
+    /// The corners of the present tiles.
+    Tiles,
+    /// How many commands were accepted.
+    Count,
+    /// To open its disk again.
+    Reopen,
+}
+
+/// What a store answers to an event: what the call of that name answers, or its refusal.
+#[derive(Debug, PartialEq, Eq, Drop)]
+pub enum Reply {
+    /// The command is accepted, as the one of this number since the store was formatted.
+    Done(u64),
+    /// In metres where it is ground.
+    Elevation(Height),
+    /// In metres.
+    Fill(i16),
+    /// The direction's code.
+    Direction(u8),
+    /// From the point to one where water leaves the mosaic.
+    Trace(Vec<Point>),
+    /// Maximal runs, north first, west first.
+    Watershed(Vec<Run>),
+    /// Two bytes a sample.
+    Export(Vec<u8>),
+    /// In order.
+    Tiles(Vec<Corner>),
+    /// As last known.
+    Count(u64),
+    /// The store is open again.
+    Reopened,
+    /// The event was refused.
+    Refused(Refusal),
+}

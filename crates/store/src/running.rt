@@ -1,0 +1,68 @@
+//! Whole runs of events.
+ghost use Rattle.std.specs.Prelude.{◌≡◌, ◌≤◌, ◌++◌, ◌∷◌, [], List, IfErr, OnErr, OnOk};
+ghost use Rattle.lattice.specs.declared.refusal.Refusal.TheVariants.{NoMemory};
+ghost use Rattle.store.specs.Events.{Runs};
+ghost use Rattle.store.specs.Stores.{disk_of};
+ghost use Rattle.store.specs.declared.event.Reply.{Reply};
+
+use crate::Store;
+use crate::event::{Event, Reply};
+use disk::Disk;
+use lattice::Refusal;
+
+impl<D: Disk> Store<D> {
+    /// Answers the events in order, and adds a reply for each behind what `out` holds. An event that is refused has its
+    /// refusal as its reply, and the run goes on. Refused with NoMemory where there is no room for the replies, and then
+    /// nothing was done.
+    pub fn run(&mut self, events: &[Event], out: &mut Vec<Reply>) -> Result<(), Refusal>
+        ensures size { D.size (disk_of self.new) ≡ D.size (disk_of self.old) }
+        ensures later { D.failures (disk_of self.old) ≤ D.failures (disk_of self.new) }
+        ensures honest { D.honest (disk_of self.new) → D.honest (disk_of self.old) }
+
+        // It is refused for memory alone, before the first event.
+        ensures refused { IfErr result (λ r. r ≡ NoMemory) }
+        ensures nothing { OnErr result (self.new ≡ self.old) }
+        ensures kept { OnErr result (out.new.items ≡ out.old.items) }
+
+        // Else the new replies are those of a run of the events, from each state that the store may have been in.
+        ensures ran { OnOk result ((replies : List Reply) × (out.new.items ≡ out.old.items ++ replies)
+            × Runs D.Disk self.old self.new events.now replies) }
+    {
+        if out.try_reserve(events.len()).is_err() {
+            return Err(Refusal::NoMemory);
+        }
+        for event in events {
+            let reply = self.answer(event);
+            let _ = out.push(reply);
+        }
+        Ok(())
+    }
+
+    // What the call that the event asks for answers.
+    fn answer(&mut self, event: &Event) -> Reply
+        ensures { Runs D.Disk self.old self.new (event.now ∷ []) (result ∷ []) }
+    {
+        match event {
+            Event::Do(command) => self.apply(command).map_or_else(Reply::Refused, Reply::Done),
+            Event::Elevation(point) => self
+                .elevation(*point)
+                .map_or_else(Reply::Refused, Reply::Elevation),
+            Event::Fill(point) => self.fill(*point).map_or_else(Reply::Refused, Reply::Fill),
+            Event::Direction(point) => self
+                .direction(*point)
+                .map_or_else(Reply::Refused, Reply::Direction),
+            Event::Trace(point) => self.trace(*point).map_or_else(Reply::Refused, Reply::Trace),
+            Event::Watershed(point) => self
+                .watershed(*point)
+                .map_or_else(Reply::Refused, Reply::Watershed),
+            Event::Export(corner) => self
+                .export(*corner)
+                .map_or_else(Reply::Refused, Reply::Export),
+            Event::Tiles => self.tiles().map_or_else(Reply::Refused, Reply::Tiles),
+            Event::Count => Reply::Count(self.count()),
+            Event::Reopen => self
+                .reopen()
+                .map_or_else(Reply::Refused, |()| Reply::Reopened),
+        }
+    }
+}
