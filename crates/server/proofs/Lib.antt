@@ -3,3 +3,4 @@ pub mod ProgramLemmas
 pub mod SessionLemmas
 pub mod StoreLemmas
 pub mod TableLemmas
+pub mod ToldLemmas

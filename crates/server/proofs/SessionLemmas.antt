@@ -7,7 +7,6 @@ use Rattle.std.proofs.KnownBytes.{Appends-nil, Appends-trans, Consumes-nil, Cons
 use Rattle.std.proofs.lemmas.List.{append-nil}
 use Rattle.std.proofs.lemmas.List.Elements.{All-nil, All-push, Contains-push, Contains-push_cases, Contains-append_left, Contains-append_right, Contains-append_cases}
 use Rattle.std.proofs.lemmas.Grind.{flat_map-append}
-use Rattle.edits.specs.State.{State}
 use Rattle.lines.specs.declared.request.Request.{Request}
 use Rattle.server.specs.declared.session.ServeFault.{ServeFault}
 use Rattle.server.specs.declared.session.ServeFault.TheVariants.{Input, Output}
@@ -19,7 +18,6 @@ use Rattle.lines.specs.Grammar.{Asked, AskQuit}
 use Rattle.lines.specs.Lines.{IsLine, line_feed, kept, Reaches}
 use Rattle.lines.specs.Requests.{asked, IsRequestOf}
 use Rattle.server.specs.Items.{Heard, spelled, AsksFor, payload_len, IsItem, GoesOn}
-use Rattle.server.specs.Answers.{Replied}
 use Rattle.server.specs.Served.{last_of, Replies, Ends, AreItemsOf, Outcome}
 use Rattle.server.specs.Session.{Stored, Holds, Steps, SoFar}
 use Rattle.lines.proofs.WriteLemmas.{Appends-second}
@@ -65,18 +63,19 @@ pub begun_taken : (a b c : Option (List ℕ)) (text bytes : List ℕ) → Consum
 begun_taken a b c text bytes x y =
     subst (Consumes a c) (append_assoc text (10 ∷ []) bytes) (Consumes-trans a b c (text ++ (10 ∷ [])) bytes x y)
 
--- one item and its reply
-pub one_reply : (n : ℕ) (s : State) (i : Heard) (reply : List ℕ) (t : State) → Replied n s i reply t → Replies n s (i ∷ []) reply (t ∷ [])
-one_reply n s i reply t q = (reply, [], sym (append-nil reply), q, refl)
+module _ {X : Type 0} (IsRight : X → Heard → List ℕ → X → Type 0) where
+  -- one item and its reply
+  pub one_reply : (s : X) (i : Heard) (reply : List ℕ) (t : X) → IsRight s i reply t → Replies IsRight s (i ∷ []) reply (t ∷ [])
+  one_reply s i reply t q = (reply, [], sym (append-nil reply), q, refl)
 
--- some items and their replies, and then more
-replies_append : (n : ℕ) (s : State) (items more : List Heard) (text reply : List ℕ) (us vs : List State) → Replies n s items text us → Replies n (last_of s us) more reply vs
-    → Replies n s (items ++ more) (text ++ reply) (us ++ vs)
-replies_append n s [] more text reply [] vs e q = rw e q
-replies_append n s [] more text reply (t ∷ us) vs h q = absurd h
-replies_append n s (i ∷ is) more text reply [] vs h q = absurd h
-replies_append n s (i ∷ is) more text reply (t ∷ us) vs (first, rest, e, p, r) q =
-    (first, rest ++ reply, ap (λ l. l ++ reply) e ∙ append_assoc first rest reply, p, replies_append n t is more rest reply us vs r q)
+  -- some items and their replies, and then more
+  replies_append : (s : X) (items more : List Heard) (text reply : List ℕ) (us vs : List X) → Replies IsRight s items text us → Replies IsRight (last_of s us) more reply vs
+      → Replies IsRight s (items ++ more) (text ++ reply) (us ++ vs)
+  replies_append s [] more text reply [] vs e q = rw e q
+  replies_append s [] more text reply (t ∷ us) vs h q = absurd h
+  replies_append s (i ∷ is) more text reply [] vs h q = absurd h
+  replies_append s (i ∷ is) more text reply (t ∷ us) vs (first, rest, e, p, r) q =
+      (first, rest ++ reply, ap (λ l. l ++ reply) e ∙ append_assoc first rest reply, p, replies_append t is more rest reply us vs r q)
 
 -- nothing is to come
 pub ends_none : (ahead : List ℕ) (r old : Option (List ℕ)) → Consumes old (prepend_known ahead r) [] → ahead ≡ [] → IsAtEnd r → IfSome old (λ input. Ends input [])
@@ -125,90 +124,94 @@ none_ahead : (ahead : List ℕ) (r : Option (List ℕ)) → ahead ≡ [] → pre
 none_ahead ahead None e = refl
 none_ahead ahead (Some xs) e = rw e refl
 
-pub so_far_none : (n : ℕ) (ahead : List ℕ) (r w : Option (List ℕ)) (s : State) → ahead ≡ [] → SoFar n r (prepend_known ahead r) w w s []
-so_far_none n ahead r w s e =
-    ([], [], All-nil GoesOn, subst (λ l. Consumes r l []) (sym (none_ahead ahead r e)) (Consumes-nil r), Appends-nil w, refl)
-
--- (a step's capacity is the one at the start)
-same_capacity : (l n : ℕ) (s : State) (items : List Heard) (text : List ℕ) (states : List State) → l ≡ n → Replies l s items text states → Replies n s items text states
-same_capacity l n s items text states same r = subst (λ (k : ℕ). Replies k s items text states) same r
-
-pub so_far_more : (l n : ℕ) (b a c w m v : Option (List ℕ)) (s : State) (us vs : List State) → l ≡ n → SoFar n b a w m s us → Steps l a c m v (last_of s us) vs (Ok More)
-    → SoFar n b c w v s (us ++ vs)
-so_far_more l n b a c w m v s us vs same (items, text, each, k, x, r) (i, reply, on, k2, x2, p) = (
-  items ++ i ∷ [],
-  text ++ reply,
-  All-push GoesOn items i each on,
-  subst (Consumes b c) (sym (one_spelled items i)) (Consumes-trans b a c _ _ k k2),
-  Appends-trans w m v _ _ x x2,
-  replies_append n s items (i ∷ []) text reply us vs r (same_capacity l n (last_of s us) (i ∷ []) reply vs same p),
-)
-
-pub so_far_end : (l n : ℕ) (b a c d w m v : Option (List ℕ)) (s : State) (us vs : List State) → l ≡ n → SoFar n b a w m s us → Steps l a c m v (last_of s us) vs (Ok End)
-    → Outcome n b d w v s (us ++ vs) (Ok tt)
-so_far_end l n b a c d w m v s us vs same (items, text, each, k, x, r) (last, reply, e, x2, p) = (
-  items ++ last,
-  text ++ reply,
-  items_end b a items last each k e,
-  Appends-trans w m v text reply x x2,
-  replies_append n s items last text reply us vs r (same_capacity l n (last_of s us) last reply vs same p),
-)
-
 abbrev fault_of : ServeFault → Result Next ServeFault
 fault_of e = Err e
 
-pub so_far_fault : (l n : ℕ) (b a w m v : Option (List ℕ)) (ahead : List ℕ) (d : Option (List ℕ)) (s : State) (us vs : List State) (e : ServeFault) → l ≡ n → SoFar n b a w m s us
-    → (fault_of e ≡ fault_of Input → ahead ≡ []) → Steps l a (prepend_known ahead d) m v (last_of s us) vs (Err e) → Outcome n b d w v s (us ++ vs) (Err e)
-so_far_fault l n b a w m v ahead d s us vs Input same (items, text, each, k, x, r) none (rest, begun, k2, x2, e) = (
-  items,
-  rest,
-  text,
-  each,
-  begun,
-  subst (λ l. Consumes b l (flat_map spelled items ++ rest)) (none_ahead ahead d (none refl)) (Consumes-trans b a (prepend_known ahead d) _ _ k k2),
-  subst (Appends w v) (append-nil text) (Appends-trans w m v text [] x x2),
-  subst (λ (states : List State). Replies n s items text states) (sym (ap (λ l. us ++ l) e ∙ append-nil us)) r,
-)
-so_far_fault l n b a w m v ahead d s us vs Output same (items, text, each, k, x, r) none (i, extent, reply, j, item, k2, x2, p) =
-    let q = same_capacity l n (last_of s us) (i ∷ []) reply vs same p in
-    let more = Appends-second w m v text reply j x x2 in (
-      items,
-      i,
-      extent,
-      text ++ reply,
-      more.0,
-      prepend_known ahead d,
-      each,
-      item,
-      Consumes-trans b a (prepend_known ahead d) _ _ k k2,
-      replies_append n s items (i ∷ []) text reply us vs r q,
-      more.1,
-    )
+-- Where a reply is right is judged by something that stays: a step's is the same as the one at the start. A step begins in
+-- the state that the ones before it end in.
+module _ {K X : Type 0} (IsRight : K → X → Heard → List ℕ → X → Type 0) where
+  from_start : (l n : K) (s x : X) (items : List Heard) (text : List ℕ) (states : List X) → l ≡ n → s ≡ x → Replies (IsRight l) x items text states → Replies (IsRight n) s items text states
+  from_start l n s x items text states same is r =
+      subst (λ (k : K). Replies (IsRight k) s items text states) same (subst (λ (y : X). Replies (IsRight l) y items text states) (sym is) r)
 
--- the state that a run and then another ends in
-pub last_of-append : (s : State) (us vs : List State) → last_of s (us ++ vs) ≡ last_of (last_of s us) vs
-last_of-append s [] vs = refl
-last_of-append s (t ∷ us) vs = last_of-append t us vs
+  pub so_far_none : (n : K) (ahead : List ℕ) (r w : Option (List ℕ)) (s : X) → ahead ≡ [] → SoFar (IsRight n) r (prepend_known ahead r) w w s []
+  so_far_none n ahead r w s e =
+      ([], [], All-nil GoesOn, subst (λ l. Consumes r l []) (sym (none_ahead ahead r e)) (Consumes-nil r), Appends-nil w, refl)
 
-last_contained : (s : State) (us : List State) → Contains (s ∷ us) (last_of s us)
-last_contained s [] = Contains-push [] s
-last_contained s (t ∷ us) = Contains-append_right (s ∷ []) (t ∷ us) (last_of t us) (last_contained t us)
+  pub so_far_more : (l n : K) (b a c w m v : Option (List ℕ)) (s x : X) (us vs : List X) → l ≡ n → last_of s us ≡ x → SoFar (IsRight n) b a w m s us
+      → Steps (IsRight l) a c m v x vs (Ok More) → SoFar (IsRight n) b c w v s (us ++ vs)
+  so_far_more l n b a c w m v s x us vs same is (items, text, each, k, y, r) (i, reply, on, k2, y2, p) = (
+    items ++ i ∷ [],
+    text ++ reply,
+    All-push GoesOn items i each on,
+    subst (Consumes b c) (sym (one_spelled items i)) (Consumes-trans b a c _ _ k k2),
+    Appends-trans w m v _ _ y y2,
+    replies_append (IsRight n) s items (i ∷ []) text reply us vs r (from_start l n (last_of s us) x (i ∷ []) reply vs same is p),
+  )
 
-only_one : (x y : State) → Contains (y ∷ []) x → y ≡ x
-only_one x y h = by (Contains-push_cases [] y x h)
-  where
-    by : Contains [] x ⊎ (y ≡ x) → y ≡ x
-    by (inl none) = absurd (let below = none.1 in omega (arith, below))
-    by (inr is) = is
+  pub so_far_end : (l n : K) (b a c d w m v : Option (List ℕ)) (s x : X) (us vs : List X) → l ≡ n → last_of s us ≡ x → SoFar (IsRight n) b a w m s us
+      → Steps (IsRight l) a c m v x vs (Ok End) → Outcome (IsRight n) b d w v s (us ++ vs) (Ok tt)
+  so_far_end l n b a c d w m v s x us vs same is (items, text, each, k, y, r) (last, reply, e, y2, p) = (
+    items ++ last,
+    text ++ reply,
+    items_end b a items last each k e,
+    Appends-trans w m v text reply y y2,
+    replies_append (IsRight n) s items last text reply us vs r (from_start l n (last_of s us) x last reply vs same is p),
+  )
 
--- a run begins in the state that the one before it ends in
-pub run_joined : (s : State) (us vs : List State) (x : State) → Contains ((s ∷ us) ++ (last_of s us ∷ vs)) x → Contains (s ∷ (us ++ vs)) x
-run_joined s us vs x h = by (Contains-append_cases (s ∷ us) (last_of s us ∷ vs) x h)
-  where
-    later : Contains (last_of s us ∷ []) x ⊎ Contains vs x → Contains (s ∷ (us ++ vs)) x
-    later (inl last) = Contains-append_left (s ∷ us) vs x (subst (Contains (s ∷ us)) (only_one x (last_of s us) last) (last_contained s us))
-    later (inr more) = Contains-append_right (s ∷ us) vs x more
+  pub so_far_fault : (l n : K) (b a w m v : Option (List ℕ)) (ahead : List ℕ) (d : Option (List ℕ)) (s x : X) (us vs : List X) (e : ServeFault) → l ≡ n → last_of s us ≡ x
+      → SoFar (IsRight n) b a w m s us → (fault_of e ≡ fault_of Input → ahead ≡ []) → Steps (IsRight l) a (prepend_known ahead d) m v x vs (Err e)
+      → Outcome (IsRight n) b d w v s (us ++ vs) (Err e)
+  so_far_fault l n b a w m v ahead d s x us vs Input same is (items, text, each, k, y, r) none (rest, begun, k2, y2, e) = (
+    items,
+    rest,
+    text,
+    each,
+    begun,
+    subst (λ l. Consumes b l (flat_map spelled items ++ rest)) (none_ahead ahead d (none refl)) (Consumes-trans b a (prepend_known ahead d) _ _ k k2),
+    subst (Appends w v) (append-nil text) (Appends-trans w m v text [] y y2),
+    subst (λ (states : List X). Replies (IsRight n) s items text states) (sym (ap (λ l. us ++ l) e ∙ append-nil us)) r,
+  )
+  so_far_fault l n b a w m v ahead d s x us vs Output same is (items, text, each, k, y, r) none (i, extent, reply, j, item, k2, y2, p) =
+      let more = Appends-second w m v text reply j y y2 in (
+        items,
+        i,
+        extent,
+        text ++ reply,
+        more.0,
+        prepend_known ahead d,
+        each,
+        item,
+        Consumes-trans b a (prepend_known ahead d) _ _ k k2,
+        replies_append (IsRight n) s items (i ∷ []) text reply us vs r (from_start l n (last_of s us) x (i ∷ []) reply vs same is p),
+        more.1,
+      )
 
-    by : Contains (s ∷ us) x ⊎ Contains (last_of s us ∷ vs) x → Contains (s ∷ (us ++ vs)) x
-    by (inl before) = Contains-append_left (s ∷ us) vs x before
-    by (inr after) = later (Contains-append_cases (last_of s us ∷ []) vs x after)
+module _ {X : Type 0} where
+  -- the state that a run and then another ends in
+  pub last_of-append : (s : X) (us vs : List X) → last_of s (us ++ vs) ≡ last_of (last_of s us) vs
+  last_of-append s [] vs = refl
+  last_of-append s (t ∷ us) vs = last_of-append t us vs
+
+  last_contained : (s : X) (us : List X) → Contains (s ∷ us) (last_of s us)
+  last_contained s [] = Contains-push [] s
+  last_contained s (t ∷ us) = Contains-append_right (s ∷ []) (t ∷ us) (last_of t us) (last_contained t us)
+
+  only_one : (x y : X) → Contains (y ∷ []) x → y ≡ x
+  only_one x y h = by (Contains-push_cases [] y x h)
+    where
+      by : Contains [] x ⊎ (y ≡ x) → y ≡ x
+      by (inl none) = absurd (let below = none.1 in omega (arith, below))
+      by (inr is) = is
+
+  -- a run begins in the state that the one before it ends in
+  pub run_joined : (s : X) (us vs : List X) (x : X) → Contains ((s ∷ us) ++ (last_of s us ∷ vs)) x → Contains (s ∷ (us ++ vs)) x
+  run_joined s us vs x h = by (Contains-append_cases (s ∷ us) (last_of s us ∷ vs) x h)
+    where
+      later : Contains (last_of s us ∷ []) x ⊎ Contains vs x → Contains (s ∷ (us ++ vs)) x
+      later (inl last) = Contains-append_left (s ∷ us) vs x (subst (Contains (s ∷ us)) (only_one x (last_of s us) last) (last_contained s us))
+      later (inr more) = Contains-append_right (s ∷ us) vs x more
+
+      by : Contains (s ∷ us) x ⊎ Contains (last_of s us ∷ vs) x → Contains (s ∷ (us ++ vs)) x
+      by (inl before) = Contains-append_left (s ∷ us) vs x before
+      by (inr after) = later (Contains-append_cases (last_of s us ∷ []) vs x after)

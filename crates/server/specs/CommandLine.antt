@@ -9,6 +9,7 @@ use Rattle.hgt.specs.Names.{IsFileName}
 use Rattle.edits.specs.State.{State, fresh}
 use Rattle.lines.specs.Grammar.{IsNat}
 use Rattle.lines.specs.Replies.{line_of, ok_line, refusal_text}
+use Rattle.server.specs.Answers.{Replied}
 use Rattle.server.specs.Report.{IsReportText}
 use Rattle.server.specs.Served.{Outcome}
 use Rattle.server.specs.TableState.{working}
@@ -123,10 +124,10 @@ EndsFlushing written new status =
 -- line tells which.
 abbrev pub EndsServing : ℕ → ℕ → Option (List ℕ) → Option (List ℕ) → Option (List ℕ) → Option (List ℕ) → ℕ → Type 0
 EndsServing side capacity before after written new status =
-    ((states : List State) × Outcome capacity before after written new (working (fresh side)) states (Ok tt) × (status ≡ 0))
-    ⊎ ((states : List State) × (mid : Option (List ℕ)) × Outcome capacity before after written mid (working (fresh side)) states (Ok tt)
+    ((states : List State) × Outcome (Replied capacity) before after written new (working (fresh side)) states (Ok tt) × (status ≡ 0))
+    ⊎ ((states : List State) × (mid : Option (List ℕ)) × Outcome (Replied capacity) before after written mid (working (fresh side)) states (Ok tt)
     × Begins mid new (fault_line Output) × (status ≡ 1))
-    ⊎ ((states : List State) × (mid : Option (List ℕ)) × (fault : ServeFault) × Outcome capacity before after written mid (working (fresh side)) states (Err fault)
+    ⊎ ((states : List State) × (mid : Option (List ℕ)) × (fault : ServeFault) × Outcome (Replied capacity) before after written mid (working (fresh side)) states (Err fault)
     × Begins mid new (fault_line fault) × (status ≡ 1))
 
 -- the side is tested first, then the capacity

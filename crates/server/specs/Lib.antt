@@ -7,3 +7,4 @@ pub mod Session
 pub mod StoreRuns
 pub mod StoreState
 pub mod TableState
+pub mod Told

@@ -1,9 +1,10 @@
 //! Answers items over an engine.
 ghost use Rattle.std.specs.Prelude.{◌≡◌, ◌<◌, ◌⊎◌, ℕ, List, [], ◌∷◌, length};
 ghost use Rattle.edits.specs.State.{State};
-ghost use Rattle.server.specs.Answers.{Replied, Commanded, AnswersImport, AnswersRemove, AnswersElevation, AnswersFill, AnswersDirection, AnswersTrace, AnswersWatershed, AnswersExport, AnswersTiles};
+ghost use Rattle.server.specs.Answers.{Replied, Commanded, AnswersImport, AnswersRemove, AnswersElevation, AnswersFill, AnswersDirection, AnswersTrace, AnswersWatershed, AnswersExport, AnswersTiles, height_text, level_text, code_text, trace_text, watershed_text, names_text};
 ghost use Rattle.server.specs.Items.{Heard};
 ghost use Rattle.server.specs.Session.{Stored, Holds};
+ghost use Rattle.server.specs.Told.{IsTold, Tells, TellsCommand, TellsExport, TellsImport, TellsRemove};
 
 use crate::engine::Engine;
 use crate::hearing::Item;
@@ -24,6 +25,7 @@ fn import<E: Engine>(
     ensures side { E.side_of engine.new ≡ E.side_of engine.old }
     ensures capacity { E.capacity_of engine.new ≡ E.capacity_of engine.old }
     ensures honest { E.is_honest engine.new → E.is_honest engine.old }
+    ensures every_disk { TellsImport (E.has_failed engine.old) result (E.has_failed engine.new) }
     ensures outcome { E.is_honest engine.new → (s : State) → E.is_at engine.old s → (bytes : List ℕ) → Stored payload bytes
         → (extent ≡ Extent.Whole → length bytes ≡ len) → (extent ≡ Extent.Cut → (length bytes < len) ⊎ (length bytes ≡ 0))
         → (t : State) × E.is_at engine.new t × E.leaves_only engine.old engine.new (s ∷ t ∷ [])
@@ -47,6 +49,7 @@ fn remove<E: Engine>(engine: &mut E, name: &[u8]) -> Reply
     ensures side { E.side_of engine.new ≡ E.side_of engine.old }
     ensures capacity { E.capacity_of engine.new ≡ E.capacity_of engine.old }
     ensures honest { E.is_honest engine.new → E.is_honest engine.old }
+    ensures every_disk { TellsRemove (E.has_failed engine.old) result (E.has_failed engine.new) }
     ensures outcome { E.is_honest engine.new → (s : State) → E.is_at engine.old s
         → (t : State) × E.is_at engine.new t × E.leaves_only engine.old engine.new (s ∷ t ∷ [])
         × AnswersRemove (E.capacity_of engine.old) s name.now result t }
@@ -62,6 +65,7 @@ fn apply<E: Engine>(engine: &mut E, command: Command) -> Reply
     ensures side { E.side_of engine.new ≡ E.side_of engine.old }
     ensures capacity { E.capacity_of engine.new ≡ E.capacity_of engine.old }
     ensures honest { E.is_honest engine.new → E.is_honest engine.old }
+    ensures every_disk { TellsCommand (E.has_failed engine.old) result (E.has_failed engine.new) }
     ensures outcome { E.is_honest engine.new → (s : State) → E.is_at engine.old s
         → (t : State) × E.is_at engine.new t × E.leaves_only engine.old engine.new (s ∷ t ∷ [])
         × Commanded (E.capacity_of engine.old) s command result t }
@@ -77,6 +81,7 @@ fn elevation<E: Engine>(engine: &mut E, point: Point) -> Reply
     ensures side { E.side_of engine.new ≡ E.side_of engine.old }
     ensures capacity { E.capacity_of engine.new ≡ E.capacity_of engine.old }
     ensures honest { E.is_honest engine.new → E.is_honest engine.old }
+    ensures every_disk { Tells height_text (E.has_failed engine.old) result (E.has_failed engine.new) }
     ensures outcome { E.is_honest engine.new → (s : State) → E.is_at engine.old s
         → (t : State) × E.is_at engine.new t × E.leaves_only engine.old engine.new (s ∷ t ∷ [])
         × AnswersElevation s point result t }
@@ -94,6 +99,7 @@ fn fill<E: Engine>(engine: &mut E, point: Point) -> Reply
     ensures side { E.side_of engine.new ≡ E.side_of engine.old }
     ensures capacity { E.capacity_of engine.new ≡ E.capacity_of engine.old }
     ensures honest { E.is_honest engine.new → E.is_honest engine.old }
+    ensures every_disk { Tells level_text (E.has_failed engine.old) result (E.has_failed engine.new) }
     ensures outcome { E.is_honest engine.new → (s : State) → E.is_at engine.old s
         → (t : State) × E.is_at engine.new t × E.leaves_only engine.old engine.new (s ∷ t ∷ [])
         × AnswersFill s point result t }
@@ -109,6 +115,7 @@ fn direction<E: Engine>(engine: &mut E, point: Point) -> Reply
     ensures side { E.side_of engine.new ≡ E.side_of engine.old }
     ensures capacity { E.capacity_of engine.new ≡ E.capacity_of engine.old }
     ensures honest { E.is_honest engine.new → E.is_honest engine.old }
+    ensures every_disk { Tells code_text (E.has_failed engine.old) result (E.has_failed engine.new) }
     ensures outcome { E.is_honest engine.new → (s : State) → E.is_at engine.old s
         → (t : State) × E.is_at engine.new t × E.leaves_only engine.old engine.new (s ∷ t ∷ [])
         × AnswersDirection s point result t }
@@ -124,6 +131,7 @@ fn trace<E: Engine>(alloc: Global, engine: &mut E, point: Point) -> Reply
     ensures side { E.side_of engine.new ≡ E.side_of engine.old }
     ensures capacity { E.capacity_of engine.new ≡ E.capacity_of engine.old }
     ensures honest { E.is_honest engine.new → E.is_honest engine.old }
+    ensures every_disk { Tells trace_text (E.has_failed engine.old) result (E.has_failed engine.new) }
     ensures outcome { E.is_honest engine.new → (s : State) → E.is_at engine.old s
         → (t : State) × E.is_at engine.new t × E.leaves_only engine.old engine.new (s ∷ t ∷ [])
         × AnswersTrace s point result t }
@@ -142,6 +150,7 @@ fn watershed<E: Engine>(alloc: Global, engine: &mut E, point: Point) -> Reply
     ensures side { E.side_of engine.new ≡ E.side_of engine.old }
     ensures capacity { E.capacity_of engine.new ≡ E.capacity_of engine.old }
     ensures honest { E.is_honest engine.new → E.is_honest engine.old }
+    ensures every_disk { Tells watershed_text (E.has_failed engine.old) result (E.has_failed engine.new) }
     ensures outcome { E.is_honest engine.new → (s : State) → E.is_at engine.old s
         → (t : State) × E.is_at engine.new t × E.leaves_only engine.old engine.new (s ∷ t ∷ [])
         × AnswersWatershed s point result t }
@@ -160,6 +169,7 @@ fn export<E: Engine>(alloc: Global, engine: &mut E, name: &[u8]) -> Reply
     ensures side { E.side_of engine.new ≡ E.side_of engine.old }
     ensures capacity { E.capacity_of engine.new ≡ E.capacity_of engine.old }
     ensures honest { E.is_honest engine.new → E.is_honest engine.old }
+    ensures every_disk { TellsExport (E.has_failed engine.old) result (E.has_failed engine.new) }
     ensures outcome { E.is_honest engine.new → (s : State) → E.is_at engine.old s
         → (t : State) × E.is_at engine.new t × E.leaves_only engine.old engine.new (s ∷ t ∷ [])
         × AnswersExport s name.now result t }
@@ -178,7 +188,8 @@ fn export<E: Engine>(alloc: Global, engine: &mut E, name: &[u8]) -> Reply
 
 /// Answers with the names of the present tiles.
 fn tiles<E: Engine>(alloc: Global, engine: &E) -> Reply
-    ensures { E.is_honest engine.now → (s : State) → E.is_at engine.now s → AnswersTiles s result s }
+    ensures outcome { E.is_honest engine.now → (s : State) → E.is_at engine.now s → AnswersTiles s result s }
+    ensures every_disk { Tells names_text (E.has_failed engine.now) result (E.has_failed engine.now) }
 {
     match engine.tiles() {
         Ok(corners) => match Reply::names(alloc, corners.as_slice()) {
@@ -194,6 +205,7 @@ pub fn answer<E: Engine>(alloc: Global, engine: &mut E, item: Item<'_>) -> Reply
     ensures side { E.side_of engine.new ≡ E.side_of engine.old }
     ensures capacity { E.capacity_of engine.new ≡ E.capacity_of engine.old }
     ensures honest { E.is_honest engine.new → E.is_honest engine.old }
+    ensures every_disk { (i : Heard) → Holds item.entry i → IsTold (E.has_failed engine.old) i result (E.has_failed engine.new) }
     ensures outcome { E.is_honest engine.new → (s : State) → E.is_at engine.old s → (i : Heard) → Holds item.entry i
         → (t : State) × E.is_at engine.new t × E.leaves_only engine.old engine.new (s ∷ t ∷ [])
         × Replied (E.capacity_of engine.old) s i result t }

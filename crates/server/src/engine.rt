@@ -1,11 +1,12 @@
 //! What lines need of a store.
-ghost use Rattle.std.specs.Prelude.{◌≡◌, ◌≢◌, ◌≤◌, ℕ, List, [], ◌∷◌, ◌++◌, Contains, Err};
+ghost use Rattle.std.specs.Prelude.{◌≡◌, ◌≢◌, ◌≤◌, ℕ, List, [], ◌∷◌, ◌++◌, Contains, Bool, Err};
 ghost use Rattle.lattice.specs.declared.refusal.Refusal.TheVariants.{Device};
 ghost use Rattle.catalogue.specs.Reading.{HasRisen};
 ghost use Rattle.edits.specs.State.{State};
 ghost use Rattle.edits.specs.Outcomes.{Applies, Elevates, Exports, Lists};
 ghost use Rattle.drainage.specs.Outcomes.{Directs, Fills, Sheds, Traces};
 ghost use Rattle.server.specs.Answers.{items_in};
+ghost use Rattle.server.specs.Told.{IsAsked};
 
 use edits::Command;
 use lattice::{Corner, Height, Point, Refusal, Side};
@@ -33,6 +34,9 @@ pub trait Engine {
     /// How many tiles it takes.
     ghost capacity_of: { Self → ℕ };
 
+    /// A call failed on its disk, and none has opened it since.
+    ghost has_failed: { Self → Bool };
+
     /// How many calls of the disk have failed. The count stays at the largest 64-bit number, where each further failure
     /// counts as a rise.
     ghost failures: { Self → ℕ };
@@ -48,6 +52,7 @@ pub trait Engine {
         ensures failures { failures self.old ≤ failures self.new }
         ensures device { result ≡ Err Device → HasRisen (failures self.old) (failures self.new) }
         ensures honest { is_honest self.new → is_honest self.old }
+        ensures asked { IsAsked (has_failed self.old) result (has_failed self.new) }
         ensures outcome { is_honest self.new → (s : State) → is_at self.old s
             → (t : State) × is_at self.new t × leaves_only self.old self.new (s ∷ t ∷ [])
             × Applies (capacity_of self.old) s command.now result t };
@@ -59,6 +64,7 @@ pub trait Engine {
         ensures failures { failures self.old ≤ failures self.new }
         ensures device { result ≡ Err Device → HasRisen (failures self.old) (failures self.new) }
         ensures honest { is_honest self.new → is_honest self.old }
+        ensures asked { IsAsked (has_failed self.old) result (has_failed self.new) }
         ensures outcome { is_honest self.new → (s : State) → is_at self.old s
             → (t : State) × is_at self.new t × leaves_only self.old self.new (s ∷ t ∷ []) × Elevates s point result t };
 
@@ -69,6 +75,7 @@ pub trait Engine {
         ensures failures { failures self.old ≤ failures self.new }
         ensures device { result ≡ Err Device → HasRisen (failures self.old) (failures self.new) }
         ensures honest { is_honest self.new → is_honest self.old }
+        ensures asked { IsAsked (has_failed self.old) result (has_failed self.new) }
         ensures outcome { is_honest self.new → (s : State) → is_at self.old s
             → (t : State) × is_at self.new t × leaves_only self.old self.new (s ∷ t ∷ []) × Fills s point result t };
 
@@ -79,6 +86,7 @@ pub trait Engine {
         ensures failures { failures self.old ≤ failures self.new }
         ensures device { result ≡ Err Device → HasRisen (failures self.old) (failures self.new) }
         ensures honest { is_honest self.new → is_honest self.old }
+        ensures asked { IsAsked (has_failed self.old) result (has_failed self.new) }
         ensures outcome { is_honest self.new → (s : State) → is_at self.old s
             → (t : State) × is_at self.new t × leaves_only self.old self.new (s ∷ t ∷ []) × Directs s point result t };
 
@@ -89,6 +97,7 @@ pub trait Engine {
         ensures failures { failures self.old ≤ failures self.new }
         ensures device { result ≡ Err Device → HasRisen (failures self.old) (failures self.new) }
         ensures honest { is_honest self.new → is_honest self.old }
+        ensures asked { IsAsked (has_failed self.old) (items_in result) (has_failed self.new) }
         ensures outcome { is_honest self.new → (s : State) → is_at self.old s
             → (t : State) × is_at self.new t × leaves_only self.old self.new (s ∷ t ∷ []) × Traces s point (items_in result) t };
 
@@ -99,6 +108,7 @@ pub trait Engine {
         ensures failures { failures self.old ≤ failures self.new }
         ensures device { result ≡ Err Device → HasRisen (failures self.old) (failures self.new) }
         ensures honest { is_honest self.new → is_honest self.old }
+        ensures asked { IsAsked (has_failed self.old) (items_in result) (has_failed self.new) }
         ensures outcome { is_honest self.new → (s : State) → is_at self.old s
             → (t : State) × is_at self.new t × leaves_only self.old self.new (s ∷ t ∷ []) × Sheds s point (items_in result) t };
 
@@ -109,12 +119,14 @@ pub trait Engine {
         ensures failures { failures self.old ≤ failures self.new }
         ensures device { result ≡ Err Device → HasRisen (failures self.old) (failures self.new) }
         ensures honest { is_honest self.new → is_honest self.old }
+        ensures asked { IsAsked (has_failed self.old) (items_in result) (has_failed self.new) }
         ensures outcome { is_honest self.new → (s : State) → is_at self.old s
             → (t : State) × is_at self.new t × leaves_only self.old self.new (s ∷ t ∷ []) × Exports s corner (items_in result) t };
 
     /// The corners of the present tiles, in order. They are held in memory, so that no disk refuses.
     fn tiles(&self) -> Result<Vec<Corner>, Refusal>
         ensures memory { result ≢ Err Device }
+        ensures asked { IsAsked (has_failed self.now) (items_in result) (has_failed self.now) }
         ensures outcome { is_honest self.now → (s : State) → is_at self.now s → Lists s (items_in result) s };
 
     /// How many commands were accepted, as last known.

@@ -1,9 +1,11 @@
 //! Serves items, one after another: each is heard, answered, and its reply written.
-ghost use Rattle.std.specs.Prelude.{◌≡◌, ◌<◌, List, [], ◌∷◌, Ok, Err};
+ghost use Rattle.std.specs.Prelude.{◌≡◌, ◌<◌, Bool, List, [], ◌∷◌, Ok, Err};
 ghost use Rattle.edits.specs.State.{State};
 ghost use Rattle.lines.specs.Ahead.{to_come, weight};
+ghost use Rattle.server.specs.Answers.{Replied};
 ghost use Rattle.server.specs.Served.{Outcome, last_of};
 ghost use Rattle.server.specs.Session.{Steps};
+ghost use Rattle.server.specs.Told.{IsTold};
 
 use crate::answering::answer;
 use crate::engine::Engine;
@@ -45,8 +47,11 @@ fn step<R: Read, W: Write, E: Engine>(
     ensures honest { E.is_honest engine.new → E.is_honest engine.old }
     ensures outcome { E.is_honest engine.new → (s : State) → E.is_at engine.old s
         → (states : List State) × E.is_at engine.new (last_of s states) × E.leaves_only engine.old engine.new (s ∷ states)
-        × Steps (E.capacity_of engine.old) (to_come ahead.old (R.remaining reader.old)) (to_come ahead.new (R.remaining reader.new))
+        × Steps (Replied (E.capacity_of engine.old)) (to_come ahead.old (R.remaining reader.old)) (to_come ahead.new (R.remaining reader.new))
         (W.contents writer.old) (W.contents writer.new) s states result }
+    ensures every_disk { (flags : List Bool) × (last_of (E.has_failed engine.old) flags ≡ E.has_failed engine.new)
+        × Steps IsTold (to_come ahead.old (R.remaining reader.old)) (to_come ahead.new (R.remaining reader.new))
+        (W.contents writer.old) (W.contents writer.new) (E.has_failed engine.old) flags result }
     ensures spent { result ≡ Ok Next.More → weight ahead.new < weight ahead.old }
     ensures none_ahead { result ≡ Err ServeFault.Input → ahead.new.bytes ≡ [] }
 {
@@ -78,6 +83,9 @@ fn step<R: Read, W: Write, E: Engine>(
 ///
 /// A power cut at any moment since the start leaves the contents that the store had at the start or after one of the
 /// items, or the commit that was then in doubt.
+///
+/// On any disk, honest or not, `OK` and a number is written for a command only where the engine had answered so. Once its
+/// disk failed a call, what asks it for more is answered with `ERR 22 Failed`.
 pub fn serve<R: Read, W: Write, E: Engine>(
     alloc: Global,
     reader: &mut R,
@@ -92,8 +100,13 @@ pub fn serve<R: Read, W: Write, E: Engine>(
     // commit in doubt.
     ensures outcome { E.is_honest engine.new → (s : State) → E.is_at engine.old s
         → (states : List State) × E.is_at engine.new (last_of s states) × E.leaves_only engine.old engine.new (s ∷ states)
-        × Outcome (E.capacity_of engine.old) (R.remaining reader.old) (R.remaining reader.new)
+        × Outcome (Replied (E.capacity_of engine.old)) (R.remaining reader.old) (R.remaining reader.new)
         (W.contents writer.old) (W.contents writer.new) s states result }
+
+    // On any disk, honest or not: what the replies tell of whether the store has failed, item by item.
+    ensures every_disk { (flags : List Bool) × (last_of (E.has_failed engine.old) flags ≡ E.has_failed engine.new)
+        × Outcome IsTold (R.remaining reader.old) (R.remaining reader.new)
+        (W.contents writer.old) (W.contents writer.new) (E.has_failed engine.old) flags result }
 {
     let mut ahead = Ahead::new(alloc);
     let mut line = Line::new();

@@ -14,7 +14,7 @@ use watershed::Run;
 
 impl<D: Disk> Engine for Store<D> {
     ghost use Rattle.std.specs.Prelude.{◌≡◌, ◌≤◌, List, [], ◌∷◌, Err};
-    ghost use Rattle.store.specs.Stores.{disk_of, side_of, capacity_of};
+    ghost use Rattle.store.specs.Stores.{disk_of, side_of, capacity_of, has_failed};
     ghost use Rattle.server.specs.StoreState.{IsStoreAt, LeavesStates};
     ghost use Rattle.server.specs.StoreRuns.{nothing_done, one_by_one, among_more};
 
@@ -29,6 +29,8 @@ impl<D: Disk> Engine for Store<D> {
     ghost side_of = { λ e. side_of e };
 
     ghost capacity_of = { λ e. capacity_of e };
+
+    ghost has_failed = { λ e. has_failed e };
 
     ghost failures = { λ e. D.failures (disk_of e) };
 

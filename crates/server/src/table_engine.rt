@@ -48,7 +48,7 @@ impl TableEngine {
 }
 
 impl Engine for TableEngine {
-    ghost use Rattle.std.specs.Prelude.{◌≡◌, List, [], ◌∷◌, refl, ⊤};
+    ghost use Rattle.std.specs.Prelude.{◌≡◌, List, [], ◌∷◌, false, refl, ⊤};
     ghost use Rattle.std.proofs.Common.{ap};
     ghost use Rattle.edits.specs.State.{State};
     ghost use Rattle.server.specs.TableState.{working};
@@ -63,6 +63,8 @@ impl Engine for TableEngine {
     ghost side_of = { λ e. e.contents.mosaic.side };
 
     ghost capacity_of = { λ e. e.capacity };
+
+    ghost has_failed = { λ _. false };
 
     ghost failures = { λ _. 0 };
 
