@@ -8,7 +8,7 @@ use Rattle.std.proofs.lemmas.Int.{ints, clamps}
 use Rattle.std.proofs.lemmas.Bool.{cases_Bool, cases_eq, cases_lt, and_parts, and_from, or_cases}
 use Rattle.std.proofs.lemmas.Bool.Decides.{Decides-int_eq}
 use Rattle.lattice.specs.declared.point.Point.{Point}
-use Rattle.lattice.specs.Corners.{Place, is_corner, same_place}
+use Rattle.lattice.specs.Corners.{Corner, is_corner, same_corner}
 use Rattle.lattice.specs.Lattice.{IsBefore, point_of, holds, index_of}
 use Rattle.lattice.specs.Terrain.{IsPath, end_of, crest, LeadsOut, IsFilledLevel}
 use Rattle.lattice.specs.Mosaic.{Mosaic, Tile, IsMosaic, is_present, void}
@@ -41,15 +41,15 @@ module _ (m : Mosaic) (is : IsMosaic m) (borders : List Border) (all : AreBorder
   tile_corner : (t : ℕ) → (get_or m.tiles t (record { corner = record { lat = pos 0; lon = pos 0 }; samples = [] })).corner ≡ (border_at borders t).corner
   tile_corner t =
       sym (get_or-map (λ (t : Tile). t.corner) m.tiles t (record { corner = record { lat = pos 0; lon = pos 0 }; samples = [] }))
-      ∙ (ap (λ (cs : List Place). get_or cs t (record { lat = pos 0; lon = pos 0 })) (sym all.corners)
+      ∙ (ap (λ (cs : List Corner). get_or cs t (record { lat = pos 0; lon = pos 0 })) (sym all.corners)
       ∙ get_or-map (λ (b : Border). b.corner) borders t (record { corner = record { lat = pos 0; lon = pos 0 }; rim = []; spills = [] }))
 
-  same_itself : (c : Place) → IsTrue (same_place c c)
+  same_itself : (c : Corner) → IsTrue (same_corner c c)
   same_itself c = and_from (int_eq c.lat c.lat) (int_eq c.lon c.lon) ((Decides-int_eq c.lat c.lat).1 refl) ((Decides-int_eq c.lon c.lon).1 refl)
 
   pub present : (t : ℕ) → t < length borders → IsTrue (is_present m (border_at borders t).corner)
-  present t small = any_at (λ (tile : Tile). same_place tile.corner (border_at borders t).corner) m.tiles t (record { corner = record { lat = pos 0; lon = pos 0 }; samples = [] }) (subst (λ k. t < k) as_many small)
-      (subst (λ c. IsTrue (same_place c (border_at borders t).corner)) (sym (tile_corner t)) (same_itself (border_at borders t).corner))
+  present t small = any_at (λ (tile : Tile). same_corner tile.corner (border_at borders t).corner) m.tiles t (record { corner = record { lat = pos 0; lon = pos 0 }; samples = [] }) (subst (λ k. t < k) as_many small)
+      (subst (λ c. IsTrue (same_corner c (border_at borders t).corner)) (sym (tile_corner t)) (same_itself (border_at borders t).corner))
 
   one_border : (t u : ℕ) → t < length borders → u < length borders → (border_at borders t).corner ≡ (border_at borders u).corner → t ≡ u
   one_border t u in_t in_u same = one_place (λ (tile : Tile). tile.corner) m.tiles is.in_order (record { corner = record { lat = pos 0; lon = pos 0 }; samples = [] }) t u

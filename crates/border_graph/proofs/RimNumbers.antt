@@ -61,23 +61,23 @@ lies n e side small rim =
       ]
     ]
 
-same_place : (n i j i' j' k : ℕ) → 3 ≤ n → j < n → j' < n → Lies n i j k → Lies n i' j' k → (i ≡ i') × (j ≡ j')
-same_place n i j i' j' k side c c' (Top a b) (Top a' b') = (omega arith, omega arith)
-same_place n i j i' j' k side c c' (Top a b) (Bottom a' b' d') = absurd (omega arith)
-same_place n i j i' j' k side c c' (Top a b) (West a' b' d' f') = absurd (omega arith)
-same_place n i j i' j' k side c c' (Top a b) (East a' b' d' f') = absurd (omega arith)
-same_place n i j i' j' k side c c' (Bottom a b d) (Top a' b') = absurd (omega arith)
-same_place n i j i' j' k side c c' (Bottom a b d) (Bottom a' b' d') = (omega arith, omega arith)
-same_place n i j i' j' k side c c' (Bottom a b d) (West a' b' d' f') = absurd (omega arith)
-same_place n i j i' j' k side c c' (Bottom a b d) (East a' b' d' f') = absurd (omega arith)
-same_place n i j i' j' k side c c' (West a b d f) (Top a' b') = absurd (omega arith)
-same_place n i j i' j' k side c c' (West a b d f) (Bottom a' b' d') = absurd (omega arith)
-same_place n i j i' j' k side c c' (West a b d f) (West a' b' d' f') = (omega arith, omega arith)
-same_place n i j i' j' k side c c' (West a b d f) (East a' b' d' f') = absurd (omega arith)
-same_place n i j i' j' k side c c' (East a b d f) (Top a' b') = absurd (omega arith)
-same_place n i j i' j' k side c c' (East a b d f) (Bottom a' b' d') = absurd (omega arith)
-same_place n i j i' j' k side c c' (East a b d f) (West a' b' d' f') = absurd (omega arith)
-same_place n i j i' j' k side c c' (East a b d f) (East a' b' d' f') = (omega arith, omega arith)
+same_corner : (n i j i' j' k : ℕ) → 3 ≤ n → j < n → j' < n → Lies n i j k → Lies n i' j' k → (i ≡ i') × (j ≡ j')
+same_corner n i j i' j' k side c c' (Top a b) (Top a' b') = (omega arith, omega arith)
+same_corner n i j i' j' k side c c' (Top a b) (Bottom a' b' d') = absurd (omega arith)
+same_corner n i j i' j' k side c c' (Top a b) (West a' b' d' f') = absurd (omega arith)
+same_corner n i j i' j' k side c c' (Top a b) (East a' b' d' f') = absurd (omega arith)
+same_corner n i j i' j' k side c c' (Bottom a b d) (Top a' b') = absurd (omega arith)
+same_corner n i j i' j' k side c c' (Bottom a b d) (Bottom a' b' d') = (omega arith, omega arith)
+same_corner n i j i' j' k side c c' (Bottom a b d) (West a' b' d' f') = absurd (omega arith)
+same_corner n i j i' j' k side c c' (Bottom a b d) (East a' b' d' f') = absurd (omega arith)
+same_corner n i j i' j' k side c c' (West a b d f) (Top a' b') = absurd (omega arith)
+same_corner n i j i' j' k side c c' (West a b d f) (Bottom a' b' d') = absurd (omega arith)
+same_corner n i j i' j' k side c c' (West a b d f) (West a' b' d' f') = (omega arith, omega arith)
+same_corner n i j i' j' k side c c' (West a b d f) (East a' b' d' f') = absurd (omega arith)
+same_corner n i j i' j' k side c c' (East a b d f) (Top a' b') = absurd (omega arith)
+same_corner n i j i' j' k side c c' (East a b d f) (Bottom a' b' d') = absurd (omega arith)
+same_corner n i j i' j' k side c c' (East a b d f) (West a' b' d' f') = absurd (omega arith)
+same_corner n i j i' j' k side c c' (East a b d f) (East a' b' d' f') = (omega arith, omega arith)
 
 -- a number is that of at most one rim point
 pub one_rim_point : (n e f : ℕ) → 3 ≤ n → e < n * n → f < n * n → IsTrue (is_rim n e) → IsTrue (is_rim n f) → rim_number n e ≡ rim_number n f → e ≡ f
@@ -85,7 +85,7 @@ one_rim_point n e f side small small' rim rim' same =
     let column : e % n < n = omega arith in
     let column' : f % n < n = omega arith in
     let there : Lies n (f / n) (f % n) (rim_number n e) = subst (Lies n (f / n) (f % n)) (sym same) (lies n f side small' rim') in
-    let at = same_place n (e / n) (e % n) (f / n) (f % n) (rim_number n e) side column column' (lies n e side small rim) there in
+    let at = same_corner n (e / n) (e % n) (f / n) (f % n) (rim_number n e) side column column' (lies n e side small rim) there in
     cell_of n e ∙ (ap₂ (λ i j. i * n + j) at.0 at.1 ∙ sym (cell_of n f))
 
 pub at_cell : (n i j k e : ℕ) → 3 ≤ n → i < n → j < n → e ≡ i * n + j → Lies n i j k → IsRimPoint n k e

@@ -4,7 +4,7 @@ use Rattle.std.proofs.lemmas.Bool.{cases_Bool, cases_lt}
 use Rattle.std.proofs.lemmas.Int.{ints}
 use Rattle.std.proofs.lemmas.List.{get_or_default}
 use Rattle.lattice.specs.declared.point.Point.{Point}
-use Rattle.lattice.specs.Corners.{Place, is_before, is_corner}
+use Rattle.lattice.specs.Corners.{Corner, is_before, is_corner}
 use Rattle.lattice.specs.Lattice.{Holds, IsIndexOf, point_of, holds}
 use Rattle.lattice.specs.Mosaic.{void}
 use Rattle.lattice.specs.Block.{is_rim, rim_number}
@@ -21,7 +21,7 @@ use Rattle.border_graph.proofs.Tiles.{before_cases, before_trans, before_itself,
 use Rattle.border_graph.proofs.Building.{so_far_more, height_at}
 
 -- where a search over tiles in order ends without the corner, no tile has it
-module _ (borders : List Border) (order : AreInOrder borders) (low : ℕ) (c : Place) (high : low ≤ length borders)
+module _ (borders : List Border) (order : AreInOrder borders) (low : ℕ) (c : Corner) (high : low ≤ length borders)
     (before : 0 < low → is_before (border_at borders (low - 1)).corner c ≡ true)
     (after : low < length borders → is_before (border_at borders low).corner c ≡ false)
     (other : low < length borders → (border_at borders low).corner ≢ c) where
@@ -48,10 +48,10 @@ module _ (borders : List Border) (order : AreInOrder borders) (low : ℕ) (c : P
   ]
     where
       itself : ((border_at borders u).corner.lat <ℤ c.lat) ⊎ (((border_at borders u).corner.lat ≡ c.lat) × ((border_at borders u).corner.lon <ℤ c.lon)) → ⊥
-      itself h = before_itself c (subst (λ (p : Place). (p.lat <ℤ c.lat) ⊎ ((p.lat ≡ c.lat) × (p.lon <ℤ c.lon))) is h)
+      itself h = before_itself c (subst (λ (p : Corner). (p.lat <ℤ c.lat) ⊎ ((p.lat ≡ c.lat) × (p.lon <ℤ c.lon))) is h)
 
 -- a point on the rim of a tile is on the rim of each that holds it
-rim_of_other : (n : ℕ) (c other : Place) (p : Point) (k e : ℕ) → 3 ≤ n → IsOfRim n c k p → IsIndexOf n other p e → IsTrue (is_rim n e)
+rim_of_other : (n : ℕ) (c other : Corner) (p : Point) (k e : ℕ) → 3 ≤ n → IsOfRim n c k p → IsIndexOf n other p e → IsTrue (is_rim n e)
 rim_of_other n c other p k e side here there = elim (cases_Bool (is_rim n e)) [
   | inl on ↦ on
   | inr off ↦
@@ -61,25 +61,25 @@ rim_of_other n c other p k e side here there = elim (cases_Bool (is_rim n e)) [
       subst (λ i. IsTrue (is_rim n i)) index here.rim
 ]
 
-rim_number_is : (n : ℕ) (c : Place) (k : ℕ) (p : Point) → IsOfRim n c k p → IsRimNumberOf n c k p
+rim_number_is : (n : ℕ) (c : Corner) (k : ℕ) (p : Point) → IsOfRim n c k p → IsRimNumberOf n c k p
 rim_number_is n c k p h = record { index = h.index; small = index_below n c p h.index h.at; rim = h.rim; number = h.number; point = point_at_index n c p h.index h.at }
 
-one_point : (n : ℕ) (c : Place) (k : ℕ) (p q : Point) → 3 ≤ n → IsRimNumberOf n c k p → IsRimNumberOf n c k q → p ≡ q
+one_point : (n : ℕ) (c : Corner) (k : ℕ) (p q : Point) → 3 ≤ n → IsRimNumberOf n c k p → IsRimNumberOf n c k q → p ≡ q
 one_point n c k p q side a b =
     let same : a.index ≡ b.index = one_rim_point n a.index b.index side a.small b.small a.rim b.rim (a.number ∙ sym b.number) in
     sym a.point ∙ (ap (λ e. point_of n c e) same ∙ b.point)
 
 -- the index of a shared point
-index_in_other : (n : ℕ) (c other : Place) (k l : ℕ) (p q : Point) → 3 ≤ n → IsTrue (is_corner other) → IsOfRim n c k p → IsRimNumberOf n c k q → (there : IsRimNumberOf n other l q) → IsIndexOf n other p there.index
+index_in_other : (n : ℕ) (c other : Corner) (k l : ℕ) (p q : Point) → 3 ≤ n → IsTrue (is_corner other) → IsOfRim n c k p → IsRimNumberOf n c k q → (there : IsRimNumberOf n other l q) → IsIndexOf n other p there.index
 index_in_other n c other k l p q side corner here same there =
     let point : point_of n other there.index ≡ p = there.point ∙ sym (one_point n c k p q side (rim_number_is n c k p here) same) in
     subst (λ r. IsIndexOf n other r there.index) point (index_of_point n other there.index (omega arith) corner there.small)
 
 -- a corner is that of one tile
-pub one_tile_at : (borders : List Border) → AreInOrder borders → (u v : ℕ) (c : Place) → u < length borders → v < length borders → (border_at borders u).corner ≡ c → (border_at borders v).corner ≡ c → u ≡ v
+pub one_tile_at : (borders : List Border) → AreInOrder borders → (u v : ℕ) (c : Corner) → u < length borders → v < length borders → (border_at borders u).corner ≡ c → (border_at borders v).corner ≡ c → u ≡ v
 one_tile_at borders order u v c u_small v_small u_at v_at = one_place (λ (b : Border). b.corner) borders order.rising (record { corner = record { lat = pos 0; lon = pos 0 }; rim = []; spills = [] }) u v u_small v_small (u_at ∙ sym v_at)
 
-module _ (n : ℕ) (borders : List Border) (t k : ℕ) (p : Point) (c : Place) (side : 3 ≤ n) (here : IsOfRim n (border_at borders t).corner k p) where
+module _ (n : ℕ) (borders : List Border) (t k : ℕ) (p : Point) (c : Corner) (side : 3 ≤ n) (here : IsOfRim n (border_at borders t).corner k p) where
   -- the tile at the corner that shares the point holds it
   pub shared_held : AreInOrder borders → (u l : ℕ) (level : ℤ) → (border_at borders u).corner ≡ c → u < length borders → IsSharedLink n borders t k u l level → Holds n c p
   shared_held order u l level at small link = subst (λ o. Holds n o p) at
@@ -140,18 +140,18 @@ module _ (n : ℕ) (borders : List Border) (t k : ℕ) (p : Point) (c : Place) (
         absurd (off (subst (λ x. IsThere n borders x (rim_number n e)) tile (subst (λ x. IsThere n borders u x) number there)))
 
 -- of each corner that holds the point
-pub shared_of_corners : (n : ℕ) (borders : List Border) (links : List (List Link)) (t k : ℕ) (p : Point) (corners : List Place) → 3 ≤ n → IsOfRim n (border_at borders t).corner k p →
-    ((c : Place) → Holds n c p → (i : ℕ) × (i < length corners) × (get_or corners i c ≡ c)) → AreInOrder borders →
-    ((i : ℕ) (d : Place) → i < length corners → IsSharedListed n borders links t k (get_or corners i d)) → AreSharedListed n borders links t k
+pub shared_of_corners : (n : ℕ) (borders : List Border) (links : List (List Link)) (t k : ℕ) (p : Point) (corners : List Corner) → 3 ≤ n → IsOfRim n (border_at borders t).corner k p →
+    ((c : Corner) → Holds n c p → (i : ℕ) × (i < length corners) × (get_or corners i c ≡ c)) → AreInOrder borders →
+    ((i : ℕ) (d : Corner) → i < length corners → IsSharedListed n borders links t k (get_or corners i d)) → AreSharedListed n borders links t k
 shared_of_corners n borders links t k p corners side here exactly order each u l level is_here there shared =
     let held : Holds n (border_at borders u).corner p = shared_held n borders t k p (border_at borders u).corner side here order u l level refl there.tile shared in
     let found = exactly (border_at borders u).corner held in
     each found.0 (border_at borders u).corner found.1 u l level (sym found.2) is_here there shared
 
 -- one corner more
-pub shared_more : (n : ℕ) (borders : List Border) (old new : List (List Link)) (t k : ℕ) (corners : List Place) (j : ℕ) (item : Place) → j < length corners → item ≡ get_or corners j item → AreListedStill old new →
-    (AreInOrder borders → (i : ℕ) (d : Place) → i < j → IsSharedListed n borders old t k (get_or corners i d)) → (AreInOrder borders → IsSharedListed n borders new t k item) →
-    AreInOrder borders → (i : ℕ) (d : Place) → i < j + 1 → IsSharedListed n borders new t k (get_or corners i d)
+pub shared_more : (n : ℕ) (borders : List Border) (old new : List (List Link)) (t k : ℕ) (corners : List Corner) (j : ℕ) (item : Corner) → j < length corners → item ≡ get_or corners j item → AreListedStill old new →
+    (AreInOrder borders → (i : ℕ) (d : Corner) → i < j → IsSharedListed n borders old t k (get_or corners i d)) → (AreInOrder borders → IsSharedListed n borders new t k item) →
+    AreInOrder borders → (i : ℕ) (d : Corner) → i < j + 1 → IsSharedListed n borders new t k (get_or corners i d)
 shared_more n borders old new t k corners j item small is still was now order i d less = elim (cases_lt i j) [
   | inl earlier ↦ λ u l level at here there shared. still (place_of n (Rim t k)) (place_of n (Rim u l)) level (was order i d earlier u l level at here there shared)
   | inr later ↦

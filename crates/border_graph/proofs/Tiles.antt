@@ -6,7 +6,7 @@ use Rattle.std.proofs.Math.IntN.{+ℤ_idr, suc_ℤ-*ℤ, suc_ℤ}
 use Rattle.std.proofs.lemmas.Int.{ints}
 use Rattle.std.proofs.lemmas.Bool.{cases_Bool, and_parts, and_from, or_cases, or_left, or_right, cases_lt, eqb-false}
 use Rattle.std.proofs.lemmas.Bool.Decides.{Decides-int_eq}
-use Rattle.lattice.specs.Corners.{Place}
+use Rattle.lattice.specs.Corners.{Corner}
 use Rattle.lattice.specs.Lattice.{IsBefore, point_of, holds, is_along}
 use Rattle.lattice.specs.Block.{is_rim}
 use Rattle.lattice.proofs.Along.{parts}
@@ -31,7 +31,7 @@ get_or-map f (x ∷ xs) zero d = refl
 get_or-map f (x ∷ xs) (suc k) d = get_or-map f xs k d
 
 -- corners in order
-pub before_cases : (a b : Place) → IsBefore a b → (a.lat <ℤ b.lat) ⊎ ((a.lat ≡ b.lat) × (a.lon <ℤ b.lon))
+pub before_cases : (a b : Corner) → IsBefore a b → (a.lat <ℤ b.lat) ⊎ ((a.lat ≡ b.lat) × (a.lon <ℤ b.lon))
 before_cases a b h = elim (or_cases (int_lt a.lat b.lat) (int_eq a.lat b.lat && int_lt a.lon b.lon) h) [
   | inl less ↦ inl (lt_true a.lat b.lat less)
   | inr same ↦ let both = and_parts (int_eq a.lat b.lat) (int_lt a.lon b.lon) same in inr ((Decides-int_eq a.lat b.lat).0 both.0, lt_true a.lon b.lon both.1)
@@ -40,17 +40,17 @@ before_cases a b h = elim (or_cases (int_lt a.lat b.lat) (int_eq a.lat b.lat && 
     lt_true : (a b : ℤ) → int_lt a b ≡ true → a <ℤ b
     lt_true a b h = grind (arith, ints)
 
-pub before_trans : (a b c : Place) → (a.lat <ℤ b.lat) ⊎ ((a.lat ≡ b.lat) × (a.lon <ℤ b.lon)) → (b.lat <ℤ c.lat) ⊎ ((b.lat ≡ c.lat) × (b.lon <ℤ c.lon)) → (a.lat <ℤ c.lat) ⊎ ((a.lat ≡ c.lat) × (a.lon <ℤ c.lon))
+pub before_trans : (a b c : Corner) → (a.lat <ℤ b.lat) ⊎ ((a.lat ≡ b.lat) × (a.lon <ℤ b.lon)) → (b.lat <ℤ c.lat) ⊎ ((b.lat ≡ c.lat) × (b.lon <ℤ c.lon)) → (a.lat <ℤ c.lat) ⊎ ((a.lat ≡ c.lat) × (a.lon <ℤ c.lon))
 before_trans a b c (inl x) (inl y) = inl (omega (arith, ints))
 before_trans a b c (inl x) (inr y) = let e = y.0 in inl (omega (arith, ints))
 before_trans a b c (inr x) (inl y) = let e = x.0 in inl (omega (arith, ints))
 before_trans a b c (inr x) (inr y) = let f = x.1 in let g = y.1 in inr (x.0 ∙ y.0, omega (arith, ints))
 
-pub before_itself : (a : Place) → (a.lat <ℤ a.lat) ⊎ ((a.lat ≡ a.lat) × (a.lon <ℤ a.lon)) → ⊥
+pub before_itself : (a : Corner) → (a.lat <ℤ a.lat) ⊎ ((a.lat ≡ a.lat) × (a.lon <ℤ a.lon)) → ⊥
 before_itself a (inl x) = absurd (omega (arith, ints))
 before_itself a (inr x) = let f = x.1 in absurd (omega (arith, ints))
 
-pub before_from : (a b : Place) → (a.lat <ℤ b.lat) ⊎ ((a.lat ≡ b.lat) × (a.lon <ℤ b.lon)) → IsBefore a b
+pub before_from : (a b : Corner) → (a.lat <ℤ b.lat) ⊎ ((a.lat ≡ b.lat) × (a.lon <ℤ b.lon)) → IsBefore a b
 before_from a b (inl less) = or_left (int_lt a.lat b.lat) (int_eq a.lat b.lat && int_lt a.lon b.lon) (lt_is a.lat b.lat less)
   where
     lt_is : (a b : ℤ) → a <ℤ b → int_lt a b ≡ true
@@ -60,7 +60,7 @@ before_from a b (inr same) = or_right (int_lt a.lat b.lat) (int_eq a.lat b.lat &
     lt_is : (a b : ℤ) → a <ℤ b → int_lt a b ≡ true
     lt_is a b h = grind (arith, ints)
 
-module _ {X : Type 0} (corner : X → Place) (xs : List X) (order : AllAdjacentBelow (λ a b. IsBefore (corner a) (corner b)) xs (length xs)) (d : X) where
+module _ {X : Type 0} (corner : X → Corner) (xs : List X) (order : AllAdjacentBelow (λ a b. IsBefore (corner a) (corner b)) xs (length xs)) (d : X) where
   later_is_after : (i k : ℕ) → i + k + 1 < length xs →
       ((corner (get_or xs i d)).lat <ℤ (corner (get_or xs (i + k + 1) d)).lat) ⊎ (((corner (get_or xs i d)).lat ≡ (corner (get_or xs (i + k + 1) d)).lat) × ((corner (get_or xs i d)).lon <ℤ (corner (get_or xs (i + k + 1) d)).lon))
   later_is_after i zero small =
@@ -78,7 +78,7 @@ module _ {X : Type 0} (corner : X → Place) (xs : List X) (order : AllAdjacentB
       let at : i + (j - i - 1) + 1 ≡ j = omega arith in
       let T : ℕ → Type 0 = λ v. ((corner (get_or xs i d)).lat <ℤ (corner (get_or xs v d)).lat) ⊎ (((corner (get_or xs i d)).lat ≡ (corner (get_or xs v d)).lat) × ((corner (get_or xs i d)).lon <ℤ (corner (get_or xs v d)).lon)) in
       let after = subst T at (later_is_after i (j - i - 1) (omega arith)) in
-      before_itself (corner (get_or xs i d)) (subst (λ (c : Place). ((corner (get_or xs i d)).lat <ℤ c.lat) ⊎ (((corner (get_or xs i d)).lat ≡ c.lat) × ((corner (get_or xs i d)).lon <ℤ c.lon))) (sym same) after)
+      before_itself (corner (get_or xs i d)) (subst (λ (c : Corner). ((corner (get_or xs i d)).lat <ℤ c.lat) ⊎ (((corner (get_or xs i d)).lat ≡ c.lat) × ((corner (get_or xs i d)).lon <ℤ c.lon))) (sym same) after)
 
   -- corners rise
   pub rises : (i j : ℕ) → i < j → j < length xs →
@@ -138,7 +138,7 @@ between_edges m a b v low high along =
     neither a b h g = grind (arith, ints)
 
 -- a point off the rim of a tile is held by no other tile
-pub inner_point_held : (n : ℕ) (c other : Place) (e : ℕ) → 3 ≤ n → e < n * n → is_rim n e ≡ false → IsTrue (holds n other (point_of n c e)) → c ≡ other
+pub inner_point_held : (n : ℕ) (c other : Corner) (e : ℕ) → 3 ≤ n → e < n * n → is_rim n e ≡ false → IsTrue (holds n other (point_of n c e)) → c ≡ other
 inner_point_held n c other e side small off held =
     let a = or_false (nat_eq (e / n) 0 || nat_eq (e / n + 1) n || nat_eq (e % n) 0) (nat_eq (e % n + 1) n) off in
     let b = or_false (nat_eq (e / n) 0 || nat_eq (e / n + 1) n) (nat_eq (e % n) 0) a.0 in

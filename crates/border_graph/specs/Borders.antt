@@ -1,11 +1,11 @@
 -- What callers see of a tile's summary.
 use Rattle.std.specs.Prelude.{List}
-use Rattle.lattice.specs.Corners.{Place}
+use Rattle.lattice.specs.Corners.{Corner}
 use Rattle.tile_flood.specs.declared.passing.Spill.{Spill}
 use Rattle.border_graph.specs.declared.summary.RimPoint.{RimPoint}
 
 -- a tile's corner, the points of its rim by rim number, and the spills between its labels
 pub record Border : Type 0 where
-  pub corner : Place
+  pub corner : Corner
   pub rim : List RimPoint
   pub spills : List Spill

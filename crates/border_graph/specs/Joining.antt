@@ -2,7 +2,7 @@
 -- flooding of Barnes 2016).
 use Rattle.std.specs.Prelude.{◌≡◌, ◌≢◌, ℕ, ◌*◌, ◌-◌, ◌<◌, ℤ, IsTrue, false, List, [], All, Contains, length, map, slice_index, slice_index_or, pos, ◌⊎◌}
 use Rattle.lattice.specs.declared.point.Point.{Point}
-use Rattle.lattice.specs.Corners.{Place}
+use Rattle.lattice.specs.Corners.{Corner}
 use Rattle.lattice.specs.Lattice.{point_of}
 use Rattle.lattice.specs.Mosaic.{Mosaic, void}
 use Rattle.lattice.specs.Ground.{is_ground, is_outlet}
@@ -23,7 +23,7 @@ abbrev pub border_at : List Border → ℕ → Border
 border_at borders t = slice_index_or borders t (record { corner = record { lat = pos 0; lon = pos 0 }; rim = []; spills = [] })
 
 -- each rim point of the block with its height, its label, and whether it is an outlet of the mosaic
-pub record IsRimOf (m : Mosaic) (c : Place) (heights : List ℤ) (labels : List ℕ) (b : Border) : Type 0 where
+pub record IsRimOf (m : Mosaic) (c : Corner) (heights : List ℤ) (labels : List ℕ) (b : Border) : Type 0 where
   pub whole : length b.rim ≡ 4 * (m.side - 1)
   pub height : (e : ℕ) → e < m.side * m.side → IsTrue (is_rim m.side e) → (rim_point b (rim_number m.side e)).height ≡ slice_index_or heights e void
   pub label : (e : ℕ) → e < m.side * m.side → IsTrue (is_rim m.side e) → (rim_point b (rim_number m.side e)).label ≡ slice_index labels e
@@ -50,7 +50,7 @@ pub data Node : Type 0 where
   Rim : ℕ → ℕ → Node
 
 -- the rim number is that of the point in the tile
-pub record IsRimNumberOf (n : ℕ) (c : Place) (k : ℕ) (p : Point) : Type 0 where
+pub record IsRimNumberOf (n : ℕ) (c : Corner) (k : ℕ) (p : Point) : Type 0 where
   pub index : ℕ
   pub small : index < n * n
   pub rim : IsTrue (is_rim n index)

@@ -2,7 +2,7 @@
 use Rattle.std.specs.Prelude.{◌≡◌, ℕ, ◌-◌, ◌*◌, ◌<◌, ℤ, IsTrue, List, length}
 use Rattle.std.specs.List.{AllAdjacentBelow}
 use Rattle.lattice.specs.declared.point.Point.{Point}
-use Rattle.lattice.specs.Corners.{Place, is_corner}
+use Rattle.lattice.specs.Corners.{Corner, is_corner}
 use Rattle.lattice.specs.Lattice.{IsBefore, IsIndexOf}
 use Rattle.lattice.specs.Block.{is_rim, rim_number}
 use Rattle.border_graph.specs.declared.waiting.Link.{Link}
@@ -17,7 +17,7 @@ pub record AreInOrder (borders : List Border) : Type 0 where
   pub rising : AllAdjacentBelow (λ a b. IsBefore a.corner b.corner) borders (length borders)
 
 -- the point with a rim number in the tile at the corner
-pub record IsOfRim (n : ℕ) (c : Place) (k : ℕ) (p : Point) : Type 0 where
+pub record IsOfRim (n : ℕ) (c : Corner) (k : ℕ) (p : Point) : Type 0 where
   pub index : ℕ
   pub rim : IsTrue (is_rim n index)
   pub number : rim_number n index ≡ k
@@ -29,7 +29,7 @@ AreSharedListed n borders links t k = (u l : ℕ) (level : ℤ) → IsThere n bo
     IsListed links (place_of n (Rim t k)) (place_of n (Rim u l)) level
 
 -- those to the tile at the corner
-abbrev pub IsSharedListed : ℕ → List Border → List (List Link) → ℕ → ℕ → Place → Type 0
+abbrev pub IsSharedListed : ℕ → List Border → List (List Link) → ℕ → ℕ → Corner → Type 0
 IsSharedListed n borders links t k c = (u l : ℕ) (level : ℤ) → (border_at borders u).corner ≡ c → IsThere n borders t k → IsThere n borders u l → IsSharedLink n borders t k u l level →
     IsListed links (place_of n (Rim t k)) (place_of n (Rim u l)) level
 

@@ -6,7 +6,7 @@ use Rattle.std.proofs.lemmas.List.{get_or-set_other, length-set, set-get_or}
 use Rattle.std.proofs.lemmas.Grind.{get_or-set_at}
 use Rattle.std.proofs.Math.Seq.{take-length, take-append_seam}
 use Rattle.std.proofs.lemmas.Bool.{cases_Bool, cases_eq}
-use Rattle.lattice.specs.Corners.{Place}
+use Rattle.lattice.specs.Corners.{Corner}
 use Rattle.lattice.specs.Lattice.{point_of}
 use Rattle.lattice.specs.Mosaic.{Mosaic, IsMosaic, void, samples_of}
 use Rattle.lattice.specs.Height.{height_of}
@@ -24,16 +24,16 @@ use Rattle.catalogue.proofs.Elsewhere.{only_holder}
 use Rattle.catalogue.proofs.Rims.{rim_met}
 
 -- the height of the point at an index of the corner's tile
-abbrev pub height_at : Mosaic → Place → ℕ → ℤ
+abbrev pub height_at : Mosaic → Corner → ℕ → ℤ
 height_at m c e = metres (height_of m (point_of m.side c e))
 
 -- so many steps round the rim are done
-pub record IsPartly (m : Mosaic) (c : Place) (k : ℕ) (heights : List ℤ) : Type 0 where
+pub record IsPartly (m : Mosaic) (c : Corner) (k : ℕ) (heights : List ℤ) : Type 0 where
   pub whole : length heights ≡ m.side * m.side
   pub either : (e : ℕ) → e < m.side * m.side → IsOwnOrHeight m c e (slice_index_or heights e void)
   pub done : (j : ℕ) → j < k → slice_index_or heights (rim_index m.side j) void ≡ height_at m c (rim_index m.side j)
 
-module _ (m : Mosaic) (c : Place) where
+module _ (m : Mosaic) (c : Corner) where
   pub partly_none : (heights : List ℤ) → IsMosaic m → length heights ≡ m.side * m.side → AreSamplesOf m c 0 heights → IsPartly m c 0 heights
   partly_none heights valid long own = record {
     whole = long;

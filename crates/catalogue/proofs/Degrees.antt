@@ -8,7 +8,7 @@ use Rattle.std.proofs.lemmas.Bool.{and_parts, and_from, false≢true, false_from
 use Rattle.lattice.specs.declared.point.Point.{Point}
 use Rattle.lattice.specs.declared.direction.Dir.{Dir}
 use Rattle.lattice.specs.declared.direction.Step.{Step}
-use Rattle.lattice.specs.Corners.{Place, is_corner}
+use Rattle.lattice.specs.Corners.{Corner, is_corner}
 use Rattle.lattice.specs.Lattice.{Holds}
 use Rattle.lattice.specs.Steps.{step, directions}
 use Rattle.lattice.specs.Stepping.{reach_of, fits_number, fits_point}
@@ -48,7 +48,7 @@ fits : (v : ℤ) → negsuc 2147483647 ≤ℤ v → v ≤ℤ pos 2147483647 → 
 fits v low high = and_from (int_le (negsuc 2147483647) v) (int_le v (pos 2147483647)) (le_from (negsuc 2147483647) v low) (le_from v (pos 2147483647) high)
 
 -- a held point's coordinates are numbers of 32 bits
-held_fits : (n : ℕ) (c : Place) (q : Point) → n ≤ 3601 → Holds n c q → fits_point q ≡ true
+held_fits : (n : ℕ) (c : Corner) (q : Point) → n ≤ 3601 → Holds n c q → fits_point q ≡ true
 held_fits n c q small held =
     let i = held.sample.0 in
     let j = held.sample.1 in
@@ -65,7 +65,7 @@ held_fits n c q small held =
     (fits q.y (omega (arith, ints, at.y, north, south)) (omega (arith, ints, at.y, north, south)))
     (fits q.x (omega (arith, ints, at.x, east, west)) (omega (arith, ints, at.x, east, west)))
   where
-    corner_range : (d : Place) → IsTrue (is_corner d) → (negsuc 89 ≤ℤ d.lat) × (d.lat ≤ℤ pos 89) × (negsuc 179 ≤ℤ d.lon) × (d.lon ≤ℤ pos 179)
+    corner_range : (d : Corner) → IsTrue (is_corner d) → (negsuc 89 ≤ℤ d.lat) × (d.lat ≤ℤ pos 89) × (negsuc 179 ≤ℤ d.lon) × (d.lon ≤ℤ pos 179)
     corner_range d corner =
         let three = and_parts (int_le (negsuc 89) d.lat && int_le d.lat (pos 89) && int_le (negsuc 179) d.lon) (int_le d.lon (pos 179)) corner in
         let two = and_parts (int_le (negsuc 89) d.lat && int_le d.lat (pos 89)) (int_le (negsuc 179) d.lon) three.0 in

@@ -10,7 +10,7 @@ use Rattle.std.specs.declared.cmp.Ordering.{Ordering}
 use Rattle.std.specs.declared.cmp.Ordering.TheVariants.{Less, Equal, Greater}
 use Rattle.std.proofs.lemmas.List.Elements.{All-head, All-tail}
 use Rattle.std.proofs.lemmas.Bool.{or_parts, false≢true, cond-false}
-use Rattle.lattice.specs.Corners.{Place, is_corner, is_before, same_place}
+use Rattle.lattice.specs.Corners.{Corner, is_corner, is_before, same_corner}
 use Rattle.lattice.specs.Mosaic.{Tile, Mosaic, IsSample, IsTile, IsMosaic, is_present, samples_among, samples_of}
 use Rattle.catalogue.specs.Entries.{tiles_in}
 use Rattle.catalogue.specs.Tiles.{with_tile, added, without, with_sample_in, with_sample}
@@ -19,27 +19,27 @@ use Rattle.catalogue.proofs.Places.{place_cmp, ranked_places, same_says, same_fr
 use Rattle.catalogue.proofs.Rising.{AllAfter, Rising}
 
 abbrev Entry : Type 0
-Entry = Place × Vec ℤ
+Entry = Corner × Vec ℤ
 
-abbrev is_among : Place → List Tile → Bool
-is_among c tiles = list_any (λ t. same_place t.corner c) tiles
+abbrev is_among : Corner → List Tile → Bool
+is_among c tiles = list_any (λ t. same_corner t.corner c) tiles
 
 -- the test of the map's order says whether the corners are the same
-pub tied_is : (c d : Place) → is_eq (place_cmp c d) ≡ same_place d c
+pub tied_is : (c d : Corner) → is_eq (place_cmp c d) ≡ same_corner d c
 tied_is c d = by (place_cmp c d) (ranked_places c d)
   where
-    by : (o : Ordering) → MatchOrdering o (is_before c d ≡ true) (c ≡ d) (is_before d c ≡ true) → is_eq o ≡ same_place d c
+    by : (o : Ordering) → MatchOrdering o (is_before c d ≡ true) (c ≡ d) (is_before d c ≡ true) → is_eq o ≡ same_corner d c
     by Less h = sym (after_not_same c d h)
     by Equal h = sym (same_from d c (sym h))
     by Greater h = sym (before_not_same d c h)
 
-pub tiles-insert : (c : Place) (v : Vec ℤ) (es : List Entry) → is_among c (tiles_in es) ≡ false →
+pub tiles-insert : (c : Corner) (v : Vec ℤ) (es : List Entry) → is_among c (tiles_in es) ≡ false →
     tiles_in (insert_entry place_cmp es c v) ≡ with_tile (record { corner = c; samples = v.items }) (tiles_in es)
 tiles-insert c v [] absent = refl
 tiles-insert c v (e ∷ es) absent = by (tiles-insert c v es apart.1) (place_cmp c e.0) (ranked_places c e.0)
   where
-    apart : (same_place e.0 c ≡ false) × (is_among c (tiles_in es) ≡ false)
-    apart = or_parts (same_place e.0 c) (is_among c (tiles_in es)) absent
+    apart : (same_corner e.0 c ≡ false) × (is_among c (tiles_in es) ≡ false)
+    apart = or_parts (same_corner e.0 c) (is_among c (tiles_in es)) absent
 
     by : tiles_in (insert_entry place_cmp es c v) ≡ with_tile (record { corner = c; samples = v.items }) (tiles_in es)
         → (o : Ordering) → MatchOrdering o (is_before c e.0 ≡ true) (c ≡ e.0) (is_before e.0 c ≡ true)
@@ -49,43 +49,43 @@ tiles-insert c v (e ∷ es) absent = by (tiles-insert c v es apart.1) (place_cmp
     by rest Equal h = absurd (false≢true (sym apart.0 ∙ same_from e.0 c (sym h)))
     by rest Greater h = rw (before_not_back e.0 c h) (ap (λ (ts : List Tile). record { corner = e.0; samples = e.1.items } ∷ ts) rest)
 
-pub samples-lookup : (c : Place) (es : List Entry) → option_map (λ (v : Vec ℤ). v.items) (lookup (is_at (place_cmp c)) es) ≡ samples_among (tiles_in es) c
+pub samples-lookup : (c : Corner) (es : List Entry) → option_map (λ (v : Vec ℤ). v.items) (lookup (is_at (place_cmp c)) es) ≡ samples_among (tiles_in es) c
 samples-lookup c [] = refl
-samples-lookup c (e ∷ es) = rw (tied_is c e.0) (elim (same_place e.0 c) as (λ b. option_map (λ (v : Vec ℤ). v.items) (cond b (Some e.1) (lookup (is_at (place_cmp c)) es)) ≡ cond b (Some e.1.items) (samples_among (tiles_in es) c)) [
+samples-lookup c (e ∷ es) = rw (tied_is c e.0) (elim (same_corner e.0 c) as (λ b. option_map (λ (v : Vec ℤ). v.items) (cond b (Some e.1) (lookup (is_at (place_cmp c)) es)) ≡ cond b (Some e.1.items) (samples_among (tiles_in es) c)) [
   | true ↦ refl
   | false ↦ samples-lookup c es
 ])
 
 -- a corner before all of them is none of theirs
-pub not_among : (c : Place) (tiles : List Tile) → AllAfter corner_of c tiles → is_among c tiles ≡ false
+pub not_among : (c : Corner) (tiles : List Tile) → AllAfter corner_of c tiles → is_among c tiles ≡ false
 not_among c [] h = refl
 not_among c (t ∷ ts) h = rw (after_not_same c t.corner h.0) (not_among c ts h.1)
 
-pub filter-absent : (c : Place) (tiles : List Tile) → is_among c tiles ≡ false → filter (λ t. not (same_place t.corner c)) tiles ≡ tiles
+pub filter-absent : (c : Corner) (tiles : List Tile) → is_among c tiles ≡ false → filter (λ t. not (same_corner t.corner c)) tiles ≡ tiles
 filter-absent c [] absent = refl
 filter-absent c (t ∷ ts) absent =
-    let apart = or_parts (same_place t.corner c) (is_among c ts) absent in
+    let apart = or_parts (same_corner t.corner c) (is_among c ts) absent in
     rw apart.0 (ap (λ rest. t ∷ rest) (filter-absent c ts apart.1))
 
-pub set-absent : (c : Place) (i : ℕ) (s : ℤ) (tiles : List Tile) → is_among c tiles ≡ false → map (with_sample_in c i s) tiles ≡ tiles
+pub set-absent : (c : Corner) (i : ℕ) (s : ℤ) (tiles : List Tile) → is_among c tiles ≡ false → map (with_sample_in c i s) tiles ≡ tiles
 set-absent c i s [] absent = refl
 set-absent c i s (t ∷ ts) absent =
-    let apart = or_parts (same_place t.corner c) (is_among c ts) absent in
-    ap₂ (λ (x : Tile) (xs : List Tile). x ∷ xs) (cond-false (same_place t.corner c) _ _ apart.0) (set-absent c i s ts apart.1)
+    let apart = or_parts (same_corner t.corner c) (is_among c ts) absent in
+    ap₂ (λ (x : Tile) (xs : List Tile). x ∷ xs) (cond-false (same_corner t.corner c) _ _ apart.0) (set-absent c i s ts apart.1)
 
-pub tiles-remove : (c : Place) (es : List Entry) → Rising corner_of (tiles_in es) → tiles_in (remove_entry (is_at (place_cmp c)) es) ≡ filter (λ t. not (same_place t.corner c)) (tiles_in es)
+pub tiles-remove : (c : Corner) (es : List Entry) → Rising corner_of (tiles_in es) → tiles_in (remove_entry (is_at (place_cmp c)) es) ≡ filter (λ t. not (same_corner t.corner c)) (tiles_in es)
 tiles-remove c [] rising = refl
-tiles-remove c (e ∷ es) rising = rw (tied_is c e.0) (by (tiles-remove c es rising.1) (same_place e.0 c) refl)
+tiles-remove c (e ∷ es) rising = rw (tied_is c e.0) (by (tiles-remove c es rising.1) (same_corner e.0 c) refl)
   where
-    by : tiles_in (remove_entry (is_at (place_cmp c)) es) ≡ filter (λ t. not (same_place t.corner c)) (tiles_in es)
-        → (b : Bool) → same_place e.0 c ≡ b → tiles_in (cond b es (e ∷ remove_entry (is_at (place_cmp c)) es)) ≡ cond (not b) (record { corner = e.0; samples = e.1.items } ∷ filter (λ t. not (same_place t.corner c)) (tiles_in es)) (filter (λ t. not (same_place t.corner c)) (tiles_in es))
+    by : tiles_in (remove_entry (is_at (place_cmp c)) es) ≡ filter (λ t. not (same_corner t.corner c)) (tiles_in es)
+        → (b : Bool) → same_corner e.0 c ≡ b → tiles_in (cond b es (e ∷ remove_entry (is_at (place_cmp c)) es)) ≡ cond (not b) (record { corner = e.0; samples = e.1.items } ∷ filter (λ t. not (same_corner t.corner c)) (tiles_in es)) (filter (λ t. not (same_corner t.corner c)) (tiles_in es))
     by rest true same =
         let after : AllAfter corner_of c (tiles_in es) = subst (λ p. AllAfter corner_of p (tiles_in es)) (same_says e.0 c same) rising.0 in
         sym (filter-absent c (tiles_in es) (not_among c (tiles_in es) after))
     by rest false other = ap (λ (ts : List Tile). record { corner = e.0; samples = e.1.items } ∷ ts) rest
 
 -- other samples at the corner's entry, of which one is changed
-pub tiles-set : (c : Place) (i : ℕ) (s : ℤ) (w : Vec ℤ) (es : List Entry) → Rising corner_of (tiles_in es)
+pub tiles-set : (c : Corner) (i : ℕ) (s : ℤ) (w : Vec ℤ) (es : List Entry) → Rising corner_of (tiles_in es)
     → ((v : Vec ℤ) → lookup (is_at (place_cmp c)) es ≡ Some v → w.items ≡ slice_set v.items i s)
     → tiles_in (set_value (is_at (place_cmp c)) es w) ≡ map (with_sample_in c i s) (tiles_in es)
 tiles-set c i s w [] rising changed = refl
@@ -94,15 +94,15 @@ tiles-set c i s w (e ∷ es) rising changed = by (tiles-set c i s w es rising.1)
     by : (((v : Vec ℤ) → lookup (is_at (place_cmp c)) es ≡ Some v → w.items ≡ slice_set v.items i s) → tiles_in (set_value (is_at (place_cmp c)) es w) ≡ map (with_sample_in c i s) (tiles_in es))
         → (b : Bool) → is_eq (place_cmp c e.0) ≡ b → tiles_in (cond b ((e.0, w) ∷ es) (e ∷ set_value (is_at (place_cmp c)) es w)) ≡ with_sample_in c i s (record { corner = e.0; samples = e.1.items }) ∷ map (with_sample_in c i s) (tiles_in es)
     by rest true tied =
-        let same : same_place e.0 c ≡ true = sym (tied_is c e.0) ∙ tied in
+        let same : same_corner e.0 c ≡ true = sym (tied_is c e.0) ∙ tied in
         let after : AllAfter corner_of c (tiles_in es) = subst (λ p. AllAfter corner_of p (tiles_in es)) (same_says e.0 c same) rising.0 in
         let items : w.items ≡ slice_set e.1.items i s = changed e.1 (rw tied refl) in
         rw (same, items, set-absent c i s (tiles_in es) (not_among c (tiles_in es) after)) refl
     by rest false other =
-        let apart : same_place e.0 c ≡ false = sym (tied_is c e.0) ∙ other in
+        let apart : same_corner e.0 c ≡ false = sym (tied_is c e.0) ∙ other in
         rw apart (ap (λ (ts : List Tile). record { corner = e.0; samples = e.1.items } ∷ ts) (rest (λ v found. changed v (rw other found))))
 
-pub length-found : (n : ℕ) (c : Place) (v : Vec ℤ) (es : List Entry) → All (IsTile n) (tiles_in es) → lookup (is_at (place_cmp c)) es ≡ Some v → length v.items ≡ n * n
+pub length-found : (n : ℕ) (c : Corner) (v : Vec ℤ) (es : List Entry) → All (IsTile n) (tiles_in es) → lookup (is_at (place_cmp c)) es ≡ Some v → length v.items ≡ n * n
 length-found n c v [] all found = absurd (cc)
 length-found n c v (e ∷ es) all found = by (is_eq (place_cmp c e.0)) found (length-found n c v es (All-tail (IsTile n) (record { corner = e.0; samples = e.1.items }) (tiles_in es) all))
   where
@@ -113,9 +113,9 @@ length-found n c v (e ∷ es) all found = by (is_eq (place_cmp c e.0)) found (le
     by false there later = later there
 
 -- a corner with no entry is no tile's
-pub absent-lookup : (c : Place) (es : List Entry) → lookup (is_at (place_cmp c)) es ≡ None → is_among c (tiles_in es) ≡ false
+pub absent-lookup : (c : Corner) (es : List Entry) → lookup (is_at (place_cmp c)) es ≡ None → is_among c (tiles_in es) ≡ false
 absent-lookup c [] none = refl
-absent-lookup c (e ∷ es) none = by (same_place e.0 c) (rw (← tied_is c e.0) none) (absent-lookup c es)
+absent-lookup c (e ∷ es) none = by (same_corner e.0 c) (rw (← tied_is c e.0) none) (absent-lookup c es)
   where
     by : (b : Bool) → cond b (Some e.1) (lookup (is_at (place_cmp c)) es) ≡ None → (lookup (is_at (place_cmp c)) es ≡ None → is_among c (tiles_in es) ≡ false) → (b || is_among c (tiles_in es)) ≡ false
     by true here later = absurd (cc)
@@ -125,7 +125,7 @@ absent-lookup c (e ∷ es) none = by (same_place e.0 c) (rw (← tied_is c e.0) 
 abbrev pub mosaic_in : ℕ → List Entry → Mosaic
 mosaic_in n es = record { side = n; tiles = tiles_in es }
 
-module _ (n : ℕ) (es new : List Entry) (now : Mosaic) (view : mosaic_in n es ≡ now) (valid : IsMosaic (mosaic_in n es)) (c : Place) where
+module _ (n : ℕ) (es new : List Entry) (now : Mosaic) (view : mosaic_in n es ≡ now) (valid : IsMosaic (mosaic_in n es)) (c : Corner) where
   mosaic-inserted : (v : Vec ℤ) → IsFalse (is_present now c) → new ≡ insert_entry place_cmp es c v
       → mosaic_in n new ≡ added (record { corner = c; samples = v.items }) (mosaic_in n es)
   mosaic-inserted v absent e =
@@ -188,17 +188,17 @@ module _ (n : ℕ) (es new : List Entry) (now : Mosaic) (view : mosaic_in n es �
 
 pub corners-tiles_in : (es : List Entry) → map (λ (t : Tile). t.corner) (tiles_in es) ≡ keys_of es
 corners-tiles_in [] = refl
-corners-tiles_in (e ∷ es) = ap (λ (cs : List Place). e.0 ∷ cs) (corners-tiles_in es)
+corners-tiles_in (e ∷ es) = ap (λ (cs : List Corner). e.0 ∷ cs) (corners-tiles_in es)
 
 -- ---- what the map has at a corner
-pub some-lookup : (c : Place) (es : List Entry) → is_some (lookup (is_at (place_cmp c)) es) ≡ is_among c (tiles_in es)
+pub some-lookup : (c : Corner) (es : List Entry) → is_some (lookup (is_at (place_cmp c)) es) ≡ is_among c (tiles_in es)
 some-lookup c [] = refl
-some-lookup c (e ∷ es) = rw (tied_is c e.0) (elim (same_place e.0 c) as (λ b. is_some (cond b (Some e.1) (lookup (is_at (place_cmp c)) es)) ≡ (b || is_among c (tiles_in es))) [
+some-lookup c (e ∷ es) = rw (tied_is c e.0) (elim (same_corner e.0 c) as (λ b. is_some (cond b (Some e.1) (lookup (is_at (place_cmp c)) es)) ≡ (b || is_among c (tiles_in es))) [
   | true ↦ refl
   | false ↦ some-lookup c es
 ])
 
-module _ (n : ℕ) (es : List Entry) (now : Mosaic) (view : mosaic_in n es ≡ now) (c : Place) where
+module _ (n : ℕ) (es : List Entry) (now : Mosaic) (view : mosaic_in n es ≡ now) (c : Corner) where
   pub found-present : is_some (lookup (is_at (place_cmp c)) es) ≡ is_present now c
   found-present = some-lookup c es ∙ ap (λ (m : Mosaic). is_present m c) view
 

@@ -8,7 +8,7 @@ use Rattle.std.proofs.lemmas.Grind.{rows}
 use Rattle.std.proofs.lemmas.Bool.{or_parts, eqb-false, false_from_ne_true, false≢true}
 use Rattle.std.proofs.lemmas.List.Elements.{All-head, All-tail, All-filter, filter_passes}
 use Rattle.std.proofs.Math.Nat.{mul-le-mul_right}
-use Rattle.lattice.specs.Corners.{Place, is_corner, is_before}
+use Rattle.lattice.specs.Corners.{Corner, is_corner, is_before}
 use Rattle.lattice.specs.Lattice.{Holds, IsSampleAt, IsIndexOf, holds}
 use Rattle.lattice.specs.Mosaic.{Tile, Mosaic, IsTile, IsMosaic}
 use Rattle.lattice.specs.Height.{sample_at, differ, disagrees}
@@ -58,7 +58,7 @@ multiples_same a b m i k some inside within e =
         omega (arith, ints, e, product, far)
 
 -- a tile that holds a point inside the corner's tile is that tile
-inner_holder : (n : ℕ) (c d : Place) (p : Point) (i j : ℕ) → IsSampleAt n c i j p → 0 < i → i < n - 1 → 0 < j → j < n - 1 → Holds n d p → d ≡ c
+inner_holder : (n : ℕ) (c d : Corner) (p : Point) (i j : ℕ) → IsSampleAt n c i j p → 0 < i → i < n - 1 → 0 < j → j < n - 1 → Holds n d p → d ≡ c
 inner_holder n c d p i j at i_some i_inside j_some j_inside held =
     let other = held.sample.2 in
     let row : held.sample.0 ≤ n - 1 = omega (arith, other.row) in
@@ -72,7 +72,7 @@ inner_holder n c d p i j at i_some i_inside j_some j_inside held =
 -- two tiles that differ hold the point
 two_holders : (n : ℕ) (p : Point) (tiles : List Tile) → Rising corner_of tiles → All (IsTile n) tiles → All (λ t. holds n t.corner p ≡ true) tiles
     → differ (map (λ t. sample_at n t p) tiles) ≡ true
-    → (c : Place) × (d : Place) × (IsTrue (is_before c d) × (IsTrue (is_corner c) × (holds n c p ≡ true)) × (IsTrue (is_corner d) × (holds n d p ≡ true)))
+    → (c : Corner) × (d : Corner) × (IsTrue (is_before c d) × (IsTrue (is_corner c) × (holds n c p ≡ true)) × (IsTrue (is_corner d) × (holds n d p ≡ true)))
 two_holders n p [] rising tiles held some = absurd (false≢true some)
 two_holders n p (t ∷ []) rising tiles held some = absurd (false≢true some)
 two_holders n p (t ∷ (u ∷ us)) rising tiles held some =
@@ -100,7 +100,7 @@ below_end : (i n : ℕ) → i < n → (i ≡ n - 1 → ⊥) → i < n - 1
 below_end i n small other = omega arith
 
 -- no other tile holds a point inside
-pub inner_only : (n : ℕ) (c : Place) (e : ℕ) (p : Point) → IsIndexOf n c p e → is_on_rim n e ≡ false → (o : Place) → Holds n o p → o ≡ c
+pub inner_only : (n : ℕ) (c : Corner) (e : ℕ) (p : Point) → IsIndexOf n c p e → is_on_rim n e ≡ false → (o : Corner) → Holds n o p → o ≡ c
 inner_only n c e p at inside o held =
     let i = at.sample.0 in
     let j = at.sample.1 in
@@ -119,7 +119,7 @@ inner_only n c e p at inside o held =
     (above_zero j (λ z. west (column ∙ z))) (below_end j n here.column (λ z. east (column ∙ z))) held
 
 -- a point inside a tile doesn't disagree
-pub inner_agrees : (m : Mosaic) (c : Place) (e : ℕ) (p : Point) → IsMosaic m → IsIndexOf m.side c p e → is_on_rim m.side e ≡ false → disagrees m p ≡ false
+pub inner_agrees : (m : Mosaic) (c : Corner) (e : ℕ) (p : Point) → IsMosaic m → IsIndexOf m.side c p e → is_on_rim m.side e ≡ false → disagrees m p ≡ false
 inner_agrees m c e p valid index inner = false_from_ne_true (disagrees m p) (λ some.
     let n = m.side in
     let two = two_holders n p (filter (λ t. holds n t.corner p) m.tiles)

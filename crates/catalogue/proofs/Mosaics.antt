@@ -5,32 +5,32 @@ use Rattle.std.specs.Prelude.{slice_set}
 use Rattle.std.proofs.lemmas.List.{length-set}
 use Rattle.std.proofs.lemmas.List.Elements.{All-nil, All-cons, All-head, All-tail, All-filter, All-set}
 use Rattle.std.proofs.lemmas.Bool.{or_parts}
-use Rattle.lattice.specs.Corners.{Place, is_before, same_place}
+use Rattle.lattice.specs.Corners.{Corner, is_before, same_corner}
 use Rattle.lattice.specs.Mosaic.{Tile, Mosaic, IsSample, IsTile, IsMosaic, is_present}
 use Rattle.catalogue.specs.Tiles.{with_tile, added, without, with_sample_in, with_sample}
 use Rattle.catalogue.proofs.Places.{after_from, same_comm}
 use Rattle.catalogue.proofs.Rising.{AllAfter, Rising, rising_from, adjacent_from, rising-filter, after_later}
 
-abbrev pub corner_of : Tile → Place
+abbrev pub corner_of : Tile → Corner
 corner_of t = t.corner
 
 pub rising_tiles : (m : Mosaic) → IsMosaic m → Rising corner_of m.tiles
 rising_tiles m valid = rising_from corner_of m.tiles valid.in_order
 
-after-with_tile : (c : Place) (new : Tile) (tiles : List Tile) → IsTrue (is_before c new.corner) → AllAfter corner_of c tiles → AllAfter corner_of c (with_tile new tiles)
+after-with_tile : (c : Corner) (new : Tile) (tiles : List Tile) → IsTrue (is_before c new.corner) → AllAfter corner_of c tiles → AllAfter corner_of c (with_tile new tiles)
 after-with_tile c new [] before h = (before, tt)
 after-with_tile c new (t ∷ ts) before h = elim (is_before new.corner t.corner) as (λ b. AllAfter corner_of c (cond b (new ∷ (t ∷ ts)) (t ∷ with_tile new ts))) [
   | true ↦ (before, h)
   | false ↦ (h.0, after-with_tile c new ts before h.1)
 ]
 
-pub rising-with_tile : (new : Tile) (tiles : List Tile) → list_any (λ t. same_place t.corner new.corner) tiles ≡ false → Rising corner_of tiles → Rising corner_of (with_tile new tiles)
+pub rising-with_tile : (new : Tile) (tiles : List Tile) → list_any (λ t. same_corner t.corner new.corner) tiles ≡ false → Rising corner_of tiles → Rising corner_of (with_tile new tiles)
 rising-with_tile new [] absent h = (tt, tt)
 rising-with_tile new (t ∷ ts) absent h =
-    let apart = or_parts (same_place t.corner new.corner) (list_any (λ x. same_place x.corner new.corner) ts) absent in
+    let apart = or_parts (same_corner t.corner new.corner) (list_any (λ x. same_corner x.corner new.corner) ts) absent in
     by (rising-with_tile new ts apart.1 h.1) apart.0 (is_before new.corner t.corner) refl
   where
-    by : Rising corner_of (with_tile new ts) → same_place t.corner new.corner ≡ false → (b : Bool) → is_before new.corner t.corner ≡ b → Rising corner_of (cond b (new ∷ (t ∷ ts)) (t ∷ with_tile new ts))
+    by : Rising corner_of (with_tile new ts) → same_corner t.corner new.corner ≡ false → (b : Bool) → is_before new.corner t.corner ≡ b → Rising corner_of (cond b (new ∷ (t ∷ ts)) (t ∷ with_tile new ts))
     by rest other true before = ((before, after_later corner_of new.corner t.corner ts before h.0), h)
     by rest other false not_before = (after-with_tile t.corner new ts (after_from new.corner t.corner not_before (same_comm t.corner new.corner other)) h.0, rest)
 
@@ -49,19 +49,19 @@ mosaic-added new m valid tile absent = record {
   in_order = adjacent_from corner_of (with_tile new m.tiles) (rising-with_tile new m.tiles absent (rising_tiles m valid));
 }
 
-pub mosaic-without : (c : Place) (m : Mosaic) → IsMosaic m → IsMosaic (without c m)
+pub mosaic-without : (c : Corner) (m : Mosaic) → IsMosaic m → IsMosaic (without c m)
 mosaic-without c m valid = record {
   side_low = valid.side_low;
   side_high = valid.side_high;
-  tiles = All-filter (λ t. not (same_place t.corner c)) (IsTile m.side) m.tiles valid.tiles;
-  in_order = adjacent_from corner_of (filter (λ t. not (same_place t.corner c)) m.tiles) (rising-filter corner_of (λ t. not (same_place t.corner c)) m.tiles (rising_tiles m valid));
+  tiles = All-filter (λ t. not (same_corner t.corner c)) (IsTile m.side) m.tiles valid.tiles;
+  in_order = adjacent_from corner_of (filter (λ t. not (same_corner t.corner c)) m.tiles) (rising-filter corner_of (λ t. not (same_corner t.corner c)) m.tiles (rising_tiles m valid));
 }
 
-module _ (c : Place) (i : ℕ) (s : ℤ) where
+module _ (c : Corner) (i : ℕ) (s : ℤ) where
   same_corner : (t : Tile) → (with_sample_in c i s t).corner ≡ t.corner
-  same_corner t = elim (same_place t.corner c) as (λ b. (cond b (record t { samples = slice_set t.samples i s }) t).corner ≡ t.corner) [ true ↦ refl | false ↦ refl ]
+  same_corner t = elim (same_corner t.corner c) as (λ b. (cond b (record t { samples = slice_set t.samples i s }) t).corner ≡ t.corner) [ true ↦ refl | false ↦ refl ]
 
-  after-with_sample : (d : Place) (tiles : List Tile) → AllAfter corner_of d tiles → AllAfter corner_of d (map (with_sample_in c i s) tiles)
+  after-with_sample : (d : Corner) (tiles : List Tile) → AllAfter corner_of d tiles → AllAfter corner_of d (map (with_sample_in c i s) tiles)
   after-with_sample d [] h = tt
   after-with_sample d (t ∷ ts) h = (subst (λ p. IsTrue (is_before d p)) (sym (same_corner t)) h.0, after-with_sample d ts h.1)
 
@@ -70,7 +70,7 @@ module _ (c : Place) (i : ℕ) (s : ℤ) where
   rising-with_sample (t ∷ ts) h = (subst (λ p. AllAfter corner_of p (map (with_sample_in c i s) ts)) (sym (same_corner t)) (after-with_sample t.corner ts h.0), rising-with_sample ts h.1)
 
   tile-with_sample : (n : ℕ) (t : Tile) → IsSample s → IsTile n t → IsTile n (with_sample_in c i s t)
-  tile-with_sample n t sample tile = elim (same_place t.corner c) as (λ b. IsTile n (cond b (record t { samples = slice_set t.samples i s }) t)) [
+  tile-with_sample n t sample tile = elim (same_corner t.corner c) as (λ b. IsTile n (cond b (record t { samples = slice_set t.samples i s }) t)) [
     | true ↦ record {
       corner = tile.corner;
       whole = length-set t.samples i s ∙ tile.whole;

@@ -3,7 +3,7 @@ use Rattle.std.proofs.Common.{◌≡◌, ℕ, zero, suc, ◌-◌, ◌*◌, ◌<�
 use Rattle.std.specs.List.{filter}
 use Rattle.std.proofs.lemmas.Bool.{and_parts}
 use Rattle.std.proofs.lemmas.Int.{ints, by_lt_z}
-use Rattle.lattice.specs.Corners.{Place, is_corner, is_before, same_place}
+use Rattle.lattice.specs.Corners.{Corner, is_corner, is_before, same_corner}
 use Rattle.lattice.specs.declared.point.Point.{Point}
 use Rattle.lattice.specs.Block.{IsBlockOf}
 use Rattle.lattice.specs.Ground.{metres}
@@ -43,7 +43,7 @@ along_near m x y v side at_x at_y =
     ] in
     subst (λ k. k < 2) (sym between.1.0) small
 
-pub holders_near : (n : ℕ) (a b : Place) (p : Point) → 3 ≤ n → holds n a p ≡ true → holds n b p ≡ true → (nat_abs (a.lat -ℤ b.lat) < 2) × (nat_abs (a.lon -ℤ b.lon) < 2)
+pub holders_near : (n : ℕ) (a b : Corner) (p : Point) → 3 ≤ n → holds n a p ≡ true → holds n b p ≡ true → (nat_abs (a.lat -ℤ b.lat) < 2) × (nat_abs (a.lon -ℤ b.lon) < 2)
 holders_near n a b p side at_a at_b =
     let in_a = and_parts (is_along (pos (n - 1)) a.lat p.y) (is_along (pos (n - 1)) a.lon p.x) at_a in
     let in_b = and_parts (is_along (pos (n - 1)) b.lat p.y) (is_along (pos (n - 1)) b.lon p.x) at_b in (
@@ -52,7 +52,7 @@ holders_near n a b p side at_a at_b =
     )
 
 -- ---- lists of tiles that rise, with the same samples at each corner
-none_before : (c : Place) (tiles : List Tile) → AllAfter corner_of c tiles → samples_among tiles c ≡ None
+none_before : (c : Corner) (tiles : List Tile) → AllAfter corner_of c tiles → samples_among tiles c ≡ None
 none_before c [] after = refl
 none_before c (t ∷ ts) after = rw (after_not_same c t.corner after.0) (none_before c ts after.1)
 
@@ -65,18 +65,18 @@ missing_earlier x y xs ys rising before same =
     let something = first_among x xs in
     absurd (cc)
 
-same_tiles : (xs ys : List Tile) → Rising corner_of xs → Rising corner_of ys → ((d : Place) → samples_among xs d ≡ samples_among ys d) → xs ≡ ys
+same_tiles : (xs ys : List Tile) → Rising corner_of xs → Rising corner_of ys → ((d : Corner) → samples_among xs d ≡ samples_among ys d) → xs ≡ ys
 same_tiles [] [] xr yr same = refl
 same_tiles [] (y ∷ ys) xr yr same = let here = same y.corner in let something = first_among y ys in absurd (cc)
 same_tiles (x ∷ xs) [] xr yr same = let here = same x.corner in let something = first_among x xs in absurd (cc)
-same_tiles (x ∷ xs) (y ∷ ys) xr yr same = by (same_place x.corner y.corner) refl (is_before x.corner y.corner) refl (same_tiles xs ys xr.1 yr.1)
+same_tiles (x ∷ xs) (y ∷ ys) xr yr same = by (same_corner x.corner y.corner) refl (is_before x.corner y.corner) refl (same_tiles xs ys xr.1 yr.1)
   where
-    tail : x.corner ≡ y.corner → (d : Place) (b : Bool) → same_place x.corner d ≡ b → samples_among xs d ≡ samples_among ys d
+    tail : x.corner ≡ y.corner → (d : Corner) (b : Bool) → same_corner x.corner d ≡ b → samples_among xs d ≡ samples_among ys d
     tail corners d true here =
         let is : x.corner ≡ d = same_says x.corner d here in
-        none_before d xs (subst (λ (e : Place). AllAfter corner_of e xs) is xr.0) ∙ sym (none_before d ys (subst (λ (e : Place). AllAfter corner_of e ys) (sym corners ∙ is) yr.0))
+        none_before d xs (subst (λ (e : Corner). AllAfter corner_of e xs) is xr.0) ∙ sym (none_before d ys (subst (λ (e : Corner). AllAfter corner_of e ys) (sym corners ∙ is) yr.0))
     tail corners d false other =
-        let other_too : same_place y.corner d ≡ false = ap (λ (e : Place). same_place e d) (sym corners) ∙ other in
+        let other_too : same_corner y.corner d ≡ false = ap (λ (e : Corner). same_corner e d) (sym corners) ∙ other in
         sym (ap (λ b. cond b (Some x.samples) (samples_among xs d)) other) ∙ same d ∙ ap (λ b. cond b (Some y.samples) (samples_among ys d)) other_too
 
     heads : x.corner ≡ y.corner → x ≡ y
@@ -85,20 +85,20 @@ same_tiles (x ∷ xs) (y ∷ ys) xr yr same = by (same_place x.corner y.corner) 
         let second : samples_among (y ∷ ys) x.corner ≡ Some y.samples = ap (samples_among (y ∷ ys)) corners ∙ first_among y ys in
         let here = same x.corner in
         let samples : x.samples ≡ y.samples = cc in
-        ap₂ (λ (c : Place) (l : List ℤ). record { corner = c; samples = l }) corners samples
+        ap₂ (λ (c : Corner) (l : List ℤ). record { corner = c; samples = l }) corners samples
 
-    by : (b : Bool) → same_place x.corner y.corner ≡ b → (a : Bool) → is_before x.corner y.corner ≡ a → (((d : Place) → samples_among xs d ≡ samples_among ys d) → xs ≡ ys) → x ∷ xs ≡ y ∷ ys
+    by : (b : Bool) → same_corner x.corner y.corner ≡ b → (a : Bool) → is_before x.corner y.corner ≡ a → (((d : Corner) → samples_among xs d ≡ samples_among ys d) → xs ≡ ys) → x ∷ xs ≡ y ∷ ys
     by true here a _ rest =
         let corners = same_says x.corner y.corner here in
-        ap₂ (λ (t : Tile) (ts : List Tile). t ∷ ts) (heads corners) (rest (λ d. tail corners d (same_place x.corner d) refl))
+        ap₂ (λ (t : Tile) (ts : List Tile). t ∷ ts) (heads corners) (rest (λ d. tail corners d (same_corner x.corner d) refl))
     by false other true before rest = absurd (missing_earlier x y xs ys yr before (same x.corner))
     by false other false not_before rest = absurd (missing_earlier y x ys xs xr (after_from x.corner y.corner not_before other) (sym (same y.corner)))
 
-among_filter : (test : Place → Bool) (tiles : List Tile) (d : Place) → samples_among (filter (λ t. test t.corner) tiles) d ≡ cond (test d) (samples_among tiles d) None
+among_filter : (test : Corner → Bool) (tiles : List Tile) (d : Corner) → samples_among (filter (λ t. test t.corner) tiles) d ≡ cond (test d) (samples_among tiles d) None
 among_filter test [] d = elim (test d) as (λ b. ◌≡◌ {A = Option (List ℤ)} None (cond b None None)) [ true ↦ refl | false ↦ refl ]
-among_filter test (t ∷ ts) d = by (test t.corner) refl (same_place t.corner d) refl (among_filter test ts d)
+among_filter test (t ∷ ts) d = by (test t.corner) refl (same_corner t.corner d) refl (among_filter test ts d)
   where
-    by : (a : Bool) → test t.corner ≡ a → (b : Bool) → same_place t.corner d ≡ b
+    by : (a : Bool) → test t.corner ≡ a → (b : Bool) → same_corner t.corner d ≡ b
         → samples_among (filter (λ u. test u.corner) ts) d ≡ cond (test d) (samples_among ts d) None
         → samples_among (cond a (t ∷ filter (λ u. test u.corner) ts) (filter (λ u. test u.corner) ts)) d ≡ cond (test d) (cond b (Some t.samples) (samples_among ts d)) None
     by true passes true here rest =
@@ -111,14 +111,14 @@ among_filter test (t ∷ ts) d = by (test t.corner) refl (same_place t.corner d)
     by false fails false other rest = rest
 
 -- ---- two mosaics with the same tiles near the corner
-module _ (m new : Mosaic) (m_valid : IsMosaic m) (new_valid : IsMosaic new) (same_side : new.side ≡ m.side) (c : Place) (same : SameNearby m new c) where
-  same_at : (p : Point) → holds m.side c p ≡ true → (d : Place) (b : Bool) → holds m.side d p ≡ b → cond b (samples_of new d) None ≡ cond b (samples_of m d) None
+module _ (m new : Mosaic) (m_valid : IsMosaic m) (new_valid : IsMosaic new) (same_side : new.side ≡ m.side) (c : Corner) (same : SameNearby m new c) where
+  same_at : (p : Point) → holds m.side c p ≡ true → (d : Corner) (b : Bool) → holds m.side d p ≡ b → cond b (samples_of new d) None ≡ cond b (samples_of m d) None
   same_at p held d true there = let near = holders_near m.side d c p m_valid.side_low there held in same d near.0 near.1
   same_at p held d false out = refl
 
   pub near_height : (p : Point) → holds m.side c p ≡ true → height_of new p ≡ height_of m p
   near_height p held =
-      let test : Place → Bool = λ d. holds m.side d p in
+      let test : Corner → Bool = λ d. holds m.side d p in
       let tiles : filter (λ t. holds m.side t.corner p) new.tiles ≡ filter (λ t. holds m.side t.corner p) m.tiles =
       same_tiles (filter (λ t. test t.corner) new.tiles) (filter (λ t. test t.corner) m.tiles)
       (rising-filter corner_of (λ t. test t.corner) new.tiles (rising_tiles new new_valid)) (rising-filter corner_of (λ t. test t.corner) m.tiles (rising_tiles m m_valid))

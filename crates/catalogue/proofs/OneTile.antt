@@ -4,7 +4,7 @@ use Rattle.std.specs.Prelude.{Option, Some, None, is_some, option_map, IsSomeAnd
 use Rattle.std.proofs.lemmas.Option.{get_or_from_slice_get}
 use Rattle.std.proofs.lemmas.Bool.{false_from_ne_true, false≢true}
 use Rattle.std.proofs.lemmas.List.Elements.{All-map, All-contains, All-weaker}
-use Rattle.lattice.specs.Corners.{Place, is_corner}
+use Rattle.lattice.specs.Corners.{Corner, is_corner}
 use Rattle.lattice.specs.Lattice.{Holds, IsIndexOf, holds, index_of}
 use Rattle.lattice.specs.Mosaic.{Mosaic, IsMosaic, IsTile, void, is_present, samples_of}
 use Rattle.lattice.specs.declared.point.Point.{Point}
@@ -19,7 +19,7 @@ use Rattle.catalogue.proofs.Presence.{present_iff, some-samples}
 pub corners_are : (m : Mosaic) → IsMosaic m → All (λ c. IsTrue (is_corner c)) (corners_of m)
 corners_are m valid = All-map (λ c. IsTrue (is_corner c)) corner_of m.tiles (All-weaker (IsTile m.side) (λ t. IsTrue (is_corner t.corner)) (λ t tile. tile.corner) m.tiles valid.tiles)
 
-pub corner_is : (m : Mosaic) (c : Place) → IsMosaic m → Contains (corners_of m) c → IsTrue (is_corner c)
+pub corner_is : (m : Mosaic) (c : Corner) → IsMosaic m → Contains (corners_of m) c → IsTrue (is_corner c)
 corner_is m c valid there = All-contains (λ d. IsTrue (is_corner d)) (corners_of m) c (corners_are m valid) there
 
 none_of : (o : Option (List ℤ)) → is_some o ≡ false → o ≡ None
@@ -27,13 +27,13 @@ none_of None e = refl
 none_of (Some l) e = absurd (false≢true (sym e))
 
 -- nothing, where the tile isn't present
-pub sample_in-absent : (m : Mosaic) (c : Place) (p : Point) → (Contains (corners_of m) c → ⊥) → sample_in m c p ≡ None
+pub sample_in-absent : (m : Mosaic) (c : Corner) (p : Point) → (Contains (corners_of m) c → ⊥) → sample_in m c p ≡ None
 sample_in-absent m c p absent =
     let none : samples_of m c ≡ None = none_of (samples_of m c) (some-samples c m.tiles ∙ false_from_ne_true (is_present m c) (λ there. absent ((present_iff m c).0 there))) in
     rw none (elim (holds m.side c p) as (λ b. cond b (option_map (λ (l : List ℤ). slice_index_or l (index_of m.side c p) void) None) None ≡ None) [ true ↦ refl | false ↦ refl ])
 
 -- and where it doesn't hold the point
-pub sample_in-outside : (m : Mosaic) (c : Place) (p : Point) → IsMosaic m → IsTrue (is_corner c) → (Holds m.side c p → ⊥) → sample_in m c p ≡ None
+pub sample_in-outside : (m : Mosaic) (c : Corner) (p : Point) → IsMosaic m → IsTrue (is_corner c) → (Holds m.side c p → ⊥) → sample_in m c p ≡ None
 sample_in-outside m c p valid corner outside =
     let out : holds m.side c p ≡ false = false_from_ne_true (holds m.side c p) (λ within. outside ((holds_is m.side c p valid.side_low corner).0 within)) in
     rw out refl
@@ -43,7 +43,7 @@ some_at None e s h = absurd h
 some_at (Some l) e s h = ap (λ (x : ℤ). Some x) (get_or_from_slice_get l e s void h)
 
 -- else the sample at the point's index
-pub sample_in-read : (m : Mosaic) (c : Place) (p : Point) (e : ℕ) (s : ℤ) → IsMosaic m → IsIndexOf m.side c p e → IsSampleOf m c e s → sample_in m c p ≡ Some s
+pub sample_in-read : (m : Mosaic) (c : Corner) (p : Point) (e : ℕ) (s : ℤ) → IsMosaic m → IsIndexOf m.side c p e → IsSampleOf m c e s → sample_in m c p ≡ Some s
 sample_in-read m c p e s valid index read =
     let within : holds m.side c p ≡ true = (holds_is m.side c p valid.side_low index.corner).1 (held_at m.side c p e index) in
     rw (within, index_is m.side c p e index) (some_at (samples_of m c) e s read)

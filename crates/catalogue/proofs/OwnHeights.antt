@@ -6,7 +6,7 @@ use Rattle.std.proofs.lemmas.Option.{get_or_from_slice_get}
 use Rattle.std.proofs.lemmas.Bool.{false≢true}
 use Rattle.std.proofs.lemmas.Bool.Decides.{Decides-int_eq}
 use Rattle.std.proofs.lemmas.List.Elements.{All-head, All-tail}
-use Rattle.lattice.specs.Corners.{Place, same_place}
+use Rattle.lattice.specs.Corners.{Corner, same_corner}
 use Rattle.lattice.specs.Lattice.{Holds, IsIndexOf, holds, index_of}
 use Rattle.lattice.specs.Mosaic.{Tile, Mosaic, IsTile, IsMosaic, void, is_void, samples_among, samples_of}
 use Rattle.lattice.specs.Height.{sample_at, by_seam_rule, height_of}
@@ -21,15 +21,15 @@ use Rattle.catalogue.proofs.Mosaics.{corner_of, rising_tiles}
 use Rattle.catalogue.proofs.OneTile.{corner_is}
 
 -- the samples of a corner, if any, are a whole tile's
-pub whole_tile : (n : ℕ) (c : Place) (tiles : List Tile) (samples : List ℤ) → All (IsTile n) tiles → samples_among tiles c ≡ Some samples → length samples ≡ n * n
+pub whole_tile : (n : ℕ) (c : Corner) (tiles : List Tile) (samples : List ℤ) → All (IsTile n) tiles → samples_among tiles c ≡ Some samples → length samples ≡ n * n
 whole_tile n c [] samples all found = absurd (cc)
-whole_tile n c (t ∷ ts) samples all found = by (same_place t.corner c) found (whole_tile n c ts samples (All-tail (IsTile n) t ts all))
+whole_tile n c (t ∷ ts) samples all found = by (same_corner t.corner c) found (whole_tile n c ts samples (All-tail (IsTile n) t ts all))
   where
     by : (b : Bool) → cond b (Some t.samples) (samples_among ts c) ≡ Some samples → (samples_among ts c ≡ Some samples → length samples ≡ n * n) → length samples ≡ n * n
     by true here later = let this : t.samples ≡ samples = cc in ap length (sym this) ∙ (All-head (IsTile n) t ts all).whole
     by false there later = later there
 
-module _ (n : ℕ) (c : Place) (p : Point) where
+module _ (n : ℕ) (c : Corner) (p : Point) where
   -- only the corner's tile among these holds the point
   abbrev IsAlone : List Tile → Type 0
   IsAlone tiles = (t : Tile) → Contains tiles t → holds n t.corner p ≡ true → t.corner ≡ c
@@ -48,24 +48,24 @@ module _ (n : ℕ) (c : Place) (p : Point) where
   said_alone : (tiles : List Tile) (samples : List ℤ) → Rising corner_of tiles → IsAlone tiles → samples_among tiles c ≡ Some samples → holds n c p ≡ true
       → map (λ t. sample_at n t p) (filter (λ t. holds n t.corner p) tiles) ≡ slice_index_or samples (index_of n c p) void ∷ []
   said_alone [] samples rising alone found within = absurd (cc)
-  said_alone (t ∷ ts) samples rising alone found within = by (same_place t.corner c) refl found (λ later. said_alone ts samples rising.1 (later_alone t ts alone) later within)
+  said_alone (t ∷ ts) samples rising alone found within = by (same_corner t.corner c) refl found (λ later. said_alone ts samples rising.1 (later_alone t ts alone) later within)
     where
       here : t.corner ≡ c → t.samples ≡ samples → (b : Bool) → holds n t.corner p ≡ b
           → map (λ u. sample_at n u p) (cond b (t ∷ filter (λ u. holds n u.corner p) ts) (filter (λ u. holds n u.corner p) ts)) ≡ slice_index_or samples (index_of n c p) void ∷ []
       here is own true held =
-          let rest = none_after ts (subst (λ (d : Place). AllAfter corner_of d ts) is rising.0) (later_alone t ts alone) in
+          let rest = none_after ts (subst (λ (d : Corner). AllAfter corner_of d ts) is rising.0) (later_alone t ts alone) in
           ap (λ (us : List Tile). map (λ u. sample_at n u p) (t ∷ us)) rest
-          ∙ ap (λ (d : Place). slice_index_or t.samples (index_of n d p) void ∷ []) is
+          ∙ ap (λ (d : Corner). slice_index_or t.samples (index_of n d p) void ∷ []) is
           ∙ ap (λ (l : List ℤ). slice_index_or l (index_of n c p) void ∷ []) own
-      here is own false out = absurd (false≢true (sym out ∙ ap (λ (d : Place). holds n d p) is ∙ within))
+      here is own false out = absurd (false≢true (sym out ∙ ap (λ (d : Corner). holds n d p) is ∙ within))
 
-      there : (b : Bool) → holds n t.corner p ≡ b → same_place t.corner c ≡ false
+      there : (b : Bool) → holds n t.corner p ≡ b → same_corner t.corner c ≡ false
           → map (λ u. sample_at n u p) (filter (λ u. holds n u.corner p) ts) ≡ slice_index_or samples (index_of n c p) void ∷ []
           → map (λ u. sample_at n u p) (cond b (t ∷ filter (λ u. holds n u.corner p) ts) (filter (λ u. holds n u.corner p) ts)) ≡ slice_index_or samples (index_of n c p) void ∷ []
       there true held other rest = absurd (false≢true (sym other ∙ same_from t.corner c (alone t (0, omega arith, refl) held)))
       there false out other rest = rest
 
-      by : (b : Bool) → same_place t.corner c ≡ b → cond b (Some t.samples) (samples_among ts c) ≡ Some samples
+      by : (b : Bool) → same_corner t.corner c ≡ b → cond b (Some t.samples) (samples_among ts c) ≡ Some samples
           → (samples_among ts c ≡ Some samples → map (λ u. sample_at n u p) (filter (λ u. holds n u.corner p) ts) ≡ slice_index_or samples (index_of n c p) void ∷ [])
           → map (λ u. sample_at n u p) (filter (λ u. holds n u.corner p) (t ∷ ts)) ≡ slice_index_or samples (index_of n c p) void ∷ []
       by true same is later = let own : t.samples ≡ samples = cc in here (same_says t.corner c same) own (holds n t.corner p) refl
@@ -84,7 +84,7 @@ corner_among [] t (k, below, here) = absurd (omega arith)
 corner_among (u ∷ us) t (zero, below, here) = (0, omega arith, ap corner_of here)
 corner_among (u ∷ us) t (suc k, below, here) = let later = corner_among us t (k, omega arith, here) in (suc later.0, omega (arith, later.1), later.2)
 
-pub own_height : (m : Mosaic) (c : Place) (e : ℕ) (p : Point) (s : ℤ) → IsMosaic m → IsIndexOf m.side c p e → ((d : Place) → Contains (corners_of m) d → Holds m.side d p → d ≡ c)
+pub own_height : (m : Mosaic) (c : Corner) (e : ℕ) (p : Point) (s : ℤ) → IsMosaic m → IsIndexOf m.side c p e → ((d : Corner) → Contains (corners_of m) d → Holds m.side d p → d ≡ c)
     → IsSampleOf m c e s → metres (height_of m p) ≡ s
 own_height m c e p s valid at only own = by (samples_of m c) refl own
   where

@@ -8,10 +8,10 @@ use Rattle.std.proofs.lemmas.Cmp.{int_ranked}
 use Rattle.std.proofs.lemmas.Int.{ints, by_lt_z}
 use Rattle.std.proofs.lemmas.Bool.{and_parts, and_from, or_cases, or_left, or_right, false_from_ne_true, false≢true}
 use Rattle.std.proofs.lemmas.Bool.Decides.{Decides-int_eq}
-use Rattle.lattice.specs.Corners.{Place, is_before, same_place}
+use Rattle.lattice.specs.Corners.{Corner, is_before, same_corner}
 
 -- below in latitude, or at one latitude below in longitude
-abbrev pub Below : Place → Place → Type 0
+abbrev pub Below : Corner → Corner → Type 0
 Below a b = (a.lat <ℤ b.lat) ⊎ ((a.lat ≡ b.lat) × (a.lon <ℤ b.lon))
 
 lt_says : (x y : ℤ) → int_lt x y ≡ true → x <ℤ y
@@ -20,7 +20,7 @@ lt_says x y e = grind (arith, ints)
 lt_from : (x y : ℤ) → x <ℤ y → int_lt x y ≡ true
 lt_from x y h = grind (arith, ints)
 
-pub before_says : (a b : Place) → is_before a b ≡ true → Below a b
+pub before_says : (a b : Corner) → is_before a b ≡ true → Below a b
 before_says a b e =
     elim (or_cases (int_lt a.lat b.lat) (int_eq a.lat b.lat && int_lt a.lon b.lon) e) [
       | inl below ↦ inl (lt_says a.lat b.lat below)
@@ -29,21 +29,21 @@ before_says a b e =
           inr ((Decides-int_eq a.lat b.lat).0 both.0, lt_says a.lon b.lon both.1)
     ]
 
-pub before_from : (a b : Place) → Below a b → is_before a b ≡ true
+pub before_from : (a b : Corner) → Below a b → is_before a b ≡ true
 before_from a b (inl below) = or_left (int_lt a.lat b.lat) (int_eq a.lat b.lat && int_lt a.lon b.lon) (lt_from a.lat b.lat below)
 before_from a b (inr level) =
     or_right (int_lt a.lat b.lat) (int_eq a.lat b.lat && int_lt a.lon b.lon)
     (and_from (int_eq a.lat b.lat) (int_lt a.lon b.lon) ((Decides-int_eq a.lat b.lat).1 level.0) (lt_from a.lon b.lon level.1))
 
-pub same_says : (a b : Place) → same_place a b ≡ true → a ≡ b
+pub same_says : (a b : Corner) → same_corner a b ≡ true → a ≡ b
 same_says a b e =
     let both = and_parts (int_eq a.lat b.lat) (int_eq a.lon b.lon) e in
     ap₂ (λ (y x : ℤ). record { lat = y; lon = x }) ((Decides-int_eq a.lat b.lat).0 both.0) ((Decides-int_eq a.lon b.lon).0 both.1)
 
-pub same_from : (a b : Place) → a ≡ b → same_place a b ≡ true
+pub same_from : (a b : Corner) → a ≡ b → same_corner a b ≡ true
 same_from a b e = and_from (int_eq a.lat b.lat) (int_eq a.lon b.lon) ((Decides-int_eq a.lat b.lat).1 (ap (λ p. p.lat) e)) ((Decides-int_eq a.lon b.lon).1 (ap (λ p. p.lon) e))
 
-pub before_trans : (a b c : Place) → is_before a b ≡ true → is_before b c ≡ true → is_before a c ≡ true
+pub before_trans : (a b c : Corner) → is_before a b ≡ true → is_before b c ≡ true → is_before a c ≡ true
 before_trans a b c ab bc = before_from a c (chain (before_says a b ab) (before_says b c bc))
   where
     chain : Below a b → Below b c → Below a c
@@ -52,24 +52,24 @@ before_trans a b c ab bc = before_from a c (chain (before_says a b ab) (before_s
     chain (inr p) (inl q) = inl (omega (arith, ints))
     chain (inr p) (inr q) = inr (omega (arith, ints), omega (arith, ints))
 
-pub before_apart : (a b : Place) → is_before a b ≡ true → a ≡ b → ⊥
+pub before_apart : (a b : Corner) → is_before a b ≡ true → a ≡ b → ⊥
 before_apart a b ab e = apart (before_says a b ab) (ap (λ p. p.lat) e) (ap (λ p. p.lon) e)
   where
     apart : Below a b → a.lat ≡ b.lat → a.lon ≡ b.lon → ⊥
     apart (inl p) lat lon = omega (arith, ints)
     apart (inr p) lat lon = omega (arith, ints)
 
-pub before_not_same : (a b : Place) → is_before a b ≡ true → same_place a b ≡ false
-before_not_same a b ab = false_from_ne_true (same_place a b) (λ e. before_apart a b ab (same_says a b e))
+pub before_not_same : (a b : Corner) → is_before a b ≡ true → same_corner a b ≡ false
+before_not_same a b ab = false_from_ne_true (same_corner a b) (λ e. before_apart a b ab (same_says a b e))
 
-pub after_not_same : (a b : Place) → is_before a b ≡ true → same_place b a ≡ false
-after_not_same a b ab = false_from_ne_true (same_place b a) (λ e. before_apart a b ab (sym (same_says b a e)))
+pub after_not_same : (a b : Corner) → is_before a b ≡ true → same_corner b a ≡ false
+after_not_same a b ab = false_from_ne_true (same_corner b a) (λ e. before_apart a b ab (sym (same_says b a e)))
 
-pub before_not_back : (a b : Place) → is_before a b ≡ true → is_before b a ≡ false
+pub before_not_back : (a b : Corner) → is_before a b ≡ true → is_before b a ≡ false
 before_not_back a b ab = false_from_ne_true (is_before b a) (λ ba. before_apart a a (before_trans a b a ab ba) refl)
 
 -- neither before nor the same: after
-pub after_from : (a b : Place) → is_before a b ≡ false → same_place a b ≡ false → is_before b a ≡ true
+pub after_from : (a b : Corner) → is_before a b ≡ false → same_corner a b ≡ false → is_before b a ≡ true
 after_from a b not_before not_same = before_from b a (settle (int_order a.lat b.lat) (int_order a.lon b.lon))
   where
     int_order : (x y : ℤ) → (x <ℤ y) ⊎ ((x ≡ y) ⊎ (y <ℤ x))
@@ -83,10 +83,10 @@ after_from a b not_before not_same = before_from b a (settle (int_order a.lat b.
     settle (inr (inl p)) (inr (inr q)) = inr (sym p, q)
 
 -- as the derived comparison of corners computes
-abbrev pub place_cmp : Place → Place → Ordering
+abbrev pub place_cmp : Corner → Corner → Ordering
 place_cmp a b = ordering_then (int_cmp a.lat b.lat) (int_cmp a.lon b.lon)
 
-pub ranked_places : (a b : Place) → MatchOrdering (place_cmp a b) (is_before a b ≡ true) (a ≡ b) (is_before b a ≡ true)
+pub ranked_places : (a b : Corner) → MatchOrdering (place_cmp a b) (is_before a b ≡ true) (a ≡ b) (is_before b a ≡ true)
 ranked_places a b = both (int_cmp a.lat b.lat) (int_cmp a.lon b.lon) (int_ranked a.lat b.lat _ refl) (int_ranked a.lon b.lon _ refl)
   where
     both : (o q : Ordering) → MatchOrdering o (a.lat <ℤ b.lat) (a.lat ≡ b.lat) (b.lat <ℤ a.lat) → MatchOrdering q (a.lon <ℤ b.lon) (a.lon ≡ b.lon) (b.lon <ℤ a.lon)
@@ -97,5 +97,5 @@ ranked_places a b = both (int_cmp a.lat b.lat) (int_cmp a.lon b.lon) (int_ranked
     both Equal Equal p r = ap₂ (λ (y x : ℤ). record { lat = y; lon = x }) p r
     both Equal Greater p r = before_from b a (inr (sym p, r))
 
-pub same_comm : (a b : Place) → same_place a b ≡ false → same_place b a ≡ false
-same_comm a b apart = false_from_ne_true (same_place b a) (λ e. false≢true (sym apart ∙ same_from a b (sym (same_says b a e))))
+pub same_comm : (a b : Corner) → same_corner a b ≡ false → same_corner b a ≡ false
+same_comm a b apart = false_from_ne_true (same_corner b a) (λ e. false≢true (sym apart ∙ same_from a b (sym (same_says b a e))))

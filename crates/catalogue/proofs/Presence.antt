@@ -3,46 +3,46 @@ use Rattle.std.proofs.Common.{◌≡◌, zero, suc, ◌↔◌, Bool, true, false
 use Rattle.std.specs.Prelude.{Contains, Some, is_some}
 use Rattle.std.specs.List.{list_any}
 use Rattle.std.proofs.lemmas.Bool.{or_left, or_right, false≢true}
-use Rattle.lattice.specs.Corners.{Place, same_place}
+use Rattle.lattice.specs.Corners.{Corner, same_corner}
 use Rattle.lattice.specs.Mosaic.{Tile, Mosaic, IsMosaic, is_present, samples_among}
 use Rattle.catalogue.specs.Tiles.{corners_of, is_listed}
 use Rattle.catalogue.proofs.Places.{same_says, same_from}
 use Rattle.catalogue.proofs.Rising.{AllAfter, Rising, Adjacent, adjacent_from}
 use Rattle.catalogue.proofs.Mosaics.{corner_of, rising_tiles}
 
-pub listed_from : (c : Place) (places : List Place) → Contains places c → is_listed c places ≡ true
+pub listed_from : (c : Corner) (places : List Corner) → Contains places c → is_listed c places ≡ true
 listed_from c [] (k, below, here) = absurd (omega arith)
-listed_from c (d ∷ ds) (zero, below, here) = or_left (same_place d c) (is_listed c ds) (same_from d c here)
-listed_from c (d ∷ ds) (suc k, below, here) = or_right (same_place d c) (is_listed c ds) (listed_from c ds (k, omega arith, here))
+listed_from c (d ∷ ds) (zero, below, here) = or_left (same_corner d c) (is_listed c ds) (same_from d c here)
+listed_from c (d ∷ ds) (suc k, below, here) = or_right (same_corner d c) (is_listed c ds) (listed_from c ds (k, omega arith, here))
 
-pub listed_says : (c : Place) (places : List Place) → is_listed c places ≡ true → Contains places c
+pub listed_says : (c : Corner) (places : List Corner) → is_listed c places ≡ true → Contains places c
 listed_says c [] none = absurd (false≢true none)
-listed_says c (d ∷ ds) some = by (same_place d c) refl some (listed_says c ds)
+listed_says c (d ∷ ds) some = by (same_corner d c) refl some (listed_says c ds)
   where
-    by : (b : Bool) → same_place d c ≡ b → (b || is_listed c ds) ≡ true → (is_listed c ds ≡ true → Contains ds c) → Contains (d ∷ ds) c
+    by : (b : Bool) → same_corner d c ≡ b → (b || is_listed c ds) ≡ true → (is_listed c ds ≡ true → Contains ds c) → Contains (d ∷ ds) c
     by true same e later = (0, omega arith, same_says d c same)
     by false other e later = let rest = later e in (suc rest.0, omega arith, rest.2)
 
-pub present-listed : (c : Place) (tiles : List Tile) → list_any (λ t. same_place t.corner c) tiles ≡ is_listed c (map corner_of tiles)
+pub present-listed : (c : Corner) (tiles : List Tile) → list_any (λ t. same_corner t.corner c) tiles ≡ is_listed c (map corner_of tiles)
 present-listed c [] = refl
-present-listed c (t ∷ ts) = ap (λ b. same_place t.corner c || b) (present-listed c ts)
+present-listed c (t ∷ ts) = ap (λ b. same_corner t.corner c || b) (present-listed c ts)
 
 -- a tile is present exactly where its corner is in the list of corners
-pub present_iff : (m : Mosaic) (c : Place) → IsTrue (is_present m c) ↔ Contains (corners_of m) c
+pub present_iff : (m : Mosaic) (c : Corner) → IsTrue (is_present m c) ↔ Contains (corners_of m) c
 present_iff m c = (
   λ present. listed_says c (corners_of m) (sym (present-listed c m.tiles) ∙ present),
   λ there. present-listed c m.tiles ∙ listed_from c (corners_of m) there,
 )
 
 -- and exactly there it has samples
-pub some-samples : (c : Place) (tiles : List Tile) → is_some (samples_among tiles c) ≡ list_any (λ t. same_place t.corner c) tiles
+pub some-samples : (c : Corner) (tiles : List Tile) → is_some (samples_among tiles c) ≡ list_any (λ t. same_corner t.corner c) tiles
 some-samples c [] = refl
-some-samples c (t ∷ ts) = elim (same_place t.corner c) as (λ b. is_some (cond b (Some t.samples) (samples_among ts c)) ≡ (b || list_any (λ x. same_place x.corner c) ts)) [
+some-samples c (t ∷ ts) = elim (same_corner t.corner c) as (λ b. is_some (cond b (Some t.samples) (samples_among ts c)) ≡ (b || list_any (λ x. same_corner x.corner c) ts)) [
   | true ↦ refl
   | false ↦ some-samples c ts
 ]
 
-after-map : (c : Place) (tiles : List Tile) → AllAfter corner_of c tiles → AllAfter (λ p. p) c (map corner_of tiles)
+after-map : (c : Corner) (tiles : List Tile) → AllAfter corner_of c tiles → AllAfter (λ p. p) c (map corner_of tiles)
 after-map c [] h = tt
 after-map c (t ∷ ts) h = (h.0, after-map c ts h.1)
 
@@ -57,16 +57,16 @@ pub corners_in_order : (m : Mosaic) → IsMosaic m → Adjacent (λ p. p) (corne
 corners_in_order m valid = adjacent_from (λ p. p) (corners_of m) (corners_rise m valid)
 
 -- ---- a test of each tile's corner
-pub any_from : (test : Place → Bool) (tiles : List Tile) (c : Place) → Contains (map corner_of tiles) c → test c ≡ true → list_any (λ t. test t.corner) tiles ≡ true
+pub any_from : (test : Corner → Bool) (tiles : List Tile) (c : Corner) → Contains (map corner_of tiles) c → test c ≡ true → list_any (λ t. test t.corner) tiles ≡ true
 any_from test [] c (k, below, here) passes = absurd (omega arith)
 any_from test (t ∷ ts) c (zero, below, here) passes = or_left (test t.corner) (list_any (λ u. test u.corner) ts) (ap test here ∙ passes)
 any_from test (t ∷ ts) c (suc k, below, here) passes = or_right (test t.corner) (list_any (λ u. test u.corner) ts) (any_from test ts c (k, omega arith, here) passes)
 
-pub any_says : (test : Place → Bool) (tiles : List Tile) → list_any (λ t. test t.corner) tiles ≡ true → (c : Place) × (Contains (map corner_of tiles) c × (test c ≡ true))
+pub any_says : (test : Corner → Bool) (tiles : List Tile) → list_any (λ t. test t.corner) tiles ≡ true → (c : Corner) × (Contains (map corner_of tiles) c × (test c ≡ true))
 any_says test [] none = absurd (false≢true none)
 any_says test (t ∷ ts) some = by (test t.corner) refl some (any_says test ts)
   where
-    by : (b : Bool) → test t.corner ≡ b → (b || list_any (λ u. test u.corner) ts) ≡ true → (list_any (λ u. test u.corner) ts ≡ true → (c : Place) × (Contains (map corner_of ts) c × (test c ≡ true)))
-        → (c : Place) × (Contains (map corner_of (t ∷ ts)) c × (test c ≡ true))
+    by : (b : Bool) → test t.corner ≡ b → (b || list_any (λ u. test u.corner) ts) ≡ true → (list_any (λ u. test u.corner) ts ≡ true → (c : Corner) × (Contains (map corner_of ts) c × (test c ≡ true)))
+        → (c : Corner) × (Contains (map corner_of (t ∷ ts)) c × (test c ≡ true))
     by true passes e later = (t.corner, ((0, omega arith, refl), passes))
     by false fails e later = let rest = later e in (rest.0, ((suc rest.1.0.0, omega (arith, rest.1.0.1), rest.1.0.2), rest.1.1))

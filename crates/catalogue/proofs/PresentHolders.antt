@@ -4,7 +4,7 @@ use Rattle.std.specs.Prelude.{Contains}
 use Rattle.std.specs.List.{filter}
 use Rattle.std.proofs.lemmas.List.{drop_more}
 use Rattle.std.proofs.lemmas.Bool.{and_parts, and_from, false≢true, or_left}
-use Rattle.lattice.specs.Corners.{Place, is_before, same_place}
+use Rattle.lattice.specs.Corners.{Corner, is_before, same_corner}
 use Rattle.lattice.specs.Lattice.{Holds, holds}
 use Rattle.lattice.specs.Mosaic.{Tile, Mosaic, IsMosaic, is_present}
 use Rattle.lattice.specs.declared.point.Point.{Point}
@@ -23,22 +23,22 @@ same_tests true b there back = sym (there refl)
 same_tests false true there back = back refl
 same_tests false false there back = refl
 
-listed_self : (x : Place) (xs : List Place) → is_listed x (x ∷ xs) ≡ true
-listed_self x xs = or_left (same_place x x) (is_listed x xs) (same_from x x refl)
+listed_self : (x : Corner) (xs : List Corner) → is_listed x (x ∷ xs) ≡ true
+listed_self x xs = or_left (same_corner x x) (is_listed x xs) (same_from x x refl)
 
-listed_tail : (x c : Place) (xs : List Place) → same_place x c ≡ false → is_listed c (x ∷ xs) ≡ true → is_listed c xs ≡ true
+listed_tail : (x c : Corner) (xs : List Corner) → same_corner x c ≡ false → is_listed c (x ∷ xs) ≡ true → is_listed c xs ≡ true
 listed_tail x c xs apart listed = sym (ap (λ b. b || is_listed c xs) apart) ∙ listed
 
 -- lists that rise with the same members are the same
-pub same_rising : (xs ys : List Place) → Rising itself xs → Rising itself ys → ((c : Place) → is_listed c xs ≡ is_listed c ys) → xs ≡ ys
+pub same_rising : (xs ys : List Corner) → Rising itself xs → Rising itself ys → ((c : Corner) → is_listed c xs ≡ is_listed c ys) → xs ≡ ys
 same_rising [] [] xr yr same = refl
 same_rising [] (y ∷ ys) xr yr same = absurd (false≢true (same y ∙ listed_self y ys))
 same_rising (x ∷ xs) [] xr yr same = absurd (false≢true (sym (same x) ∙ listed_self x xs))
 same_rising (x ∷ xs) (y ∷ ys) xr yr same =
-    let heads : x ≡ y = head (same_place x y) refl (same_place y x) refl in
-    ap₂ (λ (z : Place) (zs : List Place). z ∷ zs) heads (same_rising xs ys xr.1 yr.1 (λ c. tail c heads (same_place x c) refl))
+    let heads : x ≡ y = head (same_corner x y) refl (same_corner y x) refl in
+    ap₂ (λ (z : Corner) (zs : List Corner). z ∷ zs) heads (same_rising xs ys xr.1 yr.1 (λ c. tail c heads (same_corner x c) refl))
   where
-    head : (b : Bool) → same_place x y ≡ b → (d : Bool) → same_place y x ≡ d → x ≡ y
+    head : (b : Bool) → same_corner x y ≡ b → (d : Bool) → same_corner y x ≡ d → x ≡ y
     head true e d f = same_says x y e
     head false e true f = sym (same_says y x f)
     head false e false f =
@@ -46,19 +46,19 @@ same_rising (x ∷ xs) (y ∷ ys) xr yr same =
         let x_later : IsTrue (is_before y x) = listed_after y x ys yr.0 (listed_tail y x ys f (sym (same x) ∙ listed_self x xs)) in
         absurd (false≢true (sym (before_not_back x y y_later) ∙ x_later))
 
-    tail : (c : Place) → x ≡ y → (b : Bool) → same_place x c ≡ b → is_listed c xs ≡ is_listed c ys
+    tail : (c : Corner) → x ≡ y → (b : Bool) → same_corner x c ≡ b → is_listed c xs ≡ is_listed c ys
     tail c heads true e =
         let is : x ≡ c = same_says x c e in
         not_listed c xs (subst (λ d. AllAfter itself d xs) is xr.0) ∙ sym (not_listed c ys (subst (λ d. AllAfter itself d ys) (sym heads ∙ is) yr.0))
     tail c heads false e =
-        let apart : same_place y c ≡ false = ap (λ d. same_place d c) (sym heads) ∙ e in
+        let apart : same_corner y c ≡ false = ap (λ d. same_corner d c) (sym heads) ∙ e in
         sym (ap (λ b. b || is_listed c xs) e) ∙ same c ∙ ap (λ b. b || is_listed c ys) apart
 
-pub listed-filter : (f : Place → Bool) (c : Place) (cs : List Place) → is_listed c (filter f cs) ≡ (is_listed c cs && f c)
+pub listed-filter : (f : Corner → Bool) (c : Corner) (cs : List Corner) → is_listed c (filter f cs) ≡ (is_listed c cs && f c)
 listed-filter f c [] = refl
-listed-filter f c (d ∷ ds) = by (f d) refl (same_place d c) refl (listed-filter f c ds)
+listed-filter f c (d ∷ ds) = by (f d) refl (same_corner d c) refl (listed-filter f c ds)
   where
-    by : (b : Bool) → f d ≡ b → (s : Bool) → same_place d c ≡ s → is_listed c (filter f ds) ≡ (is_listed c ds && f c)
+    by : (b : Bool) → f d ≡ b → (s : Bool) → same_corner d c ≡ s → is_listed c (filter f ds) ≡ (is_listed c ds && f c)
         → is_listed c (cond b (d ∷ filter f ds) (filter f ds)) ≡ ((s || is_listed c ds) && f c)
     by true fd true is rest = rw is (sym (ap f (sym (same_says d c is)) ∙ fd))
     by true fd false apart rest = rw apart rest
@@ -71,20 +71,20 @@ listed-filter f c (d ∷ ds) = by (f d) refl (same_place d c) refl (listed-filte
         and_none false = refl
     by false fd false apart rest = rest
 
-map-filter : (f : Place → Bool) (tiles : List Tile) → map corner_of (filter (λ (t : Tile). f t.corner) tiles) ≡ filter f (map corner_of tiles)
+map-filter : (f : Corner → Bool) (tiles : List Tile) → map corner_of (filter (λ (t : Tile). f t.corner) tiles) ≡ filter f (map corner_of tiles)
 map-filter f [] = refl
 map-filter f (t ∷ ts) = by (f t.corner) (map-filter f ts)
   where
     by : (b : Bool) → map corner_of (filter (λ (x : Tile). f x.corner) ts) ≡ filter f (map corner_of ts)
         → map corner_of (cond b (t ∷ filter (λ (x : Tile). f x.corner) ts) (filter (λ (x : Tile). f x.corner) ts)) ≡ cond b (t.corner ∷ filter f (map corner_of ts)) (filter f (map corner_of ts))
-    by true rest = ap (λ (cs : List Place). t.corner ∷ cs) rest
+    by true rest = ap (λ (cs : List Corner). t.corner ∷ cs) rest
     by false rest = rest
 
 pub holders_filtered : (m : Mosaic) (p : Point) → present_holders m p ≡ filter (λ c. holds m.side c p) (corners_of m)
 holders_filtered m p = map-filter (λ c. holds m.side c p) m.tiles
 
 -- of the corners that hold the point, those whose tile is present
-pub present_holders_are : (m : Mosaic) (p : Point) (cs : List Place) → IsMosaic m → Adjacent itself cs → ((c : Place) → Contains cs c ↔ Holds m.side c p)
+pub present_holders_are : (m : Mosaic) (p : Point) (cs : List Corner) → IsMosaic m → Adjacent itself cs → ((c : Corner) → Contains cs c ↔ Holds m.side c p)
     → present_holders m p ≡ filter (λ c. is_present m c) cs
 present_holders_are m p cs valid in_order exactly =
     holders_filtered m p
@@ -104,10 +104,10 @@ present_holders_are m p cs valid in_order exactly =
     ∙ sym (listed-filter (λ d. is_present m d) c cs))
 
 -- the first of them, one corner further
-pub first_step : (f : Place → Bool) (c h : Place) (cs : List Place) (i : ℕ) → i < length cs → h ≡ get_or cs i h
-    → is_first c (filter f (drop i cs)) ≡ cond (f h) (same_place h c) (is_first c (filter f (drop (i + 1) cs)))
-first_step f c h cs i within is = ap (λ (l : List Place). is_first c (filter f l)) (drop_more cs i h within ∙ ap (λ (x : Place). x ∷ drop (i + 1) cs) (sym is)) ∙ by (f h)
+pub first_step : (f : Corner → Bool) (c h : Corner) (cs : List Corner) (i : ℕ) → i < length cs → h ≡ get_or cs i h
+    → is_first c (filter f (drop i cs)) ≡ cond (f h) (same_corner h c) (is_first c (filter f (drop (i + 1) cs)))
+first_step f c h cs i within is = ap (λ (l : List Corner). is_first c (filter f l)) (drop_more cs i h within ∙ ap (λ (x : Corner). x ∷ drop (i + 1) cs) (sym is)) ∙ by (f h)
   where
-    by : (b : Bool) → is_first c (cond b (h ∷ filter f (drop (i + 1) cs)) (filter f (drop (i + 1) cs))) ≡ cond b (same_place h c) (is_first c (filter f (drop (i + 1) cs)))
+    by : (b : Bool) → is_first c (cond b (h ∷ filter f (drop (i + 1) cs)) (filter f (drop (i + 1) cs))) ≡ cond b (same_corner h c) (is_first c (filter f (drop (i + 1) cs)))
     by true = refl
     by false = refl

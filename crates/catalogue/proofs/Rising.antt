@@ -2,12 +2,12 @@
 use Rattle.std.proofs.Common.{zero, suc, Bool, true, false, cond, IsTrue, List, [], ◌∷◌, length, arith}
 use native.Mathlib.Numerals.{unary_clauses}
 use Rattle.std.specs.List.{AllAdjacentBelow, filter}
-use Rattle.lattice.specs.Corners.{Place, is_before}
+use Rattle.lattice.specs.Corners.{Corner, is_before}
 use Rattle.catalogue.proofs.Places.{before_trans}
 
-module _ {X : Type 0} (key : X → Place) where
+module _ {X : Type 0} (key : X → Corner) where
   -- each of the list stands after the place
-  abbrev pub AllAfter : Place → List X → Type 0
+  abbrev pub AllAfter : Corner → List X → Type 0
   AllAfter c [] = Unit {0}
   AllAfter c (x ∷ xs) = IsTrue (is_before c (key x)) × AllAfter c xs
 
@@ -18,7 +18,7 @@ module _ {X : Type 0} (key : X → Place) where
   abbrev pub Adjacent : List X → Type 0
   Adjacent xs = AllAdjacentBelow (λ x y. IsTrue (is_before (key x) (key y))) xs (length xs)
 
-  pub after_later : (a b : Place) (xs : List X) → IsTrue (is_before a b) → AllAfter b xs → AllAfter a xs
+  pub after_later : (a b : Corner) (xs : List X) → IsTrue (is_before a b) → AllAfter b xs → AllAfter a xs
   after_later a b [] ab h = tt
   after_later a b (x ∷ xs) ab h = (before_trans a b (key x) ab h.0, after_later a b xs ab h.1)
 
@@ -36,7 +36,7 @@ module _ {X : Type 0} (key : X → Place) where
   adjacent_from (x ∷ (y ∷ ys)) h zero d below = h.0.0
   adjacent_from (x ∷ (y ∷ ys)) h (suc k) d below = let earlier = adjacent_from (y ∷ ys) h.1 k d (omega arith) in simp unary_clauses (simp unary_clauses at earlier)
 
-  pub after-filter : (p : X → Bool) (c : Place) (xs : List X) → AllAfter c xs → AllAfter c (filter p xs)
+  pub after-filter : (p : X → Bool) (c : Corner) (xs : List X) → AllAfter c xs → AllAfter c (filter p xs)
   after-filter p c [] h = tt
   after-filter p c (x ∷ xs) h = elim (p x) as (λ b. AllAfter c (cond b (x ∷ filter p xs) (filter p xs))) [
     | true ↦ (h.0, after-filter p c xs h.1)

@@ -8,41 +8,41 @@ use mir.Val.{SFits, to_z, of_z}
 use Rattle.std.proofs.lemmas.List.{append-nil}
 use Rattle.std.proofs.lemmas.List.Elements.{All-head, All-tail}
 use Rattle.std.proofs.lemmas.Bool.{and_parts, and_from, false_from_ne_true}
-use Rattle.lattice.specs.Corners.{Place, is_corner, is_before, same_place}
+use Rattle.lattice.specs.Corners.{Corner, is_corner, is_before, same_corner}
 use Rattle.lattice.proofs.Along.{le_true, le_from}
 use Rattle.catalogue.specs.Tiles.{corners_before, is_listed}
 use Rattle.catalogue.proofs.Places.{Below, before_says, before_from, same_says, before_not_back, after_from, before_apart}
 use Rattle.catalogue.proofs.Rising.{AllAfter, Rising, after_later}
 use Rattle.catalogue.proofs.Holders.{itself, not_listed}
 
-corner_range : (c : Place) → IsTrue (is_corner c) → (negsuc 89 ≤ℤ c.lat) × (c.lat ≤ℤ pos 89) × (negsuc 179 ≤ℤ c.lon) × (c.lon ≤ℤ pos 179)
+corner_range : (c : Corner) → IsTrue (is_corner c) → (negsuc 89 ≤ℤ c.lat) × (c.lat ≤ℤ pos 89) × (negsuc 179 ≤ℤ c.lon) × (c.lon ≤ℤ pos 179)
 corner_range c corner =
     let three = and_parts (int_le (negsuc 89) c.lat && int_le c.lat (pos 89) && int_le (negsuc 179) c.lon) (int_le c.lon (pos 179)) corner in
     let two = and_parts (int_le (negsuc 89) c.lat && int_le c.lat (pos 89)) (int_le (negsuc 179) c.lon) three.0 in
     let one = and_parts (int_le (negsuc 89) c.lat) (int_le c.lat (pos 89)) two.0 in
     (le_true _ _ one.0, le_true _ _ one.1, le_true _ _ two.1, le_true _ _ three.1)
 
-abbrev pub place : ℤ → ℤ → Place
+abbrev pub place : ℤ → ℤ → Corner
 place lat lon = record { lat = lat; lon = lon }
 
 module _ (lat lon : ℤ) where
-  abbrev here : Place
+  abbrev here : Corner
   here = place lat lon
 
-  abbrev next : Place
+  abbrev next : Corner
   next = place lat (lon +ℤ pos 1)
 
   here_next : IsTrue (is_before here next)
   here_next = before_from here next (inr (refl, omega (arith, ints)))
 
-  before_next : (x : Place) → IsTrue (is_before x here) → IsTrue (is_before x next)
+  before_next : (x : Corner) → IsTrue (is_before x here) → IsTrue (is_before x next)
   before_next x before = by (before_says x here before)
     where
       by : Below x here → IsTrue (is_before x next)
       by (inl south) = before_from x next (inl south)
       by (inr west) = before_from x next (inr (west.0, omega (arith, ints)))
 
-  beyond_next : (x : Place) → IsTrue (is_before here x) → is_before x next ≡ false
+  beyond_next : (x : Corner) → IsTrue (is_before here x) → is_before x next ≡ false
   beyond_next x beyond = false_from_ne_true (is_before x next) (λ before. by (before_says here x beyond) (before_says x next before))
     where
       by : Below here x → Below x next → ⊥
@@ -51,37 +51,37 @@ module _ (lat lon : ℤ) where
       by (inr p) (inl q) = omega (arith, ints)
       by (inr p) (inr q) = omega (arith, ints)
 
-  none_next : (xs : List Place) → AllAfter itself here xs → filter (λ x. is_before x next) xs ≡ []
+  none_next : (xs : List Corner) → AllAfter itself here xs → filter (λ x. is_before x next) xs ≡ []
   none_next [] h = refl
   none_next (x ∷ xs) h = rw (beyond_next x h.0) (none_next xs h.1)
 
-  none_here : (xs : List Place) → AllAfter itself here xs → filter (λ x. is_before x here) xs ≡ []
+  none_here : (xs : List Corner) → AllAfter itself here xs → filter (λ x. is_before x here) xs ≡ []
   none_here [] h = refl
   none_here (x ∷ xs) h = rw (before_not_back here x h.0) (none_here xs h.1)
 
   -- one place further: its corner is added where it is listed
-  pub before-next : (cs : List Place) → Rising itself cs → corners_before lat (lon +ℤ pos 1) cs ≡ corners_before lat lon cs ++ cond (is_listed here cs) (here ∷ []) []
+  pub before-next : (cs : List Corner) → Rising itself cs → corners_before lat (lon +ℤ pos 1) cs ≡ corners_before lat lon cs ++ cond (is_listed here cs) (here ∷ []) []
   before-next [] rising = refl
-  before-next (x ∷ xs) rising = by (is_before x here) refl (same_place x here) refl (before-next xs rising.1)
+  before-next (x ∷ xs) rising = by (is_before x here) refl (same_corner x here) refl (before-next xs rising.1)
     where
-      by : (b : Bool) → is_before x here ≡ b → (s : Bool) → same_place x here ≡ s
+      by : (b : Bool) → is_before x here ≡ b → (s : Bool) → same_corner x here ≡ s
           → filter (λ c. is_before c next) xs ≡ filter (λ c. is_before c here) xs ++ cond (is_listed here xs) (here ∷ []) []
           → cond (is_before x next) (x ∷ filter (λ c. is_before c next) xs) (filter (λ c. is_before c next) xs)
           ≡ cond b (x ∷ filter (λ c. is_before c here) xs) (filter (λ c. is_before c here) xs) ++ cond (s || is_listed here xs) (here ∷ []) []
       by true before true same rest = absurd (before_apart x here before (same_says x here same))
-      by true before false apart rest = rw (before_next x before) (ap (λ (l : List Place). x ∷ l) rest)
+      by true before false apart rest = rw (before_next x before) (ap (λ (l : List Corner). x ∷ l) rest)
       by false not_before true same rest =
           let is : x ≡ here = same_says x here same in
-          let after : AllAfter itself here xs = subst (λ (c : Place). AllAfter itself c xs) is rising.0 in
-          let within : is_before x next ≡ true = subst (λ (c : Place). is_before c next ≡ true) (sym is) here_next in
-          rw (within, none_next xs after, none_here xs after) (ap (λ (c : Place). c ∷ []) is)
+          let after : AllAfter itself here xs = subst (λ (c : Corner). AllAfter itself c xs) is rising.0 in
+          let within : is_before x next ≡ true = subst (λ (c : Corner). is_before c next ≡ true) (sym is) here_next in
+          rw (within, none_next xs after, none_here xs after) (ap (λ (c : Corner). c ∷ []) is)
       by false not_before false apart rest =
           let beyond : IsTrue (is_before here x) = after_from x here not_before apart in
           let after : AllAfter itself here xs = after_later itself here x xs beyond rising.0 in
           rw (beyond_next x beyond, none_next xs after, none_here xs after, not_listed here xs after) refl
 
 -- from the end of a row to the next
-row_end : (lat : ℤ) (x : Place) → IsTrue (is_corner x) → is_before x (place lat (pos 180)) ≡ is_before x (place (lat +ℤ pos 1) (negsuc 179))
+row_end : (lat : ℤ) (x : Corner) → IsTrue (is_corner x) → is_before x (place lat (pos 180)) ≡ is_before x (place (lat +ℤ pos 1) (negsuc 179))
 row_end lat x corner = both (is_before x (place lat (pos 180))) (is_before x (place (lat +ℤ pos 1) (negsuc 179)))
     (λ before. before_from x (place (lat +ℤ pos 1) (negsuc 179)) (inl (on (corner_range x corner) (before_says x (place lat (pos 180)) before))))
     (λ before. back (corner_range x corner) (before_says x (place (lat +ℤ pos 1) (negsuc 179)) before))
@@ -99,53 +99,53 @@ row_end lat x corner = both (is_before x (place lat (pos 180))) (is_before x (pl
     back r (inl p) = by_lt_z x.lat lat (λ less. before_from x (place lat (pos 180)) (inl less)) (λ not_less. before_from x (place lat (pos 180)) (inr (omega (arith, ints), omega (arith, ints, r))))
     back r (inr p) = absurd (omega (arith, ints, r))
 
-pub before-row : (lat : ℤ) (cs : List Place) → All (λ c. IsTrue (is_corner c)) cs → corners_before lat (pos 180) cs ≡ corners_before (lat +ℤ pos 1) (negsuc 179) cs
+pub before-row : (lat : ℤ) (cs : List Corner) → All (λ c. IsTrue (is_corner c)) cs → corners_before lat (pos 180) cs ≡ corners_before (lat +ℤ pos 1) (negsuc 179) cs
 before-row lat [] corners = refl
 before-row lat (x ∷ xs) corners =
     let rest : corners_before lat (pos 180) xs ≡ corners_before (lat +ℤ pos 1) (negsuc 179) xs = before-row lat xs (All-tail (λ c. IsTrue (is_corner c)) x xs corners) in
     rw (row_end lat x (All-head (λ c. IsTrue (is_corner c)) x xs corners), rest) refl
 
-pub before-first : (cs : List Place) → All (λ c. IsTrue (is_corner c)) cs → corners_before (negsuc 89) (negsuc 179) cs ≡ []
+pub before-first : (cs : List Corner) → All (λ c. IsTrue (is_corner c)) cs → corners_before (negsuc 89) (negsuc 179) cs ≡ []
 before-first [] corners = refl
 before-first (x ∷ xs) corners = rw (first x (All-head (λ c. IsTrue (is_corner c)) x xs corners)) (before-first xs (All-tail (λ c. IsTrue (is_corner c)) x xs corners))
   where
-    first : (c : Place) → IsTrue (is_corner c) → is_before c (place (negsuc 89) (negsuc 179)) ≡ false
+    first : (c : Corner) → IsTrue (is_corner c) → is_before c (place (negsuc 89) (negsuc 179)) ≡ false
     first c corner = false_from_ne_true (is_before c (place (negsuc 89) (negsuc 179))) (λ before. by (corner_range c corner) (before_says c (place (negsuc 89) (negsuc 179)) before))
       where
         by : (negsuc 89 ≤ℤ c.lat) × (c.lat ≤ℤ pos 89) × (negsuc 179 ≤ℤ c.lon) × (c.lon ≤ℤ pos 179) → Below c (place (negsuc 89) (negsuc 179)) → ⊥
         by r (inl p) = omega (arith, ints, r)
         by r (inr p) = omega (arith, ints, r)
 
-pub before-last : (cs : List Place) → All (λ c. IsTrue (is_corner c)) cs → corners_before (pos 90) (negsuc 179) cs ≡ cs
+pub before-last : (cs : List Corner) → All (λ c. IsTrue (is_corner c)) cs → corners_before (pos 90) (negsuc 179) cs ≡ cs
 before-last [] corners = refl
 before-last (x ∷ xs) corners =
     let range = corner_range x (All-head (λ c. IsTrue (is_corner c)) x xs corners) in
     let south : x.lat <ℤ pos 90 = omega (arith, ints, range) in
     let before : IsTrue (is_before x (place (pos 90) (negsuc 179))) = before_from x (place (pos 90) (negsuc 179)) (inl south) in
-    rw before (ap (λ (l : List Place). x ∷ l) (before-last xs (All-tail (λ c. IsTrue (is_corner c)) x xs corners)))
+    rw before (ap (λ (l : List Corner). x ∷ l) (before-last xs (All-tail (λ c. IsTrue (is_corner c)) x xs corners)))
 
-pub corner_from : (c : Place) → negsuc 89 ≤ℤ c.lat → c.lat ≤ℤ pos 89 → negsuc 179 ≤ℤ c.lon → c.lon ≤ℤ pos 179 → IsTrue (is_corner c)
+pub corner_from : (c : Corner) → negsuc 89 ≤ℤ c.lat → c.lat ≤ℤ pos 89 → negsuc 179 ≤ℤ c.lon → c.lon ≤ℤ pos 179 → IsTrue (is_corner c)
 corner_from c south north west east =
     and_from (int_le (negsuc 89) c.lat && int_le c.lat (pos 89) && int_le (negsuc 179) c.lon) (int_le c.lon (pos 179))
     (and_from (int_le (negsuc 89) c.lat && int_le c.lat (pos 89)) (int_le (negsuc 179) c.lon)
     (and_from (int_le (negsuc 89) c.lat) (int_le c.lat (pos 89)) (le_from _ _ south) (le_from _ _ north)) (le_from _ _ west)) (le_from _ _ east)
 
 -- ---- a walk over the corners
-module _ (cs : List Place) (rising : Rising itself cs) (lat lon : ℤ) where
-  abbrev pub named : Option Place
+module _ (cs : List Corner) (rising : Rising itself cs) (lat lon : ℤ) where
+  abbrev pub named : Option Corner
   named = cond (is_listed (place lat lon) cs) (Some (place lat lon)) None
 
-  pub before-step : (found : List Place) → found ≡ corners_before lat lon cs → corners_before lat (lon +ℤ pos 1) cs ≡ found ++ cond (is_listed (place lat lon) cs) (place lat lon ∷ []) []
-  before-step found so_far = before-next lat lon cs rising ∙ ap (λ (l : List Place). l ++ cond (is_listed (place lat lon) cs) (place lat lon ∷ []) []) (sym so_far)
+  pub before-step : (found : List Corner) → found ≡ corners_before lat lon cs → corners_before lat (lon +ℤ pos 1) cs ≡ found ++ cond (is_listed (place lat lon) cs) (place lat lon ∷ []) []
+  before-step found so_far = before-next lat lon cs rising ∙ ap (λ (l : List Corner). l ++ cond (is_listed (place lat lon) cs) (place lat lon ∷ []) []) (sym so_far)
 
-  pub step_some : (found new : List Place) (c : Place) → found ≡ corners_before lat lon cs → Some c ≡ named → new ≡ found ++ c ∷ [] → new ≡ corners_before lat (lon +ℤ pos 1) cs
+  pub step_some : (found new : List Corner) (c : Corner) → found ≡ corners_before lat lon cs → Some c ≡ named → new ≡ found ++ c ∷ [] → new ≡ corners_before lat (lon +ℤ pos 1) cs
   step_some found new c so_far is pushed = by (is_listed (place lat lon) cs) is (before-step found so_far)
     where
       by : (b : Bool) → Some c ≡ cond b (Some (place lat lon)) None → corners_before lat (lon +ℤ pos 1) cs ≡ found ++ cond b (place lat lon ∷ []) [] → new ≡ corners_before lat (lon +ℤ pos 1) cs
-      by true e step = let this : c ≡ place lat lon = cc in pushed ∙ ap (λ (d : Place). found ++ d ∷ []) this ∙ sym step
+      by true e step = let this : c ≡ place lat lon = cc in pushed ∙ ap (λ (d : Corner). found ++ d ∷ []) this ∙ sym step
       by false e step = absurd (cc)
 
-  pub step_none : (found : List Place) → found ≡ corners_before lat lon cs → None ≡ named → found ≡ corners_before lat (lon +ℤ pos 1) cs
+  pub step_none : (found : List Corner) → found ≡ corners_before lat lon cs → None ≡ named → found ≡ corners_before lat (lon +ℤ pos 1) cs
   step_none found so_far is = by (is_listed (place lat lon) cs) is (before-step found so_far)
     where
       by : (b : Bool) → None ≡ cond b (Some (place lat lon)) None → corners_before lat (lon +ℤ pos 1) cs ≡ found ++ cond b (place lat lon ∷ []) [] → found ≡ corners_before lat (lon +ℤ pos 1) cs
@@ -153,7 +153,7 @@ module _ (cs : List Place) (rising : Rising itself cs) (lat lon : ℤ) where
       by false e step = sym (append-nil found) ∙ sym step
 
 -- what is asked for at a corner, or past the last degree
-module _ (cs : List Place) (lat lon : ℤ) where
+module _ (cs : List Corner) (lat lon : ℤ) where
   pub named_present : is_listed (place lat lon) cs ≡ true → Some (place lat lon) ≡ cond (is_listed (place lat lon) cs) (Some (place lat lon)) None
   named_present there = rw there refl
 

@@ -2,16 +2,16 @@
 use Rattle.std.proofs.Common.{◌≡◌, ℕ, ◌<◌, ◌+◌, ◌-◌, ℤ, List, length, get_or, take, drop, refl, sym, subst}
 use Rattle.std.specs.Prelude.{Option, Some, IsSomeAnd, slice_get, slice_range}
 use Rattle.std.proofs.lemmas.Option.{slice_get_read}
-use Rattle.lattice.specs.Corners.{Place}
+use Rattle.lattice.specs.Corners.{Corner}
 use Rattle.lattice.specs.Mosaic.{Mosaic, samples_of}
 use Rattle.catalogue.specs.Reading.{IsSampleOf, AreSamplesOf}
 
-pub sample_from : (m : Mosaic) (c : Place) (i : ℕ) (s : ℤ) (samples : List ℤ) → samples_of m c ≡ Some samples → i < length samples → s ≡ get_or samples i s → IsSampleOf m c i s
+pub sample_from : (m : Mosaic) (c : Corner) (i : ℕ) (s : ℤ) (samples : List ℤ) → samples_of m c ≡ Some samples → i < length samples → s ≡ get_or samples i s → IsSampleOf m c i s
 sample_from m c i s samples found within read =
     subst (λ (o : Option (List ℤ)). IsSomeAnd o (λ l. slice_get l i ≡ Some s)) (sym found) (slice_get_read samples (length samples) i s refl within read)
 
 -- what a part of a tile's samples gives, of the length that was asked for
-pub samples_from : (m : Mosaic) (c : Place) (first count : ℕ) (part samples : List ℤ) → samples_of m c ≡ Some samples → length part ≡ count
+pub samples_from : (m : Mosaic) (c : Corner) (first count : ℕ) (part samples : List ℤ) → samples_of m c ≡ Some samples → length part ≡ count
     → part ≡ take (first + count - first) (drop first samples) → AreSamplesOf m c first part
 samples_from m c first count part samples found long is =
     subst (λ (o : Option (List ℤ)). IsSomeAnd o (λ all. slice_range all first (first + length part) ≡ part)) (sym found) (rw long (sym is))

@@ -6,7 +6,7 @@ use Rattle.std.specs.List.{filter, list_any}
 use Rattle.std.proofs.Math.Path.{fun_ext}
 use Rattle.std.proofs.lemmas.Bool.Decides.{Decides-int_eq}
 use Rattle.std.proofs.lemmas.List.Elements.{All-contains}
-use Rattle.lattice.specs.Corners.{Place}
+use Rattle.lattice.specs.Corners.{Corner}
 use Rattle.lattice.specs.Lattice.{holds, index_of}
 use Rattle.lattice.specs.Steps.{step, directions}
 use Rattle.lattice.specs.Terrain.{Terrain}
@@ -31,18 +31,18 @@ first_is (s ∷ later) = by (is_void s) refl (first_is later)
     by true nothing rest = rest
     by false something rest = inr (s, (refl, something))
 
-all_void : (cs : List Place) → first_height (map (λ _. void) cs) ≡ Void
+all_void : (cs : List Corner) → first_height (map (λ _. void) cs) ≡ Void
 all_void [] = refl
 all_void (c ∷ cs) = all_void cs
 
-said_again : (l : List ℤ) (c : Place) (cs : List Place) → first_height (map (λ _. metres (first_height l)) (c ∷ cs)) ≡ first_height l
+said_again : (l : List ℤ) (c : Corner) (cs : List Corner) → first_height (map (λ _. metres (first_height l)) (c ∷ cs)) ≡ first_height l
 said_again l c cs = by (first_is l)
   where
     by : (first_height l ≡ Void) ⊎ ((y : ℤ) × ((first_height l ≡ At y) × (is_void y ≡ false))) → first_height (map (λ _. metres (first_height l)) (c ∷ cs)) ≡ first_height l
     by (inl nothing) = ap (λ (h : Height). first_height (map (λ _. metres h) (c ∷ cs))) nothing ∙ all_void (c ∷ cs) ∙ sym nothing
     by (inr (y, (is, something))) = ap (λ (h : Height). first_height (map (λ _. metres h) (c ∷ cs))) is ∙ (rw something refl) ∙ sym is
 
-one_height_said : (l : List ℤ) (cs : List Place) → length l ≡ length cs → by_seam_rule (map (λ _. metres (by_seam_rule l)) cs) ≡ by_seam_rule l
+one_height_said : (l : List ℤ) (cs : List Corner) → length l ≡ length cs → by_seam_rule (map (λ _. metres (by_seam_rule l)) cs) ≡ by_seam_rule l
 one_height_said [] [] e = refl
 one_height_said [] (c ∷ cs) e = absurd (omega arith)
 one_height_said (s ∷ later) [] e = absurd (omega arith)
@@ -52,7 +52,7 @@ module _ (n : ℕ) (p : Point) where
   abbrev said : List Tile → List ℤ
   said tiles = map (λ t. sample_at n t p) (filter (λ t. holds n t.corner p) tiles)
 
-  abbrev holders_among : List Tile → List Place
+  abbrev holders_among : List Tile → List Corner
   holders_among tiles = filter (λ c. holds n c p) (map corner_of tiles)
 
   said_length : (tiles : List Tile) → length (said tiles) ≡ length (holders_among tiles)
@@ -73,18 +73,18 @@ module _ (n : ℕ) (p : Point) where
       by true held rest = ap₂ (λ (s : ℤ) (l : List ℤ). s ∷ l) (same t (0, omega arith, refl) held) rest
       by false out rest = rest
 
-any_corner : (test : Place → Bool) (tiles : List Tile) → list_any (λ t. test t.corner) tiles ≡ list_any test (map corner_of tiles)
+any_corner : (test : Corner → Bool) (tiles : List Tile) → list_any (λ t. test t.corner) tiles ≡ list_any test (map corner_of tiles)
 any_corner test [] = refl
 any_corner test (t ∷ ts) = ap (λ b. test t.corner || b) (any_corner test ts)
 
 same_again : (h : ℤ) → int_eq h h ≡ true
 same_again h = (Decides-int_eq h h).1 refl
 
-none_differs : (h : ℤ) (cs : List Place) → list_any (λ other. not (int_eq h other)) (map (λ _. h) cs) ≡ false
+none_differs : (h : ℤ) (cs : List Corner) → list_any (λ other. not (int_eq h other)) (map (λ _. h) cs) ≡ false
 none_differs h [] = refl
 none_differs h (c ∷ cs) = rw (same_again h) (none_differs h cs)
 
-agree : (h : ℤ) (cs : List Place) → differ (map (λ _. h) cs) ≡ false
+agree : (h : ℤ) (cs : List Corner) → differ (map (λ _. h) cs) ≡ false
 agree h [] = refl
 agree h (c ∷ cs) = none_differs h cs
 
@@ -104,7 +104,7 @@ module _ (m s : Mosaic) (m_valid : IsMosaic m) (s_valid : IsMosaic s) (sealed : 
   all_said p =
       ap (λ n. map (λ t. sample_at n t p) (filter (λ t. holds n t.corner p) s.tiles)) sealed.side
       ∙ said_same m.side p (metres (height_of m p)) s.tiles (own_said p)
-      ∙ ap (λ (cs : List Place). map (λ _. metres (height_of m p)) (filter (λ c. holds m.side c p) cs)) sealed.corners
+      ∙ ap (λ (cs : List Corner). map (λ _. metres (height_of m p)) (filter (λ c. holds m.side c p) cs)) sealed.corners
 
   pub sealed_height : (p : Point) → height_of s p ≡ height_of m p
   sealed_height p = ap by_seam_rule (all_said p) ∙ one_height_said (samples_at m p) (holders_among m.side p m.tiles) (said_length m.side p m.tiles)
@@ -118,7 +118,7 @@ module _ (m s : Mosaic) (m_valid : IsMosaic m) (s_valid : IsMosaic s) (sealed : 
   sealed_share : (p q : Point) → share_tile s p q ≡ share_tile m p q
   sealed_share p q =
       any_corner (λ c. holds s.side c p && holds s.side c q) s.tiles
-      ∙ ap₂ (λ (n : ℕ) (cs : List Place). list_any (λ c. holds n c p && holds n c q) cs) sealed.side sealed.corners
+      ∙ ap₂ (λ (n : ℕ) (cs : List Corner). list_any (λ c. holds n c p && holds n c q) cs) sealed.side sealed.corners
       ∙ sym (any_corner (λ c. holds m.side c p && holds m.side c q) m.tiles)
 
   pub sealed_adjacent : (p q : Point) → is_adjacent s p q ≡ is_adjacent m p q

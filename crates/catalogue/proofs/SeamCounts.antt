@@ -8,7 +8,7 @@ use Rattle.std.proofs.lemmas.List.Sums.{sum_by-append}
 use Rattle.std.proofs.lemmas.List.Elements.{All-head, All-tail}
 use Rattle.std.proofs.lemmas.Bool.{and_parts, and_from, or_left, cases_lt, false≢true, lt-ltb, le-ltb}
 use Rattle.std.proofs.lemmas.Bool.Decides.{Decides-int_eq}
-use Rattle.lattice.specs.Corners.{Place, is_corner, same_place}
+use Rattle.lattice.specs.Corners.{Corner, is_corner, same_corner}
 use Rattle.lattice.specs.Lattice.{Holds, holds, index_of, point_of}
 use Rattle.lattice.specs.Mosaic.{Tile, Mosaic, IsMosaic}
 use Rattle.lattice.specs.Height.{sample_at, differ, disagrees}
@@ -28,13 +28,13 @@ use Rattle.catalogue.proofs.PresentHolders.{holders_filtered, listed-filter}
 use Rattle.catalogue.proofs.Rows.{place, named, before-step, before-first, before-row, before-last}
 
 -- ---- the loops' steps
-pub tile_step : (m : Mosaic) (c : Place) (e count new : ℕ) (answer : Bool) → count ≡ own_seams_below m c e → answer ≡ is_own_seam m c (point_of m.side c e)
+pub tile_step : (m : Mosaic) (c : Corner) (e count new : ℕ) (answer : Bool) → count ≡ own_seams_below m c e → answer ≡ is_own_seam m c (point_of m.side c e)
     → new ≡ count + cond answer 1 0 → new ≡ own_seams_below m c (e + 1)
 unfolding own_seams_below
 tile_step m c e count new answer so_far told is =
     rw add-one (is ∙ ap₂ (λ (n : ℕ) (b : Bool). n + cond b 1 0) so_far told)
 
-pub tile_start : (m : Mosaic) (c : Place) → 0 ≡ own_seams_below m c 0
+pub tile_start : (m : Mosaic) (c : Corner) → 0 ≡ own_seams_below m c 0
 unfolding own_seams_below
 tile_start m c = refl
 
@@ -44,7 +44,7 @@ module _ (m : Mosaic) (valid : IsMosaic m) (lat lon : ℤ) where
       ap (sum_by (seams_of m)) (before-step (corners_of m) (corners_rise m valid) lat lon (corners_before lat lon (corners_of m)) refl)
       ∙ sum_by-append (seams_of m) (corners_before lat lon (corners_of m)) (cond (is_listed (place lat lon) (corners_of m)) (place lat lon ∷ []) [])
 
-  pub seams_some : (c : Place) → Some c ≡ named (corners_of m) (corners_rise m valid) lat lon → seams_before m lat (lon +ℤ pos 1) ≡ seams_before m lat lon + seams_of m c
+  pub seams_some : (c : Corner) → Some c ≡ named (corners_of m) (corners_rise m valid) lat lon → seams_before m lat (lon +ℤ pos 1) ≡ seams_before m lat lon + seams_of m c
   seams_some c is = seams-next ∙ by (is_listed (place lat lon) (corners_of m)) is
     where
       by : (b : Bool) → Some c ≡ cond b (Some (place lat lon)) None → seams_before m lat lon + sum_by (seams_of m) (cond b (place lat lon ∷ []) []) ≡ seams_before m lat lon + seams_of m c
@@ -59,7 +59,7 @@ module _ (m : Mosaic) (valid : IsMosaic m) (lat lon : ℤ) where
       by false e = add-zero (seams_before m lat lon)
 
 -- the tile's count is what its place adds
-pub seams_ok : (m : Mosaic) (valid : IsMosaic m) (lat lon : ℤ) (c : Place) (result : Result ℕ Refusal) → Some c ≡ named (corners_of m) (corners_rise m valid) lat lon
+pub seams_ok : (m : Mosaic) (valid : IsMosaic m) (lat lon : ℤ) (c : Corner) (result : Result ℕ Refusal) → Some c ≡ named (corners_of m) (corners_rise m valid) lat lon
     → IfOk result (λ n. n ≡ seams_of m c) → IfOk result (λ n. seams_before m lat (lon +ℤ pos 1) ≡ seams_before m lat lon + n)
 seams_ok m valid lat lon c (Ok n) is counted = seams_some m valid lat lon c is ∙ ap (λ k. seams_before m lat lon + k) (sym counted)
 seams_ok m valid lat lon c (Err r) is counted = tt
@@ -85,7 +85,7 @@ chosen : (Point → Bool) → (ℕ → Point) → ℕ → List Point
 chosen own at zero = []
 chosen own at (suc e) = chosen own at e ++ cond (own (at e)) (at e ∷ []) []
 
-length-chosen : (m : Mosaic) (c : Place) (k : ℕ) → length (chosen (is_own_seam m c) (point_of m.side c) k) ≡ own_seams_below m c k
+length-chosen : (m : Mosaic) (c : Corner) (k : ℕ) → length (chosen (is_own_seam m c) (point_of m.side c) k) ≡ own_seams_below m c k
 unfolding chosen own_seams_below
 length-chosen m c zero = refl
 length-chosen m c (suc e) =
@@ -159,11 +159,11 @@ module _ (own : Point → Bool) (at : ℕ → Point) (p : Point) (within : Bool)
           later false out = rw out (tally-outside (own p) (nat_lt i e) (nat_lt i (suc e)))
 
 -- ---- the points of all tiles
-all_chosen : Mosaic → List Place → List Point
+all_chosen : Mosaic → List Corner → List Point
 all_chosen m [] = []
 all_chosen m (c ∷ cs) = chosen (is_own_seam m c) (point_of m.side c) (m.side * m.side) ++ all_chosen m cs
 
-length-all_chosen : (m : Mosaic) (cs : List Place) → length (all_chosen m cs) ≡ sum_by (seams_of m) cs
+length-all_chosen : (m : Mosaic) (cs : List Corner) → length (all_chosen m cs) ≡ sum_by (seams_of m) cs
 unfolding all_chosen
 length-all_chosen m [] = refl
 length-all_chosen m (c ∷ cs) =
@@ -172,7 +172,7 @@ length-all_chosen m (c ∷ cs) =
     ∙ sym (sum_by-cons (seams_of m) c cs)
 
 module _ (m : Mosaic) (valid : IsMosaic m) (p : Point) where
-  count-tile : (c : Place) → IsTrue (is_corner c) → count_by (same_point p) (chosen (is_own_seam m c) (point_of m.side c) (m.side * m.side)) ≡ cond (is_own_seam m c p && holds m.side c p) 1 0
+  count-tile : (c : Corner) → IsTrue (is_corner c) → count_by (same_point p) (chosen (is_own_seam m c) (point_of m.side c) (m.side * m.side)) ≡ cond (is_own_seam m c p && holds m.side c p) 1 0
   count-tile c corner =
       count-chosen (is_own_seam m c) (point_of m.side c) p (holds m.side c p) (index_of m.side c p)
       (λ held. point_of_index m.side c p (of_test held)) (m.side * m.side)
@@ -193,43 +193,43 @@ module _ (m : Mosaic) (valid : IsMosaic m) (p : Point) where
       settle true false out = refl
       settle false w is = refl
 
-  count-all : (cs : List Place) → All (λ c. IsTrue (is_corner c)) cs → count_by (same_point p) (all_chosen m cs) ≡ sum_by (λ c. cond (is_own_seam m c p && holds m.side c p) 1 0) cs
+  count-all : (cs : List Corner) → All (λ c. IsTrue (is_corner c)) cs → count_by (same_point p) (all_chosen m cs) ≡ sum_by (λ c. cond (is_own_seam m c p && holds m.side c p) 1 0) cs
   unfolding all_chosen
   count-all [] corners = refl
   count-all (c ∷ cs) corners =
       count-append (same_point p) (chosen (is_own_seam m c) (point_of m.side c) (m.side * m.side)) (all_chosen m cs)
       ∙ ap₂ (λ (a b : ℕ). a + b) (count-tile c (All-head (λ d. IsTrue (is_corner d)) c cs corners)) (count-all cs (All-tail (λ d. IsTrue (is_corner d)) c cs corners))
-      ∙ sym (sum_by-cons (λ (d : Place). cond (is_own_seam m d p && holds m.side d p) 1 0) c cs)
+      ∙ sym (sum_by-cons (λ (d : Corner). cond (is_own_seam m d p && holds m.side d p) 1 0) c cs)
 
 -- ---- each disagreeing point counts once
-sum-same : (f g : Place → ℕ) → ((c : Place) → f c ≡ g c) → (cs : List Place) → sum_by f cs ≡ sum_by g cs
+sum-same : (f g : Corner → ℕ) → ((c : Corner) → f c ≡ g c) → (cs : List Corner) → sum_by f cs ≡ sum_by g cs
 sum-same f g same [] = refl
 sum-same f g same (c ∷ cs) = sum_by-cons f c cs ∙ ap₂ (λ (a b : ℕ). a + b) (same c) (sum-same f g same cs) ∙ sym (sum_by-cons g c cs)
 
-sum-nothing : (cs : List Place) → sum_by (λ (c : Place). 0) cs ≡ 0
+sum-nothing : (cs : List Corner) → sum_by (λ (c : Corner). 0) cs ≡ 0
 sum-nothing [] = refl
-sum-nothing (c ∷ cs) = sum_by-cons (λ (d : Place). 0) c cs ∙ zero-add (sum_by (λ (d : Place). 0) cs) ∙ sum-nothing cs
+sum-nothing (c ∷ cs) = sum_by-cons (λ (d : Corner). 0) c cs ∙ zero-add (sum_by (λ (d : Corner). 0) cs) ∙ sum-nothing cs
 
-module _ (f : Place → Bool) (h : Place) where
+module _ (f : Corner → Bool) (h : Corner) where
   -- 1 at the corner, where it passes the test
-  abbrev at_corner : Place → ℕ
-  at_corner c = cond (same_place h c && f c) 1 0
+  abbrev at_corner : Corner → ℕ
+  at_corner c = cond (same_corner h c && f c) 1 0
 
-  sum-unlisted : (cs : List Place) → is_listed h cs ≡ false → sum_by at_corner cs ≡ 0
+  sum-unlisted : (cs : List Corner) → is_listed h cs ≡ false → sum_by at_corner cs ≡ 0
   sum-unlisted [] none = refl
-  sum-unlisted (c ∷ cs) none = by (same_place c h) refl none (sum-unlisted cs)
+  sum-unlisted (c ∷ cs) none = by (same_corner c h) refl none (sum-unlisted cs)
     where
-      by : (b : Bool) → same_place c h ≡ b → (b || is_listed h cs) ≡ false → (is_listed h cs ≡ false → sum_by at_corner cs ≡ 0) → sum_by at_corner (c ∷ cs) ≡ 0
+      by : (b : Bool) → same_corner c h ≡ b → (b || is_listed h cs) ≡ false → (is_listed h cs ≡ false → sum_by at_corner cs ≡ 0) → sum_by at_corner (c ∷ cs) ≡ 0
       by true same e later = absurd (false≢true (sym e))
       by false apart e later =
           let here : at_corner c ≡ 0 = rw (same_comm c h apart) refl in
           sum_by-cons at_corner c cs ∙ ap₂ (λ (a b : ℕ). a + b) here (later e)
 
-  sum-listed : f h ≡ true → (cs : List Place) → Rising itself cs → is_listed h cs ≡ true → sum_by at_corner cs ≡ 1
+  sum-listed : f h ≡ true → (cs : List Corner) → Rising itself cs → is_listed h cs ≡ true → sum_by at_corner cs ≡ 1
   sum-listed passes [] rising none = absurd (false≢true none)
-  sum-listed passes (c ∷ cs) rising listed = by (same_place c h) refl listed (sum-listed passes cs rising.1)
+  sum-listed passes (c ∷ cs) rising listed = by (same_corner c h) refl listed (sum-listed passes cs rising.1)
     where
-      by : (b : Bool) → same_place c h ≡ b → (b || is_listed h cs) ≡ true → (is_listed h cs ≡ true → sum_by at_corner cs ≡ 1) → sum_by at_corner (c ∷ cs) ≡ 1
+      by : (b : Bool) → same_corner c h ≡ b → (b || is_listed h cs) ≡ true → (is_listed h cs ≡ true → sum_by at_corner cs ≡ 1) → sum_by at_corner (c ∷ cs) ≡ 1
       by true same e later =
           let is : h ≡ c = sym (same_says c h same) in
           let here : at_corner c ≡ 1 = rw (same_from h c is, sym (ap f is) ∙ passes) refl in
@@ -239,7 +239,7 @@ module _ (f : Place → Bool) (h : Place) where
           let here : at_corner c ≡ 0 = rw (same_comm c h apart) refl in
           sum_by-cons at_corner c cs ∙ ap₂ (λ (a b : ℕ). a + b) here (later e)
 
-some_holder : (n : ℕ) (p : Point) (tiles : List Tile) → differ (map (λ t. sample_at n t p) tiles) ≡ true → (h : Place) × (rest : List Place) × (map corner_of tiles ≡ h ∷ rest)
+some_holder : (n : ℕ) (p : Point) (tiles : List Tile) → differ (map (λ t. sample_at n t p) tiles) ≡ true → (h : Corner) × (rest : List Corner) × (map corner_of tiles ≡ h ∷ rest)
 some_holder n p [] some = absurd (false≢true some)
 some_holder n p (t ∷ ts) some = (t.corner, map corner_of ts, refl)
 
@@ -260,9 +260,9 @@ module _ (m : Mosaic) (valid : IsMosaic m) (p : Point) where
       let both = and_parts (is_listed h (corners_of m)) (holds m.side h p) (
       sym (listed-filter (λ c. holds m.side c p) h (corners_of m))
       ∙ ap (is_listed h) (sym (holders_filtered m p) ∙ holders)
-      ∙ or_left (same_place h h) (is_listed h found.1) (same_from h h refl)) in
-      sum-same (λ c. cond (is_own_seam m c p && holds m.side c p) 1 0) (λ c. cond (same_place h c && holds m.side c p) 1 0)
-      (λ c. rw (some, holders) (ap (λ b. cond (b && holds m.side c p) 1 0) (and_yes (same_place h c)))) (corners_of m)
+      ∙ or_left (same_corner h h) (is_listed h found.1) (same_from h h refl)) in
+      sum-same (λ c. cond (is_own_seam m c p && holds m.side c p) 1 0) (λ c. cond (same_corner h c && holds m.side c p) 1 0)
+      (λ c. rw (some, holders) (ap (λ b. cond (b && holds m.side c p) 1 0) (and_yes (same_corner h c)))) (corners_of m)
       ∙ sum-listed (λ c. holds m.side c p) h both.1 (corners_of m) (corners_rise m valid) both.0
     where
       and_yes : (b : Bool) → (b && true) ≡ b

@@ -1,16 +1,16 @@
 -- Samples read from a mosaic, and the refusals that a read may meet (this product's own profile).
 use Rattle.std.specs.Prelude.{◌≡◌, ℕ, ◌+◌, ◌≤◌, min, ℤ, List, length, slice_get, slice_range, Some, IsSomeAnd}
-use Rattle.lattice.specs.Corners.{Place}
+use Rattle.lattice.specs.Corners.{Corner}
 use Rattle.lattice.specs.Mosaic.{Mosaic, samples_of}
 use Rattle.lattice.specs.declared.refusal.Refusal.{Refusal}
 use Rattle.lattice.specs.declared.refusal.Refusal.TheVariants.{Device, Failed, Damaged}
 
 -- the corner's tile has this sample at this index
-abbrev pub IsSampleOf : Mosaic → Place → ℕ → ℤ → Type 0
+abbrev pub IsSampleOf : Mosaic → Corner → ℕ → ℤ → Type 0
 IsSampleOf m c i s = IsSomeAnd (samples_of m c) (λ samples. slice_get samples i ≡ Some s)
 
 -- the samples are those of the corner's tile from this index on
-abbrev pub AreSamplesOf : Mosaic → Place → ℕ → List ℤ → Type 0
+abbrev pub AreSamplesOf : Mosaic → Corner → ℕ → List ℤ → Type 0
 AreSamplesOf m c first samples = IsSomeAnd (samples_of m c) (λ all. slice_range all first (first + length samples) ≡ samples)
 
 -- a count has risen, or stands at the largest 64-bit number

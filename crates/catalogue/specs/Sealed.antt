@@ -2,7 +2,7 @@
 -- product's own profile).
 use Rattle.std.specs.Prelude.{◌≡◌, ◌⊎◌, ℕ, ◌+◌, ◌-◌, ◌*◌, nat_lt, ℤ, Bool, ◌&&◌, not, if◌then◌else◌, All}
 use Rattle.std.specs.List.{list_any}
-use Rattle.lattice.specs.Corners.{Place, same_place}
+use Rattle.lattice.specs.Corners.{Corner, same_corner}
 use Rattle.lattice.specs.Lattice.{holds, point_of}
 use Rattle.lattice.specs.Mosaic.{Mosaic}
 use Rattle.lattice.specs.Height.{height_of}
@@ -24,9 +24,9 @@ rim_index n k = if nat_lt k (n - 1) then k else (if nat_lt k (2 * (n - 1)) then 
     else (if nat_lt k (3 * (n - 1)) then (n - 1) * n + (3 * (n - 1) - k) else (4 * (n - 1) - k) * n))
 
 -- a present tile other than the corner's holds the point
-abbrev pub is_held_elsewhere : Mosaic → Place → Point → Bool
-is_held_elsewhere m c p = list_any (λ t. not (same_place t.corner c) && holds m.side t.corner p) m.tiles
+abbrev pub is_held_elsewhere : Mosaic → Corner → Point → Bool
+is_held_elsewhere m c p = list_any (λ t. not (same_corner t.corner c) && holds m.side t.corner p) m.tiles
 
 -- the value is the sample of the corner's tile at the index, or the height of that sample's point
-abbrev pub IsOwnOrHeight : Mosaic → Place → ℕ → ℤ → Type 0
+abbrev pub IsOwnOrHeight : Mosaic → Corner → ℕ → ℤ → Type 0
 IsOwnOrHeight m c e s = IsSampleOf m c e s ⊎ (s ≡ metres (height_of m (point_of m.side c e)))

@@ -1,6 +1,6 @@
 -- Laws of sealing: what a sealed mosaic keeps, and which tiles a block depends on.
 use Rattle.std.specs.Prelude.{◌≡◌, ◌<◌, ℤ, ◌-ℤ◌, nat_abs, IsTrue, IsFalse, List}
-use Rattle.lattice.specs.Corners.{Place, is_corner}
+use Rattle.lattice.specs.Corners.{Corner, is_corner}
 use Rattle.lattice.specs.Lattice.{holds}
 use Rattle.lattice.specs.Mosaic.{Mosaic, IsMosaic, samples_of}
 use Rattle.lattice.specs.Height.{height_of, disagrees}
@@ -34,13 +34,13 @@ abbrev pub SealedTilesAgree : Type 0
 SealedTilesAgree = (m s : Mosaic) → IsMosaic m → IsMosaic s → IsSealed m s → (p : Point) → IsFalse (disagrees s p)
 
 -- the same tiles at most one degree of latitude and one of longitude from the corner: the tile itself and its neighbours
-abbrev pub SameNearby : Mosaic → Mosaic → Place → Type 0
-SameNearby m new c = (d : Place) → nat_abs (d.lat -ℤ c.lat) < 2 → nat_abs (d.lon -ℤ c.lon) < 2 → samples_of new d ≡ samples_of m d
+abbrev pub SameNearby : Mosaic → Mosaic → Corner → Type 0
+SameNearby m new c = (d : Corner) → nat_abs (d.lat -ℤ c.lat) < 2 → nat_abs (d.lon -ℤ c.lon) < 2 → samples_of new d ≡ samples_of m d
 
 -- the heights of a tile's points depend on no other tile
 abbrev pub HeightsAreLocal : Type 0
-HeightsAreLocal = (m new : Mosaic) → IsMosaic m → IsMosaic new → new.side ≡ m.side → (c : Place) → SameNearby m new c → (p : Point) → IsTrue (holds m.side c p) → height_of new p ≡ height_of m p
+HeightsAreLocal = (m new : Mosaic) → IsMosaic m → IsMosaic new → new.side ≡ m.side → (c : Corner) → SameNearby m new c → (p : Point) → IsTrue (holds m.side c p) → height_of new p ≡ height_of m p
 
 -- nor does its block
 abbrev pub BlocksAreLocal : Type 0
-BlocksAreLocal = (m new : Mosaic) → IsMosaic m → IsMosaic new → new.side ≡ m.side → (c : Place) → SameNearby m new c → IsTrue (is_corner c) → (heights : List ℤ) → IsBlockOf m c heights → IsBlockOf new c heights
+BlocksAreLocal = (m new : Mosaic) → IsMosaic m → IsMosaic new → new.side ≡ m.side → (c : Corner) → SameNearby m new c → IsTrue (is_corner c) → (heights : List ℤ) → IsBlockOf m c heights → IsBlockOf new c heights

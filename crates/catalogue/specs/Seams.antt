@@ -1,6 +1,6 @@
 -- How many points tiles disagree on (this product's own profile).
 use Rattle.std.specs.Prelude.{◌≡◌, ℕ, ◌+◌, ◌-◌, ◌*◌, ◌/◌, ◌%◌, ◌==◌, ℤ, Bool, false, ◌&&◌, ◌||◌, if◌then◌else◌, List, [], ◌∷◌, length, map, filter, count_by, sum_by, zero, suc}
-use Rattle.lattice.specs.Corners.{Place, same_place}
+use Rattle.lattice.specs.Corners.{Corner, same_corner}
 use Rattle.lattice.specs.Lattice.{holds, point_of}
 use Rattle.lattice.specs.Mosaic.{Mosaic}
 use Rattle.lattice.specs.Height.{disagrees}
@@ -15,23 +15,23 @@ pub record IsSeamCount (m : Mosaic) (n : ℕ) : Type 0 where
   pub count : length points ≡ n
 
 -- the corners of the present tiles that hold the point, in order
-abbrev pub present_holders : Mosaic → Point → List Place
+abbrev pub present_holders : Mosaic → Point → List Corner
 present_holders m p = map (λ t. t.corner) (filter (λ t. holds m.side t.corner p) m.tiles)
 
-abbrev pub is_first : Place → List Place → Bool
+abbrev pub is_first : Corner → List Corner → Bool
 is_first c [] = false
-is_first c (d ∷ rest) = same_place d c
+is_first c (d ∷ rest) = same_corner d c
 
 -- the point disagrees, and no tile before the corner's holds it
-abbrev pub is_own_seam : Mosaic → Place → Point → Bool
+abbrev pub is_own_seam : Mosaic → Corner → Point → Bool
 is_own_seam m c p = is_first c (present_holders m p) && disagrees m p
 
 -- how many of the first so many samples of the corner's tile lie at such points
-unfoldable pub own_seams_below : Mosaic → Place → ℕ → ℕ
+unfoldable pub own_seams_below : Mosaic → Corner → ℕ → ℕ
 own_seams_below m c zero = 0
 own_seams_below m c (suc e) = own_seams_below m c e + (if is_own_seam m c (point_of m.side c e) then 1 else 0)
 
-abbrev pub seams_of : Mosaic → Place → ℕ
+abbrev pub seams_of : Mosaic → Corner → ℕ
 seams_of m c = own_seams_below m c (m.side * m.side)
 
 -- those of the tiles whose corners stand before this latitude and longitude

@@ -1,7 +1,7 @@
 //! Where samples come from.
 ghost use Rattle.std.specs.Prelude.{◌≡◌, ◌≤◌, ◌<◌, ◌+◌, ◌*◌, ◌↔◌, ℕ, List, length, map, IsTrue, IsOk, IfOk, IfErr, OnOk, OnErr, Contains};
 ghost use Rattle.std.specs.List.{AllAdjacentBelow};
-ghost use Rattle.lattice.specs.Corners.{Place};
+ghost use Rattle.lattice.specs.Corners.{Corner};
 ghost use Rattle.lattice.specs.Lattice.{IsBefore};
 ghost use Rattle.lattice.specs.Mosaic.{Mosaic, IsMosaic};
 ghost use Rattle.lattice.specs.declared.refusal.Refusal.TheVariants.{Device};
@@ -19,7 +19,7 @@ pub trait Samples {
     ghost side_of: { Self → ℕ };
 
     /// The corners of its tiles, in order. They are held in memory, and so known whatever a disk does.
-    ghost corners: { Self → List Place };
+    ghost corners: { Self → List Corner };
 
     /// The mosaic that it stands for, where it is honest.
     ghost mosaic: { Self → Mosaic };

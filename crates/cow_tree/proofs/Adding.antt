@@ -3,7 +3,7 @@ use Rattle.std.proofs.Common.{◌≡◌, ℕ, zero, suc, ◌+◌, ◌<◌, ◌�
 use Rattle.std.specs.List.{list_any}
 use Rattle.std.proofs.lemmas.List.Elements.{All-nil, All-cons, All-head, All-tail}
 use Rattle.disk.specs.Disk.{Image}
-use Rattle.lattice.specs.Corners.{Place, is_before}
+use Rattle.lattice.specs.Corners.{Corner, is_before}
 use Rattle.cow_tree.specs.Places.{PlanePlace, pages_of_plane, times}
 use Rattle.cow_tree.specs.Layout.{TilePlace, pages_of_kept, pages_of_tile, reached, tile_in, HasRecord, HaveKeptRecords}
 use Rattle.cow_tree.specs.Charts.{ChartValue, IsChart, IsAdded, IsFresh, IsPlaced, HasHeights, with_tile_place, is_changed}
@@ -85,7 +85,7 @@ still_records n committed (t ∷ rest) a b same had =
       kept = All-cons (λ t. IfSome t.kept (HaveKeptRecords n b)) t rest (kept_records_same n t.kept a b (All-back (λ q. a q ≡ b q) (pages_of_plane t.heights) (pages_of_kept t.kept) here) (All-head (λ t. IfSome t.kept (HaveKeptRecords n a)) t rest had.kept)) later.kept;
     }
 
-pub staged_with : (n : ℕ) (committed tiles : List TilePlace) (c : Place) (place : PlanePlace) (a b : Image) → list_any (λ q. q == place.record_page) (reached committed) ≡ false → SameOn (reached tiles) a b → AreStaged n committed tiles a
+pub staged_with : (n : ℕ) (committed tiles : List TilePlace) (c : Corner) (place : PlanePlace) (a b : Image) → list_any (λ q. q == place.record_page) (reached committed) ≡ false → SameOn (reached tiles) a b → AreStaged n committed tiles a
     → AreStaged n committed (with_tile_place (record { corner = c; heights = place; kept = None }) tiles) b
 staged_with n committed tiles c place a b fresh same had =
     let t : TilePlace = record { corner = c; heights = place; kept = None } in
@@ -101,7 +101,7 @@ contains-map f (y ∷ ys) x (zero, lt, here) = (0, omega arith, ap f here)
 contains-map f (y ∷ ys) x (suc k, lt, here) = let later = contains-map f ys x (k, omega arith, here) in (suc later.0, omega (arith, later.1), later.2)
 
 -- a tile was added to a chart
-module _ (old new : ChartValue) (c : Place) (rules : IsChart new) (added : IsAdded c old new) where
+module _ (old new : ChartValue) (c : Corner) (rules : IsChart new) (added : IsAdded c old new) where
   staged_is : new.staged ≡ with_tile_place (record { corner = c; heights = added.place; kept = None }) old.staged
   staged_is = ap (λ (x : ChartValue). x.staged) added.changed
 

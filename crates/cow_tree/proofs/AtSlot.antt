@@ -3,7 +3,7 @@ use Rattle.std.proofs.Common.{◌≡◌, ℕ, suc, ◌+◌, ◌<◌, ◌≤◌, 
 use Rattle.std.specs.Prelude.{Option, Some, None, IsSome, is_some, IfSome, Contains, filter, not, option_map, Result, Ok, Err, IfOk, OnErr}
 use Rattle.std.proofs.lemmas.List.{set_split}
 use Rattle.std.proofs.lemmas.Bool.{false≢true}
-use Rattle.lattice.specs.Corners.{Place}
+use Rattle.lattice.specs.Corners.{Corner}
 use Rattle.lattice.specs.declared.refusal.Refusal.{Refusal}
 use Rattle.catalogue.proofs.Rising.{Rising, rising_from}
 use Rattle.page_alloc.specs.Pages.{PageSet}
@@ -23,7 +23,7 @@ use Rattle.cow_tree.proofs.SlotLists.{corner_of, times-split, reached_all, slot_
 use Rattle.cow_tree.proofs.SlotChanges.{all_middle, kept_change, same_committed, chart_changed, staged_without, slot_fresh, rewritten, rewritten_kept}
 use Rattle.cow_tree.proofs.Lookup.{split_of, not_placed, placed_here, tile_is, tile_here, room_other}
 
-heights_le : (p : ℕ) (c : Place) (o : Option TilePlanes) → times p (heights_pages o) ≤ times p (pages_of_place (option_map (tile_at c) o))
+heights_le : (p : ℕ) (c : Corner) (o : Option TilePlanes) → times p (heights_pages o) ≤ times p (pages_of_place (option_map (tile_at c) o))
 heights_le p c None = omega arith
 heights_le p c (Some planes) = omega (arith, times-append p planes.heights.pages (pages_of_kept planes.kept))
 
@@ -31,10 +31,10 @@ length-filter-le : (p : TilePlace → Bool) (tiles : List TilePlace) → length 
 length-filter-le p [] = omega arith
 length-filter-le p (t ∷ rest) = let later = length-filter-le p rest in elim (p t) as (λ b. length (cond b (t ∷ filter p rest) (filter p rest)) ≤ suc (length rest)) [ true ↦ omega arith | false ↦ omega arith ]
 
-pub no_slot : (c : Place) (at : ℕ) (slots : List Slot) → IsRoomAt c at slots → IsPlaced c (staged_tiles slots) → ⊥
+pub no_slot : (c : Corner) (at : ℕ) (slots : List Slot) → IsRoomAt c at slots → IsPlaced c (staged_tiles slots) → ⊥
 no_slot c at slots room placed = not_placed c (staged_tiles slots) (room_other c at slots room) placed
 
-module _ (side capacity : ℕ) (slots : List Slot) (free : PageSet) (kept : IsKept side capacity slots free) (c : Place) (at : ℕ) (found : IsSlotAt c at slots) (s : Slot) (is : s ≡ get_or slots at s) where
+module _ (side capacity : ℕ) (slots : List Slot) (free : PageSet) (kept : IsKept side capacity slots free) (c : Corner) (at : ℕ) (found : IsSlotAt c at slots) (s : Slot) (is : s ≡ get_or slots at s) where
   abbrev before : List Slot
   before = take at slots
 
@@ -54,7 +54,7 @@ module _ (side capacity : ℕ) (slots : List Slot) (free : PageSet) (kept : IsKe
   rising_there = rising_from corner_of (before ++ s ∷ after) kept_there.in_order
 
   pub present_there : IsPlaced c (staged_tiles slots) → IsPlaced s.corner (staged_tiles (before ++ s ∷ after))
-  present_there placed = subst (λ (d : Place). IsPlaced d (staged_tiles (before ++ s ∷ after))) (sym corner) (subst (λ (l : List Slot). IsPlaced c (staged_tiles l)) split placed)
+  present_there placed = subst (λ (d : Corner). IsPlaced d (staged_tiles (before ++ s ∷ after))) (sym corner) (subst (λ (l : List Slot). IsPlaced c (staged_tiles l)) split placed)
 
   pub present : IsPlaced c (staged_tiles slots) → IsSome (staged_tile s)
   present placed = placed_here before s after rising_there (present_there placed)
@@ -83,7 +83,7 @@ module _ (side capacity : ℕ) (slots : List Slot) (free : PageSet) (kept : IsKe
       let own = ap (λ (o : Option TilePlace). times t.heights.record_page (pages_of_place o)) here in
       omega (arith, whole, own, times-split (λ (x : Slot). pages_of_place (committed_tile x)) t.heights.record_page before s after, one-self t.heights.record_page)))
     where
-      by : (d : Place) (o : Option TilePlanes) (g : Staged) → staged_as d o g ≡ Some t → ¬ Contains (reached (committed_tiles slots)) t.heights.record_page
+      by : (d : Corner) (o : Option TilePlanes) (g : Staged) → staged_as d o g ≡ Some t → ¬ Contains (reached (committed_tiles slots)) t.heights.record_page
           → (option_map (tile_at d) o ≡ Some t → Contains (reached (committed_tiles slots)) t.heights.record_page) → stages_heights_as g ≡ true
       by d o AsCommitted had unreached reaches = absurd (unreached (reaches had))
       by d o (Heights place keeps) had unreached reaches = refl
@@ -116,7 +116,7 @@ module _ (side capacity : ℕ) (slots : List Slot) (free : PageSet) (kept : IsKe
           by (Ok page) staged =
               subst (λ (l : List Slot). IsRewritten c i page (chart_of side capacity l free) (chart_of side capacity (set slots at new) now)) (sym split)
               (subst (λ (l : List Slot). IsRewritten c i page (chart_of side capacity (before ++ s ∷ after) free) (chart_of side capacity l now)) (sym set_is)
-              (subst (λ (d : Place). IsRewritten d i page (chart_of side capacity (before ++ s ∷ after) free) (chart_of side capacity (before ++ new ∷ after) now)) corner
+              (subst (λ (d : Corner). IsRewritten d i page (chart_of side capacity (before ++ s ∷ after) free) (chart_of side capacity (before ++ new ∷ after) now)) corner
               (rewritten side capacity before s new after free now kept_there i page staged restaged)))
           by (Err refusal) staged = tt
 
@@ -167,5 +167,5 @@ module _ (side capacity : ℕ) (slots : List Slot) (free : PageSet) (kept : IsKe
     is_removed =
         ap (λ (l : List Slot). chart_of side capacity l free) (set_is without free)
         ∙ (chart_changed side capacity before s without after free free refl refl _ removed_tiles
-        ∙ (ap (λ (d : Place). record (chart_of side capacity (before ++ s ∷ after) free) { staged = without_place d (staged_tiles (before ++ s ∷ after)) }) corner
+        ∙ (ap (λ (d : Corner). record (chart_of side capacity (before ++ s ∷ after) free) { staged = without_place d (staged_tiles (before ++ s ∷ after)) }) corner
         ∙ ap (λ (l : List Slot). record (chart_of side capacity l free) { staged = without_place c (staged_tiles l) }) (sym split)))

@@ -5,7 +5,7 @@ use Rattle.std.specs.List.{filter_map, flat_map, cons_option, AllByRecursion}
 use Rattle.std.proofs.lemmas.Bool.{false≢true}
 use Rattle.std.proofs.lemmas.List.{append_assoc}
 use Rattle.std.proofs.lemmas.List.Elements.{filter_map-append, All-nil, All-cons, Contains-append_right}
-use Rattle.lattice.specs.Corners.{Place, is_corner}
+use Rattle.lattice.specs.Corners.{Corner, is_corner}
 use Rattle.catalogue.proofs.Rising.{Rising, rising_from, adjacent_from}
 use Rattle.page_alloc.specs.Pages.{PageSet}
 use Rattle.cow_tree.specs.declared.places.TilePlanes.{TilePlanes}
@@ -34,7 +34,7 @@ page_rule sectors tiles few = record {
 pub staged_le : (p : ℕ) (s : Slot) → times p (pages_of_place (staged_tile s)) ≤ times p (pages_of_place (committed_tile s)) + times p (fresh_pages s)
 staged_le p s = by s.corner s.committed s.staged
   where
-    by : (c : Place) (o : Option TilePlanes) (g : Staged) → times p (pages_of_place (staged_as c o g)) ≤ times p (pages_of_place (option_map (tile_at c) o)) + times p (fresh_as o g)
+    by : (c : Corner) (o : Option TilePlanes) (g : Staged) → times p (pages_of_place (staged_as c o g)) ≤ times p (pages_of_place (option_map (tile_at c) o)) + times p (fresh_as o g)
     by c o AsCommitted = omega arith
     by c o (Heights place keeps) = omega (arith, replaced_count p c o place keeps)
     by c o Removed = omega arith
@@ -117,13 +117,13 @@ is_in side capacity slots free counted =
 staged_in_chart : (chart : ChartValue) (s : Slot) → IsIn chart s → IfSome (staged_tile s) (IsStagedIn chart)
 staged_in_chart chart s is = by s.corner s.committed s.staged is.committed is.fresh
   where
-    kept_by : (c : Place) (o : Option TilePlanes) (keeps : Bool) → IfSome (option_map (tile_at c) o) (Contains chart.committed) → IsSome (cond keeps (kept_of o) None) → Contains (map (λ (u : TilePlace). u.kept) chart.committed) (cond keeps (kept_of o) None)
+    kept_by : (c : Corner) (o : Option TilePlanes) (keeps : Bool) → IfSome (option_map (tile_at c) o) (Contains chart.committed) → IsSome (cond keeps (kept_of o) None) → Contains (map (λ (u : TilePlace). u.kept) chart.committed) (cond keeps (kept_of o) None)
     kept_by c None true there some = absurd (false≢true some)
     kept_by c None false there some = absurd (false≢true some)
     kept_by c (Some planes) true there some = contains_map (λ (u : TilePlace). u.kept) chart.committed (tile_at c planes) there
     kept_by c (Some planes) false there some = absurd (false≢true some)
 
-    by : (c : Place) (o : Option TilePlanes) (g : Staged) → IfSome (option_map (tile_at c) o) (Contains chart.committed) → ((p : ℕ) → 1 ≤ times p (fresh_as o g) → IsFresh chart p) → IfSome (staged_as c o g) (IsStagedIn chart)
+    by : (c : Corner) (o : Option TilePlanes) (g : Staged) → IfSome (option_map (tile_at c) o) (Contains chart.committed) → ((p : ℕ) → 1 ≤ times p (fresh_as o g) → IsFresh chart p) → IfSome (staged_as c o g) (IsStagedIn chart)
     by c None AsCommitted there fresh = tt
     by c (Some planes) AsCommitted there fresh = record { settled = inl there; kept = λ some. contains_map (λ (u : TilePlace). u.kept) chart.committed (tile_at c planes) there }
     by c o (Heights place keeps) there fresh = record { settled = inr (fresh place.record_page (omega (arith, one-self place.record_page))); kept = kept_by c o keeps there }
@@ -131,7 +131,7 @@ staged_in_chart chart s is = by s.corner s.committed s.staged is.committed is.fr
 
 own_corner : (s : Slot) (o : Option TilePlace) → IfSome o (λ t. t.corner ≡ s.corner) → IsTrue (is_corner s.corner) → IfSome o (λ t. IsTrue (is_corner t.corner))
 own_corner s None own degrees = tt
-own_corner s (Some t) own degrees = subst (λ (d : Place). IsTrue (is_corner d)) (sym own) degrees
+own_corner s (Some t) own degrees = subst (λ (d : Corner). IsTrue (is_corner d)) (sym own) degrees
 
 -- ---- a chart
 pub charted : (side capacity : ℕ) (slots : List Slot) (free : PageSet) → IsKept side capacity slots free → IsChart (chart_of side capacity slots free)

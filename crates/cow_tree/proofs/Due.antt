@@ -6,7 +6,7 @@ use Rattle.std.proofs.lemmas.Bool.Decides.{nat_tests}
 use Rattle.std.proofs.lemmas.List.{length-map}
 use Rattle.std.proofs.lemmas.List.Folds.{list_any_at}
 use Rattle.std.proofs.lemmas.List.Elements.{All-nil, All-cons, All-head, All-tail, All-weaker, All-contains_itself}
-use Rattle.lattice.specs.Corners.{Place, is_before}
+use Rattle.lattice.specs.Corners.{Corner, is_before}
 use Rattle.catalogue.proofs.Places.{same_says, same_from, after_not_same}
 use Rattle.catalogue.proofs.Rising.{AllAfter, Rising, rising_from}
 use Rattle.cow_tree.specs.Layout.{TilePlace, pages_of_kept, pages_of_tile, reached}
@@ -42,11 +42,11 @@ none_due chart clean =
     (ap (filter (is_changed chart.committed)) clean ∙ filter_none (is_changed chart.committed) chart.committed (none_changed chart.committed))
 
 -- ---- the tiles at a corner
-after_other : (c : Place) (tiles : List TilePlace) → AllAfter corner_of c tiles → All (λ t. is_at c t ≡ false) tiles
+after_other : (c : Corner) (tiles : List TilePlace) → AllAfter corner_of c tiles → All (λ t. is_at c t ≡ false) tiles
 after_other c [] after = All-nil (λ t. is_at c t ≡ false)
 after_other c (t ∷ rest) after = All-cons (λ t. is_at c t ≡ false) t rest (after_not_same c t.corner after.0) (after_other c rest after.1)
 
-module _ (c : Place) (test : TilePlace → Bool) where
+module _ (c : Corner) (test : TilePlace → Bool) where
   at_most_one : (tiles : List TilePlace) → Rising corner_of tiles → length (filter (λ t. is_at c t && test t) tiles) ≤ 1
   at_most_one [] rising = omega arith
   at_most_one (t ∷ rest) rising =
@@ -61,7 +61,7 @@ module _ (c : Place) (test : TilePlace → Bool) where
           let none : filter (λ t. is_at c t && test t) rest ≡ [] =
           filter_none (λ t. is_at c t && test t) rest
           (All-weaker (λ t. is_at c t ≡ false) (λ t. (is_at c t && test t) ≡ false) (λ u other. ap (λ (v : Bool). v && test u) other) rest
-          (after_other c rest (subst (λ (d : Place). AllAfter corner_of d rest) (same_says t.corner c here) rising.0))) in
+          (after_other c rest (subst (λ (d : Corner). AllAfter corner_of d rest) (same_says t.corner c here) rising.0))) in
           subst (λ (l : List TilePlace). length (cond (test t) (t ∷ l) l) ≤ 1) (sym none) (few (test t))
         where
           few : (v : Bool) → length (cond v (t ∷ []) []) ≤ 1
@@ -69,7 +69,7 @@ module _ (c : Place) (test : TilePlace → Bool) where
           few false = omega arith
 
 -- tiles of which those at the corner pass the test once they are changed
-module _ (c : Place) (test : TilePlace → Bool) (f : TilePlace → TilePlace) (others : (t : TilePlace) → is_at c t ≡ false → f t ≡ t) (here : (t : TilePlace) → is_at c t ≡ true → test (f t) ≡ true) where
+module _ (c : Corner) (test : TilePlace → Bool) (f : TilePlace → TilePlace) (others : (t : TilePlace) → is_at c t ≡ false → f t ≡ t) (here : (t : TilePlace) → is_at c t ≡ true → test (f t) ≡ true) where
   count_changed : (tiles : List TilePlace) → length (filter test (map f tiles)) ≡ length (filter test tiles) + length (filter (λ t. is_at c t && not (test t)) tiles)
   count_changed [] = refl
   count_changed (t ∷ rest) =
@@ -91,13 +91,13 @@ module _ (c : Place) (test : TilePlace → Bool) (f : TilePlace → TilePlace) (
       other later true = omega (arith, later)
       other later false = omega (arith, later)
 
-pub placed_tile : (c : Place) (tiles : List TilePlace) → IsPlaced c tiles → (t : TilePlace) × (Contains tiles t × (t.corner ≡ c))
+pub placed_tile : (c : Corner) (tiles : List TilePlace) → IsPlaced c tiles → (t : TilePlace) × (Contains tiles t × (t.corner ≡ c))
 placed_tile c [] (k, lt, here) = absurd (omega (arith, lt))
 placed_tile c (t ∷ rest) (zero, lt, here) = (t, ((0, omega arith, refl), here))
 placed_tile c (t ∷ rest) (suc k, lt, here) = let later = placed_tile c rest (k, omega arith, here) in (later.0, ((suc later.1.0.0, omega (arith, later.1.0.1), later.1.0.2), later.1.1))
 
 -- ---- a record moved to a fresh page, with or without a page
-module _ (old new : ChartValue) (c : Place) (record_page : ℕ) (f : TilePlace → TilePlace) (others : (t : TilePlace) → is_at c t ≡ false → f t ≡ t)
+module _ (old new : ChartValue) (c : Corner) (record_page : ℕ) (f : TilePlace → TilePlace) (others : (t : TilePlace) → is_at c t ≡ false → f t ≡ t)
     (moved : (t : TilePlace) → is_at c t ≡ true → (f t).heights.record_page ≡ record_page) (corner : (t : TilePlace) → (f t).corner ≡ t.corner)
     (rules : IsChart old) (fresh : IsFresh new record_page) (changed : new ≡ record old { staged = map f old.staged }) where
   committed_same : new.committed ≡ old.committed
@@ -153,7 +153,7 @@ module _ (old new : ChartValue) (c : Place) (record_page : ℕ) (f : TilePlace �
       at_corner : (t : TilePlace) → t.corner ≡ c → is_at c t ≡ true
       at_corner t same = same_from t.corner c same
 
-  pub staged_still : (other : Place) → HasFreshHeights other old → HasFreshHeights other new
+  pub staged_still : (other : Corner) → HasFreshHeights other old → HasFreshHeights other new
   staged_still other (t, (staged, here, was_fresh)) = (
     f t,
     (
@@ -174,7 +174,7 @@ module _ (old new : ChartValue) (c : Place) (record_page : ℕ) (f : TilePlace �
       }
 
 -- a page written
-module _ (old new : ChartValue) (c : Place) (i page : ℕ) (rules : IsChart old) (written : IsRewritten c i page old new) where
+module _ (old new : ChartValue) (c : Corner) (i page : ℕ) (rules : IsChart old) (written : IsRewritten c i page old new) where
   abbrev rewrite : TilePlace → TilePlace
   rewrite = with_page_place_in c i page written.record_page
 
@@ -196,11 +196,11 @@ module _ (old new : ChartValue) (c : Place) (i page : ℕ) (rules : IsChart old)
   pub written_here : IsPlaced c old.staged → HasFreshHeights c new
   written_here placed = staged_here old new c written.record_page rewrite rewrite_other rewrite_here rewrite_corner rules written.fresh_record written.changed placed
 
-  pub written_still : (other : Place) → HasFreshHeights other old → HasFreshHeights other new
+  pub written_still : (other : Corner) → HasFreshHeights other old → HasFreshHeights other new
   written_still other had = staged_still old new c written.record_page rewrite rewrite_other rewrite_here rewrite_corner rules written.fresh_record written.changed other had
 
 -- a tile prepared
-module _ (old new : ChartValue) (c : Place) (rules : IsChart old) (prepared : IsPrepared c old new) where
+module _ (old new : ChartValue) (c : Corner) (rules : IsChart old) (prepared : IsPrepared c old new) where
   abbrev prepare : TilePlace → TilePlace
   prepare = with_record_in c prepared.record_page
 
@@ -222,7 +222,7 @@ module _ (old new : ChartValue) (c : Place) (rules : IsChart old) (prepared : Is
   pub prepared_placed : IsPlaced c old.staged → HasFreshHeights c new
   prepared_placed placed = staged_here old new c prepared.record_page prepare prepare_other prepare_here prepare_corner rules prepared.fresh_record prepared.changed placed
 
-  pub prepared_still : (other : Place) → HasFreshHeights other old → HasFreshHeights other new
+  pub prepared_still : (other : Corner) → HasFreshHeights other old → HasFreshHeights other new
   prepared_still other had = staged_still old new c prepared.record_page prepare prepare_other prepare_here prepare_corner rules prepared.fresh_record prepared.changed other had
 
 -- ---- a tile added
@@ -244,9 +244,9 @@ corners_added t (u ∷ rest) = by_test (is_before t.corner u.corner) (corners_ad
   where
     by_test : (v : Bool) → corners_of_places (with_tile_place t rest) ≡ with_corner t.corner (corners_of_places rest) → corners_of_places (if v then t ∷ (u ∷ rest) else u ∷ with_tile_place t rest) ≡ (if v then t.corner ∷ (u.corner ∷ corners_of_places rest) else u.corner ∷ with_corner t.corner (corners_of_places rest))
     by_test true later = refl
-    by_test false later = ap (λ (l : List Place). u.corner ∷ l) later
+    by_test false later = ap (λ (l : List Corner). u.corner ∷ l) later
 
-module _ (old new : ChartValue) (c : Place) (added : IsAdded c old new) where
+module _ (old new : ChartValue) (c : Corner) (added : IsAdded c old new) where
   abbrev tile : TilePlace
   tile = record { corner = c; heights = added.place; kept = None }
 
@@ -295,7 +295,7 @@ count_filtered test p (t ∷ rest) =
     goes later true = omega (arith, later)
     goes later false = later
 
-pub without_due : (old new : ChartValue) (c : Place) → new ≡ record old { staged = without_place c old.staged } → length (fresh_corners new) ≤ length (fresh_corners old)
+pub without_due : (old new : ChartValue) (c : Corner) → new ≡ record old { staged = without_place c old.staged } → length (fresh_corners new) ≤ length (fresh_corners old)
 without_due old new c removed =
     let mapped : length (fresh_corners new) ≡ length (corners_of_places (filter (is_changed old.committed) (without_place c old.staged))) = ap (λ (x : ChartValue). length (fresh_corners x)) removed in
     let one : length (corners_of_places (filter (is_changed old.committed) (without_place c old.staged))) ≡ length (filter (is_changed old.committed) (without_place c old.staged)) = length-map (filter (is_changed old.committed) (without_place c old.staged)) corner_of in

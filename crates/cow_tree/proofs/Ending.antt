@@ -5,7 +5,7 @@ use Rattle.std.specs.List.{filter_map, cons_option, AllByRecursion, flat_map}
 use Rattle.std.proofs.Math.Seq.{split_at}
 use Rattle.std.proofs.lemmas.List.{set_split, length-set, get_or-set_other, get_or-set_same, get_or_default}
 use Rattle.std.proofs.lemmas.Bool.{cases_eq}
-use Rattle.lattice.specs.Corners.{Place, is_before, is_corner}
+use Rattle.lattice.specs.Corners.{Corner, is_before, is_corner}
 use Rattle.catalogue.proofs.Rising.{AllAfter, Rising, rising_from, adjacent_from, rising-filter}
 use Rattle.page_alloc.specs.Pages.{PageSet}
 use Rattle.cow_tree.specs.declared.places.TilePlanes.{TilePlanes}
@@ -96,18 +96,18 @@ ended_tiles ending (s ∷ old) [] ended = absurd ended
 ended_tiles ending (s ∷ old) (n ∷ new) ended =
     ap (λ (o : Option TilePlace). cons_option o (committed_tiles new)) ended.0.committed ∙ ap (λ (l : List TilePlace). cons_option (ended_tile ending s) l) (ended_tiles ending old new ended.1)
 
-ended_after : (ending : Ending) (c : Place) (old new : List Slot) → AllEnded ending old new → AllAfter corner_of c old → AllAfter corner_of c new
+ended_after : (ending : Ending) (c : Corner) (old new : List Slot) → AllEnded ending old new → AllAfter corner_of c old → AllAfter corner_of c new
 ended_after ending c [] [] ended h = tt
 ended_after ending c [] (n ∷ new) ended h = absurd ended
 ended_after ending c (s ∷ old) [] ended h = absurd ended
-ended_after ending c (s ∷ old) (n ∷ new) ended h = (subst (λ (d : Place). IsTrue (is_before c d)) (sym ended.0.corner) h.0, ended_after ending c old new ended.1 h.1)
+ended_after ending c (s ∷ old) (n ∷ new) ended h = (subst (λ (d : Corner). IsTrue (is_before c d)) (sym ended.0.corner) h.0, ended_after ending c old new ended.1 h.1)
 
 ended_rising : (ending : Ending) (old new : List Slot) → AllEnded ending old new → Rising corner_of old → Rising corner_of new
 ended_rising ending [] [] ended h = tt
 ended_rising ending [] (n ∷ new) ended h = absurd ended
 ended_rising ending (s ∷ old) [] ended h = absurd ended
 ended_rising ending (s ∷ old) (n ∷ new) ended h =
-    (subst (λ (d : Place). AllAfter corner_of d new) (sym ended.0.corner) (ended_after ending s.corner old new ended.1 h.0), ended_rising ending old new ended.1 h.1)
+    (subst (λ (d : Corner). AllAfter corner_of d new) (sym ended.0.corner) (ended_after ending s.corner old new ended.1 h.0), ended_rising ending old new ended.1 h.1)
 
 -- one slot that has ended: its tiles are the same, and it has no fresh pages
 record IsSettledSlot (side : ℕ) (s : Slot) : Type 0 where
@@ -120,7 +120,7 @@ ended_settled side ending [] [] ended sound = tt
 ended_settled side ending [] (n ∷ new) ended sound = absurd ended
 ended_settled side ending (s ∷ old) [] ended sound = absurd ended
 ended_settled side ending (s ∷ old) (n ∷ new) ended sound = (
-  record { corner = subst (λ (d : Place). IsTrue (is_corner d)) (sym ended.0.corner) sound.0.corner; staged = ended.0.staged; whole = subst (λ (o : Option TilePlace). IfSome o (IsWholeTile side)) (sym ended.0.committed) (whole ending) },
+  record { corner = subst (λ (d : Corner). IsTrue (is_corner d)) (sym ended.0.corner) sound.0.corner; staged = ended.0.staged; whole = subst (λ (o : Option TilePlace). IfSome o (IsWholeTile side)) (sym ended.0.committed) (whole ending) },
   ended_settled side ending old new ended.1 sound.1,
 )
   where
@@ -135,7 +135,7 @@ left_committed : (slots : List Slot) → committed_tiles (filter is_left slots) 
 left_committed [] = refl
 left_committed (s ∷ rest) = by s.corner s.committed s.staged (left_committed rest)
   where
-    by : (c : Place) (o : Option TilePlanes) (g : Staged) → committed_tiles (filter is_left rest) ≡ committed_tiles rest
+    by : (c : Corner) (o : Option TilePlanes) (g : Staged) → committed_tiles (filter is_left rest) ≡ committed_tiles rest
         → committed_tiles (cond (is_some o) (record { corner = c; committed = o; staged = g } ∷ filter is_left rest) (filter is_left rest)) ≡ cons_option (option_map (tile_at c) o) (committed_tiles rest)
     by c None g same = same
     by c (Some planes) g same = ap (λ (l : List TilePlace). tile_at c planes ∷ l) same
@@ -144,7 +144,7 @@ left_staged : (side : ℕ) (slots : List Slot) → AllByRecursion (IsSettledSlot
 left_staged side [] all = refl
 left_staged side (s ∷ rest) all = by s.corner s.committed s.staged all.0.staged (left_staged side rest all.1)
   where
-    by : (c : Place) (o : Option TilePlanes) (g : Staged) → g ≡ AsCommitted → staged_tiles (filter is_left rest) ≡ committed_tiles rest
+    by : (c : Corner) (o : Option TilePlanes) (g : Staged) → g ≡ AsCommitted → staged_tiles (filter is_left rest) ≡ committed_tiles rest
         → staged_tiles (cond (is_some o) (record { corner = c; committed = o; staged = g } ∷ filter is_left rest) (filter is_left rest)) ≡ cons_option (option_map (tile_at c) o) (committed_tiles rest)
     by c None g is same = same
     by c (Some planes) g is same = ap (λ h. cons_option (staged_as c (Some planes) h) (staged_tiles (filter is_left rest))) is ∙ ap (λ (l : List TilePlace). tile_at c planes ∷ l) same

@@ -5,7 +5,7 @@ use Rattle.std.specs.List.{cons_option, list_any}
 use Rattle.std.proofs.lemmas.List.{take_more, length-append, map-append, length-map}
 use Rattle.std.proofs.lemmas.List.Elements.{filter_map-append, filter-append, All-append, All-cons, All-nil}
 use Rattle.std.proofs.lemmas.Bool.{false≢true, cases_eq, eq-eqb, ne_eqb}
-use Rattle.lattice.specs.Corners.{Place}
+use Rattle.lattice.specs.Corners.{Corner}
 use Rattle.catalogue.proofs.Rising.{AllAfter, Rising, rising_from, adjacent_from}
 use Rattle.page_alloc.specs.Pages.{PageSet}
 use Rattle.page_codec.specs.Entries.{EntryValue, IsEntry, IsPage}
@@ -133,7 +133,7 @@ module _ (side capacity : ℕ) (slots : List Slot) (free : PageSet) (kept : IsKe
       reached_as : (t : TilePlace) → option_map (tile_at s.corner) s.committed ≡ Some t → Contains (reached (committed_tiles slots)) t.heights.record_page
       reached_as = reached_own
 
-      by : (c : Place) (o : Option TilePlanes) (g : Staged) → ((r : ℕ) → 1 ≤ times r (fresh_as o g) → Contains (reached (committed_tiles slots)) r → ⊥)
+      by : (c : Corner) (o : Option TilePlanes) (g : Staged) → ((r : ℕ) → 1 ≤ times r (fresh_as o g) → Contains (reached (committed_tiles slots)) r → ⊥)
           → ((t : TilePlace) → option_map (tile_at c) o ≡ Some t → Contains (reached (committed_tiles slots)) t.heights.record_page)
           → corners_of_places (filter changed (cons_option (staged_as c o g) [])) ≡ cond (stages_heights_as g) (c ∷ []) []
       by c None AsCommitted un re = refl
@@ -144,7 +144,7 @@ module _ (side capacity : ℕ) (slots : List Slot) (free : PageSet) (kept : IsKe
           (any_none (reached (committed_tiles slots)) place.record_page (un place.record_page (omega (arith, one-self place.record_page))))
       by c o Removed un re = refl
 
-  module _ (corners : List Place) (so_far : corners ≡ corners_of_places (filter changed (staged_tiles (take i slots)))) where
+  module _ (corners : List Corner) (so_far : corners ≡ corners_of_places (filter changed (staged_tiles (take i slots)))) where
     pub corners_step : corners ++ cond (stages_heights s) (s.corner ∷ []) [] ≡ corners_of_places (filter changed (staged_tiles (take (i + 1) slots)))
     corners_step =
         ap (λ l. l ++ cond (stages_heights s) (s.corner ∷ []) []) so_far
@@ -162,7 +162,7 @@ module _ (side capacity : ℕ) (slots : List Slot) (free : PageSet) (kept : IsKe
         let fewer = staged_below slots i s below is (some s.corner s.committed s.staged heights) in
         omega (arith, ap length so_far, length-map (filter changed (staged_tiles (take i slots))) (λ (t : TilePlace). t.corner), filter_le (staged_tiles (take i slots)), kept.staged_room, kept.few)
       where
-        some : (c : Place) (o : Option TilePlanes) (g : Staged) → stages_heights_as g ≡ true → IsSome (staged_as c o g)
+        some : (c : Corner) (o : Option TilePlanes) (g : Staged) → stages_heights_as g ≡ true → IsSome (staged_as c o g)
         some c o AsCommitted h = absurd (false≢true h)
         some c o (Heights place keeps) h = refl
         some c o Removed h = absurd (false≢true h)

@@ -6,7 +6,7 @@ use Rattle.std.proofs.lemmas.List.{length-append, append-nil, take-append-drop}
 use Rattle.std.proofs.lemmas.List.Elements.{filter_map-append}
 use Rattle.std.proofs.lemmas.Grind.{flat_map-append}
 use Rattle.std.proofs.lemmas.Bool.{false≢true}
-use Rattle.lattice.specs.Corners.{Place, is_before, is_corner}
+use Rattle.lattice.specs.Corners.{Corner, is_before, is_corner}
 use Rattle.lattice.specs.Lattice.{IsBefore}
 use Rattle.catalogue.proofs.Rising.{AllAfter}
 use Rattle.page_alloc.specs.Pages.{PageSet}
@@ -40,11 +40,11 @@ reached_member (u ∷ rest) t (zero, below, here) =
 reached_member (u ∷ rest) t (suc k, below, here) = omega (arith, reached_member rest t (k, omega arith, here), times-append t.heights.record_page (pages_of_tile u) (reached rest))
 
 -- ---- one more committed tile
-abbrev pub loaded_slot : Place → TilePlanes → Slot
+abbrev pub loaded_slot : Corner → TilePlanes → Slot
 loaded_slot c planes = record { corner = c; committed = Some planes; staged = AsCommitted }
 
 module _ (side capacity : ℕ) (slots : List Slot) (free : PageSet) (kept : IsKept side capacity slots free) (clean : staged_tiles slots ≡ committed_tiles slots)
-    (c : Place) (planes : TilePlanes) (later : All (λ t. IsBefore t.corner c) (committed_tiles slots)) (room : length (committed_tiles slots) < capacity) (whole : IsWholeTile side (tile_at c planes)) where
+    (c : Corner) (planes : TilePlanes) (later : All (λ t. IsBefore t.corner c) (committed_tiles slots)) (room : length (committed_tiles slots) < capacity) (whole : IsWholeTile side (tile_at c planes)) where
   abbrev loaded : Slot
   loaded = loaded_slot c planes
 
@@ -58,7 +58,7 @@ module _ (side capacity : ℕ) (slots : List Slot) (free : PageSet) (kept : IsKe
       (subst (λ (l : List Slot). IfSome (committed_tile s) (Contains (committed_tiles l))) (sym is) (contains_at committed_tile before s after))
       (subst (λ (l : List TilePlace). IfSome (staged_tile s) (Contains l)) clean (subst (λ (l : List Slot). IfSome (staged_tile s) (Contains (staged_tiles l))) (sym is) (contains_at staged_tile before s after))))
     where
-      by : (d : Place) (o : Option TilePlanes) (g : Staged) → is_filled_as o g ≡ true → IfSome (option_map (tile_at d) o) (Contains (committed_tiles slots)) → IfSome (staged_as d o g) (Contains (committed_tiles slots)) → IsBefore d c
+      by : (d : Corner) (o : Option TilePlanes) (g : Staged) → is_filled_as o g ≡ true → IfSome (option_map (tile_at d) o) (Contains (committed_tiles slots)) → IfSome (staged_as d o g) (Contains (committed_tiles slots)) → IsBefore d c
       by d (Some own) g filled there staged = all_member (λ (t : TilePlace). IsBefore t.corner c) (committed_tiles slots) (tile_at d own) later there
       by d None AsCommitted filled there staged = absurd (false≢true filled)
       by d None (Heights place keeps) filled there staged = all_member (λ (t : TilePlace). IsBefore t.corner c) (committed_tiles slots) (record { corner = d; heights = place; kept = cond keeps (kept_of None) None }) later staged
@@ -71,7 +71,7 @@ module _ (side capacity : ℕ) (slots : List Slot) (free : PageSet) (kept : IsKe
       (λ r some. subst (λ (l : List Slot). Contains (reached (committed_tiles l)) r → ⊥) (sym is) (slot_fresh side capacity before s after free (subst (λ (l : List Slot). AreCounted l free) is kept.counted) r some).unreached)
       (subst (λ (l : List TilePlace). IfSome (staged_tile s) (Contains l)) clean (subst (λ (l : List Slot). IfSome (staged_tile s) (Contains (staged_tiles l))) (sym is) (contains_at staged_tile before s after))))
     where
-      by : (d : Place) (o : Option TilePlanes) (g : Staged) → ((r : ℕ) → 1 ≤ times r (fresh_as o g) → Contains (reached (committed_tiles slots)) r → ⊥) → IfSome (staged_as d o g) (Contains (committed_tiles slots)) → stages_heights_as g ≡ false
+      by : (d : Corner) (o : Option TilePlanes) (g : Staged) → ((r : ℕ) → 1 ≤ times r (fresh_as o g) → Contains (reached (committed_tiles slots)) r → ⊥) → IfSome (staged_as d o g) (Contains (committed_tiles slots)) → stages_heights_as g ≡ false
       by d o AsCommitted un there = refl
       by d o (Heights place keeps) un there =
           absurd (un place.record_page (omega (arith, one-self place.record_page)) (member_of_times (reached (committed_tiles slots)) place.record_page (reached_member (committed_tiles slots) (record { corner = d; heights = place; kept = cond keeps (kept_of o) None }) there)))
@@ -125,13 +125,13 @@ all_take P [] (suc at) each = tt
 all_take P (s ∷ rest) zero each = tt
 all_take P (s ∷ rest) (suc at) each = (each 0 s (omega arith) (omega arith), all_take P rest at (λ k d less below. each (suc k) d (omega arith) (omega arith)))
 
-all_drop : (c : Place) (slots : List Slot) (at : ℕ) → ((k : ℕ) (d : Slot) → at ≤ k → k < length slots → is_before c (get_or slots k d).corner ≡ true) → AllAfter corner_of c (drop at slots)
+all_drop : (c : Corner) (slots : List Slot) (at : ℕ) → ((k : ℕ) (d : Slot) → at ≤ k → k < length slots → is_before c (get_or slots k d).corner ≡ true) → AllAfter corner_of c (drop at slots)
 all_drop c [] zero each = tt
 all_drop c [] (suc at) each = tt
 all_drop c (s ∷ rest) zero each = (each 0 s (omega arith) (omega arith), all_drop c rest 0 (λ k d from below. each (suc k) d (omega arith) (omega arith)))
 all_drop c (s ∷ rest) (suc at) each = all_drop c rest at (λ k d from below. each (suc k) d (omega arith) (omega arith))
 
-module _ (side capacity : ℕ) (slots : List Slot) (free now : PageSet) (kept : IsKept side capacity slots free) (c : Place)
+module _ (side capacity : ℕ) (slots : List Slot) (free now : PageSet) (kept : IsKept side capacity slots free) (c : Corner)
     (place : PlanePlace) (whole : length place.pages ≡ pages_of side) (taken : AreTaken (pages_of_plane place) free now) (room : length (staged_tiles slots) < capacity) where
   module _ (degrees : IsTrue (is_corner c)) (at : ℕ) (is : IsRoomAt c at slots) where
     joined : slots ≡ take at slots ++ drop at slots
@@ -164,7 +164,7 @@ module _ (side capacity : ℕ) (slots : List Slot) (free now : PageSet) (kept : 
         by : (o : Option TilePlace) → staged_tile s ≡ o → o ≡ None
         by None had = refl
         by (Some t) had =
-            absurd (absent (subst (λ (d : Place). IsPlaced d (staged_tiles slots)) (corner side capacity slots free kept c at found s is)
+            absurd (absent (subst (λ (d : Corner). IsPlaced d (staged_tiles slots)) (corner side capacity slots free kept c at found s is)
             (subst (λ (l : List Slot). IsPlaced s.corner (staged_tiles l)) (sym (split side capacity slots free kept c at found s is))
             (placed_there (take at slots) s (drop (suc at) slots) (rising_there side capacity slots free kept c at found s is) t had))))
 
@@ -180,5 +180,5 @@ module _ (side capacity : ℕ) (slots : List Slot) (free now : PageSet) (kept : 
     is_restaged =
         subst (λ (l : List Slot). IsAdded c (chart_of side capacity l free) (chart_of side capacity (set slots at (with_fresh s place)) now)) (sym (split side capacity slots free kept c at found s is))
         (subst (λ (l : List Slot). IsAdded c (chart_of side capacity (take at slots ++ s ∷ drop (suc at) slots) free) (chart_of side capacity l now)) (sym (set_is side capacity slots free kept c at found s is (with_fresh s place) now))
-        (subst (λ (d : Place). IsAdded d (chart_of side capacity (take at slots ++ s ∷ drop (suc at) slots) free) (chart_of side capacity (take at slots ++ with_fresh s place ∷ drop (suc at) slots) now)) (corner side capacity slots free kept c at found s is)
+        (subst (λ (d : Corner). IsAdded d (chart_of side capacity (take at slots ++ s ∷ drop (suc at) slots) free) (chart_of side capacity (take at slots ++ with_fresh s place ∷ drop (suc at) slots) now)) (corner side capacity slots free kept c at found s is)
         (is_added_again side capacity (take at slots) s (drop (suc at) slots) free now (kept_there side capacity slots free kept c at found s is) none place whole taken again_room (apart side capacity slots free kept c at found s is))))

@@ -6,7 +6,7 @@ use Rattle.std.specs.List.{cons_option}
 use Rattle.std.proofs.Math.Seq.{split_at}
 use Rattle.std.proofs.lemmas.List.Elements.{filter_map-append}
 use Rattle.std.proofs.lemmas.Bool.{false≢true, cases_lt}
-use Rattle.lattice.specs.Corners.{Place, same_place}
+use Rattle.lattice.specs.Corners.{Corner, same_corner}
 use Rattle.catalogue.proofs.Places.{before_not_same, after_not_same, same_from}
 use Rattle.catalogue.proofs.Rising.{Rising}
 use Rattle.cow_tree.specs.declared.slot.Slot.{Slot}
@@ -23,16 +23,16 @@ pub split_of : (slots : List Slot) (at : ℕ) (s : Slot) → at < length slots �
 split_of slots at s below is = split_at slots at s below ∙ ap (λ x. take at slots ++ x ∷ drop (suc at) slots) (sym is)
 
 -- ---- tiles of other corners
-pub not_placed : (c : Place) (tiles : List TilePlace) → AllOther c tiles → IsPlaced c tiles → ⊥
+pub not_placed : (c : Corner) (tiles : List TilePlace) → AllOther c tiles → IsPlaced c tiles → ⊥
 not_placed c [] other (k, below, here) = absurd (omega arith)
 not_placed c (t ∷ rest) other (zero, below, here) = false≢true (sym other.0 ∙ same_from t.corner c here)
 not_placed c (t ∷ rest) other (suc k, below, here) = not_placed c rest other.1 (k, omega arith, here)
 
-other-append : (c : Place) (xs ys : List TilePlace) → AllOther c xs → AllOther c ys → AllOther c (xs ++ ys)
+other-append : (c : Corner) (xs ys : List TilePlace) → AllOther c xs → AllOther c ys → AllOther c (xs ++ ys)
 other-append c [] ys first second = second
 other-append c (x ∷ xs) ys first second = (first.0, other-append c xs ys first.1 second)
 
-pub placed-from_tile : (c : Place) (tiles : List TilePlace) (t : TilePlace) → Contains tiles t → t.corner ≡ c → IsPlaced c tiles
+pub placed-from_tile : (c : Corner) (tiles : List TilePlace) (t : TilePlace) → Contains tiles t → t.corner ≡ c → IsPlaced c tiles
 placed-from_tile c [] t (k, below, here) same = absurd (omega arith)
 placed-from_tile c (x ∷ rest) t (zero, below, here) same = (0, omega arith, ap (λ (u : TilePlace). u.corner) here ∙ same)
 placed-from_tile c (x ∷ rest) t (suc k, below, here) same = let later = placed-from_tile c rest t (k, omega arith, here) same in (suc later.0, omega arith, later.2)
@@ -80,22 +80,22 @@ heights_here before s after rising plane is = by (staged_tile s) refl is
     by (Some t) had is = (t, (tile_here before s after rising t had, staged_corner before s after rising t had, (let same : plane ≡ t.heights = cc in sym same)))
 
 -- ---- no slot
-pub room_other : (c : Place) (at : ℕ) (slots : List Slot) → IsRoomAt c at slots → AllOther c (staged_tiles slots)
+pub room_other : (c : Corner) (at : ℕ) (slots : List Slot) → IsRoomAt c at slots → AllOther c (staged_tiles slots)
 room_other c at slots room = all slots (λ k d below. elim (cases_lt k at) [
   | inl early ↦ before_not_same (get_or slots k d).corner c (room.before k d (omega arith) early)
   | inr late ↦ after_not_same c (get_or slots k d).corner (room.after k d late below)
 ])
   where
-    all : (l : List Slot) → ((k : ℕ) (d : Slot) → k < length l → same_place (get_or l k d).corner c ≡ false) → AllOther c (staged_tiles l)
+    all : (l : List Slot) → ((k : ℕ) (d : Slot) → k < length l → same_corner (get_or l k d).corner c ≡ false) → AllOther c (staged_tiles l)
     all [] each = tt
     all (s ∷ rest) each = by (staged_tile s) (staged_own s) (all rest (λ k d below. each (suc k) d (omega arith)))
       where
         by : (o : Option TilePlace) → IfSome o (λ t. t.corner ≡ s.corner) → AllOther c (staged_tiles rest) → AllOther c (cons_option o (staged_tiles rest))
         by None is later = later
-        by (Some t) is later = (subst (λ (d : Place). same_place d c ≡ false) (sym is) (each 0 s (omega arith)), later)
+        by (Some t) is later = (subst (λ (d : Corner). same_corner d c ≡ false) (sym is) (each 0 s (omega arith)), later)
 
 -- ---- what the slot found answers
-module _ (slots : List Slot) (rising : Rising corner_of slots) (c : Place) (at : ℕ) (found : IsSlotAt c at slots) (s : Slot) (is : s ≡ get_or slots at s) where
+module _ (slots : List Slot) (rising : Rising corner_of slots) (c : Corner) (at : ℕ) (found : IsSlotAt c at slots) (s : Slot) (is : s ≡ get_or slots at s) where
   abbrev before_at : List Slot
   before_at = take at slots
 
@@ -114,14 +114,14 @@ module _ (slots : List Slot) (rising : Rising corner_of slots) (c : Place) (at :
   pub heights_found : (r : Option (Bor PlanePlace)) → option_copied r ≡ option_map (λ (t : TilePlace). t.heights) (staged_tile s) → IfSome r (λ plane. HasHeights c plane.now (staged_tiles slots))
   heights_found None same = tt
   heights_found (Some plane) same =
-      subst (λ (d : Place). HasHeights d plane.now (staged_tiles slots)) corner_there
+      subst (λ (d : Corner). HasHeights d plane.now (staged_tiles slots)) corner_there
       (subst (λ (l : List Slot). HasHeights s.corner plane.now (staged_tiles l)) (sym split_there) (heights_here before_at s after_at rising_split plane.now same))
 
   placed_some : IsSome (staged_tile s) ↔ IsPlaced c (staged_tiles slots)
   placed_some = (
-    λ some. subst (λ (d : Place). IsPlaced d (staged_tiles slots)) corner_there (subst (λ (l : List Slot). IsPlaced s.corner (staged_tiles l)) (sym split_there) (there (staged_tile s) refl some)),
+    λ some. subst (λ (d : Corner). IsPlaced d (staged_tiles slots)) corner_there (subst (λ (l : List Slot). IsPlaced s.corner (staged_tiles l)) (sym split_there) (there (staged_tile s) refl some)),
     λ placed. placed_here before_at s after_at rising_split
-        (subst (λ (d : Place). IsPlaced d (staged_tiles (before_at ++ s ∷ after_at))) (sym corner_there) (subst (λ (l : List Slot). IsPlaced c (staged_tiles l)) split_there placed)),
+        (subst (λ (d : Corner). IsPlaced d (staged_tiles (before_at ++ s ∷ after_at))) (sym corner_there) (subst (λ (l : List Slot). IsPlaced c (staged_tiles l)) split_there placed)),
   )
     where
       there : (o : Option TilePlace) → staged_tile s ≡ o → IsSome o → IsPlaced s.corner (staged_tiles (before_at ++ s ∷ after_at))
@@ -159,5 +159,5 @@ module _ (slots : List Slot) (rising : Rising corner_of slots) (c : Place) (at :
       (let had = tile_is before_at s after_at rising_split t (subst (λ (l : List Slot). Contains (staged_tiles l) t) split_there there) (at_corner ∙ sym corner_there) in
       sym (same ∙ ap (option_and_then (λ (u : TilePlace). u.kept)) had))
 
-pub none_placed : (c : Place) (at : ℕ) (slots : List Slot) → IsRoomAt c at slots → IsPlaced c (staged_tiles slots) → ⊥
+pub none_placed : (c : Corner) (at : ℕ) (slots : List Slot) → IsRoomAt c at slots → IsPlaced c (staged_tiles slots) → ⊥
 none_placed c at slots room placed = not_placed c (staged_tiles slots) (room_other c at slots room) placed

@@ -3,7 +3,7 @@ use Rattle.std.proofs.Common.{◌≡◌, ℕ, suc, ◌+◌, false, cond, List, �
 use Rattle.std.specs.Prelude.{IsTrue, Option, Some, None, IsSome, IfSome, option_map}
 use Rattle.std.proofs.lemmas.Bool.{false≢true}
 use Rattle.std.proofs.lemmas.List.{length-map}
-use Rattle.lattice.specs.Corners.{Place, is_corner}
+use Rattle.lattice.specs.Corners.{Corner, is_corner}
 use Rattle.page_alloc.specs.Pages.{PageSet}
 use Rattle.page_codec.specs.Sizes.{pages_of}
 use Rattle.cow_tree.specs.declared.places.TilePlanes.{TilePlanes}
@@ -29,7 +29,7 @@ still_in_use xs taken free now in_use are p =
 moved_tile : (s new : Slot) (place : PlanePlace) (t : TilePlace) → new.corner ≡ s.corner → new.committed ≡ s.committed → new.staged ≡ Heights place (keeps_of s.staged) → staged_tile s ≡ Some t
     → staged_tile new ≡ Some (record t { heights = place })
 moved_tile s new place t same_corner same_commit is had =
-    ap (λ (d : Place). staged_as d new.committed new.staged) same_corner
+    ap (λ (d : Corner). staged_as d new.committed new.staged) same_corner
     ∙ (ap (λ (o : Option TilePlanes). staged_as s.corner o new.staged) same_commit
     ∙ (ap (λ (g : Staged). staged_as s.corner s.committed g) is
     ∙ by s.corner s.committed s.staged had))
@@ -37,13 +37,13 @@ moved_tile s new place t same_corner same_commit is had =
     swap : (u : TilePlace) → Some u ≡ Some t → Some (record u { heights = place }) ≡ Some (record t { heights = place })
     swap u same = ap (option_map (λ (v : TilePlace). record v { heights = place })) same
 
-    by : (d : Place) (o : Option TilePlanes) (g : Staged) → staged_as d o g ≡ Some t → staged_as d o (Heights place (keeps_of g)) ≡ Some (record t { heights = place })
+    by : (d : Corner) (o : Option TilePlanes) (g : Staged) → staged_as d o g ≡ Some t → staged_as d o (Heights place (keeps_of g)) ≡ Some (record t { heights = place })
     by d None AsCommitted had = cc
     by d (Some planes) AsCommitted had = swap (tile_at d planes) had
     by d o (Heights h keeps) had = swap (record { corner = d; heights = h; kept = cond keeps (kept_of o) None }) had
     by d o Removed had = cc
 
-module _ (side capacity : ℕ) (slots : List Slot) (free : PageSet) (kept : IsKept side capacity slots free) (c : Place) (at : ℕ) (found : IsSlotAt c at slots) (s : Slot) (is : s ≡ get_or slots at s)
+module _ (side capacity : ℕ) (slots : List Slot) (free : PageSet) (kept : IsKept side capacity slots free) (c : Corner) (at : ℕ) (found : IsSlotAt c at slots) (s : Slot) (is : s ≡ get_or slots at s)
     (placed : IsPlaced c (staged_tiles slots)) (place : PlanePlace) (whole : length place.pages ≡ pages_of side) (mid : PageSet) (taken : AreTaken (pages_of_plane place) free mid)
     (new : Slot) (now : PageSet) (moved : IsMoved place s new mid now) where
   abbrev before : List Slot
@@ -95,7 +95,7 @@ module _ (side capacity : ℕ) (slots : List Slot) (free : PageSet) (kept : IsKe
         let own : IsWholeTile side t = subst (λ (o : Option TilePlace). IfSome o (IsWholeTile side)) had was.staged in
         kept_change side capacity before s new after free now there moved.corner same_tile
         (record {
-          corner = subst (λ (d : Place). IsTrue (is_corner d)) (sym moved.corner) was.corner;
+          corner = subst (λ (d : Corner). IsTrue (is_corner d)) (sym moved.corner) was.corner;
           committed = subst (λ (o : Option TilePlace). IfSome o (IsWholeTile side)) (sym same_tile) was.committed;
           staged = subst (λ (o : Option TilePlace). IfSome o (IsWholeTile side)) (sym has) (record { heights = whole; kept = own.kept });
           filled = filled_from new _ has;
@@ -121,14 +121,14 @@ module _ (side capacity : ℕ) (slots : List Slot) (free : PageSet) (kept : IsKe
   is_moved =
       subst (λ (l : List Slot). IsReplaced c (chart_of side capacity l free) (chart_of side capacity (set slots at new) now)) (sym (split side capacity slots free kept c at found s is))
       (subst (λ (l : List Slot). IsReplaced c (chart_of side capacity (before ++ s ∷ after) free) (chart_of side capacity l now)) (sym (set_is side capacity slots free kept c at found s is new now))
-      (subst (λ (d : Place). IsReplaced d (chart_of side capacity (before ++ s ∷ after) free) (chart_of side capacity (before ++ new ∷ after) now)) (corner side capacity slots free kept c at found s is)
+      (subst (λ (d : Corner). IsReplaced d (chart_of side capacity (before ++ s ∷ after) free) (chart_of side capacity (before ++ new ∷ after) now)) (corner side capacity slots free kept c at found s is)
       (by (staged_tile s) refl (present side capacity slots free kept c at found s is placed))))
     where
       by : (o : Option TilePlace) → staged_tile s ≡ o → IsSome o → IsReplaced s.corner (chart_of side capacity (before ++ s ∷ after) free) (chart_of side capacity (before ++ new ∷ after) now)
       by None had some = absurd (false≢true some)
       by (Some t) had some = is_moved_there t had
 
-pub used_still : (side capacity : ℕ) (slots : List Slot) (free : PageSet) (kept : IsKept side capacity slots free) (c : Place) (at : ℕ) (found : IsSlotAt c at slots) (s : Slot) (is : s ≡ get_or slots at s)
+pub used_still : (side capacity : ℕ) (slots : List Slot) (free : PageSet) (kept : IsKept side capacity slots free) (c : Corner) (at : ℕ) (found : IsSlotAt c at slots) (s : Slot) (is : s ≡ get_or slots at s)
     (place : PlanePlace) (mid : PageSet) → AreTaken (pages_of_plane place) free mid → AreInUse (used_pages s) mid
 used_still side capacity slots free kept c at found s is place mid taken =
     still_in_use (used_pages s) (pages_of_plane place) free mid (slot_in_use (take at slots) s (drop (suc at) slots) free (kept_there side capacity slots free kept c at found s is).counted) taken

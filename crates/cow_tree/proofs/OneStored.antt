@@ -3,7 +3,7 @@
 use Rattle.std.proofs.Common.{◌≡◌, ℕ, List, [], ◌∷◌, All, map, Option, Some, None, IfSome, refl, sym, ap, ap₂, ◌∙◌, subst}
 use Rattle.std.proofs.lemmas.List.Elements.{All-head, All-tail}
 use Rattle.disk.specs.Disk.{Image}
-use Rattle.lattice.specs.Corners.{Place}
+use Rattle.lattice.specs.Corners.{Corner}
 use Rattle.page_codec.specs.Entries.{EntryValue}
 use Rattle.page_codec.specs.declared.entry.Kept.{Kept}
 use Rattle.page_codec.specs.Roots.{RootValue}
@@ -35,7 +35,7 @@ one_tile n image a b p q same =
     let corner : a.corner ≡ b.corner = ap (λ (e : EntryValue). e.corner) same in
     let heights = one_plane n image a.heights b.heights p.heights q.heights (ap (λ (e : EntryValue). e.heights) same) in
     let kept = one_kept n image a.kept b.kept p.kept q.kept (ap (λ (e : EntryValue). e.kept) same) in
-    ap₂ (λ (c : Place) (h : PlanePlace). record { corner = c; heights = h; kept = a.kept }) corner heights
+    ap₂ (λ (c : Corner) (h : PlanePlace). record { corner = c; heights = h; kept = a.kept }) corner heights
     ∙ ap (λ (k : Option KeptPlaces). record { corner = b.corner; heights = b.heights; kept = k }) kept
 
 pub one_layout : (n : ℕ) (image : Image) (xs ys : List TilePlace) → All (HasRecords n image) xs → All (HasRecords n image) ys → map entry_of xs ≡ map entry_of ys → xs ≡ ys

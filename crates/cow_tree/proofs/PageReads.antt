@@ -5,7 +5,7 @@ use Rattle.std.proofs.lemmas.Option.{slice_get_read}
 use Rattle.std.proofs.lemmas.List.{length-map, get_or-map}
 use Rattle.std.proofs.lemmas.List.Elements.{All-tail, All-contains}
 use Rattle.disk.specs.Disk.{Image}
-use Rattle.lattice.specs.Corners.{Place}
+use Rattle.lattice.specs.Corners.{Corner}
 use Rattle.page_codec.specs.Sizes.{pages_of}
 use Rattle.cow_tree.specs.declared.places.KeptPlaces.{KeptPlaces}
 use Rattle.cow_tree.specs.declared.plane.Plane.{Plane}
@@ -18,14 +18,14 @@ use Rattle.cow_tree.proofs.Adding.{contains-map}
 use Rattle.cow_tree.proofs.Standing.{All-front, All-back}
 use Rattle.cow_tree.proofs.Tiles.{each_tile}
 
-pub no_levels : (c : Place) (tiles : List TilePlace) → ((t : TilePlace) → Contains tiles t → t.corner ≡ c → t.kept ≡ None) → ¬ HasPlane tiles c Levels
+pub no_levels : (c : Corner) (tiles : List TilePlace) → ((t : TilePlace) → Contains tiles t → t.corner ≡ c → t.kept ≡ None) → ¬ HasPlane tiles c Levels
 no_levels c tiles none (t, (has, (corner, (place, (kept, (some, at)))))) = let no : None ≡ Some kept = sym (none t has corner) ∙ some in cc
 
-pub no_labels : (c : Place) (tiles : List TilePlace) → ((t : TilePlace) → Contains tiles t → t.corner ≡ c → t.kept ≡ None) → ¬ HasPlane tiles c Labels
+pub no_labels : (c : Corner) (tiles : List TilePlace) → ((t : TilePlace) → Contains tiles t → t.corner ≡ c → t.kept ≡ None) → ¬ HasPlane tiles c Labels
 no_labels c tiles none (t, (has, (corner, (place, (kept, (some, at)))))) = let no : None ≡ Some kept = sym (none t has corner) ∙ some in cc
 
 -- what holds of all pages that the tiles reach holds of the plane's
-module _ (P : ℕ → Type 0) (tiles : List TilePlace) (c : Place) (place : PlanePlace) (all : All P (reached tiles)) where
+module _ (P : ℕ → Type 0) (tiles : List TilePlace) (c : Corner) (place : PlanePlace) (all : All P (reached tiles)) where
   of_tile : (t : TilePlace) → Contains tiles t → All P (pages_of_tile t)
   of_tile t has = All-contains (λ u. All P (pages_of_tile u)) tiles t (each_tile P tiles all) has
 
@@ -41,7 +41,7 @@ module _ (P : ℕ → Type 0) (tiles : List TilePlace) (c : Place) (place : Plan
       subst (λ (p : PlanePlace). All P p.pages) at (All-tail P kept.labels.record_page kept.labels.pages (All-back P (pages_of_plane kept.levels) (pages_of_plane kept.labels) (of_kept t kept has some)))
 
 -- it has all its pages
-module _ (side : ℕ) (tiles : List TilePlace) (c : Place) (place : PlanePlace) (all : All (IsWholeTile side) tiles) where
+module _ (side : ℕ) (tiles : List TilePlace) (c : Corner) (place : PlanePlace) (all : All (IsWholeTile side) tiles) where
   whole_kept : (t : TilePlace) (kept : KeptPlaces) → Contains tiles t → t.kept ≡ Some kept → AreWholeKept side kept
   whole_kept t kept has some = let whole : IfSome (Some kept) (AreWholeKept side) = subst (λ (o : Option KeptPlaces). IfSome o (AreWholeKept side)) some (All-contains (IsWholeTile side) tiles t all has).kept in whole
 
@@ -51,7 +51,7 @@ module _ (side : ℕ) (tiles : List TilePlace) (c : Place) (place : PlanePlace) 
   whole_plane Labels (t, (has, (corner, (kept, (some, at))))) = subst (λ (p : PlanePlace). length p.pages ≡ pages_of side) at (whole_kept t kept has some).labels
 
 -- page i, read from where it lies
-module _ (image : Image) (tiles : List TilePlace) (c : Place) (place : PlanePlace) (i : ℕ) (bytes : List ℕ) (within : i < length place.pages) (read : bytes ≡ image (get_or place.pages i 0)) where
+module _ (image : Image) (tiles : List TilePlace) (c : Corner) (place : PlanePlace) (i : ℕ) (bytes : List ℕ) (within : i < length place.pages) (read : bytes ≡ image (get_or place.pages i 0)) where
   found : slice_get (plane_in image place) i ≡ Some bytes
   found = slice_get_read (plane_in image place) (length (plane_in image place)) i bytes refl (omega (arith, within, length-map place.pages image)) (read ∙ sym (get_or-map image place.pages i 0 bytes within))
 

@@ -5,7 +5,7 @@ use Rattle.std.proofs.lemmas.Bool.{false≢true}
 use Rattle.std.proofs.lemmas.List.{length-map}
 use Rattle.std.proofs.lemmas.List.Elements.{All-map, All-weaker}
 use Rattle.disk.specs.Disk.{Image}
-use Rattle.lattice.specs.Corners.{Place, is_corner}
+use Rattle.lattice.specs.Corners.{Corner, is_corner}
 use Rattle.lattice.specs.declared.refusal.Refusal.{Refusal}
 use Rattle.catalogue.proofs.Rising.{Rising, rising_from}
 use Rattle.page_alloc.specs.Pages.{PageSet}
@@ -73,7 +73,7 @@ module _ (side capacity : ℕ) (before : List Slot) (s new : Slot) (after : List
       let was : IsSound side s = all_middle (IsSound side) before s after is.sound in
       let whole : IsWholeTile side staged.tile = subst (λ (o : Option TilePlace). IfSome o (IsWholeTile side)) staged.had was.staged in
       record {
-        corner = subst (λ (d : Place). IsTrue (is_corner d)) (sym restaged.corner) was.corner;
+        corner = subst (λ (d : Corner). IsTrue (is_corner d)) (sym restaged.corner) was.corner;
         committed = subst (λ (o : Option TilePlace). IfSome o (IsWholeTile side)) (sym (same_committed s new restaged.corner restaged.committed)) was.committed;
         staged = subst (λ (o : Option TilePlace). IfSome o (IsWholeTile side)) (sym staged.has) (record { heights = whole.heights; kept = whole.kept });
         filled = filled_from new _ staged.has;
@@ -91,7 +91,7 @@ module _ (side capacity : ℕ) (before : List Slot) (s new : Slot) (after : List
     changed = chart_changed side capacity before s new after free now restaged.same_total (same_committed s new restaged.corner restaged.committed) _ moved_tiles;
   }
 
-module _ (side capacity : ℕ) (slots : List Slot) (free : PageSet) (kept : IsKept side capacity slots free) (c : Place) (at : ℕ) (found : IsSlotAt c at slots) (s : Slot) (is : s ≡ get_or slots at s)
+module _ (side capacity : ℕ) (slots : List Slot) (free : PageSet) (kept : IsKept side capacity slots free) (c : Corner) (at : ℕ) (found : IsSlotAt c at slots) (s : Slot) (is : s ≡ get_or slots at s)
     (new : Slot) (now : PageSet) (r : Result (Unit {0}) Refusal) (staged : OnOk r (IsRecordRestaged s new)) (restaged : IsRestaged s new free now) (unchanged : OnErr r (new ≡ s)) where
   abbrev before : List Slot
   before = take at slots
@@ -120,12 +120,12 @@ module _ (side capacity : ℕ) (slots : List Slot) (free : PageSet) (kept : IsKe
       by (Ok done) staged =
           subst (λ (l : List Slot). IsPrepared c (chart_of side capacity l free) (chart_of side capacity (set slots at new) now)) (sym (split side capacity slots free kept c at found s is))
           (subst (λ (l : List Slot). IsPrepared c (chart_of side capacity (before ++ s ∷ after) free) (chart_of side capacity l now)) (sym (set_is side capacity slots free kept c at found s is new now))
-          (subst (λ (d : Place). IsPrepared d (chart_of side capacity (before ++ s ∷ after) free) (chart_of side capacity (before ++ new ∷ after) now)) (corner side capacity slots free kept c at found s is)
+          (subst (λ (d : Corner). IsPrepared d (chart_of side capacity (before ++ s ∷ after) free) (chart_of side capacity (before ++ new ∷ after) now)) (corner side capacity slots free kept c at found s is)
           (prepared_there side capacity before s new after free now there staged restaged)))
       by (Err refusal) staged = tt
 
 -- ---- the tree
-pub prepared_tiles : (c : Place) (r : ℕ) (image : Image) (tiles : List TilePlace) → map (tile_in image) (with_record c r tiles) ≡ map (tile_in image) tiles
+pub prepared_tiles : (c : Corner) (r : ℕ) (image : Image) (tiles : List TilePlace) → map (tile_in image) (with_record c r tiles) ≡ map (tile_in image) tiles
 prepared_tiles c r image [] = refl
 prepared_tiles c r image (t ∷ rest) = ap₂ (λ (x : StoredTile) (xs : List StoredTile). x ∷ xs) (by_test (is_at c t)) (prepared_tiles c r image rest)
   where
@@ -133,15 +133,15 @@ prepared_tiles c r image (t ∷ rest) = ap₂ (λ (x : StoredTile) (xs : List St
     by_test true = refl
     by_test false = refl
 
-pub prepared_corners : (c : Place) (r : ℕ) (tiles : List TilePlace) → corners_of_places (with_record c r tiles) ≡ corners_of_places tiles
+pub prepared_corners : (c : Corner) (r : ℕ) (tiles : List TilePlace) → corners_of_places (with_record c r tiles) ≡ corners_of_places tiles
 prepared_corners c r [] = refl
-prepared_corners c r (t ∷ rest) = ap₂ (λ (x : Place) (xs : List Place). x ∷ xs) (by_test (is_at c t)) (prepared_corners c r rest)
+prepared_corners c r (t ∷ rest) = ap₂ (λ (x : Corner) (xs : List Corner). x ∷ xs) (by_test (is_at c t)) (prepared_corners c r rest)
   where
     by_test : (v : Bool) → (if v then record t { heights = record { record_page = r; pages = t.heights.pages } } else t).corner ≡ t.corner
     by_test true = refl
     by_test false = refl
 
-module _ (n : ℕ) (committed : List TilePlace) (c : Place) (r : ℕ) (image : Image) (unreached : ¬ Contains (reached committed) r) where
+module _ (n : ℕ) (committed : List TilePlace) (c : Corner) (r : ℕ) (image : Image) (unreached : ¬ Contains (reached committed) r) where
   heights_stay : (t : TilePlace) → (is_changed committed t ≡ false → HasRecord n image t.heights) → is_changed committed (with_record_in c r t) ≡ false → HasRecord n image (with_record_in c r t).heights
   heights_stay t had = by_test (is_at c t)
     where
@@ -165,7 +165,7 @@ module _ (n : ℕ) (committed : List TilePlace) (c : Place) (r : ℕ) (image : I
         (All-weaker (λ t. IfSome t.kept (HaveKeptRecords n image)) (λ t. IfSome (with_record_in c r t).kept (HaveKeptRecords n image)) kept_stay tiles had.kept);
   }
 
-pub still_prepared : (n : ℕ) (old new : ChartValue) (c : Place) (image : Image) → IsPrepared c old new → AreStaged n old.committed old.staged image → AreStaged n new.committed new.staged image
+pub still_prepared : (n : ℕ) (old new : ChartValue) (c : Corner) (image : Image) → IsPrepared c old new → AreStaged n old.committed old.staged image → AreStaged n new.committed new.staged image
 still_prepared n old new c image prepared had =
     let committed : new.committed ≡ old.committed = ap (λ (x : ChartValue). x.committed) prepared.changed in
     subst (λ (x : ChartValue). AreStaged n x.committed x.staged image) (sym prepared.changed)

@@ -4,7 +4,7 @@ use Rattle.std.proofs.lemmas.List.{length-map, take-map, take_more, take-append-
 use Rattle.std.proofs.lemmas.List.Concat.{flat_map-append}
 use Rattle.std.proofs.lemmas.List.Elements.{All-nil, All-cons, All-head, All-tail, All-take, All-push}
 use Rattle.disk.specs.Disk.{Image}
-use Rattle.lattice.specs.Corners.{Place, is_before}
+use Rattle.lattice.specs.Corners.{Corner, is_before}
 use Rattle.page_codec.specs.Entries.{EntryValue}
 use Rattle.page_codec.specs.Roots.{RootValue, AreInOrder}
 use Rattle.catalogue.proofs.Rising.{AllAfter, Rising, rising_from}
@@ -16,10 +16,10 @@ use Rattle.cow_tree.proofs.Occurrences.{times-append}
 use Rattle.cow_tree.proofs.OneStored.{one_layout}
 use Rattle.cow_tree.proofs.Tiles.{each_tile}
 
-abbrev pub entry_corner : EntryValue → Place
+abbrev pub entry_corner : EntryValue → Corner
 entry_corner e = e.corner
 
-after_at : (c : Place) (entries : List EntryValue) (k : ℕ) (d : EntryValue) → AllAfter entry_corner c entries → k < length entries → IsTrue (is_before c (get_or entries k d).corner)
+after_at : (c : Corner) (entries : List EntryValue) (k : ℕ) (d : EntryValue) → AllAfter entry_corner c entries → k < length entries → IsTrue (is_before c (get_or entries k d).corner)
 after_at c [] k d after lt = absurd (omega arith)
 after_at c (e ∷ rest) zero d after lt = after.0
 after_at c (e ∷ rest) (suc k) d after lt = after_at c rest k d after.1 (omega arith)
@@ -35,10 +35,10 @@ unmapped P f [] all = All-nil (λ x. P (f x))
 unmapped P f (x ∷ xs) all = All-cons (λ x. P (f x)) x xs (All-head P (f x) (map f xs) all) (unmapped P f xs (All-tail P (f x) (map f xs) all))
 
 -- the tiles so far stand before the next
-pub before_next : (entries : List EntryValue) (tiles : List TilePlace) (k : ℕ) (e : EntryValue) (c : Place) → AreInOrder entries → k < length entries → map entry_of tiles ≡ take k entries → e ≡ get_or entries k e → e.corner ≡ c → All (λ t. IsTrue (is_before t.corner c)) tiles
+pub before_next : (entries : List EntryValue) (tiles : List TilePlace) (k : ℕ) (e : EntryValue) (c : Corner) → AreInOrder entries → k < length entries → map entry_of tiles ≡ take k entries → e ≡ get_or entries k e → e.corner ≡ c → All (λ t. IsTrue (is_before t.corner c)) tiles
 before_next entries tiles k e c in_order lt so_far is_e at =
     let P : EntryValue → Type 0 = λ x. IsTrue (is_before x.corner c) in
-    let all : All P (take k entries) = subst (λ (p : Place). All (λ x. IsTrue (is_before x.corner p)) (take k entries)) (sym (ap entry_corner is_e) ∙ at) (rising_at entries k e (rising_from entry_corner entries in_order) lt) in
+    let all : All P (take k entries) = subst (λ (p : Corner). All (λ x. IsTrue (is_before x.corner p)) (take k entries)) (sym (ap entry_corner is_e) ∙ at) (rising_at entries k e (rising_from entry_corner entries in_order) lt) in
     unmapped P entry_of tiles (subst (All P) (sym so_far) all)
 
 -- one tile more

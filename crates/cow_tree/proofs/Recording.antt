@@ -9,7 +9,7 @@ use Rattle.std.proofs.lemmas.List.Elements.{All-nil, All-cons, All-head, All-tai
 use Rattle.disk.specs.Disk.{Image}
 use Rattle.page_codec.specs.Records.{IsRecord, record_bytes}
 use Rattle.page_codec.specs.Sizes.{pages_of}
-use Rattle.lattice.specs.Corners.{Place}
+use Rattle.lattice.specs.Corners.{Corner}
 use Rattle.cow_tree.specs.Places.{PlanePlace, pages_of_plane, times}
 use Rattle.cow_tree.specs.Layout.{TilePlace, pages_of_kept, pages_of_tile, reached, HasRecord, HaveKeptRecords, HasRecords, tile_in}
 use Rattle.cow_tree.specs.Stored.{StoredTile, PlanePages, KeptPlanes}
@@ -127,7 +127,7 @@ pub record IsChangedAt (chart : ChartValue) (k : ℕ) (plane : PlanePlace) : Typ
   pub changed : is_changed chart.committed tile ≡ true
   pub heights : tile.heights ≡ plane
 
-pub changed_at : (chart : ChartValue) → IsChart chart → (k : ℕ) (c : Place) (plane : PlanePlace) → k < length (fresh_corners chart) → c ≡ get_or (fresh_corners chart) k c → HasHeights c plane chart.staged → IsChangedAt chart k plane
+pub changed_at : (chart : ChartValue) → IsChart chart → (k : ℕ) (c : Corner) (plane : PlanePlace) → k < length (fresh_corners chart) → c ≡ get_or (fresh_corners chart) k c → HasHeights c plane chart.staged → IsChangedAt chart k plane
 changed_at chart rules k c plane lt is_c had =
     let tiles : List TilePlace = changed_tiles chart in
     let u : TilePlace = had.0 in
@@ -191,11 +191,11 @@ pub record IsNext (chart : ChartValue) (k : ℕ) (plane : PlanePlace) : Type 0 w
   pub high : plane.record_page < chart.sectors
   pub unreached : ¬ Contains (reached chart.committed) plane.record_page
 
-pub next_changed : (chart : ChartValue) → IsChart chart → (k : ℕ) (c : Place) (plane : PlanePlace) (xs ys : List Place) → xs ≡ ys → ys ≡ fresh_corners chart → k < length xs → c ≡ get_or xs k c → HasHeights c plane chart.staged → IsNext chart k plane
+pub next_changed : (chart : ChartValue) → IsChart chart → (k : ℕ) (c : Corner) (plane : PlanePlace) (xs ys : List Corner) → xs ≡ ys → ys ≡ fresh_corners chart → k < length xs → c ≡ get_or xs k c → HasHeights c plane chart.staged → IsNext chart k plane
 next_changed chart rules k c plane xs ys same listed lt is_c had =
     let all : xs ≡ fresh_corners chart = same ∙ listed in
-    let within : k < length (fresh_corners chart) = subst (λ (l : List Place). k < length l) all lt in
-    let among = changed_at chart rules k c plane within (subst (λ (l : List Place). c ≡ get_or l k c) all is_c) had in
+    let within : k < length (fresh_corners chart) = subst (λ (l : List Corner). k < length l) all lt in
+    let among = changed_at chart rules k c plane within (subst (λ (l : List Corner). c ≡ get_or l k c) all is_c) had in
     let at : among.tile.heights.record_page ≡ plane.record_page = ap (λ (p : PlanePlace). p.record_page) among.heights in
     record {
       among = among;
@@ -215,7 +215,7 @@ same_at chart k t u lt here there =
     let within : k < length (changed_tiles chart) = omega (arith, lt, length-map (changed_tiles chart) (λ (t : TilePlace). t.corner)) in
     sym here ∙ get_or_default (changed_tiles chart) k t u within ∙ there
 
-unfiltered_corner : (test : TilePlace → Bool) (tiles : List TilePlace) (c : Place) → Contains (map (λ (t : TilePlace). t.corner) (filter test tiles)) c → Contains (map (λ (t : TilePlace). t.corner) tiles) c
+unfiltered_corner : (test : TilePlace → Bool) (tiles : List TilePlace) (c : Corner) → Contains (map (λ (t : TilePlace). t.corner) (filter test tiles)) c → Contains (map (λ (t : TilePlace). t.corner) tiles) c
 unfiltered_corner test [] c has = has
 unfiltered_corner test (t ∷ rest) c has =
     elim (test t) as (λ (v : Bool). Contains (map (λ (t : TilePlace). t.corner) (cond v (t ∷ filter test rest) (filter test rest))) c → Contains (t.corner ∷ map (λ (t : TilePlace). t.corner) rest) c) [
@@ -227,7 +227,7 @@ unfiltered_corner test (t ∷ rest) c has =
     first (zero, lt, here) later = (zero, omega arith, here)
     first (suc k, lt, here) later = let found = later (k, omega arith, here) in (suc found.0, omega (arith, found.1), found.2)
 
-pub next_placed : (chart : ChartValue) (k : ℕ) (c : Place) (xs ys : List Place) → xs ≡ ys → ys ≡ fresh_corners chart → k < length xs → c ≡ get_or xs k c → IsPlaced c chart.staged
+pub next_placed : (chart : ChartValue) (k : ℕ) (c : Corner) (xs ys : List Corner) → xs ≡ ys → ys ≡ fresh_corners chart → k < length xs → c ≡ get_or xs k c → IsPlaced c chart.staged
 next_placed chart k c xs ys same listed lt is_c =
     let all : xs ≡ fresh_corners chart = same ∙ listed in
-    unfiltered_corner (is_changed chart.committed) chart.staged c (k, subst (λ (l : List Place). k < length l) all lt, sym (subst (λ (l : List Place). c ≡ get_or l k c) all is_c))
+    unfiltered_corner (is_changed chart.committed) chart.staged c (k, subst (λ (l : List Corner). k < length l) all lt, sym (subst (λ (l : List Corner). c ≡ get_or l k c) all is_c))

@@ -7,7 +7,7 @@ use Rattle.std.specs.Ordering.{nat_cmp}
 use Rattle.std.specs.FinSet.{FinSet, empty, contains, remove, len, empty_of_len, contains-empty}
 use Rattle.std.proofs.lemmas.Bool.{false≢true, cases_eq, cases_Bool, cases_lt, ne_eqb}
 use Rattle.std.proofs.lemmas.List.{length-append}
-use Rattle.lattice.specs.Corners.{Place}
+use Rattle.lattice.specs.Corners.{Corner}
 use Rattle.page_alloc.specs.Pages.{PageSet}
 use Rattle.page_codec.specs.Sizes.{pages_of}
 use Rattle.cow_tree.specs.declared.places.KeptPlaces.{KeptPlaces}
@@ -105,7 +105,7 @@ module _ (side : ℕ) where
   fresh_few : (s : Slot) → IsSound side s → length (fresh_pages s) ≤ plane_size * count (staged_tile s)
   fresh_few s sound = by s.corner s.committed s.staged sound.staged
     where
-      by : (c : Place) (o : Option TilePlanes) (g : Staged) → IfSome (staged_as c o g) (IsWholeTile side) → length (fresh_as o g) ≤ plane_size * count (staged_as c o g)
+      by : (c : Corner) (o : Option TilePlanes) (g : Staged) → IfSome (staged_as c o g) (IsWholeTile side) → length (fresh_as o g) ≤ plane_size * count (staged_as c o g)
       by c o AsCommitted whole = omega arith
       by c o (Heights place keeps) whole = omega (arith, length-differing place.pages (heights_pages o), whole.heights)
       by c o Removed whole = omega arith

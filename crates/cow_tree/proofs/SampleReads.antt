@@ -9,7 +9,7 @@ use Rattle.std.proofs.Math.Nat.{mul-le-mul_left}
 use Rattle.std.proofs.Math.Seq.{take-add}
 use borrow.Rule.Slice.PartMut.{put_mid}
 use Rattle.std.proofs.lemmas.List.Elements.{All-head, All-tail, All-contains}
-use Rattle.lattice.specs.Corners.{Place, same_place}
+use Rattle.lattice.specs.Corners.{Corner, same_corner}
 use Rattle.lattice.specs.Mosaic.{Tile, Mosaic, IsMosaic, IsTile, samples_among, samples_of}
 use Rattle.hgt.specs.Bytes.{sample_of, samples_in}
 use Rattle.hgt.proofs.BytesLemmas.{get_or-samples_in}
@@ -21,12 +21,12 @@ use Rattle.cow_tree.specs.Stored.{StoredTile, PlanePages, IsPage, AreWhole, plan
 use Rattle.cow_tree.proofs.Adding.{contains-map}
 
 -- ---- the samples of a tile in the mosaic
-abbrev corner_of : Tile → Place
+abbrev corner_of : Tile → Corner
 corner_of t = t.corner
 
-after_differs : (c : Place) (tiles : List Tile) (t : Tile) → AllAfter corner_of c tiles → Contains tiles t → same_place c t.corner ≡ false
+after_differs : (c : Corner) (tiles : List Tile) (t : Tile) → AllAfter corner_of c tiles → Contains tiles t → same_corner c t.corner ≡ false
 after_differs c [] t after (k, lt, here) = absurd (omega (arith, lt))
-after_differs c (u ∷ rest) t after (zero, lt, here) = subst (λ (v : Tile). same_place c v.corner ≡ false) here (before_not_same c u.corner after.0)
+after_differs c (u ∷ rest) t after (zero, lt, here) = subst (λ (v : Tile). same_corner c v.corner ≡ false) here (before_not_same c u.corner after.0)
 after_differs c (u ∷ rest) t after (suc k, lt, here) = after_differs c rest t after.1 (k, omega arith, here)
 
 samples_there : (tiles : List Tile) (t : Tile) → Rising corner_of tiles → Contains tiles t → samples_among tiles t.corner ≡ Some t.samples
@@ -39,12 +39,12 @@ samples_there (u ∷ rest) t rising (suc k, lt, here) =
 abbrev tile_of : ℕ → StoredTile → Tile
 tile_of n t = record { corner = t.corner; samples = samples_of_plane n t.heights }
 
-module _ (n : ℕ) (tiles : List StoredTile) (c : Place) (t : StoredTile) (valid : IsMosaic (mosaic_of_tiles n tiles)) (has : Contains tiles t) (corner : t.corner ≡ c) where
+module _ (n : ℕ) (tiles : List StoredTile) (c : Corner) (t : StoredTile) (valid : IsMosaic (mosaic_of_tiles n tiles)) (has : Contains tiles t) (corner : t.corner ≡ c) where
   among : Contains (map (tile_of n) tiles) (tile_of n t)
   among = contains-map (tile_of n) tiles t has
 
   pub samples_are : samples_of (mosaic_of_tiles n tiles) c ≡ Some (samples_of_plane n t.heights)
-  samples_are = subst (λ (d : Place). samples_among (map (tile_of n) tiles) d ≡ Some (samples_of_plane n t.heights)) corner (samples_there (map (tile_of n) tiles) (tile_of n t) (rising_from corner_of (map (tile_of n) tiles) valid.in_order) among)
+  samples_are = subst (λ (d : Corner). samples_among (map (tile_of n) tiles) d ≡ Some (samples_of_plane n t.heights)) corner (samples_there (map (tile_of n) tiles) (tile_of n t) (rising_from corner_of (map (tile_of n) tiles) valid.in_order) among)
 
   pub as_many : length (samples_of_plane n t.heights) ≡ n * n
   as_many = (All-contains (IsTile n) (map (tile_of n) tiles) (tile_of n t) valid.tiles among).whole
@@ -68,7 +68,7 @@ byte_at (p ∷ rest) (suc i) r all lt small =
     ap (λ (m : ℕ). get_or (p ++ concat rest) m 0) place ∙ get_or-append-add p (concat rest) (4096 * i + r) 0 ∙ byte_at rest i r (All-tail IsPage p rest all) (omega arith) small
 
 -- ---- samples read from one page
-module _ (n : ℕ) (tiles : List StoredTile) (c : Place) (first len from : ℕ) (page : List ℕ) (into : List ℤ) (valid : IsMosaic (mosaic_of_tiles n tiles)) (whole : AreWhole tiles)
+module _ (n : ℕ) (tiles : List StoredTile) (c : Corner) (first len from : ℕ) (page : List ℕ) (into : List ℤ) (valid : IsMosaic (mosaic_of_tiles n tiles)) (whole : AreWhole tiles)
     (from_is : from ≡ 2 * (first % 2048)) (one_page : first % 2048 + len ≤ 2048) (range : first + len ≤ n * n) (many : length into ≡ len) (read : into ≡ samples_in (slice_range page from (from + 2 * len))) where
   module _ (t : StoredTile) (has : Contains tiles t) (corner : t.corner ≡ c) (found : slice_get t.heights (first / 2048) ≡ Some page) where
     pages : All IsPage t.heights
@@ -145,7 +145,7 @@ pub samples_small : (n : ℕ) → n ≤ 1201 → n * n ≤ 1442401
 samples_small n le = let square : n * n ≤ n * 1201 = mul-le-mul_left n le in omega arith
 
 -- one sample
-pub one_sample : (m : Mosaic) (c : Place) (samples : List ℤ) (i : ℕ) (into : List ℤ) (s : ℤ) → samples_of m c ≡ Some samples → i < length samples → length into ≡ 1 → s ≡ get_or into 0 s → slice_range samples i (i + length into) ≡ into → IsSomeAnd (samples_of m c) (λ all. slice_get all i ≡ Some s)
+pub one_sample : (m : Mosaic) (c : Corner) (samples : List ℤ) (i : ℕ) (into : List ℤ) (s : ℤ) → samples_of m c ≡ Some samples → i < length samples → length into ≡ 1 → s ≡ get_or into 0 s → slice_range samples i (i + length into) ≡ into → IsSomeAnd (samples_of m c) (λ all. slice_get all i ≡ Some s)
 one_sample m c samples i into s found lt long is read =
     subst (λ (o : Option (List ℤ)). IsSomeAnd o (λ all. slice_get all i ≡ Some s)) (sym found)
     (slice_get_read samples (length samples) i s refl lt

@@ -4,7 +4,7 @@ use Rattle.std.specs.Prelude.{Option, Some, None, IfSome, option_map}
 use Rattle.std.specs.List.{cons_option, AllByRecursion}
 use Rattle.std.proofs.lemmas.List.{length-set}
 use Rattle.std.proofs.lemmas.List.Elements.{filter_map-append}
-use Rattle.lattice.specs.Corners.{Place, same_place, is_corner}
+use Rattle.lattice.specs.Corners.{Corner, same_corner, is_corner}
 use Rattle.catalogue.proofs.Places.{before_not_same, after_not_same, same_from}
 use Rattle.catalogue.proofs.Rising.{AllAfter, Rising, rising_from, adjacent_from}
 use Rattle.page_alloc.specs.Pages.{PageSet}
@@ -54,38 +54,38 @@ kept_change side capacity before s new after free now is same_corner same_commit
 }
 
 pub same_committed : (s new : Slot) → new.corner ≡ s.corner → new.committed ≡ s.committed → committed_tile new ≡ committed_tile s
-same_committed s new corner committed = ap (λ (c : Place). option_map (tile_at c) new.committed) corner ∙ ap (option_map (tile_at s.corner)) committed
+same_committed s new corner committed = ap (λ (c : Corner). option_map (tile_at c) new.committed) corner ∙ ap (option_map (tile_at s.corner)) committed
 
 pub filled_from : (s : Slot) (t : TilePlace) → staged_tile s ≡ Some t → is_filled_as s.committed s.staged ≡ true
 filled_from s t is = by s.corner s.committed s.staged is
   where
-    by : (c : Place) (o : Option TilePlanes) (g : Staged) → staged_as c o g ≡ Some t → is_filled_as o g ≡ true
+    by : (c : Corner) (o : Option TilePlanes) (g : Staged) → staged_as c o g ≡ Some t → is_filled_as o g ≡ true
     by c None AsCommitted is = cc
     by c (Some planes) AsCommitted is = refl
     by c o (Heights place keeps) is = refl
     by c o Removed is = cc
 
 -- ---- the staged tiles
-abbrev pub AllOther : Place → List TilePlace → Type 0
+abbrev pub AllOther : Corner → List TilePlace → Type 0
 AllOther c tiles = AllByRecursion (λ t. is_at c t ≡ false) tiles
 
-pub other_before : (c : Place) (slots : List Slot) → AllBefore c slots → AllOther c (staged_tiles slots)
+pub other_before : (c : Corner) (slots : List Slot) → AllBefore c slots → AllOther c (staged_tiles slots)
 other_before c [] h = tt
 other_before c (s ∷ rest) h = by (staged_tile s) (staged_own s) (other_before c rest h.1)
   where
     by : (o : Option TilePlace) → IfSome o (λ t. t.corner ≡ s.corner) → AllOther c (staged_tiles rest) → AllOther c (cons_option o (staged_tiles rest))
     by None is later = later
-    by (Some t) is later = (subst (λ (d : Place). same_place d c ≡ false) (sym is) (before_not_same s.corner c h.0), later)
+    by (Some t) is later = (subst (λ (d : Corner). same_corner d c ≡ false) (sym is) (before_not_same s.corner c h.0), later)
 
-pub other_after : (c : Place) (slots : List Slot) → AllAfter corner_of c slots → AllOther c (staged_tiles slots)
+pub other_after : (c : Corner) (slots : List Slot) → AllAfter corner_of c slots → AllOther c (staged_tiles slots)
 other_after c [] h = tt
 other_after c (s ∷ rest) h = by (staged_tile s) (staged_own s) (other_after c rest h.1)
   where
     by : (o : Option TilePlace) → IfSome o (λ t. t.corner ≡ s.corner) → AllOther c (staged_tiles rest) → AllOther c (cons_option o (staged_tiles rest))
     by None is later = later
-    by (Some t) is later = (subst (λ (d : Place). same_place d c ≡ false) (sym is) (after_not_same c s.corner h.0), later)
+    by (Some t) is later = (subst (λ (d : Corner). same_corner d c ≡ false) (sym is) (after_not_same c s.corner h.0), later)
 
-module _ (c : Place) where
+module _ (c : Corner) where
   map_other : (f : TilePlace → TilePlace) → ((t : TilePlace) → is_at c t ≡ false → f t ≡ t) → (tiles : List TilePlace) → AllOther c tiles → map f tiles ≡ tiles
   map_other f same [] other = refl
   map_other f same (t ∷ rest) other = ap (λ u. u ∷ map f rest) (same t other.0) ∙ ap (λ l. t ∷ l) (map_other f same rest other.1)
@@ -106,7 +106,7 @@ module _ (c : Place) where
 
 -- the slot in the middle, with its neighbours
 module _ (before : List Slot) (s : Slot) (after : List Slot) (rising : Rising corner_of (before ++ s ∷ after)) (t : TilePlace) (had : staged_tile s ≡ Some t) where
-  abbrev place : Place
+  abbrev place : Corner
   place = s.corner
 
   pub staged_corner : t.corner ≡ s.corner
@@ -185,7 +185,7 @@ module _ (side capacity : ℕ) (before : List Slot) (s new : Slot) (after : List
       let was : IsSound side s = all_middle (IsSound side) before s after is.sound in
       let whole : IsWholeTile side staged.tile = subst (λ (o : Option TilePlace). IfSome o (IsWholeTile side)) staged.had was.staged in
       record {
-        corner = subst (λ (d : Place). IsTrue (is_corner d)) (sym restaged.corner) was.corner;
+        corner = subst (λ (d : Corner). IsTrue (is_corner d)) (sym restaged.corner) was.corner;
         committed = subst (λ (o : Option TilePlace). IfSome o (IsWholeTile side)) (sym (same_committed s new restaged.corner restaged.committed)) was.committed;
         staged = subst (λ (o : Option TilePlace). IfSome o (IsWholeTile side)) (sym staged.has) (record { heights = length-set staged.tile.heights.pages i page ∙ whole.heights; kept = whole.kept });
         filled = filled_from new _ staged.has;

@@ -5,7 +5,7 @@ use Rattle.std.specs.List.{cons_option, AllByRecursion, flat_map}
 use Rattle.std.proofs.lemmas.List.{length-append}
 use Rattle.std.proofs.lemmas.List.Elements.{filter_map-append}
 use Rattle.std.proofs.lemmas.Grind.{flat_map-append}
-use Rattle.lattice.specs.Corners.{Place, is_before, is_corner}
+use Rattle.lattice.specs.Corners.{Corner, is_before, is_corner}
 use Rattle.catalogue.proofs.Places.{before_not_back}
 use Rattle.catalogue.proofs.Rising.{AllAfter, Rising, rising_from, adjacent_from}
 use Rattle.page_alloc.specs.Pages.{PageSet}
@@ -62,7 +62,7 @@ tiles_before t (s ∷ rest) h = by (staged_tile s) (staged_own s) (tiles_before 
     by : (o : Option TilePlace) → IfSome o (λ u. u.corner ≡ s.corner) → AllByRecursion (λ u. is_before t.corner u.corner ≡ false) (staged_tiles rest)
         → AllByRecursion (λ u. is_before t.corner u.corner ≡ false) (cons_option o (staged_tiles rest))
     by None is later = later
-    by (Some u) is later = (subst (λ (d : Place). is_before t.corner d ≡ false) (sym is) (before_not_back s.corner t.corner h.0), later)
+    by (Some u) is later = (subst (λ (d : Corner). is_before t.corner d ≡ false) (sym is) (before_not_back s.corner t.corner h.0), later)
 
 tiles_after : (t : TilePlace) (slots : List Slot) → AllAfter corner_of t.corner slots → AllByRecursion (λ u. is_before t.corner u.corner ≡ true) (staged_tiles slots)
 tiles_after t [] h = tt
@@ -71,7 +71,7 @@ tiles_after t (s ∷ rest) h = by (staged_tile s) (staged_own s) (tiles_after t 
     by : (o : Option TilePlace) → IfSome o (λ u. u.corner ≡ s.corner) → AllByRecursion (λ u. is_before t.corner u.corner ≡ true) (staged_tiles rest)
         → AllByRecursion (λ u. is_before t.corner u.corner ≡ true) (cons_option o (staged_tiles rest))
     by None is later = later
-    by (Some u) is later = (subst (λ (d : Place). is_before t.corner d ≡ true) (sym is) h.0, later)
+    by (Some u) is later = (subst (λ (d : Corner). is_before t.corner d ≡ true) (sym is) h.0, later)
 
 inserted : (t : TilePlace) (xs ys : List TilePlace) → AllByRecursion (λ u. is_before t.corner u.corner ≡ false) xs → AllByRecursion (λ u. is_before t.corner u.corner ≡ true) ys
     → xs ++ t ∷ ys ≡ with_tile_place t (xs ++ ys)
@@ -87,8 +87,8 @@ module _ (before : List Slot) (new : Slot) (after : List Slot) (earlier : AllBef
   pub added_tiles : staged_tiles (before ++ new ∷ after) ≡ with_tile_place t (staged_tiles before ++ staged_tiles after)
   added_tiles =
       new_split
-      ∙ inserted t (staged_tiles before) (staged_tiles after) (tiles_before t before (subst (λ (d : Place). AllBefore d before) (sym corner) earlier))
-      (tiles_after t after (subst (λ (d : Place). AllAfter corner_of d after) (sym corner) later))
+      ∙ inserted t (staged_tiles before) (staged_tiles after) (tiles_before t before (subst (λ (d : Corner). AllBefore d before) (sym corner) earlier))
+      (tiles_after t after (subst (λ (d : Corner). AllAfter corner_of d after) (sym corner) later))
 
   pub added_length : length (staged_tiles (before ++ new ∷ after)) ≡ suc (length (staged_tiles before ++ staged_tiles after))
   added_length =
@@ -100,10 +100,10 @@ module _ (before : List Slot) (new : Slot) (after : List Slot) (earlier : AllBef
 abbrev pub with_fresh : Slot → PlanePlace → Slot
 with_fresh s place = record { corner = s.corner; committed = s.committed; staged = Heights place false }
 
-abbrev pub new_slot : Place → PlanePlace → Slot
+abbrev pub new_slot : Corner → PlanePlace → Slot
 new_slot c place = record { corner = c; committed = None; staged = Heights place false }
 
-abbrev pub new_tile : Place → PlanePlace → TilePlace
+abbrev pub new_tile : Corner → PlanePlace → TilePlace
 new_tile c place = record { corner = c; heights = place; kept = None }
 
 all_fresh : (side capacity : ℕ) (before : List Slot) (new : Slot) (after : List Slot) (now : PageSet) (place : PlanePlace) → AreCounted (before ++ new ∷ after) now
@@ -112,7 +112,7 @@ all_fresh side capacity before new after now place counted same =
     all_numbers (IsFresh (chart_of side capacity (before ++ new ∷ after) now)) (pages_of_plane place) (λ p some. slot_fresh side capacity before new after now counted p (omega (arith, same p)))
 
 -- ---- a tile added where the corner has no slot
-module _ (side capacity : ℕ) (before after : List Slot) (free now : PageSet) (is : IsKept side capacity (before ++ after) free) (c : Place) (earlier : AllBefore c before) (later : AllAfter corner_of c after)
+module _ (side capacity : ℕ) (before after : List Slot) (free now : PageSet) (is : IsKept side capacity (before ++ after) free) (c : Corner) (earlier : AllBefore c before) (later : AllAfter corner_of c after)
     (place : PlanePlace) (whole : length place.pages ≡ pages_of side) (taken : AreTaken (pages_of_plane place) free now) (room : length (staged_tiles (before ++ after)) < capacity) where
   abbrev new : Slot
   new = new_slot c place
@@ -163,7 +163,7 @@ module _ (side capacity : ℕ) (before : List Slot) (s : Slot) (after : List Slo
   was_fresh : (p : ℕ) → times p (fresh_pages s) ≡ 0
   was_fresh p = by s.corner s.committed s.staged none
     where
-      by : (d : Place) (o : Option TilePlanes) (g : Staged) → staged_as d o g ≡ None → times p (fresh_as o g) ≡ 0
+      by : (d : Corner) (o : Option TilePlanes) (g : Staged) → staged_as d o g ≡ None → times p (fresh_as o g) ≡ 0
       by d o AsCommitted none = refl
       by d o (Heights h keeps) none = cc
       by d o Removed none = refl

@@ -4,7 +4,7 @@ use Rattle.std.specs.Prelude.{Option, Some, None, IfSome, option_map}
 use Rattle.std.specs.List.{filter_map, flat_map, cons_option, AllByRecursion}
 use Rattle.std.proofs.lemmas.Grind.{flat_map-append}
 use Rattle.std.proofs.lemmas.Bool.{cases_eq, false_from_ne_true}
-use Rattle.lattice.specs.Corners.{Place, is_before}
+use Rattle.lattice.specs.Corners.{Corner, is_before}
 use Rattle.lattice.specs.Lattice.{IsBefore}
 use Rattle.catalogue.proofs.Places.{before_trans, same_says, after_from}
 use Rattle.catalogue.proofs.Rising.{AllAfter, Rising}
@@ -62,19 +62,19 @@ module _ (before : List Slot) (s : Slot) (after : List Slot) (free : PageSet) (c
       omega (arith, total, each p, counted_at p before s after, counted_at p before new after, counted p)
 
 -- ---- order
-abbrev pub corner_of : Slot → Place
+abbrev pub corner_of : Slot → Corner
 corner_of s = s.corner
 
-pub after_change : (c : Place) (before : List Slot) (s new : Slot) (after : List Slot) → new.corner ≡ s.corner → AllAfter corner_of c (before ++ s ∷ after) → AllAfter corner_of c (before ++ new ∷ after)
-after_change c [] s new after same h = (subst (λ (d : Place). IsTrue (is_before c d)) (sym same) h.0, h.1)
+pub after_change : (c : Corner) (before : List Slot) (s new : Slot) (after : List Slot) → new.corner ≡ s.corner → AllAfter corner_of c (before ++ s ∷ after) → AllAfter corner_of c (before ++ new ∷ after)
+after_change c [] s new after same h = (subst (λ (d : Corner). IsTrue (is_before c d)) (sym same) h.0, h.1)
 after_change c (b ∷ before) s new after same h = (h.0, after_change c before s new after same h.1)
 
 pub rising_change : (before : List Slot) (s new : Slot) (after : List Slot) → new.corner ≡ s.corner → Rising corner_of (before ++ s ∷ after) → Rising corner_of (before ++ new ∷ after)
-rising_change [] s new after same h = (subst (λ (d : Place). AllAfter corner_of d after) (sym same) h.0, h.1)
+rising_change [] s new after same h = (subst (λ (d : Corner). AllAfter corner_of d after) (sym same) h.0, h.1)
 rising_change (b ∷ before) s new after same h = (after_change b.corner before s new after same h.0, rising_change before s new after same h.1)
 
 -- all of the slots are before the corner
-abbrev pub AllBefore : Place → List Slot → Type 0
+abbrev pub AllBefore : Corner → List Slot → Type 0
 AllBefore c slots = AllByRecursion (λ s. IsBefore s.corner c) slots
 
 pub rising_before : (before : List Slot) (s : Slot) (after : List Slot) → Rising corner_of (before ++ s ∷ after) → AllBefore s.corner before
@@ -99,16 +99,16 @@ rising_insert (b ∷ before) s after earlier later h = (by before h.0, rising_in
 
 -- the tiles of slots are in the order of the slots, as each has its slot's corner
 module _ (tile_of : Slot → Option TilePlace) (own : (s : Slot) → IfSome (tile_of s) (λ t. t.corner ≡ s.corner)) where
-  abbrev place_of : TilePlace → Place
+  abbrev place_of : TilePlace → Corner
   place_of t = t.corner
 
-  after_tiles : (c : Place) (slots : List Slot) → AllAfter corner_of c slots → AllAfter place_of c (filter_map tile_of slots)
+  after_tiles : (c : Corner) (slots : List Slot) → AllAfter corner_of c slots → AllAfter place_of c (filter_map tile_of slots)
   after_tiles c [] h = tt
   after_tiles c (s ∷ rest) h = by (tile_of s) (own s) (after_tiles c rest h.1)
     where
       by : (o : Option TilePlace) → IfSome o (λ t. t.corner ≡ s.corner) → AllAfter place_of c (filter_map tile_of rest) → AllAfter place_of c (cons_option o (filter_map tile_of rest))
       by None is later = later
-      by (Some t) is later = (subst (λ (d : Place). IsTrue (is_before c d)) (sym is) h.0, later)
+      by (Some t) is later = (subst (λ (d : Corner). IsTrue (is_before c d)) (sym is) h.0, later)
 
   pub rising_tiles : (slots : List Slot) → Rising corner_of slots → Rising place_of (filter_map tile_of slots)
   rising_tiles [] h = tt
@@ -117,7 +117,7 @@ module _ (tile_of : Slot → Option TilePlace) (own : (s : Slot) → IfSome (til
       by : (o : Option TilePlace) → IfSome o (λ t. t.corner ≡ s.corner) → AllAfter place_of s.corner (filter_map tile_of rest) → Rising place_of (filter_map tile_of rest)
           → Rising place_of (cons_option o (filter_map tile_of rest))
       by None is later rising = rising
-      by (Some t) is later rising = (subst (λ (d : Place). AllAfter place_of d (filter_map tile_of rest)) (sym is) later, rising)
+      by (Some t) is later rising = (subst (λ (d : Corner). AllAfter place_of d (filter_map tile_of rest)) (sym is) later, rising)
 
 pub committed_own : (s : Slot) → IfSome (committed_tile s) (λ t. t.corner ≡ s.corner)
 committed_own s = elim s.committed as (λ o. IfSome (option_map (tile_at s.corner) o) (λ t. t.corner ≡ s.corner)) [ None ↦ tt | Some planes ↦ refl ]
@@ -125,14 +125,14 @@ committed_own s = elim s.committed as (λ o. IfSome (option_map (tile_at s.corne
 pub staged_own : (s : Slot) → IfSome (staged_tile s) (λ t. t.corner ≡ s.corner)
 staged_own s = by s.corner s.committed s.staged
   where
-    by : (c : Place) (o : Option TilePlanes) (g : Staged) → IfSome (staged_as c o g) (λ t. t.corner ≡ c)
+    by : (c : Corner) (o : Option TilePlanes) (g : Staged) → IfSome (staged_as c o g) (λ t. t.corner ≡ c)
     by c None AsCommitted = tt
     by c (Some planes) AsCommitted = refl
     by c o (Heights place keeps) = refl
     by c o Removed = tt
 
 -- ---- where a corner's slot stands
-at_later : (c : Place) (slots : List Slot) → AllAfter corner_of c slots → (j : ℕ) (d : Slot) → j < length slots → is_before c (get_or slots j d).corner ≡ true
+at_later : (c : Corner) (slots : List Slot) → AllAfter corner_of c slots → (j : ℕ) (d : Slot) → j < length slots → is_before c (get_or slots j d).corner ≡ true
 at_later c [] h j d below = absurd (omega arith)
 at_later c (s ∷ rest) h zero d below = h.0
 at_later c (s ∷ rest) h (suc j) d below = at_later c rest h.1 j d (omega arith)
@@ -143,14 +143,14 @@ rising_pairs (s ∷ rest) h i zero d less below = absurd (omega arith)
 rising_pairs (s ∷ rest) h zero (suc j) d less below = at_later s.corner rest h.0 j d (omega arith)
 rising_pairs (s ∷ rest) h (suc i) (suc j) d less below = rising_pairs rest h.1 i j d (omega arith) (omega arith)
 
-pub rising_partition : (c : Place) (slots : List Slot) → Rising corner_of slots → (i j : ℕ) (d : Slot) → i ≤ j → j < length slots → is_before (get_or slots j d).corner c ≡ true → is_before (get_or slots i d).corner c ≡ true
+pub rising_partition : (c : Corner) (slots : List Slot) → Rising corner_of slots → (i j : ℕ) (d : Slot) → i ≤ j → j < length slots → is_before (get_or slots j d).corner c ≡ true → is_before (get_or slots i d).corner c ≡ true
 rising_partition c slots h i j d le below earlier = elim (cases_eq i j) [
   | inl same ↦ subst (λ k. is_before (get_or slots k d).corner c ≡ true) (sym same) earlier
   | inr other ↦ before_trans (get_or slots i d).corner (get_or slots j d).corner c (rising_pairs slots h i j d (omega arith) below) earlier
 ]
 
 -- no slot from here on is before the corner, and the one here isn't its own: all from here on are after it
-pub room_after : (c : Place) (slots : List Slot) → Rising corner_of slots → (at : ℕ) → ((k : ℕ) (d : Slot) → at ≤ k → k < length slots → is_before (get_or slots k d).corner c ≡ false)
+pub room_after : (c : Corner) (slots : List Slot) → Rising corner_of slots → (at : ℕ) → ((k : ℕ) (d : Slot) → at ≤ k → k < length slots → is_before (get_or slots k d).corner c ≡ false)
     → (at < length slots → (d : Slot) → (get_or slots at d).corner ≢ c) → (k : ℕ) (d : Slot) → at ≤ k → k < length slots → is_before c (get_or slots k d).corner ≡ true
 room_after c slots h at late other k d from below =
     let here : is_before c (get_or slots at d).corner ≡ true =

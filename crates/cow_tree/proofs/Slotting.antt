@@ -1,7 +1,7 @@
 -- One slot changed.
 use Rattle.std.proofs.Common.{◌≡◌, ℕ, ◌+◌, ◌≤◌, Bool, true, false, cond, List, [], ◌∷◌, ◌++◌, refl, sym, ap, subst, ◌∙◌, arith}
 use Rattle.std.specs.Prelude.{Option, Some, None, IfSome, option_map, option_and_then, slice_set}
-use Rattle.lattice.specs.Corners.{Place}
+use Rattle.lattice.specs.Corners.{Corner}
 use Rattle.page_alloc.specs.Pages.{PageSet}
 use Rattle.page_codec.specs.Entries as entries
 use Rattle.cow_tree.specs.declared.places.KeptPlaces.{KeptPlaces}
@@ -54,7 +54,7 @@ first_restaged old place r page was mid now is record_is taken owned =
     }
 
 -- ---- what is staged ends
-pub replaced_count : (p : ℕ) (c : Place) (committed : Option TilePlanes) (place : PlanePlace) (keeps : Bool)
+pub replaced_count : (p : ℕ) (c : Corner) (committed : Option TilePlanes) (place : PlanePlace) (keeps : Bool)
     → times p (pages_of_place (staged_as c committed (Heights place keeps))) + times p (replaced_pages committed place keeps)
     ≡ times p (pages_of_place (option_map (tile_at c) committed)) + times p (fresh_as committed (Heights place keeps))
 replaced_count p c None place true = let whole = ap (times p) (differing-nil place.pages) in let joined = times-append p place.pages [] in omega arith

@@ -5,7 +5,7 @@ use Rattle.std.proofs.lemmas.Bool.Decides.{nat_tests}
 use Rattle.std.proofs.lemmas.List.Folds.{list_any_none}
 use Rattle.std.proofs.lemmas.List.Elements.{All-nil, All-cons, All-head, All-tail, All-contains_itself}
 use Rattle.disk.specs.Disk.{Image}
-use Rattle.lattice.specs.Corners.{Place}
+use Rattle.lattice.specs.Corners.{Corner}
 use Rattle.roots.specs.Slots.{SamePagesBut}
 use Rattle.cow_tree.specs.Places.{pages_of_plane, times}
 use Rattle.cow_tree.specs.Layout.{TilePlace, pages_of_kept, pages_of_tile, reached, HasRecord, HaveKeptRecords, tile_in}
@@ -16,17 +16,17 @@ use Rattle.cow_tree.proofs.Standing.{SameOn, All-front, All-back, map_same, kept
 use Rattle.cow_tree.proofs.Occurrences.{times-append, times_here, apart_head, absent, set_there}
 
 -- the tile with page i of its heights, and their record, elsewhere, if it is the corner's
-abbrev pub rewritten : Place → (i p r : ℕ) → TilePlace → TilePlace
+abbrev pub rewritten : Corner → (i p r : ℕ) → TilePlace → TilePlace
 rewritten c i p r t = if is_at c t then record t { heights = record { record_page = r; pages = slice_set t.heights.pages i p } } else t
 
-pub rewritten_here : (c : Place) (i p r : ℕ) (t : TilePlace) → is_at c t ≡ true → rewritten c i p r t ≡ record t { heights = record { record_page = r; pages = slice_set t.heights.pages i p } }
+pub rewritten_here : (c : Corner) (i p r : ℕ) (t : TilePlace) → is_at c t ≡ true → rewritten c i p r t ≡ record t { heights = record { record_page = r; pages = slice_set t.heights.pages i p } }
 rewritten_here c i p r t here = ap (λ (b : Bool). if b then record t { heights = record { record_page = r; pages = slice_set t.heights.pages i p } } else t) here
 
-pub rewritten_other : (c : Place) (i p r : ℕ) (t : TilePlace) → is_at c t ≡ false → rewritten c i p r t ≡ t
+pub rewritten_other : (c : Corner) (i p r : ℕ) (t : TilePlace) → is_at c t ≡ false → rewritten c i p r t ≡ t
 rewritten_other c i p r t other = ap (λ (b : Bool). if b then record t { heights = record { record_page = r; pages = slice_set t.heights.pages i p } } else t) other
 
 -- what the page does to a tile
-pub record IsWrittenAt (c : Place) (i p : ℕ) (page : List ℕ) (a b : Image) (t : TilePlace) : Type 0 where
+pub record IsWrittenAt (c : Corner) (i p : ℕ) (page : List ℕ) (a b : Image) (t : TilePlace) : Type 0 where
   pub others : is_at c t ≡ false → SameOn (pages_of_tile t) a b
   pub kept : is_at c t ≡ true → SameOn (pages_of_kept t.kept) a b
   pub heights : is_at c t ≡ true → map b (slice_set t.heights.pages i p) ≡ slice_set (map a t.heights.pages) i page
@@ -49,7 +49,7 @@ set_written (x ∷ xs) (suc i) p page a b lt low once same written =
     (set_written xs i p page a b (omega arith) (All-tail (λ q. 4 ≤ q) x (slice_set xs i p) low) (omega (arith, split, once)) same written)
 
 -- the tiles behind the one with the page
-module _ (c : Place) (i p r : ℕ) (page : List ℕ) (a b : Image) (same : SamePagesBut p a b) where
+module _ (c : Corner) (i p r : ℕ) (page : List ℕ) (a b : Image) (same : SamePagesBut p a b) where
   -- the rewritten tile reaches it
   reaches : (t : TilePlace) → is_at c t ≡ true → i < length t.heights.pages → 1 ≤ times p (pages_of_tile (rewritten c i p r t))
   reaches t here lt =
@@ -130,21 +130,21 @@ module _ (c : Place) (i p r : ℕ) (page : List ℕ) (a b : Image) (same : SameP
       ] refl
 
 -- what stands there then
-staged_one : (c : Place) (i p r : ℕ) (page : List ℕ) (a b : Image) (t : TilePlace) → IsWrittenAt c i p page a b t → tile_in b (rewritten c i p r t) ≡ with_page_in c i page (tile_in a t)
+staged_one : (c : Corner) (i p r : ℕ) (page : List ℕ) (a b : Image) (t : TilePlace) → IsWrittenAt c i p page a b t → tile_in b (rewritten c i p r t) ≡ with_page_in c i page (tile_in a t)
 staged_one c i p r page a b t written =
     elim (is_at c t) as (λ (v : Bool). is_at c t ≡ v → tile_in b (if v then record t { heights = record { record_page = r; pages = slice_set t.heights.pages i p } } else t) ≡ (if v then record (tile_in a t) { heights = slice_set (map a t.heights.pages) i page } else tile_in a t)) [
       | true ↦ λ here. ap₂ (λ (x : PlanePages) (y : Option KeptPlanes). record { corner = t.corner; heights = x; kept = y }) (written.heights here) (sym (kept_same t.kept a b (written.kept here)))
       | false ↦ λ other. sym (tile_same t a b (written.others other))
     ] refl
 
-pub staged_pages : (c : Place) (i p r : ℕ) (page : List ℕ) (a b : Image) (tiles : List TilePlace) → All (IsWrittenAt c i p page a b) tiles → map (tile_in b) (map (rewritten c i p r) tiles) ≡ with_page c i page (map (tile_in a) tiles)
+pub staged_pages : (c : Corner) (i p r : ℕ) (page : List ℕ) (a b : Image) (tiles : List TilePlace) → All (IsWrittenAt c i p page a b) tiles → map (tile_in b) (map (rewritten c i p r) tiles) ≡ with_page c i page (map (tile_in a) tiles)
 staged_pages c i p r page a b [] written = refl
 staged_pages c i p r page a b (t ∷ rest) written =
     ap₂ (λ (x : StoredTile) (xs : List StoredTile). x ∷ xs)
     (staged_one c i p r page a b t (All-head (IsWrittenAt c i p page a b) t rest written))
     (staged_pages c i p r page a b rest (All-tail (IsWrittenAt c i p page a b) t rest written))
 
-module _ (n : ℕ) (committed : List TilePlace) (c : Place) (i p r : ℕ) (page : List ℕ) (a b : Image) (fresh : list_any (λ q. q == r) (reached committed) ≡ false) where
+module _ (n : ℕ) (committed : List TilePlace) (c : Corner) (i p r : ℕ) (page : List ℕ) (a b : Image) (fresh : list_any (λ q. q == r) (reached committed) ≡ false) where
   heights_one : (t : TilePlace) → IsWrittenAt c i p page a b t → (is_changed committed t ≡ false → HasRecord n a t.heights) → is_changed committed (rewritten c i p r t) ≡ false → HasRecord n b (rewritten c i p r t).heights
   heights_one t written had =
       elim (is_at c t) as (λ (v : Bool). is_at c t ≡ v

@@ -6,7 +6,7 @@ use Rattle.std.proofs.lemmas.List.Elements.{All-weaker}
 use Rattle.disk.specs.Disk.{Image}
 use Rattle.disk.specs.Stops.{LeavesOnly, weaker}
 use Rattle.disk.specs.declared.disk.Disk.{Ghosts}
-use Rattle.lattice.specs.Corners.{Place}
+use Rattle.lattice.specs.Corners.{Corner}
 use Rattle.lattice.specs.declared.refusal.Refusal.{Refusal}
 use Rattle.lattice.specs.declared.refusal.Refusal.TheVariants.{Device, NoMemory}
 use Rattle.page_codec.specs.Roots.{RootValue}
@@ -27,17 +27,17 @@ ok_where_works (Ok t) failed err works ok = ok
 ok_where_works (Err e) failed err works ok = absurd (let no : true ≡ false = sym err ∙ works in cc)
 
 -- the same corners
-pub corners_same : (c : Place) (i p r : ℕ) (tiles : List TilePlace) → corners_of_places (with_page_place c i p r tiles) ≡ corners_of_places tiles
+pub corners_same : (c : Corner) (i p r : ℕ) (tiles : List TilePlace) → corners_of_places (with_page_place c i p r tiles) ≡ corners_of_places tiles
 corners_same c i p r [] = refl
 corners_same c i p r (t ∷ rest) =
-    ap₂ (λ (x : Place) (xs : List Place). x ∷ xs) (by_test (is_at c t)) (corners_same c i p r rest)
+    ap₂ (λ (x : Corner) (xs : List Corner). x ∷ xs) (by_test (is_at c t)) (corners_same c i p r rest)
   where
     by_test : (v : Bool) → (if v then record t { heights = record { record_page = r; pages = slice_set t.heights.pages i p } } else t).corner ≡ t.corner
     by_test true = refl
     by_test false = refl
 
 -- one page staged
-module _ (old new : ChartValue) (c : Place) (i p : ℕ) (page : List ℕ) (a b : Image) (rules : IsChart old) (after : IsChart new) (rw : IsRewritten c i p old new) where
+module _ (old new : ChartValue) (c : Corner) (i p : ℕ) (page : List ℕ) (a b : Image) (rules : IsChart old) (after : IsChart new) (rw : IsRewritten c i p old new) where
   committed_same : new.committed ≡ old.committed
   committed_same = ap (λ (x : ChartValue). x.committed) rw.changed
 

@@ -2,7 +2,7 @@
 use Rattle.std.proofs.Common.{◌≡◌, ℕ, zero, suc, Bool, true, false, cond, ◌||◌, IsTrue, List, [], ◌∷◌, All, Contains, length, map, refl, sym, ap, ◌∙◌, subst, arith}
 use Rattle.std.specs.List.{AllAdjacentBelow, filter, list_any}
 use Rattle.std.proofs.lemmas.List.Elements.{All-nil, All-cons, All-head, All-tail}
-use Rattle.lattice.specs.Corners.{Place, same_place, is_before}
+use Rattle.lattice.specs.Corners.{Corner, same_corner, is_before}
 use Rattle.lattice.specs.Lattice.{IsBefore}
 use Rattle.catalogue.proofs.Places.{before_apart}
 use Rattle.catalogue.proofs.Presence.{listed_from, listed_says}
@@ -11,10 +11,10 @@ use Rattle.cow_tree.specs.Layout.{TilePlace, pages_of_tile, reached}
 use Rattle.cow_tree.specs.Charts.{is_at, corners_of_places, IsPlaced}
 use Rattle.cow_tree.proofs.Standing.{All-front, All-back}
 
-abbrev pub corner_of : TilePlace → Place
+abbrev pub corner_of : TilePlace → Corner
 corner_of t = t.corner
 
-after_says : (c : Place) (tiles : List TilePlace) (t : TilePlace) → AllAfter corner_of c tiles → Contains tiles t → IsTrue (is_before c t.corner)
+after_says : (c : Corner) (tiles : List TilePlace) (t : TilePlace) → AllAfter corner_of c tiles → Contains tiles t → IsTrue (is_before c t.corner)
 after_says c [] t after (k, lt, here) = absurd (omega (arith, lt))
 after_says c (u ∷ rest) t after (zero, lt, here) = subst (λ (v : TilePlace). IsTrue (is_before c v.corner)) here after.0
 after_says c (u ∷ rest) t after (suc k, lt, here) = after_says c rest t after.1 (k, omega arith, here)
@@ -32,14 +32,14 @@ pub one_at_corner : (tiles : List TilePlace) (t u : TilePlace) → AllAdjacentBe
 one_at_corner tiles t u in_order has_t has_u same = rising_one tiles t u (rising_from corner_of tiles in_order) has_t has_u same
 
 -- the corner's tile is among them, as a test
-pub placed_test : (c : Place) (tiles : List TilePlace) → list_any (is_at c) tiles ≡ list_any (λ d. same_place d c) (corners_of_places tiles)
+pub placed_test : (c : Corner) (tiles : List TilePlace) → list_any (is_at c) tiles ≡ list_any (λ d. same_corner d c) (corners_of_places tiles)
 placed_test c [] = refl
-placed_test c (t ∷ rest) = ap (λ (b : Bool). same_place t.corner c || b) (placed_test c rest)
+placed_test c (t ∷ rest) = ap (λ (b : Bool). same_corner t.corner c || b) (placed_test c rest)
 
-pub placed_is : (c : Place) (tiles : List TilePlace) → IsPlaced c tiles → list_any (is_at c) tiles ≡ true
+pub placed_is : (c : Corner) (tiles : List TilePlace) → IsPlaced c tiles → list_any (is_at c) tiles ≡ true
 placed_is c tiles placed = placed_test c tiles ∙ listed_from c (corners_of_places tiles) placed
 
-pub placed_says : (c : Place) (tiles : List TilePlace) → list_any (is_at c) tiles ≡ true → IsPlaced c tiles
+pub placed_says : (c : Corner) (tiles : List TilePlace) → list_any (is_at c) tiles ≡ true → IsPlaced c tiles
 placed_says c tiles some = listed_says c (corners_of_places tiles) (sym (placed_test c tiles) ∙ some)
 
 -- what holds of all pages that tiles reach holds of those of each tile
@@ -57,7 +57,7 @@ unfiltered test P (x ∷ xs) all =
     ] refl all
 
 -- their corners are in order
-corners_after : (c : Place) (tiles : List TilePlace) → AllAfter corner_of c tiles → AllAfter (λ d. d) c (map corner_of tiles)
+corners_after : (c : Corner) (tiles : List TilePlace) → AllAfter corner_of c tiles → AllAfter (λ d. d) c (map corner_of tiles)
 corners_after c [] after = tt
 corners_after c (t ∷ rest) after = (after.0, corners_after c rest after.1)
 

@@ -1,7 +1,7 @@
 -- Which pages hold which planes: as committed, and as the next commit will have it (this product's own profile).
 use Rattle.std.specs.Prelude.{◌≡◌, ◌⊎◌, ℕ, ◌≤◌, ◌<◌, ◌==◌, Bool, IsTrue, List, [], ◌∷◌, All, Contains, length, map, filter, not, Some, None, IsSome, IfSome, if◌then◌else◌, slice_set}
 use Rattle.std.specs.List.{AllAdjacentBelow, list_any}
-use Rattle.lattice.specs.Corners.{Place, same_place, is_before, is_corner}
+use Rattle.lattice.specs.Corners.{Corner, same_corner, is_before, is_corner}
 use Rattle.lattice.specs.Lattice.{IsBefore}
 use Rattle.page_codec.specs.Sizes.{pages_of, sectors_of}
 use Rattle.cow_tree.specs.declared.places.KeptPlaces.{KeptPlaces}
@@ -22,22 +22,22 @@ abbrev pub no_tiles_charted : (sectors side capacity : ℕ) → ChartValue
 no_tiles_charted sectors side capacity = record { sectors = sectors; side = side; capacity = capacity; committed = []; staged = [] }
 
 -- the corner's tile, with these planes
-abbrev pub tile_at : Place → TilePlanes → TilePlace
+abbrev pub tile_at : Corner → TilePlanes → TilePlace
 tile_at c planes = record { corner = c; heights = planes.heights; kept = planes.kept }
 
-abbrev pub corners_of_places : List TilePlace → List Place
+abbrev pub corners_of_places : List TilePlace → List Corner
 corners_of_places tiles = map (λ t. t.corner) tiles
 
 -- some tile has this corner
-abbrev pub IsPlaced : Place → List TilePlace → Type 0
+abbrev pub IsPlaced : Corner → List TilePlace → Type 0
 IsPlaced c tiles = Contains (corners_of_places tiles) c
 
 -- the corner's tile has its heights there
-abbrev pub HasHeights : Place → PlanePlace → List TilePlace → Type 0
+abbrev pub HasHeights : Corner → PlanePlace → List TilePlace → Type 0
 HasHeights c place tiles = (t : TilePlace) × (Contains tiles t × (t.corner ≡ c) × (t.heights ≡ place))
 
 -- the corner's tile has these planes kept there
-abbrev pub HasKept : Place → KeptPlaces → List TilePlace → Type 0
+abbrev pub HasKept : Corner → KeptPlaces → List TilePlace → Type 0
 HasKept c kept tiles = (t : TilePlace) × (Contains tiles t × (t.corner ≡ c) × (t.kept ≡ Some kept))
 
 pub record AreWholeKept (side : ℕ) (k : KeptPlaces) : Type 0 where
@@ -79,7 +79,7 @@ abbrev pub IsClean : ChartValue → Type 0
 IsClean chart = chart.staged ≡ chart.committed
 
 -- the corner's heights are staged: their record isn't committed
-abbrev pub HasFreshHeights : Place → ChartValue → Type 0
+abbrev pub HasFreshHeights : Corner → ChartValue → Type 0
 HasFreshHeights c chart = (t : TilePlace) × (Contains chart.staged t × (t.corner ≡ c) × IsFresh chart t.heights.record_page)
 
 -- the same as a test of a staged tile
@@ -87,17 +87,17 @@ abbrev pub is_changed : List TilePlace → TilePlace → Bool
 is_changed committed t = not (list_any (λ p. p == t.heights.record_page) (reached committed))
 
 -- the corners of the tiles whose heights are staged, in order
-abbrev pub fresh_corners : ChartValue → List Place
+abbrev pub fresh_corners : ChartValue → List Corner
 fresh_corners chart = corners_of_places (filter (is_changed chart.committed) chart.staged)
 
-abbrev pub is_at : Place → TilePlace → Bool
-is_at c t = same_place t.corner c
+abbrev pub is_at : Corner → TilePlace → Bool
+is_at c t = same_corner t.corner c
 
 -- the tile with these heights, if it is the corner's
-abbrev pub with_heights_in : Place → PlanePlace → TilePlace → TilePlace
+abbrev pub with_heights_in : Corner → PlanePlace → TilePlace → TilePlace
 with_heights_in c place t = if is_at c t then record t { heights = place } else t
 
-abbrev pub with_heights : Place → PlanePlace → List TilePlace → List TilePlace
+abbrev pub with_heights : Corner → PlanePlace → List TilePlace → List TilePlace
 with_heights c place tiles = map (with_heights_in c place) tiles
 
 -- the tiles with one more, in order
@@ -106,47 +106,47 @@ with_tile_place new [] = new ∷ []
 with_tile_place new (t ∷ rest) = if is_before new.corner t.corner then new ∷ (t ∷ rest) else t ∷ with_tile_place new rest
 
 -- the tiles without the corner's
-abbrev pub without_place : Place → List TilePlace → List TilePlace
+abbrev pub without_place : Corner → List TilePlace → List TilePlace
 without_place c tiles = filter (λ t. not (is_at c t)) tiles
 
 -- the tile with page i of its heights there, and their record too, if it is the corner's
-abbrev pub with_page_place_in : (c : Place) (i page record_page : ℕ) → TilePlace → TilePlace
+abbrev pub with_page_place_in : (c : Corner) (i page record_page : ℕ) → TilePlace → TilePlace
 with_page_place_in c i page record_page t =
     if is_at c t then record t { heights = record { record_page = record_page; pages = slice_set t.heights.pages i page } } else t
 
-abbrev pub with_page_place : (c : Place) (i page record_page : ℕ) → List TilePlace → List TilePlace
+abbrev pub with_page_place : (c : Corner) (i page record_page : ℕ) → List TilePlace → List TilePlace
 with_page_place c i page record_page tiles = map (with_page_place_in c i page record_page) tiles
 
 -- the tile with the record of its heights there, if it is the corner's
-abbrev pub with_record_in : (c : Place) (record_page : ℕ) → TilePlace → TilePlace
+abbrev pub with_record_in : (c : Corner) (record_page : ℕ) → TilePlace → TilePlace
 with_record_in c record_page t = if is_at c t then record t { heights = record { record_page = record_page; pages = t.heights.pages } } else t
 
-abbrev pub with_record : (c : Place) (record_page : ℕ) → List TilePlace → List TilePlace
+abbrev pub with_record : (c : Corner) (record_page : ℕ) → List TilePlace → List TilePlace
 with_record c record_page tiles = map (with_record_in c record_page) tiles
 
 -- page i of the corner's heights may be written at this page: no committed tile has it or the record of the heights, and
 -- nothing else has changed
-pub record IsRewritten (c : Place) (i page : ℕ) (old new : ChartValue) : Type 0 where
+pub record IsRewritten (c : Corner) (i page : ℕ) (old new : ChartValue) : Type 0 where
   pub record_page : ℕ
   pub fresh_record : IsFresh new record_page
   pub fresh_page : IsFresh new page
   pub changed : new ≡ record old { staged = with_page_place c i page record_page old.staged }
 
 -- the record of the corner's heights has a fresh page, and nothing else has changed
-pub record IsPrepared (c : Place) (old new : ChartValue) : Type 0 where
+pub record IsPrepared (c : Corner) (old new : ChartValue) : Type 0 where
   pub record_page : ℕ
   pub fresh_record : IsFresh new record_page
   pub changed : new ≡ record old { staged = with_record c record_page old.staged }
 
 -- the corner's tile is new, with fresh pages for its heights
-pub record IsAdded (c : Place) (old new : ChartValue) : Type 0 where
+pub record IsAdded (c : Corner) (old new : ChartValue) : Type 0 where
   pub place : PlanePlace
   pub whole : length place.pages ≡ pages_of old.side
   pub fresh : All (IsFresh new) (pages_of_plane place)
   pub changed : new ≡ record old { staged = with_tile_place (record { corner = c; heights = place; kept = None }) old.staged }
 
 -- the corner's tile has fresh pages for all its heights
-pub record IsReplaced (c : Place) (old new : ChartValue) : Type 0 where
+pub record IsReplaced (c : Corner) (old new : ChartValue) : Type 0 where
   pub place : PlanePlace
   pub whole : length place.pages ≡ pages_of old.side
   pub fresh : All (IsFresh new) (pages_of_plane place)

@@ -1,7 +1,7 @@
 -- Where on a disk the planes lie, and what an image of it stands for (this product's own profile).
 use Rattle.std.specs.Prelude.{◌≡◌, ℕ, ◌≤◌, ◌<◌, List, [], ◌++◌, All, map, Option, Some, None, IfSome}
 use Rattle.std.specs.List.{flat_map}
-use Rattle.lattice.specs.Corners.{Place}
+use Rattle.lattice.specs.Corners.{Corner}
 use Rattle.disk.specs.Disk.{Image}
 use Rattle.page_codec.specs.Entries.{EntryValue}
 use Rattle.page_codec.specs.declared.entry.Kept.{Kept}
@@ -15,7 +15,7 @@ use Rattle.cow_tree.specs.Stored.{PlanePages, KeptPlanes, StoredTile, Stored, no
 
 -- where the planes of a tile lie
 pub record TilePlace : Type 0 where
-  pub corner : Place
+  pub corner : Corner
   pub heights : PlanePlace
   pub kept : Option KeptPlaces
 

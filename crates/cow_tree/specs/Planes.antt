@@ -1,6 +1,6 @@
 -- The planes of a tile by name.
 use Rattle.std.specs.Prelude.{◌≡◌, ℕ, List, Contains, Some, slice_get}
-use Rattle.lattice.specs.Corners.{Place}
+use Rattle.lattice.specs.Corners.{Corner}
 use Rattle.cow_tree.specs.declared.plane.Plane.{Plane}
 use Rattle.cow_tree.specs.declared.plane.Plane.TheVariants.{Heights, Levels, Labels}
 use Rattle.cow_tree.specs.declared.places.KeptPlaces.{KeptPlaces}
@@ -21,13 +21,13 @@ HasPages Levels t pages = (kept : KeptPlanes) × ((t.kept ≡ Some kept) × (kep
 HasPages Labels t pages = (kept : KeptPlanes) × ((t.kept ≡ Some kept) × (kept.labels ≡ pages))
 
 -- these tiles have a plane of this name for the corner
-abbrev pub HasPlane : List TilePlace → Place → Plane → Type 0
+abbrev pub HasPlane : List TilePlace → Corner → Plane → Type 0
 HasPlane tiles c plane = (t : TilePlace) × (Contains tiles t × ((t.corner ≡ c) × ((place : PlanePlace) × LiesAt plane t place)))
 
 -- the corner's plane lies there
-abbrev pub HasPlaneAt : List TilePlace → Place → Plane → PlanePlace → Type 0
+abbrev pub HasPlaneAt : List TilePlace → Corner → Plane → PlanePlace → Type 0
 HasPlaneAt tiles c plane place = (t : TilePlace) × (Contains tiles t × ((t.corner ≡ c) × LiesAt plane t place))
 
 -- page i of the corner's plane
-abbrev pub HasPage : List StoredTile → Place → Plane → ℕ → List ℕ → Type 0
+abbrev pub HasPage : List StoredTile → Corner → Plane → ℕ → List ℕ → Type 0
 HasPage tiles c plane i bytes = (t : StoredTile) × (Contains tiles t × ((t.corner ≡ c) × ((pages : PlanePages) × (HasPages plane t pages × (slice_get pages i ≡ Some bytes)))))

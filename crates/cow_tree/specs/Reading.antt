@@ -4,7 +4,7 @@ use Rattle.std.proofs.Common.{refl, ap, ◌∙◌, arith}
 use Rattle.disk.specs.Disk.{Image, HasRisen}
 use Rattle.disk.specs.Stops.{AddsNothing, nothing_done, nothing_twice}
 use Rattle.disk.specs.declared.disk.Disk.{Ghosts}
-use Rattle.lattice.specs.Corners.{Place}
+use Rattle.lattice.specs.Corners.{Corner}
 use Rattle.lattice.specs.Mosaic.{Mosaic, IsMosaic}
 use Rattle.lattice.specs.declared.refusal.Refusal.{Refusal}
 use Rattle.lattice.specs.declared.refusal.Refusal.TheVariants.{Device, Failed}
@@ -88,4 +88,4 @@ module _ {D : Type 0} (g : Ghosts D) where
 -- the mosaic has the corners of the staged tiles
 pub corners_in_mosaic : (n : ℕ) (image : Image) (tiles : List TilePlace) → corners_in (mosaic_of_tiles n (map (tile_in image) tiles)) ≡ map (λ (t : TilePlace). t.corner) tiles
 corners_in_mosaic n image [] = refl
-corners_in_mosaic n image (t ∷ rest) = ap (λ (cs : List Place). t.corner ∷ cs) (corners_in_mosaic n image rest)
+corners_in_mosaic n image (t ∷ rest) = ap (λ (cs : List Corner). t.corner ∷ cs) (corners_in_mosaic n image rest)

@@ -2,7 +2,7 @@
 use Rattle.std.specs.Prelude.{◌≡◌, ℕ, ◌+◌, ◌≤◌, ◌<◌, ◌^◌, true, false, Bool, IsTrue, List, [], ◌∷◌, ◌++◌, length, Option, Some, None, IfSome, is_some, if◌then◌else◌, slice_set, slice_index_or}
 use Rattle.std.specs.Option.{option_map}
 use Rattle.std.specs.List.{HoldsAt, AllWithin, filter_map, flat_map, AllByRecursion, AllAdjacentBelow}
-use Rattle.lattice.specs.Corners.{Place, is_corner}
+use Rattle.lattice.specs.Corners.{Corner, is_corner}
 use Rattle.lattice.specs.Lattice.{IsBefore}
 use Rattle.page_alloc.specs.Pages.{PageSet}
 use Rattle.page_codec.specs.Sizes.{sectors_of}
@@ -21,7 +21,7 @@ use Rattle.cow_tree.specs.Charts.{ChartValue, tile_at, IsWholeTile}
 abbrev pub committed_tile : Slot → Option TilePlace
 committed_tile s = option_map (tile_at s.corner) s.committed
 
-abbrev pub staged_as : Place → Option TilePlanes → Staged → Option TilePlace
+abbrev pub staged_as : Corner → Option TilePlanes → Staged → Option TilePlace
 staged_as c committed AsCommitted = option_map (tile_at c) committed
 staged_as c committed (Heights place keeps) = Some (record { corner = c; heights = place; kept = if keeps then kept_of committed else None })
 staged_as c committed Removed = None
@@ -151,12 +151,12 @@ chart_of side capacity slots free =
     record { sectors = free.total; side = side; capacity = capacity; committed = committed_tiles slots; staged = staged_tiles slots }
 
 -- the corner's slot stands at this index
-pub record IsSlotAt (c : Place) (at : ℕ) (slots : List Slot) : Type 0 where
+pub record IsSlotAt (c : Corner) (at : ℕ) (slots : List Slot) : Type 0 where
   pub below : at < length slots
   pub here : HoldsAt (λ s. s.corner ≡ c) slots at
 
 -- no slot is the corner's, and one at this index would be in order
-pub record IsRoomAt (c : Place) (at : ℕ) (slots : List Slot) : Type 0 where
+pub record IsRoomAt (c : Corner) (at : ℕ) (slots : List Slot) : Type 0 where
   pub within : at ≤ length slots
   pub before : AllWithin (λ s. IsBefore s.corner c) slots 0 at
   pub after : AllWithin (λ s. IsBefore c s.corner) slots at (length slots)

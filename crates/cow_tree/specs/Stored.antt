@@ -2,7 +2,7 @@
 -- own profile).
 use Rattle.std.specs.Prelude.{◌≡◌, ℕ, ℤ, ◌+◌, ◌*◌, ◌<◌, List, [], All, length, map, filter, not, take, drop, zero, suc, ◌∷◌, Option, None, if◌then◌else◌, slice_set}
 use Rattle.std.specs.List.{concat}
-use Rattle.lattice.specs.Corners.{Place, same_place, is_before}
+use Rattle.lattice.specs.Corners.{Corner, same_corner, is_before}
 use Rattle.lattice.specs.Mosaic.{Mosaic}
 use Rattle.page_codec.specs.Numbers.{padded}
 use Rattle.page_codec.specs.Sizes.{pages_of}
@@ -18,7 +18,7 @@ pub record KeptPlanes : Type 0 where
   pub labels : PlanePages
 
 pub record StoredTile : Type 0 where
-  pub corner : Place
+  pub corner : Corner
   pub heights : PlanePages
   pub kept : Option KeptPlanes
 
@@ -72,21 +72,21 @@ mosaic_of_tiles n tiles = record { side = n; tiles = map (λ t. record { corner 
 -- what staging makes of the tiles
 
 -- the tiles with this page of heights at the index, if the tile is the corner's
-abbrev pub with_page_in : Place → ℕ → List ℕ → StoredTile → StoredTile
-with_page_in c i page t = if same_place t.corner c then record t { heights = slice_set t.heights i page } else t
+abbrev pub with_page_in : Corner → ℕ → List ℕ → StoredTile → StoredTile
+with_page_in c i page t = if same_corner t.corner c then record t { heights = slice_set t.heights i page } else t
 
-abbrev pub with_page : Place → ℕ → List ℕ → List StoredTile → List StoredTile
+abbrev pub with_page : Corner → ℕ → List ℕ → List StoredTile → List StoredTile
 with_page c i page tiles = map (with_page_in c i page) tiles
 
 -- without the corner's tile
-abbrev pub without_tile : Place → List StoredTile → List StoredTile
-without_tile c tiles = filter (λ t. not (same_place t.corner c)) tiles
+abbrev pub without_tile : Corner → List StoredTile → List StoredTile
+without_tile c tiles = filter (λ t. not (same_corner t.corner c)) tiles
 
 -- the tiles with these pages of heights, if the tile is the corner's
-abbrev pub with_plane_in : Place → PlanePages → StoredTile → StoredTile
-with_plane_in c pages t = if same_place t.corner c then record t { heights = pages } else t
+abbrev pub with_plane_in : Corner → PlanePages → StoredTile → StoredTile
+with_plane_in c pages t = if same_corner t.corner c then record t { heights = pages } else t
 
-abbrev pub with_plane : Place → PlanePages → List StoredTile → List StoredTile
+abbrev pub with_plane : Corner → PlanePages → List StoredTile → List StoredTile
 with_plane c pages tiles = map (with_plane_in c pages) tiles
 
 -- the tiles with one more, in order
@@ -95,13 +95,13 @@ with_tile new [] = new ∷ []
 with_tile new (t ∷ rest) = if is_before new.corner t.corner then new ∷ (t ∷ rest) else t ∷ with_tile new rest
 
 -- the corners with one more, in order
-abbrev pub with_corner : Place → List Place → List Place
+abbrev pub with_corner : Corner → List Corner → List Corner
 with_corner new [] = new ∷ []
 with_corner new (c ∷ rest) = if is_before new c then new ∷ (c ∷ rest) else c ∷ with_corner new rest
 
 -- a tile of which no levels and labels are kept
-abbrev pub stale_tile : Place → PlanePages → StoredTile
+abbrev pub stale_tile : Corner → PlanePages → StoredTile
 stale_tile c pages = record { corner = c; heights = pages; kept = None }
 
-abbrev pub corners_of_stored : List StoredTile → List Place
+abbrev pub corners_of_stored : List StoredTile → List Corner
 corners_of_stored tiles = map (λ t. t.corner) tiles

@@ -2,7 +2,7 @@
 use Rattle.std.specs.Prelude.{◌≡◌, ◌⊎◌, ℕ, Bool, List, length, map, Result, Ok, Err}
 use Rattle.disk.specs.Disk.{Image}
 use Rattle.disk.specs.declared.disk.Disk.{Ghosts}
-use Rattle.lattice.specs.Corners.{Place}
+use Rattle.lattice.specs.Corners.{Corner}
 use Rattle.lattice.specs.declared.refusal.Refusal.{Refusal}
 use Rattle.lattice.specs.declared.refusal.Refusal.TheVariants as refusal
 use Rattle.page_codec.specs.Roots.{RootValue}
@@ -34,15 +34,15 @@ module _ {D : Type 0} {g : Ghosts D} where
   has_begun tree = have_begun tree.pager
 
   -- the corners of the staged tiles, in order. They are held in memory, and so known whatever a disk does.
-  abbrev pub corners_of : Tree D g → List Place
+  abbrev pub corners_of : Tree D g → List Corner
   corners_of tree = corners_of_places tree.chart.staged
 
   -- the corner has such a plane
-  abbrev pub Holds : Tree D g → Place → Plane → Type 0
+  abbrev pub Holds : Tree D g → Corner → Plane → Type 0
   Holds tree c plane = HasPlane tree.chart.staged c plane
 
   -- heights of the corner were staged since the last commit
-  abbrev pub HasStaged : Tree D g → Place → Type 0
+  abbrev pub HasStaged : Tree D g → Corner → Type 0
   HasStaged tree c = HasFreshHeights c tree.chart
 
   -- how many records the next commit writes: one a tile whose heights were staged

@@ -2,7 +2,7 @@
 ghost use Rattle.std.specs.Prelude.{◌≡◌, ◌≢◌, ◌≤◌, ◌<◌, ◌+◌, ◌*◌, ◌^◌, ◌⊎◌, ◌↔◌, ℕ, [], List, All, Contains, IsTrue, length, map, filter, not, true, false, Ok, Err, OnOk, OnErr, IfOk, IfErr, IsErrOf, if◌then◌else◌};
 ghost use Rattle.disk.specs.Disk.{Image, Only, HasRisen};
 ghost use Rattle.disk.specs.Stops.{LeavesOnly, AddsNothing, HasCause};
-ghost use Rattle.lattice.specs.Corners.{Place, same_place, is_corner};
+ghost use Rattle.lattice.specs.Corners.{Corner, same_corner, is_corner};
 ghost use Rattle.lattice.specs.Lattice.{IsBefore};
 ghost use Rattle.std.specs.List.{AllAdjacentBelow};
 ghost use Rattle.lattice.specs.declared.refusal.Refusal.TheVariants.{Device, NoMemory, Failed};
@@ -95,7 +95,7 @@ impl<D: Disk> Tree<D> {
         ensures durable { D.honest (disk_after result) → OnOk result (Only (D.seen (disk_after result)) (D.may (disk_after result))) }
         ensures not_failed { IfOk result (λ tree. has_failed tree ≡ false) }
         ensures not_begun { IfOk result (λ tree. has_begun tree ≡ false) }
-        ensures clean { IfOk result (λ tree. (c : Place) → ¬ HasStaged tree c) }
+        ensures clean { IfOk result (λ tree. (c : Corner) → ¬ HasStaged tree c) }
         ensures none_due { IfOk result (λ tree. records_due tree ≡ 0) }
         ensures corners { IfOk result (λ tree. corners_of tree ≡ map (λ e. e.corner) (root_of tree).entries) }
     {
@@ -136,7 +136,7 @@ impl<D: Disk> Tree<D> {
         ensures not_begun { OnOk result (has_begun self.new ≡ false) }
         ensures failed { OnErr result (has_failed self.new ≡ true) }
         ensures last_known { OnErr result (root_of self.new ≡ root_of self.old) }
-        ensures clean { OnOk result ((c : Place) → ¬ HasStaged self.new c) }
+        ensures clean { OnOk result ((c : Corner) → ¬ HasStaged self.new c) }
         ensures none_due { OnOk result (records_due self.new ≡ 0) }
         ensures corners { OnOk result (corners_of self.new ≡ map (λ e. e.corner) (root_of self.new).entries) }
     {
@@ -267,7 +267,7 @@ impl<D: Disk> Tree<D> {
         ensures due { records_due self.new ≤ records_due self.old + 1 }
         ensures due_same { HasStaged self.old c → records_due self.new ≡ records_due self.old }
         ensures has_staged { OnOk result (HasStaged self.new c) }
-        ensures still_staged { (other : Place) → HasStaged self.old other → HasStaged self.new other }
+        ensures still_staged { (other : Corner) → HasStaged self.old other → HasStaged self.new other }
 
         // The page is staged, and nothing else.
         ensures staged { D.honest (disk_of self.new) → (s : Stored) → IsAt D.Disk self.old s
@@ -300,7 +300,7 @@ impl<D: Disk> Tree<D> {
         ensures due { records_due self.new ≤ records_due self.old + 1 }
         ensures due_same { HasStaged self.old c → records_due self.new ≡ records_due self.old }
         ensures has_staged { OnOk result (HasStaged self.new c) }
-        ensures still_staged { (other : Place) → HasStaged self.old other → HasStaged self.new other }
+        ensures still_staged { (other : Corner) → HasStaged self.old other → HasStaged self.new other }
         ensures at { (s : Stored) → IsAt D.Disk self.old s → IsAt D.Disk self.new s }
     {
         self.chart.rules();
@@ -373,7 +373,7 @@ impl<D: Disk> Tree<D> {
         ensures side { (root_of self.new).side ≡ (root_of self.old).side }
         ensures capacity { (root_of self.new).capacity ≡ (root_of self.old).capacity }
         ensures not_begun { OnOk result (has_begun self.new ≡ false) }
-        ensures none_staged { OnOk result ((c : Place) → ¬ HasStaged self.new c) }
+        ensures none_staged { OnOk result ((c : Corner) → ¬ HasStaged self.new c) }
         ensures none_due { OnOk result (records_due self.new ≡ 0) }
         ensures entries { OnOk result (corners_of self.new ≡ map (λ e. e.corner) (root_of self.new).entries) }
         ensures at { D.honest (disk_of self.new) → (s : Stored) → IsAt D.Disk self.old s
@@ -403,7 +403,7 @@ impl<D: Disk> Tree<D> {
         ensures failed { has_failed self.new ≡ has_failed self.old }
         ensures begun { has_begun self.new ≡ has_begun self.old }
         ensures corners { corners_of self.new ≡ map (λ e. e.corner) (root_of self.new).entries }
-        ensures none_staged { (c : Place) → ¬ HasStaged self.new c }
+        ensures none_staged { (c : Corner) → ¬ HasStaged self.new c }
         ensures none_due { records_due self.new ≡ 0 }
         ensures at { D.honest (disk_of self.old) → (s : Stored) → IsAt D.Disk self.old s → IsAt D.Disk self.new s }
         ensures committed { D.honest (disk_of self.old) → (s : Stored) → IsAt D.Disk self.old s → staged_in D.Disk self.new ≡ s.tiles }
@@ -422,7 +422,7 @@ impl<D: Disk> Tree<D> {
         ensures root { root_of self.new ≡ root_of self.old }
         ensures not_failed { has_failed self.new ≡ false }
         ensures begun { has_begun self.new ≡ has_begun self.old }
-        ensures corners { corners_of self.new ≡ filter (λ other. not (same_place other c)) (corners_of self.old) }
+        ensures corners { corners_of self.new ≡ filter (λ other. not (same_corner other c)) (corners_of self.old) }
         ensures due { records_due self.new ≤ records_due self.old }
         ensures staged { staged_in D.Disk self.new ≡ without_tile c (staged_in D.Disk self.old) }
         ensures at { (s : Stored) → IsAt D.Disk self.old s → IsAt D.Disk self.new s }

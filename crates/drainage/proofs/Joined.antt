@@ -5,7 +5,7 @@ use Rattle.std.proofs.lemmas.Bool.{cases_lt}
 use Rattle.std.proofs.lemmas.List.{map-append, take_more, take_all, length-map, get_or_append_left}
 use Rattle.std.proofs.lemmas.List.Elements.{All-append, All-cons, All-nil}
 use Rattle.std.proofs.Math.Seq.{get_or-append_seam}
-use Rattle.lattice.specs.Corners.{Place}
+use Rattle.lattice.specs.Corners.{Corner}
 use Rattle.lattice.specs.Mosaic.{Mosaic, IsMosaic}
 use Rattle.catalogue.specs.Tiles.{corners_of}
 use Rattle.catalogue.proofs.Presence.{present_iff}
@@ -17,15 +17,15 @@ use Rattle.border_graph.specs.Joins.{AreJoined}
 use Rattle.border_graph.proofs.Tiles.{get_or-map}
 use Rattle.drainage.specs.Flooded.{corner_at, labelled_at, IsFlooded, AreFlooded, AreRimsFilled}
 
-abbrev pub border_corner : Border → Place
+abbrev pub border_corner : Border → Corner
 border_corner b = b.corner
 
 -- one tile more
-pub one_more_flooded : (m : Mosaic) (corners : List Place) (labelled : List LabelledGround) (borders : List Border) (k : ℕ) (c : Place) (l : LabelledGround) (b : Border)
+pub one_more_flooded : (m : Mosaic) (corners : List Corner) (labelled : List LabelledGround) (borders : List Border) (k : ℕ) (c : Corner) (l : LabelledGround) (b : Border)
     → k < length corners → corner_at corners k ≡ c → b.corner ≡ c → IsFlooded m c l → IsBorderOf m b → AreFlooded m corners labelled borders k → AreFlooded m corners (labelled ++ l ∷ []) (borders ++ b ∷ []) (k + 1)
 one_more_flooded m corners labelled borders k c l b below at of flooded border done = record {
   whole = length-append labelled (l ∷ []) ∙ ap (λ n. n + 1) done.whole;
-  in_order = map-append border_corner borders (b ∷ []) ∙ ap₂ (λ (xs : List Place) (x : Place). xs ++ x ∷ []) done.in_order (of ∙ sym at) ∙ sym (take_more corners k (record { lat = pos 0; lon = pos 0 }) below);
+  in_order = map-append border_corner borders (b ∷ []) ∙ ap₂ (λ (xs : List Corner) (x : Corner). xs ++ x ∷ []) done.in_order (of ∙ sym at) ∙ sym (take_more corners k (record { lat = pos 0; lon = pos 0 }) below);
   each = All-append (IsBorderOf m) borders (b ∷ []) done.each (All-cons (IsBorderOf m) b [] border (All-nil (IsBorderOf m)));
   flooded = λ i less. elim (cases_lt i k) [
     | inl earlier ↦ subst (IsFlooded m (corner_at corners i)) (sym (get_or_append_left labelled (l ∷ []) (record { side = 0; levels = []; labels = [] }) i (subst (λ n. i < n) (sym done.whole) earlier))) (done.flooded i earlier)
@@ -38,13 +38,13 @@ one_more_flooded m corners labelled borders k c l b below at of flooded border d
 }
 
 -- each of the corners' tiles is flooded
-pub all_done : (m : Mosaic) (seen corners : List Place) (labelled : List LabelledGround) (borders : List Border) (k : ℕ) → seen ≡ corners → k ≤ length seen → length seen ≤ k
+pub all_done : (m : Mosaic) (seen corners : List Corner) (labelled : List LabelledGround) (borders : List Border) (k : ℕ) → seen ≡ corners → k ≤ length seen → length seen ≤ k
     → AreFlooded m seen labelled borders k → AreFlooded m corners labelled borders (length corners)
 all_done m seen corners labelled borders k same low high done =
     let here : k ≡ length seen = omega arith in
-    subst (λ (cs : List Place). AreFlooded m cs labelled borders (length cs)) same (subst (AreFlooded m seen labelled borders) here done)
+    subst (λ (cs : List Corner). AreFlooded m cs labelled borders (length cs)) same (subst (AreFlooded m seen labelled borders) here done)
 
-module _ (m : Mosaic) (is : IsMosaic m) (corners : List Place) (all : corners ≡ corners_of m) (labelled : List LabelledGround) (borders : List Border) (done : AreFlooded m corners labelled borders (length corners)) where
+module _ (m : Mosaic) (is : IsMosaic m) (corners : List Corner) (all : corners ≡ corners_of m) (labelled : List LabelledGround) (borders : List Border) (done : AreFlooded m corners labelled borders (length corners)) where
   same_corners : map border_corner borders ≡ corners
   same_corners = done.in_order ∙ take_all (length corners) corners (omega arith)
 
@@ -60,23 +60,23 @@ module _ (m : Mosaic) (is : IsMosaic m) (corners : List Place) (all : corners �
     whole = joined.whole ∙ as_many;
     each = λ k below.
         let flooded = done.flooded k below in
-        let same : (border_at borders k).corner ≡ corner_at corners k = sym (get_or-map border_corner borders k (record { corner = record { lat = pos 0; lon = pos 0 }; rim = []; spills = [] })) ∙ ap (λ (cs : List Place). corner_at cs k) same_corners in
+        let same : (border_at borders k).corner ≡ corner_at corners k = sym (get_or-map border_corner borders k (record { corner = record { lat = pos 0; lon = pos 0 }; rim = []; spills = [] })) ∙ ap (λ (cs : List Corner). corner_at cs k) same_corners in
         record {
           mosaic = is;
           side = flooded.side;
-          present = (present_iff m (corner_at corners k)).1 (subst (λ (cs : List Place). Contains cs (corner_at corners k)) all (k, below, own corners k (record { lat = pos 0; lon = pos 0 }) below));
+          present = (present_iff m (corner_at corners k)).1 (subst (λ (cs : List Corner). Contains cs (corner_at corners k)) all (k, below, own corners k (record { lat = pos 0; lon = pos 0 }) below));
           labelled = flooded.valid;
           rim_levels = subst (λ c. AreRimLevels m c (get_or rims k [])) same (joined.each k (subst (λ n. k < n) (sym as_many) below));
         };
   }
     where
-      own : (cs : List Place) (k : ℕ) (d : Place) → k < length cs → get_or cs k (get_or cs k d) ≡ get_or cs k d
+      own : (cs : List Corner) (k : ℕ) (d : Corner) → k < length cs → get_or cs k (get_or cs k d) ≡ get_or cs k d
       own [] k d below = absurd (omega arith)
       own (c ∷ cs) zero d below = refl
       own (c ∷ cs) (suc k) d below = own cs k d (omega arith)
 
 -- the rim of one of the tiles
-pub rim_at : (m : Mosaic) (corners : List Place) (labelled : List LabelledGround) (rims : List (List ℤ)) → AreRimsFilled m corners labelled rims
+pub rim_at : (m : Mosaic) (corners : List Corner) (labelled : List LabelledGround) (rims : List (List ℤ)) → AreRimsFilled m corners labelled rims
     → (k : ℕ) → k < length corners → (l : LabelledGround) → labelled_at labelled k ≡ l → (rim : List ℤ) → get_or rims k [] ≡ rim → IsRimFilled m (corner_at corners k) l.side l.levels l.labels rim
 rim_at m corners labelled rims filled k below l this rim here =
     subst (λ r. IsRimFilled m (corner_at corners k) l.side l.levels l.labels r) here

@@ -5,7 +5,7 @@ use Rattle.std.specs.List.{AllAdjacentBelow}
 use Rattle.std.proofs.Math.Nat.{mul-le-mul_right}
 use Rattle.std.proofs.lemmas.Bool.{cases_lt}
 use Rattle.std.proofs.lemmas.List.{get_or_append_left, get_or-append-add}
-use Rattle.lattice.specs.Corners.{Place}
+use Rattle.lattice.specs.Corners.{Corner}
 use Rattle.lattice.specs.Lattice.{IsBefore, point_of}
 use Rattle.lattice.specs.Mosaic.{Mosaic, IsMosaic, void}
 use Rattle.lattice.specs.Ground.{is_ground, terrain}
@@ -17,7 +17,7 @@ use Rattle.flow_d8.specs.Levels.{Levels, AreLevels, IsFilledOf}
 use Rattle.drainage.specs.Flooded.{corner_at}
 use Rattle.drainage.specs.Draining.{AreTilesFilled}
 
-pub none_filled : (m : Mosaic) (corners : List Place) → AreTilesFilled m corners [] 0
+pub none_filled : (m : Mosaic) (corners : List Corner) → AreTilesFilled m corners [] 0
 none_filled m corners = record { whole = none (m.side * m.side); on_ground = λ k e below. absurd (omega arith); elsewhere = λ k e below. absurd (omega arith) }
   where
     none : (a : ℕ) → 0 ≡ 0 * a
@@ -30,7 +30,7 @@ inside area count k e below small =
     let step : suc k * area ≡ area + k * area = omega arith in
     omega arith
 
-module _ (m : Mosaic) (corners : List Place) (levels tile : List ℤ) (count : ℕ) (done : AreTilesFilled m corners levels count) (here : AreTileLevels m (corner_at corners count) tile) where
+module _ (m : Mosaic) (corners : List Corner) (levels tile : List ℤ) (count : ℕ) (done : AreTilesFilled m corners levels count) (here : AreTileLevels m (corner_at corners count) tile) where
   area : ℕ
   area = m.side * m.side
 
@@ -63,15 +63,15 @@ module _ (m : Mosaic) (corners : List Place) (levels tile : List ℤ) (count : �
       one_more n a = omega arith
 
 -- the levels of all tiles are those of the mosaic
-module _ (m : Mosaic) (is : IsMosaic m) (n : ℕ) (side : n ≡ m.side) (corners : List Place) (all : corners ≡ corners_of m) (levels : List ℤ) (done : AreTilesFilled m corners levels (length corners)) where
+module _ (m : Mosaic) (is : IsMosaic m) (n : ℕ) (side : n ≡ m.side) (corners : List Corner) (all : corners ≡ corners_of m) (levels : List ℤ) (done : AreTilesFilled m corners levels (length corners)) where
   found : Levels
   found = record { side = n; corners = corners; levels = levels }
 
-  found_at : (cs : List Place) (k : ℕ) (c : Place) → slice_get cs k ≡ Some c → (k < length cs) × (corner_at cs k ≡ c)
+  found_at : (cs : List Corner) (k : ℕ) (c : Corner) → slice_get cs k ≡ Some c → (k < length cs) × (corner_at cs k ≡ c)
   found_at [] k c e = absurd (cc)
   found_at (d ∷ ds) zero c e = (omega arith, some_is d c e)
     where
-      some_is : (a b : Place) → ◌≡◌ {A = Option Place} (Some a) (Some b) → a ≡ b
+      some_is : (a b : Corner) → ◌≡◌ {A = Option Corner} (Some a) (Some b) → a ≡ b
       some_is a b e = cc
   found_at (d ∷ ds) (suc k) c e = let later = found_at ds k c e in (omega (arith, later.0), later.1)
 
@@ -80,7 +80,7 @@ module _ (m : Mosaic) (is : IsMosaic m) (n : ℕ) (side : n ≡ m.side) (corners
     side_low = subst (λ k. 3 ≤ k) (sym side) is.side_low;
     side_high = subst (λ k. k ≤ 3601) (sym side) is.side_high;
     few = few;
-    in_order = subst (λ (cs : List Place). AllAdjacentBelow IsBefore cs (length cs)) (sym all) (corners_in_order m is);
+    in_order = subst (λ (cs : List Corner). AllAdjacentBelow IsBefore cs (length cs)) (sym all) (corners_in_order m is);
     whole = done.whole ∙ ap (λ k. length corners * (k * k)) (sym side);
   }
 

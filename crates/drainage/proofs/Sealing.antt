@@ -5,7 +5,7 @@ use Rattle.std.proofs.lemmas.Bool.{false≢true}
 use Rattle.std.proofs.lemmas.List.Elements.{All-weaker}
 use Rattle.lattice.specs.declared.refusal.Refusal.{Refusal}
 use Rattle.lattice.specs.declared.refusal.Refusal.TheVariants.{Device, NoMemory, Failed, Damaged}
-use Rattle.lattice.specs.Corners.{Place}
+use Rattle.lattice.specs.Corners.{Corner}
 use Rattle.lattice.specs.Lattice.{point_of}
 use Rattle.lattice.specs.Mosaic.{Mosaic, IsMosaic}
 use Rattle.lattice.specs.Height.{height_of}
@@ -42,7 +42,7 @@ sealed_again m s again is valid once twice = record {
   blocks = All-weaker (λ t. IsBlockOf s t.corner t.samples) (λ t. IsBlockOf m t.corner t.samples) (λ t block. same_block t.corner t.samples block) again.tiles twice.blocks;
 }
   where
-    same_block : (c : Place) (heights : List ℤ) → IsBlockOf s c heights → IsBlockOf m c heights
+    same_block : (c : Corner) (heights : List ℤ) → IsBlockOf s c heights → IsBlockOf m c heights
     same_block c heights block = record {
       whole = block.whole ∙ ap (λ n. n * n) once.side;
       values = λ e small.

@@ -5,7 +5,7 @@ use Rattle.std.proofs.lemmas.List.{get_or_append_left}
 use Rattle.std.proofs.Math.Seq.{get_or-append_seam}
 use Rattle.std.specs.Prelude.{All, slice_index, slice_index_or}
 use Rattle.lattice.specs.declared.point.Point.{Point}
-use Rattle.lattice.specs.Corners.{Place}
+use Rattle.lattice.specs.Corners.{Corner}
 use Rattle.lattice.specs.Lattice.{point_of}
 use Rattle.lattice.specs.Mosaic.{Mosaic, IsMosaic, IsSample, IsTile, void}
 use Rattle.lattice.specs.Ground.{is_outlet}
@@ -24,10 +24,10 @@ use Rattle.drainage.specs.Flooded.{IsGroundIn, IsRimPointIn, AreRimPointsIn, IsF
 use Rattle.drainage.proofs.Tiles.{of_tile}
 
 -- the samples of a table are numbers of 16 bits
-pub are_samples : (s : Mosaic) (c : Place) (block : Ground) → IsMosaic s → IsGroundIn s c block → All IsSample block.heights
+pub are_samples : (s : Mosaic) (c : Corner) (block : Ground) → IsMosaic s → IsGroundIn s c block → All IsSample block.heights
 are_samples s c block valid given = (of_tile (IsTile s.side) s.tiles c block.heights valid.tiles given.heights).samples
 
-module _ (m s : Mosaic) (sealed : IsSealed m s) (c : Place) (block : Ground) (given : IsGroundIn s c block) where
+module _ (m s : Mosaic) (sealed : IsSealed m s) (c : Corner) (block : Ground) (given : IsGroundIn s c block) where
   block_is : IsBlockOf m c block.heights
   block_is = of_tile (λ t. IsBlockOf m t.corner t.samples) s.tiles c block.heights sealed.blocks given.heights
 
@@ -68,7 +68,7 @@ module _ (m s : Mosaic) (sealed : IsSealed m s) (c : Place) (block : Ground) (gi
     }
 
 -- one rim point more
-pub one_more_point : (s : Mosaic) (c : Place) (heights : List ℤ) (labels : List ℕ) (rim : List RimPoint) (k : ℕ) (p : RimPoint)
+pub one_more_point : (s : Mosaic) (c : Corner) (heights : List ℤ) (labels : List ℕ) (rim : List RimPoint) (k : ℕ) (p : RimPoint)
     → IsRimPointIn s c heights labels k p → AreRimPointsIn s c heights labels rim k → AreRimPointsIn s c heights labels (rim ++ p ∷ []) (k + 1)
 one_more_point s c heights labels rim k p here done = record {
   whole = length-append rim (p ∷ []) ∙ ap (λ n. n + 1) done.whole;

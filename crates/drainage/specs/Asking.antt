@@ -1,6 +1,6 @@
 -- How a query may be refused (this product's own profile).
 use Rattle.std.specs.Prelude.{ℕ, Bool, true, List, Contains}
-use Rattle.lattice.specs.Corners.{Place}
+use Rattle.lattice.specs.Corners.{Corner}
 use Rattle.lattice.specs.Lattice.{Holds}
 use Rattle.lattice.specs.declared.point.Point.{Point}
 use Rattle.lattice.specs.declared.refusal.Refusal.{Refusal}
@@ -10,8 +10,8 @@ use Rattle.catalogue.specs.Sealed.{IsSealed}
 use Rattle.edits.specs.Plans.{ends_any}
 
 -- none of these corners' tiles holds the point
-abbrev pub IsHeldByNone : ℕ → List Place → Point → Type 0
-IsHeldByNone n corners p = (c : Place) → Contains corners c → Holds n c p → ⊥
+abbrev pub IsHeldByNone : ℕ → List Corner → Point → Type 0
+IsHeldByNone n corners p = (c : Corner) → Contains corners c → Holds n c p → ⊥
 
 -- no ground there, no memory, or a read
 abbrev pub may_refuse : Refusal → Bool

@@ -2,7 +2,7 @@
 use Rattle.std.specs.Prelude.{◌≡◌, ℕ, ◌+◌, ◌*◌, ◌<◌, ℤ, IsTrue, IsFalse, Option, Some, None, List, length, slice_index_or}
 use Rattle.lattice.specs.declared.point.Point.{Point}
 use Rattle.lattice.specs.declared.direction.Dir.{Dir}
-use Rattle.lattice.specs.Corners.{Place}
+use Rattle.lattice.specs.Corners.{Corner}
 use Rattle.lattice.specs.Lattice.{point_of}
 use Rattle.lattice.specs.Steps.{code_of}
 use Rattle.lattice.specs.Terrain.{Terrain, IsFilledLevel}
@@ -25,7 +25,7 @@ abbrev pub LevelFunctionsExist : Type 0
 LevelFunctionsExist = (m : Mosaic) → IsMosaic m → (level : Point → ℤ) × AreFilledLevels (terrain m) level
 
 -- of the first tiles the filled levels, tile after tile
-pub record AreTilesFilled (m : Mosaic) (corners : List Place) (levels : List ℤ) (count : ℕ) : Type 0 where
+pub record AreTilesFilled (m : Mosaic) (corners : List Corner) (levels : List ℤ) (count : ℕ) : Type 0 where
   pub whole : length levels ≡ count * (m.side * m.side)
   pub on_ground : (k e : ℕ) → k < count → e < m.side * m.side → IsTrue (is_ground m (point_of m.side (corner_at corners k) e))
       → IsFilledLevel (terrain m) (point_of m.side (corner_at corners k) e) (slice_index_or levels (k * (m.side * m.side) + e) void)

@@ -1,7 +1,7 @@
 -- Tiles flooded each by itself, and what their summaries say (this product's own profile, after the tiled flooding of
 -- Barnes 2016).
 use Rattle.std.specs.Prelude.{◌≡◌, ℕ, ◌<◌, ℤ, pos, List, [], All, Some, length, map, take, slice_index, slice_index_or}
-use Rattle.lattice.specs.Corners.{Place}
+use Rattle.lattice.specs.Corners.{Corner}
 use Rattle.lattice.specs.Lattice.{point_of}
 use Rattle.lattice.specs.Mosaic.{Mosaic, void, samples_of}
 use Rattle.lattice.specs.Ground.{is_outlet}
@@ -16,12 +16,12 @@ use Rattle.border_graph.specs.Joining.{nowhere, IsBorderOf}
 use Rattle.border_graph.specs.RimPoints.{IsRimPoint}
 
 -- the side and the samples of the corner's tile
-pub record IsGroundIn (table : Mosaic) (c : Place) (block : Ground) : Type 0 where
+pub record IsGroundIn (table : Mosaic) (c : Corner) (block : Ground) : Type 0 where
   pub side : block.side ≡ table.side
   pub heights : samples_of table c ≡ Some block.heights
 
 -- what a summary says of the rim point with this number, where each tile of the table is its block
-pub record IsRimPointIn (table : Mosaic) (c : Place) (heights : List ℤ) (labels : List ℕ) (k : ℕ) (p : RimPoint) : Type 0 where
+pub record IsRimPointIn (table : Mosaic) (c : Corner) (heights : List ℤ) (labels : List ℕ) (k : ℕ) (p : RimPoint) : Type 0 where
   pub index : ℕ
   pub number : IsRimPoint table.side k index
   pub height : p.height ≡ slice_index_or heights index void
@@ -29,30 +29,30 @@ pub record IsRimPointIn (table : Mosaic) (c : Place) (heights : List ℤ) (label
   pub outlet : p.outlet ≡ is_outlet table (point_of table.side c index)
 
 -- the first rim points, by rim number
-pub record AreRimPointsIn (table : Mosaic) (c : Place) (heights : List ℤ) (labels : List ℕ) (rim : List RimPoint) (count : ℕ) : Type 0 where
+pub record AreRimPointsIn (table : Mosaic) (c : Corner) (heights : List ℤ) (labels : List ℕ) (rim : List RimPoint) (count : ℕ) : Type 0 where
   pub whole : length rim ≡ count
   pub each : (k : ℕ) → k < count → IsRimPointIn table c heights labels k (slice_index_or rim k nowhere)
 
 -- a valid labelling of the block of the corner's tile
-pub record IsFlooded (m : Mosaic) (c : Place) (labelled : LabelledGround) : Type 0 where
+pub record IsFlooded (m : Mosaic) (c : Corner) (labelled : LabelledGround) : Type 0 where
   pub side : labelled.side ≡ m.side
   pub valid : (heights : List ℤ) × (IsBlockOf m c heights × IsLabelling labelled.side heights labelled.levels labelled.labels)
 
-abbrev pub corner_at : List Place → ℕ → Place
+abbrev pub corner_at : List Corner → ℕ → Corner
 corner_at corners k = slice_index_or corners k (record { lat = pos 0; lon = pos 0 })
 
 abbrev pub labelled_at : List LabelledGround → ℕ → LabelledGround
 labelled_at labelled k = slice_index_or labelled k (record { side = 0; levels = []; labels = [] })
 
 -- of the first corners a labelling each, and a summary each
-pub record AreFlooded (m : Mosaic) (corners : List Place) (labelled : List LabelledGround) (borders : List Border) (count : ℕ) : Type 0 where
+pub record AreFlooded (m : Mosaic) (corners : List Corner) (labelled : List LabelledGround) (borders : List Border) (count : ℕ) : Type 0 where
   pub whole : length labelled ≡ count
   pub in_order : map (λ b. b.corner) borders ≡ take count corners
   pub each : All (IsBorderOf m) borders
   pub flooded : (k : ℕ) → k < count → IsFlooded m (corner_at corners k) (labelled_at labelled k)
 
 -- all tiles, with the filled levels of their rims
-pub record AreRimsFilled (m : Mosaic) (corners : List Place) (labelled : List LabelledGround) (rims : List (List ℤ)) : Type 0 where
+pub record AreRimsFilled (m : Mosaic) (corners : List Corner) (labelled : List LabelledGround) (rims : List (List ℤ)) : Type 0 where
   pub all : corners ≡ corners_of m
   pub whole : length rims ≡ length corners
   pub each : (k : ℕ) → k < length corners → IsRimFilled m (corner_at corners k) (labelled_at labelled k).side (labelled_at labelled k).levels (labelled_at labelled k).labels (slice_index_or rims k [])

@@ -6,7 +6,7 @@ use Rattle.std.specs.List.{All, list_any}
 use Rattle.std.proofs.lemmas.Bool.{or_left, or_right}
 use Rattle.std.proofs.lemmas.Int.{ints}
 use Rattle.std.proofs.lemmas.List.Elements.{All-nil, All-cons, All-head, All-tail}
-use Rattle.lattice.specs.Corners.{Place, is_before, same_place}
+use Rattle.lattice.specs.Corners.{Corner, is_before, same_corner}
 use Rattle.lattice.specs.Mosaic.{Tile, Mosaic, is_present}
 use Rattle.lattice.specs.Lattice.{point_of}
 use Rattle.lattice.specs.Height.{height_of}
@@ -25,19 +25,19 @@ use Rattle.edits.specs.Changes.{all_changed}
 use Rattle.edits.specs.Effect.{effect, edited, changed_from, is_in_box, is_void_at, is_named, patched, burnt, walled, unless_fault, first_fault, is_height, is_depth, is_box, has_void, is_repeated}
 use Rattle.edits.specs.Touched.{are_neighbours, goes_stale, stale_after}
 
-abbrev corner_of : Tile → Place
+abbrev corner_of : Tile → Corner
 corner_of t = t.corner
 
 -- what holds of each corner holds of each that is left, or of each and one more
 
-with_tile_each : (P : Place → Type 0) (t : Tile) (ts : List Tile) → P t.corner → All P (map corner_of ts) → All P (map corner_of (with_tile t ts))
+with_tile_each : (P : Corner → Type 0) (t : Tile) (ts : List Tile) → P t.corner → All P (map corner_of ts) → All P (map corner_of (with_tile t ts))
 with_tile_each P t [] h each = All-cons P t.corner [] h (All-nil P)
 with_tile_each P t (u ∷ us) h each = elim (is_before t.corner u.corner) as (λ b. All P (map corner_of (cond b (t ∷ (u ∷ us)) (u ∷ with_tile t us)))) [
   | true ↦ All-cons P t.corner (map corner_of (u ∷ us)) h each
   | false ↦ All-cons P u.corner (map corner_of (with_tile t us)) (All-head P u.corner (map corner_of us) each) (with_tile_each P t us h (All-tail P u.corner (map corner_of us) each))
 ]
 
-filter_each : (P : Place → Type 0) (f : Tile → Bool) (ts : List Tile) → All P (map corner_of ts) → All P (map corner_of (filter f ts))
+filter_each : (P : Corner → Type 0) (f : Tile → Bool) (ts : List Tile) → All P (map corner_of ts) → All P (map corner_of (filter f ts))
 filter_each P f [] each = each
 filter_each P f (t ∷ ts) each =
     let rest = filter_each P f ts (All-tail P t.corner (map corner_of ts) each) in
@@ -49,7 +49,7 @@ filter_each P f (t ∷ ts) each =
 -- an edit changes no corner
 same_corners : (g : Tile → List ℤ) (ts : List Tile) → map corner_of (map (λ t. record { corner = t.corner; samples = g t }) ts) ≡ map corner_of ts
 same_corners g [] = refl
-same_corners g (t ∷ ts) = ap (λ (cs : List Place). t.corner ∷ cs) (same_corners g ts)
+same_corners g (t ∷ ts) = ap (λ (cs : List Corner). t.corner ∷ cs) (same_corners g ts)
 
 edited_corners : (f : Point → ℤ → ℤ) (m : Mosaic) → corners_of (edited f m) ≡ corners_of m
 edited_corners f m = same_corners (λ t. changed_from (λ e s. f (point_of m.side t.corner e) s) 0 t.samples) m.tiles
@@ -63,20 +63,20 @@ all_changed_side (Set c i s ∷ rest) m = all_changed_side rest (with_sample c i
 
 -- all tiles are stale, and stay so
 
-filter_same : (p : Place → Bool) (cs : List Place) → All (λ c. p c ≡ true) cs → filter p cs ≡ cs
+filter_same : (p : Corner → Bool) (cs : List Corner) → All (λ c. p c ≡ true) cs → filter p cs ≡ cs
 filter_same p [] each = refl
 filter_same p (c ∷ cs) each =
     rw (All-head (λ d. p d ≡ true) c cs each, filter_same p cs (All-tail (λ d. p d ≡ true) c cs each)) refl
 
-listed_at : (cs : List Place) (k : ℕ) (d : Place) → k < length cs → list_any (same_place (get_or cs k d)) cs ≡ true
+listed_at : (cs : List Corner) (k : ℕ) (d : Corner) → k < length cs → list_any (same_corner (get_or cs k d)) cs ≡ true
 listed_at [] k d within = absurd (omega arith)
-listed_at (c ∷ cs) zero d within = or_left (same_place c c) (list_any (same_place c) cs) (same_from c c refl)
-listed_at (c ∷ cs) (suc k) d within = or_right (same_place (get_or cs k d) c) (list_any (same_place (get_or cs k d)) cs) (listed_at cs k d (omega arith))
+listed_at (c ∷ cs) zero d within = or_left (same_corner c c) (list_any (same_corner c) cs) (same_from c c refl)
+listed_at (c ∷ cs) (suc k) d within = or_right (same_corner (get_or cs k d) c) (list_any (same_corner (get_or cs k d)) cs) (listed_at cs k d (omega arith))
 
 no_way : (z : ℤ) → nat_lt (nat_abs (z -ℤ z)) 2 ≡ true
 no_way z = let e : z -ℤ z ≡ pos 0 = omega (arith, ints) in rw e refl
 
-near_itself : (c : Place) → are_neighbours c c ≡ true
+near_itself : (c : Corner) → are_neighbours c c ≡ true
 near_itself c = rw (no_way c.lat, no_way c.lon) refl
 
 -- tests that let through
@@ -101,27 +101,27 @@ module _ (a b : Bool) (p q : Refusal) (f : Option Refusal) (made new : Mosaic) w
   passes_faults e = no_fault f made new (passes b q (unless_fault f made) new (passes a p (if b then Err q else unless_fault f made) new e))
 
 module _ (m : Mosaic) (c : Command) where
-  abbrev stays_stale : Place → Type 0
-  stays_stale p = (list_any (same_place p) (corners_of m) || goes_stale m c p) ≡ true
+  abbrev stays_stale : Corner → Type 0
+  stays_stale p = (list_any (same_corner p) (corners_of m) || goes_stale m c p) ≡ true
 
   old_stale : All stays_stale (corners_of m)
-  old_stale k d within = or_left (list_any (same_place (get_or (corners_of m) k d)) (corners_of m)) (goes_stale m c (get_or (corners_of m) k d)) (listed_at (corners_of m) k d within)
+  old_stale k d within = or_left (list_any (same_corner (get_or (corners_of m) k d)) (corners_of m)) (goes_stale m c (get_or (corners_of m) k d)) (listed_at (corners_of m) k d within)
 
   abbrev AllStale : Mosaic → Type 0
   AllStale new = All stays_stale (corners_of new)
 
   same_stale : (made new : Mosaic) → corners_of made ≡ corners_of m → made ≡ new → AllStale new
-  same_stale made new same is = subst (λ (cs : List Place). All stays_stale cs) (sym same ∙ ap corners_of is) old_stale
+  same_stale made new same is = subst (λ (cs : List Corner). All stays_stale cs) (sym same ∙ ap corners_of is) old_stale
 
 new_stale : (capacity : ℕ) (m new : Mosaic) (c : Command) → effect capacity m c ≡ Ok new → AllStale m c new
 new_stale capacity m new (Import c bytes) e =
     let tile : Tile = record { corner = c; samples = samples_in bytes } in
     subst (AllStale m (Import c bytes))
     (passes_three (not (nat_eq (length bytes) (2 * (m.side * m.side)))) (is_present m c) (not (nat_lt (length m.tiles) capacity)) BadLength TileThere Full (added tile m) new e)
-    (with_tile_each (stays_stale m (Import c bytes)) tile m.tiles (or_right (list_any (same_place c) (corners_of m)) (are_neighbours c c) (near_itself c)) (old_stale m (Import c bytes)))
+    (with_tile_each (stays_stale m (Import c bytes)) tile m.tiles (or_right (list_any (same_corner c) (corners_of m)) (are_neighbours c c) (near_itself c)) (old_stale m (Import c bytes)))
 new_stale capacity m new (Remove c) e =
     subst (AllStale m (Remove c)) (made_is (without c m) new (Ok (without c m)) refl (passes (not (is_present m c)) NoTile (Ok (without c m)) new e))
-    (filter_each (stays_stale m (Remove c)) (λ t. not (same_place t.corner c)) m.tiles (old_stale m (Remove c)))
+    (filter_each (stays_stale m (Remove c)) (λ t. not (same_corner t.corner c)) m.tiles (old_stale m (Remove c)))
 new_stale capacity m new (Patch from to h) e =
     same_stale m (Patch from to h) (patched from to h m) new (edited_corners (λ p s. if is_in_box from to p && is_void_at m p then h else s) m)
     (passes_three (not (is_height h)) (not (is_box m.side from to)) (not (has_void m from to)) BadHeight BadBox NothingVoid (patched from to h m) new e)
@@ -134,4 +134,4 @@ new_stale capacity m new (Wall h points) e =
 
 pub all_stale : (capacity : ℕ) (m new : Mosaic) (c : Command) → effect capacity m c ≡ Ok new → stale_after m c (corners_of m) new ≡ corners_of new
 all_stale capacity m new c e =
-    filter_same (λ p. list_any (same_place p) (corners_of m) || goes_stale m c p) (corners_of new) (new_stale capacity m new c e)
+    filter_same (λ p. list_any (same_corner p) (corners_of m) || goes_stale m c p) (corners_of new) (new_stale capacity m new c e)

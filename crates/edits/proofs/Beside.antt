@@ -6,7 +6,7 @@ use Rattle.std.specs.List.{Contains, list_any, filter}
 use Rattle.std.proofs.lemmas.Bool.{and_parts, and_from, false_from_ne_true}
 use Rattle.std.proofs.lemmas.List.{length-map, get_or-map}
 use Rattle.std.proofs.lemmas.List.Elements.{All-contains}
-use Rattle.lattice.specs.Corners.{Place, same_place}
+use Rattle.lattice.specs.Corners.{Corner, same_corner}
 use Rattle.lattice.specs.declared.point.Point.{Point}
 use Rattle.lattice.specs.declared.refusal.Refusal.{Refusal}
 use Rattle.lattice.specs.Ground.{same_point}
@@ -40,7 +40,7 @@ abbrev pub HasOne : Mosaic → (Point → Bool) → Tile → Type 0
 HasOne m test t = (e : ℕ) × ((e < m.side * m.side) × (test (point_of m.side t.corner e) ≡ true))
 
 module _ (m : Mosaic) (valid : IsMosaic m) (test : Point → Bool) (sample : Point → ℤ) (changes : List Change) (puts : Puts m.side (corners_of m) test sample changes) (touched : Tile → Bool)
-    (says : (t : Tile) → IsTile m.side t → touched t ≡ true → HasOne m test t) (from : (t : Tile) → IsTile m.side t → HasOne m test t → touched t ≡ true) (p : Place) where
+    (says : (t : Tile) → IsTile m.side t → touched t ≡ true → HasOne m test t) (from : (t : Tile) → IsTile m.side t → HasOne m test t → touched t ≡ true) (p : Corner) where
   whole : (t : Tile) → Contains m.tiles t → IsTile m.side t
   whole t there = All-contains (IsTile m.side) m.tiles t valid.tiles there
 
@@ -51,10 +51,10 @@ module _ (m : Mosaic) (valid : IsMosaic m) (test : Point → Bool) (sample : Poi
       let put = placed.1.1 in
       let tile = tile_at m put.corner put.present in
       let t = tile.0 in
-      let at : point_of m.side t.corner put.index ≡ placed.0 = ap (λ (c : Place). point_of m.side c put.index) tile.1.1 ∙ put.here in
+      let at : point_of m.side t.corner put.index ≡ placed.0 = ap (λ (c : Corner). point_of m.side c put.index) tile.1.1 ∙ put.here in
       let hit : touched t ≡ true = from t (whole t tile.1.0) (put.index, (put.within, ap test at ∙ placed.1.0)) in
       let of : tile_of found.0 ≡ t.corner = ap tile_of put.sets ∙ sym tile.1.1 in
-      let close : are_neighbours t.corner p ≡ true = ap (λ (c : Place). are_neighbours c p) (sym of) ∙ found.1.1 in
+      let close : are_neighbours t.corner p ≡ true = ap (λ (c : Corner). are_neighbours c p) (sym of) ∙ found.1.1 in
       any_from (λ (u : Tile). touched u && are_neighbours u.corner p) m.tiles t tile.1.0 (and_from (touched t) (are_neighbours t.corner p) hit close)
 
   beside_one : is_near_one touched m p ≡ true → is_beside changes p ≡ true
@@ -90,7 +90,7 @@ module _ (m : Mosaic) (valid : IsMosaic m) (points : List Point) where
       let held : Holds m.side t.corner q = subst (λ (r : Point). Holds m.side t.corner r) here (point_of_held m.side t.corner e (some_edge m.side valid.side_low) tile.corner below) in
       any_from (λ (r : Point). holds m.side t.corner r) points q found.1.0 ((holds_is m.side t.corner q valid.side_low tile.corner).1 held)
 
-  pub named_beside : (sample : Point → ℤ) (changes : List Change) → Puts m.side (corners_of m) (is_named points) sample changes → (p : Place) → is_beside changes p ≡ is_near_one (λ t. holds_one m points t.corner) m p
+  pub named_beside : (sample : Point → ℤ) (changes : List Change) → Puts m.side (corners_of m) (is_named points) sample changes → (p : Corner) → is_beside changes p ≡ is_near_one (λ t. holds_one m points t.corner) m p
   named_beside sample changes puts p = puts_beside m valid (is_named points) sample changes puts (λ t. holds_one m points t.corner) named_says named_from p
 
 -- the tiles that hold a void point of the box
@@ -105,13 +105,13 @@ module _ (m : Mosaic) (valid : IsMosaic m) (from to : Point) where
   void_from t tile (e, (below, void)) =
       at_index m from to t.corner 0 t.samples e (omega (arith, below, tile.whole)) (ap (λ i. is_void_within m from to (point_of m.side t.corner i)) (zero-add e) ∙ void)
 
-  pub void_beside : (sample : Point → ℤ) (changes : List Change) → Puts m.side (corners_of m) (is_void_within m from to) sample changes → (p : Place) → is_beside changes p ≡ is_near_one (λ t. has_void_from m from to t.corner 0 t.samples) m p
+  pub void_beside : (sample : Point → ℤ) (changes : List Change) → Puts m.side (corners_of m) (is_void_within m from to) sample changes → (p : Corner) → is_beside changes p ≡ is_near_one (λ t. has_void_from m from to t.corner 0 t.samples) m p
   void_beside sample changes puts p = puts_beside m valid (is_void_within m from to) sample changes puts (λ t. has_void_from m from to t.corner 0 t.samples) void_says void_from p
 
 -- the stale tiles, by the tiles that the changes are of
-pub stale_as : (m : Mosaic) (result : Result (Vec Change) Refusal) (a b : Command) → a ≡ b → IfOk result (λ changes. (p : Place) → is_beside changes.items p ≡ goes_stale m a p) →
-    IfOk result (λ changes. (stale : List Place) (new : Mosaic) → stale_after m b stale new ≡ left_stale changes.items stale new)
+pub stale_as : (m : Mosaic) (result : Result (Vec Change) Refusal) (a b : Command) → a ≡ b → IfOk result (λ changes. (p : Corner) → is_beside changes.items p ≡ goes_stale m a p) →
+    IfOk result (λ changes. (stale : List Corner) (new : Mosaic) → stale_after m b stale new ≡ left_stale changes.items stale new)
 stale_as m (Ok changes) a b same beside = λ stale new.
-    ap (λ (test : Place → Bool). filter (λ p. list_any (same_place p) stale || test p) (corners_of new))
+    ap (λ (test : Corner → Bool). filter (λ p. list_any (same_corner p) stale || test p) (corners_of new))
     (λ i p. (ap (λ (c : Command). goes_stale m c p) (sym same) ∙ sym (beside p)) i)
 stale_as m (Err r) a b same beside = tt

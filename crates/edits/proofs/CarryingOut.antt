@@ -3,7 +3,7 @@ use Rattle.std.proofs.Common.{◌≡◌, ℕ, ◌⊎◌, inl, inr, ℤ, cond, tr
 use Rattle.std.specs.Prelude.{slice_set}
 use Rattle.std.specs.List.{All}
 use Rattle.std.proofs.lemmas.List.Elements.{All-nil, All-head, All-tail}
-use Rattle.lattice.specs.Corners.{Place, same_place}
+use Rattle.lattice.specs.Corners.{Corner, same_corner}
 use Rattle.lattice.specs.Mosaic.{Tile, Mosaic, IsMosaic}
 use Rattle.catalogue.specs.Tiles.{corners_of, with_sample_in}
 use Rattle.edits.specs.declared.change.Change.{Change}
@@ -20,14 +20,14 @@ pub record IsCarried (changes : List Change) (old now : Mosaic) (left : List Cha
   pub sure : All AddsNone changes → All AddsNone left
 
 -- a sample more or less changes no corner
-same_corner : (c : Place) (i : ℕ) (s : ℤ) (t : Tile) → (with_sample_in c i s t).corner ≡ t.corner
-same_corner c i s t = elim (same_place t.corner c) as (λ b. (cond b (record t { samples = slice_set t.samples i s }) t).corner ≡ t.corner) [ true ↦ refl | false ↦ refl ]
+same_corner : (c : Corner) (i : ℕ) (s : ℤ) (t : Tile) → (with_sample_in c i s t).corner ≡ t.corner
+same_corner c i s t = elim (same_corner t.corner c) as (λ b. (cond b (record t { samples = slice_set t.samples i s }) t).corner ≡ t.corner) [ true ↦ refl | false ↦ refl ]
 
-pub same_corners : (c : Place) (i : ℕ) (s : ℤ) (ts : List Tile) → map (λ t. t.corner) (map (with_sample_in c i s) ts) ≡ map (λ (t : Tile). t.corner) ts
+pub same_corners : (c : Corner) (i : ℕ) (s : ℤ) (ts : List Tile) → map (λ t. t.corner) (map (with_sample_in c i s) ts) ≡ map (λ (t : Tile). t.corner) ts
 same_corners c i s [] = refl
 same_corners c i s (t ∷ ts) =
-    ap (λ (p : Place). p ∷ map (λ (u : Tile). u.corner) (map (with_sample_in c i s) ts)) (same_corner c i s t)
-    ∙ ap (λ (l : List Place). t.corner ∷ l) (same_corners c i s ts)
+    ap (λ (p : Corner). p ∷ map (λ (u : Tile). u.corner) (map (with_sample_in c i s) ts)) (same_corner c i s t)
+    ∙ ap (λ (l : List Corner). t.corner ∷ l) (same_corners c i s ts)
 
 no_more : (x : Change) (rest : List Change) → length (x ∷ rest) ≡ 1 → rest ≡ []
 no_more x [] one = refl
@@ -63,7 +63,7 @@ carried_more changes old now next x rest so is valid = by x so.alone (so.fits) i
         record {
           made = made;
           fits = subst (λ (n : ℕ). All (CanBeMade n (corners_of next)) rest) (sym side)
-              (subst (λ (cs : List Place). All (CanBeMade now.side cs) rest) (sym corners) (All-tail (CanBeMade now.side (corners_of now)) (Set c i s) rest fits));
+              (subst (λ (cs : List Corner). All (CanBeMade now.side cs) rest) (sym corners) (All-tail (CanBeMade now.side (corners_of now)) (Set c i s) rest fits));
           alone = inr later;
           unchanged = inr later;
           valid = λ _. valid;

@@ -7,7 +7,7 @@ use Rattle.std.proofs.lemmas.Bool.{and_right, false_from_ne_true, false≢true}
 use Rattle.std.proofs.lemmas.Int.{ints}
 use Rattle.std.proofs.lemmas.List.Sums.{sum_by-cons}
 use Rattle.std.proofs.lemmas.List.Elements.{All-head, All-tail, All-map, All-weaker}
-use Rattle.lattice.specs.Corners.{Place, is_corner, same_place}
+use Rattle.lattice.specs.Corners.{Corner, is_corner, same_corner}
 use Rattle.catalogue.proofs.Places.{same_says, after_not_same}
 use Rattle.catalogue.proofs.Rising.{AllAfter, Rising}
 use Rattle.lattice.specs.Mosaic.{Mosaic, IsTile, IsMosaic}
@@ -54,58 +54,58 @@ module _ {X : Type 0} where
       together : (a b c k l m : ℕ) → c ≡ a + b → m ≡ k + l → c + m ≡ (a + k) + (b + l)
       together a b c k l m h t = omega arith
 
-abbrev pub is_west : ℤ → ℤ → Place → Bool
+abbrev pub is_west : ℤ → ℤ → Corner → Bool
 is_west lat lon c = int_eq c.lat lat && int_lt c.lon lon
 
-abbrev pub is_at : ℤ → Place → Bool
+abbrev pub is_at : ℤ → Corner → Bool
 is_at lat c = int_eq c.lat lat
 
-abbrev pub is_south : ℤ → Place → Bool
+abbrev pub is_south : ℤ → Corner → Bool
 is_south lat c = int_lt c.lat lat
 
-abbrev pub spot : ℤ → ℤ → Place
+abbrev pub spot : ℤ → ℤ → Corner
 spot lat lon = record { lat = lat; lon = lon }
 
 -- none of those after a place is the same as it
-count-after : (c p : Place) (ds : List Place) → AllAfter (λ d. d) c ds → c ≡ p → count_by (λ d. same_place d p) ds ≡ 0
+count-after : (c p : Corner) (ds : List Corner) → AllAfter (λ d. d) c ds → c ≡ p → count_by (λ d. same_corner d p) ds ≡ 0
 count-after c p [] after e = refl
 count-after c p (d ∷ ds) after e =
-    let apart : same_place d p ≡ false = ap (λ q. same_place d q) (sym e) ∙ after_not_same c d after.0 in
-    count-cons (λ q. same_place q p) d ds ∙ ap₂ (λ (b : Bool) (k : ℕ). one_if b + k) apart (count-after c p ds after.1 e)
+    let apart : same_corner d p ≡ false = ap (λ q. same_corner d q) (sym e) ∙ after_not_same c d after.0 in
+    count-cons (λ q. same_corner q p) d ds ∙ ap₂ (λ (b : Bool) (k : ℕ). one_if b + k) apart (count-after c p ds after.1 e)
 
 -- a place of a rising list is counted once
-pub count-same : (p : Place) (cs : List Place) → Rising (λ c. c) cs → count_by (λ c. same_place c p) cs ≡ one_if (is_listed p cs)
+pub count-same : (p : Corner) (cs : List Corner) → Rising (λ c. c) cs → count_by (λ c. same_corner c p) cs ≡ one_if (is_listed p cs)
 count-same p [] rising = refl
-count-same p (c ∷ cs) rising = count-cons (λ d. same_place d p) c cs ∙ by (same_place c p) refl (count-same p cs rising.1)
+count-same p (c ∷ cs) rising = count-cons (λ d. same_corner d p) c cs ∙ by (same_corner c p) refl (count-same p cs rising.1)
   where
-    by : (b : Bool) → same_place c p ≡ b → count_by (λ d. same_place d p) cs ≡ one_if (is_listed p cs) → one_if (same_place c p) + count_by (λ d. same_place d p) cs ≡ one_if (same_place c p || is_listed p cs)
+    by : (b : Bool) → same_corner c p ≡ b → count_by (λ d. same_corner d p) cs ≡ one_if (is_listed p cs) → one_if (same_corner c p) + count_by (λ d. same_corner d p) cs ≡ one_if (same_corner c p || is_listed p cs)
     by true same rest = rw same (ap (λ k. 1 + k) (count-after c p cs rising.0 (same_says c p same)))
-    by false other rest = rw other (zero-add (count_by (λ d. same_place d p) cs) ∙ rest)
+    by false other rest = rw other (zero-add (count_by (λ d. same_corner d p) cs) ∙ rest)
 
 lt_more : (x v : ℤ) → one_if (int_lt x (v +ℤ pos 1)) ≡ one_if (int_lt x v) + one_if (int_eq x v)
 lt_more x v = grind (arith, ints)
 
-pub west_more : (lat lon : ℤ) (c : Place) → one_if (is_west lat (lon +ℤ pos 1) c) ≡ one_if (is_west lat lon c) + one_if (same_place c (spot lat lon))
+pub west_more : (lat lon : ℤ) (c : Corner) → one_if (is_west lat (lon +ℤ pos 1) c) ≡ one_if (is_west lat lon c) + one_if (same_corner c (spot lat lon))
 west_more lat lon c = elim (int_eq c.lat lat) as (λ b. one_if (b && int_lt c.lon (lon +ℤ pos 1)) ≡ one_if (b && int_lt c.lon lon) + one_if (b && int_eq c.lon lon)) [
   | true ↦ lt_more c.lon lon
   | false ↦ refl
 ]
 
-pub south_more : (lat : ℤ) (c : Place) → one_if (is_south (lat +ℤ pos 1) c) ≡ one_if (is_south lat c) + one_if (is_at lat c)
+pub south_more : (lat : ℤ) (c : Corner) → one_if (is_south (lat +ℤ pos 1) c) ≡ one_if (is_south lat c) + one_if (is_at lat c)
 south_more lat c = lt_more c.lat lat
 
 -- one place further east
-pub count_west_more : (lat lon : ℤ) (cs : List Place) → Rising (λ c. c) cs →
+pub count_west_more : (lat lon : ℤ) (cs : List Corner) → Rising (λ c. c) cs →
     count_by (is_west lat (lon +ℤ pos 1)) cs ≡ count_by (is_west lat lon) cs + one_if (is_listed (spot lat lon) cs)
 count_west_more lat lon cs rising =
-    count-sum (is_west lat lon) (λ c. same_place c (spot lat lon)) (is_west lat (lon +ℤ pos 1)) cs (west_more lat lon)
+    count-sum (is_west lat lon) (λ c. same_corner c (spot lat lon)) (is_west lat (lon +ℤ pos 1)) cs (west_more lat lon)
     ∙ ap (λ k. count_by (is_west lat lon) cs + k) (count-same (spot lat lon) cs rising)
 
-pub count_south_more : (lat next : ℤ) (cs : List Place) → next ≡ lat +ℤ pos 1 → count_by (is_south next) cs ≡ count_by (is_south lat) cs + count_by (is_at lat) cs
+pub count_south_more : (lat next : ℤ) (cs : List Corner) → next ≡ lat +ℤ pos 1 → count_by (is_south next) cs ≡ count_by (is_south lat) cs + count_by (is_at lat) cs
 count_south_more lat next cs step = ap (λ v. count_by (is_south v) cs) step ∙ count-sum (is_south lat) (is_at lat) (is_south (lat +ℤ pos 1)) cs (south_more lat)
 
 -- of the corners that there are
-module _ (m : Mosaic) (valid : IsMosaic m) (cs : List Place) (same : corners_of m ≡ cs) where
+module _ (m : Mosaic) (valid : IsMosaic m) (cs : List Corner) (same : corners_of m ≡ cs) where
   pub corners_are : All (λ c. IsTrue (is_corner c)) cs
   corners_are = subst (All (λ c. IsTrue (is_corner c))) same (All-map (λ c. IsTrue (is_corner c)) (λ t. t.corner) m.tiles (All-weaker (IsTile m.side) (λ t. IsTrue (is_corner t.corner)) (λ t tile. tile.corner) m.tiles valid.tiles))
 
@@ -116,17 +116,17 @@ module _ (m : Mosaic) (valid : IsMosaic m) (cs : List Place) (same : corners_of 
   pub west_none : (lat : ℤ) → count_by (is_west lat (negsuc 179)) cs ≡ 0
   west_none lat = count-none (is_west lat (negsuc 179)) cs (All-weaker (λ c. IsTrue (is_corner c)) (λ c. is_west lat (negsuc 179) c ≡ false) (λ c corner. and_right (int_eq c.lat lat) (int_lt c.lon (negsuc 179)) (east c corner)) cs corners_are)
     where
-      east : (c : Place) → IsTrue (is_corner c) → int_lt c.lon (negsuc 179) ≡ false
+      east : (c : Corner) → IsTrue (is_corner c) → int_lt c.lon (negsuc 179) ≡ false
       east c corner = grind (arith, ints)
 
   -- and each of the latitude lies west of what is past the last
   pub west_all : (lat lon : ℤ) → pos 180 ≤ℤ lon → count_by (is_west lat lon) cs ≡ count_by (is_at lat) cs
   west_all lat lon past = agree (is_west lat lon) (is_at lat) cs (All-weaker (λ c. IsTrue (is_corner c)) (λ c. is_west lat lon c ≡ is_at lat c) (λ c corner. within c corner) cs corners_are)
     where
-      lon_within : (c : Place) → IsTrue (is_corner c) → int_lt c.lon lon ≡ true
+      lon_within : (c : Corner) → IsTrue (is_corner c) → int_lt c.lon lon ≡ true
       lon_within c corner = grind (arith, ints)
 
-      within : (c : Place) → IsTrue (is_corner c) → is_west lat lon c ≡ is_at lat c
+      within : (c : Corner) → IsTrue (is_corner c) → is_west lat lon c ≡ is_at lat c
       within c corner = ap (λ b. int_eq c.lat lat && b) (lon_within c corner) ∙ elim (int_eq c.lat lat) as (λ b. (b && true) ≡ b) [ true ↦ refl | false ↦ refl ]
 
   pub west_more_at : (lat lon next : ℤ) (taken : Bool) → next ≡ lon +ℤ pos 1 → (IsTrue taken ↔ Contains cs (spot lat lon)) →
@@ -141,11 +141,11 @@ module _ (m : Mosaic) (valid : IsMosaic m) (cs : List Place) (same : corners_of 
   pub south_none : count_by (is_south (negsuc 89)) cs ≡ 0
   south_none = count-none (is_south (negsuc 89)) cs (All-weaker (λ c. IsTrue (is_corner c)) (λ c. is_south (negsuc 89) c ≡ false) (λ c corner. north c corner) cs corners_are)
     where
-      north : (c : Place) → IsTrue (is_corner c) → int_lt c.lat (negsuc 89) ≡ false
+      north : (c : Corner) → IsTrue (is_corner c) → int_lt c.lat (negsuc 89) ≡ false
       north c corner = grind (arith, ints)
 
   pub south_all : (lat : ℤ) → pos 90 ≤ℤ lat → count_by (is_south lat) cs ≡ length cs
   south_all lat past = count-all (is_south lat) cs (All-weaker (λ c. IsTrue (is_corner c)) (λ c. is_south lat c ≡ true) (λ c corner. south c corner) cs corners_are)
     where
-      south : (c : Place) → IsTrue (is_corner c) → int_lt c.lat lat ≡ true
+      south : (c : Corner) → IsTrue (is_corner c) → int_lt c.lat lat ≡ true
       south c corner = grind (arith, ints)

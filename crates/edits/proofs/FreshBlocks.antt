@@ -7,7 +7,7 @@ use Rattle.std.proofs.lemmas.Bool.{and_parts, and_from, false_from_ne_true, both
 use Rattle.std.proofs.Math.IntN.{+ℤ_idr, +ℤ-suc_ℤ, suc_ℤ-*ℤ}
 use Rattle.std.proofs.lemmas.Int.{ints, by_lt_z}
 use Rattle.std.proofs.lemmas.List.Elements.{All-contains}
-use Rattle.lattice.specs.Corners.{Place, is_before, same_place}
+use Rattle.lattice.specs.Corners.{Corner, is_before, same_corner}
 use Rattle.lattice.specs.declared.point.Point.{Point}
 use Rattle.lattice.specs.Ground.{metres}
 use Rattle.lattice.specs.Height.{height_of, by_seam_rule, samples_at, sample_at}
@@ -30,7 +30,7 @@ use Rattle.edits.proofs.Voids.{any_from, is_void_within}
 
 -- ---- tiles that hold one point are neighbours
 
-both_hold : (n : ℕ) (a b : Place) (q : Point) → 3 ≤ n → holds n a q ≡ true → holds n b q ≡ true → are_neighbours a b ≡ true
+both_hold : (n : ℕ) (a b : Corner) (q : Point) → 3 ≤ n → holds n a q ≡ true → holds n b q ≡ true → are_neighbours a b ≡ true
 both_hold n a b q side at_a at_b =
     let near = holders_near n a b q side at_a at_b in
     and_from (nat_lt (nat_abs (a.lat -ℤ b.lat)) 2) (nat_lt (nat_abs (a.lon -ℤ b.lon)) 2) (lt-ltb _ 2 near.0) (lt-ltb _ 2 near.1)
@@ -74,7 +74,7 @@ module _ (n : ℕ) (q : Point) where
   said_same : (g : Tile → Tile) (ts : List Tile) → ((t : Tile) → (g t).corner ≡ t.corner) → ((t : Tile) → Contains ts t → holds n t.corner q ≡ true → g t ≡ t) → said (map g ts) ≡ said ts
   said_same g [] corners same = refl
   said_same g (t ∷ ts) corners same =
-      ap (λ b. map (λ v. sample_at n v q) (cond b (g t ∷ filter (λ v. holds n v.corner q) (map g ts)) (filter (λ v. holds n v.corner q) (map g ts)))) (ap (λ (c : Place). holds n c q) (corners t))
+      ap (λ b. map (λ v. sample_at n v q) (cond b (g t ∷ filter (λ v. holds n v.corner q) (map g ts)) (filter (λ v. holds n v.corner q) (map g ts)))) (ap (λ (c : Corner). holds n c q) (corners t))
       ∙ by (holds n t.corner q) refl (said_same g ts corners (λ u there. same u (suc there.0, omega (arith, there.1), there.2)))
     where
       by : (b : Bool) → holds n t.corner q ≡ b → said (map g ts) ≡ said ts →
@@ -83,9 +83,9 @@ module _ (n : ℕ) (q : Point) where
       by true held rest = ap₂ (λ (s : ℤ) (l : List ℤ). s ∷ l) (ap (λ (u : Tile). sample_at n u q) (same t (0, omega arith, refl) held)) rest
       by false out rest = rest
 
-module _ (m : Mosaic) (p : Place) (q : Point) (valid : IsMosaic m) (inside : holds m.side p q ≡ true) where
+module _ (m : Mosaic) (p : Corner) (q : Point) (valid : IsMosaic m) (inside : holds m.side p q ≡ true) where
   -- a tile that is no neighbour doesn't hold it
-  far : (c : Place) → are_neighbours c p ≡ false → holds m.side c q ≡ false
+  far : (c : Corner) → are_neighbours c p ≡ false → holds m.side c q ≡ false
   far c apart_ = false_from_ne_true (holds m.side c q) (λ held. both_ways (are_neighbours c p) apart_ (both_hold m.side c p q valid.side_low held inside))
 
   edit_stays : (test : Point → Bool) (sample : Point → ℤ → ℤ) (touched : Tile → Bool) → ((t : Tile) → IsTile m.side t → HasOne m test t → touched t ≡ true) → is_near_one touched m p ≡ false →
@@ -101,7 +101,7 @@ module _ (m : Mosaic) (p : Place) (q : Point) (valid : IsMosaic m) (inside : hol
       hit t there held yes_ = both_ways (is_near_one touched m p) fresh
           (any_from (λ (u : Tile). touched u && are_neighbours u.corner p) m.tiles t there (and_from (touched t) (are_neighbours t.corner p) yes_ (both_hold m.side t.corner p q valid.side_low held inside)))
 
-pub fresh_stays : (capacity : ℕ) (m : Mosaic) (c : Command) (new : Mosaic) (p : Place) (q : Point) → IsMosaic m → effect capacity m c ≡ Ok new → goes_stale m c p ≡ false → holds m.side p q ≡ true → height_of new q ≡ height_of m q
+pub fresh_stays : (capacity : ℕ) (m : Mosaic) (c : Command) (new : Mosaic) (p : Corner) (q : Point) → IsMosaic m → effect capacity m c ≡ Ok new → goes_stale m c p ≡ false → holds m.side p q ≡ true → height_of new q ≡ height_of m q
 fresh_stays capacity m c new p q valid made fresh inside = by c fresh (accepted_is capacity m c new made)
   where
     as_made : (x : Mosaic) → new ≡ x → height_of x q ≡ height_of m q → height_of new q ≡ height_of m q
@@ -112,10 +112,10 @@ fresh_stays capacity m c new p q valid made fresh inside = by c fresh (accepted_
         let t : Tile = record { corner = corner; samples = samples_in bytes } in
         as_made (added t m) is (ap by_seam_rule (said_with m.side q t m.tiles (far m p q valid inside corner apart_)))
     by (Remove corner) apart_ is =
-        as_made (without corner m) is (ap by_seam_rule (said_without m.side q (λ t. not (same_place t.corner corner)) m.tiles (λ t gone. far m p q valid inside t.corner (ap (λ (d : Place). are_neighbours d p) (gone_is t gone) ∙ apart_))))
+        as_made (without corner m) is (ap by_seam_rule (said_without m.side q (λ t. not (same_corner t.corner corner)) m.tiles (λ t gone. far m p q valid inside t.corner (ap (λ (d : Corner). are_neighbours d p) (gone_is t gone) ∙ apart_))))
       where
-        gone_is : (t : Tile) → not (same_place t.corner corner) ≡ false → t.corner ≡ corner
-        gone_is t gone = same_says t.corner corner (out (same_place t.corner corner) gone)
+        gone_is : (t : Tile) → not (same_corner t.corner corner) ≡ false → t.corner ≡ corner
+        gone_is t gone = same_says t.corner corner (out (same_corner t.corner corner) gone)
           where
             out : (b : Bool) → not b ≡ false → b ≡ true
             out true e = refl

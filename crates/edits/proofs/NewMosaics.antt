@@ -7,7 +7,7 @@ use Rattle.std.proofs.lemmas.Bool.{and_parts, or_cases, false≢true, eqb-true, 
 use Rattle.std.proofs.lemmas.Int.{ints}
 use Rattle.std.proofs.lemmas.List.{length-map}
 use Rattle.std.proofs.lemmas.List.Elements.{All-nil, All-cons, All-head, All-tail}
-use Rattle.lattice.specs.Corners.{Place, is_before, same_place}
+use Rattle.lattice.specs.Corners.{Corner, is_before, same_corner}
 use Rattle.lattice.specs.declared.point.Point.{Point}
 use Rattle.lattice.specs.declared.height.Height.{Height}
 use Rattle.lattice.specs.declared.height.Height.TheVariants as height
@@ -118,7 +118,7 @@ module _ (m : Mosaic) (f : Point → ℤ → ℤ) (keeps : (p : Point) (s : ℤ)
         samples = samples_changed (λ e s. f (point_of m.side t.corner e) s) 0 t.samples (λ i s. keeps (point_of m.side t.corner i) s) tile.samples;
       }) (tiles_edited n ts (All-tail (IsTile n) t ts all))
 
-  after_edited : (c : Place) (ts : List Tile) → AllAfter corner_of c ts → AllAfter corner_of c (map edit_tile ts)
+  after_edited : (c : Corner) (ts : List Tile) → AllAfter corner_of c ts → AllAfter corner_of c (map edit_tile ts)
   after_edited c [] h = tt
   after_edited c (t ∷ ts) h = (h.0, after_edited c ts h.1)
 
@@ -236,7 +236,7 @@ new_within capacity m c new few made = by c (accepted_is capacity m c new made)
         let below : length m.tiles < capacity = ltb-true (length m.tiles) capacity room in
         let more = length-with_tile t m.tiles in
         count (added t m) is (omega arith)
-    by (Remove corner) is = count (without corner m) is (let fewer : length (without corner m).tiles ≤ length m.tiles = length-filter (λ t. not (same_place t.corner corner)) m.tiles in omega arith)
+    by (Remove corner) is = count (without corner m) is (let fewer : length (without corner m).tiles ≤ length m.tiles = length-filter (λ t. not (same_corner t.corner corner)) m.tiles in omega arith)
     by (Patch from to h) (in_range, is) = count (patched from to h m) is (same _)
     by (Burn depth points) (in_range, fine, is) = count (burnt depth points.items m) is (same _)
     by (Wall h points) (in_range, fine, is) = count (walled h points.items m) is (same _)

@@ -7,7 +7,7 @@ use Rattle.std.proofs.lemmas.Bool.{and_parts, or_left, or_right, or_parts, both_
 use Rattle.std.proofs.lemmas.Int.{ints}
 use Rattle.std.proofs.lemmas.List.Elements.{Contains-get_or, Contains-append_left, Contains-push, Contains-push_cases}
 use Rattle.std.proofs.lemmas.List.Quantifiers.{all_pairs_push}
-use Rattle.lattice.specs.Corners.{Place, is_before, same_place}
+use Rattle.lattice.specs.Corners.{Corner, is_before, same_corner}
 use Rattle.lattice.specs.declared.point.Point.{Point}
 use Rattle.lattice.specs.Ground.{same_point}
 use Rattle.lattice.specs.Lattice.{IsIndexOf}
@@ -73,15 +73,15 @@ module _ (n : ℕ) where
 
 -- ---- one point, in each of its tiles
 
-same_set_says : (y : Change) (c : Place) (i : ℕ) (s : ℤ) → set_same y (Set c i s) ≡ true → (t : ℤ) × (y ≡ Set c i t)
+same_set_says : (y : Change) (c : Corner) (i : ℕ) (s : ℤ) → set_same y (Set c i s) ≡ true → (t : ℤ) × (y ≡ Set c i t)
 same_set_says (Set d j t) c i s e =
-    let both = and_parts (same_place d c) (nat_eq j i) e in
-    (t, ap₂ (λ (p : Place) (k : ℕ). Set p k t) (same_says d c both.0) (eqb-true j i both.1))
+    let both = and_parts (same_corner d c) (nat_eq j i) e in
+    (t, ap₂ (λ (p : Corner) (k : ℕ). Set p k t) (same_says d c both.0) (eqb-true j i both.1))
 same_set_says (Add d t) c i s e = absurd (false≢true e)
 same_set_says (Drop d) c i s e = absurd (false≢true e)
 
 -- the point was set in those of the corners, among these, whose present tiles hold it
-pub record OnceAmong (n : ℕ) (among : List Place) (p : Point) (old new : List Change) : Type 0 where
+pub record OnceAmong (n : ℕ) (among : List Corner) (p : Point) (old new : List Change) : Type 0 where
   pub each : (x : Change) → Contains new x → Contains old x ⊎ (Contains among (tile_of x) × IsAt n p x)
   pub once : SetOnce old → ((x : Change) (q : Point) → Contains old x → same_point q p ≡ true → IsAt n q x → ⊥) → SetOnce new
 
@@ -89,17 +89,17 @@ module _ (n : ℕ) (p : Point) where
   pub once_start : (old : List Change) → OnceAmong n [] p old old
   once_start old = record { each = λ x there. inl there; once = λ single clear. single }
 
-  among_more : (hs : List Place) (c d : Place) → Contains hs d → Contains (hs ++ c ∷ []) d
+  among_more : (hs : List Corner) (c d : Corner) → Contains hs d → Contains (hs ++ c ∷ []) d
   among_more hs c d there = Contains-append_left hs (c ∷ []) d there
 
-  pub once_skip : (hs : List Place) (c : Place) (old new : List Change) → OnceAmong n hs p old new → OnceAmong n (hs ++ c ∷ []) p old new
+  pub once_skip : (hs : List Corner) (c : Corner) (old new : List Change) → OnceAmong n hs p old new → OnceAmong n (hs ++ c ∷ []) p old new
   once_skip hs c old new so = record { each = λ x there. by x (so.each x there); once = so.once }
     where
       by : (x : Change) → Contains old x ⊎ (Contains hs (tile_of x) × IsAt n p x) → Contains old x ⊎ (Contains (hs ++ c ∷ []) (tile_of x) × IsAt n p x)
       by x (inl was) = inl was
       by x (inr (early, at)) = inr (among_more hs c (tile_of x) early, at)
 
-  pub once_put : (hs : List Place) (c : Place) (i : ℕ) (s : ℤ) (old new : List Change) → (Contains hs c → ⊥) → IsIndexOf n c p i → OnceAmong n hs p old new → OnceAmong n (hs ++ c ∷ []) p old (new ++ Set c i s ∷ [])
+  pub once_put : (hs : List Corner) (c : Corner) (i : ℕ) (s : ℤ) (old new : List Change) → (Contains hs c → ⊥) → IsIndexOf n c p i → OnceAmong n hs p old new → OnceAmong n (hs ++ c ∷ []) p old (new ++ Set c i s ∷ [])
   once_put hs c i s old new fresh index so = record {
     each = λ x there. by x (Contains-push_cases new (Set c i s) x there);
     once = λ single clear. all_pairs_push (λ x y. set_same x y ≡ false) new (Set c i s) (so.once single clear)
@@ -111,13 +111,13 @@ module _ (n : ℕ) (p : Point) where
 
       by : (x : Change) → Contains new x ⊎ (Set c i s ≡ x) → Contains old x ⊎ (Contains (hs ++ c ∷ []) (tile_of x) × IsAt n p x)
       by x (inl before) = (once_skip hs c old new so).each x before
-      by x (inr is) = inr (subst (λ (d : Place). Contains (hs ++ c ∷ []) d) (ap tile_of is) (Contains-push hs c), subst (IsAt n p) is here)
+      by x (inr is) = inr (subst (λ (d : Corner). Contains (hs ++ c ∷ []) d) (ap tile_of is) (Contains-push hs c), subst (IsAt n p) is here)
 
       twice : ((x : Change) (q : Point) → Contains old x → same_point q p ≡ true → IsAt n q x → ⊥) → (y : Change) → (t : ℤ) × (y ≡ Set c i t) → Contains old y ⊎ (Contains hs (tile_of y) × IsAt n p y) → ⊥
       twice clear y (t, is) (inl was) = clear y p was (same_point_from p) (subst (IsAt n p) (sym is) here)
-      twice clear y (t, is) (inr (early, at)) = fresh (subst (λ (d : Place). Contains hs d) (ap tile_of is) early)
+      twice clear y (t, is) (inr (early, at)) = fresh (subst (λ (d : Corner). Contains hs d) (ap tile_of is) early)
 
-  pub once_at : (hs : List Place) (old new : List Change) → OnceAmong n hs p old new → PutsOnce n (λ q. same_point q p) old new
+  pub once_at : (hs : List Corner) (old new : List Change) → OnceAmong n hs p old new → PutsOnce n (λ q. same_point q p) old new
   once_at hs old new so = record { each = λ x there. by x (so.each x there); once = so.once }
     where
       by : (x : Change) → Contains old x ⊎ (Contains hs (tile_of x) × IsAt n p x) → Contains old x ⊎ ((q : Point) × ((same_point q p ≡ true) × IsAt n q x))
@@ -125,12 +125,12 @@ module _ (n : ℕ) (p : Point) where
       by x (inr (early, at)) = inr (p, (same_point_from p, at))
 
 -- rising corners are apart
-after_at : (c : Place) (ds : List Place) (j : ℕ) (d : Place) → AllAfter (λ p. p) c ds → j < length ds → is_before c (get_or ds j d) ≡ true
+after_at : (c : Corner) (ds : List Corner) (j : ℕ) (d : Corner) → AllAfter (λ p. p) c ds → j < length ds → is_before c (get_or ds j d) ≡ true
 after_at c [] j d h below = absurd (omega arith)
 after_at c (e ∷ ds) zero d h below = h.0
 after_at c (e ∷ ds) (suc j) d h below = after_at c ds j d h.1 (omega arith)
 
-pub not_earlier : (hs : List Place) (i : ℕ) (d : Place) → Rising (λ p. p) hs → i < length hs → Contains (take i hs) (get_or hs i d) → ⊥
+pub not_earlier : (hs : List Corner) (i : ℕ) (d : Corner) → Rising (λ p. p) hs → i < length hs → Contains (take i hs) (get_or hs i d) → ⊥
 not_earlier [] i d rising below there = omega arith
 not_earlier (h ∷ hs) zero d rising below (k, small, here) = omega arith
 not_earlier (h ∷ hs) (suc i) d rising below (zero, small, here) = before_apart h (get_or hs i d) (after_at h hs i d rising.0 (omega arith)) here

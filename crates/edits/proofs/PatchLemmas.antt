@@ -5,7 +5,7 @@ use Rattle.std.specs.Ordering.{int_eq}
 use Rattle.std.specs.List.{Contains}
 use Rattle.std.proofs.lemmas.Bool.{and_parts, and_from, and_left, or_left, or_right, or_cases, both_ways}
 use Rattle.std.proofs.lemmas.Int.{ints}
-use Rattle.lattice.specs.Corners.{Place, is_corner}
+use Rattle.lattice.specs.Corners.{Corner, is_corner}
 use Rattle.lattice.specs.declared.point.Point.{Point}
 use Rattle.lattice.specs.declared.height.Height.{Height}
 use Rattle.lattice.specs.declared.height.Height.TheVariants as height
@@ -20,7 +20,7 @@ use Rattle.edits.specs.Effect.{is_void_at, is_void_height, is_in_box}
 use Rattle.edits.specs.Puts.{IsPut, ArePutAt, PutsAlso, Puts}
 use Rattle.edits.proofs.SamePoints.{same_point_says, same_point_from}
 
-module _ (n : ℕ) (cs : List Place) (s : ℤ) where
+module _ (n : ℕ) (cs : List Corner) (s : ℤ) where
   pub also_none : (test : Point → Bool) (old : List Change) → ((p : Point) → test p ≡ false) → PutsAlso n cs test s old old
   also_none test old none = record {
     kept = λ x there. there;
@@ -58,7 +58,7 @@ module _ (n : ℕ) (cs : List Place) (s : ℤ) where
       by x (inl was) = before x (one.each x was)
       by x (inr (p, (passes, put))) = inr (p, (joined p ∙ or_right (first p) (second p) passes, put))
 
-      here : (d : Place) (e : ℕ) → IsTrue (is_corner d) → Contains cs d → e < n * n → (first (point_of n d e) ≡ true) ⊎ (second (point_of n d e) ≡ true) → Contains c (Set d e s)
+      here : (d : Corner) (e : ℕ) → IsTrue (is_corner d) → Contains cs d → e < n * n → (first (point_of n d e) ≡ true) ⊎ (second (point_of n d e) ≡ true) → Contains c (Set d e s)
       here d e corner present within (inl passes) = two.kept (Set d e s) (one.complete d e corner present within passes)
       here d e corner present within (inr passes) = two.complete d e corner present within passes
 

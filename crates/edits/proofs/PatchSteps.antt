@@ -2,7 +2,7 @@
 use Rattle.std.proofs.Common.{◌≡◌, Bool, true, false, ◌||◌, ℤ, List, sym, subst}
 use Rattle.std.specs.Prelude.{Ok}
 use Rattle.std.specs.List.{All}
-use Rattle.lattice.specs.Corners.{Place}
+use Rattle.lattice.specs.Corners.{Corner}
 use Rattle.lattice.specs.declared.point.Point.{Point}
 use Rattle.lattice.specs.Mosaic.{Mosaic}
 use Rattle.catalogue.specs.declared.samples.Samples.{Ghosts}
@@ -39,11 +39,11 @@ module _ {S : Type 0} (g : Ghosts S) (s : ℤ) where
       (g.is_honest now → PutsAlso (g.side_of mid) (g.corners mid) (second (g.mosaic mid)) s b c) → PutsOnce (g.side_of mid) more b c → IsPatched g both whole s old now a c
   patched_on keeps_on first second both joined box more whole parts apart old mid now a b c so read fit put once_now = record {
     reads = reads_on g keeps_on old mid now tt (Ok tt) so.reads read;
-    fits = λ before. subst (λ n. All (CanBeSet n (g.corners old)) c) so.reads.side (subst (λ (cs : List Place). All (CanBeSet (g.side_of mid) cs) c) so.reads.corners
-        (fit (subst (λ n. All (CanBeSet n (g.corners mid)) b) (sym so.reads.side) (subst (λ (cs : List Place). All (CanBeSet (g.side_of old) cs) b) (sym so.reads.corners) (so.fits before)))));
+    fits = λ before. subst (λ n. All (CanBeSet n (g.corners old)) c) so.reads.side (subst (λ (cs : List Corner). All (CanBeSet (g.side_of mid) cs) c) so.reads.corners
+        (fit (subst (λ n. All (CanBeSet n (g.corners mid)) b) (sym so.reads.side) (subst (λ (cs : List Corner). All (CanBeSet (g.side_of old) cs) b) (sym so.reads.corners) (so.fits before)))));
     voids = λ honest. also_on (g.side_of old) (g.corners old) s (first (g.mosaic old)) (second (g.mosaic old)) (both (g.mosaic old)) a b c (joined (g.mosaic old)) (so.voids (read.honest honest))
         (subst (λ n. PutsAlso n (g.corners old) (second (g.mosaic old)) s b c) so.reads.side
-        (subst (λ (cs : List Place). PutsAlso (g.side_of mid) cs (second (g.mosaic old)) s b c) so.reads.corners
+        (subst (λ (cs : List Corner). PutsAlso (g.side_of mid) cs (second (g.mosaic old)) s b c) so.reads.corners
         (subst (λ (m : Mosaic). PutsAlso (g.side_of mid) (g.corners mid) (second m) s b c) (so.reads.mosaic (read.honest honest)) (put honest))));
     once = once_then (g.side_of old) box more whole a b c parts apart so.once (subst (λ n. PutsOnce n more b c) so.reads.side once_now);
   }
@@ -51,7 +51,7 @@ module _ {S : Type 0} (g : Ghosts S) (s : ℤ) where
 -- what one call put, where it read first
 module _ {S T : Type 0} (g : Ghosts S) (p : Point) (s : ℤ) (old now : S) (x : T) (a b : List Change) (read : OnlyReads {T = T} g old now (Ok x)) where
   pub put_here : ArePutAt (g.side_of now) (g.corners now) p s a b → ArePutAt (g.side_of old) (g.corners old) p s a b
-  put_here put = subst (λ n. ArePutAt n (g.corners old) p s a b) read.side (subst (λ (cs : List Place). ArePutAt (g.side_of now) cs p s a b) read.corners put)
+  put_here put = subst (λ n. ArePutAt n (g.corners old) p s a b) read.side (subst (λ (cs : List Corner). ArePutAt (g.side_of now) cs p s a b) read.corners put)
 
   pub fits_here : ArePutAt (g.side_of now) (g.corners now) p s a b → All (CanBeSet (g.side_of old) (g.corners old)) a → All (CanBeSet (g.side_of old) (g.corners old)) b
   fits_here put fit = fits_more (g.side_of old) (g.corners old) p s a b fit (put_here put)

@@ -3,7 +3,7 @@ use Rattle.std.proofs.Common.{◌≡◌, ◌⊎◌, inl, inr, ℕ, true, false, 
 use Rattle.std.specs.Prelude.{Result, Ok, Err, IfOk, IfErr}
 use Rattle.std.specs.Global.{Vec}
 use Rattle.std.specs.List.{All}
-use Rattle.lattice.specs.Corners.{Place}
+use Rattle.lattice.specs.Corners.{Corner}
 use Rattle.std.proofs.lemmas.Bool.{or_left, or_right, both_ways}
 use Rattle.lattice.specs.Mosaic.{Mosaic}
 use Rattle.lattice.specs.declared.refusal.Refusal.{Refusal}
@@ -35,11 +35,11 @@ pub one_once : (result : Result (Vec Change) Refusal) → IfOk result (λ change
 one_once (Ok changes) one = λ i j d i_j below. absurd (omega (arith, one, changes.ok.0))
 one_once (Err r) one = tt
 
-set_fits : (n : ℕ) (cs : List Place) (x : Change) → CanBeSet n cs x → IsSet x × CanBeMade n cs x
+set_fits : (n : ℕ) (cs : List Corner) (x : Change) → CanBeSet n cs x → IsSet x × CanBeMade n cs x
 set_fits n cs (Set c i s) can = (tt, can)
 set_fits n cs _ can = absurd can
 
-module _ (n : ℕ) (cs : List Place) (result : Result (Vec Change) Refusal) (fits : IfOk result (λ changes. All (CanBeSet n cs) changes.items)) where
+module _ (n : ℕ) (cs : List Corner) (result : Result (Vec Change) Refusal) (fits : IfOk result (λ changes. All (CanBeSet n cs) changes.items)) where
   pub sets_alone : IfOk result (λ changes. StandAlone changes.items)
   sets_alone = by result fits
     where

@@ -5,7 +5,7 @@ use Rattle.std.specs.List.{All, Contains}
 use Rattle.std.proofs.lemmas.Bool.{cases_eq, both_ways}
 use Rattle.std.proofs.lemmas.List.{same_lists, length-map, get_or-map, length-set, get_or-set_same, get_or-set_other}
 use Rattle.std.proofs.lemmas.List.Elements.{All-head, All-tail, Contains-get_or}
-use Rattle.lattice.specs.Corners.{Place, same_place}
+use Rattle.lattice.specs.Corners.{Corner, same_corner}
 use Rattle.lattice.specs.declared.point.Point.{Point}
 use Rattle.lattice.specs.Lattice.{point_of}
 use Rattle.lattice.specs.Mosaic.{Tile, Mosaic, IsMosaic, IsTile}
@@ -19,14 +19,14 @@ use Rattle.edits.specs.Puts.{Puts}
 
 -- a change of one sample
 abbrev pub IsSet : Change → Type 0
-IsSet x = (c : Place) × ((e : ℕ) × ((s : ℤ) × (x ≡ Set c e s)))
+IsSet x = (c : Corner) × ((e : ℕ) × ((s : ℤ) × (x ≡ Set c e s)))
 
 -- what a change makes of the samples of the corner's tile, where it is of one sample
-abbrev put_one : Place → Change → List ℤ → List ℤ
-put_one c (Set d e s) l = cond (same_place c d) (slice_set l e s) l
+abbrev put_one : Corner → Change → List ℤ → List ℤ
+put_one c (Set d e s) l = cond (same_corner c d) (slice_set l e s) l
 put_one c _ l = l
 
-abbrev pub put_all : Place → List Change → List ℤ → List ℤ
+abbrev pub put_all : Corner → List Change → List ℤ → List ℤ
 put_all c [] l = l
 put_all c (x ∷ rest) l = put_all c rest (put_one c x l)
 
@@ -41,8 +41,8 @@ map_twice : (f g h : Tile → Tile) (ts : List Tile) → ((t : Tile) → g (f t)
 map_twice f g h [] each = refl
 map_twice f g h (t ∷ ts) each = ap₂ (λ (x : Tile) (l : List Tile). x ∷ l) (each t) (map_twice f g h ts each)
 
-put_first : (c : Place) (e : ℕ) (s : ℤ) (rest : List Change) (t : Tile) → tile_put rest (with_sample_in c e s t) ≡ tile_put (Set c e s ∷ rest) t
-put_first c e s rest t = elim (same_place t.corner c) as (λ b. tile_put rest (cond b (record t { samples = slice_set t.samples e s }) t) ≡ record t { samples = put_all t.corner rest (cond b (slice_set t.samples e s) t.samples) }) [
+put_first : (c : Corner) (e : ℕ) (s : ℤ) (rest : List Change) (t : Tile) → tile_put rest (with_sample_in c e s t) ≡ tile_put (Set c e s ∷ rest) t
+put_first c e s rest t = elim (same_corner t.corner c) as (λ b. tile_put rest (cond b (record t { samples = slice_set t.samples e s }) t) ≡ record t { samples = put_all t.corner rest (cond b (slice_set t.samples e s) t.samples) }) [
   | true ↦ refl
   | false ↦ refl
 ]
@@ -54,55 +54,55 @@ all_put (x ∷ rest) m sets =
     let first : IsSet x = All-head IsSet x rest sets in
     by first.0 first.1.0 first.1.1.0 first.1.1.1 (λ (k : Mosaic). all_put rest k (All-tail IsSet x rest sets))
   where
-    by : (c : Place) (e : ℕ) (s : ℤ) → x ≡ Set c e s → ((k : Mosaic) → all_changed rest k ≡ record k { tiles = map (tile_put rest) k.tiles }) → all_changed (x ∷ rest) m ≡ record m { tiles = map (tile_put (x ∷ rest)) m.tiles }
+    by : (c : Corner) (e : ℕ) (s : ℤ) → x ≡ Set c e s → ((k : Mosaic) → all_changed rest k ≡ record k { tiles = map (tile_put rest) k.tiles }) → all_changed (x ∷ rest) m ≡ record m { tiles = map (tile_put (x ∷ rest)) m.tiles }
     by c e s is later =
         subst (λ (y : Change). all_changed (y ∷ rest) m ≡ record m { tiles = map (tile_put (y ∷ rest)) m.tiles }) (sym is)
         (later (with_sample c e s m) ∙ ap (λ (ts : List Tile). record m { tiles = ts }) (map_twice (with_sample_in c e s) (tile_put rest) (tile_put (Set c e s ∷ rest)) m.tiles (put_first c e s rest)))
 
-length-put_one : (c : Place) (x : Change) (l : List ℤ) → length (put_one c x l) ≡ length l
-length-put_one c (Set d e s) l = elim (same_place c d) as (λ b. length (cond b (slice_set l e s) l) ≡ length l) [ true ↦ length-set l e s | false ↦ refl ]
+length-put_one : (c : Corner) (x : Change) (l : List ℤ) → length (put_one c x l) ≡ length l
+length-put_one c (Set d e s) l = elim (same_corner c d) as (λ b. length (cond b (slice_set l e s) l) ≡ length l) [ true ↦ length-set l e s | false ↦ refl ]
 length-put_one c (Add d t) l = refl
 length-put_one c (Drop d) l = refl
 
-length-put_all : (c : Place) (changes : List Change) (l : List ℤ) → length (put_all c changes l) ≡ length l
+length-put_all : (c : Corner) (changes : List Change) (l : List ℤ) → length (put_all c changes l) ≡ length l
 length-put_all c [] l = refl
 length-put_all c (x ∷ rest) l = length-put_all c rest (put_one c x l) ∙ length-put_one c x l
 
 -- a change that isn't of this sample leaves it
-untouched : (c : Place) (x : Change) (l : List ℤ) (k : ℕ) (d : ℤ) → ((s : ℤ) → x ≡ Set c k s → ⊥) → get_or (put_one c x l) k d ≡ get_or l k d
+untouched : (c : Corner) (x : Change) (l : List ℤ) (k : ℕ) (d : ℤ) → ((s : ℤ) → x ≡ Set c k s → ⊥) → get_or (put_one c x l) k d ≡ get_or l k d
 untouched c (Add a t) l k d other = refl
 untouched c (Drop a) l k d other = refl
-untouched c (Set a e s) l k d other = by (same_place c a) refl
+untouched c (Set a e s) l k d other = by (same_corner c a) refl
   where
-    by : (b : Bool) → same_place c a ≡ b → get_or (cond b (slice_set l e s) l) k d ≡ get_or l k d
+    by : (b : Bool) → same_corner c a ≡ b → get_or (cond b (slice_set l e s) l) k d ≡ get_or l k d
     by true same =
-        let apart : k ≡ e → ⊥ = λ at. other s (ap₂ (λ (p : Place) (i : ℕ). Set p i s) (sym (same_says c a same)) (sym at)) in
+        let apart : k ≡ e → ⊥ = λ at. other s (ap₂ (λ (p : Corner) (i : ℕ). Set p i s) (sym (same_says c a same)) (sym at)) in
         get_or-set_other l e k s d apart
     by false _ = refl
 
 -- one that is of it makes it so
-touched : (c : Place) (l : List ℤ) (k : ℕ) (s d : ℤ) → k < length l → get_or (put_one c (Set c k s) l) k d ≡ s
+touched : (c : Corner) (l : List ℤ) (k : ℕ) (s d : ℤ) → k < length l → get_or (put_one c (Set c k s) l) k d ≡ s
 touched c l k s d within = subst (λ b. get_or (cond b (slice_set l k s) l) k d ≡ s) (sym (same_from c c refl)) (get_or-set_same l k s d within)
 
-put_none : (c : Place) (changes : List Change) (l : List ℤ) (k : ℕ) (d : ℤ) → All (λ x. (s : ℤ) → x ≡ Set c k s → ⊥) changes → get_or (put_all c changes l) k d ≡ get_or l k d
+put_none : (c : Corner) (changes : List Change) (l : List ℤ) (k : ℕ) (d : ℤ) → All (λ x. (s : ℤ) → x ≡ Set c k s → ⊥) changes → get_or (put_all c changes l) k d ≡ get_or l k d
 put_none c [] l k d none = refl
 put_none c (x ∷ rest) l k d none =
     put_none c rest (put_one c x l) k d (All-tail (λ y. (s : ℤ) → y ≡ Set c k s → ⊥) x rest none)
     ∙ untouched c x l k d (All-head (λ y. (s : ℤ) → y ≡ Set c k s → ⊥) x rest none)
 
 -- whether a change is of this sample
-decide : (c : Place) (k : ℕ) (x : Change) → ((s : ℤ) × (x ≡ Set c k s)) ⊎ ((s : ℤ) → x ≡ Set c k s → ⊥)
+decide : (c : Corner) (k : ℕ) (x : Change) → ((s : ℤ) × (x ≡ Set c k s)) ⊎ ((s : ℤ) → x ≡ Set c k s → ⊥)
 decide c k (Add a t) = inr (λ s e. cc)
 decide c k (Drop a) = inr (λ s e. cc)
-decide c k (Set a i s) = by (same_place c a) refl (cases_eq k i)
+decide c k (Set a i s) = by (same_corner c a) refl (cases_eq k i)
   where
-    by : (b : Bool) → same_place c a ≡ b → (k ≡ i) ⊎ (k ≡ i → ⊥) → ((v : ℤ) × (Set a i s ≡ Set c k v)) ⊎ ((v : ℤ) → Set a i s ≡ Set c k v → ⊥)
-    by true same (inl at) = inl (s, ap₂ (λ (p : Place) (j : ℕ). Set p j s) (sym (same_says c a same)) (sym at))
+    by : (b : Bool) → same_corner c a ≡ b → (k ≡ i) ⊎ (k ≡ i → ⊥) → ((v : ℤ) × (Set a i s ≡ Set c k v)) ⊎ ((v : ℤ) → Set a i s ≡ Set c k v → ⊥)
+    by true same (inl at) = inl (s, ap₂ (λ (p : Corner) (j : ℕ). Set p j s) (sym (same_says c a same)) (sym at))
     by true same (inr apart) = inr (λ v e. let at : i ≡ k = cc in apart (sym at))
-    by false other at = inr (λ v e. let same : a ≡ c = cc in both_ways (same_place c a) other (same_from c a (sym same)))
+    by false other at = inr (λ v e. let same : a ≡ c = cc in both_ways (same_corner c a) other (same_from c a (sym same)))
 
 -- where each change of this sample makes it u, and there is one or it was so, it is u
-put_some : (c : Place) (changes : List Change) (l : List ℤ) (k : ℕ) (u d : ℤ) → k < length l → All (λ x. (s : ℤ) → x ≡ Set c k s → s ≡ u) changes →
+put_some : (c : Corner) (changes : List Change) (l : List ℤ) (k : ℕ) (u d : ℤ) → k < length l → All (λ x. (s : ℤ) → x ≡ Set c k s → s ≡ u) changes →
     (get_or l k d ≡ u) ⊎ Contains changes (Set c k u) → get_or (put_all c changes l) k d ≡ u
 put_some c [] l k u d within each (inl so) = so
 put_some c [] l k u d within each (inr (j, below, there)) = absurd (omega arith)
@@ -179,7 +179,7 @@ module _ (m : Mosaic) (valid : IsMosaic m) (test : Point → Bool) (sample : Poi
           let corner : put.corner ≡ t.corner = cc in
           let index : put.index ≡ e = cc in
           let value : sample found.0 ≡ s = cc in
-          let point : found.0 ≡ p = sym put.here ∙ ap₂ (λ (c : Place) (i : ℕ). point_of m.side c i) corner index in
+          let point : found.0 ≡ p = sym put.here ∙ ap₂ (λ (c : Corner) (i : ℕ). point_of m.side c i) corner index in
           (ap test (sym point) ∙ found.1.0, sym value ∙ ap sample point)
 
       by : (b : Bool) → test p ≡ b → get_or (put_all t.corner changes t.samples) e d ≡ cond (test p) (sample p) (get_or t.samples e d)

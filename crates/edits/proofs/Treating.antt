@@ -6,7 +6,7 @@ use Rattle.std.proofs.lemmas.Bool.{or_left, or_right, or_cases, both_ways}
 use Rattle.std.proofs.lemmas.Bool.Decides.{Decides-int_eq}
 use Rattle.std.proofs.lemmas.List.{take_more, take_all, at_drop_more, at_drop_all}
 use Rattle.std.proofs.lemmas.List.Elements.{Contains-get_or, All-contains}
-use Rattle.lattice.specs.Corners.{Place, is_corner}
+use Rattle.lattice.specs.Corners.{Corner, is_corner}
 use Rattle.lattice.specs.declared.point.Point.{Point}
 use Rattle.lattice.specs.declared.height.Height.{Height}
 use Rattle.lattice.specs.declared.height.Height.TheVariants as height
@@ -34,7 +34,7 @@ use Rattle.edits.proofs.Putting.{puts_edit}
 use Rattle.edits.proofs.SamePoints.{named_push, same_point_says, same_point_from}
 
 -- one more point
-puts_push : (n : ℕ) (cs : List Place) (sample : Point → ℤ) (ps : List Point) (p : Point) (old new : List Change) →
+puts_push : (n : ℕ) (cs : List Corner) (sample : Point → ℤ) (ps : List Point) (p : Point) (old new : List Change) →
     Puts n cs (is_named ps) sample old → ArePutAt n cs p (sample p) old new → Puts n cs (is_named (ps ++ p ∷ [])) sample new
 puts_push n cs sample ps p old new puts put = record {
   each = λ x there. one x (put.each x there);
@@ -47,13 +47,13 @@ puts_push n cs sample ps p old new puts put = record {
         (found.0, (named_push ps p found.0 ∙ or_left (is_named ps found.0) (same_point found.0 p) found.1.0, found.1.1))
     one x (inr now) = (p, (named_push ps p p ∙ or_right (is_named ps p) (same_point p p) (same_point_from p), now))
 
-    by : (c : Place) (e : ℕ) → IsTrue (is_corner c) → Contains cs c → e < n * n → (is_named ps (point_of n c e) ≡ true) ⊎ (same_point (point_of n c e) p ≡ true) → Contains new (Set c e (sample (point_of n c e)))
+    by : (c : Corner) (e : ℕ) → IsTrue (is_corner c) → Contains cs c → e < n * n → (is_named ps (point_of n c e) ≡ true) ⊎ (same_point (point_of n c e) p ≡ true) → Contains new (Set c e (sample (point_of n c e)))
     by c e corner present within (inl before) = put.kept (Set c e (sample (point_of n c e))) (puts.complete c e corner present within before)
     by c e corner present within (inr same) =
         let here = same_point_says (point_of n c e) p same in
         subst (λ (q : Point). Contains new (Set c e (sample q))) (sym here) (put.complete c e corner present within here)
 
-pub fits_more : (n : ℕ) (cs : List Place) (p : Point) (s : ℤ) (old new : List Change) → All (CanBeSet n cs) old → ArePutAt n cs p s old new → All (CanBeSet n cs) new
+pub fits_more : (n : ℕ) (cs : List Corner) (p : Point) (s : ℤ) (old new : List Change) → All (CanBeSet n cs) old → ArePutAt n cs p s old new → All (CanBeSet n cs) new
 fits_more n cs p s old new fit put k d below = by (get_or new k d) (put.each (get_or new k d) (Contains-get_or new k d below))
   where
     by : (x : Change) → Contains old x ⊎ IsPut n cs p s x → CanBeSet n cs x
@@ -146,7 +146,7 @@ module _ {S : Type 0} (g : Ghosts S) (t : Treatment) (points : List Point) where
         height_here honest = ap (λ (m : Mosaic). height_of m p) (sym (so.reads.mosaic (read.honest honest))) ∙ at honest
 
         put : ArePutAt (g.side_of old) (g.corners old) p s changes new
-        put = subst (λ n. ArePutAt n (g.corners old) p s changes new) (reads.side) (subst (λ (cs : List Place). ArePutAt (g.side_of now) cs p s changes new) (reads.corners) put_now)
+        put = subst (λ n. ArePutAt n (g.corners old) p s changes new) (reads.side) (subst (λ (cs : List Corner). ArePutAt (g.side_of now) cs p s changes new) (reads.corners) put_now)
 
   module _ (i : ℕ) (old now : S) (changes : List Change) (all : length points ≤ i) (so : AreTreated g t points i old now changes) where
     pub no_fault : g.is_honest now → first_fault (g.mosaic old) (depth_of t) points ≡ None
@@ -164,7 +164,7 @@ module _ {S : Type 0} (g : Ghosts S) (t : Treatment) (points : List Point) where
       named_puts =
           let whole : Puts (g.side_of old) (g.corners old) (is_named points) sample changes = subst (λ (l : List Point). Puts (g.side_of old) (g.corners old) (is_named l) sample changes) (take_all i points all) (so.puts honest) in
           let sided : Puts (g.mosaic old).side (g.corners old) (is_named points) sample changes = subst (λ n. Puts n (g.corners old) (is_named points) sample changes) (sym (same_side old was)) whole in
-          subst (λ (cs : List Place). Puts (g.mosaic old).side cs (is_named points) sample changes) (sym (same_corners old was)) sided
+          subst (λ (cs : List Corner). Puts (g.mosaic old).side cs (is_named points) sample changes) (sym (same_corners old was)) sided
 
       pub all_treated : ((s : S) → g.is_honest s → IsMosaic (g.mosaic s)) → all_changed changes (g.mosaic old) ≡ edited (treatment_at t (g.mosaic old) points) (g.mosaic old)
       all_treated is_mosaic = puts_edit (g.mosaic old) (is_mosaic old was) (is_named points) sample changes named_puts

@@ -5,7 +5,7 @@ use Rattle.std.specs.Int.{int_max}
 use Rattle.std.specs.List.{Contains, filter, list_any, AllAdjacentBelow}
 use Rattle.std.proofs.lemmas.Bool.{false_from_ne_true, both_ways}
 use Rattle.std.proofs.lemmas.List.Elements.{All-contains}
-use Rattle.lattice.specs.Corners.{Place, is_before, same_place}
+use Rattle.lattice.specs.Corners.{Corner, is_before, same_corner}
 use Rattle.lattice.specs.declared.point.Point.{Point}
 use Rattle.lattice.specs.Lattice.{IsBefore, point_of}
 use Rattle.lattice.specs.Height.{height_of}
@@ -89,8 +89,8 @@ untouched_stays capacity m c new t valid made there untouched = by c untouched (
         let in_ : Tile = record { corner = corner; samples = samples_in bytes } in
         here (added in_ m) is (kept_with in_ t m.tiles there)
     by (Remove corner) other is =
-        let apart : not (same_place t.corner corner) ≡ true = ap not (same_comm corner t.corner other) in
-        here (without corner m) is (kept_by (λ u. not (same_place u.corner corner)) t m.tiles apart there)
+        let apart : not (same_corner t.corner corner) ≡ true = ap not (same_comm corner t.corner other) in
+        here (without corner m) is (kept_by (λ u. not (same_corner u.corner corner)) t m.tiles apart there)
     by (Patch from to h) other (in_range, is) =
         here (patched from to h m) is (edited_keeps m (is_void_within m from to) (λ _ _. h) t tile (λ one. both_ways (has_void_from m from to t.corner 0 t.samples) other (void_from m valid from to t tile one)) there)
     by (Burn depth points) other (in_range, fine, is) =
@@ -98,7 +98,7 @@ untouched_stays capacity m c new t valid made there untouched = by c untouched (
     by (Wall h points) other (in_range, fine, is) =
         here (walled h points.items m) is (edited_keeps m (is_named points.items) (λ p _. int_max (metres (height_of m p)) h) t tile (λ one. both_ways (holds_one m points.items t.corner) other (named_from m valid points.items t tile one)) there)
 
-filtered_among : (test : Place → Bool) (ps : List Place) (p : Place) → Contains (filter test ps) p → Contains ps p
+filtered_among : (test : Corner → Bool) (ps : List Corner) (p : Corner) → Contains (filter test ps) p → Contains ps p
 filtered_among test [] p (k, below, here) = absurd (omega arith)
 filtered_among test (q ∷ ps) p there = by (test q) there (filtered_among test ps p)
   where
@@ -107,10 +107,10 @@ filtered_among test (q ∷ ps) p there = by (test q) there (filtered_among test 
     by true (suc k, below, here) again = let later = again (k, omega arith, here) in (suc later.0, omega (arith, later.1), later.2)
     by false inside again = let later = again inside in (suc later.0, omega (arith, later.1), later.2)
 
-pub stale_is_present : (m : Mosaic) (c : Command) (stale : List Place) (new : Mosaic) (p : Place) → Contains (stale_after m c stale new) p → Contains (corners_of new) p
-stale_is_present m c stale new p there = filtered_among (λ q. list_any (same_place q) stale || goes_stale m c q) (corners_of new) p there
+pub stale_is_present : (m : Mosaic) (c : Command) (stale : List Corner) (new : Mosaic) (p : Corner) → Contains (stale_after m c stale new) p → Contains (corners_of new) p
+stale_is_present m c stale new p there = filtered_among (λ q. list_any (same_corner q) stale || goes_stale m c q) (corners_of new) p there
 
-pub stale_in_order : (m : Mosaic) (c : Command) (stale : List Place) (new : Mosaic) → IsMosaic new → AllAdjacentBelow IsBefore (stale_after m c stale new) (length (stale_after m c stale new))
+pub stale_in_order : (m : Mosaic) (c : Command) (stale : List Corner) (new : Mosaic) → IsMosaic new → AllAdjacentBelow IsBefore (stale_after m c stale new) (length (stale_after m c stale new))
 stale_in_order m c stale new valid =
-    let test = λ (p : Place). list_any (same_place p) stale || goes_stale m c p in
-    adjacent_from (λ (p : Place). p) (filter test (corners_of new)) (rising-filter (λ (p : Place). p) test (corners_of new) (corners_rise new valid))
+    let test = λ (p : Corner). list_any (same_corner p) stale || goes_stale m c p in
+    adjacent_from (λ (p : Corner). p) (filter test (corners_of new)) (rising-filter (λ (p : Corner). p) test (corners_of new) (corners_rise new valid))

@@ -6,7 +6,7 @@ use Rattle.std.proofs.lemmas.Bool.{or_left, or_right, or_cases, and_from, and_le
 use Rattle.std.proofs.lemmas.List.{get_or-map, length-map}
 use Rattle.std.proofs.lemmas.List.Elements.{Contains-get_or, All-contains}
 use Rattle.std.proofs.lemmas.Int.{ints}
-use Rattle.lattice.specs.Corners.{Place}
+use Rattle.lattice.specs.Corners.{Corner}
 use Rattle.lattice.specs.declared.point.Point.{Point}
 use Rattle.lattice.specs.Lattice.{point_of}
 use Rattle.lattice.specs.Mosaic.{Tile, Mosaic, IsMosaic, IsTile}
@@ -38,7 +38,7 @@ any_from f (y ∷ ys) x (zero, below, here) e = or_left (f y) (list_any f ys) (a
 any_from f (y ∷ ys) x (suc k, below, here) e = or_right (f y) (list_any f ys) (any_from f ys x (k, omega arith, here) e)
 
 -- the tile of a present corner
-pub tile_at : (m : Mosaic) (c : Place) → Contains (corners_of m) c → (t : Tile) × (Contains m.tiles t × (t.corner ≡ c))
+pub tile_at : (m : Mosaic) (c : Corner) → Contains (corners_of m) c → (t : Tile) × (Contains m.tiles t × (t.corner ≡ c))
 tile_at m c (k, below, here) =
     let none : Tile = record { corner = c; samples = [] } in
     let within : k < length m.tiles = omega (arith, length-map m.tiles (λ t. t.corner)) in
@@ -48,7 +48,7 @@ module _ (m : Mosaic) (from to : Point) where
   abbrev pub is_void_within : Point → Bool
   is_void_within p = is_in_box from to p && is_void_at m p
 
-  pub some_index : (c : Place) (e : ℕ) (l : List ℤ) → has_void_from m from to c e l ≡ true → (k : ℕ) × ((k < length l) × (is_void_within (point_of m.side c (e + k)) ≡ true))
+  pub some_index : (c : Corner) (e : ℕ) (l : List ℤ) → has_void_from m from to c e l ≡ true → (k : ℕ) × ((k < length l) × (is_void_within (point_of m.side c (e + k)) ≡ true))
   some_index c e [] h = absurd (false≢true h)
   some_index c e (s ∷ rest) h = by (or_cases (is_void_within (point_of m.side c e)) (has_void_from m from to c (e + 1) rest) h) (some_index c (e + 1) rest)
     where
@@ -63,7 +63,7 @@ module _ (m : Mosaic) (from to : Point) where
           let next : e + suc found.0 ≡ e + 1 + found.0 = omega arith in
           (suc found.0, (omega arith, ap (λ i. is_void_within (point_of m.side c i)) next ∙ found.1.1))
 
-  pub at_index : (c : Place) (e : ℕ) (l : List ℤ) (k : ℕ) → k < length l → is_void_within (point_of m.side c (e + k)) ≡ true → has_void_from m from to c e l ≡ true
+  pub at_index : (c : Corner) (e : ℕ) (l : List ℤ) (k : ℕ) → k < length l → is_void_within (point_of m.side c (e + k)) ≡ true → has_void_from m from to c e l ≡ true
   at_index c e [] k below h = absurd (omega arith)
   at_index c e (s ∷ rest) zero below h = or_left (is_void_within (point_of m.side c e)) (has_void_from m from to c (e + 1) rest) (ap (λ i. is_void_within (point_of m.side c i)) (sym (add-zero e)) ∙ h)
   at_index c e (s ∷ rest) (suc k) below h =
@@ -79,7 +79,7 @@ module _ (m : Mosaic) (from to : Point) where
         let t = tile.0 in
         let is_tile : IsTile m.side t = All-contains (IsTile m.side) m.tiles t valid.tiles tile.1.0 in
         let at : is_void_within (point_of m.side t.corner (0 + put.index)) ≡ true =
-        ap₂ (λ (c : Place) (i : ℕ). is_void_within (point_of m.side c i)) tile.1.1 (zero-add put.index) ∙ ap is_void_within put.here ∙ found.1.0 in
+        ap₂ (λ (c : Corner) (i : ℕ). is_void_within (point_of m.side c i)) tile.1.1 (zero-add put.index) ∙ ap is_void_within put.here ∙ found.1.0 in
         let here : has_void_from m from to t.corner 0 t.samples ≡ true = at_index t.corner 0 t.samples put.index (omega (arith, put.within, is_tile.whole)) at in
         any_from (λ (u : Tile). has_void_from m from to u.corner 0 u.samples) m.tiles t tile.1.0 here
 
@@ -135,13 +135,13 @@ pub count_at : (a a2 b b2 : ℤ) (k : ℕ) → a2 ≡ a → b2 ≡ b → b2 +ℤ
 count_at a a2 b b2 k p q h = ap (λ z. z +ℤ pos 1) (sym q) ∙ h ∙ ap (λ z. z +ℤ pos k) p
 
 -- the rows as the box
-pub puts_within : (m : Mosaic) (n : ℕ) (cs : List Place) (from to : Point) (rows columns : ℕ) (s : ℤ) (changes : List Change) → n ≡ m.side → cs ≡ corners_of m →
+pub puts_within : (m : Mosaic) (n : ℕ) (cs : List Corner) (from to : Point) (rows columns : ℕ) (s : ℤ) (changes : List Change) → n ≡ m.side → cs ≡ corners_of m →
     to.y +ℤ pos 1 ≡ from.y +ℤ pos rows → to.x +ℤ pos 1 ≡ from.x +ℤ pos columns →
     Puts n cs (is_void_in_rows m from rows columns) (λ _. s) changes → Puts m.side (corners_of m) (is_void_within m from to) (λ _. s) changes
 puts_within m n cs from to rows columns s changes side same y x puts =
     subst (λ (test : Point → Bool). Puts m.side (corners_of m) test (λ _. s) changes) (λ i q. rows_all m from to rows columns y x q i)
     (subst (λ k. Puts k (corners_of m) (is_void_in_rows m from rows columns) (λ _. s) changes) side
-    (subst (λ (l : List Place). Puts n l (is_void_in_rows m from rows columns) (λ _. s) changes) same puts))
+    (subst (λ (l : List Corner). Puts n l (is_void_in_rows m from rows columns) (λ _. s) changes) same puts))
 
 -- from the tests of the code
 pub height_in : (h h2 : ℤ) → h2 ≡ h → int_lt h2 (negsuc 32766) ≡ false → int_lt (pos 32767) h2 ≡ false → is_height h ≡ true

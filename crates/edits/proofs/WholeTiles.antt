@@ -5,7 +5,7 @@ use Rattle.std.specs.List.{All, Contains}
 use Rattle.std.proofs.lemmas.Bool.{false≢true, false_from_ne_true, eq-eqb, lt-ltb, le-ltb}
 use Rattle.std.proofs.lemmas.List.Elements.{All-nil, All-cons}
 use Rattle.std.proofs.lemmas.List.{length-map}
-use Rattle.lattice.specs.Corners.{Place}
+use Rattle.lattice.specs.Corners.{Corner}
 use Rattle.lattice.specs.Mosaic.{Mosaic, is_present}
 use Rattle.lattice.specs.declared.refusal.Refusal.TheVariants.{TileThere, NoTile, Full}
 use Rattle.hgt.specs.Bytes.{samples_in}
@@ -17,7 +17,7 @@ use Rattle.edits.specs.declared.change.Change.TheVariants.{Add, Drop}
 use Rattle.edits.specs.Changes.{all_changed, CanBeMade}
 use Rattle.edits.specs.Effect.{effect}
 
-module _ (m : Mosaic) (cs : List Place) (same : corners_of m ≡ cs) (c : Place) (present : Bool) (says : IsTrue present ↔ Contains cs c) where
+module _ (m : Mosaic) (cs : List Corner) (same : corners_of m ≡ cs) (c : Corner) (present : Bool) (says : IsTrue present ↔ Contains cs c) where
   pub present_is : is_present m c ≡ present
   present_is = by present (subst (λ l. IsTrue present ↔ Contains l c) (sym same) says)
     where
@@ -52,7 +52,7 @@ module _ (m : Mosaic) (cs : List Place) (same : corners_of m ≡ cs) (c : Place)
         let some_room : nat_lt (length m.tiles) capacity ≡ true = lt-ltb (length m.tiles) capacity (omega (arith, count_is)) in
         rw (whole_is, present_is ∙ absent, some_room, only, read) refl
 
-pub added_fits : (n : ℕ) (cs : List Place) (c : Place) (present : Bool) (samples : List _) (changes : List Change) →
+pub added_fits : (n : ℕ) (cs : List Corner) (c : Corner) (present : Bool) (samples : List _) (changes : List Change) →
     (IsTrue present ↔ Contains cs c) → present ≡ false → length samples ≡ n * n → changes ≡ Add c samples ∷ [] → All (CanBeMade n cs) changes
 added_fits n cs c present samples changes says absent whole only =
     let no_tile : ¬ Contains cs c = λ here. false≢true (sym absent ∙ says.1 here) in

@@ -1,6 +1,6 @@
 -- What a change makes of a mosaic, and where it can be made (this product's own profile).
 use Rattle.std.specs.Prelude.{◌≡◌, ℕ, ◌*◌, ◌<◌, ◌⊎◌, Bool, false, ◌&&◌, IsFalse, nat_eq, List, [], ◌∷◌, length, Contains, All, AllPairs}
-use Rattle.lattice.specs.Corners.{Place, same_place}
+use Rattle.lattice.specs.Corners.{Corner, same_corner}
 use Rattle.lattice.specs.Mosaic.{Mosaic}
 use Rattle.catalogue.specs.Tiles.{added, without, with_sample}
 use Rattle.edits.specs.declared.change.Change.{Change}
@@ -18,7 +18,7 @@ all_changed (change ∷ later) m = all_changed later (changed change m)
 
 -- Of the tiles with this side, those at these corners are present. The change adds a whole tile where there is none,
 -- or it is of a present one.
-abbrev pub CanBeMade : ℕ → List Place → Change → Type 0
+abbrev pub CanBeMade : ℕ → List Corner → Change → Type 0
 CanBeMade n corners (Add c samples) = (¬ Contains corners c) × (length samples ≡ n * n)
 CanBeMade n corners (Drop c) = Contains corners c
 CanBeMade n corners (Set c i s) = Contains corners c × (i < n * n)
@@ -34,7 +34,7 @@ AddsNone (Add c samples) = ⊥
 AddsNone _ = Unit {0}
 
 -- the change sets a sample of a present tile
-abbrev pub CanBeSet : ℕ → List Place → Change → Type 0
+abbrev pub CanBeSet : ℕ → List Corner → Change → Type 0
 CanBeSet n corners (Set c i s) = Contains corners c × (i < n * n)
 CanBeSet n corners _ = ⊥
 
@@ -44,7 +44,7 @@ StandAlone changes = (length changes ≡ 1) ⊎ All IsSet changes
 
 -- both changes set the same sample
 abbrev pub set_same : Change → Change → Bool
-set_same (Set c i s) (Set d j t) = same_place c d && nat_eq i j
+set_same (Set c i s) (Set d j t) = same_corner c d && nat_eq i j
 set_same _ _ = false
 
 -- no sample is set twice

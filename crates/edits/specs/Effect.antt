@@ -2,7 +2,7 @@
 use Rattle.std.specs.Prelude.{ℕ, ◌+◌, ◌*◌, ℤ, pos, negsuc, ◌-ℤ◌, int_lt, int_le, Bool, true, false, ◌&&◌, ◌||◌, not, if◌then◌else◌, nat_eq, nat_lt, Option, Some, None, Result, Ok, Err, List, [], ◌∷◌, length, map}
 use Rattle.std.specs.Int.{int_max}
 use Rattle.std.specs.List.{list_any}
-use Rattle.lattice.specs.Corners.{Place}
+use Rattle.lattice.specs.Corners.{Corner}
 use Rattle.lattice.specs.declared.point.Point.{Point}
 use Rattle.lattice.specs.declared.height.Height.{Height}
 use Rattle.lattice.specs.declared.height.Height.TheVariants as height
@@ -59,7 +59,7 @@ abbrev pub is_void_at : Mosaic → Point → Bool
 is_void_at m p = is_void_height (height_of m p)
 
 -- some sample of the tile from the index e on lies at a void point of the box
-abbrev pub has_void_from : Mosaic → Point → Point → Place → ℕ → List ℤ → Bool
+abbrev pub has_void_from : Mosaic → Point → Point → Corner → ℕ → List ℤ → Bool
 has_void_from m from to c e [] = false
 has_void_from m from to c e (s ∷ rest) =
     (is_in_box from to (point_of m.side c e) && is_void_at m (point_of m.side c e)) || has_void_from m from to c (e + 1) rest

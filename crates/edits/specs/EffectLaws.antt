@@ -1,7 +1,7 @@
 -- Laws of the effect of a command: what it makes, and what it leaves.
 use Rattle.std.specs.Prelude.{◌≡◌, ℕ, ◌<◌, ◌≤◌, IsTrue, IsFalse, Ok, List, All, Contains, length}
 use Rattle.std.specs.List.{AllAdjacentBelow}
-use Rattle.lattice.specs.Corners.{Place, is_corner}
+use Rattle.lattice.specs.Corners.{Corner, is_corner}
 use Rattle.lattice.specs.declared.point.Point.{Point}
 use Rattle.lattice.specs.Height.{height_of}
 use Rattle.lattice.specs.Lattice.{IsBefore, holds}
@@ -36,13 +36,13 @@ UntouchedTilesStay = (capacity : ℕ) (m : Mosaic) (c : Command) (new : Mosaic) 
 
 -- each stale tile is present
 abbrev pub StaleTilesArePresent : Type 0
-StaleTilesArePresent = (m : Mosaic) (c : Command) (stale : List Place) (new : Mosaic) (p : Place) → Contains (stale_after m c stale new) p → Contains (corners_of new) p
+StaleTilesArePresent = (m : Mosaic) (c : Command) (stale : List Corner) (new : Mosaic) (p : Corner) → Contains (stale_after m c stale new) p → Contains (corners_of new) p
 
 -- and they stand in the order of tiles, each once
 abbrev pub StaleTilesAreInOrder : Type 0
-StaleTilesAreInOrder = (m : Mosaic) (c : Command) (stale : List Place) (new : Mosaic) → IsMosaic new → AllAdjacentBelow IsBefore (stale_after m c stale new) (length (stale_after m c stale new))
+StaleTilesAreInOrder = (m : Mosaic) (c : Command) (stale : List Corner) (new : Mosaic) → IsMosaic new → AllAdjacentBelow IsBefore (stale_after m c stale new) (length (stale_after m c stale new))
 
 -- a tile that the command doesn't make stale keeps the heights of its points
 abbrev pub FreshHeightsStay : Type 0
-FreshHeightsStay = (capacity : ℕ) (m : Mosaic) (c : Command) (new : Mosaic) (p : Place) (q : Point) → IsMosaic m → effect capacity m c ≡ Ok new →
+FreshHeightsStay = (capacity : ℕ) (m : Mosaic) (c : Command) (new : Mosaic) (p : Corner) (q : Point) → IsMosaic m → effect capacity m c ≡ Ok new →
     IsFalse (goes_stale m c p) → IsTrue (holds m.side p q) → height_of new q ≡ height_of m q

@@ -1,38 +1,38 @@
 -- The tiles that changes leave stale (this product's own profile).
 use Rattle.std.specs.Prelude.{Bool, not, ◌&&◌, ◌||◌, if◌then◌else◌, List, [], ◌∷◌, map, filter}
 use Rattle.std.specs.List.{list_any}
-use Rattle.lattice.specs.Corners.{Place, is_before, same_place}
+use Rattle.lattice.specs.Corners.{Corner, is_before, same_corner}
 use Rattle.lattice.specs.Mosaic.{Tile, Mosaic}
 use Rattle.edits.specs.declared.change.Change.{Change}
 use Rattle.edits.specs.declared.change.Change.TheVariants.{Add, Drop, Set}
 use Rattle.edits.specs.Touched.{are_neighbours}
 
 -- the corner of the tile that the change is of
-abbrev pub tile_of : Change → Place
+abbrev pub tile_of : Change → Corner
 tile_of (Add c samples) = c
 tile_of (Drop c) = c
 tile_of (Set c i s) = c
 
 -- some change is of the corner's tile or of a neighbour
-abbrev pub is_beside : List Change → Place → Bool
+abbrev pub is_beside : List Change → Corner → Bool
 is_beside changes p = list_any (λ x. are_neighbours (tile_of x) p) changes
 
 -- some tile of which the test holds is the corner's or a neighbour
-abbrev pub is_near_one : (Tile → Bool) → Mosaic → Place → Bool
+abbrev pub is_near_one : (Tile → Bool) → Mosaic → Corner → Bool
 is_near_one touched m p = list_any (λ t. touched t && are_neighbours t.corner p) m.tiles
 
 -- the stale tiles once the changes made the new mosaic: those so far that are still present, those that a change is of,
 -- and their neighbours
-abbrev pub left_stale : List Change → List Place → Mosaic → List Place
-left_stale changes stale new = filter (λ p. list_any (same_place p) stale || is_beside changes p) (map (λ t. t.corner) new.tiles)
+abbrev pub left_stale : List Change → List Corner → Mosaic → List Corner
+left_stale changes stale new = filter (λ p. list_any (same_corner p) stale || is_beside changes p) (map (λ t. t.corner) new.tiles)
 
 -- the corners with one more, in their order
-abbrev pub with_corner : Place → List Place → List Place
+abbrev pub with_corner : Corner → List Corner → List Corner
 with_corner c [] = c ∷ []
 with_corner c (d ∷ rest) = if is_before c d then c ∷ (d ∷ rest) else d ∷ with_corner c rest
 
 -- the corners of the present tiles once the change is made
-abbrev pub corners_changed : Change → List Place → List Place
+abbrev pub corners_changed : Change → List Corner → List Corner
 corners_changed (Add c samples) corners = with_corner c corners
-corners_changed (Drop c) corners = filter (λ d. not (same_place d c)) corners
+corners_changed (Drop c) corners = filter (λ d. not (same_corner d c)) corners
 corners_changed (Set c i s) corners = corners

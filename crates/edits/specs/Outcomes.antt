@@ -1,7 +1,7 @@
 -- What a store may answer to a command or a query, and the state that it is in then (this product's own profile).
 -- Each relation reads: in the state s the call may answer r and leave the state t.
 use Rattle.std.specs.Prelude.{◌≡◌, ℕ, ◌+◌, ◌<◌, IsTrue, IsFalse, List, Option, Some, None, Result, Ok, Err, map}
-use Rattle.lattice.specs.Corners.{Place}
+use Rattle.lattice.specs.Corners.{Corner}
 use Rattle.lattice.specs.declared.point.Point.{Point}
 use Rattle.lattice.specs.declared.height.Height.{Height}
 use Rattle.lattice.specs.declared.refusal.Refusal.{Refusal}
@@ -72,7 +72,7 @@ abbrev pub Elevates : State → Point → Result Height Refusal → State → Ty
 Elevates s p (Ok h) t = Stays s t × (h ≡ height_of s.contents.mosaic p)
 Elevates s p (Err r) t = ElevatesNot s r t
 
-abbrev pub ExportsNot : State → Place → Refusal → State → Type 0
+abbrev pub ExportsNot : State → Corner → Refusal → State → Type 0
 ExportsNot s c Failed t = StaysFailed s t
 ExportsNot s c Device t = Fails s None t
 ExportsNot s c NoMemory t = Stays s t
@@ -80,7 +80,7 @@ ExportsNot s c NoTile t = Stays s t × (samples_of s.contents.mosaic c ≡ None)
 ExportsNot s c r t = ⊥
 
 -- the HGT bytes of a tile's own samples
-abbrev pub Exports : State → Place → Result (List ℕ) Refusal → State → Type 0
+abbrev pub Exports : State → Corner → Result (List ℕ) Refusal → State → Type 0
 Exports s c (Ok bytes) t = Stays s t × ((samples : List _) × ((samples_of s.contents.mosaic c ≡ Some samples) × (bytes ≡ hgt_bytes samples)))
 Exports s c (Err r) t = ExportsNot s c r t
 
@@ -90,6 +90,6 @@ ListsNot s NoMemory t = Stays s t
 ListsNot s r t = ⊥
 
 -- the corners of the present tiles, in order
-abbrev pub Lists : State → Result (List Place) Refusal → State → Type 0
+abbrev pub Lists : State → Result (List Corner) Refusal → State → Type 0
 Lists s (Ok corners) t = Stays s t × (corners ≡ map (λ tile. tile.corner) s.contents.mosaic.tiles)
 Lists s (Err r) t = ListsNot s r t

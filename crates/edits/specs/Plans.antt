@@ -1,6 +1,6 @@
 -- How planning a command may be refused (this product's own profile).
 use Rattle.std.specs.Prelude.{◌≡◌, ◌≤◌, ◌*◌, ℕ, length, Bool, true, false, ◌||◌, Result, Ok, Err, List, All}
-use Rattle.lattice.specs.Corners.{Place}
+use Rattle.lattice.specs.Corners.{Corner}
 use Rattle.lattice.specs.declared.refusal.Refusal.{Refusal}
 use Rattle.lattice.specs.declared.refusal.Refusal.TheVariants.{BadLength, TileThere, NoTile, Full, Outside, Void, NothingVoid, BadHeight, BadDepth, BadBox, Repeated, TooDeep, Device, NoMemory, Failed, Damaged}
 use Rattle.edits.specs.declared.command.Command.{Command}
@@ -48,7 +48,7 @@ IsFew (Burn depth points) changes = changes ≤ 4 * length points.items
 IsFew (Wall h points) changes = changes ≤ 4 * length points.items
 
 -- a patch, a burn and a wall come to samples set in present tiles
-abbrev pub SetsOnly : ℕ → List Place → Command → List Change → Type 0
+abbrev pub SetsOnly : ℕ → List Corner → Command → List Change → Type 0
 SetsOnly n corners (Import c bytes) changes = Unit {0}
 SetsOnly n corners (Remove c) changes = Unit {0}
 SetsOnly n corners (Patch from to h) changes = All (CanBeSet n corners) changes

@@ -1,6 +1,6 @@
 -- The state of a store, by which its promises are said (this product's own profile).
 use Rattle.std.specs.Prelude.{ℕ, ◌+◌, Bool, true, List, [], Option, Some, None, Result, Ok, Err}
-use Rattle.lattice.specs.Corners.{Place}
+use Rattle.lattice.specs.Corners.{Corner}
 use Rattle.lattice.specs.declared.refusal.Refusal.{Refusal}
 use Rattle.lattice.specs.Mosaic.{Mosaic, empty_mosaic}
 use Rattle.edits.specs.declared.command.Command.{Command}
@@ -13,7 +13,7 @@ pub record Contents : Type 0 where
   pub mosaic : Mosaic
   pub count : ℕ
   pub number : ℕ
-  pub stale : List Place
+  pub stale : List Corner
 
 -- The contents known last; whether a call failed on the disk, or an opening was refused, and none succeeded since; and
 -- the contents of the commit in doubt, if there is one.

@@ -1,7 +1,7 @@
 -- The tiles that a command touches, and which tiles go stale by it (this product's own profile).
 use Rattle.std.specs.Prelude.{◌-ℤ◌, Bool, ◌&&◌, ◌||◌, List, map, filter, nat_lt, nat_abs}
 use Rattle.std.specs.List.{list_any}
-use Rattle.lattice.specs.Corners.{Place, same_place}
+use Rattle.lattice.specs.Corners.{Corner, same_corner}
 use Rattle.lattice.specs.declared.point.Point.{Point}
 use Rattle.lattice.specs.Lattice.{holds}
 use Rattle.lattice.specs.Mosaic.{Tile, Mosaic}
@@ -10,25 +10,25 @@ use Rattle.edits.specs.declared.command.Command.TheVariants.{Import, Remove, Pat
 use Rattle.edits.specs.Effect.{has_void_from}
 
 -- the tile holds one of the points
-abbrev pub holds_one : Mosaic → List Point → Place → Bool
+abbrev pub holds_one : Mosaic → List Point → Corner → Bool
 holds_one m points c = list_any (λ p. holds m.side c p) points
 
 -- The command touches the tile: an import or a remove its own, a burn or a wall each that holds a named point, a patch
 -- each that holds a point of the box whose height is void. A tile is a present one, or the one taken out.
 abbrev pub is_touched : Mosaic → Command → Tile → Bool
-is_touched m (Import c bytes) t = same_place c t.corner
-is_touched m (Remove c) t = same_place c t.corner
+is_touched m (Import c bytes) t = same_corner c t.corner
+is_touched m (Remove c) t = same_corner c t.corner
 is_touched m (Patch from to h) t = has_void_from m from to t.corner 0 t.samples
 is_touched m (Burn depth points) t = holds_one m points.items t.corner
 is_touched m (Wall h points) t = holds_one m points.items t.corner
 
 -- at most one degree of latitude and one of longitude apart: the same tile, or a neighbour
-abbrev pub are_neighbours : Place → Place → Bool
+abbrev pub are_neighbours : Corner → Corner → Bool
 are_neighbours a b = nat_lt (nat_abs (a.lat -ℤ b.lat)) 2 && nat_lt (nat_abs (a.lon -ℤ b.lon)) 2
 
 -- The tile at the corner is touched, or a neighbour of one that is. The mosaic is the one that the command finds; the
 -- tile that an import adds is its own.
-abbrev pub goes_stale : Mosaic → Command → Place → Bool
+abbrev pub goes_stale : Mosaic → Command → Corner → Bool
 goes_stale m (Import c bytes) p = are_neighbours c p
 goes_stale m (Remove c) p = are_neighbours c p
 goes_stale m (Patch from to h) p = list_any (λ t. is_touched m (Patch from to h) t && are_neighbours t.corner p) m.tiles
@@ -37,5 +37,5 @@ goes_stale m (Wall h points) p = list_any (λ t. is_touched m (Wall h points) t 
 
 -- the tiles without kept planes once the command made the new mosaic: those so far that are still present, those that
 -- it touches, and their neighbours
-abbrev pub stale_after : Mosaic → Command → List Place → Mosaic → List Place
-stale_after m c stale new = filter (λ p. list_any (same_place p) stale || goes_stale m c p) (map (λ t. t.corner) new.tiles)
+abbrev pub stale_after : Mosaic → Command → List Corner → Mosaic → List Corner
+stale_after m c stale new = filter (λ p. list_any (same_corner p) stale || goes_stale m c p) (map (λ t. t.corner) new.tiles)

@@ -1,6 +1,6 @@
 //! The commands that name points.
 ghost use Rattle.std.specs.Prelude.{◌≡◌, ℕ, ◌||◌, ◌≢◌, ◌≤◌, ◌*◌, ◌⊎◌, ℤ, pos, negsuc, ◌-ℤ◌, int_lt, true, false, All, IsTrue, IfOk, IfErr, OnOk, MatchResult, IfSome, IfNone, Contains, vec_len, [], ◌∷◌, ◌++◌, length};
-ghost use Rattle.lattice.specs.Corners.{Place};
+ghost use Rattle.lattice.specs.Corners.{Corner};
 ghost use Rattle.lattice.specs.Lattice.{Holds, IsIndexOf};
 ghost use Rattle.lattice.specs.Mosaic.{void};
 ghost use Rattle.lattice.specs.Height.{height_of};
@@ -48,7 +48,7 @@ pub(crate) fn burn<S: Samples>(
     ensures causes { IfErr result (λ r. IsTrue (may_end (Burn depth points.now) r)) }
     ensures fits { IfOk result (λ changes. All (CanBeSet (S.side_of samples.old) (S.corners samples.old)) changes.items) }
     ensures few { IfOk result (λ changes. vec_len changes ≤ 4 * length points.now.items) }
-    ensures beside { S.is_honest samples.new → IfOk result (λ changes. (p : Place) → is_beside changes.items p ≡ goes_stale (S.mosaic samples.old) (Burn depth points.now) p) }
+    ensures beside { S.is_honest samples.new → IfOk result (λ changes. (p : Corner) → is_beside changes.items p ≡ goes_stale (S.mosaic samples.old) (Burn depth points.now) p) }
     ensures once { IfOk result (λ changes. SetOnce changes.items) }
     ensures reads { OnlyReads S.Samples samples.old samples.new (reads_of result) }
 {
@@ -79,7 +79,7 @@ pub(crate) fn wall<S: Samples>(
     ensures causes { IfErr result (λ r. IsTrue (may_end (Wall height points.now) r)) }
     ensures fits { IfOk result (λ changes. All (CanBeSet (S.side_of samples.old) (S.corners samples.old)) changes.items) }
     ensures few { IfOk result (λ changes. vec_len changes ≤ 4 * length points.now.items) }
-    ensures beside { S.is_honest samples.new → IfOk result (λ changes. (p : Place) → is_beside changes.items p ≡ goes_stale (S.mosaic samples.old) (Wall height points.now) p) }
+    ensures beside { S.is_honest samples.new → IfOk result (λ changes. (p : Corner) → is_beside changes.items p ≡ goes_stale (S.mosaic samples.old) (Wall height points.now) p) }
     ensures once { IfOk result (λ changes. SetOnce changes.items) }
     ensures reads { OnlyReads S.Samples samples.old samples.new (reads_of result) }
 {
@@ -111,7 +111,7 @@ fn treat<S: Samples>(
     ensures causes { IfErr result (λ r. IsTrue (is_fault treatment r || ends_any r)) }
     ensures fits { IfOk result (λ changes. All (CanBeSet (S.side_of samples.old) (S.corners samples.old)) changes.items) }
     ensures few { IfOk result (λ changes. vec_len changes ≤ 4 * length points.now) }
-    ensures beside { S.is_honest samples.new → IfOk result (λ changes. (p : Place) → is_beside changes.items p ≡ is_near_one (λ t. holds_one (S.mosaic samples.old) points.now t.corner) (S.mosaic samples.old) p) }
+    ensures beside { S.is_honest samples.new → IfOk result (λ changes. (p : Corner) → is_beside changes.items p ≡ is_near_one (λ t. holds_one (S.mosaic samples.old) points.now t.corner) (S.mosaic samples.old) p) }
     ensures once { is_repeated points.now ≡ false → IfOk result (λ changes. SetOnce changes.items) }
     ensures reads { OnlyReads S.Samples samples.old samples.new (reads_of result) }
 {

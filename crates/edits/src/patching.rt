@@ -1,6 +1,6 @@
 //! The command that fills voids.
 ghost use Rattle.std.specs.Prelude.{◌≡◌, ℕ, true, false, ◌||◌, ◌&&◌, ◌^◌, ◌≤ℤ◌, ◌+ℤ◌, ◌-ℤ◌, ◌<ℤ◌, int_le, int_lt, pos, All, IsTrue, IfOk, IfErr, OnOk, IfSome, IfNone};
-ghost use Rattle.lattice.specs.Corners.{Place};
+ghost use Rattle.lattice.specs.Corners.{Corner};
 ghost use Rattle.lattice.specs.Ground.{same_point};
 ghost use Rattle.catalogue.specs.Readers.{OnlyReads, reads_of};
 ghost use Rattle.edits.specs.Boxes.{is_in_row, is_void_in_row, is_void_in_rows};
@@ -31,7 +31,7 @@ pub(crate) fn patch<S: Samples>(
     ensures refused { (capacity : ℕ) → S.is_honest samples.new → IfErr result (λ r. IsTrue (is_own (Patch from to height) r) → effect capacity (S.mosaic samples.old) (Patch from to height) ≡ Err r) }
     ensures causes { IfErr result (λ r. IsTrue (may_end (Patch from to height) r)) }
     ensures fits { IfOk result (λ changes. All (CanBeSet (S.side_of samples.old) (S.corners samples.old)) changes.items) }
-    ensures beside { S.is_honest samples.new → IfOk result (λ changes. (p : Place) → is_beside changes.items p ≡ goes_stale (S.mosaic samples.old) (Patch from to height) p) }
+    ensures beside { S.is_honest samples.new → IfOk result (λ changes. (p : Corner) → is_beside changes.items p ≡ goes_stale (S.mosaic samples.old) (Patch from to height) p) }
     ensures once { IfOk result (λ changes. SetOnce changes.items) }
     ensures reads { OnlyReads S.Samples samples.old samples.new (reads_of result) }
 {

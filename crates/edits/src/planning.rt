@@ -1,6 +1,6 @@
 //! What a command comes to.
 ghost use Rattle.std.specs.Prelude.{◌≡◌, List, All, IsTrue, IfOk, IfErr, vec_len};
-ghost use Rattle.lattice.specs.Corners.{Place};
+ghost use Rattle.lattice.specs.Corners.{Corner};
 ghost use Rattle.lattice.specs.Mosaic.{Mosaic};
 ghost use Rattle.catalogue.specs.Readers.{OnlyReads, reads_of};
 ghost use Rattle.edits.specs.Changes.{CanBeMade, StandAlone, SetOnce, all_changed};
@@ -40,7 +40,7 @@ pub fn plan<S: Samples>(
     ensures once { IfOk result (λ changes. SetOnce changes.items) }
 
     // The tiles that go stale by the command are those that the changes are of, and their neighbours.
-    ensures stale { S.is_honest samples.new → IfOk result (λ changes. (stale : List Place) (new : Mosaic)
+    ensures stale { S.is_honest samples.new → IfOk result (λ changes. (stale : List Corner) (new : Mosaic)
         → stale_after (S.mosaic samples.old) command.now stale new ≡ left_stale changes.items stale new) }
     ensures few { IfOk result (λ changes. IsFew command.now (vec_len changes)) }
     ensures reads { OnlyReads S.Samples samples.old samples.new (reads_of result) }

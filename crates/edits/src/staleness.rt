@@ -1,7 +1,7 @@
 //! The tiles that changes leave stale: what was kept of their surroundings no longer holds.
 ghost use Rattle.std.specs.Prelude.{◌≡◌, ◌||◌, Bool, filter, position, IfErr, IfOk, OnOk};
 ghost use Rattle.std.specs.List.{list_any};
-ghost use Rattle.lattice.specs.Corners.{Place, is_before, same_place};
+ghost use Rattle.lattice.specs.Corners.{Corner, is_before, same_corner};
 ghost use Rattle.lattice.specs.declared.refusal.Refusal.TheVariants.{NoMemory};
 ghost use Rattle.catalogue.specs.Tiles.{corners_of};
 ghost use Rattle.edits.specs.Changes.{all_changed};
@@ -39,7 +39,7 @@ fn stale_among(
     stale: &[Corner],
     touched: &[Corner],
 ) -> Result<Vec<Corner>, AllocError>
-    ensures { IfOk result (λ found. found.items ≡ filter (λ p. list_any (same_place p) stale.now || list_any (λ tile. are_neighbours tile p) touched.now) corners.now) }
+    ensures { IfOk result (λ found. found.items ≡ filter (λ p. list_any (same_corner p) stale.now || list_any (λ tile. are_neighbours tile p) touched.now) corners.now) }
 {
     corners
         .iter()
@@ -50,14 +50,14 @@ fn stale_among(
 
 // Whether the corner was stale already, or is touched or beside one that is.
 fn is_stale(stale: &[Corner], touched: &[Corner], corner: Corner) -> bool
-    ensures { result ≡ (list_any (same_place corner) stale.now || list_any (λ tile. are_neighbours tile corner) touched.now) }
+    ensures { result ≡ (list_any (same_corner corner) stale.now || list_any (λ tile. are_neighbours tile corner) touched.now) }
 {
     is_among(stale, corner) || is_beside_one(touched, corner)
 }
 
 // Whether the corner is one of them.
 fn is_among(corners: &[Corner], corner: Corner) -> bool
-    ensures { result ≡ list_any (same_place corner) corners.now }
+    ensures { result ≡ list_any (same_corner corner) corners.now }
 {
     corners.iter().any(|other| corner == *other)
 }
@@ -78,7 +78,7 @@ fn are_neighbours(a: Corner, b: Corner) -> bool
 
 // The corners of the tiles that the changes are of, each once.
 fn tiles_of(alloc: Global, changes: &[Change]) -> Result<Vec<Corner>, Refusal>
-    ensures same { IfOk result (λ found. (test : Place → Bool) → list_any test found.items ≡ list_any (λ x. test (tile_of x)) changes.now) }
+    ensures same { IfOk result (λ found. (test : Corner → Bool) → list_any test found.items ≡ list_any (λ x. test (tile_of x)) changes.now) }
     ensures refusal { IfErr result (λ r. r ≡ NoMemory) }
 {
     let mut found = Vec::new(alloc);

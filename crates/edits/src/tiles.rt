@@ -1,6 +1,6 @@
 //! The commands of whole tiles.
 ghost use Rattle.std.specs.Prelude.{◌≡◌, ◌⊎◌, ℕ, [], ◌∷◌, All, IsTrue, IfOk, IfErr, vec_len};
-ghost use Rattle.lattice.specs.Corners.{Place};
+ghost use Rattle.lattice.specs.Corners.{Corner};
 ghost use Rattle.lattice.specs.declared.refusal.Refusal.TheVariants.{NoMemory};
 ghost use Rattle.edits.specs.Changes.{CanBeMade, all_changed};
 ghost use Rattle.edits.specs.Effect.{effect};
@@ -28,7 +28,7 @@ pub(crate) fn import<S: Samples>(
     ensures causes { IfErr result (λ r. (r ≡ NoMemory) ⊎ IsTrue (is_own (Import corner bytes.now) r)) }
     ensures fits { IfOk result (λ changes. All (CanBeMade (S.side_of samples.now) (S.corners samples.now)) changes.items) }
     ensures one { IfOk result (λ changes. vec_len changes ≡ 1) }
-    ensures beside { IfOk result (λ changes. (p : Place) → is_beside changes.items p ≡ are_neighbours corner p) }
+    ensures beside { IfOk result (λ changes. (p : Corner) → is_beside changes.items p ≡ are_neighbours corner p) }
 {
     let side = samples.side();
     let bytes = bytes.as_slice();
@@ -56,7 +56,7 @@ pub(crate) fn remove<S: Samples>(
     ensures causes { IfErr result (λ r. (r ≡ NoMemory) ⊎ IsTrue (is_own (Remove corner) r)) }
     ensures fits { IfOk result (λ changes. All (CanBeMade (S.side_of samples.now) (S.corners samples.now)) changes.items) }
     ensures one { IfOk result (λ changes. vec_len changes ≡ 1) }
-    ensures beside { IfOk result (λ changes. (p : Place) → is_beside changes.items p ≡ are_neighbours corner p) }
+    ensures beside { IfOk result (λ changes. (p : Corner) → is_beside changes.items p ≡ are_neighbours corner p) }
 {
     if !samples.present(corner) {
         return Err(Refusal::NoTile);

@@ -8,7 +8,7 @@ use Rattle.lattice.specs.declared.point.Point.{Point}
 use Rattle.lattice.specs.declared.direction.Dir.{Dir}
 use Rattle.lattice.specs.declared.direction.Dir.TheVariants.{East, SouthEast, South, SouthWest, West, NorthWest, North, NorthEast}
 use Rattle.lattice.specs.declared.height.Height.TheVariants.{At}
-use Rattle.lattice.specs.Corners.{Place, is_corner}
+use Rattle.lattice.specs.Corners.{Corner, is_corner}
 use Rattle.lattice.specs.Steps.{step, directions}
 use Rattle.lattice.specs.Lattice.{holds, index_of, point_of}
 use Rattle.lattice.specs.Terrain.{IsFilledLevel}
@@ -49,7 +49,7 @@ same_bool false true to from = from refl
 same_bool false false to from = refl
 
 -- the corners of tiles hold what the tiles hold
-any_corner : (P Q : Place → Bool) (n : ℕ) (tiles : List Tile) → All (IsTile n) tiles → ((c : Place) → IsTrue (is_corner c) → P c ≡ Q c)
+any_corner : (P Q : Corner → Bool) (n : ℕ) (tiles : List Tile) → All (IsTile n) tiles → ((c : Corner) → IsTrue (is_corner c) → P c ≡ Q c)
     → list_any P (map (λ (t : Tile). t.corner) tiles) ≡ list_any (λ t. Q t.corner) tiles
 any_corner P Q n [] whole same = refl
 any_corner P Q n (t ∷ rest) whole same = ap₂ ◌||◌ (same t.corner (whole 0 t (omega arith)).corner) (any_corner P Q n rest (λ k d lt. whole (suc k) d (omega arith)) same)

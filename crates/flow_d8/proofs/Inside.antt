@@ -12,7 +12,7 @@ use Rattle.std.proofs.lemmas.Bool.{cases_Bool, cases_order, cond-true, cond-fals
 use Rattle.std.proofs.lemmas.Bool.Decides.{Decides-int_eq, nat_tests}
 use Rattle.lattice.specs.declared.point.Point.{Point}
 use Rattle.lattice.specs.declared.direction.Dir.{Dir}
-use Rattle.lattice.specs.Corners.{Place, is_corner, is_before}
+use Rattle.lattice.specs.Corners.{Corner, is_corner, is_before}
 use Rattle.lattice.specs.declared.direction.Dir.TheVariants.{East, SouthEast, South, SouthWest, West, NorthWest, North, NorthEast}
 use Rattle.lattice.specs.Steps.{step, north_of, east_of}
 use Rattle.lattice.specs.Lattice.{IsBefore, Holds, IsSampleAt, IsIndexOf, index_of}
@@ -62,7 +62,7 @@ multiples_same a b m i k some inside within e =
         omega (arith, ints, e, product, far)
 
 -- a tile that holds a point inside the corner's tile is that tile
-inner_holder : (n : ℕ) (c d : Place) (p : Point) (i j : ℕ) → IsSampleAt n c i j p → 0 < i → i < n - 1 → 0 < j → j < n - 1 → Holds n d p → d ≡ c
+inner_holder : (n : ℕ) (c d : Corner) (p : Point) (i j : ℕ) → IsSampleAt n c i j p → 0 < i → i < n - 1 → 0 < j → j < n - 1 → Holds n d p → d ≡ c
 inner_holder n c d p i j at i_some i_inside j_some j_inside held =
     let other = held.sample.2 in
     let row : held.sample.0 ≤ n - 1 = omega (arith, other.row) in
@@ -74,13 +74,13 @@ inner_holder n c d p i j at i_some i_inside j_some j_inside held =
     ap₂ (λ (y x : ℤ). record { lat = y; lon = x }) (sym lat) lon
 
 -- the order of corners
-unfoldable pub Below : Place → Place → Type 0
+unfoldable pub Below : Corner → Corner → Type 0
 Below a b = (a.lat <ℤ b.lat) ⊎ ((a.lat ≡ b.lat) × (a.lon <ℤ b.lon))
 
 lt_says : (x y : ℤ) → int_lt x y ≡ true → x <ℤ y
 lt_says x y e = grind (arith, ints)
 
-pub says : (a b : Place) → is_before a b ≡ true → Below a b
+pub says : (a b : Corner) → is_before a b ≡ true → Below a b
 unfolding Below
 says a b e = elim (or_cases (int_lt a.lat b.lat) (int_eq a.lat b.lat && int_lt a.lon b.lon) e) [
   | inl below ↦ inl (lt_says a.lat b.lat below)
@@ -89,20 +89,20 @@ says a b e = elim (or_cases (int_lt a.lat b.lat) (int_eq a.lat b.lat && int_lt a
       inr ((Decides-int_eq a.lat b.lat).0 both.0, lt_says a.lon b.lon both.1)
 ]
 
-pub chain : (a b c : Place) → Below a b → Below b c → Below a c
+pub chain : (a b c : Corner) → Below a b → Below b c → Below a c
 unfolding Below
 chain a b c (inl p) (inl q) = inl (omega (arith, ints))
 chain a b c (inl p) (inr q) = inl (let e = q.0 in omega (arith, ints))
 chain a b c (inr p) (inl q) = inl (let e = p.0 in omega (arith, ints))
 chain a b c (inr p) (inr q) = inr (p.0 ∙ q.0, (let e = p.1 in let e' = q.1 in omega (arith, ints)))
 
-pub apart : (a b : Place) → Below a b → a ≡ b → ⊥
+pub apart : (a b : Corner) → Below a b → a ≡ b → ⊥
 unfolding Below
-apart a b (inl p) same = let e = ap (λ (c : Place). c.lat) same in omega (arith, ints)
-apart a b (inr p) same = let e = ap (λ (c : Place). c.lon) same in let h = p.1 in omega (arith, ints)
+apart a b (inl p) same = let e = ap (λ (c : Corner). c.lat) same in omega (arith, ints)
+apart a b (inr p) same = let e = ap (λ (c : Corner). c.lon) same in let h = p.1 in omega (arith, ints)
 
 -- corners in order are listed once
-pub rising : (corners : List Place) (x : Place) → AllAdjacentBelow IsBefore corners (length corners) → (gap j : ℕ) → j + suc gap < length corners → Below (get_or corners j x) (get_or corners (j + suc gap) x)
+pub rising : (corners : List Corner) (x : Corner) → AllAdjacentBelow IsBefore corners (length corners) → (gap j : ℕ) → j + suc gap < length corners → Below (get_or corners j x) (get_or corners (j + suc gap) x)
 rising corners x order zero j lt = subst (λ k. Below (get_or corners j x) (get_or corners k x)) (let e : j + 1 ≡ j + suc zero = omega arith in e) (says (get_or corners j x) (get_or corners (j + 1) x) (order j x (omega arith)))
 rising corners x order (suc gap) j lt =
     let next : j + suc (suc gap) ≡ (j + suc gap) + 1 = omega arith in
@@ -110,7 +110,7 @@ rising corners x order (suc gap) j lt =
     (chain (get_or corners j x) (get_or corners (j + suc gap) x) (get_or corners ((j + suc gap) + 1) x) (rising corners x order gap j (omega arith))
     (says (get_or corners (j + suc gap) x) (get_or corners ((j + suc gap) + 1) x) (order (j + suc gap) x (omega arith))))
 
-listed_once : (corners : List Place) (x : Place) (j k : ℕ) → AllAdjacentBelow IsBefore corners (length corners) → j < length corners → k < length corners → get_or corners j x ≡ get_or corners k x → j ≡ k
+listed_once : (corners : List Corner) (x : Corner) (j k : ℕ) → AllAdjacentBelow IsBefore corners (length corners) → j < length corners → k < length corners → get_or corners j x ≡ get_or corners k x → j ≡ k
 listed_once corners x j k order lj lk same = elim (cases_order j k) [
   | inl e ↦ e
   | inr other ↦ ⊎_elim
@@ -119,21 +119,21 @@ listed_once corners x j k order lj lk same = elim (cases_order j k) [
       other
 ]
 
-pub any_at : (P : Place → Bool) (corners : List Place) (k : ℕ) (c : Place) → slice_get corners k ≡ Some c → P c ≡ true → IsTrue (list_any P corners)
+pub any_at : (P : Corner → Bool) (corners : List Corner) (k : ℕ) (c : Corner) → slice_get corners k ≡ Some c → P c ≡ true → IsTrue (list_any P corners)
 any_at P [] k c at h = absurd (no_some at)
   where
-    no_some : ◌≡◌ {A = Option Place} None (Some c) → ⊥
+    no_some : ◌≡◌ {A = Option Corner} None (Some c) → ⊥
     no_some e = cc
 any_at P (d ∷ rest) zero c at h = or_left (P d) (list_any P rest) (subst (λ e. P e ≡ true) (same at) h)
   where
-    same : ◌≡◌ {A = Option Place} (Some d) (Some c) → c ≡ d
+    same : ◌≡◌ {A = Option Corner} (Some d) (Some c) → c ≡ d
     same e = cc
 any_at P (d ∷ rest) (suc k) c at h = or_right (P d) (list_any P rest) (any_at P rest k c at h)
 
 -- where a point lies inside a tile
-pub record IsInside (f : Levels) (p : Point) (k : ℕ) (c : Place) (i j : ℕ) : Type 0 where
+pub record IsInside (f : Levels) (p : Point) (k : ℕ) (c : Corner) (i j : ℕ) : Type 0 where
   pub listed : slice_get f.corners k ≡ Some c
-  pub at : (x : Place) → get_or f.corners k x ≡ c
+  pub at : (x : Corner) → get_or f.corners k x ≡ c
   pub in_range : k < length f.corners
   pub corner : IsTrue (is_corner c)
   pub sample : IsSampleAt f.side c i j p
@@ -143,11 +143,11 @@ pub record IsInside (f : Levels) (p : Point) (k : ℕ) (c : Place) (i j : ℕ) :
   pub j_inside : j < f.side - 1
 
 module _ (f : Levels) (whole : AreLevels f) where
-  inside_holder : (p : Point) (k : ℕ) (c : Place) (i j : ℕ) → IsInside f p k c i j → is_holder f.side c p ≡ true
+  inside_holder : (p : Point) (k : ℕ) (c : Corner) (i j : ℕ) → IsInside f p k c i j → is_holder f.side c p ≡ true
   inside_holder p k c i j is = holds_holder f.side c p whole.side_low (record { corner = is.corner; sample = (i, j, is.sample) })
 
   -- its place
-  inside_place : (p : Point) (k : ℕ) (c : Place) (i j : ℕ) → IsInside f p k c i j → place_in f p ≡ k * (f.side * f.side) + (i * f.side + j)
+  inside_place : (p : Point) (k : ℕ) (c : Corner) (i j : ℕ) → IsInside f p k c i j → place_in f p ≡ k * (f.side * f.side) + (i * f.side + j)
   inside_place p k c i j is =
       let held : IsTrue (is_held f.side f.corners p) = any_at (λ d. is_holder f.side d p) f.corners k c is.listed (inside_holder p k c i j is) in
       let seat = seat_of f.side f.corners p held in
@@ -157,7 +157,7 @@ module _ (f : Levels) (whole : AreLevels f) where
       seat.place ∙ ap₂ (λ m d. m * (f.side * f.side) + index_of f.side d p) number same ∙ ap (λ e. k * (f.side * f.side) + e) index
 
   -- what lies in a direction, inside the same tile
-  module _ (p : Point) (level : IsTrue (has_level f p)) (k : ℕ) (c : Place) (i j : ℕ) (is : IsInside f p k c i j) (d : Dir) (i' j' g : ℕ) (there : IsInside f (step d p) k c i' j')
+  module _ (p : Point) (level : IsTrue (has_level f p)) (k : ℕ) (c : Corner) (i j : ℕ) (is : IsInside f p k c i j) (d : Dir) (i' j' g : ℕ) (there : IsInside f (step d p) k c i' j')
       (at : g ≡ k * (f.side * f.side) + (i' * f.side + j')) where
     place_there : place_in f (step d p) ≡ g
     place_there = inside_place (step d p) k c i' j' there ∙ sym at
@@ -195,7 +195,7 @@ remainder n i j small = grind (arith, rows)
 -- a point deep inside its tile
 pub record IsDeep (f : Levels) (p : Point) (number : ℕ) : Type 0 where
   pub k : ℕ
-  pub c : Place
+  pub c : Corner
   pub i : ℕ
   pub j : ℕ
   pub inside : IsInside f p k c i j
@@ -347,7 +347,7 @@ deep_says n e test =
     (le_said 2 q three.0, le_said (q + 3) n three.1, le_said 2 r two.1, le_said (r + 3) n one.1)
 
 -- the point of a deep sample has that sample's number as its place
-pub deep_place : (f : Levels) → AreLevels f → (p : Point) (k e : ℕ) (c : Place) → slice_get f.corners k ≡ Some c → k < length f.corners → IsIndexOf f.side c p e → is_deep f.side e ≡ true
+pub deep_place : (f : Levels) → AreLevels f → (p : Point) (k e : ℕ) (c : Corner) → slice_get f.corners k ≡ Some c → k < length f.corners → IsIndexOf f.side c p e → is_deep f.side e ≡ true
     → place_in f p ≡ k * (f.side * f.side) + e
 deep_place f whole p k e c listed in_range index test =
     let i = index.sample.0 in
@@ -378,7 +378,7 @@ tile_and_index : (a number : ℕ) → number / a * a + number % a ≡ number
 tile_and_index a number = grind (arith, rows)
 
 -- the same for a point that was read from the number
-pub deep_site : (f : Levels) → AreLevels f → (p : Point) (number area : ℕ) (corners : List Place) (c : Place) (n : ℕ) → corners ≡ f.corners → n ≡ f.side → area ≡ f.side * f.side
+pub deep_site : (f : Levels) → AreLevels f → (p : Point) (number area : ℕ) (corners : List Corner) (c : Corner) (n : ℕ) → corners ≡ f.corners → n ≡ f.side → area ≡ f.side * f.side
     → c ≡ get_or corners (number / area) c → number < length f.levels → IsIndexOf n c p (number % area) → is_deep f.side (number % (f.side * f.side)) ≡ true → place_in f p ≡ number
 deep_site f whole p number area corners c n same side area_is read small index test =
     let k = number / (f.side * f.side) in

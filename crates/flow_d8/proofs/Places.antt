@@ -6,18 +6,18 @@ use Rattle.std.proofs.lemmas.Bool.{cases_Bool, cond-true, cond-false, and_parts,
 use Rattle.std.proofs.lemmas.Grind.{rows}
 use Rattle.std.proofs.Math.Nat.{mul-le-mul_right}
 use Rattle.lattice.specs.declared.point.Point.{Point}
-use Rattle.lattice.specs.Corners.{Place, is_corner}
+use Rattle.lattice.specs.Corners.{Corner, is_corner}
 use Rattle.lattice.specs.Lattice.{Holds, holds, index_of, point_of, is_along}
 use Rattle.lattice.specs.Stepping.{fits_number, fits_point}
 use Rattle.lattice.proofs.Samples.{holds_is, index_of_below, point_of_index}
 use Rattle.lattice.proofs.Along.{parts, le_true, le_from}
 use Rattle.flow_d8.specs.Levels.{is_holder, is_held, place_of}
 
-pub place-here : (n : ℕ) (c : Place) (rest : List Place) (p : Point) → is_holder n c p ≡ true → place_of n (c ∷ rest) p ≡ index_of n c p
+pub place-here : (n : ℕ) (c : Corner) (rest : List Corner) (p : Point) → is_holder n c p ≡ true → place_of n (c ∷ rest) p ≡ index_of n c p
 unfolding place_of
 place-here n c rest p on = cond-true (is_holder n c p) (index_of n c p) (n * n + place_of n rest p) on
 
-pub place-later : (n : ℕ) (c : Place) (rest : List Place) (p : Point) → is_holder n c p ≡ false → place_of n (c ∷ rest) p ≡ n * n + place_of n rest p
+pub place-later : (n : ℕ) (c : Corner) (rest : List Corner) (p : Point) → is_holder n c p ≡ false → place_of n (c ∷ rest) p ≡ n * n + place_of n rest p
 unfolding place_of
 place-later n c rest p off = cond-false (is_holder n c p) (index_of n c p) (n * n + place_of n rest p) off
 
@@ -25,23 +25,23 @@ pub place-none : (n : ℕ) (p : Point) → place_of n [] p ≡ 0
 unfolding place_of
 place-none n p = refl
 
-held-later : (n : ℕ) (c : Place) (rest : List Place) (p : Point) → is_holder n c p ≡ false → IsTrue (is_held n (c ∷ rest) p) → IsTrue (is_held n rest p)
+held-later : (n : ℕ) (c : Corner) (rest : List Corner) (p : Point) → is_holder n c p ≡ false → IsTrue (is_held n (c ∷ rest) p) → IsTrue (is_held n rest p)
 held-later n c rest p off held = ⊎_elim (λ on. absurd (true≢false (sym on ∙ off))) (λ later. later) (or_cases (is_holder n c p) (is_held n rest p) held)
 
 one_more_tile : (k a : ℕ) → suc k * a ≡ a + k * a
 one_more_tile k a = omega arith
 
 -- where a held point lies
-pub record Seat (n : ℕ) (corners : List Place) (p : Point) : Type 0 where
+pub record Seat (n : ℕ) (corners : List Corner) (p : Point) : Type 0 where
   pub number : ℕ
-  pub corner : Place
+  pub corner : Corner
   pub listed : slice_get corners number ≡ Some corner
-  pub at : (d : Place) → get_or corners number d ≡ corner
+  pub at : (d : Corner) → get_or corners number d ≡ corner
   pub in_range : number < length corners
   pub held : is_holder n corner p ≡ true
   pub place : place_of n corners p ≡ number * (n * n) + index_of n corner p
 
-pub seat_of : (n : ℕ) (corners : List Place) (p : Point) → IsTrue (is_held n corners p) → Seat n corners p
+pub seat_of : (n : ℕ) (corners : List Corner) (p : Point) → IsTrue (is_held n corners p) → Seat n corners p
 seat_of n [] p held = absurd (true≢false (sym held))
 seat_of n (c ∷ rest) p held = elim (cases_Bool (is_holder n c p)) [
   | inl on ↦ record {
@@ -66,23 +66,23 @@ seat_of n (c ∷ rest) p held = elim (cases_Bool (is_holder n c p)) [
       }
 ]
 
-pub holder_holds : (n : ℕ) (c : Place) (p : Point) → 3 ≤ n → is_holder n c p ≡ true → Holds n c p
+pub holder_holds : (n : ℕ) (c : Corner) (p : Point) → 3 ≤ n → is_holder n c p ≡ true → Holds n c p
 holder_holds n c p side on = let both = and_parts (is_corner c) (holds n c p) on in (holds_is n c p side both.0).0 both.1
 
-pub holds_holder : (n : ℕ) (c : Place) (p : Point) → 3 ≤ n → Holds n c p → is_holder n c p ≡ true
+pub holds_holder : (n : ℕ) (c : Corner) (p : Point) → 3 ≤ n → Holds n c p → is_holder n c p ≡ true
 holds_holder n c p side h = and_from (is_corner c) (holds n c p) h.corner ((holds_is n c p side h.corner).1 h)
 
-pub index_small : (n : ℕ) (c : Place) (p : Point) → 3 ≤ n → is_holder n c p ≡ true → index_of n c p < n * n
+pub index_small : (n : ℕ) (c : Corner) (p : Point) → 3 ≤ n → is_holder n c p ≡ true → index_of n c p < n * n
 index_small n c p side on = index_of_below n c p (holder_holds n c p side on)
 
-pub place_below : (n : ℕ) (corners : List Place) (p : Point) → 3 ≤ n → IsTrue (is_held n corners p) → place_of n corners p < length corners * (n * n)
+pub place_below : (n : ℕ) (corners : List Corner) (p : Point) → 3 ≤ n → IsTrue (is_held n corners p) → place_of n corners p < length corners * (n * n)
 place_below n corners p side held =
     let seat = seat_of n corners p held in
     let small : index_of n seat.corner p < n * n = index_small n seat.corner p side seat.held in
     let number : suc seat.number * (n * n) ≤ length corners * (n * n) = mul-le-mul_right (n * n) (omega (arith, seat.in_range)) in
     omega (arith, seat.place, one_more_tile seat.number (n * n))
 
-pub place_past : (n : ℕ) (corners : List Place) (p : Point) → is_held n corners p ≡ false → place_of n corners p ≡ length corners * (n * n)
+pub place_past : (n : ℕ) (corners : List Corner) (p : Point) → is_held n corners p ≡ false → place_of n corners p ≡ length corners * (n * n)
 place_past n [] p out = place-none n p ∙ omega arith
 place_past n (c ∷ rest) p out = elim (cases_Bool (is_holder n c p)) [
   | inl on ↦ absurd (true≢false (sym (or_left (is_holder n c p) (is_held n rest p) on) ∙ out))
@@ -96,7 +96,7 @@ place_past n (c ∷ rest) p out = elim (cases_Bool (is_holder n c p)) [
     ]
 
 -- a point is known by its place
-pub place_injective : (n : ℕ) (corners : List Place) (p q : Point) → 3 ≤ n → IsTrue (is_held n corners p) → IsTrue (is_held n corners q)
+pub place_injective : (n : ℕ) (corners : List Corner) (p q : Point) → 3 ≤ n → IsTrue (is_held n corners p) → IsTrue (is_held n corners q)
     → place_of n corners p ≡ place_of n corners q → p ≡ q
 place_injective n [] p q side hp hq same = absurd (true≢false (sym hp))
 place_injective n (c ∷ rest) p q side hp hq same = elim (cases_Bool (is_holder n c p)) [
@@ -130,7 +130,7 @@ scaled (negsuc x) m small low high =
     let one : suc x * m ≤ 180 * m = mul-le-mul_right m small_x in
     (omega (arith, ints), omega (arith, ints))
 
-pub held_fits : (n : ℕ) (c : Place) (p : Point) → 3 ≤ n → n ≤ 3601 → is_holder n c p ≡ true → IsTrue (fits_point p)
+pub held_fits : (n : ℕ) (c : Corner) (p : Point) → 3 ≤ n → n ≤ 3601 → is_holder n c p ≡ true → IsTrue (fits_point p)
 held_fits n c p side most both =
     let is = (and_parts (is_corner c) (holds n c p) both).0 in
     let on = (and_parts (is_corner c) (holds n c p) both).1 in
@@ -153,7 +153,7 @@ held_fits n c p side most both =
     fits v low high = and_from (int_le (negsuc 2147483647) v) (int_le v (pos 2147483647)) (le_from (negsuc 2147483647) v low) (le_from v (pos 2147483647) high)
 
 -- a test that tells holders
-pub same_test : (n : ℕ) (c : Place) (p : Point) (answer : Bool) → 3 ≤ n → (IsTrue answer → Holds n c p) → (Holds n c p → IsTrue answer) → answer ≡ is_holder n c p
+pub same_test : (n : ℕ) (c : Corner) (p : Point) (answer : Bool) → 3 ≤ n → (IsTrue answer → Holds n c p) → (Holds n c p → IsTrue answer) → answer ≡ is_holder n c p
 same_test n c p true side from to = sym (holds_holder n c p side (from refl))
 same_test n c p false side from to = elim (cases_Bool (is_holder n c p)) [ inl on ↦ absurd (true≢false (sym (to (holder_holds n c p side on)))) | inr off ↦ sym off ]
 
@@ -167,7 +167,7 @@ pub number_below : (a count number : ℕ) → 0 < a → number < count * a → n
 number_below a count number some small = grind (arith, rows)
 
 -- the point of a place
-pub point_at_place : (n : ℕ) (corners : List Place) (p : Point) (number : ℕ) (d : Place) → 3 ≤ n → IsTrue (is_held n corners p) → place_of n corners p ≡ number
+pub point_at_place : (n : ℕ) (corners : List Corner) (p : Point) (number : ℕ) (d : Corner) → 3 ≤ n → IsTrue (is_held n corners p) → place_of n corners p ≡ number
     → point_of n (get_or corners (number / (n * n)) d) (number % (n * n)) ≡ p
 point_at_place n corners p number d side held same =
     let seat = seat_of n corners p held in

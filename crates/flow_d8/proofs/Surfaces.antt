@@ -9,7 +9,7 @@ use Rattle.std.proofs.lemmas.Bool.{cases_Bool, cond-true, cond-false, not-true, 
 use Rattle.lattice.specs.declared.point.Point.{Point}
 use Rattle.lattice.specs.declared.direction.Dir.{Dir}
 use Rattle.lattice.specs.declared.direction.Dir.TheVariants.{East, SouthEast, South, SouthWest, West, NorthWest, North, NorthEast}
-use Rattle.lattice.specs.Corners.{Place}
+use Rattle.lattice.specs.Corners.{Corner}
 use Rattle.lattice.specs.Steps.{step}
 use Rattle.lattice.specs.Stepping.{fits_point}
 use Rattle.lattice.specs.Terrain.{IsLawful}
@@ -33,12 +33,12 @@ and-swap true false = refl
 and-swap false true = refl
 and-swap false false = refl
 
-shared-swap : (n : ℕ) (corners : List Place) (p q : Point) →
+shared-swap : (n : ℕ) (corners : List Corner) (p q : Point) →
     list_any (λ c. is_holder n c p && is_holder n c q) corners ≡ list_any (λ c. is_holder n c q && is_holder n c p) corners
 shared-swap n [] p q = refl
 shared-swap n (c ∷ rest) p q = ap₂ ◌||◌ (and-swap (is_holder n c p) (is_holder n c q)) (shared-swap n rest p q)
 
-both_held : (n : ℕ) (corners : List Place) (p q : Point) → IsTrue (list_any (λ c. is_holder n c p && is_holder n c q) corners) → IsTrue (is_held n corners p)
+both_held : (n : ℕ) (corners : List Corner) (p q : Point) → IsTrue (list_any (λ c. is_holder n c p && is_holder n c q) corners) → IsTrue (is_held n corners p)
 both_held n [] p q h = h
 both_held n (c ∷ rest) p q h = ⊎_elim
     (λ here. or_left (is_holder n c p) (is_held n rest p) (and_parts (is_holder n c p) (is_holder n c q) here).0)
@@ -218,7 +218,7 @@ module _ (f : Levels) where
     beside_found here share level = sym (beside_there p d (step_adjoins p d here level share))
 
   -- the same of a side, corners and a point that are those of f and of the step
-  module _ (whole : AreLevels f) (p : Point) (d : Dir) (n : ℕ) (cs : List Place) (to : Point) (same_n : n ≡ f.side) (same_cs : cs ≡ f.corners) (is : to ≡ step d p) where
+  module _ (whole : AreLevels f) (p : Point) (d : Dir) (n : ℕ) (cs : List Corner) (to : Point) (same_n : n ≡ f.side) (same_cs : cs ≡ f.corners) (is : to ≡ step d p) where
     pub read_shared : list_any (λ c. is_holder n c p && is_holder n c to) cs ≡ list_any (λ c. is_holder f.side c p && is_holder f.side c (step d p)) f.corners
     read_shared = ap (λ k. list_any (λ c. is_holder k c p && is_holder k c to) cs) same_n
         ∙ ap (λ ks. list_any (λ c. is_holder f.side c p && is_holder f.side c to) ks) same_cs

@@ -15,7 +15,7 @@ use Rattle.std.proofs.lemmas.List.{get_or_default}
 use Rattle.std.proofs.lemmas.List.Sorted.{searchable_from_sorted}
 use Rattle.std.proofs.lemmas.Option.{slice_get_read, get_or_from_slice_get}
 use Rattle.lattice.specs.declared.point.Point.{Point}
-use Rattle.lattice.specs.Corners.{Place}
+use Rattle.lattice.specs.Corners.{Corner}
 use Rattle.lattice.specs.Lattice.{IsBefore, Holds, IsIndexOf, index_of}
 use Rattle.lattice.proofs.Samples.{index_is, held_at}
 use Rattle.flow_d8.specs.Levels.{is_holder, is_held, place_of}
@@ -23,11 +23,11 @@ use Rattle.flow_d8.proofs.Places.{seat_of, place-here, place-later, holder_holds
 use Rattle.flow_d8.proofs.Inside.{Below, says, chain, apart, rising, any_at}
 
 -- the order of corners, as a comparison answers
-abbrev pub compared : Place → Place → Ordering
-compared a b = then_cmp (λ (x y : Place). int_cmp x.lat y.lat) (λ (x y : Place). int_cmp x.lon y.lon) a b
+abbrev pub compared : Corner → Corner → Ordering
+compared a b = then_cmp (λ (x y : Corner). int_cmp x.lat y.lat) (λ (x y : Corner). int_cmp x.lon y.lon) a b
 
 compared_total : IsTotalOrder compared
-compared_total = then_total (on_total (λ (x : Place). x.lat) int_cmp_total) (on_total (λ (x : Place). x.lon) int_cmp_total)
+compared_total = then_total (on_total (λ (x : Corner). x.lat) int_cmp_total) (on_total (λ (x : Corner). x.lon) int_cmp_total)
 
 then_Equal : (o q : Ordering) → ordering_then o q ≡ Equal → (o ≡ Equal) × (q ≡ Equal)
 then_Equal Less q e = absurd (let n = ap ordering_index e in omega arith)
@@ -47,25 +47,25 @@ to_Greater x y Less above h = absurd (omega (arith, ints))
 to_Greater x y Equal above h = absurd (omega (arith, ints))
 to_Greater x y Greater above h = refl
 
-same_corner : (a b : Place) → compared a b ≡ Equal → a ≡ b
+same_corner : (a b : Corner) → compared a b ≡ Equal → a ≡ b
 same_corner a b e =
     let both = then_Equal (int_cmp a.lat b.lat) (int_cmp a.lon b.lon) e in
-    ap₂ (λ (y x : ℤ). let c : Place = record { lat = y; lon = x } in c) (ranked a.lat b.lat Equal both.0) (ranked a.lon b.lon Equal both.1)
+    ap₂ (λ (y x : ℤ). let c : Corner = record { lat = y; lon = x } in c) (ranked a.lat b.lat Equal both.0) (ranked a.lon b.lon Equal both.1)
 
-same_compared : (a : Place) → compared a a ≡ Equal
+same_compared : (a : Corner) → compared a a ≡ Equal
 same_compared a = ap₂ ordering_then (to_Equal a.lat a.lat (int_cmp a.lat a.lat) refl (int_ranks a.lat a.lat)) (to_Equal a.lon a.lon (int_cmp a.lon a.lon) refl (int_ranks a.lon a.lon))
 
-not_less : (a b : Place) → Below a b → is_lt (compared b a) ≡ false
+not_less : (a b : Corner) → Below a b → is_lt (compared b a) ≡ false
 unfolding Below
 not_less a b (inl south) = ap (λ (o : Ordering). is_lt (ordering_then o (int_cmp b.lon a.lon))) (to_Greater b.lat a.lat (int_cmp b.lat a.lat) south (int_ranks b.lat a.lat))
 not_less a b (inr west) = ap₂ (λ (o q : Ordering). is_lt (ordering_then o q))
     (to_Equal b.lat a.lat (int_cmp b.lat a.lat) (sym west.0) (int_ranks b.lat a.lat)) (to_Greater b.lon a.lon (int_cmp b.lon a.lon) west.1 (int_ranks b.lon a.lon))
 
-rises : (corners : List Place) (c : Place) → AllAdjacentBelow IsBefore corners (length corners) → IsNonDecreasingBy (λ y. ordering_index (compared y c)) corners
-rises corners c order = searchable_from_sorted compared_total (λ (x : Place). x) corners c (λ k d low lt. not_less (get_or corners k d) (get_or corners (k + 1) d) (says (get_or corners k d) (get_or corners (k + 1) d) (order k d lt)))
+rises : (corners : List Corner) (c : Corner) → AllAdjacentBelow IsBefore corners (length corners) → IsNonDecreasingBy (λ y. ordering_index (compared y c)) corners
+rises corners c order = searchable_from_sorted compared_total (λ (x : Corner). x) corners c (λ k d low lt. not_less (get_or corners k d) (get_or corners (k + 1) d) (says (get_or corners k d) (get_or corners (k + 1) d) (order k d lt)))
 
 -- what a binary search tells
-pub told_tile : (corners : List Place) (c : Place) (r : Result ℕ ℕ) → AllAdjacentBelow IsBefore corners (length corners) → IsSearchInRange r (length corners) → IsBinarySearchResult (λ y. compared y c) corners r
+pub told_tile : (corners : List Corner) (c : Corner) (r : Result ℕ ℕ) → AllAdjacentBelow IsBefore corners (length corners) → IsSearchInRange r (length corners) → IsBinarySearchResult (λ y. compared y c) corners r
     → MatchOption (result_ok r) (Contains corners c → ⊥) (λ k. slice_get corners k ≡ Some c)
 told_tile corners c (Ok k) order bound position = slice_get_read corners (length corners) k c refl bound (sym (same_corner (get_or corners k c) c (position c)))
 told_tile corners c (Err k) order bound position = λ has.
@@ -87,47 +87,47 @@ told_tile corners c (Err k) order bound position = λ has.
     split j k = elim (cases_order j k) [ inl same ↦ inr (omega arith) | inr other ↦ ⊎_elim (λ lt. inl lt) (λ gt. inr (omega arith)) other ]
 
 -- the first tile that holds a point is the first of its holders that is among the corners
-place_first : (n : ℕ) (corners : List Place) (p : Point) (k : ℕ) (c : Place) → slice_get corners k ≡ Some c → is_holder n c p ≡ true → ((j : ℕ) → j < k → is_holder n (get_or corners j c) p ≡ false)
+place_first : (n : ℕ) (corners : List Corner) (p : Point) (k : ℕ) (c : Corner) → slice_get corners k ≡ Some c → is_holder n c p ≡ true → ((j : ℕ) → j < k → is_holder n (get_or corners j c) p ≡ false)
     → place_of n corners p ≡ k * (n * n) + index_of n c p
 place_first n [] p k c at on before = absurd (no_some c at)
   where
-    no_some : (c : Place) → ◌≡◌ {A = Option Place} None (Some c) → ⊥
+    no_some : (c : Corner) → ◌≡◌ {A = Option Corner} None (Some c) → ⊥
     no_some c e = cc
 place_first n (d ∷ rest) p zero c at on before =
     let same : d ≡ c = some_same at in
-    place-here n d rest p (subst (λ (e : Place). is_holder n e p ≡ true) (sym same) on) ∙ ap (λ (e : Place). index_of n e p) same ∙ omega arith
+    place-here n d rest p (subst (λ (e : Corner). is_holder n e p ≡ true) (sym same) on) ∙ ap (λ (e : Corner). index_of n e p) same ∙ omega arith
   where
-    some_same : ◌≡◌ {A = Option Place} (Some d) (Some c) → d ≡ c
+    some_same : ◌≡◌ {A = Option Corner} (Some d) (Some c) → d ≡ c
     some_same e = cc
 place_first n (d ∷ rest) p (suc k) c at on before =
     place-later n d rest p (before 0 (omega arith)) ∙ ap (λ m. n * n + m) (place_first n rest p k c at on (λ j lt. before (suc j) (omega arith))) ∙ omega arith
 
 -- none of the first i holders is among the corners
-abbrev pub IsPassed : List Place → List Place → ℕ → Type 0
-IsPassed corners around i = (j : ℕ) (d : Place) → j < i → Contains corners (get_or around j d) → ⊥
+abbrev pub IsPassed : List Corner → List Corner → ℕ → Type 0
+IsPassed corners around i = (j : ℕ) (d : Corner) → j < i → Contains corners (get_or around j d) → ⊥
 
-pub passed_more : (corners around : List Place) (i : ℕ) (c : Place) → i < length around → c ≡ get_or around i c → (Contains corners c → ⊥) → IsPassed corners around i → IsPassed corners around (i + 1)
+pub passed_more : (corners around : List Corner) (i : ℕ) (c : Corner) → i < length around → c ≡ get_or around i c → (Contains corners c → ⊥) → IsPassed corners around i → IsPassed corners around (i + 1)
 passed_more corners around i c small is absent so_far j d lt = elim (cases_eq j i) [
-  | inl here ↦ λ has. absent (subst (λ (e : Place). Contains corners e) (ap (λ k. get_or around k d) here ∙ get_or_default around i d c small ∙ sym is) has)
+  | inl here ↦ λ has. absent (subst (λ (e : Corner). Contains corners e) (ap (λ k. get_or around k d) here ∙ get_or_default around i d c small ∙ sym is) has)
   | inr other ↦ so_far j d (omega arith)
 ]
 
-pub none_held : (n : ℕ) (corners around : List Place) (p : Point) → 3 ≤ n → ((c : Place) → Contains around c ↔ Holds n c p) → (i : ℕ) → length around ≤ i → IsPassed corners around i → IsTrue (is_held n corners p) → ⊥
+pub none_held : (n : ℕ) (corners around : List Corner) (p : Point) → 3 ≤ n → ((c : Corner) → Contains around c ↔ Holds n c p) → (i : ℕ) → length around ≤ i → IsPassed corners around i → IsTrue (is_held n corners p) → ⊥
 none_held n corners around p side exactly i all passed held =
     let seat = seat_of n corners p held in
     let has = (exactly seat.corner).1 (holder_holds n seat.corner p side seat.held) in
     passed has.0 seat.corner (omega (arith, has.1)) (seat.number, seat.in_range, seat.at _ ∙ sym has.2)
 
-module _ (n : ℕ) (corners around : List Place) (p : Point) (side : 3 ≤ n) (order : AllAdjacentBelow IsBefore corners (length corners))
-    (exactly : (c : Place) → Contains around c ↔ Holds n c p) (in_order : AllAdjacentBelow IsBefore around (length around)) where
-  before_falls : (i k : ℕ) (c : Place) → i < length around → c ≡ get_or around i c → slice_get corners k ≡ Some c → k < length corners → IsPassed corners around i
+module _ (n : ℕ) (corners around : List Corner) (p : Point) (side : 3 ≤ n) (order : AllAdjacentBelow IsBefore corners (length corners))
+    (exactly : (c : Corner) → Contains around c ↔ Holds n c p) (in_order : AllAdjacentBelow IsBefore around (length around)) where
+  before_falls : (i k : ℕ) (c : Corner) → i < length around → c ≡ get_or around i c → slice_get corners k ≡ Some c → k < length corners → IsPassed corners around i
       → (j : ℕ) → j < k → is_holder n (get_or corners j c) p ≡ false
   before_falls i k c small is at in_range passed j lt = elim (cases_Bool (is_holder n (get_or corners j c) p)) [
     | inr off ↦ off
     | inl on ↦
         let e = get_or corners j c in
         let far : j + suc (k - suc j) ≡ k = omega arith in
-        let below : Below e c = subst (λ (d : Place). Below e d) (get_or_from_slice_get corners k c c at) (subst (λ m. Below e (get_or corners m c)) far (rising corners c order (k - suc j) j (omega arith))) in
+        let below : Below e c = subst (λ (d : Corner). Below e d) (get_or_from_slice_get corners k c c at) (subst (λ m. Below e (get_or corners m c)) far (rising corners c order (k - suc j) j (omega arith))) in
         let has = (exactly e).1 (holder_holds n e p side on) in
         let m = has.0 in
         let there : get_or around m c ≡ e = get_or_default around m c e has.1 ∙ has.2 in
@@ -137,14 +137,14 @@ module _ (n : ℕ) (corners around : List Place) (p : Point) (side : 3 ≤ n) (o
               (λ earlier. absurd (passed m e earlier (j, omega arith, get_or_default corners j (get_or around m e) c (omega arith) ∙ sym has.2)))
               (λ later.
               let further : i + suc (m - suc i) ≡ m = omega arith in
-              let above : Below c e = subst (λ (d : Place). Below c d) there (subst (λ h. Below c (get_or around h c)) further (subst (λ (d : Place). Below d (get_or around (i + suc (m - suc i)) c)) (sym is) (rising around c in_order (m - suc i) i (omega (arith, has.1))))) in
+              let above : Below c e = subst (λ (d : Corner). Below c d) there (subst (λ h. Below c (get_or around h c)) further (subst (λ (d : Corner). Below d (get_or around (i + suc (m - suc i)) c)) (sym is) (rising around c in_order (m - suc i) i (omega (arith, has.1))))) in
               absurd (apart e e (chain e c e below above) refl))
               other
         ]
   ]
 
   -- the first of them that is tells the place
-  pub first_found : (i k e : ℕ) (c : Place) → i < length around → c ≡ get_or around i c → slice_get corners k ≡ Some c → k < length corners → IsIndexOf n c p e → IsPassed corners around i
+  pub first_found : (i k e : ℕ) (c : Corner) → i < length around → c ≡ get_or around i c → slice_get corners k ≡ Some c → k < length corners → IsIndexOf n c p e → IsPassed corners around i
       → IsTrue (is_held n corners p) × (k * (n * n) + e ≡ place_of n corners p)
   first_found i k e c small is at in_range index passed =
       let on : is_holder n c p ≡ true = holds_holder n c p side (held_at n c p e index) in
@@ -152,25 +152,25 @@ module _ (n : ℕ) (corners around : List Place) (p : Point) (side : 3 ≤ n) (o
       (any_at (λ d. is_holder n d p) corners k c at on, ap (λ m. k * (n * n) + m) (sym (index_is n c p e index)) ∙ sym place)
 
 -- none of the first i holders holds the other point and is among the corners
-abbrev pub AreApart : ℕ → List Place → List Place → Point → ℕ → Type 0
-AreApart n corners around q i = (j : ℕ) (d : Place) → j < i → is_holder n (get_or around j d) q ≡ true → Contains corners (get_or around j d) → ⊥
+abbrev pub AreApart : ℕ → List Corner → List Corner → Point → ℕ → Type 0
+AreApart n corners around q i = (j : ℕ) (d : Corner) → j < i → is_holder n (get_or around j d) q ≡ true → Contains corners (get_or around j d) → ⊥
 
-pub apart_more : (n : ℕ) (corners around : List Place) (q : Point) (i : ℕ) (c : Place) → i < length around → c ≡ get_or around i c → (is_holder n c q ≡ true → Contains corners c → ⊥) → AreApart n corners around q i
+pub apart_more : (n : ℕ) (corners around : List Corner) (q : Point) (i : ℕ) (c : Corner) → i < length around → c ≡ get_or around i c → (is_holder n c q ≡ true → Contains corners c → ⊥) → AreApart n corners around q i
     → AreApart n corners around q (i + 1)
 apart_more n corners around q i c small is absent so_far j d lt = elim (cases_eq j i) [
   | inl here ↦
       let same : get_or around j d ≡ c = ap (λ k. get_or around k d) here ∙ get_or_default around i d c small ∙ sym is in
-      λ on has. absent (subst (λ (e : Place). is_holder n e q ≡ true) same on) (subst (λ (e : Place). Contains corners e) same has)
+      λ on has. absent (subst (λ (e : Corner). is_holder n e q ≡ true) same on) (subst (λ (e : Corner). Contains corners e) same has)
   | inr other ↦ so_far j d (omega arith)
 ]
 
-pub shared_by : (n : ℕ) (corners around : List Place) (p q : Point) (i k : ℕ) (c : Place) → 3 ≤ n → ((d : Place) → Contains around d ↔ Holds n d p) → i < length around → c ≡ get_or around i c → is_holder n c q ≡ true
+pub shared_by : (n : ℕ) (corners around : List Corner) (p q : Point) (i k : ℕ) (c : Corner) → 3 ≤ n → ((d : Corner) → Contains around d ↔ Holds n d p) → i < length around → c ≡ get_or around i c → is_holder n c q ≡ true
     → slice_get corners k ≡ Some c → IsTrue (list_any (λ d. is_holder n d p && is_holder n d q) corners)
 shared_by n corners around p q i k c side exactly small is on at =
     any_at (λ d. is_holder n d p && is_holder n d q) corners k c at (and_from (is_holder n c p) (is_holder n c q) (holds_holder n c p side ((exactly c).0 (i, small, sym is))) on)
 
 -- some corner of the list passes the test
-any_of : (P : Place → Bool) (corners : List Place) → IsTrue (list_any P corners) → (c : Place) × (Contains corners c × (P c ≡ true))
+any_of : (P : Corner → Bool) (corners : List Corner) → IsTrue (list_any P corners) → (c : Corner) × (Contains corners c × (P c ≡ true))
 any_of P [] h = absurd (true≢false (sym h))
 any_of P (d ∷ rest) h = elim (cases_Bool (P d)) [
   | inl on ↦ (d, ((0, omega arith, refl), on))
@@ -179,7 +179,7 @@ any_of P (d ∷ rest) h = elim (cases_Bool (P d)) [
       (later.0, ((suc later.1.0.0, omega (arith, later.1.0.1), later.1.0.2), later.1.1))
 ]
 
-pub not_shared : (n : ℕ) (corners around : List Place) (p q : Point) (i : ℕ) → 3 ≤ n → ((d : Place) → Contains around d ↔ Holds n d p) → length around ≤ i → AreApart n corners around q i
+pub not_shared : (n : ℕ) (corners around : List Corner) (p q : Point) (i : ℕ) → 3 ≤ n → ((d : Corner) → Contains around d ↔ Holds n d p) → length around ≤ i → AreApart n corners around q i
     → false ≡ list_any (λ d. is_holder n d p && is_holder n d q) corners
 not_shared n corners around p q i side exactly all passed = elim (cases_Bool (list_any (λ d. is_holder n d p && is_holder n d q) corners)) [
   | inr off ↦ sym off
@@ -188,7 +188,7 @@ not_shared n corners around p q i side exactly all passed = elim (cases_Bool (li
       let c = some.0 in
       let both = and_parts (is_holder n c p) (is_holder n c q) some.1.1 in
       let has = (exactly c).1 (holder_holds n c p side both.0) in
-      absurd (passed has.0 c (omega (arith, has.1)) (subst (λ (e : Place). is_holder n e q ≡ true) (sym has.2) both.1) (subst (λ (e : Place). Contains corners e) (sym has.2) some.1.0))
+      absurd (passed has.0 c (omega (arith, has.1)) (subst (λ (e : Corner). is_holder n e q ≡ true) (sym has.2) both.1) (subst (λ (e : Corner). Contains corners e) (sym has.2) some.1.0))
 ]
 
 pub some_tile : (N : Type 0) (P : ℕ → Type 0) (r : Option ℕ) → MatchOption r N P → is_some r ≡ true → (k : ℕ) × P k

@@ -6,7 +6,7 @@ use Rattle.lattice.specs.declared.direction.Dir.TheVariants.{East, SouthEast, So
 use Rattle.lattice.specs.Steps.{step}
 use Rattle.lattice.specs.Stepping.{fits_point}
 use Rattle.std.specs.List.{AllAdjacentBelow}
-use Rattle.lattice.specs.Corners.{Place}
+use Rattle.lattice.specs.Corners.{Corner}
 use Rattle.lattice.specs.Lattice.{IsBefore}
 use Rattle.lattice.specs.Mosaic.{Mosaic}
 use Rattle.lattice.specs.Ground.{is_ground, terrain}
@@ -17,7 +17,7 @@ use Rattle.flow_d8.specs.Crossing.{unknown, distance_at}
 -- the corners of the tiles, and for each of their samples a direction and a flat distance
 pub record Drained : Type 0 where
   pub side : ℕ
-  pub corners : List Place
+  pub corners : List Corner
   pub drains : List (Option Dir)
   pub distances : List ℕ
 

@@ -2,7 +2,7 @@
 use Rattle.std.specs.Prelude.{◌≡◌, ℕ, ◌+◌, ◌*◌, ◌/◌, ◌%◌, nat_le, ◌<◌, ◌≤◌, ℤ, Bool, IsTrue, IsFalse, ◌&&◌, if◌then◌else◌, List, [], ◌∷◌, length, map, slice_index_or, slice_get, Some}
 use Rattle.std.specs.List.{list_any, AllAdjacentBelow}
 use Rattle.lattice.specs.declared.point.Point.{Point}
-use Rattle.lattice.specs.Corners.{Place, is_corner}
+use Rattle.lattice.specs.Corners.{Corner, is_corner}
 use Rattle.lattice.specs.Lattice.{IsBefore, holds, index_of, point_of}
 use Rattle.lattice.specs.Terrain.{IsFilledLevel}
 use Rattle.lattice.specs.Mosaic.{Mosaic, IsMosaic, void}
@@ -11,7 +11,7 @@ use Rattle.lattice.specs.Ground.{is_ground, terrain}
 -- the corners of the tiles, and of each tile in turn the levels row by row from the north, in a row from the west
 pub record Levels : Type 0 where
   pub side : ℕ
-  pub corners : List Place
+  pub corners : List Corner
   pub levels : List ℤ
 
 -- corners in the order of tiles, no more than a store has room for, and a level for each sample
@@ -26,22 +26,22 @@ pub record AreLevels (f : Levels) : Type 0 where
 pub record IsFilledOf (m : Mosaic) (f : Levels) : Type 0 where
   pub side : f.side ≡ m.side
   pub corners : f.corners ≡ map (λ t. t.corner) m.tiles
-  pub on_ground : (k e : ℕ) (c : Place) → slice_get f.corners k ≡ Some c → e < f.side * f.side → IsTrue (is_ground m (point_of f.side c e))
+  pub on_ground : (k e : ℕ) (c : Corner) → slice_get f.corners k ≡ Some c → e < f.side * f.side → IsTrue (is_ground m (point_of f.side c e))
       → IsFilledLevel (terrain m) (point_of f.side c e) (slice_index_or f.levels (k * (f.side * f.side) + e) void)
-  pub elsewhere : (k e : ℕ) (c : Place) → slice_get f.corners k ≡ Some c → e < f.side * f.side → IsFalse (is_ground m (point_of f.side c e))
+  pub elsewhere : (k e : ℕ) (c : Corner) → slice_get f.corners k ≡ Some c → e < f.side * f.side → IsFalse (is_ground m (point_of f.side c e))
       → slice_index_or f.levels (k * (f.side * f.side) + e) void ≡ void
 
 -- the corner's tile holds the point
-abbrev pub is_holder : ℕ → Place → Point → Bool
+abbrev pub is_holder : ℕ → Corner → Point → Bool
 is_holder n c p = is_corner c && holds n c p
 
 -- some tile of these corners holds the point
-abbrev pub is_held : ℕ → List Place → Point → Bool
+abbrev pub is_held : ℕ → List Corner → Point → Bool
 is_held n corners p = list_any (λ c. is_holder n c p) corners
 
 -- the number of the point's sample, in the first tile that holds it, where samples are numbered tile after tile; past
 -- all samples where no tile holds it
-unfoldable pub place_of : ℕ → List Place → Point → ℕ
+unfoldable pub place_of : ℕ → List Corner → Point → ℕ
 place_of n [] p = 0
 place_of n (c ∷ rest) p = if is_holder n c p then index_of n c p else n * n + place_of n rest p
 

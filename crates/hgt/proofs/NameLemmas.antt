@@ -3,7 +3,7 @@ use Rattle.std.proofs.Common.{◌≡◌, ◌≢◌, ℕ, ◌-◌, ◌<◌, ◌�
 use Rattle.std.specs.Prelude.{not, MatchOption, SomeIff, slice_range}
 use Rattle.std.proofs.lemmas.List.Sums.{suffix_len_is}
 use Rattle.std.proofs.lemmas.Bool.Decides.{nat_tests}
-use Rattle.lattice.specs.Corners.{Place, is_corner}
+use Rattle.lattice.specs.Corners.{Corner, is_corner}
 use Rattle.hgt.specs.Names.{base_name, IsDegrees, IsName, name_bytes}
 
 is_slash : (c : ℕ) → c ≡ 47 → not (nat_eq c 47) ≡ false
@@ -29,10 +29,10 @@ IsDegrees-same up down letter digits v w apart (a, inr x) (b, inl y) = absurd (a
 IsDegrees-same up down letter digits v w apart (a, inr x) (b, inr y) = x.1 ∙ sym y.1
 
 -- where the letters and digits say these values, the corner is the one there, if there is one
-pub named : (text : List ℕ) (lat lon m n : ℤ) (r : Option Place) → length text ≡ 7
+pub named : (text : List ℕ) (lat lon m n : ℤ) (r : Option Corner) → length text ≡ 7
     → IsDegrees 78 83 (get_or text 0 0) (slice_range text 1 3) lat → IsDegrees 69 87 (get_or text 3 0) (slice_range text 4 7) lon
     → m ≡ lat → n ≡ lon → SomeIff r (IsTrue (is_corner (record { lat = m; lon = n }))) (record { lat = m; lon = n })
-    → MatchOption r ((c : Place) → ¬ IsName text c) (IsName text)
+    → MatchOption r ((c : Corner) → ¬ IsName text c) (IsName text)
 named text lat lon m n None whole is_lat is_lon same_lat same_lon none = λ c is.
     let lat_is : m ≡ c.lat = same_lat ∙ IsDegrees-same 78 83 (get_or text 0 0) (slice_range text 1 3) lat c.lat (λ e. omega arith) is_lat is.lat in
     let lon_is : n ≡ c.lon = same_lon ∙ IsDegrees-same 69 87 (get_or text 3 0) (slice_range text 4 7) lon c.lon (λ e. omega arith) is_lon is.lon in
@@ -42,8 +42,8 @@ named text lat lon m n (Some c) whole is_lat is_lon same_lat same_lon some =
     let there : IsName text (record { lat = m; lon = n }) = record { whole = whole; lat = rw same_lat is_lat; lon = rw same_lon is_lon; corner = some.0 } in
     subst (IsName text) (sym some.1) there
 
-pub IsName-name_bytes : (c : Place) → IsTrue (is_corner c) → IsName (name_bytes c) c
+pub IsName-name_bytes : (c : Corner) → IsTrue (is_corner c) → IsName (name_bytes c) c
 IsName-name_bytes c is = search rules
 
-pub IsName-same : (text : List ℕ) (c d : Place) → IsName text c → IsName text d → c ≡ d
+pub IsName-same : (text : List ℕ) (c d : Corner) → IsName text c → IsName text d → c ≡ d
 IsName-same text c d is_c is_d = search rules

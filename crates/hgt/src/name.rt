@@ -2,7 +2,7 @@
 ghost use Rattle.std.specs.Prelude.{◌≡◌, ◌≢◌, ◌<◌, ◌≤◌, ◌+◌, ℤ, [], ◌∷◌, ◌++◌, All, length, IfOk, IfErr, IfSome, SomeIff, MatchOption, slice_index};
 ghost use Rattle.std.specs.Str.{byte};
 ghost use Rattle.std.specs.Char.{IsAsciiDigit};
-ghost use Rattle.lattice.specs.Corners.{Place};
+ghost use Rattle.lattice.specs.Corners.{Corner};
 ghost use Rattle.hgt.specs.Names.{IsName, IsFileName, IsDegrees, base_name, decimal, name_bytes, letter_of, two_digits};
 ghost use Rattle.arrayvec.specs.ArrayString.{array_string_len};
 
@@ -13,13 +13,13 @@ use lattice::{Corner, Refusal};
 /// is latitude 0 and `W000` longitude 0. Any other text, and a corner that there isn't, is `BadName`.
 pub fn name_of(text: &[u8]) -> Result<Corner, Refusal>
     ensures ok { IfOk result (λ c. IsName text.now c) }
-    ensures err { IfErr result (λ r. (r ≡ Refusal.BadName) × ((c : Place) → ¬ IsName text.now c)) }
+    ensures err { IfErr result (λ r. (r ≡ Refusal.BadName) × ((c : Corner) → ¬ IsName text.now c)) }
 {
     corner_named(text).ok_or(Refusal::BadName)
 }
 
 fn corner_named(text: &[u8]) -> Option<Corner>
-    ensures { MatchOption result ((c : Place) → ¬ IsName text.now c) (λ c. IsName text.now c) }
+    ensures { MatchOption result ((c : Corner) → ¬ IsName text.now c) (λ c. IsName text.now c) }
 {
     if text.len() != 7 {
         return None;
@@ -66,7 +66,7 @@ fn number(digits: &[u8]) -> Option<u16>
 /// `/`). The base name has at least 11 bytes and ends in `.hgt` in any case; any other is `BadName`.
 pub fn file_name(text: &[u8]) -> Result<Corner, Refusal>
     ensures ok { IfOk result (λ c. IsFileName text.now c) }
-    ensures err { IfErr result (λ r. (r ≡ Refusal.BadName) × ((c : Place) → ¬ IsFileName text.now c)) }
+    ensures err { IfErr result (λ r. (r ≡ Refusal.BadName) × ((c : Corner) → ¬ IsFileName text.now c)) }
 {
     let base = after_slash(text);
     if base.len() < 11 || !base[base.len() - 4..].eq_ignore_ascii_case(b".hgt") {
@@ -88,7 +88,7 @@ fn after_slash(path: &[u8]) -> &[u8]
 pub fn name_text(corner: Corner) -> ArrayString<7>
     ensures value { result.bytes ≡ name_bytes corner }
     ensures name { IsName result.bytes corner }
-    ensures only { (c : Place) → IsName result.bytes c → c ≡ corner }
+    ensures only { (c : Corner) → IsName result.bytes c → c ≡ corner }
 {
     let mut text = ArrayString::new();
     let lat = corner.lat.unsigned_abs();

@@ -8,7 +8,7 @@ use Rattle.std.proofs.lemmas.Bool.{and_parts, and_from, cond-true, cond-false, c
 use Rattle.std.proofs.lemmas.List.{drop_all}
 use Rattle.std.proofs.lemmas.List.Elements.{All-nil, All-cons, All-contains, Contains-append_right, filter_passes}
 use Rattle.std.proofs.lemmas.List.Kept.{AllPairs-cons, AllPairs-filter}
-use Rattle.lattice.specs.Corners.{Place, is_corner}
+use Rattle.lattice.specs.Corners.{Corner, is_corner}
 use Rattle.lattice.specs.LatticeLaws.{AreHolders}
 use Rattle.lattice.specs.Lattice.{Holds, IsBefore, is_along, holds}
 use Rattle.lattice.specs.declared.point.Point.{Point}
@@ -18,10 +18,10 @@ use Rattle.lattice.proofs.Along.{distance, parts}
 use Rattle.lattice.proofs.Samples.{holds_is, along_of_holds}
 
 -- there is such a corner, and its tile holds the point
-abbrev pub is_held : ℕ → Point → Place → Bool
+abbrev pub is_held : ℕ → Point → Corner → Bool
 is_held n p c = is_corner c && holds n c p
 
-pub held_is : (n : ℕ) (p : Point) (c : Place) → 3 ≤ n → IsTrue (is_held n p c) ↔ Holds n c p
+pub held_is : (n : ℕ) (p : Point) (c : Corner) → 3 ≤ n → IsTrue (is_held n p c) ↔ Holds n c p
 held_is n p c side = (
   λ h. let both = and_parts (is_corner c) (holds n c p) h in (holds_is n c p side both.0).0 both.1,
   λ h. and_from (is_corner c) (holds n c p) h.corner ((holds_is n c p side h.corner).1 h),
@@ -41,14 +41,14 @@ pub crossing_is : (south north west east lat lon : ℤ) → north ≡ lat → ea
 crossing_is south north west east lat lon n e s w =
     ap₂ (λ (a b : ℤ). crossing a b west east) s n ∙ ap₂ (λ (a b : ℤ). crossing (lat -ℤ pos 1) lat a b) w e
 
-unfoldable pub kept : ℕ → Point → List Degrees → List Place
+unfoldable pub kept : ℕ → Point → List Degrees → List Corner
 kept n p cs = filter (is_held n p) (map place cs)
 
 turn : (cs : List Degrees) (i : ℕ) (d : Degrees) → i < length cs → drop i cs ≡ get_or cs i d ∷ drop (i + 1) cs
 turn cs i d small = rw (add-one, drop-cons cs i d) refl
 
 -- a turn of the loop
-pub taken : (n : ℕ) (p : Point) (cs : List Degrees) (i : ℕ) (d : Degrees) (found whole : List Place) (c : Place) → 3 ≤ n → i < length cs →
+pub taken : (n : ℕ) (p : Point) (cs : List Degrees) (i : ℕ) (d : Degrees) (found whole : List Corner) (c : Corner) → 3 ≤ n → i < length cs →
     Holds n (place (get_or cs i d)) p × (c ≡ place (get_or cs i d)) → found ++ kept n p (drop i cs) ≡ whole →
     (found ++ c ∷ []) ++ kept n p (drop (i + 1) cs) ≡ whole
 unfolding kept
@@ -56,9 +56,9 @@ taken n p cs i d found whole c side small held so_far =
     let here = place (get_or cs i d) in
     let rest = kept n p (drop (i + 1) cs) in
     let more : kept n p (drop i cs) ≡ here ∷ rest = ap (kept n p) (turn cs i d small) ∙ cond-true (is_held n p here) (here ∷ rest) rest ((held_is n p here side).1 held.0) in
-    append_assoc found (c ∷ []) rest ∙ ap (λ (t : Place). found ++ t ∷ rest) held.1 ∙ ap (λ (s : List Place). found ++ s) (sym more) ∙ so_far
+    append_assoc found (c ∷ []) rest ∙ ap (λ (t : Corner). found ++ t ∷ rest) held.1 ∙ ap (λ (s : List Corner). found ++ s) (sym more) ∙ so_far
 
-pub passed : (n : ℕ) (p : Point) (cs : List Degrees) (i : ℕ) (d : Degrees) (found whole : List Place) → 3 ≤ n → i < length cs →
+pub passed : (n : ℕ) (p : Point) (cs : List Degrees) (i : ℕ) (d : Degrees) (found whole : List Corner) → 3 ≤ n → i < length cs →
     (Holds n (place (get_or cs i d)) p → ⊥) → found ++ kept n p (drop i cs) ≡ whole → found ++ kept n p (drop (i + 1) cs) ≡ whole
 unfolding kept
 passed n p cs i d found whole side small far so_far =
@@ -66,10 +66,10 @@ passed n p cs i d found whole side small far so_far =
     let rest = kept n p (drop (i + 1) cs) in
     let not_held = false_from_ne_true (is_held n p here) (λ h. far ((held_is n p here side).0 h)) in
     let more : kept n p (drop i cs) ≡ rest = ap (kept n p) (turn cs i d small) ∙ cond-false (is_held n p here) (here ∷ rest) rest not_held in
-    ap (λ (s : List Place). found ++ s) (sym more) ∙ so_far
+    ap (λ (s : List Corner). found ++ s) (sym more) ∙ so_far
 
 -- what passes a test stays
-pub stays : (test : Place → Bool) (xs : List Place) (k : ℕ) (c : Place) → k < length xs → get_or xs k c ≡ c → test c ≡ true → Contains (filter test xs) c
+pub stays : (test : Corner → Bool) (xs : List Corner) (k : ℕ) (c : Corner) → k < length xs → get_or xs k c ≡ c → test c ≡ true → Contains (filter test xs) c
 stays test [] k c small is yes_c = absurd (omega arith)
 stays test (x ∷ xs) zero c small is yes_c =
     cond_both (test x) (x ∷ filter test xs) (filter test xs) (λ l. Contains l c)
@@ -117,7 +117,7 @@ near m last corner v some from to along =
       | inr more ↦ inr (grind (arith, ints))
     ]
 
-pub among : (lat lon : ℤ) (c : Place) → (c.lat ≡ lat -ℤ pos 1) ⊎ (c.lat ≡ lat) → (c.lon ≡ lon -ℤ pos 1) ⊎ (c.lon ≡ lon) → Contains (map place (around lat lon)) c
+pub among : (lat lon : ℤ) (c : Corner) → (c.lat ≡ lat -ℤ pos 1) ⊎ (c.lat ≡ lat) → (c.lon ≡ lon -ℤ pos 1) ⊎ (c.lon ≡ lon) → Contains (map place (around lat lon)) c
 among lat lon c (inl south) (inl west) = (0, omega arith, ap₂ (λ (a b : ℤ). record { lat = a; lon = b }) (sym south) (sym west))
 among lat lon c (inl south) (inr east) = (1, omega arith, ap₂ (λ (a b : ℤ). record { lat = a; lon = b }) (sym south) (sym east))
 among lat lon c (inr north) (inl west) = (2, omega arith, ap₂ (λ (a b : ℤ). record { lat = a; lon = b }) (sym north) (sym west))
@@ -127,7 +127,7 @@ among lat lon c (inr north) (inr east) = (3, omega arith, ap₂ (λ (a b : ℤ).
 pub kept_exactly : (n : ℕ) (p : Point) (lat lon : ℤ) → 3 ≤ n →
     (lat *ℤ pos (n - 1)) ≤ℤ p.y → p.y <ℤ (lat *ℤ pos (n - 1) +ℤ pos (n - 1)) →
     (lon *ℤ pos (n - 1)) ≤ℤ p.x → p.x <ℤ (lon *ℤ pos (n - 1) +ℤ pos (n - 1)) →
-    (c : Place) → Contains (kept n p (around lat lon)) c ↔ Holds n c p
+    (c : Corner) → Contains (kept n p (around lat lon)) c ↔ Holds n c p
 unfolding kept
 kept_exactly n p lat lon side y_from y_to x_from x_to c = (
   λ has. (held_is n p c side).0 (All-contains (λ a. is_held n p a ≡ true) (kept n p (around lat lon)) c (filter_passes (is_held n p) (map place (around lat lon))) has),
@@ -137,7 +137,7 @@ kept_exactly n p lat lon side y_from y_to x_from x_to c = (
       stays (is_held n p) (map place (around lat lon)) here.0 c here.1 here.2 ((held_is n p c side).1 held),
 )
 
-before_by_lat : (a b : Place) → a.lat <ℤ b.lat → IsBefore a b
+before_by_lat : (a b : Corner) → a.lat <ℤ b.lat → IsBefore a b
 before_by_lat a b less = grind (arith, ints)
 
 before_by_lon : (lat west east : ℤ) → west <ℤ east → IsBefore (record { lat = lat; lon = west }) (record { lat = lat; lon = east })
@@ -145,10 +145,10 @@ before_by_lon lat west east less = grind (arith, ints)
 
 around_rises : (lat lon : ℤ) → AllPairs IsBefore (map place (around lat lon))
 around_rises lat lon =
-    let south_west : Place = record { lat = lat -ℤ pos 1; lon = lon -ℤ pos 1 } in
-    let south_east : Place = record { lat = lat -ℤ pos 1; lon = lon } in
-    let north_west : Place = record { lat = lat; lon = lon -ℤ pos 1 } in
-    let north_east : Place = record { lat = lat; lon = lon } in
+    let south_west : Corner = record { lat = lat -ℤ pos 1; lon = lon -ℤ pos 1 } in
+    let south_east : Corner = record { lat = lat -ℤ pos 1; lon = lon } in
+    let north_west : Corner = record { lat = lat; lon = lon -ℤ pos 1 } in
+    let north_east : Corner = record { lat = lat; lon = lon } in
     let south : (lat -ℤ pos 1) <ℤ lat = omega (arith, ints) in
     let west : (lon -ℤ pos 1) <ℤ lon = omega (arith, ints) in
     AllPairs-cons IsBefore south_west (south_east ∷ north_west ∷ north_east ∷ [])
@@ -168,7 +168,7 @@ kept_in_order n p lat lon =
     let pairs : AllPairs IsBefore (kept n p (around lat lon)) = AllPairs-filter IsBefore (is_held n p) (map place (around lat lon)) (around_rises lat lon) in
     λ k d small. pairs k (k + 1) d (omega arith) small
 
-pub all_kept : (n : ℕ) (p : Point) (cs : List Degrees) (found : List Place) (i : ℕ) → length cs ≤ i → found ++ kept n p (drop i cs) ≡ kept n p cs → found ≡ kept n p cs
+pub all_kept : (n : ℕ) (p : Point) (cs : List Degrees) (found : List Corner) (i : ℕ) → length cs ≤ i → found ++ kept n p (drop i cs) ≡ kept n p cs → found ≡ kept n p cs
 unfolding kept
 all_kept n p cs found i all so_far = sym (append-nil found) ∙ ap (λ (rest : List Degrees). found ++ kept n p rest) (sym (drop_all i cs all)) ∙ so_far
 
@@ -177,13 +177,13 @@ floor : (m : ℕ) (v : ℤ) → 0 < m → (q : ℤ) × ((q *ℤ pos m) ≤ℤ v)
 floor m (pos a) some = (pos (a / m), grind (arith, ints), grind (arith, ints))
 floor m (negsuc a) some = (negsuc (a / m), grind (arith, ints), grind (arith, ints))
 
-no_longer : (test : Place → Bool) (xs : List Place) → length (filter test xs) ≤ length xs
+no_longer : (test : Corner → Bool) (xs : List Corner) → length (filter test xs) ≤ length xs
 no_longer test [] = omega arith
 no_longer test (x ∷ xs) =
     let rest : length (filter test xs) ≤ length xs = no_longer test xs in
-    cond_both (test x) (x ∷ filter test xs) (filter test xs) (λ (l : List Place). length l ≤ length (x ∷ xs)) (λ _. omega arith) (λ _. omega arith)
+    cond_both (test x) (x ∷ filter test xs) (filter test xs) (λ (l : List Corner). length l ≤ length (x ∷ xs)) (λ _. omega arith) (λ _. omega arith)
 
-pub at_most_four : (n : ℕ) (p : Point) → 3 ≤ n → (corners : List Place) × (AreHolders n p corners × (length corners ≤ 4))
+pub at_most_four : (n : ℕ) (p : Point) → 3 ≤ n → (corners : List Corner) × (AreHolders n p corners × (length corners ≤ 4))
 unfolding kept
 at_most_four n p side =
     let lat = floor (n - 1) p.y (omega arith) in

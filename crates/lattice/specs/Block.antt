@@ -2,7 +2,7 @@
 -- of its rim points (this product's own profile, after the tiled flooding of Barnes 2016).
 use Rattle.std.specs.Prelude.{◌≡◌, ℕ, ◌+◌, ◌-◌, ◌*◌, ◌/◌, ◌%◌, ◌<◌, ℤ, Bool, ◌&&◌, ◌||◌, not, if◌then◌else◌, nat_lt, nat_le, nat_eq, List, [], ◌∷◌, length, slice_index_or}
 use Rattle.std.specs.List.{list_all}
-use Rattle.lattice.specs.Corners.{Place}
+use Rattle.lattice.specs.Corners.{Corner}
 use Rattle.lattice.specs.Lattice.{point_of}
 use Rattle.lattice.specs.Terrain.{Terrain}
 use Rattle.lattice.specs.Mosaic.{Mosaic, void, is_void}
@@ -10,7 +10,7 @@ use Rattle.lattice.specs.Height.{height_of}
 use Rattle.lattice.specs.Ground.{metres}
 
 -- the heights are those of the tile's points by the seam rule, by index, void where a point has none
-pub record IsBlockOf (m : Mosaic) (c : Place) (heights : List ℤ) : Type 0 where
+pub record IsBlockOf (m : Mosaic) (c : Corner) (heights : List ℤ) : Type 0 where
   pub whole : length heights ≡ m.side * m.side
   pub values : (e : ℕ) → e < m.side * m.side → slice_index_or heights e void ≡ metres (height_of m (point_of m.side c e))
 

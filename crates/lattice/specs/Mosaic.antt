@@ -3,7 +3,7 @@
 use Rattle.std.specs.Prelude.{◌≡◌, ℕ, ◌*◌, ◌≤◌, ℤ, negsuc, pos, ◌≤ℤ◌, Bool, IsTrue, List, All, length, Option, Some, None, [], ◌∷◌, if◌then◌else◌}
 use Rattle.std.specs.Ordering.{int_eq}
 use Rattle.std.specs.List.{list_any, AllAdjacentBelow}
-use Rattle.lattice.specs.Corners.{Place, is_corner, same_place}
+use Rattle.lattice.specs.Corners.{Corner, is_corner, same_corner}
 use Rattle.lattice.specs.Lattice.{IsBefore}
 
 -- the sample of a data void
@@ -15,7 +15,7 @@ is_void sample = int_eq sample void
 
 -- a tile: its corner, and its samples row by row from the north, in a row from the west, in metres
 pub record Tile : Type 0 where
-  pub corner : Place
+  pub corner : Corner
   pub samples : List ℤ
 
 -- the map as a list of its tiles in their order, no corner twice: each finite map is one such list
@@ -44,13 +44,13 @@ abbrev pub empty_mosaic : ℕ → Mosaic
 empty_mosaic n = record { side = n; tiles = [] }
 
 -- some tile has this corner
-abbrev pub is_present : Mosaic → Place → Bool
-is_present m c = list_any (λ t. same_place t.corner c) m.tiles
+abbrev pub is_present : Mosaic → Corner → Bool
+is_present m c = list_any (λ t. same_corner t.corner c) m.tiles
 
 -- the samples of the tile with this corner
-abbrev pub samples_among : List Tile → Place → Option (List ℤ)
+abbrev pub samples_among : List Tile → Corner → Option (List ℤ)
 samples_among [] c = None
-samples_among (t ∷ rest) c = if same_place t.corner c then Some t.samples else samples_among rest c
+samples_among (t ∷ rest) c = if same_corner t.corner c then Some t.samples else samples_among rest c
 
-abbrev pub samples_of : Mosaic → Place → Option (List ℤ)
+abbrev pub samples_of : Mosaic → Corner → Option (List ℤ)
 samples_of m c = samples_among m.tiles c

@@ -13,10 +13,10 @@ pub struct Corner {
 }
 
 impl Model for Corner {
-    ghost use Rattle.lattice.specs.Corners.{Place, is_corner};
+    ghost use Rattle.lattice.specs.Corners.{Corner, is_corner};
     ghost use Rattle.std.specs.Prelude.{IsTrue};
 
-    ghost Value = { Place };
+    ghost Value = { Corner };
 
     ghost view = { λ c. record { lat = c.lat; lon = c.lon } };
 
@@ -26,7 +26,7 @@ impl Model for Corner {
 }
 
 impl Corner {
-    ghost use Rattle.lattice.specs.Corners.{Place, is_corner};
+    ghost use Rattle.lattice.specs.Corners.{Corner, is_corner};
 
     /// The corner at this latitude and longitude, where there is one.
     pub fn new(lat: i16, lon: i16) -> Option<Corner>

@@ -1,7 +1,7 @@
 //! Which tiles hold a point, and where in a tile it lies.
 ghost use Rattle.std.specs.Prelude.{◌≡◌, ◌<◌, ◌≤◌, ◌*◌, ◌-◌, ◌↔◌, IsTrue, IsFalse, IsSome, IfSome, MatchOption, SomeIff, length, ℤ, pos, negsuc, ◌+ℤ◌, ◌*ℤ◌, ◌≤ℤ◌, ◌<ℤ◌, Contains};
 ghost use Rattle.std.specs.List.{AllAdjacentBelow};
-ghost use Rattle.lattice.specs.Corners.{Place};
+ghost use Rattle.lattice.specs.Corners.{Corner};
 ghost use Rattle.lattice.specs.Lattice.{Holds, IsIndexOf, IsBefore, point_of, is_along};
 
 use crate::{Corner, Point, Side};
@@ -17,7 +17,7 @@ struct Degrees {
 /// The corners whose tile holds the point, in the order of tiles: one for a point within a tile, two on an edge that
 /// two tiles share, four where four tiles meet, and fewer at the poles and at 180 degrees, where tiles end.
 pub fn holders(side: Side, point: Point) -> ArrayVec<Corner, 4>
-    ensures exactly { (c : Place) → Contains result.items c ↔ Holds side c point }
+    ensures exactly { (c : Corner) → Contains result.items c ↔ Holds side c point }
     ensures in_order { AllAdjacentBelow IsBefore result.items (length result.items) }
 {
     let edge = side.edge();

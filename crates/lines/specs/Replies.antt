@@ -3,7 +3,7 @@ use Rattle.std.specs.Prelude.{ℕ, ◌+◌, ◌-ℤ◌, List, [], ◌∷◌, ◌
 use Rattle.std.specs.Fmt.{signed_decimal}
 use Rattle.std.specs.List.{sum_by}
 use Rattle.std.specs.Coded.{Coded, coded_list, coded_ℕ}
-use Rattle.lattice.specs.Corners.{Place}
+use Rattle.lattice.specs.Corners.{Corner}
 use Rattle.lattice.specs.declared.point.Point.{Point}
 use Rattle.lattice.specs.declared.refusal.Refusal.{Refusal}
 use Rattle.lattice.specs.Refusals.{number_of, word_of}
@@ -23,11 +23,11 @@ abbrev pub ok_line : List ℕ → List ℕ
 ok_line value = line_of (codes "OK " ++ value)
 
 -- a space and a name, for each of the tiles
-abbrev pub spaced_names : List Place → List ℕ
+abbrev pub spaced_names : List Corner → List ℕ
 spaced_names corners = flat_map (λ c. 32 ∷ name_bytes c) corners
 
 -- `OK`, how many tiles there are, and their names
-abbrev pub names_line : List Place → List ℕ
+abbrev pub names_line : List Corner → List ℕ
 names_line corners = ok_line (decimal (length corners) ++ spaced_names corners)
 
 -- `ERR`, a refusal's number and its word

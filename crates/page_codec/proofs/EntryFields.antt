@@ -7,7 +7,7 @@ use Rattle.std.specs.Int.{w16}
 use Rattle.std.specs.Int.RustNames.{FitsSigned}
 use Rattle.std.proofs.lemmas.Int.{ints}
 use Rattle.std.proofs.lemmas.List.{nil_from_length, length-append}
-use Rattle.lattice.specs.Corners.{Place, is_corner}
+use Rattle.lattice.specs.Corners.{Corner, is_corner}
 use Rattle.page_codec.specs.Numbers.{i16_bytes, u32_bytes}
 use Rattle.page_codec.specs.declared.entry.Kept.{Kept}
 use Rattle.page_codec.specs.Entries.{EntryValue, IsEntry, AreKept, field_bytes, entry_bytes, levels_of, labels_of}
@@ -25,10 +25,10 @@ fields_from_parts bytes a b c d e lat lon heights levels labels p q r s t none =
     cc
 
 -- the fields of an entry fit their bytes
-pub lat_fits : (c : Place) → IsTrue (is_corner c) → FitsSigned w16 c.lat
+pub lat_fits : (c : Corner) → IsTrue (is_corner c) → FitsSigned w16 c.lat
 lat_fits c corner = record { sfits = grind (arith, ints, corner) }
 
-pub lon_fits : (c : Place) → IsTrue (is_corner c) → FitsSigned w16 c.lon
+pub lon_fits : (c : Corner) → IsTrue (is_corner c) → FitsSigned w16 c.lon
 lon_fits c corner = record { sfits = grind (arith, ints, corner) }
 
 pub levels_fit : (kept : Option Kept) → IfSome kept AreKept → levels_of kept < 2 ^ 32
@@ -54,8 +54,8 @@ same_fields f e lat lon heights levels labels entry same =
 abbrev fields_of : EntryValue → Fields
 fields_of e = record { lat = e.corner.lat; lon = e.corner.lon; heights = e.heights; levels = levels_of e.kept; labels = labels_of e.kept }
 
-same_places : (a b : Place) → a.lat ≡ b.lat → a.lon ≡ b.lon → a ≡ b
-same_places a b lat lon = ap (λ (z : ℤ). let p : Place = record { lat = z; lon = a.lon } in p) lat ∙ ap (λ (z : ℤ). let p : Place = record { lat = b.lat; lon = z } in p) lon
+same_places : (a b : Corner) → a.lat ≡ b.lat → a.lon ≡ b.lon → a ≡ b
+same_places a b lat lon = ap (λ (z : ℤ). let p : Corner = record { lat = z; lon = a.lon } in p) lat ∙ ap (λ (z : ℤ). let p : Corner = record { lat = b.lat; lon = z } in p) lon
 
 same_pages : (k l : Kept) → k.levels ≡ l.levels → k.labels ≡ l.labels → k ≡ l
 same_pages k l levels labels = ap (λ (n : ℕ). let p : Kept = record { levels = n; labels = k.labels } in p) levels ∙ ap (λ (n : ℕ). let p : Kept = record { levels = l.levels; labels = n } in p) labels
@@ -72,7 +72,7 @@ same_entry a b p q same =
     let s = same_fields (fields_of a) b (lat_fits a.corner p.corner) (lon_fits a.corner p.corner) p.heights.1 (levels_fit a.kept p.kept) (labels_fit a.kept p.kept) q same in
     let corner : a.corner ≡ b.corner = same_places a.corner b.corner s.lat s.lon in
     let kept : a.kept ≡ b.kept = same_kept a.kept b.kept p.kept q.kept s.levels s.labels in
-    ap (λ (x : Place). let e : EntryValue = record { corner = x; heights = a.heights; kept = a.kept } in e) corner
+    ap (λ (x : Corner). let e : EntryValue = record { corner = x; heights = a.heights; kept = a.kept } in e) corner
     ∙ ap (λ (n : ℕ). let e : EntryValue = record { corner = b.corner; heights = n; kept = a.kept } in e) s.heights
     ∙ ap (λ (k : Option Kept). let e : EntryValue = record { corner = b.corner; heights = b.heights; kept = k } in e) kept
 

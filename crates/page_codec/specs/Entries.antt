@@ -1,13 +1,13 @@
 -- A tile's entry in a root (this product's own profile).
 use Rattle.std.specs.Prelude.{ℕ, ℤ, ◌<◌, ◌^◌, IsTrue, IfSome, Option, Some, None, List, [], ◌∷◌}
 use Rattle.std.specs.List.{concat}
-use Rattle.lattice.specs.Corners.{Place, is_corner}
+use Rattle.lattice.specs.Corners.{Corner, is_corner}
 use Rattle.page_codec.specs.declared.entry.Kept.{Kept}
 use Rattle.page_codec.specs.Numbers.{i16_bytes, u32_bytes}
 
 -- the tile's corner, the record page of its heights, and those of its levels and labels where they are kept
 pub record EntryValue : Type 0 where
-  pub corner : Place
+  pub corner : Corner
   pub heights : ℕ
   pub kept : Option Kept
 

@@ -7,7 +7,7 @@ use Rattle.std.proofs.lemmas.List.Elements.{All-head, All-tail, All-filter, All-
 use Rattle.std.specs.Int.{int_max}
 use Rattle.std.specs.Ordering.{int_eq}
 use Rattle.std.specs.List.{All, list_any}
-use Rattle.lattice.specs.Corners.{Place}
+use Rattle.lattice.specs.Corners.{Corner}
 use Rattle.lattice.specs.declared.point.Point.{Point}
 use Rattle.lattice.specs.declared.height.Height.{Height}
 use Rattle.lattice.specs.declared.height.Height.TheVariants.{Outside, Void, At}
@@ -40,7 +40,7 @@ no_fault : (o : Option Refusal) (m : Mosaic) → refusal_of (unless_fault o m) �
 no_fault None m h = (refl, refl)
 no_fault (Some r) m h = absurd (some_not_none h)
 
-pub accepted_import : (k : ℕ) (m : Mosaic) (c : Place) (bytes : List ℕ) → refusal_of (effect k m (Import c bytes)) ≡ None →
+pub accepted_import : (k : ℕ) (m : Mosaic) (c : Corner) (bytes : List ℕ) → refusal_of (effect k m (Import c bytes)) ≡ None →
     (length bytes ≡ 2 * (m.side * m.side)) × (is_present m c ≡ false) × (effect k m (Import c bytes) ≡ Ok (added (record { corner = c; samples = samples_in bytes }) m))
 accepted_import k m c bytes h =
     let new : Result Mosaic Refusal = Ok (added (record { corner = c; samples = samples_in bytes }) m) in
@@ -51,7 +51,7 @@ accepted_import k m c bytes h =
     let three = pass (not (nat_lt (length m.tiles) k)) Full new two.1 in
     (eqb-true (length bytes) (2 * (m.side * m.side)) (not-false (nat_eq (length bytes) (2 * (m.side * m.side))) one.0), two.0, one.2 ∙ two.2 ∙ three.2)
 
-pub accepted_remove : (k : ℕ) (m : Mosaic) (c : Place) → refusal_of (effect k m (Remove c)) ≡ None → effect k m (Remove c) ≡ Ok (without c m)
+pub accepted_remove : (k : ℕ) (m : Mosaic) (c : Corner) → refusal_of (effect k m (Remove c)) ≡ None → effect k m (Remove c) ≡ Ok (without c m)
 accepted_remove k m c h = (pass (not (is_present m c)) NoTile (Ok (without c m)) h).2
 
 sample_fits : (samples : List ℤ) (i : ℕ) → All IsSample samples → IsSample (get_or samples i void)
@@ -142,7 +142,7 @@ accepted_fits k m (Wall height points) w h p s fits =
 
 -- and its effect is that every sample changes
 pub accepted_edit : (k : ℕ) (m : Mosaic) (c : Command) → refusal_of (effect k m c) ≡ None →
-    ((d : Place) (bytes : List ℕ) → c ≡ Import d bytes → ⊥) → ((d : Place) → c ≡ Remove d → ⊥) → effect k m c ≡ Ok (edited (change_of m c) m)
+    ((d : Corner) (bytes : List ℕ) → c ≡ Import d bytes → ⊥) → ((d : Corner) → c ≡ Remove d → ⊥) → effect k m c ≡ Ok (edited (change_of m c) m)
 accepted_edit k m (Import c bytes) h no_import no_remove = absurd (no_import c bytes refl)
 accepted_edit k m (Remove c) h no_import no_remove = absurd (no_remove c refl)
 accepted_edit k m (Patch from to height) h no_import no_remove =

@@ -6,7 +6,7 @@ use Rattle.std.proofs.lemmas.Grind.{common_steps}
 use Rattle.std.proofs.lemmas.Int.{ints}
 use Rattle.std.proofs.lemmas.List.Elements.{All-nil, All-cons, All-head, All-tail}
 use Rattle.std.specs.List.{position_or_len, insert, All}
-use Rattle.lattice.specs.Corners.{Place, is_before}
+use Rattle.lattice.specs.Corners.{Corner, is_before}
 use Rattle.lattice.specs.declared.point.Point.{Point}
 use Rattle.lattice.specs.declared.refusal.Refusal.{Refusal}
 use Rattle.lattice.specs.declared.refusal.Refusal.TheVariants.{Repeated}
@@ -36,12 +36,12 @@ pub is_repeated_more : (points : List Point) (i : ℕ) (d : Point) → i < lengt
     is_repeated (drop i points) ≡ (is_named (drop (i + 1) points) (get_or points i d) || is_repeated (drop (i + 1) points))
 is_repeated_more points i d inside = at_drop_more is_repeated points i d inside
 
-pub has_void_more : (m : Mosaic) (from to : Point) (c : Place) (e : ℕ) (samples : List ℤ) → e < length samples →
+pub has_void_more : (m : Mosaic) (from to : Point) (c : Corner) (e : ℕ) (samples : List ℤ) → e < length samples →
     has_void_from m from to c e (drop e samples) ≡
     ((is_in_box from to (point_of m.side c e) && is_void_at m (point_of m.side c e)) || has_void_from m from to c (e + 1) (drop (e + 1) samples))
 has_void_more m from to c e samples inside = at_drop_more (has_void_from m from to c e) samples e (pos 0) inside
 
-pub has_void_end : (m : Mosaic) (from to : Point) (c : Place) (e : ℕ) (samples : List ℤ) → length samples ≤ e → has_void_from m from to c e (drop e samples) ≡ false
+pub has_void_end : (m : Mosaic) (from to : Point) (c : Corner) (e : ℕ) (samples : List ℤ) → length samples ≤ e → has_void_from m from to c e (drop e samples) ≡ false
 has_void_end m from to c e samples past = at_drop_all (has_void_from m from to c e) samples e past
 
 pub changed_more : (f : ℕ → ℤ → ℤ) (e : ℕ) (samples : List ℤ) (d : ℤ) → e < length samples →
@@ -88,7 +88,7 @@ with_tile_at new (t ∷ rest) =
 pub void_at : (m : Mosaic) (from to p q : Point) (r b : Bool) → r ≡ (is_in_box from to p && is_void_at m p) → p ≡ q → r ≡ b → (is_in_box from to q && is_void_at m q) ≡ b
 void_at m from to p q r b is same test = subst (λ v. (is_in_box from to v && is_void_at m v) ≡ b) same (sym is ∙ test)
 
-pub point_there : (n k : ℕ) (c d : Place) (e : ℕ) (p : Point) → p ≡ point_of n c e → n ≡ k → c ≡ d → p ≡ point_of k d e
+pub point_there : (n k : ℕ) (c d : Corner) (e : ℕ) (p : Point) → p ≡ point_of n c e → n ≡ k → c ≡ d → p ≡ point_of k d e
 point_there n k c d e p is side corner = is ∙ ap₂ (λ v u. point_of v u e) side corner
 
 -- one more element, and none left

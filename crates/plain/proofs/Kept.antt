@@ -2,7 +2,7 @@
 use Rattle.std.proofs.Common.{◌≡◌, ◌∙◌, ℕ, ◌+◌, suc, ℤ, not, IsFalse, List, [], ◌∷◌, length, filter, map, refl, ap, ap₂}
 use Rattle.std.proofs.lemmas.List.Elements.{All-nil, All-cons, All-head, All-tail, All-filter, All-map, All-weaker}
 use Rattle.std.specs.List.{All}
-use Rattle.lattice.specs.Corners.{Place, same_place}
+use Rattle.lattice.specs.Corners.{Corner, same_corner}
 use Rattle.lattice.specs.declared.point.Point.{Point}
 use Rattle.lattice.specs.Lattice.{point_of}
 use Rattle.lattice.specs.Mosaic.{Tile, Mosaic, IsTile, IsMosaic, IsSample, is_present}
@@ -10,12 +10,12 @@ use Rattle.catalogue.specs.Tiles.{with_tile, added, without}
 use Rattle.edits.specs.Effect.{changed_from, edited}
 use Rattle.plain.proofs.Order.{ranked, in_order, ranked_filter, with_tile_all, ranked_with_tile, ranked_map}
 
-pub kept_without : (c : Place) (m : Mosaic) → IsMosaic m → IsMosaic (without c m)
+pub kept_without : (c : Corner) (m : Mosaic) → IsMosaic m → IsMosaic (without c m)
 kept_without c m w = record {
   side_low = w.side_low;
   side_high = w.side_high;
-  tiles = All-filter (λ t. not (same_place t.corner c)) (IsTile m.side) m.tiles w.tiles;
-  in_order = in_order (filter (λ t. not (same_place t.corner c)) m.tiles) (ranked_filter (λ t. not (same_place t.corner c)) m.tiles (ranked m.tiles w.in_order));
+  tiles = All-filter (λ t. not (same_corner t.corner c)) (IsTile m.side) m.tiles w.tiles;
+  in_order = in_order (filter (λ t. not (same_corner t.corner c)) m.tiles) (ranked_filter (λ t. not (same_corner t.corner c)) m.tiles (ranked m.tiles w.in_order));
 }
 
 pub kept_added : (t : Tile) (m : Mosaic) → IsMosaic m → IsTile m.side t → IsFalse (is_present m t.corner) → IsMosaic (added t m)
@@ -56,5 +56,5 @@ kept_edited f m w fits = record {
 pub same_mosaic : {n k : ℕ} {tiles others : List Tile} → n ≡ k → tiles ≡ others → ◌≡◌ {A = Mosaic} (record { side = n; tiles = tiles }) (record { side = k; tiles = others })
 same_mosaic a b = ap₂ (λ (v : ℕ) (ts : List Tile). record { side = v; tiles = ts }) a b
 
-pub same_tile : (c : Place) {samples others : List ℤ} → samples ≡ others → ◌≡◌ {A = Tile} (record { corner = c; samples = samples }) (record { corner = c; samples = others })
+pub same_tile : (c : Corner) {samples others : List ℤ} → samples ≡ others → ◌≡◌ {A = Tile} (record { corner = c; samples = samples }) (record { corner = c; samples = others })
 same_tile c e = ap (λ (s : List ℤ). record { corner = c; samples = s }) e

@@ -5,7 +5,7 @@ use Rattle.std.proofs.lemmas.Bool.{and_parts, and_from, or_cases, or_left, or_ri
 use Rattle.std.proofs.lemmas.List.Elements.{All-nil, All-cons, All-head, All-tail, All-weaker, All-filter, All-map}
 use Rattle.std.specs.Ordering.{int_eq}
 use Rattle.std.specs.List.{All, AllAdjacentBelow, list_any}
-use Rattle.lattice.specs.Corners.{Place, is_before, same_place}
+use Rattle.lattice.specs.Corners.{Corner, is_before, same_corner}
 use Rattle.lattice.specs.Lattice.{IsBefore}
 use Rattle.lattice.specs.Mosaic.{Tile}
 use Rattle.catalogue.specs.Tiles.{with_tile}
@@ -29,30 +29,30 @@ eq_false : (a b : ℤ) → int_eq a b ≡ false → (a <ℤ b) ⊎ (b <ℤ a)
 eq_false a b e = grind (arith, ints)
 
 -- the order of corners in inequalities
-abbrev Precedes : Place → Place → Type 0
+abbrev Precedes : Corner → Corner → Type 0
 Precedes a b = (a.lat <ℤ b.lat) ⊎ ((a.lat ≡ b.lat) × (a.lon <ℤ b.lon))
 
-precedes : (a b : Place) → IsBefore a b → Precedes a b
+precedes : (a b : Corner) → IsBefore a b → Precedes a b
 precedes a b h = elim (or_cases (int_lt a.lat b.lat) (int_eq a.lat b.lat && int_lt a.lon b.lon) h) [
   | inl south ↦ inl (lt_true a.lat b.lat south)
   | inr row ↦ let both = and_parts (int_eq a.lat b.lat) (int_lt a.lon b.lon) row in inr (eq_true a.lat b.lat both.0, lt_true a.lon b.lon both.1)
 ]
 
-before : (a b : Place) → Precedes a b → IsBefore a b
+before : (a b : Corner) → Precedes a b → IsBefore a b
 before a b (inl south) = or_left (int_lt a.lat b.lat) (int_eq a.lat b.lat && int_lt a.lon b.lon) (lt_from a.lat b.lat south)
 before a b (inr row) = or_right (int_lt a.lat b.lat) (int_eq a.lat b.lat && int_lt a.lon b.lon) (and_from (int_eq a.lat b.lat) (int_lt a.lon b.lon) (eq_from a.lat b.lat row.0) (lt_from a.lon b.lon row.1))
 
-precedes_trans : (a b c : Place) → Precedes a b → Precedes b c → Precedes a c
+precedes_trans : (a b c : Corner) → Precedes a b → Precedes b c → Precedes a c
 precedes_trans a b c (inl h) (inl k) = inl (omega (arith, ints))
 precedes_trans a b c (inl h) (inr k) = inl (let e = k.0 in omega (arith, ints))
 precedes_trans a b c (inr h) (inl k) = inl (let e = h.0 in omega (arith, ints))
 precedes_trans a b c (inr h) (inr k) = inr (h.0 ∙ k.0, omega (arith, ints, h.1, k.1))
 
-pub before_trans : (a b c : Place) → IsBefore a b → IsBefore b c → IsBefore a c
+pub before_trans : (a b c : Corner) → IsBefore a b → IsBefore b c → IsBefore a c
 before_trans a b c h k = before a c (precedes_trans a b c (precedes a b h) (precedes b c k))
 
 -- of two different corners one is before the other
-pub before_other : (a b : Place) → is_before a b ≡ false → same_place b a ≡ false → IsBefore b a
+pub before_other : (a b : Corner) → is_before a b ≡ false → same_corner b a ≡ false → IsBefore b a
 before_other a b not_before other =
     let ors = or_parts (int_lt a.lat b.lat) (int_eq a.lat b.lat && int_lt a.lon b.lon) not_before in
     elim (cases_Bool (int_eq b.lat a.lat)) [
@@ -71,7 +71,7 @@ before_other a b not_before other =
     ]
 
 -- before all of these tiles
-abbrev pub IsBeforeAll : Place → List Tile → Type 0
+abbrev pub IsBeforeAll : Corner → List Tile → Type 0
 IsBeforeAll c tiles = All (λ t. IsBefore c t.corner) tiles
 
 -- every tile before all later ones
@@ -79,7 +79,7 @@ abbrev pub IsRanked : List Tile → Type 0
 IsRanked [] = Unit {0}
 IsRanked (t ∷ rest) = IsBeforeAll t.corner rest × IsRanked rest
 
-before_all : (c d : Place) (tiles : List Tile) → IsBefore c d → IsBeforeAll d tiles → IsBeforeAll c tiles
+before_all : (c d : Corner) (tiles : List Tile) → IsBefore c d → IsBeforeAll d tiles → IsBeforeAll c tiles
 before_all c d tiles h later = All-weaker (λ t. IsBefore d t.corner) (λ t. IsBefore c t.corner) (λ t k. before_trans c d t.corner h k) tiles later
 
 abbrev IsInOrder : List Tile → Type 0
@@ -121,10 +121,10 @@ with_tile_all P new (t ∷ rest) here all = elim (is_before new.corner t.corner)
   | false ↦ All-cons P t (with_tile new rest) (All-head P t rest all) (with_tile_all P new rest here (All-tail P t rest all))
 ]
 
-pub ranked_with_tile : (new : Tile) (tiles : List Tile) → list_any (λ t. same_place t.corner new.corner) tiles ≡ false → IsRanked tiles → IsRanked (with_tile new tiles)
+pub ranked_with_tile : (new : Tile) (tiles : List Tile) → list_any (λ t. same_corner t.corner new.corner) tiles ≡ false → IsRanked tiles → IsRanked (with_tile new tiles)
 ranked_with_tile new [] absent h = (All-nil (λ u. IsBefore new.corner u.corner), tt)
 ranked_with_tile new (t ∷ rest) absent h =
-    let ors = or_parts (same_place t.corner new.corner) (list_any (λ u. same_place u.corner new.corner) rest) absent in
+    let ors = or_parts (same_corner t.corner new.corner) (list_any (λ u. same_corner u.corner new.corner) rest) absent in
     elim (cases_Bool (is_before new.corner t.corner)) [
       | inl first ↦ subst (λ b. IsRanked (cond b (new ∷ (t ∷ rest)) (t ∷ with_tile new rest))) (sym first)
           (All-cons (λ u. IsBefore new.corner u.corner) t rest first (before_all new.corner t.corner rest first h.0), h)

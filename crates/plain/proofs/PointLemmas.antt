@@ -4,7 +4,7 @@ use Rattle.std.proofs.lemmas.Bool.{cases_Bool, cases_eq}
 use Rattle.std.proofs.lemmas.List.{at_drop_more, at_drop_all}
 use Rattle.std.proofs.lemmas.List.Elements.{All-nil, All-cons, All-append, Contains-append_left, Contains-append_right}
 use Rattle.std.specs.List.{All, Contains}
-use Rattle.lattice.specs.Corners.{Place}
+use Rattle.lattice.specs.Corners.{Corner}
 use Rattle.lattice.specs.declared.point.Point.{Point}
 use Rattle.lattice.specs.Lattice.{Holds, point_of, index_of}
 use Rattle.lattice.specs.Mosaic.{Tile, Mosaic, IsMosaic}
@@ -14,10 +14,10 @@ use Rattle.plain.specs.Points.{tile_ground}
 use Rattle.plain.proofs.GroundLemmas.{held_by}
 
 -- one more sample
-pub tile_ground_more : (m : Mosaic) (c : Place) (e : ℕ) → tile_ground m c (e + 1) ≡ tile_ground m c e ++ cond (is_ground m (point_of m.side c e)) (point_of m.side c e ∷ []) []
+pub tile_ground_more : (m : Mosaic) (c : Corner) (e : ℕ) → tile_ground m c (e + 1) ≡ tile_ground m c e ++ cond (is_ground m (point_of m.side c e)) (point_of m.side c e ∷ []) []
 tile_ground_more m c e = rw add-one refl
 
-pub push_more : (old new : List Point) (start : List Point) (m : Mosaic) (c : Place) (e : ℕ) (p : Point) → p ≡ point_of m.side c e →
+pub push_more : (old new : List Point) (start : List Point) (m : Mosaic) (c : Corner) (e : ℕ) (p : Point) → p ≡ point_of m.side c e →
     new ≡ old ++ cond (is_ground m p) (p ∷ []) [] → old ≡ start ++ tile_ground m c e → new ≡ start ++ tile_ground m c (e + 1)
 push_more old new start m c e p is pushed so_far =
     pushed ∙ ap (λ (q : Point). old ++ cond (is_ground m q) (q ∷ []) []) is ∙ ap (λ (xs : List Point). xs ++ cond (is_ground m (point_of m.side c e)) (point_of m.side c e ∷ []) []) so_far
@@ -47,7 +47,7 @@ one_solid m p = elim (cases_Bool (is_ground m p)) [
   | inr no_ground ↦ subst (λ b. IsSolid m (cond b (p ∷ []) [])) (sym no_ground) (All-nil (λ q. IsTrue (is_ground m q)))
 ]
 
-tile_solid : (m : Mosaic) (c : Place) (e : ℕ) → IsSolid m (tile_ground m c e)
+tile_solid : (m : Mosaic) (c : Corner) (e : ℕ) → IsSolid m (tile_ground m c e)
 tile_solid m c zero = All-nil (λ q. IsTrue (is_ground m q))
 tile_solid m c (suc e) = All-append (λ q. IsTrue (is_ground m q)) (tile_ground m c e) (cond (is_ground m (point_of m.side c e)) (point_of m.side c e ∷ []) []) (tile_solid m c e) (one_solid m (point_of m.side c e))
 
@@ -55,7 +55,7 @@ pub among_solid : (m : Mosaic) (tiles : List Tile) → IsSolid m (ground_among m
 among_solid m [] = All-nil (λ q. IsTrue (is_ground m q))
 among_solid m (t ∷ rest) = All-append (λ q. IsTrue (is_ground m q)) (tile_ground m t.corner (m.side * m.side)) (ground_among m rest) (tile_solid m t.corner (m.side * m.side)) (among_solid m rest)
 
-tile_every : (m : Mosaic) (c : Place) (e k : ℕ) → k < e → is_ground m (point_of m.side c k) ≡ true → Contains (tile_ground m c e) (point_of m.side c k)
+tile_every : (m : Mosaic) (c : Corner) (e k : ℕ) → k < e → is_ground m (point_of m.side c k) ≡ true → Contains (tile_ground m c e) (point_of m.side c k)
 tile_every m c zero k below h = absurd (omega arith)
 tile_every m c (suc e) k below h = elim (cases_eq k e) [
   | inl same ↦

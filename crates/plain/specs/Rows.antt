@@ -1,6 +1,6 @@
 -- Worked rows that the definitions themselves compute, on tiles of three by three samples written as rows from the north.
 use Rattle.std.specs.Prelude.{◌≡◌, ℕ, ℤ, pos, negsuc, true, false, Some, None, Ok, Err, List, [], ◌∷◌, map}
-use Rattle.lattice.specs.Corners.{Place}
+use Rattle.lattice.specs.Corners.{Corner}
 use Rattle.lattice.specs.declared.point.Point.{Point}
 use Rattle.lattice.specs.declared.height.Height.TheVariants as height
 use Rattle.lattice.specs.declared.direction.Dir.TheVariants.{East, SouthEast, North, NorthEast}
@@ -15,7 +15,7 @@ use Rattle.edits.specs.declared.command.Command.TheVariants.{Import, Remove, Pat
 use Rattle.catalogue.specs.Tiles.{without}
 use Rattle.edits.specs.Effect.{effect, burnt, walled}
 
-abbrev pub place : ℤ → ℤ → Place
+abbrev pub place : ℤ → ℤ → Corner
 place lat lon = record { lat = lat; lon = lon }
 
 abbrev pub at : ℕ → ℕ → Point

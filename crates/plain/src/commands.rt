@@ -1,7 +1,7 @@
 //! What a command makes of a mosaic.
 ghost use Rattle.std.specs.List.{position_or_len};
 ghost use Rattle.std.specs.Prelude.{◌≡◌, ◌≤◌, ℕ, All, ◌*◌, ◌⊎◌, ◌-ℤ◌, pos, int_le, int_lt, ◌&&◌, if◌then◌else◌, length, IfOk, IfErr, IsFalse};
-ghost use Rattle.lattice.specs.Corners.{is_before, same_place};
+ghost use Rattle.lattice.specs.Corners.{is_before, same_corner};
 ghost use Rattle.lattice.specs.Mosaic.{IsTile, IsSample, is_present};
 ghost use Rattle.plain.specs.Answers.{refusal_of};
 ghost use Rattle.lattice.specs.declared.refusal.Refusal.TheVariants.{NoMemory, Repeated};
@@ -214,7 +214,7 @@ fn is_present(mosaic: &Plain, corner: Corner) -> bool
 }
 
 fn is_same_corner(corner: Corner, other: Corner) -> bool
-    ensures { result ≡ same_place corner other }
+    ensures { result ≡ same_corner corner other }
 {
     corner.lat == other.lat && corner.lon == other.lon
 }

@@ -2,7 +2,7 @@
 use Rattle.std.proofs.Common.{◌≡◌, ℕ, ◌+◌, ◌<◌, IsTrue, IsFalse, List, refl, sym, ◌∙◌, ap, ap₂, subst, arith, ℤ}
 use Rattle.std.specs.Prelude.{Result, Ok, Err, MatchResult}
 use Rattle.std.specs.Global.{Vec}
-use Rattle.lattice.specs.Corners.{Place}
+use Rattle.lattice.specs.Corners.{Corner}
 use Rattle.lattice.specs.Mosaic.{Mosaic, IsMosaic}
 use Rattle.lattice.specs.declared.point.Point.{Point}
 use Rattle.lattice.specs.declared.refusal.Refusal.{Refusal}
@@ -46,7 +46,7 @@ module _ (held : Held) (m : Mosaic) (capacity k g : ℕ) (view : held_of capacit
   pub accepted : (new : Mosaic) → effect capacity m c ≡ Ok new → g < last_number → Accepts held.capacity s c (k + 1) (working (contents_of new (k + 1) (g + 1)))
   accepted new e below =
       let same : working (contents_of new (k + 1) (g + 1)) ≡ record s { contents = made_by s.contents c new } =
-      ap (λ (l : List Place). working (record { mosaic = new; count = k + 1; number = g + 1; stale = l })) (sym (all_stale capacity m new c e))
+      ap (λ (l : List Corner). working (record { mosaic = new; count = k + 1; number = g + 1; stale = l })) (sym (all_stale capacity m new c e))
       ∙ ap (λ (z : State). record z { contents = made_by z.contents c new }) (sym now) in
       let number : s.contents.number ≡ g = ap (λ (z : State). z.contents.number) now in
       record {

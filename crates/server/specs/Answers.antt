@@ -2,7 +2,7 @@
 -- Each relation reads: in the state s the text may be replied and the state t left.
 use Rattle.std.specs.Prelude.{◌≡◌, ◌≢◌, ◌⊎◌, ℕ, ◌*◌, ◌<◌, List, ◌++◌, length, ℤ, Option, Some, None, Result, Ok, Err, Vec, codes, decimal}
 use Rattle.std.specs.Fmt.{signed_decimal}
-use Rattle.lattice.specs.Corners.{Place}
+use Rattle.lattice.specs.Corners.{Corner}
 use Rattle.lattice.specs.declared.point.Point.{Point}
 use Rattle.lattice.specs.declared.height.Height.{Height}
 use Rattle.lattice.specs.declared.height.Height.TheVariants as height
@@ -38,7 +38,7 @@ bytes_text (Ok bytes) = ok_line (decimal (length bytes)) ++ bytes
 bytes_text (Err r) = refusal_text r
 
 -- the corners' names, or a refusal
-abbrev pub names_text : Result (List Place) Refusal → List ℕ
+abbrev pub names_text : Result (List Corner) Refusal → List ℕ
 names_text (Ok corners) = names_line corners
 names_text (Err r) = refusal_text r
 
@@ -73,33 +73,33 @@ Refused r s text t = (text ≡ refusal_text r) × (t ≡ s)
 
 -- the name is no tile's
 abbrev pub NamesNone : List ℕ → Type 0
-NamesNone name = (c : Place) → IsName name c → ⊥
+NamesNone name = (c : Corner) → IsName name c → ⊥
 
 -- the store answered to the command
 abbrev pub Commanded : ℕ → State → Command → List ℕ → State → Type 0
 Commanded capacity s c text t = (r : Result ℕ Refusal) × (Applies capacity s c r t × (text ≡ command_text r))
 
 -- an import with a payload of the right length: there was no room for it, or the store answered
-abbrev pub Imported : ℕ → State → Place → List ℕ → List ℕ → State → Type 0
+abbrev pub Imported : ℕ → State → Corner → List ℕ → List ℕ → State → Type 0
 Imported capacity s c payload text t = Refused NoMemory s text t ⊎ Commanded capacity s (Import c payload) text t
 
 -- the name is judged first, then the length, then the rest
 abbrev pub AnswersImport : ℕ → State → List ℕ → ℕ → List ℕ → List ℕ → State → Type 0
 AnswersImport capacity s name len payload text t =
     (NamesNone name × Refused BadName s text t)
-    ⊎ ((c : Place) × (IsName name c × (
+    ⊎ ((c : Corner) × (IsName name c × (
     (((len ≢ 2 * (s.contents.mosaic.side * s.contents.mosaic.side)) ⊎ (length payload < len)) × Refused BadLength s text t)
     ⊎ ((len ≡ 2 * (s.contents.mosaic.side * s.contents.mosaic.side)) × (length payload ≡ len) × Imported capacity s c payload text t))))
 
 abbrev pub AnswersRemove : ℕ → State → List ℕ → List ℕ → State → Type 0
 AnswersRemove capacity s name text t =
     (NamesNone name × Refused BadName s text t)
-    ⊎ ((c : Place) × (IsName name c × Commanded capacity s (Remove c) text t))
+    ⊎ ((c : Corner) × (IsName name c × Commanded capacity s (Remove c) text t))
 
 abbrev pub AnswersExport : State → List ℕ → List ℕ → State → Type 0
 AnswersExport s name text t =
     (NamesNone name × Refused BadName s text t)
-    ⊎ ((c : Place) × (IsName name c × ((r : Result (List ℕ) Refusal) × (Exports s c r t × (text ≡ bytes_text r)))))
+    ⊎ ((c : Corner) × (IsName name c × ((r : Result (List ℕ) Refusal) × (Exports s c r t × (text ≡ bytes_text r)))))
 
 abbrev pub AnswersElevation : State → Point → List ℕ → State → Type 0
 AnswersElevation s p text t = (r : Result Height Refusal) × (Elevates s p r t × (text ≡ height_text r))
@@ -117,7 +117,7 @@ abbrev pub AnswersWatershed : State → Point → List ℕ → State → Type 0
 AnswersWatershed s p text t = (r : Result (List Run) Refusal) × (Sheds s p r t × (text ≡ watershed_text r))
 
 abbrev pub AnswersTiles : State → List ℕ → State → Type 0
-AnswersTiles s text t = (r : Result (List Place) Refusal) × (Lists s r t × (text ≡ names_text r))
+AnswersTiles s text t = (r : Result (List Corner) Refusal) × (Lists s r t × (text ≡ names_text r))
 
 -- what is asked with this payload; `step` isn't served yet
 abbrev pub Answers : ℕ → State → Asked → List ℕ → List ℕ → State → Type 0

@@ -2,7 +2,7 @@
 use Rattle.std.specs.Prelude.{◌≡◌, ◌⊎◌, ◌<◌, ◌≤◌, ℕ, List, [], ◌∷◌, ◌++◌, All, take, true, codes, decimal, Option, Some, None, Ok, Err, MatchOption}
 use Rattle.std.specs.Io.KnownBytes.{Appends, Keeps}
 use Rattle.clap.specs.Words.{App, Row, Rule, Text, first_of, new_app, new_rule, with_rule, with_subcommand}
-use Rattle.lattice.specs.Corners.{Place}
+use Rattle.lattice.specs.Corners.{Corner}
 use Rattle.lattice.specs.declared.refusal.Refusal.{Refusal}
 use Rattle.lattice.specs.declared.refusal.Refusal.TheVariants.{NoMemory, BadName, BadSide, BadCapacity}
 use Rattle.hgt.specs.Names.{IsFileName}
@@ -170,10 +170,10 @@ RunsFormat path side capacity written new status =
 -- the name of the tile's file is tested first
 abbrev pub RunsImport : List ℕ → List ℕ → Option (List ℕ) → Option (List ℕ) → ℕ → Type 0
 RunsImport path tile written new status =
-    (((c : Place) → ¬ IsFileName tile c) × Begins written new (refusal_text BadName) × (status ≡ 1))
-    ⊎ ((c : Place) × IsFileName tile c × EndsClosed path written new status)
-    ⊎ ((c : Place) × IsFileName tile c × Tells (codes "mosaic: cannot read " ++ tile) written new status)
-    ⊎ ((c : Place) × (k : ℕ) × IsFileName tile c × EndsReplying (ok_line (decimal k)) written new status)
+    (((c : Corner) → ¬ IsFileName tile c) × Begins written new (refusal_text BadName) × (status ≡ 1))
+    ⊎ ((c : Corner) × IsFileName tile c × EndsClosed path written new status)
+    ⊎ ((c : Corner) × IsFileName tile c × Tells (codes "mosaic: cannot read " ++ tile) written new status)
+    ⊎ ((c : Corner) × (k : ℕ) × IsFileName tile c × EndsReplying (ok_line (decimal k)) written new status)
 
 abbrev pub RunsServe : List ℕ → Option (List ℕ) → Option (List ℕ) → ℕ → Type 0
 RunsServe path written new status = EndsClosed path written new status ⊎ (status ≤ 1)

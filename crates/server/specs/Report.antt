@@ -1,6 +1,6 @@
 -- The report on a store (this product's own profile).
 use Rattle.std.specs.Prelude.{◌≡◌, ℕ, List, ◌++◌, codes, decimal, flat_map, if◌then◌else◌, None, Result, Ok, Err}
-use Rattle.lattice.specs.Corners.{Place}
+use Rattle.lattice.specs.Corners.{Corner}
 use Rattle.lattice.specs.declared.refusal.Refusal.{Refusal}
 use Rattle.lattice.specs.declared.refusal.Refusal.TheVariants.{Device, NoMemory, Failed}
 use Rattle.hgt.specs.Names.{name_bytes}
@@ -15,19 +15,19 @@ abbrev pub counts_line : ℕ → ℕ → List ℕ
 counts_line count commits = line_of (codes "count " ++ decimal count ++ codes " commits " ++ decimal commits)
 
 -- the name of a tile, and whether it is one of the stale ones
-abbrev pub tile_line : List Place → Place → List ℕ
+abbrev pub tile_line : List Corner → Corner → List ℕ
 tile_line stale corner = line_of (name_bytes corner ++ (if is_listed corner stale then codes " stale" else codes " fresh"))
 
 -- how many points of seams disagree
 abbrev pub seams_line : ℕ → List ℕ
 seams_line seams = line_of (codes "seams " ++ decimal seams)
 
-abbrev pub report_text : (count commits : ℕ) → (stale tiles : List Place) → (seams : ℕ) → List ℕ
+abbrev pub report_text : (count commits : ℕ) → (stale tiles : List Corner) → (seams : ℕ) → List ℕ
 report_text count commits stale tiles seams = counts_line count commits ++ flat_map (tile_line stale) tiles ++ seams_line seams
 
 -- the text is a report, on whatever there may be
 abbrev pub IsReportText : List ℕ → Type 0
-IsReportText text = (count commits seams : ℕ) × (stale tiles : List Place) × (text ≡ report_text count commits stale tiles seams)
+IsReportText text = (count commits seams : ℕ) × (stale tiles : List Corner) × (text ≡ report_text count commits stale tiles seams)
 
 -- the text is the report on these contents
 abbrev pub IsReport : Contents → List ℕ → Type 0

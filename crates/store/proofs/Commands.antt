@@ -1,7 +1,7 @@
 -- What is stored once a command is carried out.
 use Rattle.std.proofs.Common.{◌≡◌, ℕ, ◌+◌, ◌*◌, ◌<◌, Bool, true, false, cond, not, nat_eq, nat_lt, List, length, All, refl, sym, ap, ◌∙◌, subst, eqb-true}
 use Rattle.std.specs.Prelude.{Result, Ok, Err}
-use Rattle.lattice.specs.Corners.{Place}
+use Rattle.lattice.specs.Corners.{Corner}
 use Rattle.lattice.specs.Mosaic.{Mosaic, IsMosaic, is_present}
 use Rattle.lattice.specs.declared.refusal.Refusal.{Refusal}
 use Rattle.hgt.specs.Bytes.{samples_in}
@@ -31,24 +31,24 @@ module _ (new : Mosaic) {X : Type 0} (r : Refusal) (later : Result Mosaic Refusa
   passes_not true e then_ = not_ok new e
 
 -- what is known of an import that isn't refused
-pub record IsImported (m : Mosaic) (c : Place) (bytes : List ℕ) (new : Mosaic) : Type 0 where
+pub record IsImported (m : Mosaic) (c : Corner) (bytes : List ℕ) (new : Mosaic) : Type 0 where
   pub whole : length bytes ≡ 2 * (m.side * m.side)
   pub absent : is_present m c ≡ false
   pub made : new ≡ added (record { corner = c; samples = samples_in bytes }) m
 
-pub import_is : (capacity : ℕ) (m : Mosaic) (c : Place) (bytes : List ℕ) (new : Mosaic) → effect capacity m (Import c bytes) ≡ Ok new → IsImported m c bytes new
+pub import_is : (capacity : ℕ) (m : Mosaic) (c : Corner) (bytes : List ℕ) (new : Mosaic) → effect capacity m (Import c bytes) ≡ Ok new → IsImported m c bytes new
 import_is capacity m c bytes new e =
     passes new _ _ (nat_eq (length bytes) (2 * (m.side * m.side))) e (λ whole rest.
     passes_not new _ _ (is_present m c) rest (λ absent last.
     passes new _ _ (nat_lt (length m.tiles) capacity) last (λ room made.
     record { whole = eqb-true (length bytes) (2 * (m.side * m.side)) whole; absent = absent; made = ok_is (added (record { corner = c; samples = samples_in bytes }) m) new made })))
 
-pub remove_is : (capacity : ℕ) (m : Mosaic) (c : Place) (new : Mosaic) → effect capacity m (Remove c) ≡ Ok new → (is_present m c ≡ true) × (new ≡ without c m)
+pub remove_is : (capacity : ℕ) (m : Mosaic) (c : Corner) (new : Mosaic) → effect capacity m (Remove c) ≡ Ok new → (is_present m c ≡ true) × (new ≡ without c m)
 remove_is capacity m c new e = passes new _ _ (is_present m c) e (λ there made. (there, ok_is (without c m) new made))
 
 module _ (side capacity : ℕ) (stored : Stored) (c : Contents) (holds : Holds side capacity stored c) (new : Mosaic) (valid : IsMosaic new) where
   -- the stored tiles with the file's bytes as pages of one more, in order
-  pub holds_imported : (corner : Place) (bytes : List ℕ) → All (λ b. b < 256) bytes → effect capacity c.mosaic (Import corner bytes) ≡ Ok new
+  pub holds_imported : (corner : Corner) (bytes : List ℕ) → All (λ b. b < 256) bytes → effect capacity c.mosaic (Import corner bytes) ≡ Ok new
       → Holds side capacity (next_commit stored (with_tile (stale_tile corner (pages_of_bytes (pages_of side) bytes)) stored.tiles) (c.count + 1)) (made_by c (Import corner bytes) new)
   holds_imported corner bytes each makes =
       let is = import_is capacity c.mosaic corner bytes new makes in
@@ -58,7 +58,7 @@ module _ (side capacity : ℕ) (stored : Stored) (c : Contents) (holds : Holds s
       (subst (AreTilesOf side tiles) (sym is.made) (imported side stored.tiles c.mosaic corner bytes (held side capacity stored c holds) whole each))
 
   -- the stored tiles without the corner's
-  pub holds_removed : (corner : Place) → effect capacity c.mosaic (Remove corner) ≡ Ok new
+  pub holds_removed : (corner : Corner) → effect capacity c.mosaic (Remove corner) ≡ Ok new
       → Holds side capacity (next_commit stored (without_tile corner stored.tiles) (c.count + 1)) (made_by c (Remove corner) new)
   holds_removed corner makes =
       let is = remove_is capacity c.mosaic corner new makes in

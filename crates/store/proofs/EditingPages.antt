@@ -5,7 +5,7 @@ use Rattle.std.specs.List.{AllZip}
 use Rattle.std.proofs.lemmas.Int.{to_z-of_z, ints}
 use mir.Syntax.{w16}
 use mir.Val.{to_z, of_z}
-use Rattle.lattice.specs.Corners.{Place}
+use Rattle.lattice.specs.Corners.{Corner}
 use Rattle.lattice.specs.Mosaic.{Tile, Mosaic, IsSample, IsTile, IsMosaic}
 use Rattle.edits.specs.declared.change.Change.{Change}
 use Rattle.edits.specs.declared.change.Change.TheVariants.{Set}
@@ -53,7 +53,7 @@ module _ (n : ℕ) (changes : List Change) (m : Mosaic) (tiles : List StoredTile
   from_set are = holds_mosaic n tiles (all_changed (take k changes) m) are.valid are.tiles_are
 
 -- the page as it was read
-pub page_as_read : (n : ℕ) (changes : List Change) (m : Mosaic) (tiles : List StoredTile) (k : ℕ) (c : Place) (i : ℕ) (page : List ℕ) → HasPage tiles c Heights i page
+pub page_as_read : (n : ℕ) (changes : List Change) (m : Mosaic) (tiles : List StoredTile) (k : ℕ) (c : Corner) (i : ℕ) (page : List ℕ) → HasPage tiles c Heights i page
     → HoldsMosaic n tiles (all_changed (take k changes) m) → HoldsMosaic n (with_page c i page tiles) (all_changed (take k changes) m)
 page_as_read n changes m tiles k c i page (t, (there, (corner, (pages, (is, read))))) holds =
     from_set n changes m (with_page c i page tiles) k
@@ -61,7 +61,7 @@ page_as_read n changes m tiles k c i page (t, (there, (corner, (pages, (is, read
     (subst (λ (ps : PlanePages). slice_get ps i ≡ Some page) (sym is) read))
 
 -- one sample more
-pub sample_set : (n : ℕ) (corners : List Place) (changes : List Change) (m : Mosaic) (tiles : List StoredTile) (k : ℕ) (c : Place) (i : ℕ) (page : List ℕ) (change : Change) (j : ℕ) (s : ℤ)
+pub sample_set : (n : ℕ) (corners : List Corner) (changes : List Change) (m : Mosaic) (tiles : List StoredTile) (k : ℕ) (c : Corner) (i : ℕ) (page : List ℕ) (change : Change) (j : ℕ) (s : ℤ)
     → All (CanBeSet n corners) changes → k < length changes → change ≡ get_or changes k change → SetsInPage c i change j s
     → HoldsMosaic n (with_page c i page tiles) (all_changed (take k changes) m)
     → HoldsMosaic n (with_page c i (with_bytes j s page) tiles) (all_changed (take (k + 1) changes) m)

@@ -3,7 +3,7 @@ use Rattle.std.proofs.Common.{◌≡◌, ◌≢◌, ◌⊎◌, inl, inr, ℕ, fa
 use Rattle.disk.specs.Disk.{HasRisen}
 use Rattle.disk.specs.Stops.{weaker}
 use Rattle.disk.specs.declared.disk.Disk.{Ghosts}
-use Rattle.lattice.specs.Corners.{Place}
+use Rattle.lattice.specs.Corners.{Corner}
 use Rattle.lattice.specs.Mosaic.{IsMosaic}
 use Rattle.lattice.specs.declared.refusal.Refusal.{Refusal}
 use Rattle.lattice.specs.declared.refusal.Refusal.TheVariants.{BadLine, BadName, BadLength, TileThere, NoTile, Full, Outside, Void, NothingVoid, BadHeight, BadDepth, BadBox, Repeated, TooDeep, Device, NoMemory, Failed, Damaged, Worn, NotAStore, Version, BadSide, BadCapacity, TooSmall}
@@ -75,10 +75,10 @@ module _ {D : Type 0} (g : Ghosts D) (old new : Tree D g) (keeps : HasOnlyRead g
         weaker g (disk_of old) (disk_of new) (g.may (disk_of old)) (λ image. Stands (g.size (disk_of old)) image s) (each_stands g old s at) (keeps.nothing honest).run;
   }
 
-  still_staged_by : (c : Place) → HasStaged old c → HasStaged new c
+  still_staged_by : (c : Corner) → HasStaged old c → HasStaged new c
   still_staged_by c staged = subst (λ (chart : ChartValue). HasFreshHeights c chart) (sym keeps.chart) staged
 
-  pub none_staged_by : (c : Place) → HasStaged new c → HasStaged old c
+  pub none_staged_by : (c : Corner) → HasStaged new c → HasStaged old c
   none_staged_by c staged = subst (λ (chart : ChartValue). HasFreshHeights c chart) keeps.chart staged
 
   -- what is read is the mosaic of the state
@@ -108,7 +108,7 @@ module _ {D : Type 0} (g : Ghosts D) (old new : Tree D g) (keeps : HasOnlyRead g
 held_later : (t : TilePlace) (rest : List TilePlace) (u : TilePlace) → Contains rest u → Contains (t ∷ rest) u
 held_later t rest u (k, below, here) = (suc k, omega (arith, below), here)
 
-pub heights_held : (c : Place) (tiles : List TilePlace) → Contains (corners_of_places tiles) c → HasPlane tiles c Heights
+pub heights_held : (c : Corner) (tiles : List TilePlace) → Contains (corners_of_places tiles) c → HasPlane tiles c Heights
 heights_held c [] (k, below, here) = absurd (omega (arith, below))
 heights_held c (t ∷ rest) (zero, below, here) = (t, ((0, omega arith, refl), (here, (t.heights, refl))))
 heights_held c (t ∷ rest) (suc k, below, here) =

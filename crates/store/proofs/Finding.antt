@@ -3,7 +3,7 @@ use Rattle.std.proofs.Common.{◌≡◌, ℕ, zero, suc, ◌+◌, ◌*◌, ◌<�
 use Rattle.std.specs.Prelude.{Option, Some, IsSomeAnd, slice_get}
 use Rattle.std.proofs.lemmas.List.Elements.{All-contains}
 use Rattle.std.proofs.lemmas.Option.{get_or_from_slice_get, slice_get_within, slice_get-get_or}
-use Rattle.lattice.specs.Corners.{Place, is_before}
+use Rattle.lattice.specs.Corners.{Corner, is_before}
 use Rattle.lattice.specs.Mosaic.{Mosaic, IsMosaic, samples_among, samples_of}
 use Rattle.hgt.specs.Bytes.{sample_of, hgt_bytes}
 use Rattle.hgt.proofs.BytesLemmas.{hgt_bytes-samples_in}
@@ -15,16 +15,16 @@ use Rattle.cow_tree.specs.Stored.{StoredTile, plane_bytes, samples_of_plane}
 use Rattle.store.proofs.Pages.{bytes_of_plane, length_plane, length_samples, sample_in_page}
 use Rattle.store.proofs.HeldTiles.{IsFilled, AreTilesOf, as_tile}
 
-abbrev pub stored_corner : StoredTile → Place
+abbrev pub stored_corner : StoredTile → Corner
 stored_corner t = t.corner
 
-pub after_contained : (c : Place) (tiles : List StoredTile) (t : StoredTile) → AllAfter stored_corner c tiles → Contains tiles t → IsTrue (is_before c t.corner)
+pub after_contained : (c : Corner) (tiles : List StoredTile) (t : StoredTile) → AllAfter stored_corner c tiles → Contains tiles t → IsTrue (is_before c t.corner)
 after_contained c [] t after (k, below, here) = absurd (omega (arith, below))
 after_contained c (u ∷ rest) t after (zero, below, here) = subst (λ (x : StoredTile). IsTrue (is_before c x.corner)) here after.0
 after_contained c (u ∷ rest) t after (suc k, below, here) = after_contained c rest t after.1 (k, omega (arith, below), here)
 
 -- the stored tiles stand in the order of the mosaic's
-after_stored : (n : ℕ) (c : Place) (tiles : List StoredTile) → AllAfter corner_of c (map (as_tile n) tiles) → AllAfter stored_corner c tiles
+after_stored : (n : ℕ) (c : Corner) (tiles : List StoredTile) → AllAfter corner_of c (map (as_tile n) tiles) → AllAfter stored_corner c tiles
 after_stored n c [] after = tt
 after_stored n c (t ∷ rest) after = (after.0, after_stored n c rest after.1)
 
@@ -35,7 +35,7 @@ rising_back n (t ∷ rest) rising = (after_stored n t.corner rest rising.0, risi
 pub rising_stored : (n : ℕ) (tiles : List StoredTile) (m : Mosaic) → AreTilesOf n tiles m → IsMosaic m → Rising stored_corner tiles
 rising_stored n tiles m are valid = rising_back n tiles (subst (λ (x : Mosaic). Rising corner_of x.tiles) are.mosaic (rising_tiles m valid))
 
-samples_found : (n : ℕ) (c : Place) (tiles : List StoredTile) (t : StoredTile) → Rising stored_corner tiles → Contains tiles t → t.corner ≡ c
+samples_found : (n : ℕ) (c : Corner) (tiles : List StoredTile) (t : StoredTile) → Rising stored_corner tiles → Contains tiles t → t.corner ≡ c
     → samples_among (map (as_tile n) tiles) c ≡ Some (samples_of_plane n t.heights)
 samples_found n c [] t rising (k, below, here) corner = absurd (omega (arith, below))
 samples_found n c (u ∷ rest) t rising (zero, below, here) corner =
@@ -43,11 +43,11 @@ samples_found n c (u ∷ rest) t rising (zero, below, here) corner =
     ∙ ap (λ (x : StoredTile). Some (samples_of_plane n x.heights)) here
 samples_found n c (u ∷ rest) t rising (suc k, below, here) corner =
     let there : Contains rest t = (k, omega (arith, below), here) in
-    let before : IsTrue (is_before u.corner c) = subst (λ (d : Place). IsTrue (is_before u.corner d)) corner (after_contained u.corner rest t rising.0 there) in
+    let before : IsTrue (is_before u.corner c) = subst (λ (d : Corner). IsTrue (is_before u.corner d)) corner (after_contained u.corner rest t rising.0 there) in
     ap (λ (b : Bool). cond b (Some (samples_of_plane n u.heights)) (samples_among (map (as_tile n) rest) c)) (before_not_same u.corner c before)
     ∙ samples_found n c rest t rising.1 there corner
 
-module _ (n : ℕ) (tiles : List StoredTile) (m : Mosaic) (c : Place) (t : StoredTile) (are : AreTilesOf n tiles m) (valid : IsMosaic m) (there : Contains tiles t) (corner : t.corner ≡ c) where
+module _ (n : ℕ) (tiles : List StoredTile) (m : Mosaic) (c : Corner) (t : StoredTile) (are : AreTilesOf n tiles m) (valid : IsMosaic m) (there : Contains tiles t) (corner : t.corner ≡ c) where
   pub samples_stored : samples_of m c ≡ Some (samples_of_plane n t.heights)
   samples_stored = ap (λ (x : Mosaic). samples_of x c) are.mosaic ∙ samples_found n c tiles t (rising_stored n tiles m are valid) there corner
 

@@ -1,7 +1,7 @@
 -- Samples set in a loop: changes of one page come to one page that is held back until the next page's change or the end.
 use Rattle.std.proofs.Common.{◌≡◌, ℕ, ◌+◌, ◌*◌, ◌<◌, ◌≤◌, ℤ, List, length, get_or, take, Contains, sym, subst, take_all}
 use Rattle.std.specs.Prelude.{Option, Some, None, Ok, slice_get}
-use Rattle.lattice.specs.Corners.{Place}
+use Rattle.lattice.specs.Corners.{Corner}
 use Rattle.lattice.specs.Mosaic.{Mosaic, IsSample, IsMosaic}
 use Rattle.catalogue.specs.Tiles.{with_sample}
 use Rattle.catalogue.proofs.Mosaics.{mosaic-with_sample}
@@ -21,7 +21,7 @@ use Rattle.store.proofs.Holding.{holds_next}
 
 -- a page that is held back: page i of the corner's heights
 pub record HeldPage : Type 0 where
-  pub corner : Place
+  pub corner : Corner
   pub index : ℕ
   pub bytes : List ℕ
 

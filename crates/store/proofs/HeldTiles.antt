@@ -3,7 +3,7 @@ use Rattle.std.proofs.Common.{◌≡◌, ℕ, ◌*◌, ◌<◌, ◌≤◌, ℤ, 
 use Rattle.std.specs.Prelude.{None}
 use Rattle.std.specs.List.{AllZip}
 use Rattle.std.proofs.lemmas.List.Elements.{All-nil, All-cons, All-head, All-tail, All-filter}
-use Rattle.lattice.specs.Corners.{Place, is_before, same_place}
+use Rattle.lattice.specs.Corners.{Corner, is_before, same_corner}
 use Rattle.lattice.specs.Mosaic.{Tile, Mosaic, IsTile}
 use Rattle.page_codec.specs.Sizes.{pages_of}
 use Rattle.hgt.specs.Bytes.{samples_in}
@@ -34,7 +34,7 @@ as_tile n t = record { corner = t.corner; samples = samples_of_plane n t.heights
 
 tile_held : (n : ℕ) (stored : StoredTile) (t : Tile) → IsTile n t → HoldsTile n stored t → t ≡ as_tile n stored
 tile_held n stored t valid holds =
-    ap₂ (λ (c : Place) (samples : List ℤ). record { corner = c; samples = samples }) (sym holds.corner)
+    ap₂ (λ (c : Corner) (samples : List ℤ). record { corner = c; samples = samples }) (sym holds.corner)
     (samples_are_samples_in n (plane_bytes n stored.heights) t.samples (bytes_of_plane n stored.heights holds.pages) valid.samples holds.heights)
 
 pub tiles_held : (n : ℕ) (stored : List StoredTile) (tiles : List Tile) → All (IsTile n) tiles → AllZip (HoldsTile n) stored tiles → tiles ≡ map (as_tile n) stored
@@ -80,7 +80,7 @@ corners_held n stored m are = same stored ∙ ap corners_of (sym are.mosaic)
   where
     same : (tiles : List StoredTile) → corners_of_stored tiles ≡ map corner_of (map (as_tile n) tiles)
     same [] = refl
-    same (t ∷ rest) = ap (λ (cs : List Place). t.corner ∷ cs) (same rest)
+    same (t ∷ rest) = ap (λ (cs : List Corner). t.corner ∷ cs) (same rest)
 
 -- ---- no tiles
 
@@ -105,14 +105,14 @@ all_with_tile P new (t ∷ rest) one all = elim (is_before new.corner t.corner) 
 ]
 
 -- the tile of an HGT file, as pages
-pub file_filled : (n : ℕ) (c : Place) (bytes : List ℕ) → length bytes ≡ 2 * (n * n) → All (λ b. b < 256) bytes → IsFilled n (stale_tile c (pages_of_bytes (pages_of n) bytes))
+pub file_filled : (n : ℕ) (c : Corner) (bytes : List ℕ) → length bytes ≡ 2 * (n * n) → All (λ b. b < 256) bytes → IsFilled n (stale_tile c (pages_of_bytes (pages_of n) bytes))
 file_filled n c bytes whole each = record {
   pages = whole_pages (pages_of n) bytes each;
   enough = subst (λ (m : ℕ). 2 * (n * n) ≤ 4096 * m) (sym (length-pages_of_bytes (pages_of n) bytes)) (omega arith);
   none_kept = refl;
 }
 
-pub imported : (n : ℕ) (tiles : List StoredTile) (m : Mosaic) (c : Place) (bytes : List ℕ) → AreTilesOf n tiles m → length bytes ≡ 2 * (n * n) → All (λ b. b < 256) bytes
+pub imported : (n : ℕ) (tiles : List StoredTile) (m : Mosaic) (c : Corner) (bytes : List ℕ) → AreTilesOf n tiles m → length bytes ≡ 2 * (n * n) → All (λ b. b < 256) bytes
     → AreTilesOf n (with_tile (stale_tile c (pages_of_bytes (pages_of n) bytes)) tiles) (added (record { corner = c; samples = samples_in bytes }) m)
 imported n tiles m c bytes are whole each =
     let new : StoredTile = stale_tile c (pages_of_bytes (pages_of n) bytes) in
@@ -124,16 +124,16 @@ imported n tiles m c bytes are whole each =
 
 -- ---- a tile that goes
 
-removed_tiles : (n : ℕ) (c : Place) (tiles : List StoredTile) → filter (λ t. not (same_place t.corner c)) (map (as_tile n) tiles) ≡ map (as_tile n) (without_tile c tiles)
+removed_tiles : (n : ℕ) (c : Corner) (tiles : List StoredTile) → filter (λ t. not (same_corner t.corner c)) (map (as_tile n) tiles) ≡ map (as_tile n) (without_tile c tiles)
 removed_tiles n c [] = refl
 removed_tiles n c (t ∷ rest) =
-    elim (not (same_place t.corner c)) as (λ (b : Bool). cond b (as_tile n t ∷ filter (λ t. not (same_place t.corner c)) (map (as_tile n) rest)) (filter (λ t. not (same_place t.corner c)) (map (as_tile n) rest)) ≡ map (as_tile n) (cond b (t ∷ without_tile c rest) (without_tile c rest))) [
+    elim (not (same_corner t.corner c)) as (λ (b : Bool). cond b (as_tile n t ∷ filter (λ t. not (same_corner t.corner c)) (map (as_tile n) rest)) (filter (λ t. not (same_corner t.corner c)) (map (as_tile n) rest)) ≡ map (as_tile n) (cond b (t ∷ without_tile c rest) (without_tile c rest))) [
       | true ↦ ap (λ (l : List Tile). as_tile n t ∷ l) (removed_tiles n c rest)
       | false ↦ removed_tiles n c rest
     ]
 
-pub removed : (n : ℕ) (tiles : List StoredTile) (m : Mosaic) (c : Place) → AreTilesOf n tiles m → AreTilesOf n (without_tile c tiles) (without c m)
+pub removed : (n : ℕ) (tiles : List StoredTile) (m : Mosaic) (c : Corner) → AreTilesOf n tiles m → AreTilesOf n (without_tile c tiles) (without c m)
 removed n tiles m c are = record {
   mosaic = ap (without c) are.mosaic ∙ ap (λ (ts : List Tile). record { side = n; tiles = ts }) (removed_tiles n c tiles);
-  filled = All-filter (λ t. not (same_place t.corner c)) (IsFilled n) tiles are.filled;
+  filled = All-filter (λ t. not (same_corner t.corner c)) (IsFilled n) tiles are.filled;
 }

@@ -3,7 +3,7 @@ use Rattle.std.proofs.Common.{◌≡◌, ℕ, ◌+◌, ◌≤◌, List, All, ref
 use Rattle.std.specs.Prelude.{Ok}
 use Rattle.std.specs.List.{AllZip}
 use Rattle.std.proofs.lemmas.List.Elements.{All-nil}
-use Rattle.lattice.specs.Corners.{Place}
+use Rattle.lattice.specs.Corners.{Corner}
 use Rattle.lattice.specs.Mosaic.{Tile, Mosaic, IsTile, IsMosaic}
 use Rattle.catalogue.specs.Tiles.{corners_of}
 use Rattle.edits.specs.declared.command.Command.{Command}
@@ -59,14 +59,14 @@ pub holds_next : (side capacity : ℕ) (stored : Stored) (c : Contents) (command
 holds_next side capacity stored c command new tiles holds makes valid are =
     holds_from side capacity (next_commit stored tiles (c.count + 1)) (made_by c command new) holds.stored_side holds.stored_capacity
     (ap (λ (k : ℕ). k + 1) holds.number) refl valid are
-    (ap (λ (l : List Place). stale_after c.mosaic command l new) holds.stale ∙ all_stale capacity c.mosaic new command makes)
+    (ap (λ (l : List Corner). stale_after c.mosaic command l new) holds.stale ∙ all_stale capacity c.mosaic new command makes)
 
 -- ---- an image stands for at most one
 
 same_contents : (a b : Contents) → a.mosaic ≡ b.mosaic → a.count ≡ b.count → a.number ≡ b.number → a.stale ≡ b.stale → a ≡ b
 same_contents a b mosaic count number stale =
     ap₂ (λ (m : Mosaic) (k : ℕ). record { mosaic = m; count = k; number = a.number; stale = a.stale }) mosaic count
-    ∙ ap₂ (λ (k : ℕ) (l : List Place). record { mosaic = b.mosaic; count = b.count; number = k; stale = l }) number stale
+    ∙ ap₂ (λ (k : ℕ) (l : List Corner). record { mosaic = b.mosaic; count = b.count; number = k; stale = l }) number stale
 
 one_held : (side capacity other_side other_capacity : ℕ) (stored : Stored) (a b : Contents) → Holds side capacity stored a → Holds other_side other_capacity stored b
     → AreSame side capacity a other_side other_capacity b

@@ -4,7 +4,7 @@ use Rattle.std.specs.Prelude.{IsTrue}
 use Rattle.disk.specs.Disk.{Image}
 use Rattle.disk.specs.Stops.{LeavesOnly, weaker, nothing_done}
 use Rattle.disk.specs.declared.disk.Disk.{Ghosts}
-use Rattle.lattice.specs.Corners.{Place, is_corner}
+use Rattle.lattice.specs.Corners.{Corner, is_corner}
 use Rattle.lattice.specs.Mosaic.{Mosaic}
 use Rattle.hgt.specs.Bytes.{samples_in}
 use Rattle.catalogue.specs.Tiles.{added, without}
@@ -21,7 +21,7 @@ use Rattle.store.specs.TreeStates.{IsInState}
 use Rattle.store.proofs.Committing.{IsStaged}
 use Rattle.store.proofs.InMemory.{imports_at, imported_at, removes_at, removed_at}
 
-module _ {D : Type 0} (g : Ghosts D) (old : Tree D g) (works : has_failed old ≡ false) (s : State) (at : IsInState g old s) (valid : CommandsMakeMosaics) (c : Place) where
+module _ {D : Type 0} (g : Ghosts D) (old : Tree D g) (works : has_failed old ≡ false) (s : State) (at : IsInState g old s) (valid : CommandsMakeMosaics) (c : Corner) where
   abbrev n : ℕ
   n = (root_of old).side
 

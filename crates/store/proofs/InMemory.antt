@@ -4,7 +4,7 @@ use Rattle.std.specs.Prelude.{IsTrue, Ok, Err}
 use Rattle.std.proofs.lemmas.List.{length-map}
 use Rattle.disk.specs.Disk.{Image}
 use Rattle.disk.specs.declared.disk.Disk.{Ghosts}
-use Rattle.lattice.specs.Corners.{Place, is_corner}
+use Rattle.lattice.specs.Corners.{Corner, is_corner}
 use Rattle.lattice.specs.Mosaic.{Mosaic}
 use Rattle.lattice.specs.declared.refusal.Refusal.{Refusal}
 use Rattle.lattice.specs.declared.refusal.Refusal.TheVariants.{BadLength, TileThere, Full, NoTile}
@@ -36,7 +36,7 @@ entries_counted entries = length-map entries (λ (e : EntryValue). e.corner)
 
 corners_kept : (image : Image) (tiles : List TilePlace) → corners_of_places tiles ≡ corners_of_stored (map (tile_in image) tiles)
 corners_kept image [] = refl
-corners_kept image (t ∷ rest) = ap (λ (cs : List Place). t.corner ∷ cs) (corners_kept image rest)
+corners_kept image (t ∷ rest) = ap (λ (cs : List Corner). t.corner ∷ cs) (corners_kept image rest)
 
 module _ {D : Type 0} (g : Ghosts D) (tree : Tree D g) (works : has_failed tree ≡ false) (s : State) (at : IsInState g tree s) where
   abbrev n : ℕ
@@ -62,11 +62,11 @@ module _ {D : Type 0} (g : Ghosts D) (tree : Tree D g) (works : has_failed tree 
       corners_kept (g.seen (disk_of tree)) tree.chart.staged ∙ ap corners_of_stored sound_at.nothing_staged
       ∙ corners_held n sound_at.stored.tiles s.contents.mosaic (held n capacity sound_at.stored s.contents sound_at.holds)
 
-  there : (c : Place) → Contains (corners_under tree) c → Contains (corners_of s.contents.mosaic) c
-  there c has = subst (λ (cs : List Place). Contains cs c) corners_are has
+  there : (c : Corner) → Contains (corners_under tree) c → Contains (corners_of s.contents.mosaic) c
+  there c has = subst (λ (cs : List Corner). Contains cs c) corners_are has
 
-  absent : (c : Place) → ¬ Contains (corners_under tree) c → ¬ Contains (corners_of s.contents.mosaic) c
-  absent c none has = none (subst (λ (cs : List Place). Contains cs c) (sym corners_are) has)
+  absent : (c : Corner) → ¬ Contains (corners_under tree) c → ¬ Contains (corners_of s.contents.mosaic) c
+  absent c none has = none (subst (λ (cs : List Corner). Contains cs c) (sym corners_are) has)
 
   refuses : (command : Command) (r : Refusal) → effect capacity s.contents.mosaic command ≡ Err r → Refuses capacity s command r s
   refuses command r refused = record { stays = record { working = is_working; same = refl }; refused = refused }
@@ -83,7 +83,7 @@ module _ {D : Type 0} (g : Ghosts D) (tree : Tree D g) (works : has_failed tree 
 
   -- a removal
 
-  module _ (c : Place) where
+  module _ (c : Corner) where
     pub no_tile_at : ¬ Contains (corners_under tree) c → Refuses capacity s (Remove c) NoTile s
     no_tile_at none = refuses (Remove c) NoTile (no_tile s.contents.mosaic c capacity (absent c none))
 
@@ -113,12 +113,12 @@ module _ {D : Type 0} (g : Ghosts D) (tree : Tree D g) (works : has_failed tree 
         module _ (none : ¬ Contains (corners_under tree) c) where
           pub full_at : capacity ≤ length (corners_under tree) → Refuses capacity s (Import c bytes) Full s
           full_at most =
-              refuses (Import c bytes) Full (full s.contents.mosaic c capacity bytes whole_there (absent c none) (subst (λ (cs : List Place). capacity ≤ length cs) corners_are most))
+              refuses (Import c bytes) Full (full s.contents.mosaic c capacity bytes whole_there (absent c none) (subst (λ (cs : List Corner). capacity ≤ length cs) corners_are most))
 
           module _ (room : length (corners_under tree) < capacity) where
             pub imports_at : effect capacity s.contents.mosaic (Import c bytes) ≡ Ok (added (record { corner = c; samples = samples_in bytes }) s.contents.mosaic)
             imports_at =
-                imports s.contents.mosaic c capacity bytes whole_there (absent c none) (subst (λ (cs : List Place). length cs < capacity) corners_are room)
+                imports s.contents.mosaic c capacity bytes whole_there (absent c none) (subst (λ (cs : List Corner). length cs < capacity) corners_are room)
 
             pub imported_at : CommandsMakeMosaics → IsTrue (is_corner c) → All (λ b. b < 256) bytes
                 → Holds n capacity (next_commit sound_at.stored (with_tile (stale_tile c (pages_of_bytes (pages_of n) bytes)) sound_at.stored.tiles) (s.contents.count + 1))

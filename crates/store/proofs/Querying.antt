@@ -4,7 +4,7 @@ use Rattle.std.specs.Prelude.{None, Result, Ok, Err, IsErrOf, IfOk, IfErr, OnOk,
 use Rattle.disk.specs.Disk.{Image, HasRisen}
 use Rattle.disk.specs.Stops.{nothing_done}
 use Rattle.disk.specs.declared.disk.Disk.{Ghosts}
-use Rattle.lattice.specs.Corners.{Place}
+use Rattle.lattice.specs.Corners.{Corner}
 use Rattle.lattice.specs.Mosaic.{IsMosaic}
 use Rattle.lattice.specs.declared.refusal.Refusal.{Refusal}
 use Rattle.lattice.specs.declared.refusal.Refusal.TheVariants.{Device, Failed}
@@ -94,7 +94,7 @@ module _ {D : Type 0} (g : Ghosts D) (old new : Tree D g) (works : has_failed ol
   }
 
   -- between two calls nothing is staged
-  pub still_clean : (has_failed old ≡ false → (c : Place) → ¬ HasStaged old c) → has_failed new ≡ false → (c : Place) → ¬ HasStaged new c
+  pub still_clean : (has_failed old ≡ false → (c : Corner) → ¬ HasStaged old c) → has_failed new ≡ false → (c : Corner) → ¬ HasStaged new c
   still_clean clean still c staged = clean works c (subst (λ chart. HasFreshHeights c chart) keeps.chart staged)
 
   pub still_none_due : (has_failed old ≡ false → records_due old ≡ 0) → has_failed new ≡ false → records_due new ≡ 0

@@ -4,7 +4,7 @@ use Rattle.std.proofs.lemmas.List.{length-map}
 use Rattle.std.specs.Prelude.{None, Result, Ok, Err, IsOk, IsErrOf, IfErr, OnOk, OnErr, MatchResult, Vec}
 use Rattle.disk.specs.Disk.{HasRisen}
 use Rattle.disk.specs.declared.disk.Disk.{Ghosts}
-use Rattle.lattice.specs.Corners.{Place}
+use Rattle.lattice.specs.Corners.{Corner}
 use Rattle.lattice.specs.Mosaic.{Mosaic}
 use Rattle.lattice.specs.declared.point.Point.{Point}
 use Rattle.lattice.specs.declared.refusal.Refusal.{Refusal}
@@ -50,7 +50,7 @@ listed Answers (Ok xs) is = is
 listed Answers (Err r) is = is
 
 -- no more tiles than a root has room for
-pub few_tiles : (cs : List Place) (root : RootValue) → cs ≡ map (λ e. e.corner) root.entries → IsRoot root → length cs ≤ 240
+pub few_tiles : (cs : List Corner) (root : RootValue) → cs ≡ map (λ e. e.corner) root.entries → IsRoot root → length cs ≤ 240
 few_tiles cs root same rules =
     let count : length cs ≡ length root.entries = ap length same ∙ length-map root.entries (λ (e : EntryValue). e.corner) in
     let room = rules.numbers.room in
@@ -68,7 +68,7 @@ module _ {D : Type 0} (g : Ghosts D) (old new : Tree D g) (works : has_failed ol
   pub held_here : (T : Type 0) (p : Point) → (T ↔ IsHeldByNone (root_of old).side (corners_under old) p) → (T ↔ IsHeldByNone here.side (corners_of here) p)
   held_here T p is =
       subst (λ (n : ℕ). T ↔ IsHeldByNone n (corners_of here) p) (sym (at.sound works).holds.side_is)
-      (subst (λ (cs : List Place). T ↔ IsHeldByNone (root_of old).side cs p) (corners_are g old works s at) is)
+      (subst (λ (cs : List Corner). T ↔ IsHeldByNone (root_of old).side cs p) (corners_are g old works s at) is)
 
   -- the answer of a call whose reads the disk alone refuses, and which may be refused for other reasons
   pub read_answered : {T : Type 0} (Answers : State → Result T Refusal → State → Type 0) (result : Result T Refusal)

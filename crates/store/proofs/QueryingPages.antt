@@ -7,7 +7,7 @@ use Rattle.std.proofs.lemmas.Bool.{cases_lt, false≢true}
 use Rattle.std.proofs.lemmas.List.{append-nil, length-append, length-take, take_all, take_min, take-append-le, take-append-drop}
 use Rattle.std.proofs.lemmas.List.Folds.{concat-append}
 use Rattle.disk.specs.declared.disk.Disk.{Ghosts}
-use Rattle.lattice.specs.Corners.{Place, is_before}
+use Rattle.lattice.specs.Corners.{Corner, is_before}
 use Rattle.lattice.specs.Mosaic.{Mosaic, is_present, samples_of}
 use Rattle.page_codec.specs.Sizes.{pages_of}
 use Rattle.hgt.specs.Bytes.{hgt_bytes}
@@ -86,11 +86,11 @@ all_read n pages bytes read =
 -- ---- the corner's tile
 
 -- a page of the corner's heights is one of the tile
-pub page_of_tile : (tiles : List StoredTile) (c : Place) (t : StoredTile) (i : ℕ) (page : List ℕ) → IsTileOf tiles c t → HasPage tiles c Heights i page → slice_get t.heights i ≡ Some page
+pub page_of_tile : (tiles : List StoredTile) (c : Corner) (t : StoredTile) (i : ℕ) (page : List ℕ) → IsTileOf tiles c t → HasPage tiles c Heights i page → slice_get t.heights i ≡ Some page
 page_of_tile tiles c t i page is (other, (has, (corner, (pages, (heights, at))))) =
     ap (λ (x : StoredTile). slice_get x.heights i) (sym (is.only other has corner)) ∙ ap (λ (l : PlanePages). slice_get l i) heights ∙ at
 
-not_before : (c : Place) → is_before c c ≡ true → ⊥
+not_before : (c : Corner) → is_before c c ≡ true → ⊥
 not_before c before = false≢true (sym (before_not_same c c before) ∙ same_from c c refl)
 
 one_tile : (tiles : List StoredTile) (t u : StoredTile) → Rising stored_corner tiles → Contains tiles t → Contains tiles u → u.corner ≡ t.corner → u ≡ t
@@ -98,23 +98,23 @@ one_tile [] t u rising (k, below, here) other same = absurd (omega (arith, below
 one_tile (x ∷ rest) t u rising (zero, below, here) (zero, under, there) same = sym there ∙ here
 one_tile (x ∷ rest) t u rising (zero, below, here) (suc j, under, there) same =
     let after : is_before x.corner u.corner ≡ true = after_contained x.corner rest u rising.0 (j, omega (arith, under), there) in
-    absurd (not_before u.corner (subst (λ (d : Place). is_before d u.corner ≡ true) (ap stored_corner here ∙ sym same) after))
+    absurd (not_before u.corner (subst (λ (d : Corner). is_before d u.corner ≡ true) (ap stored_corner here ∙ sym same) after))
 one_tile (x ∷ rest) t u rising (suc k, below, here) (zero, under, there) same =
     let after : is_before x.corner t.corner ≡ true = after_contained x.corner rest t rising.0 (k, omega (arith, below), here) in
-    absurd (not_before t.corner (subst (λ (d : Place). is_before d t.corner ≡ true) (ap stored_corner there ∙ same) after))
+    absurd (not_before t.corner (subst (λ (d : Corner). is_before d t.corner ≡ true) (ap stored_corner there ∙ same) after))
 one_tile (x ∷ rest) t u rising (suc k, below, here) (suc j, under, there) same = one_tile rest t u rising.1 (k, omega (arith, below), here) (j, omega (arith, under), there) same
 
-no_samples : (m : Mosaic) (c : Place) → ¬ Contains (corners_of m) c → samples_of m c ≡ None
+no_samples : (m : Mosaic) (c : Corner) → ¬ Contains (corners_of m) c → samples_of m c ≡ None
 no_samples m c absent = by (samples_of m c) (some-samples c m.tiles)
   where
     by : (o : Option (List ℤ)) → is_some o ≡ is_present m c → o ≡ None
     by None e = refl
     by (Some samples) e = absurd (absent ((present_iff m c).0 (sym e)))
 
-module _ {D : Type 0} (g : Ghosts D) (tree : Tree D g) (works : has_failed tree ≡ false) (s : State) (at : IsInState g tree s) (c : Place) where
+module _ {D : Type 0} (g : Ghosts D) (tree : Tree D g) (works : has_failed tree ≡ false) (s : State) (at : IsInState g tree s) (c : Corner) where
   pub no_tile_of : ¬ Contains (corners_under tree) c → samples_of s.contents.mosaic c ≡ None
   no_tile_of none =
-      no_samples s.contents.mosaic c (λ has. none (subst (λ (cs : List Place). Contains cs c) (sym (corners_are g tree works s at)) has))
+      no_samples s.contents.mosaic c (λ has. none (subst (λ (cs : List Corner). Contains cs c) (sym (corners_are g tree works s at)) has))
 
   module _ (present : Contains (corners_under tree) c) where
     abbrev pub placed : (t : TilePlace) × (Contains tree.chart.staged t × (t.corner ≡ c))

@@ -4,7 +4,7 @@ use Rattle.std.specs.Prelude.{Some, slice_get, slice_set}
 use Rattle.std.proofs.lemmas.List.{length-set, get_or-set_same, set-set, set-get_or, take_more}
 use Rattle.std.proofs.lemmas.List.Elements.{All-nil, All-cons, All-head, All-tail, All-set}
 use Rattle.std.proofs.lemmas.Option.{get_or_from_slice_get}
-use Rattle.lattice.specs.Corners.{Place, is_before, same_place}
+use Rattle.lattice.specs.Corners.{Corner, is_before, same_corner}
 use Rattle.lattice.specs.Mosaic.{Tile, Mosaic, IsSample}
 use Rattle.catalogue.specs.Tiles.{with_sample, with_sample_in}
 use Rattle.catalogue.proofs.Places.{before_not_same, same_from, after_not_same}
@@ -18,19 +18,19 @@ use Rattle.store.proofs.Finding.{stored_corner, after_contained}
 
 -- ---- a page that is staged as it stands changes nothing
 
-untouched : (c : Place) (i : ℕ) (page : List ℕ) (tiles : List StoredTile) → AllAfter stored_corner c tiles → with_page c i page tiles ≡ tiles
+untouched : (c : Corner) (i : ℕ) (page : List ℕ) (tiles : List StoredTile) → AllAfter stored_corner c tiles → with_page c i page tiles ≡ tiles
 untouched c i page [] after = refl
 untouched c i page (t ∷ rest) after =
     ap₂ (λ (x : StoredTile) (xs : List StoredTile). x ∷ xs)
     (ap (λ (b : Bool). cond b (record t { heights = slice_set t.heights i page }) t) (after_not_same c t.corner after.0))
     (untouched c i page rest after.1)
 
-pub page_as_it_stands : (c : Place) (i : ℕ) (page : List ℕ) (tiles : List StoredTile) (t : StoredTile) → Rising stored_corner tiles → Contains tiles t → t.corner ≡ c → slice_get t.heights i ≡ Some page
+pub page_as_it_stands : (c : Corner) (i : ℕ) (page : List ℕ) (tiles : List StoredTile) (t : StoredTile) → Rising stored_corner tiles → Contains tiles t → t.corner ≡ c → slice_get t.heights i ≡ Some page
     → with_page c i page tiles ≡ tiles
 page_as_it_stands c i page [] t rising (k, below, here) corner read = absurd (omega (arith, below))
 page_as_it_stands c i page (u ∷ rest) t rising (zero, below, here) corner read =
     ap₂ (λ (x : StoredTile) (xs : List StoredTile). x ∷ xs) (first ∙ same)
-    (untouched c i page rest (subst (λ (d : Place). AllAfter stored_corner d rest) is rising.0))
+    (untouched c i page rest (subst (λ (d : Corner). AllAfter stored_corner d rest) is rising.0))
   where
     is : u.corner ≡ c
     is = ap stored_corner here ∙ corner
@@ -45,19 +45,19 @@ page_as_it_stands c i page (u ∷ rest) t rising (zero, below, here) corner read
     same = ap (λ (pages : PlanePages). record u { heights = pages }) (ap (λ (p : List ℕ). set u.heights i p) (sym reads) ∙ set-get_or u.heights i [])
 page_as_it_stands c i page (u ∷ rest) t rising (suc k, below, here) corner read =
     let there : Contains rest t = (k, omega (arith, below), here) in
-    let before : IsTrue (is_before u.corner c) = subst (λ (d : Place). IsTrue (is_before u.corner d)) corner (after_contained u.corner rest t rising.0 there) in
+    let before : IsTrue (is_before u.corner c) = subst (λ (d : Corner). IsTrue (is_before u.corner d)) corner (after_contained u.corner rest t rising.0 there) in
     ap₂ (λ (x : StoredTile) (xs : List StoredTile). x ∷ xs)
     (ap (λ (b : Bool). cond b (record u { heights = slice_set u.heights i page }) u) (before_not_same u.corner c before))
     (page_as_it_stands c i page rest t rising.1 there corner read)
 
 -- ---- one more sample put into the page
 
-module _ (n : ℕ) (c : Place) (i j e : ℕ) (page : List ℕ) (s : ℤ) (here : e ≡ 2048 * i + j) (below : j < 2048) (inside : e < n * n) (is : IsSample s) where
+module _ (n : ℕ) (c : Corner) (i j e : ℕ) (page : List ℕ) (s : ℤ) (here : e ≡ 2048 * i + j) (below : j < 2048) (inside : e < n * n) (is : IsSample s) where
   abbrev with_it : List ℕ → StoredTile → StoredTile
   with_it p t = record t { heights = slice_set t.heights i p }
 
   module _ (t : StoredTile) where
-    by : (b : Bool) → same_place t.corner c ≡ b → IsFilled n (cond b (with_it page t) t)
+    by : (b : Bool) → same_corner t.corner c ≡ b → IsFilled n (cond b (with_it page t) t)
         → (as_tile n (cond b (with_it (with_bytes j s page) t) t) ≡ with_sample_in c e s (as_tile n (cond b (with_it page t) t))) × IsFilled n (cond b (with_it (with_bytes j s page) t) t)
     by false other filled = (ap (λ (b : Bool). cond b (record (as_tile n t) { samples = slice_set (samples_of_plane n t.heights) e s }) (as_tile n t)) (sym other), filled)
     by true same filled = (
@@ -93,7 +93,7 @@ module _ (n : ℕ) (c : Place) (i j e : ℕ) (page : List ℕ) (s : ℤ) (here :
 
     tile_set : IsFilled n (with_page_in c i page t)
         → (as_tile n (with_page_in c i (with_bytes j s page) t) ≡ with_sample_in c e s (as_tile n (with_page_in c i page t))) × IsFilled n (with_page_in c i (with_bytes j s page) t)
-    tile_set filled = by (same_place t.corner c) refl filled
+    tile_set filled = by (same_corner t.corner c) refl filled
 
   tiles_set : (tiles : List StoredTile) → All (IsFilled n) (with_page c i page tiles)
       → (map (as_tile n) (with_page c i (with_bytes j s page) tiles) ≡ map (with_sample_in c e s) (map (as_tile n) (with_page c i page tiles))) × All (IsFilled n) (with_page c i (with_bytes j s page) tiles)

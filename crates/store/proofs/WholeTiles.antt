@@ -2,7 +2,7 @@
 use Rattle.std.proofs.Common.{◌≡◌, ◌≢◌, ℕ, ◌*◌, ◌<◌, ◌≤◌, Bool, true, false, cond, not, nat_lt, List, length, Contains, refl, ap, ap₂, ◌∙◌, subst, arith, eq-eqb, ne_eqb, lt-ltb, ltb-true}
 use Rattle.std.specs.Prelude.{Result, Ok, Err}
 use Rattle.std.proofs.lemmas.List.{length-map}
-use Rattle.lattice.specs.Corners.{Place}
+use Rattle.lattice.specs.Corners.{Corner}
 use Rattle.lattice.specs.Mosaic.{Tile, Mosaic, is_present}
 use Rattle.lattice.specs.declared.refusal.Refusal.{Refusal}
 use Rattle.lattice.specs.declared.refusal.Refusal.TheVariants.{BadLength, TileThere, Full, NoTile}
@@ -12,7 +12,7 @@ use Rattle.catalogue.proofs.Presence.{present_iff}
 use Rattle.edits.specs.declared.command.Command.TheVariants.{Import, Remove}
 use Rattle.edits.specs.Effect.{effect}
 
-module _ (m : Mosaic) (c : Place) where
+module _ (m : Mosaic) (c : Corner) where
   there_is : Contains (corners_of m) c → is_present m c ≡ true
   there_is there = (present_iff m c).1 there
 

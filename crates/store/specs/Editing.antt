@@ -4,7 +4,7 @@ use Rattle.std.specs.List.{AllZip}
 use Rattle.disk.specs.Disk.{HasRisen}
 use Rattle.disk.specs.Stops.{LeavesOnly}
 use Rattle.disk.specs.declared.disk.Disk.{Ghosts}
-use Rattle.lattice.specs.Corners.{Place}
+use Rattle.lattice.specs.Corners.{Corner}
 use Rattle.lattice.specs.Mosaic.{Mosaic, IsSample, IsMosaic}
 use Rattle.lattice.specs.declared.refusal.Refusal.{Refusal}
 use Rattle.lattice.specs.declared.refusal.Refusal.TheVariants.{Device}
@@ -36,7 +36,7 @@ pub record HoldsMosaic (side : ℕ) (tiles : List StoredTile) (m : Mosaic) : Typ
   pub none_kept : KeepNone tiles
 
 -- the change sets sample j of page i of the corner's heights
-pub record SetsInPage (c : Place) (i : ℕ) (change : Change) (j : ℕ) (s : ℤ) : Type 0 where
+pub record SetsInPage (c : Corner) (i : ℕ) (change : Change) (j : ℕ) (s : ℤ) : Type 0 where
   pub sets : change ≡ Set c (2048 * i + j) s
   pub below : j < 2048
   pub sample : IsSample s
@@ -58,4 +58,4 @@ pub record CommitsNothing {D T : Type 0} (g : Ghosts D) (old new : Tree D g) (re
 pub record StagesOnly {D T : Type 0} (g : Ghosts D) (old new : Tree D g) (result : Result T Refusal) : Type 0 where
   pub uncommitted : CommitsNothing g old new result
   pub corners : corners_of new ≡ corners_of old
-  pub still_staged : (c : Place) → HasStaged old c → HasStaged new c
+  pub still_staged : (c : Corner) → HasStaged old c → HasStaged new c

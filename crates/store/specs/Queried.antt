@@ -3,7 +3,7 @@ use Rattle.std.specs.Prelude.{◌≡◌, ◌≤◌, ℕ, true, false, List, Cont
 use Rattle.disk.specs.Disk.{HasRisen}
 use Rattle.disk.specs.Stops.{AddsNothing}
 use Rattle.disk.specs.declared.disk.Disk.{Ghosts}
-use Rattle.lattice.specs.Corners.{Place}
+use Rattle.lattice.specs.Corners.{Corner}
 use Rattle.lattice.specs.declared.refusal.Refusal.{Refusal}
 use Rattle.lattice.specs.declared.refusal.Refusal.TheVariants.{Device, Failed}
 use Rattle.catalogue.specs.Seams.{IsSeamCount}
@@ -39,7 +39,7 @@ abbrev pub IsAnswered : {D T : Type 0} (g : Ghosts D) → Tree D g → Tree D g 
 IsAnswered g old new Answers result = g.honest (disk_of new) → (s : State) → IsInState g old s → (t : State) × (IsInState g new t × Answers s result t)
 
 -- the corner's one tile among these
-pub record IsTileOf (tiles : List StoredTile) (c : Place) (t : StoredTile) : Type 0 where
+pub record IsTileOf (tiles : List StoredTile) (c : Corner) (t : StoredTile) : Type 0 where
   pub there : Contains tiles t
   pub corner : t.corner ≡ c
   pub only : (other : StoredTile) → Contains tiles other → other.corner ≡ c → other ≡ t

@@ -1,6 +1,6 @@
 //! Commands that set samples of present tiles: patches, burns and walls.
 ghost use Rattle.std.specs.Prelude.{◌≡◌, ◌≢◌, ◌≤◌, ◌<◌, ◌+◌, ◌/◌, ◌⊎◌, ℕ, ℤ, List, length, get_or, take, false, All, Contains, IfSome, IfNone, IfOk, IfErr, OnOk, vec_len};
-ghost use Rattle.lattice.specs.Corners.{Place};
+ghost use Rattle.lattice.specs.Corners.{Corner};
 ghost use Rattle.lattice.specs.Mosaic.{Mosaic};
 ghost use Rattle.lattice.specs.declared.refusal.Refusal.TheVariants.{Device, NoMemory};
 ghost use Rattle.page_codec.specs.Sizes.{pages_of};
@@ -68,7 +68,7 @@ fn plan_changes<D: Disk>(
     requires sets { SetsSamples command.now }
     ensures reads { CommitsNothing D.Disk tree.old tree.new result }
     ensures corners { corners_of tree.new ≡ corners_of tree.old }
-    ensures clean { has_failed tree.new ≡ false → (c : Place) → HasStaged tree.new c → HasStaged tree.old c }
+    ensures clean { has_failed tree.new ≡ false → (c : Corner) → HasStaged tree.new c → HasStaged tree.old c }
     ensures staged { D.honest (disk_of tree.new) → staged_in D.Disk tree.new ≡ staged_in D.Disk tree.old }
     ensures writes { D.writes (disk_of tree.new) ≡ D.writes (disk_of tree.old) }
     ensures begun { OnOk result (has_begun tree.new ≡ has_begun tree.old) }
@@ -208,7 +208,7 @@ fn set_in_page(
     ensures low { first ≤ result }
     ensures high { result ≤ length changes.now }
     ensures first { (e : ℕ) (s : ℤ) → first < length changes.now → get_or changes.now first (Set corner e s) ≡ Set corner e s → e / 2048 ≡ index → first < result }
-    ensures set { (side : ℕ) (corners : List Place) (tiles : List StoredTile) (m : Mosaic) → All (CanBeSet side corners) changes.now
+    ensures set { (side : ℕ) (corners : List Corner) (tiles : List StoredTile) (m : Mosaic) → All (CanBeSet side corners) changes.now
         → HoldsMosaic side (with_page corner index page.old tiles) (all_changed (take first changes.now) m)
         → HoldsMosaic side (with_page corner index page.new tiles) (all_changed (take result changes.now) m) }
 {

@@ -2,7 +2,7 @@
 ghost use Rattle.std.specs.Prelude.{◌≡◌, ◌≢◌, ◌≤◌, ◌<◌, ◌⊎◌, ◌↔◌, ℕ, map, true, false, Some, Ok, Err, OnOk, IfOk, IfErr, IsErrOf};
 ghost use Rattle.disk.specs.Disk.{Image, HasRisen};
 ghost use Rattle.disk.specs.Stops.{AddsNothing};
-ghost use Rattle.lattice.specs.Corners.{Place};
+ghost use Rattle.lattice.specs.Corners.{Corner};
 ghost use Rattle.lattice.specs.declared.refusal.Refusal.TheVariants.{Device, NoMemory, BadSide, BadCapacity, TooSmall};
 ghost use Rattle.page_codec.specs.Sizes.{sectors_of};
 ghost use Rattle.edits.specs.State.{Contents, State, fresh};
@@ -26,7 +26,7 @@ pub struct Store<D: Disk> {
     pub(crate) alloc: Global,
     pub(crate) tree: Tree<D>,
     // Between two calls nothing is staged.
-    ghost clean: { have_failed tree ≡ false → (c : Place) → ¬ HasStaged tree c },
+    ghost clean: { have_failed tree ≡ false → (c : Corner) → ¬ HasStaged tree c },
     ghost none_due: { have_failed tree ≡ false → records_due tree ≡ 0 },
     ghost corners: { have_failed tree ≡ false → corners_under tree ≡ map (λ e. e.corner) (root_under tree).entries },
 }

@@ -12,7 +12,7 @@ use Rattle.lattice.specs.declared.point.Point.{Point}
 use Rattle.lattice.specs.declared.height.Height.{Height}
 use Rattle.lattice.specs.declared.direction.Dir.{Dir}
 use Rattle.lattice.specs.declared.direction.Dir.TheVariants.{East, SouthEast, South, SouthWest, West, NorthWest, North, NorthEast}
-use Rattle.lattice.specs.Corners.{Place, is_corner, same_place}
+use Rattle.lattice.specs.Corners.{Corner, is_corner, same_corner}
 use Rattle.lattice.specs.Lattice.{Holds, point_of, holds, index_of, is_along}
 use Rattle.lattice.specs.Steps.{step, north_of, east_of}
 use Rattle.lattice.specs.Mosaic.{Mosaic, Tile, IsMosaic, IsTile, is_present, void, is_void}
@@ -41,20 +41,20 @@ ground_by_metres (s ∷ later) = first (s ∷ later)
     ]
 
 -- what a present tile's corner passes, some tile's corner passes
-tile_passes : (f : Place → Bool) (c : Place) (tiles : List Tile) → IsTrue (list_any (λ t. same_place t.corner c) tiles) → IsTrue (f c) → IsTrue (list_any (λ t. f t.corner) tiles)
+tile_passes : (f : Corner → Bool) (c : Corner) (tiles : List Tile) → IsTrue (list_any (λ t. same_corner t.corner c) tiles) → IsTrue (f c) → IsTrue (list_any (λ t. f t.corner) tiles)
 tile_passes f c [] here yes_c = absurd (true≢false (sym here))
-tile_passes f c (t ∷ rest) here yes_c = elim (or_cases (same_place t.corner c) (list_any (λ t. same_place t.corner c) rest) here) [
+tile_passes f c (t ∷ rest) here yes_c = elim (or_cases (same_corner t.corner c) (list_any (λ t. same_corner t.corner c) rest) here) [
   | inl this ↦ or_left (f t.corner) (list_any (λ t. f t.corner) rest) (subst (λ p. IsTrue (f p)) (sym (same_corner t.corner c this)) yes_c)
   | inr later ↦ or_right (f t.corner) (list_any (λ t. f t.corner) rest) (tile_passes f c rest later yes_c)
 ]
   where
-    same_corner : (a b : Place) → IsTrue (same_place a b) → a ≡ b
+    same_corner : (a b : Corner) → IsTrue (same_corner a b) → a ≡ b
     same_corner a b h = let both = and_parts (int_eq a.lat b.lat) (int_eq a.lon b.lon) h in
         ap₂ (λ (u v : ℤ). record { lat = u; lon = v }) (same_if a.lat b.lat both.0) (same_if a.lon b.lon both.1)
 
-corner_of_tile : (n : ℕ) (c : Place) (tiles : List Tile) → All (IsTile n) tiles → IsTrue (list_any (λ t. same_place t.corner c) tiles) → IsTrue (is_corner c)
+corner_of_tile : (n : ℕ) (c : Corner) (tiles : List Tile) → All (IsTile n) tiles → IsTrue (list_any (λ t. same_corner t.corner c) tiles) → IsTrue (is_corner c)
 corner_of_tile n c [] all here = absurd (true≢false (sym here))
-corner_of_tile n c (t ∷ rest) all here = elim (or_cases (same_place t.corner c) (list_any (λ t. same_place t.corner c) rest) here) [
+corner_of_tile n c (t ∷ rest) all here = elim (or_cases (same_corner t.corner c) (list_any (λ t. same_corner t.corner c) rest) here) [
   | inl this ↦ let both = and_parts (int_eq t.corner.lat c.lat) (int_eq t.corner.lon c.lon) this in
       subst (λ p. IsTrue (is_corner p)) (ap₂ (λ (u v : ℤ). record { lat = u; lon = v }) (same_if t.corner.lat c.lat both.0) (same_if t.corner.lon c.lon both.1)) (all 0 t (omega arith)).corner
   | inr later ↦ corner_of_tile n c rest (λ k d lt. all (suc k) d (omega arith)) later
@@ -211,7 +211,7 @@ inner_if n e small side off =
     or_false true b h = absurd (true≢false h)
     or_false false b h = (refl, h)
 
-module _ (m : Mosaic) (is : IsMosaic m) (c : Place) (present : IsTrue (is_present m c)) (heights : List ℤ) (of : IsBlockOf m c heights) where
+module _ (m : Mosaic) (is : IsMosaic m) (c : Corner) (present : IsTrue (is_present m c)) (heights : List ℤ) (of : IsBlockOf m c heights) where
   at : ℕ → Point
   at e = point_of m.side c e
 

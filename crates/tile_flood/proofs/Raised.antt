@@ -10,7 +10,7 @@ use borrow.Author.Count.{below_more}
 use Rattle.std.proofs.lemmas.List.Elements.{All-cons}
 use Rattle.lattice.specs.declared.height.Height.{Height}
 use Rattle.lattice.specs.declared.point.Point.{Point}
-use Rattle.lattice.specs.Corners.{Place}
+use Rattle.lattice.specs.Corners.{Corner}
 use Rattle.lattice.specs.Lattice.{point_of, holds, index_of}
 use Rattle.lattice.specs.Terrain.{IsFilledLevel, IsPath, end_of, crest}
 use Rattle.lattice.specs.Mosaic.{Mosaic, Tile, IsMosaic, IsTile, is_present, void, is_void}
@@ -103,14 +103,14 @@ low_samples n p [] all = λ k d lt. absurd (omega arith)
 low_samples n p (t ∷ rest) all = low_sample n p t rest (all 0 t (omega arith)) (low_samples n p rest (λ k d lt. all (suc k) d (omega arith)))
 
 -- heights of a block are numbers of 16 bits
-module _ (m : Mosaic) (is : IsMosaic m) (c : Place) (heights : List ℤ) (of : IsBlockOf m c heights) where
+module _ (m : Mosaic) (is : IsMosaic m) (c : Corner) (heights : List ℤ) (of : IsBlockOf m c heights) where
   pub lowest_height : (e : ℕ) → void ≤ℤ get_or heights e void
   lowest_height e = elim (cases_lt e (length heights)) [
     | inl inside ↦ subst (λ v. void ≤ℤ v) (sym (of.values e (subst (λ k. e < k) of.whole inside))) (low_metres (samples_at m (point_of m.side c e)) (low_samples m.side (point_of m.side c e) m.tiles is.tiles))
     | inr beyond ↦ subst (λ v. void ≤ℤ v) (sym (get_or-eq_default heights void beyond)) (≤ℤ_same void)
   ]
 
-module _ (m : Mosaic) (is : IsMosaic m) (c : Place) (present : IsTrue (is_present m c)) (heights : List ℤ) (of : IsBlockOf m c heights)
+module _ (m : Mosaic) (is : IsMosaic m) (c : Corner) (present : IsTrue (is_present m c)) (heights : List ℤ) (of : IsBlockOf m c heights)
     (levels : List ℤ) (labels : List ℕ) (labelling : IsLabelling m.side heights levels labels) (rim : List ℤ) (rims : AreRimLevels m c rim) where
   least_height : (e : ℕ) → void ≤ℤ get_or heights e void
   least_height e = lowest_height m is c heights of e
@@ -217,12 +217,12 @@ module _ (m : Mosaic) (is : IsMosaic m) (c : Place) (present : IsTrue (is_presen
       none_is_some : {a : ℤ} → Some a ≡ None → ⊥
       none_is_some h = cc
 
-pub rim_filled_levels : (m : Mosaic) (c : Place) (n : ℕ) (levels : List ℤ) (labels : List ℕ) (rim filled : List ℤ) → IsRimFilled m c n levels labels rim → AreRaised n levels labels rim filled → AreTileLevels m c filled
+pub rim_filled_levels : (m : Mosaic) (c : Corner) (n : ℕ) (levels : List ℤ) (labels : List ℕ) (rim filled : List ℤ) → IsRimFilled m c n levels labels rim → AreRaised n levels labels rim filled → AreTileLevels m c filled
 rim_filled_levels m c n levels labels rim filled h each =
     tile_levels m h.mosaic c h.present h.labelled.0 h.labelled.1.0 levels labels (subst (λ s. IsLabelling s h.labelled.0 levels labels) h.side h.labelled.1.1) rim h.rim_levels filled
     (subst (λ s. AreRaised s levels labels rim filled) h.side each)
 
-pub rim_filled_can : (m : Mosaic) (c : Place) (n : ℕ) (levels : List ℤ) (labels : List ℕ) (rim : List ℤ) → IsRimFilled m c n levels labels rim → CannotBeRaised n levels labels rim → ⊥
+pub rim_filled_can : (m : Mosaic) (c : Corner) (n : ℕ) (levels : List ℤ) (labels : List ℕ) (rim : List ℤ) → IsRimFilled m c n levels labels rim → CannotBeRaised n levels labels rim → ⊥
 rim_filled_can m c n levels labels rim h cannot =
     can_be_raised m h.mosaic c h.present h.labelled.0 h.labelled.1.0 levels labels (subst (λ s. IsLabelling s h.labelled.0 levels labels) h.side h.labelled.1.1) rim h.rim_levels
     (subst (λ s. CannotBeRaised s levels labels rim) h.side cannot)

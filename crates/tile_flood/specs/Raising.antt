@@ -2,7 +2,7 @@
 -- product's own profile, after the tiled flooding of Barnes 2016).
 use Rattle.std.specs.Prelude.{◌≡◌, ◌≢◌, ℕ, ◌*◌, ◌-◌, ◌<◌, ℤ, IsTrue, IsFalse, List, length, slice_index, slice_index_or, nat_eq, if◌then◌else◌, Option, Some, None, ◌⊎◌}
 use Rattle.std.specs.Int.{int_max}
-use Rattle.lattice.specs.Corners.{Place}
+use Rattle.lattice.specs.Corners.{Corner}
 use Rattle.lattice.specs.Lattice.{point_of}
 use Rattle.lattice.specs.Mosaic.{Mosaic, IsMosaic, is_present, void, is_void}
 use Rattle.lattice.specs.Ground.{is_ground, terrain}
@@ -12,20 +12,20 @@ use Rattle.tile_flood.specs.Labelling.{IsLabelling, OUT, NO_LABEL}
 
 -- the levels are those to which water rises in the whole mosaic at the rim points of the corner's tile, by rim number,
 -- void where a rim point has no height
-pub record AreRimLevels (m : Mosaic) (c : Place) (rim : List ℤ) : Type 0 where
+pub record AreRimLevels (m : Mosaic) (c : Corner) (rim : List ℤ) : Type 0 where
   pub whole : length rim ≡ 4 * (m.side - 1)
   pub filled : (e : ℕ) → e < m.side * m.side → IsTrue (is_rim m.side e) → IsTrue (is_ground m (point_of m.side c e)) →
       IsFilledLevel (terrain m) (point_of m.side c e) (slice_index_or rim (rim_number m.side e) void)
   pub void_points : (e : ℕ) → e < m.side * m.side → IsTrue (is_rim m.side e) → IsFalse (is_ground m (point_of m.side c e)) → slice_index_or rim (rim_number m.side e) void ≡ void
 
 -- and those at all points of the corner's tile, by index, void where a point has no height
-pub record AreTileLevels (m : Mosaic) (c : Place) (levels : List ℤ) : Type 0 where
+pub record AreTileLevels (m : Mosaic) (c : Corner) (levels : List ℤ) : Type 0 where
   pub whole : length levels ≡ m.side * m.side
   pub filled : (e : ℕ) → e < m.side * m.side → IsTrue (is_ground m (point_of m.side c e)) → IsFilledLevel (terrain m) (point_of m.side c e) (slice_index_or levels e void)
   pub void_points : (e : ℕ) → e < m.side * m.side → IsFalse (is_ground m (point_of m.side c e)) → slice_index_or levels e void ≡ void
 
 -- levels and labels that are a valid labelling of the block of the corner's tile, and the filled levels of its rim
-pub record IsRimFilled (m : Mosaic) (c : Place) (n : ℕ) (levels : List ℤ) (labels : List ℕ) (rim : List ℤ) : Type 0 where
+pub record IsRimFilled (m : Mosaic) (c : Corner) (n : ℕ) (levels : List ℤ) (labels : List ℕ) (rim : List ℤ) : Type 0 where
   pub mosaic : IsMosaic m
   pub side : n ≡ m.side
   pub present : IsTrue (is_present m c)

@@ -1,6 +1,6 @@
 //! From levels inside a block to filled levels.
 ghost use Rattle.std.specs.Prelude.{◌≡◌, ◌<◌, ◌⊎◌, [], ◌∷◌, ◌++◌, IfOk, IfErr, OnOk, length, slice_index, slice_index_or};
-ghost use Rattle.lattice.specs.Corners.{Place};
+ghost use Rattle.lattice.specs.Corners.{Corner};
 ghost use Rattle.lattice.specs.Mosaic.{Mosaic, void};
 ghost use Rattle.lattice.specs.declared.refusal.Refusal.TheVariants.{NoMemory, Damaged};
 ghost use Rattle.tile_flood.specs.Raising.{IsRimFilled, AreTileLevels, AreRaised, CannotBeRaised, raised_level};
@@ -18,9 +18,9 @@ use std::alloc::{AllocError, Global};
 /// rim point that is void, and where only one of level and label is that of a void point. A valid labelling of the
 /// block with the filled levels of its rim is never Damaged. Otherwise NoMemory is the only refusal.
 pub fn raise(alloc: Global, labelled: &Labelled, rim: &[i16]) -> Result<Vec<i16>, Refusal>
-    ensures filled { (m : Mosaic) (c : Place) → IsRimFilled m c labelled.now.side labelled.now.levels labelled.now.labels rim.now
+    ensures filled { (m : Mosaic) (c : Corner) → IsRimFilled m c labelled.now.side labelled.now.levels labelled.now.labels rim.now
         → IfOk result (λ filled. AreTileLevels m c filled.items) }
-    ensures not_damaged { (m : Mosaic) (c : Place) → IsRimFilled m c labelled.now.side labelled.now.levels labelled.now.labels rim.now
+    ensures not_damaged { (m : Mosaic) (c : Corner) → IsRimFilled m c labelled.now.side labelled.now.levels labelled.now.labels rim.now
         → IfErr result (λ refusal. refusal ≡ NoMemory) }
     ensures value { IfOk result (λ filled. AreRaised labelled.now.side labelled.now.levels labelled.now.labels rim.now filled.items) }
     ensures refusal { IfErr result (λ refusal. (refusal ≡ NoMemory)

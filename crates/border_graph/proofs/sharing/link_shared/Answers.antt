@@ -1,5 +1,5 @@
 use Rattle.std.proofs.Common.{List, Contains, map, sym, subst, arith}
-use Rattle.lattice.specs.Corners.{Place}
+use Rattle.lattice.specs.Corners.{Corner}
 use Rattle.border_graph.proofs.Shared.{shared_more, shared_of_corners}
 use Rattle.border_graph.proofs.sharing.link_shared.Goals as goal
 
@@ -13,5 +13,5 @@ loop-corner-preserved c = record {
 
 pub returns-clause-listed : goal.returns-clause-listed
 returns-clause-listed c order = shared_of_corners c.args.side c.args.summaries.now (map (λ v. v.items) c.loop-corner.links.items) c.args.t c.args.k c.point_on_rim-point.result c.as_slice-corner-items.result.now c.point_on_rim-point.ensures.low c.point_on_rim-point.ensures.point
-    (λ corner held. subst (λ (cs : List Place). Contains cs corner) (sym c.as_slice-corner-items.ensures.value) ((c.holders-corners.ensures.exactly corner).1 held)) order
+    (λ corner held. subst (λ (cs : List Corner). Contains cs corner) (sym c.as_slice-corner-items.ensures.value) ((c.holders-corners.ensures.exactly corner).1 held)) order
     (λ i d small. c.loop-corner.invariant.listed order i d (let done = c.loop-corner-test.false in omega arith))

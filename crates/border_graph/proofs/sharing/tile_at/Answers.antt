@@ -1,5 +1,5 @@
 use Rattle.std.proofs.Common.{arith, ◌≡◌, ◌≢◌, ◌<◌, length, false, true≢false, sym, ◌∙◌, ap, subst}
-use Rattle.lattice.specs.Corners.{Place, is_before, same_place}
+use Rattle.lattice.specs.Corners.{Corner, is_before, same_corner}
 use Rattle.std.specs.Ordering.{int_eq}
 use Rattle.std.proofs.lemmas.Bool.{and_from}
 use Rattle.std.proofs.lemmas.Bool.Decides.{Decides-int_eq}
@@ -20,9 +20,9 @@ returns-else-low-summaries-clause-none c order =
     let other : c.loop-low.low < length c.args.summaries.now → (border_at c.args.summaries.now c.loop-low.low).corner ≢ c.args.corner = elim c.else-low-summaries.branch [
       | else-low-summaries-via-then-low-summaries+else-eq w ↦ λ _ same.
           let here = w.corner_of-then-low-summaries.ensures ∙ same in
-          let no : same_place w.corner_of-then-low-summaries.result c.args.corner ≡ false = sym w.eq.ensures ∙ w.if-eq.false in
-          let lat = (Decides-int_eq w.corner_of-then-low-summaries.result.lat c.args.corner.lat).1 (ap (λ (p : Place). p.lat) here) in
-          let lon = (Decides-int_eq w.corner_of-then-low-summaries.result.lon c.args.corner.lon).1 (ap (λ (p : Place). p.lon) here) in
+          let no : same_corner w.corner_of-then-low-summaries.result c.args.corner ≡ false = sym w.eq.ensures ∙ w.if-eq.false in
+          let lat = (Decides-int_eq w.corner_of-then-low-summaries.result.lat c.args.corner.lat).1 (ap (λ (p : Corner). p.lat) here) in
+          let lon = (Decides-int_eq w.corner_of-then-low-summaries.result.lon c.args.corner.lon).1 (ap (λ (p : Corner). p.lon) here) in
           true≢false (sym (and_from (int_eq w.corner_of-then-low-summaries.result.lat c.args.corner.lat) (int_eq w.corner_of-then-low-summaries.result.lon c.args.corner.lon) lat lon) ∙ no)
       | else-low-summaries-via-else-low-summaries w ↦ λ less. let more = w.if-low-summaries.false in absurd (omega arith)
     ] in

@@ -2,7 +2,7 @@ use Rattle.std.proofs.Common.{◌≡◌, inl, inr, ap, sym, ◌∙◌, subst, ar
 use Rattle.std.specs.Prelude.{Contains}
 use Rattle.std.proofs.lemmas.List.{get_or_read}
 use Rattle.std.proofs.lemmas.Bool.{cases_eq, false≢true}
-use Rattle.lattice.specs.Corners.{Place}
+use Rattle.lattice.specs.Corners.{Corner}
 use Rattle.lattice.specs.Lattice.{Holds}
 use Rattle.catalogue.proofs.Sharing.{shared_from, not_shared}
 use Rattle.catalogue.proofs.adjacency.share_tile.Goals as goal
@@ -13,10 +13,10 @@ returns-then-is_some g c honest =
     let laws = g.met.S.Samples in
     let now = c.args.samples.now in
     let m = g.S.Samples.mosaic now in
-    let corner : Place = c.corner-item.result in
+    let corner : Corner = c.corner-item.result in
     let side = laws.same_side now honest ∙ sym c.side-side.ensures in
-    let there = subst (λ (cs : List Place). Contains cs corner) (sym (laws.same_corners now honest)) (c.present.ensures.answer.0 c.if-present.true) in
-    let among = subst (λ (cs : List Place). Contains cs corner) c.as_slice-corner-items.ensures.value (c.loop-corner.corner-index, c.loop-corner-test.true, sym c.corner-item.is) in
+    let there = subst (λ (cs : List Corner). Contains cs corner) (sym (laws.same_corners now honest)) (c.present.ensures.answer.0 c.if-present.true) in
+    let among = subst (λ (cs : List Corner). Contains cs corner) c.as_slice-corner-items.ensures.value (c.loop-corner.corner-index, c.loop-corner-test.true, sym c.corner-item.is) in
     let holds_p = c.holders-corners.ensures.exactly corner in
     let holds_q = c.index_in.ensures.held.0 (sym c.is_some.ensures ∙ c.if-is_some.true) in
     sym (shared_from m c.args.p c.args.q corner (laws.is_mosaic now honest) there
@@ -29,8 +29,8 @@ loop-corner-preserved g c k d below present held =
     elim (cases_eq k c.loop-corner.corner-index) [
       | inl this ↦
           let is : get_or items k d ≡ c.corner-item.result = ap (λ i. get_or items i d) this ∙ sym (get_or_read items c.loop-corner.corner-index c.corner-item.result c.loop-corner-test.true c.corner-item.is d) in
-          let present_here = subst (λ (e : Place). Contains (g.S.Samples.corners c.args.samples.now) e) is present in
-          let held_here = subst (λ (e : Place). Holds (g.S.Samples.side_of c.args.samples.now) e c.args.q) is held in
+          let present_here = subst (λ (e : Corner). Contains (g.S.Samples.corners c.args.samples.now) e) is present in
+          let held_here = subst (λ (e : Corner). Holds (g.S.Samples.side_of c.args.samples.now) e c.args.q) is held in
           elim c.else-present.branch [
             | else-present-via-then-present+else-is_some w ↦
                 let found = w.index_in.ensures.held.1 (subst (λ n. Holds n c.corner-item.result c.args.q) (sym c.side-side.ensures) held_here) in
@@ -48,8 +48,8 @@ returns g c honest =
     let items = c.as_slice-corner-items.result.now in
     let side = laws.same_side now honest in
     sym (not_shared m c.args.p c.args.q items (laws.is_mosaic now honest)
-    (λ corner held. subst (λ (cs : List Place). Contains cs corner) (sym c.as_slice-corner-items.ensures.value)
+    (λ corner held. subst (λ (cs : List Corner). Contains cs corner) (sym c.as_slice-corner-items.ensures.value)
     ((c.holders-corners.ensures.exactly corner).1 (subst (λ n. Holds n corner c.args.p) (side ∙ sym c.side-side.ensures) held)))
     (λ k d below present held. c.loop-corner.invariant k d (omega (arith, below))
-    (subst (λ (cs : List Place). Contains cs (get_or items k d)) (laws.same_corners now honest) present)
+    (subst (λ (cs : List Corner). Contains cs (get_or items k d)) (laws.same_corners now honest) present)
     (subst (λ n. Holds n (get_or items k d) c.args.q) side held)))

@@ -4,7 +4,7 @@ use Rattle.std.proofs.lemmas.Grind.{common_steps}
 use Rattle.std.specs.Global.{Vec}
 use mir.Syntax.{w16}
 use mir.Val.{to_z, of_z}
-use Rattle.lattice.specs.Corners.{Place}
+use Rattle.lattice.specs.Corners.{Corner}
 use Rattle.catalogue.specs.Tiles.{corners_before}
 use Rattle.catalogue.proofs.Holders.{itself}
 use Rattle.catalogue.proofs.Rising.{rising_from}
@@ -40,7 +40,7 @@ loop-lon-preserved g c =
             | in-Some+in_ok-map_err w ↦
                 let pushed : c.match-present_at.found.items ≡ c.loop-lon.found.items ++ w.in-Some.corner ∷ [] = grind (arith, common_steps) in
                 step_some cs rising lat lon c.loop-lon.found.items _ w.in-Some.corner so_far (sym w.in-Some.is ∙ asked) pushed
-            | in_default w ↦ ap (λ (v : Vec Place). v.items) w.found-is ∙ step_none cs rising lat lon c.loop-lon.found.items so_far (sym w.in_default.is ∙ asked)
+            | in_default w ↦ ap (λ (v : Vec Corner). v.items) w.found-is ∙ step_none cs rising lat lon c.loop-lon.found.items so_far (sym w.in_default.is ∙ asked)
           ] in
           new ∙ ap (λ (x : ℤ). corners_before lat x cs) (sym next);
       known = inr (c.present_at.ensures.whole_degrees corner, c.present_at.ensures.in_order corner);

@@ -1,6 +1,6 @@
 use Rattle.std.proofs.Common.{◌≡◌, ◌*◌, ◌<◌, false, List, sym, ap, ◌∙◌, subst}
 use Rattle.std.specs.Prelude.{Contains, slice_set}
-use Rattle.lattice.specs.Corners.{Place}
+use Rattle.lattice.specs.Corners.{Corner}
 use Rattle.lattice.specs.Lattice.{point_of}
 use Rattle.lattice.specs.Height.{height_of}
 use Rattle.lattice.specs.Ground.{metres}
@@ -14,7 +14,7 @@ returns-else-is_held_elsewhere-clause-height g c honest either =
     let now = c.args.samples.now in
     let m = g.S.Samples.mosaic now in
     let side = laws.same_side now honest in
-    let there = subst (λ (cs : List Place). Contains cs c.args.corner) (sym (laws.same_corners now honest)) c.requires.present in
+    let there = subst (λ (cs : List Corner). Contains cs c.args.corner) (sym (laws.same_corners now honest)) c.requires.present in
     let small = subst (λ n. c.args.index < n * n) (sym side) c.requires.index in
     let point : c.point_at-point.result ≡ point_of m.side c.args.corner c.args.index = c.point_at-point.ensures.value ∙ ap (λ n. point_of n c.args.corner c.args.index) (c.side.ensures ∙ sym side) in
     let none : is_held_elsewhere m c.args.corner (point_of m.side c.args.corner c.args.index) ≡ false =

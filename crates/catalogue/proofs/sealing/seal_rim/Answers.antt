@@ -1,6 +1,6 @@
 use Rattle.std.proofs.Common.{◌≡◌, ◌-◌, ◌*◌, ◌<◌, List, arith, sym, ap, ◌∙◌, subst}
 use Rattle.std.specs.Prelude.{Contains, Ok}
-use Rattle.lattice.specs.Corners.{Place}
+use Rattle.lattice.specs.Corners.{Corner}
 use Rattle.catalogue.specs.Sealed.{rim_index}
 use Rattle.catalogue.proofs.Blocks.{IsPartly, partly_none, partly_step, partly_all}
 use Rattle.catalogue.proofs.Reading.{reads_nothing, reads_on}
@@ -42,7 +42,7 @@ returns-clause-block g c honest own =
     let m = g.S.Samples.mosaic now in
     let so = c.loop-step.invariant in
     let honest_now = so.reads.honest honest in
-    let there = subst (λ (cs : List Place). Contains cs c.args.corner) (sym (laws.same_corners now honest_now)) c.requires.present in
+    let there = subst (λ (cs : List Corner). Contains cs c.args.corner) (sym (laws.same_corners now honest_now)) c.requires.present in
     let edge : c.edge-step-end.result ≡ m.side - 1 = c.edge-step-end.ensures.value ∙ ap (λ n. n - 1) (c.side-side.ensures ∙ sym (laws.same_side now honest_now)) in
     let end : c.loop-step.step ≡ 4 * (m.side - 1) = omega (arith, edge) in
     partly_all m c.args.corner c.loop-step.heights (laws.is_mosaic now honest_now) there (subst (λ k. IsPartly m c.args.corner k c.loop-step.heights) end (so.partly honest own))

@@ -1,6 +1,6 @@
 use Rattle.std.proofs.Common.{◌↔◌, refl, ap, sym, ◌∙◌, subst, List}
 use Rattle.std.specs.Prelude.{Contains}
-use Rattle.lattice.specs.Corners.{Place}
+use Rattle.lattice.specs.Corners.{Corner}
 use Rattle.lattice.specs.Lattice.{Holds}
 use Rattle.lattice.specs.Height.{by_seam_rule}
 use Rattle.lattice.specs.declared.height.Height.TheVariants.{Outside}
@@ -20,8 +20,8 @@ loop-corner-init g c =
           let m = g.S.Samples.mosaic now in
           let side = laws.same_side now honest ∙ sym c.side.ensures in
           let items = c.as_slice-corner-items.ensures.value in
-          let exactly = subst (λ n. (d : Place) → Contains c.holders-corners.result.items d ↔ Holds n d c.args.point) (sym side) c.holders-corners.ensures.exactly in
+          let exactly = subst (λ n. (d : Corner) → Contains c.holders-corners.result.items d ↔ Holds n d c.args.point) (sym side) c.holders-corners.ensures.exactly in
           ap by_seam_rule (sym (samples_from_holders m c.args.point c.as_slice-corner-items.result.now (laws.is_mosaic now honest)
           (subst (Adjacent itself) (sym items) c.holders-corners.ensures.in_order)
-          (subst (λ (cs : List Place). (d : Place) → Contains cs d ↔ Holds m.side d c.args.point) (sym items) exactly)));
+          (subst (λ (cs : List Corner). (d : Corner) → Contains cs d ↔ Holds m.side d c.args.point) (sym items) exactly)));
     }

@@ -4,7 +4,7 @@ use Rattle.std.proofs.lemmas.Bool.{false≢true}
 use Rattle.std.proofs.lemmas.Int.{to_z-of_z}
 use mir.Syntax.{w16}
 use mir.Val.{SFits}
-use Rattle.lattice.specs.Corners.{Place}
+use Rattle.lattice.specs.Corners.{Corner}
 use Rattle.lattice.specs.Lattice.{Holds, IsIndexOf}
 use Rattle.catalogue.proofs.OneTile.{corner_is, sample_in-absent, sample_in-outside, sample_in-read}
 use Rattle.catalogue.proofs.seam_rule.sample_at.Goals as goal
@@ -14,14 +14,14 @@ returns-then-not-present-clause-value g c honest =
     let now = c.args.samples.now in
     let same = g.met.S.Samples.same_corners now honest in
     sym (sample_in-absent (g.S.Samples.mosaic now) c.args.corner c.args.point (λ there.
-    false≢true (sym c.if-not-present.true ∙ c.present.ensures.answer.1 (subst (λ (cs : List Place). Contains cs c.args.corner) same there))))
+    false≢true (sym c.if-not-present.true ∙ c.present.ensures.answer.1 (subst (λ (cs : List Corner). Contains cs c.args.corner) same there))))
 
 pub returns-in_default-clause-value : goal.returns-in_default-clause-value
 returns-in_default-clause-value g c honest =
     let laws = g.met.S.Samples in
     let now = c.args.samples.now in
     let m = g.S.Samples.mosaic now in
-    let there = subst (λ (cs : List Place). Contains cs c.args.corner) (sym (laws.same_corners now honest)) (c.present.ensures.answer.0 (search rules)) in
+    let there = subst (λ (cs : List Corner). Contains cs c.args.corner) (sym (laws.same_corners now honest)) (c.present.ensures.answer.0 (search rules)) in
     let side = laws.same_side now honest ∙ sym c.side.ensures in
     let valid = laws.is_mosaic now honest in
     sym (sample_in-outside m c.args.corner c.args.point valid (corner_is m c.args.corner valid there) (λ held.

@@ -2,7 +2,7 @@ use Rattle.std.proofs.Common.{◌≡◌, inl, inr, ⊎_elim, ℕ, ◌+◌, ◌<�
 use Rattle.std.proofs.lemmas.List.Elements.{All-push}
 use Rattle.std.proofs.lemmas.Result.{err_from_is_err_and}
 use Rattle.disk.specs.Disk.{Image}
-use Rattle.lattice.specs.Corners.{Place}
+use Rattle.lattice.specs.Corners.{Corner}
 use Rattle.lattice.specs.declared.refusal.Refusal.{Refusal}
 use Rattle.lattice.specs.declared.refusal.Refusal.TheVariants.{Device}
 use Rattle.page_codec.specs.Entries.{EntryValue}
@@ -70,10 +70,10 @@ returns-in_err-chart-2-clause-refused g c honest =
     let corner : e.corner ≡ c.entry.inside.corner = sym (ap (λ (x : EntryValue). x.corner) c.entry.view_is) in
     let planes = c.in_ok-planes.planes in
     let tile : TilePlace = tile_at c.entry.inside.corner planes in
-    let entry : entry_of tile ≡ e = subst (λ (p : Place). entry_of (tile_at p planes) ≡ e) corner c.in_ok-planes.ensures.entry in
+    let entry : entry_of tile ≡ e = subst (λ (p : Corner). entry_of (tile_at p planes) ≡ e) corner c.in_ok-planes.ensures.entry in
     let entries : map entry_of (c.loop-entry.chart.committed ++ tile ∷ []) ≡ take (index + 1) root.entries = one_more root.entries c.loop-entry.chart.committed index e tile lt here.entries is_e entry in
     let has_records : d.honest c.read_planes.new.pager.roots.disk → HasRecords root.side seen tile = λ h.
-    subst (λ (p : Place). HasRecords root.side seen (tile_at p planes)) corner
+    subst (λ (p : Corner). HasRecords root.side seen (tile_at p planes)) corner
     (subst (λ (n : ℕ). HasRecords n seen (tile_at e.corner planes)) c.side-side.ensures.value
     (subst (λ (i : Image). HasRecords c.side-side.result i (tile_at e.corner planes)) (here.reads.seen (c.in_ok-planes.ensures.reads.honest h)) (c.in_ok-planes.ensures.records h))) in
     let p = err_from_is_err_and c.from_residual-in_err-chart-2.result c.from_residual-in_err-chart-2.ensures.1 in
@@ -103,10 +103,10 @@ loop-entry-preserved g c =
     let corner : e.corner ≡ c.entry.inside.corner = sym (ap (λ (x : EntryValue). x.corner) c.entry.view_is) in
     let planes = c.in_ok-planes.planes in
     let tile : TilePlace = tile_at c.entry.inside.corner planes in
-    let entry : entry_of tile ≡ e = subst (λ (p : Place). entry_of (tile_at p planes) ≡ e) corner c.in_ok-planes.ensures.entry in
+    let entry : entry_of tile ≡ e = subst (λ (p : Corner). entry_of (tile_at p planes) ≡ e) corner c.in_ok-planes.ensures.entry in
     let entries : map entry_of (c.loop-entry.chart.committed ++ tile ∷ []) ≡ take (index + 1) root.entries = one_more root.entries c.loop-entry.chart.committed index e tile lt here.entries is_e entry in
     let has_records : d.honest c.read_planes.new.pager.roots.disk → HasRecords root.side seen tile = λ h.
-    subst (λ (p : Place). HasRecords root.side seen (tile_at p planes)) corner
+    subst (λ (p : Corner). HasRecords root.side seen (tile_at p planes)) corner
     (subst (λ (n : ℕ). HasRecords n seen (tile_at e.corner planes)) c.side-side.ensures.value
     (subst (λ (i : Image). HasRecords c.side-side.result i (tile_at e.corner planes)) (here.reads.seen (c.in_ok-planes.ensures.reads.honest h)) (c.in_ok-planes.ensures.records h))) in
     let works : has_failed c.read_planes.new.pager ≡ false = works_ok planes c.read_planes.new.pager.failed c.in_ok-planes.ensures.reads.works in

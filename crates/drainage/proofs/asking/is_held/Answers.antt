@@ -2,14 +2,14 @@ use Rattle.std.proofs.Common.{◌≡◌, inl, inr, ap, sym, ◌∙◌, subst, ar
 use Rattle.std.specs.Prelude.{Contains}
 use Rattle.std.proofs.lemmas.List.{get_or_read}
 use Rattle.std.proofs.lemmas.Bool.{cases_eq, false≢true}
-use Rattle.lattice.specs.Corners.{Place}
+use Rattle.lattice.specs.Corners.{Corner}
 use Rattle.lattice.specs.Lattice.{Holds}
 use Rattle.drainage.proofs.asking.is_held.Goals as goal
 
 pub returns-then-present-clause-held : goal.returns-then-present-clause-held
 returns-then-present-clause-held g c = λ _ none.
-    let corner : Place = c.corner-item.result in
-    let among = subst (λ (cs : List Place). Contains cs corner) c.as_slice-corner-items.ensures.value (c.loop-corner.corner-index, c.loop-corner-test.true, sym c.corner-item.is) in
+    let corner : Corner = c.corner-item.result in
+    let among = subst (λ (cs : List Corner). Contains cs corner) c.as_slice-corner-items.ensures.value (c.loop-corner.corner-index, c.loop-corner-test.true, sym c.corner-item.is) in
     none corner (c.present.ensures.answer.0 c.if-present.true) (subst (λ n. Holds n corner c.args.point) c.side.ensures ((c.holders-corners.ensures.exactly corner).0 among))
 
 pub loop-corner-preserved : goal.loop-corner-preserved
@@ -18,12 +18,12 @@ loop-corner-preserved g c k d below present =
     elim (cases_eq k c.loop-corner.corner-index) [
       | inl this ↦
           let is : get_or items k d ≡ c.corner-item.result = ap (λ i. get_or items i d) this ∙ sym (get_or_read items c.loop-corner.corner-index c.corner-item.result c.loop-corner-test.true c.corner-item.is d) in
-          false≢true (sym c.if-present.false ∙ c.present.ensures.answer.1 (subst (λ (e : Place). Contains (g.S.Samples.corners c.args.samples.now) e) is present))
+          false≢true (sym c.if-present.false ∙ c.present.ensures.answer.1 (subst (λ (e : Corner). Contains (g.S.Samples.corners c.args.samples.now) e) is present))
       | inr other ↦ c.loop-corner.invariant k d (omega arith) present
     ]
 
 pub returns-clause-none : goal.returns-clause-none
 returns-clause-none g c = λ _ corner there held.
     let items = c.as_slice-corner-items.result.now in
-    let among : Contains items corner = subst (λ (cs : List Place). Contains cs corner) (sym c.as_slice-corner-items.ensures.value) ((c.holders-corners.ensures.exactly corner).1 (subst (λ n. Holds n corner c.args.point) (sym c.side.ensures) held)) in
-    c.loop-corner.invariant among.0 corner (omega (arith, among.1)) (subst (λ (e : Place). Contains (g.S.Samples.corners c.args.samples.now) e) (sym among.2) there)
+    let among : Contains items corner = subst (λ (cs : List Corner). Contains cs corner) (sym c.as_slice-corner-items.ensures.value) ((c.holders-corners.ensures.exactly corner).1 (subst (λ n. Holds n corner c.args.point) (sym c.side.ensures) held)) in
+    c.loop-corner.invariant among.0 corner (omega (arith, among.1)) (subst (λ (e : Corner). Contains (g.S.Samples.corners c.args.samples.now) e) (sym among.2) there)

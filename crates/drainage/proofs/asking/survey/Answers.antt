@@ -1,5 +1,5 @@
 use Rattle.std.proofs.Common.{sym, ◌∙◌, subst, List, inl, inr}
-use Rattle.lattice.specs.Corners.{Place}
+use Rattle.lattice.specs.Corners.{Corner}
 use Rattle.catalogue.specs.Tiles.{corners_of}
 use Rattle.drainage.specs.Asking.{IsHeldByNone}
 use Rattle.drainage.proofs.Held.{outside_says, ground_at}
@@ -16,6 +16,6 @@ returns-in-Outside-clause-on_ground g c honest _ =
     elim c.in-Outside.is [
       | inl outside ↦
           let none : IsHeldByNone m.side (corners_of m) c.args.point = outside_says m c.args.point (laws.is_mosaic old was) (sym value ∙ outside) in
-          absurd (c.is_held.ensures.held c.if-not-is_held.false (subst (λ n. IsHeldByNone n (g.S.Samples.corners old) c.args.point) (laws.same_side old was) (subst (λ (cs : List Place). IsHeldByNone m.side cs c.args.point) (laws.same_corners old was) none)))
+          absurd (c.is_held.ensures.held c.if-not-is_held.false (subst (λ n. IsHeldByNone n (g.S.Samples.corners old) c.args.point) (laws.same_side old was) (subst (λ (cs : List Corner). IsHeldByNone m.side cs c.args.point) (laws.same_corners old was) none)))
       | inr at ↦ ground_at m c.args.point at.0 (sym at.1 ∙ value)
     ]

@@ -1,6 +1,6 @@
 use Rattle.std.proofs.Common.{◌≤◌, sym, ◌∙◌, subst, length, List}
 use Rattle.std.proofs.lemmas.Result.{IfOk-weaker}
-use Rattle.lattice.specs.Corners.{Place}
+use Rattle.lattice.specs.Corners.{Corner}
 use Rattle.lattice.specs.Mosaic.{Mosaic, IsMosaic}
 use Rattle.flow_d8.specs.Levels.{IsFilledOf}
 use Rattle.catalogue.specs.Sealed.{IsSealed}
@@ -11,7 +11,7 @@ use Rattle.drainage.proofs.draining.drained.Goals as goal
 pub returns-in_default-clause-not_damaged : goal.returns-in_default-clause-not_damaged
 returns-in_default-clause-not_damaged c m is sealed =
     let corners = c.in_ok-flooded.flooded.corners.items in
-    let few : length corners ≤ 240 = subst (λ (cs : List Place). length cs ≤ 240) (sym c.in_ok-flooded.ensures.corners) c.requires.few in
+    let few : length corners ≤ 240 = subst (λ (cs : List Corner). length cs ≤ 240) (sym c.in_ok-flooded.ensures.corners) c.requires.few in
     absurd (c.in_default.ensures (are_levels m is c.side-side.result (c.side-side.ensures ∙ sealed.side) corners (c.in_ok-flooded.ensures.corners ∙ sealed.corners) c.in_ok-levels.levels.items
     (c.in_ok-levels.ensures.levels m (c.in_ok-flooded.ensures.rims m is sealed)) few))
 

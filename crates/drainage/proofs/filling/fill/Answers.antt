@@ -1,5 +1,5 @@
 use Rattle.std.proofs.Common.{subst, List}
-use Rattle.lattice.specs.Corners.{Place}
+use Rattle.lattice.specs.Corners.{Corner}
 use Rattle.drainage.specs.Asking.{IsHeldByNone}
 use Rattle.drainage.proofs.Sealing.{read_then}
 use Rattle.drainage.proofs.filling.fill.Goals as goal
@@ -7,7 +7,7 @@ use Rattle.drainage.proofs.filling.fill.Goals as goal
 pub level_at-requires-clause-held : goal.level_at-requires-clause-held
 level_at-requires-clause-held g c none =
     let table = c.in_ok-table.ensures in
-    let none_there = subst (λ n. IsHeldByNone n (g.S.Samples.corners c.args.samples.now) c.args.point) table.side (subst (λ (cs : List Place). IsHeldByNone c.in_ok-table.table.side cs c.args.point) table.corners none) in
+    let none_there = subst (λ n. IsHeldByNone n (g.S.Samples.corners c.args.samples.now) c.args.point) table.side (subst (λ (cs : List Corner). IsHeldByNone c.in_ok-table.table.side cs c.args.point) table.corners none) in
     let never = table.outside.1 none_there in
     absurd (cc)
 

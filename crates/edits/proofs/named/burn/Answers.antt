@@ -3,7 +3,7 @@ use Rattle.std.specs.Prelude.{None, OnOk, IfOk, nat_abs, int_le, ◌≤ℤ◌}
 use Rattle.std.proofs.lemmas.Int.{ints, to_z-of_z}
 use Rattle.std.proofs.lemmas.Bool.{and_from}
 use mir.Syntax.{w32}
-use Rattle.lattice.specs.Corners.{Place}
+use Rattle.lattice.specs.Corners.{Corner}
 use Rattle.lattice.specs.declared.point.Point.{Point}
 use Rattle.edits.specs.declared.named.Treatment.TheVariants.{Lower}
 use Rattle.edits.specs.Changes.{all_changed}
@@ -35,7 +35,7 @@ returns-clause-changes g c = λ capacity honest.
 pub returns-clause-beside : goal.returns-clause-beside
 returns-clause-beside g c = λ honest.
     let m = g.S.Samples.mosaic c.args.samples.now in
-    subst (λ (l : List Point). IfOk c.treat.result (λ changes. (p : Place) → is_beside changes.items p ≡ is_near_one (λ t. holds_one m l t.corner) m p)) c.as_slice-points.ensures.value (c.treat.ensures.beside honest)
+    subst (λ (l : List Point). IfOk c.treat.result (λ changes. (p : Corner) → is_beside changes.items p ≡ is_near_one (λ t. holds_one m l t.corner) m p)) c.as_slice-points.ensures.value (c.treat.ensures.beside honest)
 
 pub returns-clause-once : goal.returns-clause-once
 returns-clause-once g c = c.treat.ensures.once (sym c.is_repeated.ensures ∙ c.if-is_repeated.false)

@@ -4,7 +4,7 @@ use Rattle.std.specs.Global.{Vec}
 use Rattle.std.proofs.lemmas.Int.{to_z-of_z}
 use Rattle.std.proofs.lemmas.List.{take_all, take_more}
 use mir.Syntax.{w16}
-use Rattle.lattice.specs.Corners.{Place}
+use Rattle.lattice.specs.Corners.{Corner}
 use Rattle.lattice.specs.Lattice.{Holds}
 use Rattle.catalogue.proofs.Rising.{Rising, rising_from}
 use Rattle.edits.specs.declared.change.Change.{Change}
@@ -30,10 +30,10 @@ loop-corner-preserved g c =
     let i = c.loop-corner.corner-index in
     let old = c.args.changes.now.items in
     let corner = c.corner-item.result in
-    let rising : Rising (λ (p : Place). p) hs =
-    subst (λ (l : List Place). Rising (λ (p : Place). p) l) (sym c.as_slice-corner-items.ensures.value) (rising_from (λ (p : Place). p) c.holders-corners.result.items c.holders-corners.ensures.in_order) in
-    let fresh = λ (there : Contains (take i hs) corner). not_earlier hs i corner rising c.loop-corner-test.true (subst (λ (d : Place). Contains (take i hs) d) c.corner-item.is there) in
-    let next : take i hs ++ corner ∷ [] ≡ take (i + 1) hs = ap (λ (d : Place). take i hs ++ d ∷ []) c.corner-item.is ∙ sym (take_more hs i corner c.loop-corner-test.true) in (
+    let rising : Rising (λ (p : Corner). p) hs =
+    subst (λ (l : List Corner). Rising (λ (p : Corner). p) l) (sym c.as_slice-corner-items.ensures.value) (rising_from (λ (p : Corner). p) c.holders-corners.result.items c.holders-corners.ensures.in_order) in
+    let fresh = λ (there : Contains (take i hs) corner). not_earlier hs i corner rising c.loop-corner-test.true (subst (λ (d : Corner). Contains (take i hs) d) c.corner-item.is there) in
+    let next : take i hs ++ corner ∷ [] ≡ take (i + 1) hs = ap (λ (d : Corner). take i hs ++ d ∷ []) c.corner-item.is ∙ sym (take_more hs i corner c.loop-corner-test.true) in (
       among_next n cs c.args.point s hs i corner old c.match-index_among.changes.items c.loop-corner-test.true c.corner-item.is
           (elim c.match-index_among.branch [
             | in-Some+in_ok-push w ↦
@@ -45,7 +45,7 @@ loop-corner-preserved g c =
                 subst (λ (l : List Change). PutAmong n cs (take i hs ++ corner ∷ []) c.args.point s old l) (sym (ap (λ (v : Vec Change). v.items) w.changes-is))
                 (among_skip n cs c.args.point s (take i hs) corner old c.loop-corner.changes.items w.in_default.ensures.none c.loop-corner.invariant.0)
           ]),
-      subst (λ (l : List Place). OnceAmong n l c.args.point old c.match-index_among.changes.items) next
+      subst (λ (l : List Corner). OnceAmong n l c.args.point old c.match-index_among.changes.items) next
           (elim c.match-index_among.branch [
             | in-Some+in_ok-push w ↦
                 let there = w.in-Some.ensures.held in
@@ -66,11 +66,11 @@ returns-clause-put g c =
     let hs = c.as_slice-corner-items.result.now in
     let old = c.args.changes.now.items in
     let new = c.loop-corner.changes.items in
-    let exactly = subst (λ m. (d : Place) → Contains c.holders-corners.result.items d ↔ Holds m d c.args.point) c.side.ensures c.holders-corners.ensures.exactly in
-    let among = subst (λ (l : List Place). PutAmong n cs l c.args.point s old new) (take_all c.loop-corner.corner-index hs c.loop-corner-test.false) c.loop-corner.invariant.0 in
+    let exactly = subst (λ m. (d : Corner) → Contains c.holders-corners.result.items d ↔ Holds m d c.args.point) c.side.ensures c.holders-corners.ensures.exactly in
+    let among = subst (λ (l : List Corner). PutAmong n cs l c.args.point s old new) (take_all c.loop-corner.corner-index hs c.loop-corner-test.false) c.loop-corner.invariant.0 in
     subst (λ v. ArePutAt n cs c.args.point v old new) (to_z-of_z w16 c.args.sample c.ranges.sample)
     (put_everywhere n cs c.args.point s hs old new
-    (subst (λ (l : List Place). (d : Place) → Contains l d ↔ Holds n d c.args.point) (sym c.as_slice-corner-items.ensures.value) exactly)
+    (subst (λ (l : List Corner). (d : Corner) → Contains l d ↔ Holds n d c.args.point) (sym c.as_slice-corner-items.ensures.value) exactly)
     (omega (arith, c.as_slice-corner-items.ensures.fits))
     among)
 

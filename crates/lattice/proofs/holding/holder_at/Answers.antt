@@ -1,7 +1,7 @@
 use Rattle.std.proofs.Common.{◌≡◌, ◌∙◌, ap₂, refl, sym, subst, SomeIff, w64, ℤ, SFits, rules}
 use Rattle.std.proofs.lemmas.Bool.{false≢true}
 use Rattle.std.proofs.lemmas.Int.{to_z-of_z}
-use Rattle.lattice.specs.Corners.{Place}
+use Rattle.lattice.specs.Corners.{Corner}
 use Rattle.lattice.specs.Degrees.{place}
 use Rattle.lattice.specs.Lattice.{Holds}
 use Rattle.lattice.proofs.holding.holder_at.Goals as goal
@@ -11,7 +11,7 @@ returns-in_err-index_in c =
     let here = place c.args.degrees in
     let lat : SFits w64 c.args.degrees.lat = search rules in
     let lon : SFits w64 c.args.degrees.lon = search rules in
-    let is : ◌≡◌ {A = Place} c.in_ok-corner.corner here =
+    let is : ◌≡◌ {A = Corner} c.in_ok-corner.corner here =
     c.in_ok-corner.ensures.1 ∙ ap₂ (λ (a b : ℤ). record { lat = a; lon = b }) (to_z-of_z w64 c.args.degrees.lat lat) (to_z-of_z w64 c.args.degrees.lon lon) in
     let held = c.in_err-index_in.ensures.held in
     subst (λ r. SomeIff r (Holds c.args.side here c.args.point) here) (sym c.from_residual-in_err-index_in.ensures)
@@ -22,6 +22,6 @@ returns c =
     let here = place c.args.degrees in
     let lat : SFits w64 c.args.degrees.lat = search rules in
     let lon : SFits w64 c.args.degrees.lon = search rules in
-    let is : ◌≡◌ {A = Place} c.in_ok-corner.corner here =
+    let is : ◌≡◌ {A = Corner} c.in_ok-corner.corner here =
     c.in_ok-corner.ensures.1 ∙ ap₂ (λ (a b : ℤ). record { lat = a; lon = b }) (to_z-of_z w64 c.args.degrees.lat lat) (to_z-of_z w64 c.args.degrees.lon lon) in
     (subst (λ k. Holds c.args.side k c.args.point) is (c.in_ok-index_in.ensures.held.0 refl), is)

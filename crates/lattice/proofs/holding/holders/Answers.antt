@@ -2,7 +2,7 @@ use Rattle.std.proofs.Common.{◌≡◌, ◌∙◌, ◌≤◌, ◌+◌, ◌-◌,
 use Rattle.std.specs.List.{Contains, AllAdjacentBelow}
 use Rattle.std.proofs.lemmas.Int.{ints, to_z-of_z}
 use Rattle.arrayvec.specs.ArrayVec.{ArrayVec, array_vec_len}
-use Rattle.lattice.specs.Corners.{Place}
+use Rattle.lattice.specs.Corners.{Corner}
 use Rattle.lattice.specs.Lattice.{Holds, IsBefore}
 use Rattle.lattice.proofs.Kept.{kept, around, crossing, crossing_is, taken, passed, all_kept, kept_exactly, kept_in_order}
 use Rattle.lattice.proofs.holding.holders.Goals as goal
@@ -19,14 +19,14 @@ loop-degrees-preserved c =
     let so_far = c.loop-degrees.invariant.whole in
     elim c.match-holder_at.branch [
       | in-Some w ↦ record {
-        short = omega (arith, ap (λ (v : ArrayVec Place). array_vec_len v) w.found-is);
-        whole = ap (λ (v : ArrayVec Place). v.items ++ kept c.args.side c.args.point (drop (i + 1) cs)) w.found-is
-            ∙ ap (λ (s : List Place). s ++ kept c.args.side c.args.point (drop (i + 1) cs)) w.push.ensures.items
+        short = omega (arith, ap (λ (v : ArrayVec Corner). array_vec_len v) w.found-is);
+        whole = ap (λ (v : ArrayVec Corner). v.items ++ kept c.args.side c.args.point (drop (i + 1) cs)) w.found-is
+            ∙ ap (λ (s : List Corner). s ++ kept c.args.side c.args.point (drop (i + 1) cs)) w.push.ensures.items
             ∙ taken c.args.side c.args.point cs i _ found (kept c.args.side c.args.point cs) w.in-Some.corner side (omega arith) w.in-Some.ensures so_far;
       }
       | in_default w ↦ record {
-        short = omega (arith, ap (λ (v : ArrayVec Place). array_vec_len v) w.found-is);
-        whole = ap (λ (v : ArrayVec Place). v.items ++ kept c.args.side c.args.point (drop (i + 1) cs)) w.found-is
+        short = omega (arith, ap (λ (v : ArrayVec Corner). array_vec_len v) w.found-is);
+        whole = ap (λ (v : ArrayVec Corner). v.items ++ kept c.args.side c.args.point (drop (i + 1) cs)) w.found-is
             ∙ passed c.args.side c.args.point cs i _ found (kept c.args.side c.args.point cs) side (omega arith) w.in_default.ensures so_far;
       }
     ]
@@ -58,10 +58,10 @@ returns-clause-exactly c =
     let x_from : (lon *ℤ pos (c.args.side - 1)) ≤ℤ c.args.point.x = subst (λ m. (lon *ℤ pos m) ≤ℤ c.args.point.x) edge (subst (λ v. (lon *ℤ pos c.edge-edge.result) ≤ℤ v) x c.degrees_below-east.ensures.from) in
     let x_to : c.args.point.x <ℤ (lon *ℤ pos (c.args.side - 1) +ℤ pos (c.args.side - 1)) =
     subst (λ m. c.args.point.x <ℤ (lon *ℤ pos m +ℤ pos m)) edge (subst (λ v. v <ℤ (lon *ℤ pos c.edge-edge.result +ℤ pos c.edge-edge.result)) x c.degrees_below-east.ensures.to) in
-    λ k. subst (λ (found : List Place). Contains found k ↔ Holds c.args.side k c.args.point) (sym (holders c))
+    λ k. subst (λ (found : List Corner). Contains found k ↔ Holds c.args.side k c.args.point) (sym (holders c))
     (kept_exactly c.args.side c.args.point lat lon c.edge-edge.ensures.low y_from y_to x_from x_to k)
 
 pub returns-clause-in_order : goal.returns-clause-in_order
 returns-clause-in_order c =
-    subst (λ (found : List Place). AllAdjacentBelow IsBefore found (length found)) (sym (holders c))
+    subst (λ (found : List Corner). AllAdjacentBelow IsBefore found (length found)) (sym (holders c))
     (kept_in_order c.args.side c.args.point c.degrees_below-north.result c.degrees_below-east.result)

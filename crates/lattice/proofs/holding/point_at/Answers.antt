@@ -1,12 +1,12 @@
 use Rattle.std.proofs.Common.{◌≡◌, ◌∙◌, ◌≤◌, ◌<◌, ◌-◌, ◌/◌, ◌%◌, ℕ, ℤ, pos, ◌+ℤ◌, ◌-ℤ◌, ◌*ℤ◌, ap, ap₂, sym, subst, arith, rules, SFits, w16, w32, to_z, of_z, IsTrue}
 use Rattle.std.proofs.lemmas.Int.{to_z-of_z}
-use Rattle.lattice.specs.Corners.{Place, is_corner}
+use Rattle.lattice.specs.Corners.{Corner, is_corner}
 use Rattle.lattice.specs.Lattice.{IsIndexOf, point_of}
 use Rattle.lattice.specs.declared.point.Point.{Point}
 use Rattle.lattice.proofs.Samples.{index_of_point, row_below, from_south}
 use Rattle.lattice.proofs.holding.point_at.Goals as goal
 
-view : (c : goal.After-value_along-2) → ◌≡◌ {A = Place} (record { lat = c.corner.inside.lat; lon = c.corner.inside.lon }) c.args.corner
+view : (c : goal.After-value_along-2) → ◌≡◌ {A = Corner} (record { lat = c.corner.inside.lat; lon = c.corner.inside.lon }) c.args.corner
 view c = c.corner.view_is
 
 is_point : (c : goal.After-value_along-2) →
@@ -18,8 +18,8 @@ is_point c =
     let edge : c.edge-edge.result ≡ m = c.edge-edge.ensures.value in
     let lat_fits : SFits w16 c.corner.inside.lat = search rules in
     let lon_fits : SFits w16 c.corner.inside.lon = search rules in
-    let lat : to_z w16 (of_z w16 c.corner.inside.lat) ≡ c.args.corner.lat = to_z-of_z w16 c.corner.inside.lat lat_fits ∙ ap (λ (k : Place). k.lat) (view c) in
-    let lon : to_z w16 (of_z w16 c.corner.inside.lon) ≡ c.args.corner.lon = to_z-of_z w16 c.corner.inside.lon lon_fits ∙ ap (λ (k : Place). k.lon) (view c) in
+    let lat : to_z w16 (of_z w16 c.corner.inside.lat) ≡ c.args.corner.lat = to_z-of_z w16 c.corner.inside.lat lat_fits ∙ ap (λ (k : Corner). k.lat) (view c) in
+    let lon : to_z w16 (of_z w16 c.corner.inside.lon) ≡ c.args.corner.lon = to_z-of_z w16 c.corner.inside.lon lon_fits ∙ ap (λ (k : Corner). k.lon) (view c) in
     let some : 0 < n = omega (arith, c.edge-edge.ensures.low) in
     let row : e / n ≤ m = omega (arith, row_below n e some c.requires) in
     let y : to_z w32 (of_z w32 c.value_along.result) ≡ (c.args.corner.lat *ℤ pos m +ℤ pos m) -ℤ pos (e / n) =

@@ -1,5 +1,5 @@
 use Rattle.std.proofs.Common.{◌∙◌, sym, ap, subst, IsFalse}
-use Rattle.lattice.specs.Corners.{Place}
+use Rattle.lattice.specs.Corners.{Corner}
 use Rattle.lattice.specs.Mosaic.{Tile, IsMosaic, is_present}
 use Rattle.catalogue.specs.Tiles.{with_tile}
 use Rattle.plain.proofs.Kept.{kept_added, same_mosaic}
@@ -10,5 +10,5 @@ with_tiles-requires c =
     let m = c.args.mosaic.now in
     let t = c.in_ok-tile.tile in
     let tiles = c.in_ok-tiles.ensures ∙ ap (with_tile t) c.tiles.ensures.value in
-    let absent = subst (λ (k : Place). IsFalse (is_present m k)) (sym (ap (λ (u : Tile). u.corner) c.in_ok-tile.ensures.value)) c.requires.absent in
+    let absent = subst (λ (k : Corner). IsFalse (is_present m k)) (sym (ap (λ (u : Tile). u.corner) c.in_ok-tile.ensures.value)) c.requires.absent in
     subst IsMosaic (same_mosaic (sym c.side.ensures.value) (sym tiles)) (kept_added t m c.side.ensures.whole (c.in_ok-tile.ensures.whole m.side c.requires.whole) absent)

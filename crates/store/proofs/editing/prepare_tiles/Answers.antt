@@ -1,6 +1,6 @@
 use Rattle.std.proofs.Common.{◌≡◌, ◌∙◌, ℕ, false, Result, Ok, Err, get_or, below_more, ap, subst, arith}
 use Rattle.std.proofs.lemmas.List.{get_or_default}
-use Rattle.lattice.specs.Corners.{Place}
+use Rattle.lattice.specs.Corners.{Corner}
 use Rattle.lattice.specs.declared.refusal.Refusal.{Refusal}
 use Rattle.lattice.specs.declared.refusal.Refusal.TheVariants.{Device, NoMemory}
 use Rattle.edits.specs.declared.change.Change.{Change}
@@ -48,7 +48,7 @@ loop-change-preserved g c =
       prepared = λ k change lt.
           below_more (λ (j : ℕ). (x : Change) → HasStaged new (tile_of (get_or changes j x))) index
           (λ j below x. c.prepare.ensures.still_staged (tile_of (get_or changes j x)) (here.prepared j x below))
-          (λ x. subst (λ (p : Place). HasStaged new p)
+          (λ x. subst (λ (p : Corner). HasStaged new p)
           (c.corner.ensures ∙ ap tile_of (c.change-item.is ∙ get_or_default changes index c.change-item.result x c.loop-change-test.true))
           c.in-Ok.ensures.has_staged) k lt change;
     }

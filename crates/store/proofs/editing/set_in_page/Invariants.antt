@@ -1,5 +1,5 @@
 use Rattle.std.proofs.Common.{ℕ, ◌≤◌, ◌-◌, List, length, take, All}
-use Rattle.lattice.specs.Corners.{Place}
+use Rattle.lattice.specs.Corners.{Corner}
 use Rattle.lattice.specs.Mosaic.{Mosaic}
 use Rattle.edits.specs.Changes.{CanBeSet, all_changed}
 use Rattle.cow_tree.specs.Stored.{StoredTile, with_page}
@@ -10,7 +10,7 @@ abbrev pub invariant-loop-next : goal.invariant-loop-next
 invariant-loop-next l = record {
   low : l.first ≤ l.next;
   high : l.next ≤ length l.changes;
-  set : (side : ℕ) (corners : List Place) (tiles : List StoredTile) (m : Mosaic) → All (CanBeSet side corners) l.changes
+  set : (side : ℕ) (corners : List Corner) (tiles : List StoredTile) (m : Mosaic) → All (CanBeSet side corners) l.changes
       → HoldsMosaic side (with_page l.corner l.index l.fn.page tiles) (all_changed (take l.first l.changes) m)
       → HoldsMosaic side (with_page l.corner l.index l.page tiles) (all_changed (take l.next l.changes) m);
 }

@@ -1,6 +1,6 @@
 use Rattle.std.proofs.Common.{◌≡◌, ◌<◌, ◌≤◌, ◌+◌, ◌/◌, ℕ, Bool, if◌then◌else◌, Ok, Err, List, length, get_or, take, refl, sym, ap, ◌∙◌, ⊎_elim, subst, arith}
 use Rattle.std.proofs.lemmas.List.{get_or_default}
-use Rattle.lattice.specs.Corners.{Place}
+use Rattle.lattice.specs.Corners.{Corner}
 use Rattle.lattice.specs.declared.refusal.Refusal.{Refusal}
 use Rattle.edits.specs.declared.change.Change.{Change}
 use Rattle.edits.specs.declared.change.Change.TheVariants.{Set}
@@ -90,7 +90,7 @@ returns-in-Err-stage-clause-refused g c =
     let mid = c.read_page.new.self in
     let prepared : HasStaged mid c.in-Set.corner =
     (page_read g.D.Disk c.args.tree.now mid (Ok c.in_default-read_page.field-0) c.in_default-read_page.ensures.reads).still_staged c.in-Set.corner
-    (subst (λ (p : Place). HasStaged c.args.tree.now p) (ap tile_of (sym c.index-changes-first.is ∙ c.in-Set.is)) (c.requires.prepared c.args.first c.index-changes-first.result c.requires.within)) in
+    (subst (λ (p : Corner). HasStaged c.args.tree.now p) (ap tile_of (sym c.index-changes-first.is ∙ c.in-Set.is)) (c.requires.prepared c.args.first c.index-changes-first.result c.requires.within)) in
     ⊎_elim (λ device. device) (λ none. absurd (c.stage.ensures.sure prepared (c.in-Err-stage.is ∙ ap (λ (r : Refusal). Err r) none))) c.in-Err-stage.ensures.refused
 
 pub returns-in-Err-clause-writes : goal.returns-in-Err-clause-writes
@@ -125,5 +125,5 @@ returns-in-Ok-clause-due g c =
     let read = c.in_default-read_page.ensures.reads in
     let prepared : HasStaged mid c.in-Set.corner =
     (page_read g.D.Disk c.args.tree.now mid (Ok c.in_default-read_page.field-0) read).still_staged c.in-Set.corner
-    (subst (λ (p : Place). HasStaged c.args.tree.now p) (ap tile_of (sym c.index-changes-first.is ∙ c.in-Set.is)) (c.requires.prepared c.args.first c.index-changes-first.result c.requires.within)) in
+    (subst (λ (p : Corner). HasStaged c.args.tree.now p) (ap tile_of (sym c.index-changes-first.is ∙ c.in-Set.is)) (c.requires.prepared c.args.first c.index-changes-first.result c.requires.within)) in
     c.in-Ok.ensures.due_same prepared ∙ ap (λ (chart : ChartValue). length (fresh_corners chart)) read.keeps.chart

@@ -1,5 +1,5 @@
 use Rattle.std.proofs.Common.{◌≡◌, ℕ, ◌+◌, ◌-◌, ◌*◌, min, List, ◌++◌, length, take, Contains, IsOk, Result, Ok, Err, is_ok, if◌then◌else◌, vec_len, refl, sym, ap, ◌∙◌, subst, arith, length-take-le}
-use Rattle.lattice.specs.Corners.{Place}
+use Rattle.lattice.specs.Corners.{Corner}
 use Rattle.page_codec.specs.Roots.{RootValue}
 use Rattle.page_codec.specs.Sizes.{pages_of}
 use Rattle.cow_tree.specs.Planes.{HasPage}
@@ -14,7 +14,7 @@ use Rattle.store.proofs.exporting.read_heights.Goals as goal
 pub read_page-requires-clause-held : goal.read_page-requires-clause-held
 read_page-requires-clause-held g c =
     let tree = c.loop-i.tree in
-    let found = placed_tile c.args.corner tree.chart.staged (subst (λ (cs : List Place). Contains cs c.args.corner) (sym c.loop-i.invariant.keeps.corners) c.requires.present) in
+    let found = placed_tile c.args.corner tree.chart.staged (subst (λ (cs : List Corner). Contains cs c.args.corner) (sym c.loop-i.invariant.keeps.corners) c.requires.present) in
     (found.0, (found.1.0, (found.1.1, (found.0.heights, refl))))
 
 -- a choice by a result that is Ok

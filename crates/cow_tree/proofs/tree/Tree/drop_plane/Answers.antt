@@ -1,5 +1,5 @@
 use Rattle.std.proofs.Common.{not, map, List, sym, ap, ◌∙◌, subst}
-use Rattle.lattice.specs.Corners.{Place, same_place}
+use Rattle.lattice.specs.Corners.{Corner, same_corner}
 use Rattle.cow_tree.specs.Charts.{ChartValue, corners_of_places}
 use Rattle.cow_tree.specs.Layout.{TilePlace, tile_in, StoresAt}
 use Rattle.cow_tree.specs.Staged.{AreStaged}
@@ -11,13 +11,13 @@ use Rattle.cow_tree.proofs.tree.Tree.drop_plane.Goals as goal
 pub returns-clause-corners : goal.returns-clause-corners
 returns-clause-corners g c =
     ap (λ (x : ChartValue). corners_of_places x.staged) c.remove_tile.ensures.removed
-    ∙ filter-map (λ (other : Place). not (same_place other c.args.c)) (λ (t : TilePlace). t.corner) c.args.self.now.chart.staged
+    ∙ filter-map (λ (other : Corner). not (same_corner other c.args.c)) (λ (t : TilePlace). t.corner) c.args.self.now.chart.staged
 
 pub returns-clause-staged : goal.returns-clause-staged
 returns-clause-staged g c =
     let seen = g.D.Disk.seen c.args.self.now.pager.roots.disk in
     ap (λ (x : ChartValue). map (tile_in seen) x.staged) c.remove_tile.ensures.removed
-    ∙ filter-map (λ (t : StoredTile). not (same_place t.corner c.args.c)) (tile_in seen) c.args.self.now.chart.staged
+    ∙ filter-map (λ (t : StoredTile). not (same_corner t.corner c.args.c)) (tile_in seen) c.args.self.now.chart.staged
 
 pub returns-clause-at : goal.returns-clause-at
 returns-clause-at g c s is =

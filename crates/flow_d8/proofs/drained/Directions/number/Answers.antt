@@ -1,6 +1,6 @@
 use Rattle.std.proofs.Common.{◌≡◌, ℕ, ◌*◌, ◌<◌, ◌≤◌, IsTrue, length, sym, ap, ◌∙◌, subst, arith, List}
 use Rattle.lattice.specs.declared.point.Point.{Point}
-use Rattle.lattice.specs.Corners.{Place}
+use Rattle.lattice.specs.Corners.{Corner}
 use Rattle.std.specs.Prelude.{SomeIff}
 use Rattle.std.proofs.lemmas.Grind.{common_steps}
 use Rattle.flow_d8.specs.Levels.{is_held, place_of}
@@ -18,7 +18,7 @@ returns-in_err-number-clause-known c =
     (subst (λ (e : Drained). IsKnown e p → ⊥) c.self.view_is (unheld_unknown d p c.self.invariant
     (λ held. c.in_err-number.ensures (ap (λ ks. is_held c.self.inside.side ks p) c.deref.ensures.value ∙ held))))
 
-number_within : (n : ℕ) (corners : List Place) (distances : List ℕ) (p : Point) (number : ℕ) → 3 ≤ n → IsTrue (is_held n corners p) → number ≡ place_of n corners p
+number_within : (n : ℕ) (corners : List Corner) (distances : List ℕ) (p : Point) (number : ℕ) → 3 ≤ n → IsTrue (is_held n corners p) → number ≡ place_of n corners p
     → length distances ≡ length corners * (n * n) → number < length distances
 number_within n corners distances p number low held at whole = let below = place_below n corners p low held in omega arith
 

@@ -1,6 +1,6 @@
 use Rattle.std.proofs.Common.{◌≡◌, ⊎_elim, ℕ, ◌+◌, ◌*◌, ◌≤◌, List, map, vec_len, refl, sym, ap, ◌∙◌, subst, arith}
 use Rattle.std.specs.Prelude.{Ok, Err}
-use Rattle.lattice.specs.Corners.{Place}
+use Rattle.lattice.specs.Corners.{Corner}
 use Rattle.lattice.specs.declared.refusal.Refusal.{Refusal}
 use Rattle.lattice.specs.declared.refusal.Refusal.TheVariants.{Device, Worn}
 use Rattle.page_codec.specs.Entries.{EntryValue}
@@ -26,7 +26,7 @@ use Rattle.store.proofs.Outcomes.{no_memory}
 use Rattle.store.proofs.store.Store.edit.Goals as goal
 use Rattle.store.proofs.store.Store.edit.Goals.{After-stage_changes, After-commit}
 
-abbrev corners_in : RootValue → List Place
+abbrev corners_in : RootValue → List Corner
 corners_in r = map (λ (e : EntryValue). e.corner) r.entries
 
 pub invariant_of-self : goal.invariant_of-self
