@@ -58,16 +58,16 @@ mosaic-without c m valid = record {
 }
 
 module _ (c : Corner) (i : ℕ) (s : ℤ) where
-  same_corner : (t : Tile) → (with_sample_in c i s t).corner ≡ t.corner
-  same_corner t = elim (same_corner t.corner c) as (λ b. (cond b (record t { samples = slice_set t.samples i s }) t).corner ≡ t.corner) [ true ↦ refl | false ↦ refl ]
+  corner_stays : (t : Tile) → (with_sample_in c i s t).corner ≡ t.corner
+  corner_stays t = elim (same_corner t.corner c) as (λ b. (cond b (record t { samples = slice_set t.samples i s }) t).corner ≡ t.corner) [ true ↦ refl | false ↦ refl ]
 
   after-with_sample : (d : Corner) (tiles : List Tile) → AllAfter corner_of d tiles → AllAfter corner_of d (map (with_sample_in c i s) tiles)
   after-with_sample d [] h = tt
-  after-with_sample d (t ∷ ts) h = (subst (λ p. IsTrue (is_before d p)) (sym (same_corner t)) h.0, after-with_sample d ts h.1)
+  after-with_sample d (t ∷ ts) h = (subst (λ p. IsTrue (is_before d p)) (sym (corner_stays t)) h.0, after-with_sample d ts h.1)
 
   rising-with_sample : (tiles : List Tile) → Rising corner_of tiles → Rising corner_of (map (with_sample_in c i s) tiles)
   rising-with_sample [] h = tt
-  rising-with_sample (t ∷ ts) h = (subst (λ p. AllAfter corner_of p (map (with_sample_in c i s) ts)) (sym (same_corner t)) (after-with_sample t.corner ts h.0), rising-with_sample ts h.1)
+  rising-with_sample (t ∷ ts) h = (subst (λ p. AllAfter corner_of p (map (with_sample_in c i s) ts)) (sym (corner_stays t)) (after-with_sample t.corner ts h.0), rising-with_sample ts h.1)
 
   tile-with_sample : (n : ℕ) (t : Tile) → IsSample s → IsTile n t → IsTile n (with_sample_in c i s t)
   tile-with_sample n t sample tile = elim (same_corner t.corner c) as (λ b. IsTile n (cond b (record t { samples = slice_set t.samples i s }) t)) [
