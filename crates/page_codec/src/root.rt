@@ -83,6 +83,16 @@ impl Root {
         }
     }
 
+    /// The same root once more.
+    pub fn copy(&self) -> Root
+        ensures { result ≡ self.now }
+    {
+        let Ok(entries) = ArrayVec::try_from(self.entries.as_slice()) else {
+            unreachable!()
+        };
+        Root { entries, ..*self }
+    }
+
     pub fn side(&self) -> Side
         ensures value { result ≡ self.now.side }
         ensures high { result ≤ MAX_SIDE }

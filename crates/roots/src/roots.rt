@@ -10,7 +10,7 @@ ghost use Rattle.roots.specs.Opening.{OpensAs, HoldsStore};
 use crate::opening::{Found, scan};
 use crate::phase::{Phase, device, noted};
 use crate::slot::{Slot, closed_gate};
-use crate::writing::{copy_of, fill_slot, write_only};
+use crate::writing::{fill_slot, write_only};
 use disk::{Disk, settle};
 use lattice::Refusal;
 use page_codec::Root;
@@ -273,7 +273,7 @@ impl<D: Disk> Roots<D> {
         let answer = fill_slot(&mut self.disk, slot, root);
         noted(&mut self.phase, answer)?;
         self.slot = slot;
-        self.root = copy_of(root);
+        self.root = root.copy();
         self.other_open = true;
         self.phase = Phase::Settled;
         Ok(())

@@ -19,15 +19,6 @@ fn spelling(root: &Root) -> [u8; 4096]
     root.write()
 }
 
-pub(crate) fn copy_of(root: &Root) -> Root
-    ensures { result ≡ root.now }
-{
-    match Root::read(&spelling(root)) {
-        Ok(copy) => copy,
-        Err(_) => unreachable!(),
-    }
-}
-
 /// Settles a root in a slot whose gate is closed, and then opens the gate.
 pub(crate) fn fill_slot<D: Disk>(disk: &mut D, slot: Slot, root: &Root) -> Result<(), Fault>
     requires { 4 ≤ D.size disk.old }

@@ -45,8 +45,8 @@ returns-clause-ready g c honest ready =
     let others = noted_ok c.fill_slot-answer.result _ _ _ _ c.in_ok-noted.ensures (c.fill_slot-answer.ensures.others honest) in
     let spelled = noted_ok c.fill_slot-answer.result _ _ _ _ c.in_ok-noted.ensures (c.fill_slot-answer.ensures.root honest) in
     let opened = noted_ok c.fill_slot-answer.result _ _ _ _ c.in_ok-noted.ensures (c.fill_slot-answer.ensures.opened honest) in
-    let now = committed s c.other-slot.result roots.root c.args.root.now c.copy_of-self.result (d.seen old) (d.seen new) c.other-slot.ensures c.copy_of-self.ensures at (omega (arith, c.requires.next)) others spelled opened in
+    let now = committed s c.other-slot.result roots.root c.args.root.now c.copy-self.result (d.seen old) (d.seen new) c.other-slot.ensures c.copy-self.ensures at (omega (arith, c.requires.next)) others spelled opened in
     record {
-      each = λ image may. subst (λ (i : Image). IsAt c.other-slot.result true c.copy_of-self.result i) (sym (durable image may)) now;
+      each = λ image may. subst (λ (i : Image). IsAt c.other-slot.result true c.copy-self.result i) (sym (durable image may)) now;
       closed = λ begun. absurd (cc begun);
     }
