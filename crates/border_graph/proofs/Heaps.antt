@@ -46,11 +46,6 @@ added_to_heap old new x p = record {
       ];
 }
 
-pub count_of_heap : (old new : List (Reverse Link)) (x : Reverse Link) → IsPermutation (x ∷ old) new → length (map (λ (r : Reverse Link). r.0) new) ≡ length (map (λ (r : Reverse Link). r.0) old) + 1
-count_of_heap old new x p =
-    let more : length new ≡ suc (length old) = length_permutation (x ∷ old) new p in
-    length-map new (λ (r : Reverse Link). r.0) ∙ (more ∙ (omega arith ∙ ap (λ n. n + 1) (sym (length-map old (λ (r : Reverse Link). r.0)))))
-
 no_less : (a b : Link) → is_lt (ordering_then (int_cmp b.level a.level) (nat_cmp b.from a.from)) ≡ false → a.level ≤ℤ b.level
 no_less a b h = elim (cases_Bool (int_lt b.level a.level)) [
   | inl less ↦ absurd (true≢false (sym (ap (λ t. is_lt (ordering_then (cond t Less (cond (int_lt a.level b.level) Greater Equal)) (nat_cmp b.from a.from))) less) ∙ h))

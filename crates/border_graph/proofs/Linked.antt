@@ -69,20 +69,6 @@ module _ (n : ℕ) (borders : List Border) (links : List (List Link)) (s : AreSo
   pub are_linked : AreLinked n borders links
   are_linked = record { whole = s.whole; each = s.each; all = listed }
 
--- nothing is listed at first
-pub none_so_far : (n : ℕ) (borders : List Border) (links : List (List Link)) → length links ≡ 1 + length borders * (4 * (n - 1)) → ((y : ℕ) → get_or links y [] ≡ []) → AreSoFar n borders links
-none_so_far n borders links whole none = record {
-  whole = whole;
-  each = λ x y level has. absurd (nothing x y level has);
-  heights = λ x y level has. absurd (nothing x y level has);
-}
-  where
-    nothing : (x y : ℕ) (level : ℤ) → IsListed links x y level → ⊥
-    nothing x y level has = out (subst (λ (row : List Link). Contains row (record { level = level; from = x })) (none y) has)
-      where
-        out : Contains {X = Link} [] (record { level = level; from = x }) → ⊥
-        out h = let small = h.1 in absurd (omega arith)
-
 -- one empty row more
 pub none_more : {V : Type 0} (items : V → List Link) (rows : List V) (row : V) → items row ≡ [] → ((y : ℕ) → get_or (map items rows) y [] ≡ []) → (y : ℕ) → get_or (map items (rows ++ row ∷ [])) y [] ≡ []
 none_more items [] row is none zero = is

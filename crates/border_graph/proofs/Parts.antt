@@ -13,24 +13,6 @@ use Rattle.border_graph.specs.Linking.{AreLinked}
 use Rattle.border_graph.proofs.Joined.{of, are_in_order}
 use Rattle.border_graph.proofs.Rims.{rim_levels_are}
 
--- one part more
-pub parts_more : {V : Type 0} (items : V → List ℤ) (levels : List ℤ) (size t : ℕ) (rims : List V) (rim : V) → length rims ≡ t → AreParts levels size (map items rims) t → IsPart levels size t (items rim) → AreParts levels size (map items (rims ++ rim ∷ [])) (t + 1)
-parts_more items levels size t rims rim many was now i less = elim (cases_lt i t) [
-  | inl earlier ↦ subst (IsPart levels size i) (sym (before items rims rim i (subst (λ n. i < n) (sym many) earlier))) (was i earlier)
-  | inr later ↦
-      let here : t ≡ i = omega arith in
-      subst (λ j. IsPart levels size j (get_or (map items (rims ++ rim ∷ [])) j [])) here (subst (IsPart levels size t) (sym (last items rims rim t many)) now)
-]
-  where
-    before : {V : Type 0} (items : V → List ℤ) (rims : List V) (rim : V) (i : ℕ) → i < length rims → get_or (map items (rims ++ rim ∷ [])) i [] ≡ get_or (map items rims) i []
-    before items [] rim i less = absurd (omega arith)
-    before items (v ∷ rims) rim zero less = refl
-    before items (v ∷ rims) rim (suc i) less = before items rims rim i (omega arith)
-
-    last : {V : Type 0} (items : V → List ℤ) (rims : List V) (rim : V) (i : ℕ) → length rims ≡ i → get_or (map items (rims ++ rim ∷ [])) i [] ≡ items rim
-    last items [] rim i many = ap (λ j. get_or (items rim ∷ []) j []) (sym many)
-    last items (v ∷ rims) rim i many = ap (λ j. get_or (items v ∷ map items (rims ++ rim ∷ [])) j []) (sym many) ∙ last items rims rim (length rims) refl
-
 -- the side that the summaries tell is that of the mosaic
 module _ (m : Mosaic) (is : IsMosaic m) (borders : List Border) (all : AreBorders m borders) where
   pub have_side : IsSideOf m.side borders

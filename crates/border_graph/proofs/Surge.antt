@@ -100,25 +100,6 @@ module _ (links : List (List Link)) (law : AreLinks links) where
         ]
       ]
 
-  -- at first nothing is reached
-  pub follow_first : (levels : List ℤ) → length levels ≡ length links → ((x : ℕ) → get_or levels x void ≡ void) → IsFollowing links levels [] 0 0
-  follow_first levels whole none = record {
-    reached = record {
-      whole = whole;
-      outlet = none 0;
-      final = λ x full. absurd (full (none x));
-      nodes = λ link has. let h = has.1 in absurd (omega arith);
-      heights = λ link has. let h = has.1 in absurd (omega arith);
-      ways = λ link has. let h = has.1 in absurd (omega arith);
-    };
-    here = inl refl;
-    border = λ y j d in_y in_j done on. absurd (nothing y j done on);
-  }
-    where
-      nothing : (y j : ℕ) → (y ≡ 0 → j < 0) → IsReached links levels [] y → ⊥
-      nothing y j done (inl first) = let h = done first in absurd (omega arith)
-      nothing y j done (inr full) = full (none y)
-
   -- the lowest link that waits, from a node that is reached already
   pub passed : (levels : List ℤ) (waiting waiting' : List Link) (link : Link) → IsRising links levels waiting → IsTaken waiting waiting' link → get_or levels link.from void ≢ void → IsRising links levels waiting'
   passed levels waiting waiting' link s t full = record {

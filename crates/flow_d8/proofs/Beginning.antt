@@ -176,14 +176,6 @@ module _ (f : Levels) (drains : List (Option Dir)) (distances : List ℕ) (dist 
   whole : AreLevels f
   whole = dist.valid
 
-  pub finish_none : ((p : Point) → IsTrue (has_level f p) → place_in f p ≡ k → ⊥) → IsFinishing f drains distances (k + 1)
-  finish_none none = record {
-    whole = s.whole;
-    drained = λ p level below. elim (cases_eq (place_in f p) k) [ inl same ↦ absurd (none p level same) | inr other ↦ s.drained p level (omega arith) ];
-    known = λ p level below. elim (cases_eq (place_in f p) k) [ inl same ↦ absurd (none p level same) | inr other ↦ s.known p level (omega arith) ];
-    downhill = λ p level above. s.downhill p level (omega arith);
-  }
-
   module _ (p : Point) (level : IsTrue (has_level f p)) (at : place_in f p ≡ k) where
     same_point_at : (q : Point) → IsTrue (has_level f q) → place_in f q ≡ k → p ≡ q
     same_point_at q q_level same = same_site f dist.valid p q level q_level (at ∙ sym same)

@@ -182,9 +182,6 @@ pub record IsFeeding (d : Drained) (p : Point) (i : ℕ) (found : List Point) : 
   pub whole : (e : Dir) → order_of e < i → direction_in d (step e p) ≡ Some (back_of e) → Contains found (step e p)
   pub once : (j k : ℕ) (x : Point) → j < k → k < length found → get_or found j x ≡ get_or found k x → ⊥
 
-pub feeding_start : (d : Drained) (p : Point) → IsFeeding d p 0 []
-feeding_start d p = record { drain = All-nil (λ q. (e : Dir) × ((order_of e < 0) × ((q ≡ step e p) × (direction_in d q ≡ Some (back_of e))))); whole = λ e below. absurd (omega arith); once = λ j k x lt within. absurd (omega arith) }
-
 module _ (d : Drained) (p : Point) (i : ℕ) (found : List Point) (e : Dir) (is : order_of e ≡ i) (so_far : IsFeeding d p i found) where
   earlier : (q : Point) → (c : Dir) × ((order_of c < i) × ((q ≡ step c p) × (direction_in d q ≡ Some (back_of c)))) → (c : Dir) × ((order_of c < i + 1) × ((q ≡ step c p) × (direction_in d q ≡ Some (back_of c))))
   earlier q h = (h.0, (omega (arith, h.1.0), h.1.1))

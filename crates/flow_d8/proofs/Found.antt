@@ -29,9 +29,6 @@ lt-said a b h = grind (arith, nat_tests)
 
 module _ (f : Levels) (drains : List (Option Dir)) (distances : List ℕ) (drained : AreDrained f drains) (are : AreDistances f distances)
     (known : (p : Point) → IsTrue (has_level f p) → distance_at distances (place_in f p) < unknown) where
-  map_is : Drained
-  map_is = record { side = f.side; corners = f.corners; drains = drains; distances = distances }
-
   -- only points with a level have a known distance
   level_of_known : (p : Point) → distance_at distances (place_in f p) < unknown → IsTrue (has_level f p)
   level_of_known p lt = elim (cases_Bool (is_held f.side f.corners p)) [

@@ -325,9 +325,6 @@ module _ (f : Levels) (whole : AreLevels f) (p : Point) (level : IsTrue (has_lev
         → r ≡ beside_of f p d
     told d xs n g r same side is b = is ∙ ap₂ (λ ys m. if not (is_void (slice_index_or ys (g m) void)) then Some (g m) else None) same side ∙ b.is
 
-    pub in_list : (d : Dir) (xs : List ℤ) (n : ℕ) (g : ℕ → ℕ) → xs ≡ f.levels → n ≡ f.side → Beside d (g f.side) → g n < length xs
-    in_list d xs n g same side b = subst (λ ys. g n < length ys) (sym same) (subst (λ m. g m < length f.levels) (sym side) b.within)
-
     -- there is room on all sides
     pub room : (n : ℕ) → n ≡ f.side → n + 1 ≤ number
     room n side =

@@ -33,9 +33,6 @@ module _ (f : Levels) (p : Point) where
   this_or_before : (d e : Dir) → order_of e < order_of d + 1 → (e ≡ d) ⊎ (order_of e < order_of d)
   this_or_before d e below = elim (cases_eq (order_of e) (order_of d)) [ inl same ↦ inl (same_order e d same) | inr other ↦ inr (omega arith) ]
 
-  pub none_before_first : IsBestOf f p 0 None
-  none_before_first e below low = absurd (omega arith)
-
   -- where the next step doesn't lead down the best stays
   pub passed_none : (d : Dir) → IsBestOf f p (order_of d) None → (LeadsDown f p d → ⊥) → IsBestOf f p (order_of d + 1) None
   passed_none d none not_down e below low = ⊎_elim (λ same. not_down (subst (LeadsDown f p) same low)) (λ before. none e before low) (this_or_before d e below)
@@ -55,16 +52,6 @@ module _ (f : Levels) (p : Point) where
   passed d (Some best) is not_down = passed_some d best is not_down
 
   module _ (d : Dir) (drop : ℕ) (down : LeadsDown f p d) (is_drop : drop ≡ drop_in f p d) (small : drop ≤ 65534) where
-    pub first_down : IsBestOf f p (order_of d) None → IsBest f p (order_of d + 1) (record { direction = d; drop = drop })
-    first_down none = record {
-      down = down;
-      drop = is_drop;
-      small = small;
-      among = omega arith;
-      steepest = λ e below low. ⊎_elim (λ same. subst (λ g. slope_in f p g ≤ slope_in f p d) (sym same) (omega arith)) (λ before. absurd (none e before low)) (this_or_before d e below);
-      first = λ e before low. absurd (none e before low);
-    }
-
     module _ (best : Descent) (is : IsBest f p (order_of d) best) where
       slopes : (k : ℕ) (e : Dir) (v : ℕ) → v ≡ drop_in f p e → slope_of e v ≡ slope_in f p e
       slopes k e v same = ap (slope_of e) same

@@ -161,10 +161,6 @@ module _ (f : Levels) where
   unfolding level_at
   at_level p = refl
 
-  pub level_said : (p : Point) (v : ℤ) → slice_index_or f.levels (place_in f p) void ≡ v → has_level f p ≡ not (is_void v)
-  unfolding has_level level_at
-  level_said p v e = ap (λ w. not (is_void w)) e
-
   pub beside_there : (p : Point) (d : Dir) → IsTrue (adjoins f p (step d p)) → beside_of f p d ≡ Some (place_in f (step d p))
   unfolding beside_of
   beside_there p d h = cond-true (adjoins f p (step d p)) (Some (place_in f (step d p))) None h

@@ -33,9 +33,6 @@ module _ (d : Drained) (p : Point) where
   pub direction_unknown : (IsKnown d p → ⊥) → direction_in d p ≡ None
   direction_unknown none = cond-false (nat_lt (distance_at d.distances (place_of d.side d.corners p)) unknown) (get_or d.drains (place_of d.side d.corners p) None) None (lt-not _ _ none)
 
-  pub distance_known : IsKnown d p → distance_in d p ≡ Some (distance_at d.distances (place_of d.side d.corners p))
-  distance_known known = cond-true (nat_lt (distance_at d.distances (place_of d.side d.corners p)) unknown) (Some (distance_at d.distances (place_of d.side d.corners p))) None (lt-true _ _ known)
-
   pub distance_unknown : (IsKnown d p → ⊥) → distance_in d p ≡ None
   distance_unknown none = cond-false (nat_lt (distance_at d.distances (place_of d.side d.corners p)) unknown) (Some (distance_at d.distances (place_of d.side d.corners p))) None (lt-not _ _ none)
 
@@ -45,14 +42,6 @@ module _ (d : Drained) (p : Point) where
     | inl held ↦ out held
     | inr off ↦
         let past : length d.distances ≤ place_of d.side d.corners p = omega (arith, place_past d.side d.corners p off, whole.distances) in
-        absurd (omega (arith, get_or_past d.distances (place_of d.side d.corners p) unknown past))
-  ]
-
-  pub known_in_distances : IsKnown d p → place_of d.side d.corners p < length d.distances
-  known_in_distances known = elim (cases_Bool (nat_lt (place_of d.side d.corners p) (length d.distances))) [
-    | inl lt ↦ grind (arith, nat_tests)
-    | inr ge ↦
-        let past : length d.distances ≤ place_of d.side d.corners p = grind (arith, nat_tests) in
         absurd (omega (arith, get_or_past d.distances (place_of d.side d.corners p) unknown past))
   ]
 
@@ -74,9 +63,6 @@ module _ (m : Mosaic) (level : Point → ℤ) (d : Drained) (is : IsMosaic m) (a
   pub record IsFollowed (first last : Point) (path : List Point) : Type 0 where
     pub solid : IsTrue (is_ground m last)
     pub leads : (tail : List Point) → IsFlowPath (terrain m) level last (last ∷ tail) → IsFlowPath (terrain m) level first (path ++ tail)
-
-  pub follow_start : (p : Point) → IsTrue (is_ground m p) → IsFollowed p p (p ∷ [])
-  follow_start p solid = record { solid = solid; leads = λ tail path. path }
 
   pub follow_more : (first last to : Point) (path : List Point) (e : Dir) → direction_in d last ≡ Some e → to ≡ step e last → IsFollowed first last path → IsFollowed first to (path ++ to ∷ [])
   follow_more first last to path e at is_to so_far =

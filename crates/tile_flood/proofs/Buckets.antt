@@ -9,9 +9,6 @@ use Rattle.tile_flood.specs.Waiting.{bucket, Waits, waiting, AreEmptyBelow, IsJo
 level_at : ℕ → ℤ
 level_at k = pos k -ℤ pos 32768
 
-one_bucket : (b k : ℕ) → pos b -ℤ pos 32768 ≡ pos k -ℤ pos 32768 → b ≡ k
-one_bucket b k h = omega (arith, ints)
-
 only_one : (e f : ℕ) → Contains (e ∷ []) f → f ≡ e
 only_one e f (zero, below, is) = sym is
 only_one e f (suc k, below, is) = absurd (omega arith)

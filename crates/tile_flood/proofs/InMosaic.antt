@@ -44,12 +44,12 @@ ground_by_metres (s ∷ later) = first (s ∷ later)
 tile_passes : (f : Corner → Bool) (c : Corner) (tiles : List Tile) → IsTrue (list_any (λ t. same_corner t.corner c) tiles) → IsTrue (f c) → IsTrue (list_any (λ t. f t.corner) tiles)
 tile_passes f c [] here yes_c = absurd (true≢false (sym here))
 tile_passes f c (t ∷ rest) here yes_c = elim (or_cases (same_corner t.corner c) (list_any (λ t. same_corner t.corner c) rest) here) [
-  | inl this ↦ or_left (f t.corner) (list_any (λ t. f t.corner) rest) (subst (λ p. IsTrue (f p)) (sym (same_corner t.corner c this)) yes_c)
+  | inl this ↦ or_left (f t.corner) (list_any (λ t. f t.corner) rest) (subst (λ p. IsTrue (f p)) (sym (one_corner t.corner c this)) yes_c)
   | inr later ↦ or_right (f t.corner) (list_any (λ t. f t.corner) rest) (tile_passes f c rest later yes_c)
 ]
   where
-    same_corner : (a b : Corner) → IsTrue (same_corner a b) → a ≡ b
-    same_corner a b h = let both = and_parts (int_eq a.lat b.lat) (int_eq a.lon b.lon) h in
+    one_corner : (a b : Corner) → IsTrue (same_corner a b) → a ≡ b
+    one_corner a b h = let both = and_parts (int_eq a.lat b.lat) (int_eq a.lon b.lon) h in
         ap₂ (λ (u v : ℤ). record { lat = u; lon = v }) (same_if a.lat b.lat both.0) (same_if a.lon b.lon both.1)
 
 corner_of_tile : (n : ℕ) (c : Corner) (tiles : List Tile) → All (IsTile n) tiles → IsTrue (list_any (λ t. same_corner t.corner c) tiles) → IsTrue (is_corner c)

@@ -48,13 +48,6 @@ module _ {P : Type 0} (t : Terrain P) where
       let head : t.height y ≤ℤ crest t y rest = height-le_crest t y rest in
       (back.0, (back.1.0, omega (arith, ints, clamps)))
 
-  -- along a path filled levels differ by no more than its crest
-  pub level_along : (law : IsLawful t) (x : P) (rest : List P) (k l : ℤ) → IsPath t x rest → IsFilledLevel t x k → IsFilledLevel t (end_of t x rest) l → k ≤ℤ int_max (crest t x rest) l
-  level_along law x rest k l path level from =
-      let on = go_on x rest from.reached.0 path from.reached.1.0 in
-      let low : crest t x on.0 ≤ℤ int_max (crest t x rest) l = subst (λ v. crest t x on.0 ≤ℤ int_max (crest t x rest) v) from.reached.1.1 on.1.1 in
-      ≤ℤ_trans k (crest t x on.0) (int_max (crest t x rest) l) (level.least on.0 on.1.0) low
-
 module _ {B P : Type 0} (b : Terrain B) (t : Terrain P) (at : B → P) (rim : B → Bool) (part : IsPart b t at rim) (law_b : IsLawful b) where
   -- a way out of t from a point of b begins with a way out of b
   pub way_in_part : (x : B) (p : P) (rest : List P) → IsTrue (b.is_ground x) → at x ≡ p → LeadsOut t p rest →

@@ -394,16 +394,6 @@ rises p q h = elim (cases_lt p.a q.a) [
       | inr more ↦ grind (arith, ints)
     ]
 
--- those taken from nothing
-pub first_none : (sorted firsts : List Spill) → firsts ≡ [] → AreFirstsBelow sorted firsts 0
-first_none sorted firsts is = subst (λ l. AreFirstsBelow sorted l 0) (sym is) (record {
-  from = λ p has. let h = has.1 in absurd (omega arith);
-  each = λ j d less. absurd (omega arith);
-  once = λ p q has _ _. let h = has.1 in absurd (omega arith);
-  last = λ p d has. let h = has.1 in absurd (omega arith);
-  some = λ h. absurd (omega arith);
-})
-
 pub not_void : (v : ℤ) → v ≢ void → int_eq v void ≡ false
 not_void v other = elim (cases_Bool (int_eq v void)) [ inl same ↦ absurd (other ((Decides-int_eq v void).0 same)) | inr differs ↦ differs ]
 

@@ -312,9 +312,6 @@ pub passed_max : (r h low g : ℤ) → SFits w16 r → SFits w16 h → SFits w16
 passed_max r h low g fr fh fl is same =
     to_z-of_z w16 r fr ∙ (is ∙ (ap₂ int_max (to_z-of_z w16 h fh ∙ same) (to_z-of_z w16 low fl)))
 
-pub test_passed : (x g : ℤ) (r t : Bool) → SFits w16 x → r ≡ int_eq (to_z w16 (of_z w16 x)) void → x ≡ g → r ≡ t → int_eq g void ≡ t
-test_passed x g r t fits says same is = ap (λ v. int_eq v void) (sym (to_z-of_z w16 x fits ∙ same)) ∙ (sym says ∙ is)
-
 -- a ground point without a level, near c, is beside it
 pub cell_beside : (n : ℕ) (heights levels : List ℤ) (labels : List ℕ) (queue : List (List ℕ)) (c : ℕ) (low : ℤ) (label i j : ℕ) → IsSpreading n heights levels labels queue c low label →
     j < n → c / n ≤ i + 1 → i ≤ c / n + 1 → c % n ≤ j + 1 → j ≤ c % n + 1 →

@@ -124,20 +124,11 @@ linked_north n heights e some inner solid above =
 
 -- when a point is an outlet of its block, and its own label
 module _ (n : ℕ) (heights : List ℤ) (e : ℕ) where
-  pub void_is_none : is_solid n heights e ≡ false → is_exit n heights e ≡ false
-  void_is_none off = ap (λ s. (s && is_rim n e) || (s && not (is_rim n e) && not (list_all (is_solid n heights) (around n e)))) off
-
   pub rim_is_exit : IsTrue (is_solid n heights e) → IsTrue (is_rim n e) → IsTrue (is_exit n heights e)
   rim_is_exit solid rim = or_left (is_solid n heights e && is_rim n e) (is_inner_outlet n heights e) (and_from (is_solid n heights e) (is_rim n e) solid rim)
 
   inner_off_rim : IsTrue (is_inner_outlet n heights e) → IsTrue (not (is_rim n e))
   inner_off_rim inner = (and_parts (is_solid n heights e) (not (is_rim n e)) (and_parts (is_solid n heights e && not (is_rim n e)) (not (list_all (is_solid n heights) (around n e))) inner).0).1
-
-  pub rim_label : (label : ℕ) → IsTrue (is_rim n e) → label ≡ rim_number n e → IsOwnLabel n heights e label
-  rim_label label rim is = record {
-    names = inl (rim, is);
-    inner_outlet = λ inner. absurd (true≢false (sym (inner_off_rim inner) ∙ ap not rim));
-  }
 
   inner_from : IsTrue (is_solid n heights e) → is_rim n e ≡ false → list_all (is_solid n heights) (around n e) ≡ false → IsTrue (is_inner_outlet n heights e)
   inner_from solid off gap = and_from (is_solid n heights e && not (is_rim n e)) (not (list_all (is_solid n heights) (around n e)))
@@ -145,13 +136,6 @@ module _ (n : ℕ) (heights : List ℤ) (e : ℕ) where
 
   pub inner_is_exit : IsTrue (is_solid n heights e) → is_rim n e ≡ false → list_all (is_solid n heights) (around n e) ≡ false → IsTrue (is_exit n heights e)
   inner_is_exit solid off gap = or_right (is_solid n heights e && is_rim n e) (is_inner_outlet n heights e) (inner_from solid off gap)
-
-  pub inner_label : IsTrue (is_solid n heights e) → is_rim n e ≡ false → list_all (is_solid n heights) (around n e) ≡ false → IsOwnLabel n heights e OUT
-  inner_label solid off gap = record { names = inr (inner_from solid off gap, refl); inner_outlet = λ _. refl }
-
-  pub enclosed_is_none : IsTrue (is_solid n heights e) → is_rim n e ≡ false → IsTrue (list_all (is_solid n heights) (around n e)) → is_exit n heights e ≡ false
-  enclosed_is_none solid off all =
-      ap₂ (λ s r. (s && r) || (s && not r && not (list_all (is_solid n heights) (around n e)))) solid off ∙ ap not all
 
 -- to the north of a ground point there is an outlet
 pub leads : (n : ℕ) (heights : List ℤ) (k e : ℕ) → 0 < n → e / n < k → IsTrue (is_solid n heights e) → (rest : List ℕ) × LeadsOut (block n heights) e rest

@@ -235,19 +235,5 @@ module _ (points : List Point) (k : ℕ) (p : Point) (start : 1 ≤ k) (lt : k <
     end = λ d. ap (λ (q : Point). q.x) (here d);
   }
 
-pub drawn_start : (points : List Point) (p : Point) → 0 < length points → p ≡ get_or points 0 p → AreDrawnTo points 1 [] (record { y = p.y; first = p.x; last = p.x })
-drawn_start points p some is = record {
-  drawn = subst (λ l. AreDrawn l [] (record { y = p.y; first = p.x; last = p.x })) (sym (take_more points 0 p some is)) (drawn_first p);
-  row = λ d. ap (λ (q : Point). q.y) (get_or_default points 0 d p some ∙ sym is);
-  end = λ d. ap (λ (q : Point). q.x) (get_or_default points 0 d p some ∙ sym is);
-}
-
 pub drawn_all : (points : List Point) (k : ℕ) (runs : List Run) (run : Run) → length points ≤ k → AreDrawnTo points k runs run → AreRuns (Contains points) (runs ++ run ∷ [])
 drawn_all points k runs run all drawn = subst (λ l. AreRuns (Contains l) (runs ++ run ∷ [])) (take_all k points all) (drawn_runs (take k points) runs run drawn.drawn)
-
-pub no_runs : (points : List Point) → length points ≡ 0 → AreRuns (Contains points) []
-no_runs points none = record {
-  covers = λ p. ((λ any. absurd (omega (arith, any.2))), (λ has. absurd (omega (arith, has.1))));
-  full = λ k d lt. absurd (omega arith);
-  in_order = λ k d lt. absurd (omega arith);
-}
