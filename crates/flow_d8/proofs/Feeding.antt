@@ -1,26 +1,26 @@
 -- The points around a point, their places, and which of them drain straight back.
-use Rattle.std.proofs.Common.{◌≡◌, ℕ, zero, suc, ◌+◌, ◌-◌, ◌*◌, ◌%◌, ◌<◌, ◌≤◌, ◌↔◌, ℤ, pos, ◌+ℤ◌, Bool, true, false, not, ◌&&◌, IsTrue, Option, Some, None, List, [], ◌∷◌, ◌++◌, length, map, get_or, refl, sym, ◌∙◌, ap, ap₂, subst, arith, inl, inr, ⊎_elim, true≢false}
+use Rattle.std.proofs.Common.{◌≡◌, ℕ, ◌+◌, ◌*◌, ◌%◌, ◌<◌, ◌≤◌, ◌↔◌, ℤ, pos, ◌+ℤ◌, true, not, ◌&&◌, IsTrue, Option, Some, None, List, [], ◌∷◌, ◌++◌, length, map, get_or, refl, sym, ◌∙◌, ap, ap₂, subst, arith, inl, inr, true≢false}
 use Rattle.std.specs.Prelude.{All, Contains, nat_lt, slice_index_or, if◌then◌else◌, MatchOption, SomeIff}
 use Rattle.std.specs.Ordering.{int_eq}
 use Rattle.std.proofs.lemmas.Int.{ints}
-use Rattle.std.proofs.lemmas.Bool.{cases_Bool, cases_eq, cases_order, cond-true, cond-false, and_parts, and_from}
+use Rattle.std.proofs.lemmas.Bool.{cases_Bool, cases_eq, cond-true, cond-false, and_parts, and_from}
 use Rattle.std.proofs.lemmas.Bool.Decides.{nat_tests}
-use Rattle.std.proofs.lemmas.List.{get_or_default, get_or_append_left, get_or_push, length_push, get_or_past, length-map, get_or-map}
-use Rattle.std.proofs.lemmas.List.Elements.{All-append, All-nil, All-cons, All-contains, Contains-append_left, Contains-append_right}
+use Rattle.std.proofs.lemmas.List.{get_or_append_left, get_or_push, length_push, length-map, get_or-map}
+use Rattle.std.proofs.lemmas.List.Elements.{All-append, All-nil, All-cons, Contains-append_left, Contains-append_right}
 use Rattle.lattice.specs.declared.point.Point.{Point}
 use Rattle.lattice.specs.declared.direction.Dir.{Dir}
 use Rattle.lattice.specs.declared.direction.Dir.TheVariants.{East, SouthEast, South, SouthWest, West, NorthWest, North, NorthEast}
-use Rattle.lattice.specs.Steps.{step, directions, order_of, north_of, east_of}
+use Rattle.lattice.specs.Steps.{step, order_of, north_of, east_of}
 use Rattle.lattice.specs.Stepping.{fits_point}
 use Rattle.lattice.specs.Mosaic.{void, is_void}
 use Rattle.flow_d8.specs.Levels.{Levels, AreLevels, is_held, is_deep, place_of}
-use Rattle.flow_d8.specs.Surface.{place_in, has_level, beside_of}
+use Rattle.flow_d8.specs.Surface.{has_level, beside_of}
 use Rattle.flow_d8.specs.Crossing.{unknown, distance_at}
-use Rattle.flow_d8.specs.Drained.{Drained, AreWhole, IsKnown, DrainsTo, direction_in, place_beside, back_of}
-use Rattle.flow_d8.proofs.Compass.{order_below, same_order, dir_at_place}
-use Rattle.flow_d8.proofs.Places.{seat_of, held_fits, place_below, few_samples}
+use Rattle.flow_d8.specs.Drained.{Drained, AreWhole, DrainsTo, direction_in, place_beside, back_of}
+use Rattle.flow_d8.proofs.Compass.{order_below, same_order}
+use Rattle.flow_d8.proofs.Places.{seat_of, held_fits, place_below}
 use Rattle.flow_d8.proofs.Surfaces.{beside_some, surface_lawful, level_from, level_held}
-use Rattle.flow_d8.proofs.Inside.{IsDeep, deep_of, Beside, room}
+use Rattle.flow_d8.proofs.Inside.{IsDeep, deep_of, Beside}
 use Rattle.flow_d8.proofs.Tracing.{direction_known, direction_unknown, unheld_unknown}
 
 pub back-back : (e : Dir) → back_of (back_of e) ≡ e

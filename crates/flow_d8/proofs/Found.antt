@@ -12,7 +12,7 @@ use Rattle.flow_d8.specs.Drainage.{AreFilledLevels, IsDirection}
 use Rattle.flow_d8.specs.Levels.{Levels, AreLevels, IsFilledOf, is_held}
 use Rattle.flow_d8.specs.Surface.{place_in, level_at, has_level, surface}
 use Rattle.flow_d8.specs.Crossing.{unknown, distance_at, AreDistances, AreDrained, drain_at, LeadsNowhere}
-use Rattle.flow_d8.specs.Drained.{Drained, AreDirectionsOf}
+use Rattle.flow_d8.specs.Drained.{AreDirectionsOf}
 use Rattle.flow_d8.proofs.Places.{place_past, place_injective}
 use Rattle.flow_d8.proofs.Surfaces.{level_held}
 use Rattle.flow_d8.proofs.Nearest.{known_is}

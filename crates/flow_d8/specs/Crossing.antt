@@ -1,5 +1,5 @@
 -- The search over flats on its way: which distances are known, and which points the next ones lie beside.
-use Rattle.std.specs.Prelude.{◌≡◌, ℕ, ◌+◌, ◌<◌, ◌≤◌, cond, nat_eq, IsTrue, Option, Some, None, List, length, All, Contains, slice_index_or, sum_by}
+use Rattle.std.specs.Prelude.{◌≡◌, ℕ, ◌<◌, ◌≤◌, cond, nat_eq, IsTrue, Option, Some, None, List, length, All, Contains, slice_index_or, sum_by}
 use Rattle.lattice.specs.declared.point.Point.{Point}
 use Rattle.lattice.specs.declared.direction.Dir.{Dir}
 use Rattle.flow_d8.specs.Drainage.{HasLower, IsSteepest, CrossesFlat, IsFlatDistance, IsDirection}

@@ -5,7 +5,9 @@ use Rattle.std.specs.Int.{int_max}
 use Rattle.std.specs.Ordering.{int_eq, is_lt, nat_cmp, int_cmp, ordering_then}
 use Rattle.std.specs.declared.cmp.Ordering.TheVariants.{Less, Equal, Greater}
 use Rattle.std.specs.Cmp.{nat_cmp_is}
+use Rattle.std.specs.List.{AllPairs}
 use Rattle.std.specs.List.Sorted.{IsPermutation}
+use Rattle.std.proofs.lemmas.List.Quantifiers.{all_pairs_push}
 use Rattle.std.proofs.lemmas.Int.{ints, clamps}
 use Rattle.std.proofs.lemmas.Bool.{cases_Bool, ne_eqb, cases_lt, cases_eq}
 use Rattle.std.proofs.lemmas.Bool.Decides.{Decides-int_eq}
@@ -21,8 +23,8 @@ use Rattle.lattice.proofs.Lawful.{block_is_lawful}
 use Rattle.tile_flood.specs.declared.passing.Spill.{Spill}
 use Rattle.tile_flood.specs.Flooding.{is_marked}
 use Rattle.tile_flood.specs.Labelling.{IsLabelling}
-use Rattle.tile_flood.specs.Spills.{Meets, AreSpills}
-use Rattle.tile_flood.specs.Passing.{IsPassage, IsNoPassage, AreFoundStill, AreBeside, ArePassages, IsFound, AreFoundBelow, IsInOrder, AreFirsts, AreFirstsBelow, HasLowerLabels, HaveSameLabels}
+use Rattle.tile_flood.specs.Spills.{Meets, AreSpills, HaveSameLabels}
+use Rattle.tile_flood.specs.Passing.{IsPassage, IsNoPassage, AreFoundStill, AreBeside, ArePassages, IsFound, AreFoundBelow, IsInOrder, AreFirsts, AreFirstsBelow, HasLowerLabels}
 use Rattle.tile_flood.proofs.Squares.{linked_parts, linked_from, linked_apart, beside_if, solid_below, solid_if, row_of_cell, column_of_cell, cell_of, row_below, test_if, solid_height}
 
 max-swap : (a b : ℤ) → int_max a b ≡ int_max b a
@@ -33,6 +35,27 @@ differ e f h same = absurd (true≢false (sym h ∙ ap not (ap (nat_eq e) (sym s
   where
     eq_itself : (e : ℕ) → nat_eq e e ≡ true
     eq_itself e = grind arith
+
+-- of what stands once there is one in the list
+one_of_each : (spills : List Spill) → AllPairs (λ p q. ¬ HaveSameLabels p q) spills → (p q : Spill) → Contains spills p → Contains spills q → HaveSameLabels p q → p ≡ q
+one_of_each spills once p q has_p has_q same = elim (cases_lt has_p.0 has_q.0) [
+  | inl before ↦ absurd (once has_p.0 has_q.0 p before has_q.1 (of_labels _ _ p q (at_p p) (at_q p) same))
+  | inr not_before ↦ elim (cases_lt has_q.0 has_p.0) [
+    | inl after ↦ absurd (once has_q.0 has_p.0 p after has_p.1 (of_labels _ _ q p (at_q p) (at_p p) (record { same_a = sym same.same_a; same_b = sym same.same_b })))
+    | inr not_after ↦
+        let one : has_p.0 ≡ has_q.0 = omega arith in
+        sym (at_p p) ∙ (ap (λ k. get_or spills k p) one ∙ at_q p)
+  ]
+]
+  where
+    at_p : (d : Spill) → get_or spills has_p.0 d ≡ p
+    at_p d = get_or_default spills has_p.0 d p has_p.1 ∙ has_p.2
+
+    at_q : (d : Spill) → get_or spills has_q.0 d ≡ q
+    at_q d = get_or_default spills has_q.0 d q has_q.1 ∙ has_q.2
+
+    of_labels : (a b x y : Spill) → a ≡ x → b ≡ y → HaveSameLabels x y → HaveSameLabels a b
+    of_labels a b x y is_x is_y h = subst (λ u. HaveSameLabels u b) (sym is_x) (subst (HaveSameLabels x) (sym is_y) h)
 
 -- two cells at most one row and one column apart
 pub beside_cells : (n i j i' j' e f : ℕ) → e ≡ i * n + j → f ≡ i' * n + j' → j < n → j' < n → i ≤ i' + 1 → i' ≤ i + 1 → j ≤ j' + 1 → j' ≤ j + 1 → IsTrue (is_beside n e f)
@@ -215,10 +238,10 @@ module _ (n : ℕ) (levels : List ℤ) (labels : List ℕ) where
       meets = (of_found p has).1;
       least = λ level m.
           let low = lowest p.a p.b level (of_found p has).0 m in
-          subst (λ (q : Spill). q.level ≤ℤ level) (is.once low.0 p low.1.0 has (record { same_a = low.1.1.0; same_b = low.1.1.1.0 })) low.1.1.1.1;
+          subst (λ (q : Spill). q.level ≤ℤ level) (one_of_each firsts is.once low.0 p low.1.0 has (record { same_a = low.1.1.0; same_b = low.1.1.1.0 })) low.1.1.1.1;
     };
     all = λ a b level less m. let low = lowest a b level less m in (low.0, (low.1.0, (low.1.1.0, low.1.1.1.0)));
-    once = λ p q has_p has_q a b. is.once p q has_p has_q (record { same_a = a; same_b = b });
+    once = is.once;
   }
     where
       of_found : (p : Spill) → Contains firsts p → (p.a < p.b) × Meets n levels levels labels p.a p.b p.level
@@ -316,16 +339,7 @@ module _ (sorted firsts : List Spill) (k : ℕ) (order : IsInOrder sorted) (smal
           let at : get_or sorted k d ≡ get_or sorted j e = get_or_default sorted k d e small ∙ ap (λ i. get_or sorted i e) now in
           (get_or sorted k d, (Contains-push firsts (get_or sorted k d), (record { same_a = ap (λ (q : Spill). q.a) at; same_b = ap (λ (q : Spill). q.b) at }, subst (λ (q : Spill). (get_or sorted k d).level ≤ℤ q.level) at (≤ℤ_same (get_or sorted k d).level))))
     ];
-    once = λ p q has_p has_q same. elim (Contains-push_cases firsts (get_or sorted k d) p has_p) [
-      | inl old_p ↦ elim (Contains-push_cases firsts (get_or sorted k d) q has_q) [
-        | inl old_q ↦ s.once p q old_p old_q same
-        | inr new_q ↦ absurd (other p old_p (subst (λ r. HaveSameLabels p r) (sym new_q) same))
-      ]
-      | inr new_p ↦ elim (Contains-push_cases firsts (get_or sorted k d) q has_q) [
-        | inl old_q ↦ absurd (other q old_q (subst (λ r. HaveSameLabels q r) (sym new_p) (record { same_a = sym same.same_a; same_b = sym same.same_b })))
-        | inr new_q ↦ sym new_p ∙ new_q
-      ]
-    ];
+    once = all_pairs_push (λ p q. ¬ HaveSameLabels p q) firsts (get_or sorted k d) s.once (λ j e less same. other (get_or firsts j e) (Contains-get_or firsts j e less) same);
     last = λ p e has. subst (λ j. HasLowerLabels p (get_or sorted j e) ⊎ HaveSameLabels p (get_or sorted j e)) (sym last_now) (elim (Contains-push_cases firsts (get_or sorted k d) p has) [
       | inl old ↦ up_to p e old
       | inr same ↦ let at : p ≡ get_or sorted k e = sym same ∙ get_or_default sorted k d e small in

@@ -1,6 +1,6 @@
 -- The steps of a flood: each point that gets its level gets its filled level, and a label that is reached at it (after
 -- the correctness argument of Barnes, Lehman and Mulla 2014).
-use Rattle.std.proofs.Common.{◌≡◌, ◌≢◌, ℕ, ◌+◌, ◌*◌, ◌/◌, ◌%◌, ◌<◌, ◌≤◌, ℤ, ◌≤ℤ◌, Bool, true, false, not, cond, IsTrue, IsFalse, List, [], ◌∷◌, length, get_or, set, slice_index, ◌⊎◌, inl, inr, refl, sym, ap, ap₂, ◌∙◌, subst, arith, true≢false, get_or-set_other, get_or-set_same, length-set, ◌&&◌, int_lt, SFits, w16, to_z, of_z}
+use Rattle.std.proofs.Common.{◌≡◌, ◌≢◌, ℕ, ◌+◌, ◌*◌, ◌/◌, ◌%◌, ◌<◌, ◌≤◌, ℤ, ◌≤ℤ◌, true, false, not, cond, IsTrue, IsFalse, List, [], ◌∷◌, length, get_or, set, slice_index, ◌⊎◌, inl, inr, refl, sym, ap, ap₂, ◌∙◌, subst, arith, true≢false, get_or-set_other, get_or-set_same, length-set, ◌&&◌, int_lt, SFits, w16, to_z, of_z}
 use Rattle.std.specs.Int.{int_max}
 use Rattle.std.specs.Ordering.{int_eq}
 use Rattle.std.proofs.lemmas.Bool.{cases_Bool, cases_eq, cases_lt, not-true, ne_eqb, or_right}

@@ -1,5 +1,5 @@
 -- Points of a block: rows and columns, adjacency, outlets, and a way out of each ground point.
-use Rattle.std.proofs.Common.{◌≡◌, ◌≢◌, ℕ, zero, suc, ◌+◌, ◌*◌, ◌-◌, ◌/◌, ◌%◌, ◌<◌, ◌≤◌, ℤ, Bool, true, false, not, IsTrue, ◌&&◌, ◌||◌, List, [], ◌∷◌, get_or, refl, sym, ap, ap₂, ◌∙◌, arith, true≢false, nat_le, nat_lt, nat_eq, mod-lt, inl, inr}
+use Rattle.std.proofs.Common.{◌≡◌, ◌≢◌, ℕ, zero, suc, ◌+◌, ◌*◌, ◌-◌, ◌/◌, ◌%◌, ◌<◌, ◌≤◌, ℤ, Bool, true, false, not, IsTrue, ◌&&◌, ◌||◌, List, [], ◌∷◌, get_or, refl, sym, ap, ◌∙◌, arith, true≢false, nat_le, nat_lt, nat_eq, mod-lt, inl, inr}
 use Rattle.std.specs.Ordering.{int_eq}
 use Rattle.std.specs.List.{list_all}
 use Rattle.std.proofs.lemmas.Bool.{cases_Bool, and_parts, and_from, ltb-true, lt-ltb, leb-true, le-leb, ne_eqb, and_left, and_right, or_left, or_right, eqb-false}
@@ -7,9 +7,8 @@ use Rattle.std.proofs.lemmas.Bool.Decides.{Decides-int_eq}
 use Rattle.std.proofs.lemmas.Nat.{rows}
 use Rattle.lattice.specs.Mosaic.{void}
 use Rattle.lattice.specs.Terrain.{LeadsOut}
-use Rattle.lattice.specs.Block.{block, is_solid, is_linked, is_exit, is_inner_outlet, is_beside, is_rim, around, rim_number}
-use Rattle.tile_flood.specs.Flooding.{is_marked, IsOwnLabel}
-use Rattle.tile_flood.specs.Labelling.{OUT}
+use Rattle.lattice.specs.Block.{block, is_solid, is_linked, is_exit, is_inner_outlet, is_beside, is_rim, around}
+use Rattle.tile_flood.specs.Flooding.{is_marked}
 
 pub not_void_if : (levels : List ℤ) (e : ℕ) → IsTrue (is_marked levels e) → get_or levels e void ≢ void
 not_void_if levels e on h = absurd (true≢false (sym on ∙ ap not ((Decides-int_eq (get_or levels e void) void).1 h)))

@@ -1,11 +1,12 @@
 -- The places where water passes between labels, as they are gathered: each two adjacent points once.
 use Rattle.std.specs.Prelude.{◌≡◌, ◌≢◌, ℕ, ◌+◌, ◌*◌, ◌-◌, ◌<◌, ◌≤◌, ℤ, ◌≤ℤ◌, IsTrue, false, List, length, min, max, slice_index, slice_index_or, Contains, ◌⊎◌}
 use Rattle.std.specs.Int.{int_max}
+use Rattle.std.specs.List.{AllPairs}
 use Rattle.lattice.specs.Mosaic.{void}
 use Rattle.lattice.specs.Block.{is_linked, is_beside}
 use Rattle.tile_flood.specs.declared.passing.Spill.{Spill}
 use Rattle.tile_flood.specs.Flooding.{is_marked}
-use Rattle.tile_flood.specs.Spills.{Meets}
+use Rattle.tile_flood.specs.Spills.{Meets, HaveSameLabels}
 
 -- two points with levels and different labels: between which labels water passes there, and at which level
 pub record IsPassage (levels : List ℤ) (labels : List ℕ) (e f : ℕ) (p : Spill) : Type 0 where
@@ -48,10 +49,6 @@ module _ (n : ℕ) (levels : List ℤ) (labels : List ℕ) where
 abbrev pub HasLowerLabels : Spill → Spill → Type 0
 HasLowerLabels p q = (p.a < q.a) ⊎ ((p.a ≡ q.a) × (p.b < q.b))
 
-pub record HaveSameLabels (p q : Spill) : Type 0 where
-  pub same_a : p.a ≡ q.a
-  pub same_b : p.b ≡ q.b
-
 -- by their labels, and those with the same labels by their levels
 abbrev pub IsInOrder : List Spill → Type 0
 IsInOrder sorted = (k : ℕ) (d : Spill) → k + 1 < length sorted →
@@ -62,7 +59,7 @@ IsInOrder sorted = (k : ℕ) (d : Spill) → k + 1 < length sorted →
 pub record AreFirstsBelow (sorted firsts : List Spill) (k : ℕ) : Type 0 where
   pub from : (p : Spill) → Contains firsts p → Contains sorted p
   pub each : (j : ℕ) (d : Spill) → j < k → (q : Spill) × (Contains firsts q × (HaveSameLabels q (slice_index_or sorted j d) × (q.level ≤ℤ (slice_index_or sorted j d).level)))
-  pub once : (p q : Spill) → Contains firsts p → Contains firsts q → HaveSameLabels p q → p ≡ q
+  pub once : AllPairs (λ p q. ¬ HaveSameLabels p q) firsts
   pub last : (p d : Spill) → Contains firsts p → HasLowerLabels p (slice_index_or sorted (k - 1) d) ⊎ HaveSameLabels p (slice_index_or sorted (k - 1) d)
   pub some : 0 < length firsts → 0 < k
 

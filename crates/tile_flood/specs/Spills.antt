@@ -2,9 +2,15 @@
 -- (this product's own profile, after the tiled flooding of Barnes 2016).
 use Rattle.std.specs.Prelude.{◌≡◌, ℕ, ◌<◌, ℤ, ◌≤ℤ◌, IsTrue, List, slice_index, slice_index_or, Contains}
 use Rattle.std.specs.Int.{int_max}
+use Rattle.std.specs.List.{AllPairs}
 use Rattle.lattice.specs.Mosaic.{void}
 use Rattle.lattice.specs.Block.{is_linked}
 use Rattle.tile_flood.specs.declared.passing.Spill.{Spill}
+
+-- between the same two labels
+pub record HaveSameLabels (p q : Spill) : Type 0 where
+  pub same_a : p.a ≡ q.a
+  pub same_b : p.b ≡ q.b
 
 module _ (n : ℕ) (heights levels : List ℤ) (labels : List ℕ) where
   -- adjacent points with these labels meet at this level, the greater of theirs
@@ -22,4 +28,4 @@ module _ (n : ℕ) (heights levels : List ℤ) (labels : List ℕ) where
   pub record AreSpills (spills : List Spill) : Type 0 where
     pub each : (p : Spill) → Contains spills p → IsSpill p
     pub all : (a b : ℕ) (level : ℤ) → a < b → Meets a b level → (p : Spill) × (Contains spills p × ((p.a ≡ a) × (p.b ≡ b)))
-    pub once : (p q : Spill) → Contains spills p → Contains spills q → p.a ≡ q.a → p.b ≡ q.b → p ≡ q
+    pub once : AllPairs (λ p q. ¬ HaveSameLabels p q) spills

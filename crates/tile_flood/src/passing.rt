@@ -36,8 +36,8 @@ pub fn spills(alloc: Global, labelled: &Labelled) -> Result<Vec<Spill>, Refusal>
     Ok(first_of_each(alloc, &found)?)
 }
 
-ghost use Rattle.tile_flood.specs.Spills.{AreSpills};
-ghost use Rattle.tile_flood.specs.Passing.{IsPassage, IsNoPassage, AreFoundStill, AreBeside, ArePassages, IsFound, AreFoundBelow, IsInOrder, AreFirsts, HaveSameLabels};
+ghost use Rattle.tile_flood.specs.Spills.{AreSpills, HaveSameLabels};
+ghost use Rattle.tile_flood.specs.Passing.{IsPassage, IsNoPassage, AreFoundStill, AreBeside, ArePassages, IsFound, AreFoundBelow, IsInOrder, AreFirsts};
 
 // Gathers the places where water passes from the points of a row to later points.
 fn gather_row(

@@ -1,9 +1,9 @@
 -- The search up the flow paths: what is found after each step, and that in the end it is the watershed.
-use Rattle.std.proofs.Common.{◌≡◌, ℕ, zero, suc, ◌+◌, ◌<◌, ◌≤◌, ℤ, IsTrue, IsFalse, Option, Some, None, List, [], ◌∷◌, ◌++◌, ◌↔◌, length, get_or, refl, sym, ap, ◌∙◌, subst, arith, inl, inr, true≢false, append_assoc, length-append}
+use Rattle.std.proofs.Common.{◌≡◌, ℕ, zero, suc, ◌+◌, ◌<◌, ◌≤◌, ℤ, IsTrue, IsFalse, Option, Some, None, List, [], ◌++◌, ◌↔◌, length, get_or, refl, sym, ap, ◌∙◌, subst, arith, inl, inr, true≢false, length-append}
 use Rattle.std.specs.Prelude.{Contains, All, slice_index_or, is_some}
 use Rattle.std.proofs.lemmas.Bool.{cases_Bool, cases_eq}
 use Rattle.std.proofs.lemmas.List.{get_or_append_left, get_or_default}
-use Rattle.std.proofs.lemmas.List.Elements.{All-append, All-cons, All-nil, Contains-append_left, Contains-append_right}
+use Rattle.std.proofs.lemmas.List.Elements.{All-append, Contains-append_left, Contains-append_right}
 use Rattle.lattice.specs.declared.point.Point.{Point}
 use Rattle.lattice.specs.declared.direction.Dir.{Dir}
 use Rattle.lattice.specs.Steps.{step}

@@ -1,4 +1,4 @@
-use Rattle.std.proofs.Common.{sym, arith, true≢false, refl}
+use Rattle.std.proofs.Common.{sym, arith, true≢false}
 use Rattle.flow_d8.proofs.Compass.{order_below}
 use Rattle.flow_d8.proofs.flats.has_way_out.Goals as goal
 

@@ -1,11 +1,11 @@
-use Rattle.std.proofs.Common.{◌≡◌, ◌+◌, ◌<◌, length, get_or, set, sym, ap, subst, ◌∙◌, arith, true≢false}
+use Rattle.std.proofs.Common.{◌≡◌, ◌+◌, ◌<◌, length, set, sym, ap, subst, ◌∙◌, true≢false}
 use Rattle.std.proofs.lemmas.List.{get_or_default}
 use Rattle.lattice.specs.declared.point.Point.{Point}
 use Rattle.lattice.specs.Steps.{step}
 use Rattle.flow_d8.specs.Surface.{place_in}
 use Rattle.flow_d8.specs.Crossing.{unknown, distance_at, IsWayOut, IsReaching}
 use Rattle.flow_d8.proofs.Surfaces.{surface_lawful, surface_steps, same_site}
-use Rattle.flow_d8.proofs.Waves.{reaching_on, reaching_more, reaching_count}
+use Rattle.flow_d8.proofs.Waves.{reaching_on, reaching_more}
 use Rattle.flow_d8.proofs.flats.reach.Goals as goal
 use Rattle.flow_d8.proofs.flats.reach.Goals.{In_ok-push}
 

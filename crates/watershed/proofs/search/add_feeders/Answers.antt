@@ -1,4 +1,4 @@
-use Rattle.std.proofs.Common.{pos, ◌≡◌, ◌≤◌, [], ◌∷◌, ◌++◌, List, ap, sym, ◌∙◌, subst, take, get_or, length, append_assoc}
+use Rattle.std.proofs.Common.{pos, ◌≡◌, [], ◌∷◌, ◌++◌, List, ap, sym, ◌∙◌, subst, take, get_or, append_assoc}
 use Rattle.std.specs.Prelude.{Contains, ◌↔◌}
 use Rattle.std.proofs.lemmas.List.{get_or_default, append-nil, take_all}
 use Rattle.lattice.specs.declared.point.Point.{Point}

@@ -1,10 +1,9 @@
-use Rattle.std.proofs.Common.{◌≡◌, ◌<◌, Some, None, Option, IsTrue, sym, ◌∙◌, ap, subst, true≢false}
-use Rattle.std.specs.Prelude.{MatchOption, slice_index_or}
-use Rattle.lattice.specs.declared.direction.Dir.{Dir}
+use Rattle.std.proofs.Common.{◌≡◌, Some, IsTrue, sym, ◌∙◌, ap, subst, true≢false}
+use Rattle.std.specs.Prelude.{MatchOption}
 use Rattle.lattice.specs.Steps.{step}
 use Rattle.lattice.specs.Stepping.{fits_point}
 use Rattle.flow_d8.specs.Drained.{back_of, direction_in}
-use Rattle.flow_d8.proofs.Feeding.{IsBeside, beside_is, beside_not, direction_there, direction_hidden, drains_said, answered, none_some}
+use Rattle.flow_d8.proofs.Feeding.{beside_is, beside_not, direction_there, direction_hidden, drains_said, answered, none_some}
 use Rattle.flow_d8.proofs.drained.Directions.feeder.Goals as goal
 use Rattle.flow_d8.proofs.drained.Directions.feeder.Goals.{else-drains_by-via-then-drains_by+else-is_known, else-drains_by-via-else-drains_by}
 
