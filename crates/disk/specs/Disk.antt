@@ -21,9 +21,13 @@ NoneNew old new = (c : Image) → new c → old c
 abbrev pub Only : Image → (Image → Type 0) → Type 0
 Only image images = (c : Image) → images c → c ≡ image
 
+-- no more than the largest 64-bit number
+abbrev pub saturated : ℕ → ℕ
+saturated n = min n 18446744073709551615
+
 -- one more, up to the largest 64-bit number
 abbrev pub counted : ℕ → ℕ
-counted n = min (n + 1) 18446744073709551615
+counted n = saturated (n + 1)
 
 -- a count has risen, or stands at the largest number
 abbrev pub HasRisen : ℕ → ℕ → Type 0

@@ -1,10 +1,10 @@
 pub mod Disk
-pub mod FaultOnce
 pub mod FileCalls
 pub mod FileDisk
 pub mod FileLaws
 pub mod FileMembers
-pub mod Fuse
+pub mod Faults
+pub mod Faulty
 pub mod MemDisk
 pub mod Memory
 pub mod Record

@@ -8,6 +8,7 @@
 
 mod disk;
 mod fault_once;
+mod faulty;
 mod file;
 mod file_laws;
 mod fuse;
@@ -15,6 +16,7 @@ mod memory;
 mod recorded_file;
 mod sector;
 mod settled;
+mod tally;
 #[cfg(test)]
 mod tests;
 mod torn;
@@ -22,13 +24,15 @@ mod transcript;
 mod world;
 
 pub use disk::{Disk, Fault};
-pub use fault_once::FaultOnceDisk;
+pub use fault_once::{FaultOnceDisk, OneFault};
+pub use faulty::{Asked, Faults, FaultyDisk};
 pub use file::FileDisk;
 pub use file_laws::{
     disks_have_honest_records, false_reads_show, lost_writes_show, runs_have_honest_records,
 };
-pub use fuse::FuseDisk;
+pub use fuse::{Fuse, FuseDisk};
 pub use memory::MemDisk;
 pub use settled::settle;
+pub use tally::{CountedDisk, Tally};
 pub use torn::Torn;
 pub use world::World;

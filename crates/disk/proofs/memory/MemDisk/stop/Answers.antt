@@ -11,9 +11,7 @@ use Rattle.disk.proofs.Sectors.{stopped_replays}
 use Rattle.disk.proofs.memory.MemDisk.stop.Goals as goal
 
 pub returns-in_err-push-clause-time : goal.returns-in_err-push-clause-time
-returns-in_err-push-clause-time c =
-    let same : c.push.new.self.items ≡ c.args.self.now.calls.items = search rules in
-    unmoved_elapses c.args.self.now.calls.items c.push.new.self.items _ same
+returns-in_err-push-clause-time c = unmoved_elapses c.args.self.now.calls.items c.push.new.self.items _ (search rules)
 
 pub invariant_of-self-2-clause-replays : goal.invariant_of-self-2-clause-replays
 invariant_of-self-2-clause-replays c =
@@ -26,31 +24,19 @@ invariant_of-self-2-clause-replays c =
     stopped_replays held.sectors.items _ held.synced c.args.torn held.calls.items c.push.new.self.items same held.replays made
 
 pub returns-clause-left : goal.returns-clause-left
-returns-clause-left c =
-    let same : c.push.new.self.items ≡ c.args.self.now.calls.items ++ Stopped c.args.torn ∷ [] = search rules in
-    ap (λ (u : State). u.seen) (replay_last c.args.self.now.calls.items c.push.new.self.items (Stopped c.args.torn) same)
+returns-clause-left c = ap (λ (u : State). u.seen) (replay_last c.args.self.now.calls.items c.push.new.self.items (Stopped c.args.torn) (search rules))
 
 pub returns-clause-settled : goal.returns-clause-settled
-returns-clause-settled c =
-    let same : c.push.new.self.items ≡ c.args.self.now.calls.items ++ Stopped c.args.torn ∷ [] = search rules in
-    stopped_only c.args.self.now.calls.items c.push.new.self.items c.args.torn same
+returns-clause-settled c = stopped_only c.args.self.now.calls.items c.push.new.self.items c.args.torn (search rules)
 
 pub returns-clause-state : goal.returns-clause-state
-returns-clause-state c =
-    let same : c.push.new.self.items ≡ c.args.self.now.calls.items ++ Stopped c.args.torn ∷ [] = search rules in
-    replay_last c.args.self.now.calls.items c.push.new.self.items (Stopped c.args.torn) same
+returns-clause-state c = replay_last c.args.self.now.calls.items c.push.new.self.items (Stopped c.args.torn) (search rules)
 
 pub returns-clause-may : goal.returns-clause-may
-returns-clause-may c =
-    let same : c.push.new.self.items ≡ c.args.self.now.calls.items ++ Stopped c.args.torn ∷ [] = search rules in
-    stopped_none c.args.self.now.calls.items c.push.new.self.items c.args.torn same
+returns-clause-may c = stopped_none c.args.self.now.calls.items c.push.new.self.items c.args.torn (search rules)
 
 pub returns-clause-time : goal.returns-clause-time
-returns-clause-time c =
-    let same : c.push.new.self.items ≡ c.args.self.now.calls.items ++ Stopped c.args.torn ∷ [] = search rules in
-    stopped_elapses c.args.self.now.calls.items c.push.new.self.items c.args.torn same
+returns-clause-time c = stopped_elapses c.args.self.now.calls.items c.push.new.self.items c.args.torn (search rules)
 
 pub returns-clause-stays : goal.returns-clause-stays
-returns-clause-stays c =
-    let same : c.push.new.self.items ≡ c.args.self.now.calls.items ++ Stopped c.args.torn ∷ [] = search rules in
-    stopped_stays c.args.self.now.calls.items c.push.new.self.items c.args.torn same
+returns-clause-stays c = stopped_stays c.args.self.now.calls.items c.push.new.self.items c.args.torn (search rules)

@@ -7,9 +7,7 @@ use Rattle.disk.proofs.Sectors.{stopped_at_replays}
 use Rattle.disk.proofs.memory.MemDisk.stop_at.Goals as goal
 
 pub returns-in_err-push-clause-time : goal.returns-in_err-push-clause-time
-returns-in_err-push-clause-time c =
-    let same : c.push.new.self.items ≡ c.args.self.now.calls.items = search rules in
-    unmoved_elapses c.args.self.now.calls.items c.push.new.self.items _ same
+returns-in_err-push-clause-time c = unmoved_elapses c.args.self.now.calls.items c.push.new.self.items _ (search rules)
 
 pub invariant_of-self-2-clause-replays : goal.invariant_of-self-2-clause-replays
 invariant_of-self-2-clause-replays c =
@@ -19,31 +17,19 @@ invariant_of-self-2-clause-replays c =
     stopped_at_replays held.sectors.items held.synced c.args.s c.args.torn held.calls.items c.push.new.self.items same (omega (arith, held.sized)) held.replays c.settled_with.result made
 
 pub returns-clause-left : goal.returns-clause-left
-returns-clause-left c =
-    let same : c.push.new.self.items ≡ c.args.self.now.calls.items ++ StoppedAt c.args.s c.args.torn ∷ [] = search rules in
-    stopped_at_here c.args.self.now.calls.items c.push.new.self.items c.args.s c.args.torn same
+returns-clause-left c = stopped_at_here c.args.self.now.calls.items c.push.new.self.items c.args.s c.args.torn (search rules)
 
 pub returns-clause-others : goal.returns-clause-others
-returns-clause-others c =
-    let same : c.push.new.self.items ≡ c.args.self.now.calls.items ++ StoppedAt c.args.s c.args.torn ∷ [] = search rules in
-    stopped_at_others c.args.self.now.calls.items c.push.new.self.items c.args.s c.args.torn same
+returns-clause-others c = stopped_at_others c.args.self.now.calls.items c.push.new.self.items c.args.s c.args.torn (search rules)
 
 pub returns-clause-state : goal.returns-clause-state
-returns-clause-state c =
-    let same : c.push.new.self.items ≡ c.args.self.now.calls.items ++ StoppedAt c.args.s c.args.torn ∷ [] = search rules in
-    replay_last c.args.self.now.calls.items c.push.new.self.items (StoppedAt c.args.s c.args.torn) same
+returns-clause-state c = replay_last c.args.self.now.calls.items c.push.new.self.items (StoppedAt c.args.s c.args.torn) (search rules)
 
 pub returns-clause-may : goal.returns-clause-may
-returns-clause-may c =
-    let same : c.push.new.self.items ≡ c.args.self.now.calls.items ++ StoppedAt c.args.s c.args.torn ∷ [] = search rules in
-    stopped_at_none c.args.self.now.calls.items c.push.new.self.items c.args.s c.args.torn same
+returns-clause-may c = stopped_at_none c.args.self.now.calls.items c.push.new.self.items c.args.s c.args.torn (search rules)
 
 pub returns-clause-time : goal.returns-clause-time
-returns-clause-time c =
-    let same : c.push.new.self.items ≡ c.args.self.now.calls.items ++ StoppedAt c.args.s c.args.torn ∷ [] = search rules in
-    stopped_at_elapses c.args.self.now.calls.items c.push.new.self.items c.args.s c.args.torn same
+returns-clause-time c = stopped_at_elapses c.args.self.now.calls.items c.push.new.self.items c.args.s c.args.torn (search rules)
 
 pub returns-clause-settled : goal.returns-clause-settled
-returns-clause-settled c =
-    let same : c.push.new.self.items ≡ c.args.self.now.calls.items ++ StoppedAt c.args.s c.args.torn ∷ [] = search rules in
-    stopped_at_shut c.args.self.now.calls.items c.push.new.self.items c.args.s c.args.torn same
+returns-clause-settled c = stopped_at_shut c.args.self.now.calls.items c.push.new.self.items c.args.s c.args.torn (search rules)

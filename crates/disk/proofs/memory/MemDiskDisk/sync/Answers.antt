@@ -6,9 +6,7 @@ use Rattle.disk.proofs.Sectors.{synced_replays}
 use Rattle.disk.proofs.memory.MemDiskDisk.sync.Goals as goal
 
 pub returns-then-is_err-clause-time : goal.returns-then-is_err-clause-time
-returns-then-is_err-clause-time c =
-    let same : c.push.new.self.items ≡ c.args.self.now.calls.items = search rules in
-    unmoved_elapses c.args.self.now.calls.items c.push.new.self.items _ same
+returns-then-is_err-clause-time c = unmoved_elapses c.args.self.now.calls.items c.push.new.self.items _ (search rules)
 
 pub invariant_of-self-2-clause-replays : goal.invariant_of-self-2-clause-replays
 invariant_of-self-2-clause-replays c =
@@ -18,21 +16,13 @@ invariant_of-self-2-clause-replays c =
     synced_replays held.sectors.items held.synced c.len-self.result held.calls.items c.push.new.self.items same last held.replays
 
 pub returns-clause-durable : goal.returns-clause-durable
-returns-clause-durable c =
-    let same : c.push.new.self.items ≡ c.args.self.now.calls.items ++ Synced ∷ [] = search rules in
-    synced_only c.args.self.now.calls.items c.push.new.self.items same
+returns-clause-durable c = synced_only c.args.self.now.calls.items c.push.new.self.items (search rules)
 
 pub returns-clause-may : goal.returns-clause-may
-returns-clause-may c =
-    let same : c.push.new.self.items ≡ c.args.self.now.calls.items ++ Synced ∷ [] = search rules in
-    synced_none c.args.self.now.calls.items c.push.new.self.items same
+returns-clause-may c = synced_none c.args.self.now.calls.items c.push.new.self.items (search rules)
 
 pub returns-clause-time : goal.returns-clause-time
-returns-clause-time c =
-    let same : c.push.new.self.items ≡ c.args.self.now.calls.items ++ Synced ∷ [] = search rules in
-    synced_elapses c.args.self.now.calls.items c.push.new.self.items same
+returns-clause-time c = synced_elapses c.args.self.now.calls.items c.push.new.self.items (search rules)
 
 pub returns-clause-state : goal.returns-clause-state
-returns-clause-state c =
-    let same : c.push.new.self.items ≡ c.args.self.now.calls.items ++ Synced ∷ [] = search rules in
-    replay_last c.args.self.now.calls.items c.push.new.self.items Synced same
+returns-clause-state c = replay_last c.args.self.now.calls.items c.push.new.self.items Synced (search rules)

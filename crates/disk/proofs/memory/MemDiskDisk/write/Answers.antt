@@ -9,14 +9,10 @@ use Rattle.disk.proofs.Sectors.{wrote_replays}
 use Rattle.disk.proofs.memory.MemDiskDisk.write.Goals as goal
 
 pub returns-then-is_err-clause-may : goal.returns-then-is_err-clause-may
-returns-then-is_err-clause-may c =
-    let same : c.push.new.self.items ≡ c.args.self.now.calls.items = search rules in
-    unmoved_torn c.args.self.now.calls.items c.push.new.self.items c.args.s same
+returns-then-is_err-clause-may c = unmoved_torn c.args.self.now.calls.items c.push.new.self.items c.args.s (search rules)
 
 pub returns-then-is_err-clause-time : goal.returns-then-is_err-clause-time
-returns-then-is_err-clause-time c =
-    let same : c.push.new.self.items ≡ c.args.self.now.calls.items = search rules in
-    unmoved_elapses c.args.self.now.calls.items c.push.new.self.items _ same
+returns-then-is_err-clause-time c = unmoved_elapses c.args.self.now.calls.items c.push.new.self.items _ (search rules)
 
 pub invariant_of-self-2-clause-replays : goal.invariant_of-self-2-clause-replays
 invariant_of-self-2-clause-replays c =
@@ -29,26 +25,16 @@ invariant_of-self-2-clause-replays c =
     wrote_replays held.sectors.items held.synced c.args.s c.args.from.now held.calls.items c.push.new.self.items same (omega (arith, held.sized)) held.replays made (cc (kept, first, last))
 
 pub returns-clause-written : goal.returns-clause-written
-returns-clause-written c =
-    let same : c.push.new.self.items ≡ c.args.self.now.calls.items ++ Wrote c.args.s c.args.from.now ∷ [] = search rules in
-    wrote_here c.args.self.now.calls.items c.push.new.self.items c.args.s c.args.from.now same
+returns-clause-written c = wrote_here c.args.self.now.calls.items c.push.new.self.items c.args.s c.args.from.now (search rules)
 
 pub returns-clause-others : goal.returns-clause-others
-returns-clause-others c =
-    let same : c.push.new.self.items ≡ c.args.self.now.calls.items ++ Wrote c.args.s c.args.from.now ∷ [] = search rules in
-    wrote_others c.args.self.now.calls.items c.push.new.self.items c.args.s c.args.from.now same
+returns-clause-others c = wrote_others c.args.self.now.calls.items c.push.new.self.items c.args.s c.args.from.now (search rules)
 
 pub returns-clause-may : goal.returns-clause-may
-returns-clause-may c =
-    let same : c.push.new.self.items ≡ c.args.self.now.calls.items ++ Wrote c.args.s c.args.from.now ∷ [] = search rules in
-    wrote_torn c.args.self.now.calls.items c.push.new.self.items c.args.s c.args.from.now same
+returns-clause-may c = wrote_torn c.args.self.now.calls.items c.push.new.self.items c.args.s c.args.from.now (search rules)
 
 pub returns-clause-time : goal.returns-clause-time
-returns-clause-time c =
-    let same : c.push.new.self.items ≡ c.args.self.now.calls.items ++ Wrote c.args.s c.args.from.now ∷ [] = search rules in
-    wrote_elapses c.args.self.now.calls.items c.push.new.self.items c.args.s c.args.from.now same
+returns-clause-time c = wrote_elapses c.args.self.now.calls.items c.push.new.self.items c.args.s c.args.from.now (search rules)
 
 pub returns-clause-state : goal.returns-clause-state
-returns-clause-state c =
-    let same : c.push.new.self.items ≡ c.args.self.now.calls.items ++ Wrote c.args.s c.args.from.now ∷ [] = search rules in
-    replay_last c.args.self.now.calls.items c.push.new.self.items (Wrote c.args.s c.args.from.now) same
+returns-clause-state c = replay_last c.args.self.now.calls.items c.push.new.self.items (Wrote c.args.s c.args.from.now) (search rules)
