@@ -13,7 +13,7 @@ use Rattle.lattice.specs.Lattice.{Holds}
 use Rattle.lattice.specs.Steps.{step, directions}
 use Rattle.lattice.specs.Stepping.{reach_of, fits_number, fits_point}
 use Rattle.lattice.specs.Mosaic.{Mosaic, IsMosaic}
-use Rattle.lattice.proofs.Along.{le_true, le_from}
+use Rattle.lattice.proofs.IntTests.{le_true, le_from}
 use Rattle.lattice.specs.Ground.{is_ground, is_near, same_point, share_tile, is_adjacent, degree_of}
 use Rattle.catalogue.proofs.Sharing.{shared_says}
 

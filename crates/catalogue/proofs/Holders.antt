@@ -12,8 +12,8 @@ use Rattle.lattice.specs.declared.point.Point.{Point}
 use Rattle.lattice.proofs.Samples.{holds_is}
 use Rattle.catalogue.specs.SeamRule.{sample_in}
 use Rattle.catalogue.specs.Tiles.{is_listed}
-use Rattle.catalogue.proofs.Places.{same_says, same_from, same_comm, after_not_same}
-use Rattle.catalogue.proofs.Rising.{AllAfter, Rising, Adjacent, after_later, rising_from}
+use Rattle.lattice.proofs.CornerOrder.{same_says, same_from, same_comm, after_not_same}
+use Rattle.lattice.proofs.Rising.{AllAfter, Rising, Adjacent, after_later, rising_from}
 use Rattle.catalogue.proofs.Mosaics.{corner_of, rising_tiles}
 use Rattle.catalogue.proofs.Presence.{listed_from, listed_says}
 

@@ -8,8 +8,8 @@ use Rattle.std.proofs.lemmas.Bool.{or_parts}
 use Rattle.lattice.specs.Corners.{Corner, is_before, same_corner}
 use Rattle.lattice.specs.Mosaic.{Tile, Mosaic, IsSample, IsTile, IsMosaic, is_present}
 use Rattle.catalogue.specs.Tiles.{with_tile, added, without, with_sample_in, with_sample}
-use Rattle.catalogue.proofs.Places.{after_from, same_comm}
-use Rattle.catalogue.proofs.Rising.{AllAfter, Rising, rising_from, adjacent_from, rising-filter, after_later}
+use Rattle.lattice.proofs.CornerOrder.{after_from, same_comm}
+use Rattle.lattice.proofs.Rising.{AllAfter, Rising, rising_from, adjacent_from, rising-filter, after_later}
 
 abbrev pub corner_of : Tile → Corner
 corner_of t = t.corner

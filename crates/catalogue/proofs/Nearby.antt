@@ -13,10 +13,10 @@ use Rattle.lattice.specs.Mosaic.{Tile, Mosaic, IsMosaic, samples_among, samples_
 use Rattle.lattice.proofs.Along.{steps}
 use Rattle.lattice.proofs.Samples.{holds_is, point_of_held}
 use Rattle.catalogue.specs.SealingLaws.{SameNearby}
-use Rattle.catalogue.proofs.Places.{same_says, same_from, after_not_same, after_from}
-use Rattle.catalogue.proofs.Rising.{AllAfter, Rising, rising-filter, after_later}
+use Rattle.lattice.proofs.CornerOrder.{same_says, same_from, after_not_same, after_from}
+use Rattle.lattice.proofs.Rising.{AllAfter, Rising, rising-filter, after_later}
 use Rattle.catalogue.proofs.Mosaics.{corner_of, rising_tiles}
-use Rattle.catalogue.proofs.Interior.{product_plus}
+use Rattle.lattice.proofs.Multiples.{product_plus}
 
 -- ---- tiles that hold one point lie at most a degree apart
 few_steps : (m d : ℕ) → 2 ≤ m → d * m ≤ m → d < 2

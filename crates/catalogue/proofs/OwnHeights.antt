@@ -15,8 +15,8 @@ use Rattle.lattice.specs.declared.point.Point.{Point}
 use Rattle.lattice.proofs.Samples.{holds_is, index_is, held_at}
 use Rattle.catalogue.specs.Tiles.{corners_of}
 use Rattle.catalogue.specs.Reading.{IsSampleOf}
-use Rattle.catalogue.proofs.Places.{same_says, same_from, before_apart}
-use Rattle.catalogue.proofs.Rising.{AllAfter, Rising}
+use Rattle.lattice.proofs.CornerOrder.{same_says, same_from, before_apart}
+use Rattle.lattice.proofs.Rising.{AllAfter, Rising}
 use Rattle.catalogue.proofs.Mosaics.{corner_of, rising_tiles}
 use Rattle.catalogue.proofs.OneTile.{corner_is}
 

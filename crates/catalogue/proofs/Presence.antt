@@ -1,4 +1,4 @@
--- Which corners are present, as a test and as a place in the list of corners.
+-- Which corners are present, as a test and in the list of corners.
 use Rattle.std.proofs.Common.{◌≡◌, zero, suc, ◌↔◌, Bool, true, false, cond, ◌||◌, IsTrue, List, [], ◌∷◌, map, refl, sym, ◌∙◌, ap, arith}
 use Rattle.std.specs.Prelude.{Contains, Some, is_some}
 use Rattle.std.specs.List.{list_any}
@@ -6,16 +6,16 @@ use Rattle.std.proofs.lemmas.Bool.{or_left, or_right, false≢true}
 use Rattle.lattice.specs.Corners.{Corner, same_corner}
 use Rattle.lattice.specs.Mosaic.{Tile, Mosaic, IsMosaic, is_present, samples_among}
 use Rattle.catalogue.specs.Tiles.{corners_of, is_listed}
-use Rattle.catalogue.proofs.Places.{same_says, same_from}
-use Rattle.catalogue.proofs.Rising.{AllAfter, Rising, Adjacent, adjacent_from}
+use Rattle.lattice.proofs.CornerOrder.{same_says, same_from}
+use Rattle.lattice.proofs.Rising.{AllAfter, Rising, Adjacent, adjacent_from}
 use Rattle.catalogue.proofs.Mosaics.{corner_of, rising_tiles}
 
-pub listed_from : (c : Corner) (places : List Corner) → Contains places c → is_listed c places ≡ true
+pub listed_from : (c : Corner) (corners : List Corner) → Contains corners c → is_listed c corners ≡ true
 listed_from c [] (k, below, here) = absurd (omega arith)
 listed_from c (d ∷ ds) (zero, below, here) = or_left (same_corner d c) (is_listed c ds) (same_from d c here)
 listed_from c (d ∷ ds) (suc k, below, here) = or_right (same_corner d c) (is_listed c ds) (listed_from c ds (k, omega arith, here))
 
-pub listed_says : (c : Corner) (places : List Corner) → is_listed c places ≡ true → Contains places c
+pub listed_says : (c : Corner) (corners : List Corner) → is_listed c corners ≡ true → Contains corners c
 listed_says c [] none = absurd (false≢true none)
 listed_says c (d ∷ ds) some = by (same_corner d c) refl some (listed_says c ds)
   where

@@ -9,10 +9,10 @@ use Rattle.std.proofs.lemmas.List.{append-nil}
 use Rattle.std.proofs.lemmas.List.Elements.{All-head, All-tail}
 use Rattle.std.proofs.lemmas.Bool.{and_parts, and_from, false_from_ne_true}
 use Rattle.lattice.specs.Corners.{Corner, is_corner, is_before, same_corner}
-use Rattle.lattice.proofs.Along.{le_true, le_from}
+use Rattle.lattice.proofs.IntTests.{le_true, le_from}
 use Rattle.catalogue.specs.Tiles.{corners_before, is_listed}
-use Rattle.catalogue.proofs.Places.{Below, before_says, before_from, same_says, before_not_back, after_from, before_apart}
-use Rattle.catalogue.proofs.Rising.{AllAfter, Rising, after_later}
+use Rattle.lattice.proofs.CornerOrder.{Below, before_says, before_from, same_says, before_not_back, after_from, before_apart}
+use Rattle.lattice.proofs.Rising.{AllAfter, Rising, after_later}
 use Rattle.catalogue.proofs.Holders.{itself, not_listed}
 
 corner_range : (c : Corner) → IsTrue (is_corner c) → (negsuc 89 ≤ℤ c.lat) × (c.lat ≤ℤ pos 89) × (negsuc 179 ≤ℤ c.lon) × (c.lon ≤ℤ pos 179)
@@ -22,15 +22,15 @@ corner_range c corner =
     let one = and_parts (int_le (negsuc 89) c.lat) (int_le c.lat (pos 89)) two.0 in
     (le_true _ _ one.0, le_true _ _ one.1, le_true _ _ two.1, le_true _ _ three.1)
 
-abbrev pub place : ℤ → ℤ → Corner
-place lat lon = record { lat = lat; lon = lon }
+abbrev pub corner_at : ℤ → ℤ → Corner
+corner_at lat lon = record { lat = lat; lon = lon }
 
 module _ (lat lon : ℤ) where
   abbrev here : Corner
-  here = place lat lon
+  here = corner_at lat lon
 
   abbrev next : Corner
-  next = place lat (lon +ℤ pos 1)
+  next = corner_at lat (lon +ℤ pos 1)
 
   here_next : IsTrue (is_before here next)
   here_next = before_from here next (inr (refl, omega (arith, ints)))
@@ -59,7 +59,7 @@ module _ (lat lon : ℤ) where
   none_here [] h = refl
   none_here (x ∷ xs) h = rw (before_not_back here x h.0) (none_here xs h.1)
 
-  -- one place further: its corner is added where it is listed
+  -- one degree further: the corner is added where it is listed
   pub before-next : (cs : List Corner) → Rising itself cs → corners_before lat (lon +ℤ pos 1) cs ≡ corners_before lat lon cs ++ cond (is_listed here cs) (here ∷ []) []
   before-next [] rising = refl
   before-next (x ∷ xs) rising = by (is_before x here) refl (same_corner x here) refl (before-next xs rising.1)
@@ -81,22 +81,22 @@ module _ (lat lon : ℤ) where
           rw (beyond_next x beyond, none_next xs after, none_here xs after, not_listed here xs after) refl
 
 -- from the end of a row to the next
-row_end : (lat : ℤ) (x : Corner) → IsTrue (is_corner x) → is_before x (place lat (pos 180)) ≡ is_before x (place (lat +ℤ pos 1) (negsuc 179))
-row_end lat x corner = both (is_before x (place lat (pos 180))) (is_before x (place (lat +ℤ pos 1) (negsuc 179)))
-    (λ before. before_from x (place (lat +ℤ pos 1) (negsuc 179)) (inl (on (corner_range x corner) (before_says x (place lat (pos 180)) before))))
-    (λ before. back (corner_range x corner) (before_says x (place (lat +ℤ pos 1) (negsuc 179)) before))
+row_end : (lat : ℤ) (x : Corner) → IsTrue (is_corner x) → is_before x (corner_at lat (pos 180)) ≡ is_before x (corner_at (lat +ℤ pos 1) (negsuc 179))
+row_end lat x corner = both (is_before x (corner_at lat (pos 180))) (is_before x (corner_at (lat +ℤ pos 1) (negsuc 179)))
+    (λ before. before_from x (corner_at (lat +ℤ pos 1) (negsuc 179)) (inl (on (corner_range x corner) (before_says x (corner_at lat (pos 180)) before))))
+    (λ before. back (corner_range x corner) (before_says x (corner_at (lat +ℤ pos 1) (negsuc 179)) before))
   where
     both : (a b : Bool) → (a ≡ true → b ≡ true) → (b ≡ true → a ≡ true) → a ≡ b
     both true b there back = sym (there refl)
     both false true there back = back refl
     both false false there back = refl
 
-    on : (negsuc 89 ≤ℤ x.lat) × (x.lat ≤ℤ pos 89) × (negsuc 179 ≤ℤ x.lon) × (x.lon ≤ℤ pos 179) → Below x (place lat (pos 180)) → x.lat <ℤ (lat +ℤ pos 1)
+    on : (negsuc 89 ≤ℤ x.lat) × (x.lat ≤ℤ pos 89) × (negsuc 179 ≤ℤ x.lon) × (x.lon ≤ℤ pos 179) → Below x (corner_at lat (pos 180)) → x.lat <ℤ (lat +ℤ pos 1)
     on r (inl p) = omega (arith, ints)
     on r (inr p) = omega (arith, ints)
 
-    back : (negsuc 89 ≤ℤ x.lat) × (x.lat ≤ℤ pos 89) × (negsuc 179 ≤ℤ x.lon) × (x.lon ≤ℤ pos 179) → Below x (place (lat +ℤ pos 1) (negsuc 179)) → is_before x (place lat (pos 180)) ≡ true
-    back r (inl p) = by_lt_z x.lat lat (λ less. before_from x (place lat (pos 180)) (inl less)) (λ not_less. before_from x (place lat (pos 180)) (inr (omega (arith, ints), omega (arith, ints, r))))
+    back : (negsuc 89 ≤ℤ x.lat) × (x.lat ≤ℤ pos 89) × (negsuc 179 ≤ℤ x.lon) × (x.lon ≤ℤ pos 179) → Below x (corner_at (lat +ℤ pos 1) (negsuc 179)) → is_before x (corner_at lat (pos 180)) ≡ true
+    back r (inl p) = by_lt_z x.lat lat (λ less. before_from x (corner_at lat (pos 180)) (inl less)) (λ not_less. before_from x (corner_at lat (pos 180)) (inr (omega (arith, ints), omega (arith, ints, r))))
     back r (inr p) = absurd (omega (arith, ints, r))
 
 pub before-row : (lat : ℤ) (cs : List Corner) → All (λ c. IsTrue (is_corner c)) cs → corners_before lat (pos 180) cs ≡ corners_before (lat +ℤ pos 1) (negsuc 179) cs
@@ -109,10 +109,10 @@ pub before-first : (cs : List Corner) → All (λ c. IsTrue (is_corner c)) cs �
 before-first [] corners = refl
 before-first (x ∷ xs) corners = rw (first x (All-head (λ c. IsTrue (is_corner c)) x xs corners)) (before-first xs (All-tail (λ c. IsTrue (is_corner c)) x xs corners))
   where
-    first : (c : Corner) → IsTrue (is_corner c) → is_before c (place (negsuc 89) (negsuc 179)) ≡ false
-    first c corner = false_from_ne_true (is_before c (place (negsuc 89) (negsuc 179))) (λ before. by (corner_range c corner) (before_says c (place (negsuc 89) (negsuc 179)) before))
+    first : (c : Corner) → IsTrue (is_corner c) → is_before c (corner_at (negsuc 89) (negsuc 179)) ≡ false
+    first c corner = false_from_ne_true (is_before c (corner_at (negsuc 89) (negsuc 179))) (λ before. by (corner_range c corner) (before_says c (corner_at (negsuc 89) (negsuc 179)) before))
       where
-        by : (negsuc 89 ≤ℤ c.lat) × (c.lat ≤ℤ pos 89) × (negsuc 179 ≤ℤ c.lon) × (c.lon ≤ℤ pos 179) → Below c (place (negsuc 89) (negsuc 179)) → ⊥
+        by : (negsuc 89 ≤ℤ c.lat) × (c.lat ≤ℤ pos 89) × (negsuc 179 ≤ℤ c.lon) × (c.lon ≤ℤ pos 179) → Below c (corner_at (negsuc 89) (negsuc 179)) → ⊥
         by r (inl p) = omega (arith, ints, r)
         by r (inr p) = omega (arith, ints, r)
 
@@ -121,7 +121,7 @@ before-last [] corners = refl
 before-last (x ∷ xs) corners =
     let range = corner_range x (All-head (λ c. IsTrue (is_corner c)) x xs corners) in
     let south : x.lat <ℤ pos 90 = omega (arith, ints, range) in
-    let before : IsTrue (is_before x (place (pos 90) (negsuc 179))) = before_from x (place (pos 90) (negsuc 179)) (inl south) in
+    let before : IsTrue (is_before x (corner_at (pos 90) (negsuc 179))) = before_from x (corner_at (pos 90) (negsuc 179)) (inl south) in
     rw before (ap (λ (l : List Corner). x ∷ l) (before-last xs (All-tail (λ c. IsTrue (is_corner c)) x xs corners)))
 
 pub corner_from : (c : Corner) → negsuc 89 ≤ℤ c.lat → c.lat ≤ℤ pos 89 → negsuc 179 ≤ℤ c.lon → c.lon ≤ℤ pos 179 → IsTrue (is_corner c)
@@ -133,33 +133,33 @@ corner_from c south north west east =
 -- ---- a walk over the corners
 module _ (cs : List Corner) (rising : Rising itself cs) (lat lon : ℤ) where
   abbrev pub named : Option Corner
-  named = cond (is_listed (place lat lon) cs) (Some (place lat lon)) None
+  named = cond (is_listed (corner_at lat lon) cs) (Some (corner_at lat lon)) None
 
-  pub before-step : (found : List Corner) → found ≡ corners_before lat lon cs → corners_before lat (lon +ℤ pos 1) cs ≡ found ++ cond (is_listed (place lat lon) cs) (place lat lon ∷ []) []
-  before-step found so_far = before-next lat lon cs rising ∙ ap (λ (l : List Corner). l ++ cond (is_listed (place lat lon) cs) (place lat lon ∷ []) []) (sym so_far)
+  pub before-step : (found : List Corner) → found ≡ corners_before lat lon cs → corners_before lat (lon +ℤ pos 1) cs ≡ found ++ cond (is_listed (corner_at lat lon) cs) (corner_at lat lon ∷ []) []
+  before-step found so_far = before-next lat lon cs rising ∙ ap (λ (l : List Corner). l ++ cond (is_listed (corner_at lat lon) cs) (corner_at lat lon ∷ []) []) (sym so_far)
 
   pub step_some : (found new : List Corner) (c : Corner) → found ≡ corners_before lat lon cs → Some c ≡ named → new ≡ found ++ c ∷ [] → new ≡ corners_before lat (lon +ℤ pos 1) cs
-  step_some found new c so_far is pushed = by (is_listed (place lat lon) cs) is (before-step found so_far)
+  step_some found new c so_far is pushed = by (is_listed (corner_at lat lon) cs) is (before-step found so_far)
     where
-      by : (b : Bool) → Some c ≡ cond b (Some (place lat lon)) None → corners_before lat (lon +ℤ pos 1) cs ≡ found ++ cond b (place lat lon ∷ []) [] → new ≡ corners_before lat (lon +ℤ pos 1) cs
-      by true e step = let this : c ≡ place lat lon = cc in pushed ∙ ap (λ (d : Corner). found ++ d ∷ []) this ∙ sym step
+      by : (b : Bool) → Some c ≡ cond b (Some (corner_at lat lon)) None → corners_before lat (lon +ℤ pos 1) cs ≡ found ++ cond b (corner_at lat lon ∷ []) [] → new ≡ corners_before lat (lon +ℤ pos 1) cs
+      by true e step = let this : c ≡ corner_at lat lon = cc in pushed ∙ ap (λ (d : Corner). found ++ d ∷ []) this ∙ sym step
       by false e step = absurd (cc)
 
   pub step_none : (found : List Corner) → found ≡ corners_before lat lon cs → None ≡ named → found ≡ corners_before lat (lon +ℤ pos 1) cs
-  step_none found so_far is = by (is_listed (place lat lon) cs) is (before-step found so_far)
+  step_none found so_far is = by (is_listed (corner_at lat lon) cs) is (before-step found so_far)
     where
-      by : (b : Bool) → None ≡ cond b (Some (place lat lon)) None → corners_before lat (lon +ℤ pos 1) cs ≡ found ++ cond b (place lat lon ∷ []) [] → found ≡ corners_before lat (lon +ℤ pos 1) cs
+      by : (b : Bool) → None ≡ cond b (Some (corner_at lat lon)) None → corners_before lat (lon +ℤ pos 1) cs ≡ found ++ cond b (corner_at lat lon ∷ []) [] → found ≡ corners_before lat (lon +ℤ pos 1) cs
       by true e step = absurd (cc)
       by false e step = sym (append-nil found) ∙ sym step
 
 -- what is asked for at a corner, or past the last degree
 module _ (cs : List Corner) (lat lon : ℤ) where
-  pub named_present : is_listed (place lat lon) cs ≡ true → Some (place lat lon) ≡ cond (is_listed (place lat lon) cs) (Some (place lat lon)) None
+  pub named_present : is_listed (corner_at lat lon) cs ≡ true → Some (corner_at lat lon) ≡ cond (is_listed (corner_at lat lon) cs) (Some (corner_at lat lon)) None
   named_present there = rw there refl
 
-  pub named_absent : is_listed (place lat lon) cs ≡ false → None ≡ cond (is_listed (place lat lon) cs) (Some (place lat lon)) None
+  pub named_absent : is_listed (corner_at lat lon) cs ≡ false → None ≡ cond (is_listed (corner_at lat lon) cs) (Some (corner_at lat lon)) None
   named_absent absent = rw absent refl
 
 -- degrees as they are passed
-pub place_is : (lat lon : ℤ) → SFits w16 lat → SFits w16 lon → place (to_z w16 (of_z w16 lat)) (to_z w16 (of_z w16 lon)) ≡ place lat lon
-place_is lat lon lat_fits lon_fits = ap₂ place (to_z-of_z w16 lat lat_fits) (to_z-of_z w16 lon lon_fits)
+pub corner_at_is : (lat lon : ℤ) → SFits w16 lat → SFits w16 lon → corner_at (to_z w16 (of_z w16 lat)) (to_z w16 (of_z w16 lon)) ≡ corner_at lat lon
+corner_at_is lat lon lat_fits lon_fits = ap₂ corner_at (to_z-of_z w16 lat lat_fits) (to_z-of_z w16 lon lon_fits)

@@ -18,14 +18,14 @@ use Rattle.lattice.specs.declared.refusal.Refusal.{Refusal}
 use Rattle.lattice.proofs.Samples.{holds_is, index_of_point_is, point_of_held, point_of_index, index_of_below}
 use Rattle.catalogue.specs.Tiles.{corners_of, corners_before, is_listed}
 use Rattle.catalogue.specs.Seams.{IsSeamCount, is_first, present_holders, is_own_seam, own_seams_below, seams_of, seams_before}
-use Rattle.catalogue.proofs.Places.{same_says, same_from, same_comm}
-use Rattle.catalogue.proofs.Rising.{AllAfter, Rising}
+use Rattle.lattice.proofs.CornerOrder.{same_says, same_from, same_comm}
+use Rattle.lattice.proofs.Rising.{AllAfter, Rising}
 use Rattle.catalogue.proofs.Mosaics.{corner_of}
 use Rattle.catalogue.proofs.Presence.{corners_rise}
 use Rattle.catalogue.proofs.OneTile.{corners_are}
 use Rattle.catalogue.proofs.Holders.{itself, not_listed}
 use Rattle.catalogue.proofs.PresentHolders.{holders_filtered, listed-filter}
-use Rattle.catalogue.proofs.Rows.{place, named, before-step, before-first, before-row, before-last}
+use Rattle.catalogue.proofs.Rows.{corner_at, named, before-step, before-first, before-row, before-last}
 
 -- ---- the loops' steps
 pub tile_step : (m : Mosaic) (c : Corner) (e count new : ℕ) (answer : Bool) → count ≡ own_seams_below m c e → answer ≡ is_own_seam m c (point_of m.side c e)
@@ -39,22 +39,22 @@ unfolding own_seams_below
 tile_start m c = refl
 
 module _ (m : Mosaic) (valid : IsMosaic m) (lat lon : ℤ) where
-  seams-next : seams_before m lat (lon +ℤ pos 1) ≡ seams_before m lat lon + sum_by (seams_of m) (cond (is_listed (place lat lon) (corners_of m)) (place lat lon ∷ []) [])
+  seams-next : seams_before m lat (lon +ℤ pos 1) ≡ seams_before m lat lon + sum_by (seams_of m) (cond (is_listed (corner_at lat lon) (corners_of m)) (corner_at lat lon ∷ []) [])
   seams-next =
       ap (sum_by (seams_of m)) (before-step (corners_of m) (corners_rise m valid) lat lon (corners_before lat lon (corners_of m)) refl)
-      ∙ sum_by-append (seams_of m) (corners_before lat lon (corners_of m)) (cond (is_listed (place lat lon) (corners_of m)) (place lat lon ∷ []) [])
+      ∙ sum_by-append (seams_of m) (corners_before lat lon (corners_of m)) (cond (is_listed (corner_at lat lon) (corners_of m)) (corner_at lat lon ∷ []) [])
 
   pub seams_some : (c : Corner) → Some c ≡ named (corners_of m) (corners_rise m valid) lat lon → seams_before m lat (lon +ℤ pos 1) ≡ seams_before m lat lon + seams_of m c
-  seams_some c is = seams-next ∙ by (is_listed (place lat lon) (corners_of m)) is
+  seams_some c is = seams-next ∙ by (is_listed (corner_at lat lon) (corners_of m)) is
     where
-      by : (b : Bool) → Some c ≡ cond b (Some (place lat lon)) None → seams_before m lat lon + sum_by (seams_of m) (cond b (place lat lon ∷ []) []) ≡ seams_before m lat lon + seams_of m c
-      by true e = let this : place lat lon ≡ c = cc in ap (λ n. seams_before m lat lon + n) (zero-add (seams_of m (place lat lon)) ∙ ap (seams_of m) this)
+      by : (b : Bool) → Some c ≡ cond b (Some (corner_at lat lon)) None → seams_before m lat lon + sum_by (seams_of m) (cond b (corner_at lat lon ∷ []) []) ≡ seams_before m lat lon + seams_of m c
+      by true e = let this : corner_at lat lon ≡ c = cc in ap (λ n. seams_before m lat lon + n) (zero-add (seams_of m (corner_at lat lon)) ∙ ap (seams_of m) this)
       by false e = absurd (cc)
 
   pub seams_none : None ≡ named (corners_of m) (corners_rise m valid) lat lon → seams_before m lat (lon +ℤ pos 1) ≡ seams_before m lat lon
-  seams_none is = seams-next ∙ by (is_listed (place lat lon) (corners_of m)) is
+  seams_none is = seams-next ∙ by (is_listed (corner_at lat lon) (corners_of m)) is
     where
-      by : (b : Bool) → None ≡ cond b (Some (place lat lon)) None → seams_before m lat lon + sum_by (seams_of m) (cond b (place lat lon ∷ []) []) ≡ seams_before m lat lon
+      by : (b : Bool) → None ≡ cond b (Some (corner_at lat lon)) None → seams_before m lat lon + sum_by (seams_of m) (cond b (corner_at lat lon ∷ []) []) ≡ seams_before m lat lon
       by true e = absurd (cc)
       by false e = add-zero (seams_before m lat lon)
 

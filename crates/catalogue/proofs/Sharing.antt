@@ -10,7 +10,7 @@ use Rattle.lattice.specs.Ground.{share_tile}
 use Rattle.lattice.specs.declared.point.Point.{Point}
 use Rattle.lattice.proofs.Samples.{holds_is}
 use Rattle.catalogue.specs.Tiles.{corners_of, is_listed}
-use Rattle.catalogue.proofs.Places.{same_says, same_from}
+use Rattle.lattice.proofs.CornerOrder.{same_says, same_from}
 use Rattle.catalogue.proofs.Mosaics.{corner_of}
 use Rattle.catalogue.proofs.Presence.{listed_from, listed_says}
 use Rattle.catalogue.proofs.OneTile.{corner_is}

@@ -1,6 +1,6 @@
 -- The mosaic sealed: each tile with the heights of its points by the seam rule in place of its own samples (this
 -- product's own profile).
-use Rattle.std.specs.Prelude.{◌≡◌, ◌⊎◌, ℕ, ◌+◌, ◌-◌, ◌*◌, nat_lt, ℤ, Bool, ◌&&◌, not, if◌then◌else◌, All}
+use Rattle.std.specs.Prelude.{◌≡◌, ◌⊎◌, ℕ, ℤ, Bool, ◌&&◌, not, All}
 use Rattle.std.specs.List.{list_any}
 use Rattle.lattice.specs.Corners.{Corner, same_corner}
 use Rattle.lattice.specs.Lattice.{holds, point_of}
@@ -17,11 +17,6 @@ pub record IsSealed (m sealed : Mosaic) : Type 0 where
   pub side : sealed.side ≡ m.side
   pub corners : corners_of sealed ≡ corners_of m
   pub blocks : All (λ t. IsBlockOf m t.corner t.samples) sealed.tiles
-
--- round the rim of a tile of n by n samples, clockwise from the north-west one: the index after so many steps
-abbrev pub rim_index : ℕ → ℕ → ℕ
-rim_index n k = if nat_lt k (n - 1) then k else (if nat_lt k (2 * (n - 1)) then (k - (n - 1)) * n + (n - 1)
-    else (if nat_lt k (3 * (n - 1)) then (n - 1) * n + (3 * (n - 1) - k) else (4 * (n - 1) - k) * n))
 
 -- a present tile other than the corner's holds the point
 abbrev pub is_held_elsewhere : Mosaic → Corner → Point → Bool

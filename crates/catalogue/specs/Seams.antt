@@ -1,5 +1,5 @@
 -- How many points tiles disagree on (this product's own profile).
-use Rattle.std.specs.Prelude.{◌≡◌, ℕ, ◌+◌, ◌-◌, ◌*◌, ◌/◌, ◌%◌, ◌==◌, ℤ, Bool, false, ◌&&◌, ◌||◌, if◌then◌else◌, List, [], ◌∷◌, length, map, filter, count_by, sum_by, zero, suc}
+use Rattle.std.specs.Prelude.{◌≡◌, ℕ, ◌+◌, ◌*◌, ℤ, Bool, false, ◌&&◌, if◌then◌else◌, List, [], ◌∷◌, length, map, filter, count_by, sum_by, zero, suc}
 use Rattle.lattice.specs.Corners.{Corner, same_corner}
 use Rattle.lattice.specs.Lattice.{holds, point_of}
 use Rattle.lattice.specs.Mosaic.{Mosaic}
@@ -37,7 +37,3 @@ seams_of m c = own_seams_below m c (m.side * m.side)
 -- those of the tiles whose corners stand before this latitude and longitude
 abbrev pub seams_before : Mosaic → ℤ → ℤ → ℕ
 seams_before m lat lon = sum_by (seams_of m) (corners_before lat lon (corners_of m))
-
--- the sample with this index lies in the first or last row or column
-abbrev pub is_on_rim : ℕ → ℕ → Bool
-is_on_rim n e = (e / n == 0) || (e / n == n - 1) || (e % n == 0) || (e % n == n - 1)

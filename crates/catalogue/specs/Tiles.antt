@@ -10,11 +10,11 @@ corners_of m = map (λ t. t.corner) m.tiles
 
 -- whole degrees at which tiles can lie
 abbrev pub AreCorners : List Corner → Type 0
-AreCorners places = All (λ c. IsTrue (is_corner c)) places
+AreCorners corners = All (λ c. IsTrue (is_corner c)) corners
 
--- the place is in the list
+-- the corner is in the list
 abbrev pub is_listed : Corner → List Corner → Bool
-is_listed c places = list_any (λ d. same_corner d c) places
+is_listed c corners = list_any (λ d. same_corner d c) corners
 
 -- the tiles with one more, in their order
 abbrev pub with_tile : Tile → List Tile → List Tile

@@ -8,13 +8,13 @@ ghost use Rattle.lattice.specs.Mosaic.{IsMosaic, void};
 ghost use Rattle.lattice.specs.declared.refusal.Refusal.TheVariants.{NoMemory};
 ghost use Rattle.catalogue.specs.Readers.{OnlyReads, reads_of};
 ghost use Rattle.catalogue.specs.Reading.{AreSamplesOf, MayRefuse};
-ghost use Rattle.catalogue.specs.Sealed.{IsSealed, IsOwnOrHeight, rim_index as on_rim, is_held_elsewhere as held_elsewhere};
+ghost use Rattle.catalogue.specs.Sealed.{IsSealed, IsOwnOrHeight, is_held_elsewhere as held_elsewhere};
 ghost use Rattle.catalogue.specs.Tiles.{corners_of};
 
 use crate::listing::tiles;
-use crate::seam_rule::{VOID, height};
+use crate::seam_rule::height;
 use crate::{Samples, Table};
-use lattice::{Corner, Height, Point, Refusal, Side, holders, point_at};
+use lattice::{Corner, Height, Point, Refusal, VOID, holders, point_at, rim_index};
 use std::alloc::Global;
 
 /// The mosaic with each tile's samples replaced by the heights of its points by the seam rule, void where a point has
@@ -65,8 +65,8 @@ fn seal_rim<S: Samples>(samples: &mut S, corner: Corner, heights: &mut [i16]) ->
     ensures reads { OnlyReads S.Samples samples.old samples.new result }
 {
     let side = samples.side();
-    for step in 0..4 * side.edge() {
-        seal_at(samples, corner, rim_index(side, step), heights)?;
+    for number in 0..side.rim() {
+        seal_at(samples, corner, rim_index(side, number), heights)?;
     }
     Ok(())
 }
@@ -93,24 +93,6 @@ fn seal_at<S: Samples>(
         heights[index as usize] = metres(height);
     }
     Ok(())
-}
-
-// The index after so many steps round the rim.
-fn rim_index(side: Side, step: u32) -> u32
-    requires { step < 4 * (side - 1) }
-    ensures value { result ≡ on_rim side step }
-    ensures inside { result < side * side }
-{
-    let edge = side.edge();
-    if step < edge {
-        step
-    } else if step < 2 * edge {
-        (step - edge) * side.samples() + edge
-    } else if step < 3 * edge {
-        edge * side.samples() + (3 * edge - step)
-    } else {
-        (4 * edge - step) * side.samples()
-    }
 }
 
 // Whether a present tile other than the corner's holds the point.

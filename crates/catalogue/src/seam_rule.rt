@@ -5,10 +5,7 @@ ghost use Rattle.catalogue.specs.Readers.{OnlyReads};
 ghost use Rattle.catalogue.specs.SeamRule.{sample_in};
 
 use crate::Samples;
-use lattice::{Corner, Height, Point, Refusal, holders, index_in};
-
-// The sample of a data void.
-pub(crate) const VOID: i16 = i16::MIN;
+use lattice::{Corner, Height, Point, Refusal, VOID, holders, index_in};
 
 /// The height of the point: the first sample that isn't void among those of the present tiles that hold it, in the
 /// order of tiles. Tiles that share an edge may disagree there.

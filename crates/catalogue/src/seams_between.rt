@@ -3,12 +3,12 @@ ghost use Rattle.std.specs.Prelude.{◌≡◌, ◌+◌, ◌*◌, ◌<◌, ◌≤
 ghost use Rattle.lattice.specs.Lattice.{point_of};
 ghost use Rattle.lattice.specs.Height.{disagrees as differing};
 ghost use Rattle.catalogue.specs.Readers.{OnlyReads};
-ghost use Rattle.catalogue.specs.Seams.{IsSeamCount, is_first, present_holders, is_own_seam as own_seam, own_seams_below, seams_of, seams_before, is_on_rim as on_rim};
+ghost use Rattle.catalogue.specs.Seams.{IsSeamCount, is_first, present_holders, is_own_seam as own_seam, own_seams_below, seams_of, seams_before};
 
 use crate::Samples;
 use crate::listing::present_at;
 use crate::seam_rule::sample_at;
-use lattice::{Corner, Point, Refusal, Side, holders, point_at};
+use lattice::{Corner, Point, Refusal, holders, is_rim, point_at};
 
 /// How many points disagree: two present tiles hold the point with different samples. A void counts as a sample, and
 /// each point counts once.
@@ -77,22 +77,13 @@ fn is_own_seam<S: Samples>(samples: &mut S, corner: Corner, index: u32) -> Resul
     let side = samples.side();
     let point = point_at(side, corner, index);
     // No other tile holds a point inside.
-    if !is_on_rim(side, index) {
+    if !is_rim(side, index) {
         return Ok(false);
     }
     if !is_first_holder(samples, corner, point) {
         return Ok(false);
     }
     disagrees(samples, point)
-}
-
-// Whether the sample lies in the first or last row or column.
-fn is_on_rim(side: Side, index: u32) -> bool
-    ensures { result ≡ on_rim side index }
-{
-    let row = index / side.samples();
-    let column = index % side.samples();
-    row == 0 || row == side.edge() || column == 0 || column == side.edge()
 }
 
 // Whether the corner's tile is the first present one that holds the point.

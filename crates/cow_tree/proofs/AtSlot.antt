@@ -5,7 +5,7 @@ use Rattle.std.proofs.lemmas.List.{set_split}
 use Rattle.std.proofs.lemmas.Bool.{false≢true}
 use Rattle.lattice.specs.Corners.{Corner}
 use Rattle.lattice.specs.declared.refusal.Refusal.{Refusal}
-use Rattle.catalogue.proofs.Rising.{Rising, rising_from}
+use Rattle.lattice.proofs.Rising.{Rising, rising_from}
 use Rattle.page_alloc.specs.Pages.{PageSet}
 use Rattle.page_codec.specs.Sizes.{pages_of}
 use Rattle.cow_tree.specs.declared.places.TilePlanes.{TilePlanes}

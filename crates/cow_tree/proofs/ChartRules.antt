@@ -6,7 +6,7 @@ use Rattle.std.proofs.lemmas.Bool.{false≢true}
 use Rattle.std.proofs.lemmas.List.{append_assoc}
 use Rattle.std.proofs.lemmas.List.Elements.{filter_map-append, All-nil, All-cons, Contains-append_right}
 use Rattle.lattice.specs.Corners.{Corner, is_corner}
-use Rattle.catalogue.proofs.Rising.{Rising, rising_from, adjacent_from}
+use Rattle.lattice.proofs.Rising.{Rising, rising_from, adjacent_from}
 use Rattle.page_alloc.specs.Pages.{PageSet}
 use Rattle.cow_tree.specs.declared.places.TilePlanes.{TilePlanes}
 use Rattle.cow_tree.specs.declared.slot.Slot.{Slot}

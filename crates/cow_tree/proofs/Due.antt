@@ -7,8 +7,8 @@ use Rattle.std.proofs.lemmas.List.{length-map}
 use Rattle.std.proofs.lemmas.List.Folds.{list_any_at}
 use Rattle.std.proofs.lemmas.List.Elements.{All-nil, All-cons, All-head, All-tail, All-weaker, All-contains_itself}
 use Rattle.lattice.specs.Corners.{Corner, is_before}
-use Rattle.catalogue.proofs.Places.{same_says, same_from, after_not_same}
-use Rattle.catalogue.proofs.Rising.{AllAfter, Rising, rising_from}
+use Rattle.lattice.proofs.CornerOrder.{same_says, same_from, after_not_same}
+use Rattle.lattice.proofs.Rising.{AllAfter, Rising, rising_from}
 use Rattle.cow_tree.specs.Layout.{TilePlace, pages_of_kept, pages_of_tile, reached}
 use Rattle.cow_tree.specs.Charts.{ChartValue, IsChart, IsFresh, IsPlaced, IsRewritten, IsPrepared, IsAdded, HasFreshHeights, is_at, is_changed, fresh_corners, corners_of_places, with_tile_place, with_page_place_in, with_record_in, without_place}
 use Rattle.cow_tree.specs.Stored.{with_corner}

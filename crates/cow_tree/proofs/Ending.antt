@@ -6,7 +6,7 @@ use Rattle.std.proofs.Math.Seq.{split_at}
 use Rattle.std.proofs.lemmas.List.{set_split, length-set, get_or-set_other, get_or-set_same, get_or_default}
 use Rattle.std.proofs.lemmas.Bool.{cases_eq}
 use Rattle.lattice.specs.Corners.{Corner, is_before, is_corner}
-use Rattle.catalogue.proofs.Rising.{AllAfter, Rising, rising_from, adjacent_from, rising-filter}
+use Rattle.lattice.proofs.Rising.{AllAfter, Rising, rising_from, adjacent_from, rising-filter}
 use Rattle.page_alloc.specs.Pages.{PageSet}
 use Rattle.cow_tree.specs.declared.places.TilePlanes.{TilePlanes}
 use Rattle.cow_tree.specs.declared.slot.Slot.{Slot}

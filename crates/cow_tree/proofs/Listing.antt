@@ -6,7 +6,7 @@ use Rattle.std.proofs.lemmas.List.{take_more, length-append, map-append, length-
 use Rattle.std.proofs.lemmas.List.Elements.{filter_map-append, filter-append, All-append, All-cons, All-nil}
 use Rattle.std.proofs.lemmas.Bool.{false≢true, cases_eq, eq-eqb, ne_eqb}
 use Rattle.lattice.specs.Corners.{Corner}
-use Rattle.catalogue.proofs.Rising.{AllAfter, Rising, rising_from, adjacent_from}
+use Rattle.lattice.proofs.Rising.{AllAfter, Rising, rising_from, adjacent_from}
 use Rattle.page_alloc.specs.Pages.{PageSet}
 use Rattle.page_codec.specs.Entries.{EntryValue, IsEntry, IsPage}
 use Rattle.page_codec.specs.Roots.{AreInOrder}

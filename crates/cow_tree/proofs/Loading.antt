@@ -8,7 +8,7 @@ use Rattle.std.proofs.lemmas.Grind.{flat_map-append}
 use Rattle.std.proofs.lemmas.Bool.{false≢true}
 use Rattle.lattice.specs.Corners.{Corner, is_before, is_corner}
 use Rattle.lattice.specs.Lattice.{IsBefore}
-use Rattle.catalogue.proofs.Rising.{AllAfter}
+use Rattle.lattice.proofs.Rising.{AllAfter}
 use Rattle.page_alloc.specs.Pages.{PageSet}
 use Rattle.page_codec.specs.Sizes.{pages_of}
 use Rattle.cow_tree.specs.declared.places.TilePlanes.{TilePlanes}

@@ -7,8 +7,8 @@ use Rattle.std.proofs.Math.Seq.{split_at}
 use Rattle.std.proofs.lemmas.List.Elements.{filter_map-append}
 use Rattle.std.proofs.lemmas.Bool.{false≢true, cases_lt}
 use Rattle.lattice.specs.Corners.{Corner, same_corner}
-use Rattle.catalogue.proofs.Places.{before_not_same, after_not_same, same_from}
-use Rattle.catalogue.proofs.Rising.{Rising}
+use Rattle.lattice.proofs.CornerOrder.{before_not_same, after_not_same, same_from}
+use Rattle.lattice.proofs.Rising.{Rising}
 use Rattle.cow_tree.specs.declared.slot.Slot.{Slot}
 use Rattle.cow_tree.specs.Places.{PlanePlace}
 use Rattle.cow_tree.specs.Layout.{TilePlace}

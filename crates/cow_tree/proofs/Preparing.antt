@@ -7,7 +7,7 @@ use Rattle.std.proofs.lemmas.List.Elements.{All-map, All-weaker}
 use Rattle.disk.specs.Disk.{Image}
 use Rattle.lattice.specs.Corners.{Corner, is_corner}
 use Rattle.lattice.specs.declared.refusal.Refusal.{Refusal}
-use Rattle.catalogue.proofs.Rising.{Rising, rising_from}
+use Rattle.lattice.proofs.Rising.{Rising, rising_from}
 use Rattle.page_alloc.specs.Pages.{PageSet}
 use Rattle.cow_tree.specs.declared.slot.Slot.{Slot}
 use Rattle.cow_tree.specs.declared.slot.Staged.{Staged}

@@ -7,7 +7,7 @@ use Rattle.disk.specs.Disk.{Image}
 use Rattle.lattice.specs.Corners.{Corner, is_before}
 use Rattle.page_codec.specs.Entries.{EntryValue}
 use Rattle.page_codec.specs.Roots.{RootValue, AreInOrder}
-use Rattle.catalogue.proofs.Rising.{AllAfter, Rising, rising_from}
+use Rattle.lattice.proofs.Rising.{AllAfter, Rising, rising_from}
 use Rattle.cow_tree.specs.Places.{times}
 use Rattle.cow_tree.specs.Layout.{TilePlace, pages_of_tile, reached, entry_of, HasRecords, KeepsPageRule, IsLaidOut}
 use Rattle.cow_tree.specs.Found.{NoTileAt}

@@ -13,8 +13,8 @@ use Rattle.lattice.specs.Corners.{Corner, same_corner}
 use Rattle.lattice.specs.Mosaic.{Tile, Mosaic, IsMosaic, IsTile, samples_among, samples_of}
 use Rattle.hgt.specs.Bytes.{sample_of, samples_in}
 use Rattle.hgt.proofs.BytesLemmas.{get_or-samples_in}
-use Rattle.catalogue.proofs.Places.{same_from, before_not_same}
-use Rattle.catalogue.proofs.Rising.{AllAfter, Rising, rising_from}
+use Rattle.lattice.proofs.CornerOrder.{same_from, before_not_same}
+use Rattle.lattice.proofs.Rising.{AllAfter, Rising, rising_from}
 use Rattle.cow_tree.specs.declared.plane.Plane.TheVariants.{Heights}
 use Rattle.cow_tree.specs.Planes.{HasPage}
 use Rattle.cow_tree.specs.Stored.{StoredTile, PlanePages, IsPage, AreWhole, plane_bytes, samples_of_plane, mosaic_of_tiles}

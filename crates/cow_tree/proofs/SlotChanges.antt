@@ -5,8 +5,8 @@ use Rattle.std.specs.List.{cons_option, AllByRecursion}
 use Rattle.std.proofs.lemmas.List.{length-set}
 use Rattle.std.proofs.lemmas.List.Elements.{filter_map-append}
 use Rattle.lattice.specs.Corners.{Corner, same_corner, is_corner}
-use Rattle.catalogue.proofs.Places.{before_not_same, after_not_same, same_from}
-use Rattle.catalogue.proofs.Rising.{AllAfter, Rising, rising_from, adjacent_from}
+use Rattle.lattice.proofs.CornerOrder.{before_not_same, after_not_same, same_from}
+use Rattle.lattice.proofs.Rising.{AllAfter, Rising, rising_from, adjacent_from}
 use Rattle.page_alloc.specs.Pages.{PageSet}
 use Rattle.cow_tree.specs.declared.places.TilePlanes.{TilePlanes}
 use Rattle.cow_tree.specs.declared.slot.Slot.{Slot}

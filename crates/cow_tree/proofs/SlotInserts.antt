@@ -6,8 +6,8 @@ use Rattle.std.proofs.lemmas.List.{length-append}
 use Rattle.std.proofs.lemmas.List.Elements.{filter_map-append}
 use Rattle.std.proofs.lemmas.Grind.{flat_map-append}
 use Rattle.lattice.specs.Corners.{Corner, is_before, is_corner}
-use Rattle.catalogue.proofs.Places.{before_not_back}
-use Rattle.catalogue.proofs.Rising.{AllAfter, Rising, rising_from, adjacent_from}
+use Rattle.lattice.proofs.CornerOrder.{before_not_back}
+use Rattle.lattice.proofs.Rising.{AllAfter, Rising, rising_from, adjacent_from}
 use Rattle.page_alloc.specs.Pages.{PageSet}
 use Rattle.page_codec.specs.Sizes.{pages_of}
 use Rattle.cow_tree.specs.declared.places.TilePlanes.{TilePlanes}

@@ -6,8 +6,8 @@ use Rattle.std.proofs.lemmas.Grind.{flat_map-append}
 use Rattle.std.proofs.lemmas.Bool.{cases_eq, false_from_ne_true}
 use Rattle.lattice.specs.Corners.{Corner, is_before}
 use Rattle.lattice.specs.Lattice.{IsBefore}
-use Rattle.catalogue.proofs.Places.{before_trans, same_says, after_from}
-use Rattle.catalogue.proofs.Rising.{AllAfter, Rising}
+use Rattle.lattice.proofs.CornerOrder.{before_trans, same_says, after_from}
+use Rattle.lattice.proofs.Rising.{AllAfter, Rising}
 use Rattle.page_alloc.specs.Pages.{PageSet}
 use Rattle.cow_tree.specs.declared.slot.Slot.{Slot}
 use Rattle.cow_tree.specs.declared.places.TilePlanes.{TilePlanes}

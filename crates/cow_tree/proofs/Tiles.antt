@@ -4,9 +4,9 @@ use Rattle.std.specs.List.{AllAdjacentBelow, filter, list_any}
 use Rattle.std.proofs.lemmas.List.Elements.{All-nil, All-cons, All-head, All-tail}
 use Rattle.lattice.specs.Corners.{Corner, same_corner, is_before}
 use Rattle.lattice.specs.Lattice.{IsBefore}
-use Rattle.catalogue.proofs.Places.{before_apart}
+use Rattle.lattice.proofs.CornerOrder.{before_apart}
 use Rattle.catalogue.proofs.Presence.{listed_from, listed_says}
-use Rattle.catalogue.proofs.Rising.{AllAfter, Rising, rising_from, adjacent_from}
+use Rattle.lattice.proofs.Rising.{AllAfter, Rising, rising_from, adjacent_from}
 use Rattle.cow_tree.specs.Layout.{TilePlace, pages_of_tile, reached}
 use Rattle.cow_tree.specs.Charts.{is_at, corners_of_places, IsPlaced}
 use Rattle.cow_tree.proofs.Standing.{All-front, All-back}

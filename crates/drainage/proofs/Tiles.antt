@@ -6,7 +6,7 @@ use Rattle.std.proofs.lemmas.List.Elements.{All-contains}
 use Rattle.lattice.specs.Corners.{Corner, same_corner}
 use Rattle.lattice.specs.Mosaic.{Tile, Mosaic, IsTile, IsMosaic, samples_among, samples_of}
 use Rattle.catalogue.specs.Tiles.{corners_of}
-use Rattle.catalogue.proofs.Places.{same_says}
+use Rattle.lattice.proofs.CornerOrder.{same_says}
 use Rattle.catalogue.proofs.Presence.{present_iff, some-samples}
 
 tile_among : (tiles : List Tile) (c : Corner) (l : List ℤ) → samples_among tiles c ≡ Some l → Contains tiles (record { corner = c; samples = l })

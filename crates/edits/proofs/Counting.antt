@@ -8,8 +8,8 @@ use Rattle.std.proofs.lemmas.Int.{ints}
 use Rattle.std.proofs.lemmas.List.Sums.{sum_by-cons}
 use Rattle.std.proofs.lemmas.List.Elements.{All-head, All-tail, All-map, All-weaker}
 use Rattle.lattice.specs.Corners.{Corner, is_corner, same_corner}
-use Rattle.catalogue.proofs.Places.{same_says, after_not_same}
-use Rattle.catalogue.proofs.Rising.{AllAfter, Rising}
+use Rattle.lattice.proofs.CornerOrder.{same_says, after_not_same}
+use Rattle.lattice.proofs.Rising.{AllAfter, Rising}
 use Rattle.lattice.specs.Mosaic.{Mosaic, IsTile, IsMosaic}
 use Rattle.catalogue.specs.Tiles.{corners_of, is_listed}
 use Rattle.catalogue.proofs.Presence.{listed_from, listed_says, corners_rise}

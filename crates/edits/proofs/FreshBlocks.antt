@@ -17,7 +17,7 @@ use Rattle.lattice.proofs.Along.{steps}
 use Rattle.hgt.specs.Bytes.{samples_in}
 use Rattle.catalogue.specs.Tiles.{with_tile, added, without}
 use Rattle.catalogue.proofs.Nearby.{holders_near}
-use Rattle.catalogue.proofs.Places.{same_says}
+use Rattle.lattice.proofs.CornerOrder.{same_says}
 use Rattle.edits.specs.declared.command.Command.{Command}
 use Rattle.edits.specs.declared.command.Command.TheVariants.{Import, Remove, Patch, Burn, Wall}
 use Rattle.edits.specs.Effect.{effect, changed_from, edited, is_named, has_void_from, patched, burnt, walled}

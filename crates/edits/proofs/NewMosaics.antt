@@ -21,7 +21,7 @@ use Rattle.hgt.specs.Bytes.{sample_of, samples_in}
 use Rattle.hgt.proofs.BytesLemmas.{length-samples_in}
 use Rattle.catalogue.specs.Tiles.{added, with_tile, without}
 use Rattle.catalogue.proofs.Mosaics.{corner_of, rising_tiles, mosaic-added, mosaic-without}
-use Rattle.catalogue.proofs.Rising.{AllAfter, Rising, adjacent_from}
+use Rattle.lattice.proofs.Rising.{AllAfter, Rising, adjacent_from}
 use Rattle.edits.specs.declared.command.Command.{Command}
 use Rattle.edits.specs.declared.command.Command.TheVariants.{Import, Remove, Patch, Burn, Wall}
 use Rattle.edits.specs.Effect.{effect, changed_from, edited, is_named, is_height, is_depth, is_in_box, is_void_at, first_fault, fault_at, patched, burnt, walled}

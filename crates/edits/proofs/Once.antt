@@ -12,8 +12,8 @@ use Rattle.lattice.specs.declared.point.Point.{Point}
 use Rattle.lattice.specs.Ground.{same_point}
 use Rattle.lattice.specs.Lattice.{IsIndexOf}
 use Rattle.lattice.proofs.Samples.{point_at_index}
-use Rattle.catalogue.proofs.Places.{same_says, before_apart}
-use Rattle.catalogue.proofs.Rising.{AllAfter, Rising}
+use Rattle.lattice.proofs.CornerOrder.{same_says, before_apart}
+use Rattle.lattice.proofs.Rising.{AllAfter, Rising}
 use Rattle.edits.specs.declared.change.Change.{Change}
 use Rattle.edits.specs.declared.change.Change.TheVariants.{Add, Drop, Set}
 use Rattle.edits.specs.Boxes.{is_in_row, is_in_rows}

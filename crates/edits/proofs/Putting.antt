@@ -10,7 +10,7 @@ use Rattle.lattice.specs.declared.point.Point.{Point}
 use Rattle.lattice.specs.Lattice.{point_of}
 use Rattle.lattice.specs.Mosaic.{Tile, Mosaic, IsMosaic, IsTile}
 use Rattle.catalogue.specs.Tiles.{corners_of, with_sample, with_sample_in}
-use Rattle.catalogue.proofs.Places.{same_says, same_from}
+use Rattle.lattice.proofs.CornerOrder.{same_says, same_from}
 use Rattle.edits.specs.declared.change.Change.{Change}
 use Rattle.edits.specs.declared.change.Change.TheVariants.{Add, Drop, Set}
 use Rattle.edits.specs.Changes.{all_changed}

@@ -7,7 +7,7 @@ use Rattle.std.proofs.lemmas.List.{take_more}
 use Rattle.lattice.specs.Corners.{Corner, is_before, same_corner}
 use Rattle.lattice.specs.Mosaic.{Tile, Mosaic}
 use Rattle.catalogue.specs.Tiles.{corners_of, with_tile}
-use Rattle.catalogue.proofs.Places.{same_says}
+use Rattle.lattice.proofs.CornerOrder.{same_says}
 use Rattle.edits.specs.declared.change.Change.{Change}
 use Rattle.edits.specs.declared.change.Change.TheVariants.{Add, Drop, Set}
 use Rattle.edits.specs.Changes.{changed, all_changed}

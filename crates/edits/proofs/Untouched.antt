@@ -13,9 +13,9 @@ use Rattle.lattice.specs.Ground.{metres}
 use Rattle.lattice.specs.Mosaic.{Tile, Mosaic, IsTile, IsMosaic}
 use Rattle.hgt.specs.Bytes.{samples_in}
 use Rattle.catalogue.specs.Tiles.{corners_of, with_tile, added, without}
-use Rattle.catalogue.proofs.Places.{same_comm}
+use Rattle.lattice.proofs.CornerOrder.{same_comm}
 use Rattle.catalogue.proofs.Presence.{corners_rise}
-use Rattle.catalogue.proofs.Rising.{adjacent_from, rising-filter}
+use Rattle.lattice.proofs.Rising.{adjacent_from, rising-filter}
 use Rattle.edits.specs.declared.command.Command.{Command}
 use Rattle.edits.specs.declared.command.Command.TheVariants.{Import, Remove, Patch, Burn, Wall}
 use Rattle.edits.specs.Effect.{effect, changed_from, edited, is_named, has_void_from, patched, burnt, walled}

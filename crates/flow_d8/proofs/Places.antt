@@ -10,7 +10,8 @@ use Rattle.lattice.specs.Corners.{Corner, is_corner}
 use Rattle.lattice.specs.Lattice.{Holds, holds, index_of, point_of, is_along}
 use Rattle.lattice.specs.Stepping.{fits_number, fits_point}
 use Rattle.lattice.proofs.Samples.{holds_is, index_of_below, point_of_index}
-use Rattle.lattice.proofs.Along.{parts, le_true, le_from}
+use Rattle.lattice.proofs.Along.{parts}
+use Rattle.lattice.proofs.IntTests.{le_true, le_from}
 use Rattle.flow_d8.specs.Levels.{is_holder, is_held, place_of}
 
 pub place-here : (n : ℕ) (c : Corner) (rest : List Corner) (p : Point) → is_holder n c p ≡ true → place_of n (c ∷ rest) p ≡ index_of n c p

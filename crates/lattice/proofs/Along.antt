@@ -1,17 +1,9 @@
 -- A value between the two edges of a tile, as a test, as two inequalities and as a number of steps.
-use Rattle.std.proofs.Common.{◌≡◌, ℕ, ◌≤◌, ℤ, pos, ◌+ℤ◌, ◌-ℤ◌, ◌*ℤ◌, ◌≤ℤ◌, ◌<ℤ◌, int_le, nat_abs, true, false, IsTrue, IsFalse, arith, inl, inr}
+use Rattle.std.proofs.Common.{◌≡◌, ℕ, ◌≤◌, ℤ, pos, ◌+ℤ◌, ◌-ℤ◌, ◌*ℤ◌, ◌≤ℤ◌, ◌<ℤ◌, int_le, nat_abs, IsTrue, IsFalse, arith, inl, inr}
 use Rattle.std.proofs.lemmas.Int.{ints}
 use Rattle.std.proofs.lemmas.Bool.{and_parts, and_from, cases_Bool}
 use Rattle.lattice.specs.Lattice.{is_along}
-
-pub le_true : (a b : ℤ) → int_le a b ≡ true → a ≤ℤ b
-le_true a b e = grind (arith, ints)
-
-pub le_from : (a b : ℤ) → a ≤ℤ b → int_le a b ≡ true
-le_from a b h = grind (arith, ints)
-
-pub le_false : (a b : ℤ) → int_le a b ≡ false → b <ℤ a
-le_false a b e = grind (arith, ints)
+use Rattle.lattice.proofs.IntTests.{le_true, le_from}
 
 -- how far v lies above a bound
 pub distance : (low v : ℤ) → low ≤ℤ v → v ≡ low +ℤ pos (nat_abs (v -ℤ low))

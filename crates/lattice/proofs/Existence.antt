@@ -1,22 +1,16 @@
 -- A point of a finite terrain that has a path to an outlet has a filled level: for each level it can be found out
 -- whether a path of no greater crest leads out, by marking points until no more are added.
-use Rattle.std.proofs.Common.{◌≡◌, ℕ, zero, suc, ◌+◌, ◌<◌, ◌≤◌, ℤ, pos, negsuc, ◌-ℤ◌, ◌≤ℤ◌, ◌<ℤ◌, Bool, true, false, IsTrue, ◌&&◌, ◌||◌, not, cond, List, [], ◌∷◌, ◌⊎◌, refl, sym, ap, ◌∙◌, subst, arith, inl, inr, ⊎_elim, true≢false, length, nat_abs}
+use Rattle.std.proofs.Common.{◌≡◌, ℕ, zero, suc, ◌+◌, ◌<◌, ◌≤◌, ℤ, pos, ◌-ℤ◌, ◌≤ℤ◌, ◌<ℤ◌, Bool, true, false, IsTrue, ◌&&◌, ◌||◌, not, cond, List, [], ◌∷◌, ◌⊎◌, refl, sym, ap, ◌∙◌, arith, inl, inr, ⊎_elim, true≢false, length, nat_abs}
 use Rattle.std.specs.Prelude.{int_le}
-use Rattle.std.specs.Int.{int_max}
 use Rattle.std.specs.List.{list_any}
-use Rattle.std.proofs.lemmas.Int.{ints, clamps}
+use Rattle.std.proofs.lemmas.Int.{ints}
 use Rattle.std.proofs.lemmas.Bool.{cases_Bool, and_parts, and_from, or_cases, or_left, or_right}
-use Rattle.lattice.specs.Terrain.{Terrain, IsPath, end_of, crest, LeadsOut, IsFilledLevel, IsLawful}
+use Rattle.lattice.specs.Terrain.{Terrain, crest, LeadsOut, IsFilledLevel, IsLawful}
+use Rattle.lattice.proofs.IntTests.{le_true, le_from}
 use Rattle.lattice.proofs.Levels.{le-max_left, le-max_right, max-le, ≤ℤ_trans, height-le_crest}
 
-int_le-true : (a b : ℤ) → int_le a b ≡ true → a ≤ℤ b
-int_le-true a b h = grind (arith, ints)
-
-le-int_le : (a b : ℤ) → a ≤ℤ b → int_le a b ≡ true
-le-int_le a b h = grind (arith, ints)
-
 le_or_above : (a b : ℤ) → (a ≤ℤ b) ⊎ (b <ℤ a)
-le_or_above a b = elim (cases_Bool (int_le a b)) [ inl le ↦ inl (int_le-true a b le) | inr above ↦ inr (grind (arith, ints)) ]
+le_or_above a b = elim (cases_Bool (int_le a b)) [ inl le ↦ inl (le_true a b le) | inr above ↦ inr (grind (arith, ints)) ]
 
 -- how many of the points are marked
 tally : {P : Type 0} → (P → Bool) → List P → ℕ
@@ -96,7 +90,7 @@ module _ {P : Type 0} (t : Terrain P) (law : IsLawful t) (points : List P)
       sound = λ x h. let parts = and_parts (t.is_outlet x) (int_le (t.height x) low) h in record {
         rest = [];
         out = record { path = law.outlet_ground x parts.0; outlet = parts.0 };
-        below = int_le-true (t.height x) low parts.1;
+        below = le_true (t.height x) low parts.1;
       };
       outlets = λ x h. h;
     }
@@ -113,7 +107,7 @@ module _ {P : Type 0} (t : Terrain P) (law : IsLawful t) (points : List P)
           record {
             rest = next.0 ∷ way.rest;
             out = record { path = (beside.0, way.out.path); outlet = way.out.outlet };
-            below = max-le (t.height x) (crest t next.0 way.rest) low (int_le-true (t.height x) low here.1) way.below;
+            below = max-le (t.height x) (crest t next.0 way.rest) low (le_true (t.height x) low here.1) way.below;
           })
           (or_cases (marked x) _ h);
       outlets = λ x h. or_left (marked x) _ (is.outlets x h);
@@ -138,11 +132,11 @@ module _ {P : Type 0} (t : Terrain P) (law : IsLawful t) (points : List P)
       -- each point with a path out of no greater crest is marked
       reached : (x : P) (rest : List P) → LeadsOut t x rest → crest t x rest ≤ℤ low → IsTrue (marked x)
       unfolding expanded lower_outlet
-      reached x [] out below = is.sound.outlets x (and_from (t.is_outlet x) (int_le (t.height x) low) out.outlet (le-int_le (t.height x) low below))
+      reached x [] out below = is.sound.outlets x (and_from (t.is_outlet x) (int_le (t.height x) low) out.outlet (le_from (t.height x) low below))
       reached x (y ∷ rest) out below =
           let on : IsTrue (marked y) = reached y rest (record { path = out.path.1; outlet = out.outlet }) (≤ℤ_trans _ _ _ (le-max_right (t.height x) (crest t y rest)) below) in
           let solid : IsTrue (t.is_ground x) = law.from_ground x y out.path.0 in
-          let low_enough : IsTrue (int_le (t.height x) low) = le-int_le (t.height x) low (≤ℤ_trans _ _ _ (le-max_left (t.height x) (crest t y rest)) below) in
+          let low_enough : IsTrue (int_le (t.height x) low) = le_from (t.height x) low (≤ℤ_trans _ _ _ (le-max_left (t.height x) (crest t y rest)) below) in
           let some : IsTrue (list_any (λ y. t.is_adjacent x y && marked y) points) = all (λ y. t.is_adjacent x y && marked y) y (law.to_ground x y out.path.0) (and_from (t.is_adjacent x y) (marked y) out.path.0 on) in
           let new : IsTrue (expanded marked x) = or_right (marked x) _ (and_from (t.is_ground x && int_le (t.height x) low) _ (and_from (t.is_ground x) (int_le (t.height x) low) solid low_enough) some) in
           elim (cases_Bool (marked x)) [

@@ -1,18 +1,18 @@
 -- Each ground point of a mosaic has a filled level: the mosaic's points are finitely many.
-use Rattle.std.proofs.Common.{◌≡◌, ℕ, zero, suc, ◌+◌, ◌-◌, ◌*◌, ◌<◌, ◌≤◌, ℤ, pos, negsuc, ◌+ℤ◌, ◌-ℤ◌, ◌*ℤ◌, ◌≤ℤ◌, ◌<ℤ◌, Bool, true, false, IsTrue, ◌&&◌, ◌||◌, List, [], ◌∷◌, ◌++◌, ◌⊎◌, refl, sym, ap, ◌∙◌, subst, arith, inl, inr, ⊎_elim, true≢false, length, nat_abs}
+use Rattle.std.proofs.Common.{◌≡◌, ℕ, zero, suc, ◌-◌, ◌≤◌, ℤ, pos, ◌+ℤ◌, ◌*ℤ◌, ◌≤ℤ◌, ◌<ℤ◌, Bool, IsTrue, List, [], ◌∷◌, ◌++◌, ◌⊎◌, sym, ◌∙◌, subst, arith, inl, inr, ⊎_elim, true≢false}
 use Rattle.std.specs.Prelude.{int_le}
 use Rattle.std.specs.List.{list_any}
 use Rattle.std.proofs.lemmas.Int.{ints}
 use Rattle.std.proofs.lemmas.List.Folds.{list_any-append}
-use Rattle.std.proofs.lemmas.Bool.{cases_Bool, and_parts, and_from, or_cases, or_left, or_right}
+use Rattle.std.proofs.lemmas.Bool.{cases_Bool, and_parts, or_cases, or_left, or_right}
 use Rattle.lattice.specs.declared.point.Point.{Point}
-use Rattle.lattice.specs.Corners.{Corner}
 use Rattle.lattice.specs.Lattice.{holds, is_along}
 use Rattle.lattice.specs.Terrain.{IsFilledLevel}
 use Rattle.lattice.specs.Mosaic.{Mosaic, Tile, IsMosaic}
 use Rattle.lattice.specs.Ground.{is_ground, terrain}
 use Rattle.lattice.proofs.Lawful.{terrain_is_lawful}
-use Rattle.lattice.proofs.WaysOut.{way_out, held, int_le-true}
+use Rattle.lattice.proofs.WaysOut.{way_out, held}
+use Rattle.lattice.proofs.IntTests.{le_true}
 use Rattle.lattice.proofs.Existence.{level_exists}
 
 any_in_both : {X : Type 0} (f : X → Bool) (xs ys : List X) → (IsTrue (list_any f xs) ⊎ IsTrue (list_any f ys)) → IsTrue (list_any f (xs ++ ys))
@@ -43,7 +43,7 @@ module _ (f : Point → Bool) (p : Point) (yes : IsTrue (f p)) where
   ]
     where
       last : (a b : ℤ) → b ≤ℤ a → (b ≡ a) ⊎ (b <ℤ a)
-      last a b le = elim (cases_Bool (int_le a b)) [ inl ge ↦ inl (let ge' = int_le-true a b ge in omega (arith, ints)) | inr lt ↦ inr (grind (arith, ints)) ]
+      last a b le = elim (cases_Bool (int_le a b)) [ inl ge ↦ inl (let ge' = le_true a b ge in omega (arith, ints)) | inr lt ↦ inr (grind (arith, ints)) ]
 
   in_rows : (south west : ℤ) (n k : ℕ) → west ≤ℤ p.x → p.x <ℤ (west +ℤ pos n) → south ≤ℤ p.y → p.y <ℤ (south +ℤ pos k) → IsTrue (list_any f (rows south west n k))
   unfolding rows
@@ -54,7 +54,7 @@ module _ (f : Point → Bool) (p : Point) (yes : IsTrue (f p)) where
   ]
     where
       last : (a b : ℤ) → b ≤ℤ a → (b ≡ a) ⊎ (b <ℤ a)
-      last a b le = elim (cases_Bool (int_le a b)) [ inl ge ↦ inl (let ge' = int_le-true a b ge in omega (arith, ints)) | inr lt ↦ inr (grind (arith, ints)) ]
+      last a b le = elim (cases_Bool (int_le a b)) [ inl ge ↦ inl (let ge' = le_true a b ge in omega (arith, ints)) | inr lt ↦ inr (grind (arith, ints)) ]
 
   among : (n : ℕ) → 1 ≤ n → (tiles : List Tile) → IsTrue (list_any (λ t. holds n t.corner p) tiles) → IsTrue (list_any f (points_among n tiles))
   unfolding points_among
@@ -66,10 +66,10 @@ module _ (f : Point → Bool) (p : Point) (yes : IsTrue (f p)) where
           let both = and_parts (is_along (pos (n - 1)) t.corner.lat p.y) (is_along (pos (n - 1)) t.corner.lon p.x) here in
           let ys = and_parts (int_le (t.corner.lat *ℤ pos (n - 1)) p.y) _ both.0 in
           let xs = and_parts (int_le (t.corner.lon *ℤ pos (n - 1)) p.x) _ both.1 in
-          let south = int_le-true (t.corner.lat *ℤ pos (n - 1)) p.y ys.0 in
-          let north = int_le-true p.y (t.corner.lat *ℤ pos (n - 1) +ℤ pos (n - 1)) ys.1 in
-          let west = int_le-true (t.corner.lon *ℤ pos (n - 1)) p.x xs.0 in
-          let east = int_le-true p.x (t.corner.lon *ℤ pos (n - 1) +ℤ pos (n - 1)) xs.1 in
+          let south = le_true (t.corner.lat *ℤ pos (n - 1)) p.y ys.0 in
+          let north = le_true p.y (t.corner.lat *ℤ pos (n - 1) +ℤ pos (n - 1)) ys.1 in
+          let west = le_true (t.corner.lon *ℤ pos (n - 1)) p.x xs.0 in
+          let east = le_true p.x (t.corner.lon *ℤ pos (n - 1) +ℤ pos (n - 1)) xs.1 in
           in_rows (t.corner.lat *ℤ pos (n - 1)) (t.corner.lon *ℤ pos (n - 1)) n n west (omega (arith, ints)) south (omega (arith, ints))
 
 pub filled_level_exists : (m : Mosaic) → IsMosaic m → (p : Point) → IsTrue (is_ground m p) → (l : ℤ) × IsFilledLevel (terrain m) p l

@@ -1,8 +1,7 @@
 -- The tiles that hold a point are among the four next to it: those kept of the four by the test are the holders, in
 -- the order of tiles.
-use Rattle.std.proofs.Common.{◌≡◌, ◌∙◌, ℕ, zero, suc, ◌+◌, ◌-◌, ◌/◌, ◌<◌, ◌≤◌, ◌⊎◌, inl, inr, ℤ, pos, negsuc, ◌+ℤ◌, ◌*◌, ◌-ℤ◌, ◌*ℤ◌, ◌≤ℤ◌, ◌<ℤ◌, int_lt, nat_abs, ◌↔◌, Bool, true, IsTrue, ◌&&◌, List, [], ◌∷◌, ◌++◌, length, map, get_or, drop, refl, sym, ap, ap₂, append_assoc, append-nil, add-one, drop-cons, arith}
+use Rattle.std.proofs.Common.{◌≡◌, ◌∙◌, ℕ, zero, suc, ◌+◌, ◌-◌, ◌/◌, ◌<◌, ◌≤◌, ◌⊎◌, inl, inr, ℤ, pos, negsuc, ◌+ℤ◌, ◌*◌, ◌-ℤ◌, ◌*ℤ◌, ◌≤ℤ◌, ◌<ℤ◌, int_lt, ◌↔◌, Bool, true, IsTrue, ◌&&◌, List, [], ◌∷◌, ◌++◌, length, map, get_or, drop, refl, sym, ap, ap₂, append_assoc, append-nil, add-one, drop-cons, arith}
 use Rattle.std.specs.List.{Contains, AllPairs, AllAdjacentBelow, filter}
-use Rattle.std.proofs.Math.IntN.{+ℤ_idr, suc_ℤ-*ℤ, suc_ℤ}
 use Rattle.std.proofs.lemmas.Int.{ints}
 use Rattle.std.proofs.lemmas.Bool.{and_parts, and_from, cond-true, cond-false, cond_both, false_from_ne_true, cases_Bool, both_ways}
 use Rattle.std.proofs.lemmas.List.{drop_all}
@@ -14,7 +13,8 @@ use Rattle.lattice.specs.Lattice.{Holds, IsBefore, is_along, holds}
 use Rattle.lattice.specs.declared.point.Point.{Point}
 use Rattle.lattice.specs.declared.holding.Degrees.{Degrees}
 use Rattle.lattice.specs.Degrees.{place}
-use Rattle.lattice.proofs.Along.{distance, parts}
+use Rattle.lattice.proofs.Along.{parts}
+use Rattle.lattice.proofs.Multiples.{product_plus, factor_less}
 use Rattle.lattice.proofs.Samples.{holds_is, along_of_holds}
 
 -- there is such a corner, and its tile holds the point
@@ -81,37 +81,15 @@ stays test (x ∷ xs) (suc k) c small is yes_c =
     (λ _. Contains-append_right (x ∷ []) (filter test xs) c rest)
     (λ _. rest)
 
-add_one_is : (z : ℤ) → z +ℤ pos 1 ≡ suc_ℤ z
-add_one_is (pos n) = ap pos (omega arith)
-add_one_is (negsuc zero) = refl
-add_one_is (negsuc (suc n)) = omega (arith, ints)
-
--- a product by a number above 0 keeps the order
-shift : (b : ℤ) (k m : ℕ) → (b +ℤ pos k) *ℤ pos m ≡ b *ℤ pos m +ℤ pos (k * m)
-shift b zero m = ap (λ z. z *ℤ pos m) (+ℤ_idr b) ∙ omega (arith, ints)
-shift b (suc k) m =
-    let once_more : b +ℤ pos (suc k) ≡ (b +ℤ pos k) +ℤ pos 1 = omega (arith, ints) in
-    let up : b +ℤ pos (suc k) ≡ suc_ℤ (b +ℤ pos k) = once_more ∙ add_one_is (b +ℤ pos k) in
-    ap (λ z. z *ℤ pos m) up ∙ suc_ℤ-*ℤ (b +ℤ pos k) (pos m) ∙ ap (λ z. z +ℤ pos m) (shift b k m) ∙ omega (arith, ints)
-
-rises : (a b : ℤ) (m : ℕ) → 0 < m → (a *ℤ pos m) <ℤ (b *ℤ pos m) → a <ℤ b
-rises a b m some below = elim (cases_Bool (int_lt a b)) [
-  | inl less ↦ grind (arith, ints)
-  | inr more ↦
-      let above : b ≤ℤ a = grind (arith, ints) in
-      let times : a *ℤ pos m ≡ b *ℤ pos m +ℤ pos (nat_abs (a -ℤ b) * m) = ap (λ z. z *ℤ pos m) (distance b a above) ∙ shift b (nat_abs (a -ℤ b)) m in
-      absurd (omega (arith, ints))
-]
-
 -- a tile along whose edge v lies begins at the last whole degree up to v, or one before it
 near : (m : ℕ) (last corner v : ℤ) → 0 < m → (last *ℤ pos m) ≤ℤ v → v <ℤ (last *ℤ pos m +ℤ pos m) → IsTrue (is_along (pos m) corner v) →
     (corner ≡ last -ℤ pos 1) ⊎ (corner ≡ last)
 near m last corner v some from to along =
     let within = parts m corner v along in
-    let after_last : (last +ℤ pos 1) *ℤ pos m ≡ last *ℤ pos m +ℤ pos (1 * m) = shift last 1 m in
-    let after_corner : (corner +ℤ pos 2) *ℤ pos m ≡ corner *ℤ pos m +ℤ pos (2 * m) = shift corner 2 m in
-    let below : corner <ℤ (last +ℤ pos 1) = rises corner (last +ℤ pos 1) m some (omega (arith, ints)) in
-    let above : last <ℤ (corner +ℤ pos 2) = rises last (corner +ℤ pos 2) m some (omega (arith, ints)) in
+    let after_last : (last +ℤ pos 1) *ℤ pos m ≡ last *ℤ pos m +ℤ pos (1 * m) = product_plus last 1 m in
+    let after_corner : (corner +ℤ pos 2) *ℤ pos m ≡ corner *ℤ pos m +ℤ pos (2 * m) = product_plus corner 2 m in
+    let below : corner <ℤ (last +ℤ pos 1) = factor_less corner (last +ℤ pos 1) m (omega (arith, ints)) in
+    let above : last <ℤ (corner +ℤ pos 2) = factor_less last (corner +ℤ pos 2) m (omega (arith, ints)) in
     elim (cases_Bool (int_lt corner last)) [
       | inl less ↦ inl (grind (arith, ints))
       | inr more ↦ inr (grind (arith, ints))

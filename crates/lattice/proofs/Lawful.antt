@@ -1,5 +1,5 @@
 -- Adjacency is between ground points and goes both ways, and outlets are ground: on a mosaic and in a block.
-use Rattle.std.proofs.Common.{◌≡◌, ℕ, ◌+◌, ◌/◌, ◌%◌, ◌<◌, ℤ, ◌-ℤ◌, Bool, true, false, IsTrue, ◌&&◌, ◌||◌, not, List, [], ◌∷◌, refl, sym, ◌∙◌, ap, ap₂, nat_abs, arith, ⊎_elim, inl, inr}
+use Rattle.std.proofs.Common.{◌≡◌, ℕ, ◌+◌, ◌/◌, ◌%◌, ℤ, ◌-ℤ◌, Bool, true, false, IsTrue, ◌&&◌, ◌||◌, not, List, [], ◌∷◌, refl, ◌∙◌, ap, ap₂, nat_abs, arith, ⊎_elim}
 use Rattle.std.specs.Prelude.{nat_lt, nat_le, nat_eq}
 use Rattle.std.specs.Ordering.{int_eq}
 use Rattle.std.specs.List.{list_any}
@@ -10,7 +10,7 @@ use Rattle.lattice.specs.declared.point.Point.{Point}
 use Rattle.lattice.specs.Lattice.{holds}
 use Rattle.lattice.specs.Terrain.{IsLawful}
 use Rattle.lattice.specs.Mosaic.{Mosaic, Tile}
-use Rattle.lattice.specs.Ground.{is_ground, same_point, is_near, share_tile, is_adjacent, is_outlet, terrain}
+use Rattle.lattice.specs.Ground.{is_ground, same_point, is_near, share_tile, is_adjacent, terrain}
 use Rattle.lattice.specs.Block.{is_solid, is_linked, is_beside, is_exit, is_inner_outlet, is_rim, block}
 
 pub record AllFive (a b c d e : Bool) : Type 0 where

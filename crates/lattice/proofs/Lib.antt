@@ -1,5 +1,11 @@
+pub mod IntTests
 pub mod Along
+pub mod Multiples
 pub mod Samples
+pub mod Interior
+pub mod RimNumbers
+pub mod CornerOrder
+pub mod Rising
 pub mod Reach
 pub mod Kept
 pub mod Squares

@@ -4,6 +4,7 @@ use Rattle.std.proofs.Common.{◌≡◌, ◌∙◌, ℕ, ◌+◌, ◌-◌, ◌*�
 use Rattle.std.proofs.lemmas.Int.{ints}
 use Rattle.std.proofs.lemmas.Bool.{and_parts, and_from}
 use Rattle.std.proofs.lemmas.Grind.{rows}
+use Rattle.std.proofs.lemmas.Nat.{div-mul-add, mod-mul-add, mul-add-lt}
 use Rattle.lattice.specs.Corners.{Corner, is_corner}
 use Rattle.lattice.specs.Lattice.{IsSampleAt, Holds, IsIndexOf, point_of, is_along, holds, index_of}
 use Rattle.lattice.specs.declared.point.Point.{Point}
@@ -47,15 +48,6 @@ holds_is n c p side corner = (
       and_from (is_along (pos (n - 1)) c.lat p.y) (is_along (pos (n - 1)) c.lon p.x) both.0 both.1,
 )
 
-quotient : (n i j : ℕ) → j < n → (i * n + j) / n ≡ i
-quotient n i j small = grind (arith, rows)
-
-remainder : (n i j : ℕ) → j < n → (i * n + j) % n ≡ j
-remainder n i j small = grind (arith, rows)
-
-below_square : (n i j : ℕ) → i < n → j < n → i * n + j < n * n
-below_square n i j row column = grind (arith, rows)
-
 -- the index of a held point, and no other
 pub index_is : (n : ℕ) (c : Corner) (p : Point) (e : ℕ) → IsIndexOf n c p e → index_of n c p ≡ e
 index_is n c p e x =
@@ -68,7 +60,7 @@ pub index_unique : (n : ℕ) (c : Corner) (p : Point) (e f : ℕ) → IsIndexOf 
 index_unique n c p e f one other = sym (index_is n c p e one) ∙ index_is n c p f other
 
 pub index_below : (n : ℕ) (c : Corner) (p : Point) (e : ℕ) → IsIndexOf n c p e → e < n * n
-index_below n c p e x = subst (λ v. v < n * n) (sym x.sample.2.1) (below_square n x.sample.0 x.sample.1 x.sample.2.0.row x.sample.2.0.column)
+index_below n c p e x = subst (λ v. v < n * n) (sym x.sample.2.1) (mul-add-lt x.sample.0 n x.sample.1 n x.sample.2.0.row x.sample.2.0.column)
 
 -- a point with an index is held
 pub held_at : (n : ℕ) (c : Corner) (p : Point) (e : ℕ) → IsIndexOf n c p e → Holds n c p
@@ -119,8 +111,8 @@ point_at_index n c p e x =
     let i = x.sample.0 in
     let j = x.sample.1 in
     let s = x.sample.2.0 in
-    let row : e / n ≡ i = subst (λ v. v / n ≡ i) (sym x.sample.2.1) (quotient n i j s.column) in
-    let column : e % n ≡ j = subst (λ v. v % n ≡ j) (sym x.sample.2.1) (remainder n i j s.column) in
+    let row : e / n ≡ i = subst (λ v. v / n ≡ i) (sym x.sample.2.1) (div-mul-add i n j s.column) in
+    let column : e % n ≡ j = subst (λ v. v % n ≡ j) (sym x.sample.2.1) (mod-mul-add i n j s.column) in
     let at : p.y +ℤ pos i ≡ c.lat *ℤ pos (n - 1) +ℤ pos (n - 1) = s.y in
     let y : (c.lat *ℤ pos (n - 1) +ℤ pos (n - 1)) -ℤ pos (e / n) ≡ p.y = ap (λ v. (c.lat *ℤ pos (n - 1) +ℤ pos (n - 1)) -ℤ pos v) row ∙ omega (arith, ints) in
     let x_is : c.lon *ℤ pos (n - 1) +ℤ pos (e % n) ≡ p.x = ap (λ v. c.lon *ℤ pos (n - 1) +ℤ pos v) column ∙ sym s.x in

@@ -1,20 +1,19 @@
 -- Every ground point of a mosaic has a path to an outlet: northwards, as far as there is adjacent ground.
-use Rattle.std.proofs.Common.{◌≡◌, ℕ, zero, suc, ◌+◌, ◌-◌, ◌*◌, ◌<◌, ◌≤◌, ℤ, pos, negsuc, ◌+ℤ◌, ◌-ℤ◌, ◌*ℤ◌, ◌≤ℤ◌, ◌<ℤ◌, Bool, true, false, IsTrue, ◌&&◌, ◌||◌, not, cond, List, [], ◌∷◌, refl, sym, ◌∙◌, ap, subst, nat_abs, arith, ⊎_elim, inl, inr, length, map, true≢false}
-use Rattle.std.specs.Prelude.{nat_lt, count_by, All, int_le, filter}
+use Rattle.std.proofs.Common.{◌≡◌, ℕ, zero, suc, ◌+◌, ◌-◌, ◌*◌, ◌<◌, ◌≤◌, ℤ, pos, negsuc, ◌+ℤ◌, ◌-ℤ◌, ◌*ℤ◌, ◌≤ℤ◌, ◌<ℤ◌, Bool, true, false, IsTrue, cond, List, [], ◌∷◌, sym, subst, nat_abs, arith, ⊎_elim, inl, inr, map, true≢false}
+use Rattle.std.specs.Prelude.{nat_lt, All, int_le, filter}
 use Rattle.std.specs.List.{list_any}
 use Rattle.std.proofs.lemmas.Bool.{cases_Bool, and_parts, and_from, or_cases, or_left, or_right, lt-ltb}
 use Rattle.std.proofs.lemmas.Int.{ints}
-use Rattle.std.proofs.lemmas.Bool.Decides.{nat_tests}
 use Rattle.std.proofs.Math.Nat.{mul-le-mul_left}
 use Rattle.lattice.specs.declared.point.Point.{Point}
 use Rattle.lattice.specs.declared.direction.Dir.TheVariants.{North}
-use Rattle.lattice.specs.Corners.{is_corner}
-use Rattle.lattice.specs.Steps.{step, directions}
+use Rattle.lattice.specs.Steps.{step}
 use Rattle.lattice.specs.Lattice.{holds}
-use Rattle.lattice.specs.Terrain.{LeadsOut, IsPath, IsLawful}
+use Rattle.lattice.specs.Terrain.{LeadsOut}
 use Rattle.lattice.specs.Mosaic.{Mosaic, Tile, IsMosaic, IsTile}
 use Rattle.lattice.specs.Height.{sample_at, by_seam_rule}
-use Rattle.lattice.specs.Ground.{is_ground, is_height, is_adjacent, is_outlet, degree_of, terrain}
+use Rattle.lattice.specs.Ground.{is_ground, is_height, is_adjacent, degree_of, terrain}
+use Rattle.lattice.proofs.IntTests.{le_true}
 use Rattle.lattice.proofs.Lawful.{terrain_is_lawful}
 
 one_at_most : (b : Bool) → cond b 1 0 ≤ 1
@@ -41,9 +40,6 @@ held n p (t ∷ rest) h = elim (cases_Bool (holds n t.corner p)) [
   | inr off ↦ or_right (holds n t.corner p) _ (held n p rest (subst (λ b. IsTrue (is_height (by_seam_rule (map (λ t. sample_at n t p) (cond b (t ∷ filter (λ t. holds n t.corner p) rest) (filter (λ t. holds n t.corner p) rest)))))) off h))
 ]
 
-pub int_le-true : (a b : ℤ) → int_le a b ≡ true → a ≤ℤ b
-int_le-true a b h = grind (arith, ints)
-
 -- an edge lies no farther north than that of the northernmost corner
 scaled : (a : ℤ) (k : ℕ) → (a ≤ℤ pos 89) → ((a *ℤ pos k) ≤ℤ pos (89 * k))
 scaled (pos x) k le = let small : x ≤ 89 = omega (arith, ints) in omega (arith, ints, mul-le-mul_left k small)
@@ -53,8 +49,8 @@ north : (n : ℕ) (p : Point) (t : Tile) → IsTile n t → IsTrue (holds n t.co
 north n p t is here =
     let along = and_parts (int_le (t.corner.lat *ℤ pos (n - 1)) p.y) _ (and_parts _ _ here).0 in
     let corner = and_parts (int_le (negsuc 89) t.corner.lat) (int_le t.corner.lat (pos 89)) (and_parts _ _ (and_parts _ _ is.corner).0).0 in
-    let low : t.corner.lat ≤ℤ pos 89 = int_le-true _ _ corner.1 in
-    let edge : p.y ≤ℤ (t.corner.lat *ℤ pos (n - 1) +ℤ pos (n - 1)) = int_le-true _ _ along.1 in
+    let low : t.corner.lat ≤ℤ pos 89 = le_true _ _ corner.1 in
+    let edge : p.y ≤ℤ (t.corner.lat *ℤ pos (n - 1) +ℤ pos (n - 1)) = le_true _ _ along.1 in
     omega (arith, ints, scaled t.corner.lat (n - 1) low)
 
 -- one of the tiles reaches as far north as the point

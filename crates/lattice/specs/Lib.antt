@@ -1,3 +1,4 @@
+pub mod Limits
 pub mod Corners
 pub mod Refusals
 pub mod Steps
@@ -8,6 +9,7 @@ pub mod Mosaic
 pub mod Height
 pub mod Ground
 pub mod Block
+pub mod RimPoints
 pub mod Degrees
 pub mod LatticeLaws
 pub mod StepLaws

@@ -5,6 +5,7 @@ use Rattle.std.specs.Ordering.{int_eq}
 use Rattle.std.specs.List.{list_any, AllAdjacentBelow}
 use Rattle.lattice.specs.Corners.{Corner, is_corner, same_corner}
 use Rattle.lattice.specs.Lattice.{IsBefore}
+use Rattle.lattice.specs.Limits.{largest_side}
 
 -- the sample of a data void
 abbrev pub void : ℤ
@@ -35,7 +36,7 @@ pub record IsTile (n : ℕ) (t : Tile) : Type 0 where
 -- whole tiles in the order of their corners, no corner twice
 pub record IsMosaic (m : Mosaic) : Type 0 where
   pub side_low : 3 ≤ m.side
-  pub side_high : m.side ≤ 3601
+  pub side_high : m.side ≤ largest_side
   pub tiles : All (IsTile m.side) m.tiles
   pub in_order : AllAdjacentBelow (λ a b. IsBefore a.corner b.corner) m.tiles (length m.tiles)
 

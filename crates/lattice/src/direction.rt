@@ -77,13 +77,13 @@ pub struct Step {
     pub to: Point,
 }
 
-// The neighbour in this direction, where its coordinates are numbers of 32 bits.
-fn neighbour(from: Point, direction: Dir) -> Option<Point>
-    ensures { SomeIff result (IsTrue (fits_point (step direction from))) (step direction from) }
+/// The point one step away in this direction, where its coordinates are numbers of 32 bits.
+pub fn neighbour(point: Point, direction: Dir) -> Option<Point>
+    ensures { SomeIff result (IsTrue (fits_point (step direction point))) (step direction point) }
 {
     let (north, east) = direction.offsets();
-    let y = shifted(from.y, north)?;
-    let x = shifted(from.x, east)?;
+    let y = shifted(point.y, north)?;
+    let x = shifted(point.x, east)?;
     Some(Point { y, x })
 }
 

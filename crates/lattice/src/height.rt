@@ -10,3 +10,6 @@ pub enum Height {
     /// Whole metres, from -32767 to 32767.
     At(i16),
 }
+
+/// The sample of a data void (SRTM documentation).
+pub const VOID: i16 = -32768;

@@ -1,5 +1,6 @@
 //! Laws of the lattice. Each function says its law in its contract, and does nothing.
 ghost use Rattle.lattice.specs.LatticeLaws.{EachIndexHasItsPoint, EachIndexIsOfOnePoint, EachPointHasOneIndex, HeldPointsHaveIndices, EdgesTellHolders, AtMostFourHoldAPoint};
+ghost use Rattle.lattice.specs.RimPoints.{EachNumberHasARimPoint, EachNumberIsOfOneRimPoint, EachRimPointIsNumbered};
 ghost use Rattle.lattice.specs.StepLaws.{NoDoubleSquare};
 
 /// Within a tile, indices and the points that it holds stand for each other, one to one.
@@ -18,6 +19,13 @@ pub fn edges_tell_holders()
 /// At most four tiles hold a point.
 pub fn at_most_four_hold_a_point()
     ensures { AtMostFourHoldAPoint }
+{}
+
+/// The rim points of a tile and the numbers below four times its edge stand for each other, one to one.
+pub fn rim_points_are_numbered()
+    ensures rim_point { EachNumberHasARimPoint }
+    ensures one_rim_point { EachNumberIsOfOneRimPoint }
+    ensures number { EachRimPointIsNumbered }
 {}
 
 /// No drop over a straight step is as steep as one over a diagonal step.

@@ -12,23 +12,28 @@ mod ground_laws;
 mod height;
 mod holding;
 mod laws;
+mod limits;
 mod point;
 mod refusal;
+mod rim;
 mod side;
 #[cfg(test)]
 mod tests;
 
 pub use corner::Corner;
-pub use direction::{DIRECTIONS, Dir, Step, steeper, steps};
+pub use direction::{DIRECTIONS, Dir, Step, neighbour, steeper, steps};
 pub use ground_laws::{
     blocks_are_lawful, filled_levels_are_unique, filled_levels_exist, terrains_are_lawful,
     ways_out_exist,
 };
-pub use height::Height;
+pub use height::{Height, VOID};
 pub use holding::{holders, index_in, point_at};
 pub use laws::{
     at_most_four_hold_a_point, edges_tell_holders, index_and_point_are_inverse, no_double_square,
+    rim_points_are_numbered,
 };
+pub use limits::{LARGEST_SIDE, MOST_TILES};
 pub use point::Point;
 pub use refusal::Refusal;
+pub use rim::{is_rim, rim_index, rim_number};
 pub use side::Side;

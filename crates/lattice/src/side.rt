@@ -1,6 +1,8 @@
 //! The size of a tile.
 ghost use Rattle.std.specs.Prelude.{◌≡◌, ◌≤◌, ◌*◌, ◌-◌, SomeIff};
+ghost use Rattle.lattice.specs.Limits.{IsSide, largest_side};
 
+use crate::LARGEST_SIDE;
 use std::marker::Model;
 
 /// How many samples a tile has along each edge, from 3 to 3601: 1201 in SRTM3 tiles, 3601 in SRTM1 tiles (SRTM
@@ -11,13 +13,14 @@ pub struct Side {
 }
 
 impl Model for Side {
-    ghost use Rattle.std.specs.Prelude.{ℕ, ◌≤◌};
+    ghost use Rattle.std.specs.Prelude.{ℕ};
+    ghost use Rattle.lattice.specs.Limits.{IsSide};
 
     ghost Value = { ℕ };
 
     ghost view = { λ s. s.samples };
 
-    ghost invariant = { λ s. (3 ≤ s.samples) × (s.samples ≤ 3601) };
+    ghost invariant = { λ s. IsSide s.samples };
 
     ghost inverse = { λ n. record { samples = n } };
 }
@@ -25,9 +28,9 @@ impl Model for Side {
 impl Side {
     /// The side of so many samples, where there is one.
     pub fn new(samples: u32) -> Option<Side>
-        ensures { SomeIff result ((3 ≤ samples) × (samples ≤ 3601)) samples }
+        ensures { SomeIff result (IsSide samples) samples }
     {
-        if 3 <= samples && samples <= 3601 {
+        if 3 <= samples && samples <= LARGEST_SIDE {
             Some(Side { samples })
         } else {
             None
@@ -38,7 +41,7 @@ impl Side {
     pub fn samples(self) -> u32
         ensures value { result ≡ self }
         ensures low { 3 ≤ self }
-        ensures high { self ≤ 3601 }
+        ensures high { self ≤ largest_side }
     {
         self.samples
     }
@@ -47,16 +50,25 @@ impl Side {
     pub fn edge(self) -> u32
         ensures value { result ≡ self - 1 }
         ensures low { 3 ≤ self }
-        ensures high { self ≤ 3601 }
+        ensures high { self ≤ largest_side }
     {
         self.samples - 1
+    }
+
+    /// Samples on the rim of the tile: those of its first and last rows and columns.
+    pub fn rim(self) -> u32
+        ensures value { result ≡ 4 * (self - 1) }
+        ensures low { 3 ≤ self }
+        ensures high { self ≤ largest_side }
+    {
+        4 * self.edge()
     }
 
     /// Samples in the whole tile.
     pub fn area(self) -> u32
         ensures value { result ≡ self * self }
         ensures low { 3 ≤ self }
-        ensures high { self ≤ 3601 }
+        ensures high { self ≤ largest_side }
     {
         self.samples * self.samples
     }
@@ -65,7 +77,7 @@ impl Side {
     pub fn file_bytes(self) -> u32
         ensures value { result ≡ 2 * (self * self) }
         ensures low { 3 ≤ self }
-        ensures high { self ≤ 3601 }
+        ensures high { self ≤ largest_side }
     {
         2 * self.area()
     }

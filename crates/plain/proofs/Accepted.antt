@@ -17,7 +17,7 @@ use Rattle.lattice.specs.Lattice.{holds, index_of}
 use Rattle.lattice.specs.Mosaic.{Mosaic, IsTile, IsMosaic, IsSample, is_present, is_void, void}
 use Rattle.lattice.specs.Height.{sample_at, first_height, by_seam_rule, height_of}
 use Rattle.lattice.specs.Ground.{metres, same_point}
-use Rattle.lattice.proofs.Along.{le_true}
+use Rattle.lattice.proofs.IntTests.{le_true}
 use Rattle.hgt.specs.Bytes.{samples_in}
 use Rattle.edits.specs.declared.command.Command.{Command}
 use Rattle.edits.specs.declared.command.Command.TheVariants.{Import, Remove, Patch, Burn, Wall}

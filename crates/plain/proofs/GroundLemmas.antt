@@ -12,7 +12,8 @@ use Rattle.lattice.specs.Height.{sample_at, by_seam_rule}
 use Rattle.lattice.specs.Ground.{is_height, is_ground, same_point, is_near, share_tile, is_adjacent}
 use Rattle.lattice.specs.Steps.{step}
 use Rattle.lattice.specs.Stepping.{fits_number, fits_point, reach_of}
-use Rattle.lattice.proofs.Along.{parts, le_true, le_from}
+use Rattle.lattice.proofs.Along.{parts}
+use Rattle.lattice.proofs.IntTests.{le_true, le_from}
 use Rattle.plain.proofs.SeamLemmas.{told}
 
 -- a point with a height is held by a present tile

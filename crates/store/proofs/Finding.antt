@@ -9,8 +9,8 @@ use Rattle.hgt.specs.Bytes.{sample_of, hgt_bytes}
 use Rattle.hgt.proofs.BytesLemmas.{hgt_bytes-samples_in}
 use Rattle.catalogue.specs.Reading.{IsSampleOf}
 use Rattle.catalogue.proofs.Mosaics.{corner_of, rising_tiles}
-use Rattle.catalogue.proofs.Places.{before_not_same, same_from}
-use Rattle.catalogue.proofs.Rising.{AllAfter, Rising}
+use Rattle.lattice.proofs.CornerOrder.{before_not_same, same_from}
+use Rattle.lattice.proofs.Rising.{AllAfter, Rising}
 use Rattle.cow_tree.specs.Stored.{StoredTile, plane_bytes, samples_of_plane}
 use Rattle.store.proofs.Pages.{bytes_of_plane, length_plane, length_samples, sample_in_page}
 use Rattle.store.proofs.HeldTiles.{IsFilled, AreTilesOf, as_tile}

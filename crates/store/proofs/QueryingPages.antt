@@ -12,9 +12,9 @@ use Rattle.lattice.specs.Mosaic.{Mosaic, is_present, samples_of}
 use Rattle.page_codec.specs.Sizes.{pages_of}
 use Rattle.hgt.specs.Bytes.{hgt_bytes}
 use Rattle.catalogue.specs.Tiles.{corners_of}
-use Rattle.catalogue.proofs.Places.{before_not_same, same_from}
+use Rattle.lattice.proofs.CornerOrder.{before_not_same, same_from}
 use Rattle.catalogue.proofs.Presence.{present_iff, some-samples}
-use Rattle.catalogue.proofs.Rising.{Rising}
+use Rattle.lattice.proofs.Rising.{Rising}
 use Rattle.cow_tree.specs.Layout.{TilePlace, tile_in}
 use Rattle.cow_tree.specs.Planes.{HasPage}
 use Rattle.cow_tree.specs.declared.plane.Plane.TheVariants.{Heights}

@@ -7,8 +7,8 @@ use Rattle.std.proofs.lemmas.Option.{get_or_from_slice_get}
 use Rattle.lattice.specs.Corners.{Corner, is_before, same_corner}
 use Rattle.lattice.specs.Mosaic.{Tile, Mosaic, IsSample}
 use Rattle.catalogue.specs.Tiles.{with_sample, with_sample_in}
-use Rattle.catalogue.proofs.Places.{before_not_same, same_from, after_not_same}
-use Rattle.catalogue.proofs.Rising.{AllAfter, Rising}
+use Rattle.lattice.proofs.CornerOrder.{before_not_same, same_from, after_not_same}
+use Rattle.lattice.proofs.Rising.{AllAfter, Rising}
 use Rattle.edits.specs.declared.change.Change.{Change}
 use Rattle.edits.specs.Changes.{changed, all_changed}
 use Rattle.cow_tree.specs.Stored.{IsPage, PlanePages, StoredTile, samples_of_plane, with_page_in, with_page}

@@ -7,8 +7,8 @@ use mir.Val.{to_z, of_z}
 use Rattle.lattice.specs.Corners.{Corner}
 use Rattle.catalogue.specs.Tiles.{corners_before}
 use Rattle.catalogue.proofs.Holders.{itself}
-use Rattle.catalogue.proofs.Rising.{rising_from}
-use Rattle.catalogue.proofs.Rows.{place, corner_from, step_some, step_none, before-row}
+use Rattle.lattice.proofs.Rising.{rising_from}
+use Rattle.catalogue.proofs.Rows.{corner_at, corner_from, step_some, step_none, before-row}
 use Rattle.catalogue.proofs.listing.add_row.Goals as goal
 use Rattle.catalogue.proofs.listing.add_row.Goals.{in-Some+in_ok-map_err, in_default}
 
@@ -27,7 +27,7 @@ loop-lon-preserved g c =
     let lon : ℤ = to_z w16 c.loop-lon.lon-bits in
     let lat_is : lat ≡ c.args.lat = to_z-of_z w16 c.args.lat c.ranges.lat in
     let next : to_z w16 (of_z w16 (lon +ℤ pos 1)) ≡ lon +ℤ pos 1 = omega (arith, ints) in
-    let corner = corner_from (place lat lon) (omega (arith, ints)) (omega (arith, ints)) c.loop-lon.invariant.low (omega (arith, ints)) in
+    let corner = corner_from (corner_at lat lon) (omega (arith, ints)) (omega (arith, ints)) c.loop-lon.invariant.low (omega (arith, ints)) in
     record {
       low = omega (arith, ints);
       high = omega (arith, ints);

@@ -4,7 +4,7 @@ use mir.Syntax.{w16}
 use mir.Val.{to_z, of_z}
 use Rattle.catalogue.specs.Tiles.{corners_before, AreCorners}
 use Rattle.catalogue.proofs.Holders.{itself}
-use Rattle.catalogue.proofs.Rising.{Adjacent}
+use Rattle.lattice.proofs.Rising.{Adjacent}
 use Rattle.catalogue.proofs.Rows.{before-first, before-last}
 use Rattle.catalogue.proofs.listing.tiles.Goals as goal
 

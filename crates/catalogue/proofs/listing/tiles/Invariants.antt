@@ -1,7 +1,7 @@
 use Rattle.std.proofs.Common.{◌≡◌, ◌⊎◌, pos, negsuc, ◌≤ℤ◌}
 use Rattle.catalogue.specs.Tiles.{corners_before, AreCorners}
 use Rattle.catalogue.proofs.Holders.{itself}
-use Rattle.catalogue.proofs.Rising.{Adjacent}
+use Rattle.lattice.proofs.Rising.{Adjacent}
 use Rattle.catalogue.proofs.listing.tiles.Given as goal
 
 abbrev pub invariant-loop-lat : goal.invariant-loop-lat

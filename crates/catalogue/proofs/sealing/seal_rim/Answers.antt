@@ -1,13 +1,13 @@
-use Rattle.std.proofs.Common.{◌≡◌, ◌-◌, ◌*◌, ◌<◌, List, arith, sym, ap, ◌∙◌, subst}
+use Rattle.std.proofs.Common.{◌≡◌, ◌-◌, ◌*◌, List, arith, sym, ap, ◌∙◌, subst}
 use Rattle.std.specs.Prelude.{Contains, Ok}
 use Rattle.lattice.specs.Corners.{Corner}
-use Rattle.catalogue.specs.Sealed.{rim_index}
+use Rattle.lattice.specs.RimPoints.{IsRimPoint}
 use Rattle.catalogue.proofs.Blocks.{IsPartly, partly_none, partly_step, partly_all}
 use Rattle.catalogue.proofs.Reading.{reads_nothing, reads_on}
 use Rattle.catalogue.proofs.sealing.seal_rim.Goals as goal
 
-pub loop-step-init : goal.loop-step-init
-loop-step-init g c =
+pub loop-number-init : goal.loop-number-init
+loop-number-init g c =
     let laws = g.met.S.Samples in
     let now = c.args.samples.now in
     record {
@@ -16,23 +16,22 @@ loop-step-init g c =
       partly = λ honest own. partly_none (g.S.Samples.mosaic now) c.args.corner c.args.heights.now (laws.is_mosaic now honest) (c.requires.whole ∙ ap (λ n. n * n) (sym (laws.same_side now honest))) own;
     }
 
-pub loop-step-preserved : goal.loop-step-preserved
-loop-step-preserved g c =
+pub loop-number-preserved : goal.loop-number-preserved
+loop-number-preserved g c =
     let laws = g.met.S.Samples in
     let now = c.args.samples.now in
     let m = g.S.Samples.mosaic now in
-    let so = c.loop-step.invariant in
+    let so = c.loop-number.invariant in
     let read = c.in_ok-seal_at.ensures.reads in
     record {
-      reads = reads_on g.S.Samples laws.keeps_on now c.loop-step.samples c.seal_at.new.samples tt (Ok tt) so.reads read;
+      reads = reads_on g.S.Samples laws.keeps_on now c.loop-number.samples c.seal_at.new.samples tt (Ok tt) so.reads read;
       whole = c.seal_at.auto.heights ∙ so.whole;
       partly = λ honest own.
           let honest_mid = read.honest honest in
           let side = laws.same_side now (so.reads.honest honest_mid) in
-          let at : c.rim_index.result ≡ rim_index m.side c.loop-step.step = c.rim_index.ensures.value ∙ ap (λ n. rim_index n c.loop-step.step) (c.side-side.ensures ∙ sym side) in
-          let small = subst (λ n. c.rim_index.result < n * n) (c.side-side.ensures ∙ sym side) c.rim_index.ensures.inside in
-          partly_step m c.args.corner (g.S.Samples.mosaic c.loop-step.samples) (g.S.Samples.side_of c.loop-step.samples) c.rim_index.result c.loop-step.step c.loop-step.heights c.seal_at.new.heights
-          (so.reads.mosaic honest_mid) (so.reads.side ∙ sym side) at small (so.partly honest_mid own) (c.in_ok-seal_at.ensures.height honest);
+          let at : IsRimPoint m.side c.loop-number.number c.rim_index.result = subst (λ n. IsRimPoint n c.loop-number.number c.rim_index.result) (c.side-side.ensures ∙ sym side) c.rim_index.ensures in
+          partly_step m c.args.corner (g.S.Samples.mosaic c.loop-number.samples) (g.S.Samples.side_of c.loop-number.samples) c.rim_index.result c.loop-number.number c.loop-number.heights c.seal_at.new.heights
+          (so.reads.mosaic honest_mid) (so.reads.side ∙ sym side) (laws.is_mosaic now (so.reads.honest honest_mid)).side_low at (so.partly honest_mid own) (c.in_ok-seal_at.ensures.height honest);
     }
 
 pub returns-clause-block : goal.returns-clause-block
@@ -40,9 +39,9 @@ returns-clause-block g c honest own =
     let laws = g.met.S.Samples in
     let now = c.args.samples.now in
     let m = g.S.Samples.mosaic now in
-    let so = c.loop-step.invariant in
+    let so = c.loop-number.invariant in
     let honest_now = so.reads.honest honest in
     let there = subst (λ (cs : List Corner). Contains cs c.args.corner) (sym (laws.same_corners now honest_now)) c.requires.present in
-    let edge : c.edge-step-end.result ≡ m.side - 1 = c.edge-step-end.ensures.value ∙ ap (λ n. n - 1) (c.side-side.ensures ∙ sym (laws.same_side now honest_now)) in
-    let end : c.loop-step.step ≡ 4 * (m.side - 1) = omega (arith, edge) in
-    partly_all m c.args.corner c.loop-step.heights (laws.is_mosaic now honest_now) there (subst (λ k. IsPartly m c.args.corner k c.loop-step.heights) end (so.partly honest own))
+    let rim : c.rim-number-end.result ≡ 4 * (m.side - 1) = c.rim-number-end.ensures.value ∙ ap (λ n. 4 * (n - 1)) (c.side-side.ensures ∙ sym (laws.same_side now honest_now)) in
+    let end : c.loop-number.number ≡ 4 * (m.side - 1) = omega (arith, rim) in
+    partly_all m c.args.corner c.loop-number.heights (laws.is_mosaic now honest_now) there (subst (λ k. IsPartly m c.args.corner k c.loop-number.heights) end (so.partly honest own))

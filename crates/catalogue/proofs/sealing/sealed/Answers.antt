@@ -8,7 +8,7 @@ use Rattle.catalogue.specs.Tiles.{corners_of, added}
 use Rattle.catalogue.proofs.Filling.{next_absent, next_corners, next_all}
 use Rattle.catalogue.proofs.Holders.{itself}
 use Rattle.catalogue.proofs.Reading.{reads_nothing, reads_on}
-use Rattle.catalogue.proofs.Rising.{Adjacent, Rising, rising_from}
+use Rattle.lattice.proofs.Rising.{Adjacent, Rising, rising_from}
 use Rattle.catalogue.proofs.sealing.sealed.Goals as goal
 
 pub loop-corner-init : goal.loop-corner-init

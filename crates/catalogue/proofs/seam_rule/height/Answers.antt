@@ -4,7 +4,7 @@ use Rattle.lattice.specs.Corners.{Corner}
 use Rattle.lattice.specs.Lattice.{Holds}
 use Rattle.lattice.specs.Height.{by_seam_rule}
 use Rattle.lattice.specs.declared.height.Height.TheVariants.{Outside}
-use Rattle.catalogue.proofs.Rising.{Adjacent}
+use Rattle.lattice.proofs.Rising.{Adjacent}
 use Rattle.catalogue.proofs.Reading.{reads_nothing}
 use Rattle.catalogue.proofs.Holders.{itself, samples_from_holders}
 use Rattle.catalogue.proofs.seam_rule.height.Goals as goal

@@ -3,7 +3,7 @@ use Rattle.std.specs.Prelude.{Contains, None}
 use Rattle.lattice.specs.Corners.{Corner}
 use Rattle.lattice.specs.Lattice.{Holds}
 use Rattle.lattice.specs.Height.{differ}
-use Rattle.catalogue.proofs.Rising.{Adjacent}
+use Rattle.lattice.proofs.Rising.{Adjacent}
 use Rattle.catalogue.proofs.Reading.{reads_nothing}
 use Rattle.catalogue.proofs.Holders.{itself, samples_from_holders}
 use Rattle.catalogue.proofs.seams_between.disagrees.Goals as goal

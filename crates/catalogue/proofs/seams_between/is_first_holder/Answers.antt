@@ -6,7 +6,7 @@ use Rattle.std.specs.Prelude.{Contains}
 use Rattle.lattice.specs.Corners.{Corner}
 use Rattle.lattice.specs.Lattice.{Holds}
 use Rattle.catalogue.specs.Seams.{is_first}
-use Rattle.catalogue.proofs.Rising.{Adjacent}
+use Rattle.lattice.proofs.Rising.{Adjacent}
 use Rattle.catalogue.proofs.Holders.{itself}
 use Rattle.catalogue.proofs.PresentHolders.{present_holders_are, first_step}
 use Rattle.catalogue.proofs.seams_between.is_first_holder.Goals as goal

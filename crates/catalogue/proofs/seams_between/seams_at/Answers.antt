@@ -6,18 +6,18 @@ use Rattle.lattice.specs.Mosaic.{Mosaic, IsMosaic}
 use Rattle.catalogue.specs.Tiles.{corners_of, is_listed, AreCorners}
 use Rattle.catalogue.specs.Seams.{seams_before}
 use Rattle.catalogue.proofs.OneTile.{corners_are}
-use Rattle.catalogue.proofs.Rows.{place, place_is}
+use Rattle.catalogue.proofs.Rows.{corner_at, corner_at_is}
 use Rattle.catalogue.proofs.SeamCounts.{seams_ok, seams_none}
 use Rattle.catalogue.proofs.seams_between.seams_at.Goals as goal
 
 -- what was asked of the list of corners, of the mosaic
 as_listed : (m : Mosaic) (lat lon : ℤ) (cs : List Corner) → IsMosaic m → corners_of m ≡ cs → SFits w16 lat → SFits w16 lon → (found : Option Corner)
-    → (AreCorners cs → found ≡ cond (is_listed (place (to_z w16 (of_z w16 lat)) (to_z w16 (of_z w16 lon))) cs) (Some (place (to_z w16 (of_z w16 lat)) (to_z w16 (of_z w16 lon)))) None)
-    → found ≡ cond (is_listed (place lat lon) (corners_of m)) (Some (place lat lon)) None
+    → (AreCorners cs → found ≡ cond (is_listed (corner_at (to_z w16 (of_z w16 lat)) (to_z w16 (of_z w16 lon))) cs) (Some (corner_at (to_z w16 (of_z w16 lat)) (to_z w16 (of_z w16 lon)))) None)
+    → found ≡ cond (is_listed (corner_at lat lon) (corners_of m)) (Some (corner_at lat lon)) None
 as_listed m lat lon cs valid same lat_fits lon_fits found answer =
     answer (subst AreCorners same (corners_are m valid))
-    ∙ ap (λ (p : Corner). cond (is_listed p cs) (Some p) None) (place_is lat lon lat_fits lon_fits)
-    ∙ ap (λ (l : List Corner). cond (is_listed (place lat lon) l) (Some (place lat lon)) None) (sym same)
+    ∙ ap (λ (p : Corner). cond (is_listed p cs) (Some p) None) (corner_at_is lat lon lat_fits lon_fits)
+    ∙ ap (λ (l : List Corner). cond (is_listed (corner_at lat lon) l) (Some (corner_at lat lon)) None) (sym same)
 
 pub returns-in-Some-clause-value : goal.returns-in-Some-clause-value
 returns-in-Some-clause-value g c honest_after =

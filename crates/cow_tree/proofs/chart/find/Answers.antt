@@ -3,8 +3,8 @@ use Rattle.std.proofs.lemmas.List.{get_or_default}
 use Rattle.std.proofs.lemmas.Fn.{always_returns_same}
 use Rattle.std.proofs.lemmas.Bool.{false≢true}
 use Rattle.lattice.specs.Corners.{is_before}
-use Rattle.catalogue.proofs.Rising.{Rising, rising_from}
-use Rattle.catalogue.proofs.Places.{same_from}
+use Rattle.lattice.proofs.Rising.{Rising, rising_from}
+use Rattle.lattice.proofs.CornerOrder.{same_from}
 use Rattle.cow_tree.specs.declared.slot.Slot.{Slot}
 use Rattle.cow_tree.proofs.SlotLists.{corner_of, rising_partition, room_after}
 use Rattle.cow_tree.proofs.chart.find.Goals as goal

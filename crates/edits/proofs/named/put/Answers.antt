@@ -6,7 +6,7 @@ use Rattle.std.proofs.lemmas.List.{take_all, take_more}
 use mir.Syntax.{w16}
 use Rattle.lattice.specs.Corners.{Corner}
 use Rattle.lattice.specs.Lattice.{Holds}
-use Rattle.catalogue.proofs.Rising.{Rising, rising_from}
+use Rattle.lattice.proofs.Rising.{Rising, rising_from}
 use Rattle.edits.specs.declared.change.Change.{Change}
 use Rattle.edits.specs.declared.change.Change.TheVariants.{Set}
 use Rattle.edits.specs.Puts.{ArePutAt}

@@ -1,6 +1,7 @@
 use Rattle.std.proofs.Common.{arith, ◌≡◌, ◌∙◌, ◌≤◌, ap, sym, subst, pos, ◌+ℤ◌, ◌-ℤ◌, ◌*ℤ◌, ◌≤ℤ◌, w16, w64, to_z, of_z, nat_abs}
 use Rattle.std.proofs.lemmas.Int.{ints, to_z-of_z}
-use Rattle.lattice.proofs.Along.{le_true, no_farther, distance, distance_le, outside_below, outside_above}
+use Rattle.lattice.proofs.IntTests.{le_true}
+use Rattle.lattice.proofs.Along.{no_farther, distance, distance_le, outside_below, outside_above}
 use Rattle.lattice.proofs.holding.steps_along.Goals as goal
 use Rattle.lattice.proofs.holding.steps_along.Goals.{else-steps-ge0-via-then-steps-ge0+else-steps-from, else-steps-ge0-via-else-steps-ge0}
 

@@ -1,6 +1,6 @@
 use Rattle.std.proofs.Common.{◌≡◌, subst, ◌↔◌, false, true}
 use Rattle.std.specs.Prelude.{IfSome, IsSome}
-use Rattle.catalogue.proofs.Rising.{rising_from}
+use Rattle.lattice.proofs.Rising.{rising_from}
 use Rattle.std.proofs.lemmas.Bool.{false≢true}
 use Rattle.cow_tree.specs.Charts.{ChartValue, HasHeights, IsPlaced}
 use Rattle.cow_tree.specs.Slots.{IsSlotAt, IsRoomAt}

@@ -1,6 +1,6 @@
 use Rattle.std.proofs.Common.{◌≡◌, subst}
 use Rattle.std.specs.Prelude.{IfSome, IfNone, Contains, None}
-use Rattle.catalogue.proofs.Rising.{rising_from}
+use Rattle.lattice.proofs.Rising.{rising_from}
 use Rattle.cow_tree.specs.Layout.{TilePlace}
 use Rattle.cow_tree.specs.Charts.{ChartValue, HasKept}
 use Rattle.cow_tree.specs.Slots.{IsSlotAt, IsRoomAt}

@@ -1,12 +1,13 @@
--- Lists whose corners rise, by recursion: what the definitions say by places.
-use Rattle.std.proofs.Common.{zero, suc, Bool, true, false, cond, IsTrue, List, [], ◌∷◌, length, arith}
+-- Lists whose corners rise, by recursion: what the definitions say by index.
+use Rattle.std.proofs.Common.{◌≡◌, ℕ, zero, suc, ◌<◌, inl, inr, sym, get_or, Bool, true, false, cond, IsTrue, List, [], ◌∷◌, length, arith}
 use native.Mathlib.Numerals.{unary_clauses}
 use Rattle.std.specs.List.{AllAdjacentBelow, filter}
+use Rattle.std.proofs.lemmas.Bool.{cases_order}
 use Rattle.lattice.specs.Corners.{Corner, is_before}
-use Rattle.catalogue.proofs.Places.{before_trans}
+use Rattle.lattice.proofs.CornerOrder.{before_trans, before_apart}
 
 module _ {X : Type 0} (key : X → Corner) where
-  -- each of the list stands after the place
+  -- each of the list stands after the corner
   abbrev pub AllAfter : Corner → List X → Type 0
   AllAfter c [] = Unit {0}
   AllAfter c (x ∷ xs) = IsTrue (is_before c (key x)) × AllAfter c xs
@@ -48,4 +49,26 @@ module _ {X : Type 0} (key : X → Corner) where
   rising-filter p (x ∷ xs) h = elim (p x) as (λ b. Rising (cond b (x ∷ filter p xs) (filter p xs))) [
     | true ↦ (after-filter p (key x) xs h.0, rising-filter p xs h.1)
     | false ↦ rising-filter p xs h.1
+  ]
+
+  -- what stands after a corner stands after it at each index
+  pub after_at : (c : Corner) (xs : List X) (j : ℕ) (d : X) → AllAfter c xs → j < length xs → IsTrue (is_before c (key (get_or xs j d)))
+  after_at c [] j d h below = absurd (omega arith)
+  after_at c (x ∷ xs) zero d h below = h.0
+  after_at c (x ∷ xs) (suc j) d h below = after_at c xs j d h.1 (omega arith)
+
+  pub rises_at : (xs : List X) (i j : ℕ) (d : X) → Rising xs → i < j → j < length xs → IsTrue (is_before (key (get_or xs i d)) (key (get_or xs j d)))
+  rises_at [] i j d h less below = absurd (omega arith)
+  rises_at (x ∷ xs) i zero d h less below = absurd (omega arith)
+  rises_at (x ∷ xs) zero (suc j) d h less below = after_at (key x) xs j d h.0 (omega arith)
+  rises_at (x ∷ xs) (suc i) (suc j) d h less below = rises_at xs i j d h.1 (omega arith) (omega arith)
+
+  -- a corner stands at one index
+  pub one_index : (xs : List X) (i j : ℕ) (d : X) → Rising xs → i < length xs → j < length xs → key (get_or xs i d) ≡ key (get_or xs j d) → i ≡ j
+  one_index xs i j d h in_i in_j same = elim (cases_order i j) [
+    | inl equal ↦ equal
+    | inr other ↦ elim other [
+      | inl less ↦ absurd (before_apart (key (get_or xs i d)) (key (get_or xs j d)) (rises_at xs i j d h less in_j) same)
+      | inr more ↦ absurd (before_apart (key (get_or xs j d)) (key (get_or xs i d)) (rises_at xs j i d h more in_i) (sym same))
+    ]
   ]

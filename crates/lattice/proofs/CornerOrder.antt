@@ -9,24 +9,19 @@ use Rattle.std.proofs.lemmas.Int.{ints, by_lt_z}
 use Rattle.std.proofs.lemmas.Bool.{and_parts, and_from, or_cases, or_left, or_right, false_from_ne_true, false≢true}
 use Rattle.std.proofs.lemmas.Bool.Decides.{Decides-int_eq}
 use Rattle.lattice.specs.Corners.{Corner, is_before, same_corner}
+use Rattle.lattice.proofs.IntTests.{lt_true, lt_from}
 
 -- below in latitude, or at one latitude below in longitude
 abbrev pub Below : Corner → Corner → Type 0
 Below a b = (a.lat <ℤ b.lat) ⊎ ((a.lat ≡ b.lat) × (a.lon <ℤ b.lon))
 
-lt_says : (x y : ℤ) → int_lt x y ≡ true → x <ℤ y
-lt_says x y e = grind (arith, ints)
-
-lt_from : (x y : ℤ) → x <ℤ y → int_lt x y ≡ true
-lt_from x y h = grind (arith, ints)
-
 pub before_says : (a b : Corner) → is_before a b ≡ true → Below a b
 before_says a b e =
     elim (or_cases (int_lt a.lat b.lat) (int_eq a.lat b.lat && int_lt a.lon b.lon) e) [
-      | inl below ↦ inl (lt_says a.lat b.lat below)
+      | inl below ↦ inl (lt_true a.lat b.lat below)
       | inr level ↦
           let both = and_parts (int_eq a.lat b.lat) (int_lt a.lon b.lon) level in
-          inr ((Decides-int_eq a.lat b.lat).0 both.0, lt_says a.lon b.lon both.1)
+          inr ((Decides-int_eq a.lat b.lat).0 both.0, lt_true a.lon b.lon both.1)
     ]
 
 pub before_from : (a b : Corner) → Below a b → is_before a b ≡ true
@@ -41,7 +36,7 @@ same_says a b e =
     ap₂ (λ (y x : ℤ). record { lat = y; lon = x }) ((Decides-int_eq a.lat b.lat).0 both.0) ((Decides-int_eq a.lon b.lon).0 both.1)
 
 pub same_from : (a b : Corner) → a ≡ b → same_corner a b ≡ true
-same_from a b e = and_from (int_eq a.lat b.lat) (int_eq a.lon b.lon) ((Decides-int_eq a.lat b.lat).1 (ap (λ p. p.lat) e)) ((Decides-int_eq a.lon b.lon).1 (ap (λ p. p.lon) e))
+same_from a b e = and_from (int_eq a.lat b.lat) (int_eq a.lon b.lon) ((Decides-int_eq a.lat b.lat).1 (ap (λ (c : Corner). c.lat) e)) ((Decides-int_eq a.lon b.lon).1 (ap (λ (c : Corner). c.lon) e))
 
 pub before_trans : (a b c : Corner) → is_before a b ≡ true → is_before b c ≡ true → is_before a c ≡ true
 before_trans a b c ab bc = before_from a c (chain (before_says a b ab) (before_says b c bc))
@@ -53,7 +48,7 @@ before_trans a b c ab bc = before_from a c (chain (before_says a b ab) (before_s
     chain (inr p) (inr q) = inr (omega (arith, ints), omega (arith, ints))
 
 pub before_apart : (a b : Corner) → is_before a b ≡ true → a ≡ b → ⊥
-before_apart a b ab e = apart (before_says a b ab) (ap (λ p. p.lat) e) (ap (λ p. p.lon) e)
+before_apart a b ab e = apart (before_says a b ab) (ap (λ (c : Corner). c.lat) e) (ap (λ (c : Corner). c.lon) e)
   where
     apart : Below a b → a.lat ≡ b.lat → a.lon ≡ b.lon → ⊥
     apart (inl p) lat lon = omega (arith, ints)
@@ -83,11 +78,11 @@ after_from a b not_before not_same = before_from b a (settle (int_order a.lat b.
     settle (inr (inl p)) (inr (inr q)) = inr (sym p, q)
 
 -- as the derived comparison of corners computes
-abbrev pub place_cmp : Corner → Corner → Ordering
-place_cmp a b = ordering_then (int_cmp a.lat b.lat) (int_cmp a.lon b.lon)
+abbrev pub corner_cmp : Corner → Corner → Ordering
+corner_cmp a b = ordering_then (int_cmp a.lat b.lat) (int_cmp a.lon b.lon)
 
-pub ranked_places : (a b : Corner) → MatchOrdering (place_cmp a b) (is_before a b ≡ true) (a ≡ b) (is_before b a ≡ true)
-ranked_places a b = both (int_cmp a.lat b.lat) (int_cmp a.lon b.lon) (int_ranked a.lat b.lat _ refl) (int_ranked a.lon b.lon _ refl)
+pub ranked_corners : (a b : Corner) → MatchOrdering (corner_cmp a b) (is_before a b ≡ true) (a ≡ b) (is_before b a ≡ true)
+ranked_corners a b = both (int_cmp a.lat b.lat) (int_cmp a.lon b.lon) (int_ranked a.lat b.lat _ refl) (int_ranked a.lon b.lon _ refl)
   where
     both : (o q : Ordering) → MatchOrdering o (a.lat <ℤ b.lat) (a.lat ≡ b.lat) (b.lat <ℤ a.lat) → MatchOrdering q (a.lon <ℤ b.lon) (a.lon ≡ b.lon) (b.lon <ℤ a.lon)
         → MatchOrdering (ordering_then o q) (is_before a b ≡ true) (a ≡ b) (is_before b a ≡ true)

@@ -1,0 +1,59 @@
+-- Points off the rim of a tile: there is a row above and below each, and a column on either side, and no other tile
+-- holds one.
+use Rattle.std.proofs.Common.{◌≡◌, ◌≢◌, ◌∙◌, ℕ, ◌+◌, ◌-◌, ◌*◌, ◌/◌, ◌%◌, ◌<◌, ◌≤◌, ℤ, pos, ◌+ℤ◌, ◌*ℤ◌, false, ◌||◌, nat_eq, sym, ap, ap₂, subst, arith}
+use Rattle.std.proofs.lemmas.Bool.{or_parts, eqb-false}
+use Rattle.std.proofs.lemmas.Int.{ints}
+use Rattle.std.proofs.lemmas.Nat.{div-mul-add, mod-mul-add}
+use Rattle.lattice.specs.Corners.{Corner}
+use Rattle.lattice.specs.Lattice.{Holds, IsSampleAt, IsIndexOf}
+use Rattle.lattice.specs.Block.{is_rim}
+use Rattle.lattice.specs.declared.point.Point.{Point}
+use Rattle.lattice.proofs.Samples.{row_below, index_below}
+use Rattle.lattice.proofs.Multiples.{multiples_same}
+
+-- the index of a point off the rim
+pub record IsInner (n e : ℕ) : Type 0 where
+  pub above : 1 ≤ e / n
+  pub below : e / n + 2 ≤ n
+  pub before : 1 ≤ e % n
+  pub after : e % n + 2 ≤ n
+
+pub inner_if : (n e : ℕ) → 3 ≤ n → e < n * n → is_rim n e ≡ false → IsInner n e
+inner_if n e side small off =
+    let three = or_parts (nat_eq (e / n) 0 || nat_eq (e / n + 1) n || nat_eq (e % n) 0) (nat_eq (e % n + 1) n) off in
+    let two = or_parts (nat_eq (e / n) 0 || nat_eq (e / n + 1) n) (nat_eq (e % n) 0) three.0 in
+    let one = or_parts (nat_eq (e / n) 0) (nat_eq (e / n + 1) n) two.0 in
+    let row : e / n < n = row_below n e (omega arith) small in
+    let column : e % n < n = omega arith in
+    let north : e / n ≢ 0 = eqb-false (e / n) 0 one.0 in
+    let south : e / n + 1 ≢ n = eqb-false (e / n + 1) n one.1 in
+    let west : e % n ≢ 0 = eqb-false (e % n) 0 two.1 in
+    let east : e % n + 1 ≢ n = eqb-false (e % n + 1) n three.1 in
+    record { above = omega arith; below = omega arith; before = omega arith; after = omega arith }
+
+-- a tile that holds a point inside the corner's tile is that tile
+pub inner_holder : (n : ℕ) (c d : Corner) (p : Point) (i j : ℕ) → IsSampleAt n c i j p → 0 < i → i < n - 1 → 0 < j → j < n - 1 → Holds n d p → d ≡ c
+inner_holder n c d p i j at i_some i_inside j_some j_inside held =
+    let other = held.sample.2 in
+    let row : held.sample.0 ≤ n - 1 = omega (arith, other.row) in
+    let column : held.sample.1 ≤ n - 1 = omega (arith, other.column) in
+    let ys : (c.lat *ℤ pos (n - 1) +ℤ pos held.sample.0) ≡ d.lat *ℤ pos (n - 1) +ℤ pos i = omega (arith, ints, at.y, other.y) in
+    let xs : (d.lon *ℤ pos (n - 1) +ℤ pos held.sample.1) ≡ c.lon *ℤ pos (n - 1) +ℤ pos j = sym other.x ∙ at.x in
+    let lat : c.lat ≡ d.lat = multiples_same c.lat d.lat (n - 1) i held.sample.0 i_some i_inside row ys in
+    let lon : d.lon ≡ c.lon = multiples_same d.lon c.lon (n - 1) j held.sample.1 j_some j_inside column xs in
+    ap₂ (λ (y x : ℤ). record { lat = y; lon = x }) (sym lat) lon
+
+-- no other tile holds a point off the rim
+pub inner_only : (n : ℕ) (c : Corner) (e : ℕ) (p : Point) → 3 ≤ n → IsIndexOf n c p e → is_rim n e ≡ false → (d : Corner) → Holds n d p → d ≡ c
+inner_only n c e p side at off d held =
+    let i = at.sample.0 in
+    let j = at.sample.1 in
+    let here = at.sample.2.0 in
+    let inner = inner_if n e side (index_below n c p e at) off in
+    let row : e / n ≡ i = ap (λ v. v / n) at.sample.2.1 ∙ div-mul-add i n j here.column in
+    let column : e % n ≡ j = ap (λ v. v % n) at.sample.2.1 ∙ mod-mul-add i n j here.column in
+    let above : 1 ≤ i = subst (λ v. 1 ≤ v) row inner.above in
+    let below : i + 2 ≤ n = subst (λ v. v + 2 ≤ n) row inner.below in
+    let before : 1 ≤ j = subst (λ v. 1 ≤ v) column inner.before in
+    let after : j + 2 ≤ n = subst (λ v. v + 2 ≤ n) column inner.after in
+    inner_holder n c d p i j here (omega arith) (omega arith) (omega arith) (omega arith) held

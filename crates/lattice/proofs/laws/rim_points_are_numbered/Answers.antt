@@ -1,0 +1,11 @@
+use Rattle.lattice.proofs.RimNumbers.{rim_point_of, one_index, number_below}
+use Rattle.lattice.proofs.laws.rim_points_are_numbered.Goals as goal
+
+pub returns-clause-rim_point : goal.returns-clause-rim_point
+returns-clause-rim_point c = rim_point_of
+
+pub returns-clause-one_rim_point : goal.returns-clause-one_rim_point
+returns-clause-one_rim_point c = one_index
+
+pub returns-clause-number : goal.returns-clause-number
+returns-clause-number c = number_below

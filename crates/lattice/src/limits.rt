@@ -1,0 +1,7 @@
+//! How large a mosaic may be.
+
+/// The most samples along the edge of a tile: those of SRTM1 tiles (SRTM documentation).
+pub const LARGEST_SIDE: u32 = 3601;
+
+/// The most tiles of one mosaic that are kept.
+pub const MOST_TILES: u32 = 240;
