@@ -6,3 +6,4 @@ pub mod SealingLaws
 pub mod SeamRule
 pub mod Seams
 pub mod Tiles
+pub mod Endings

@@ -7,7 +7,7 @@ use Rattle.lattice.specs.declared.refusal.Refusal.{Refusal}
 use Rattle.lattice.specs.declared.refusal.Refusal.TheVariants.{Outside, Void}
 use Rattle.lattice.specs.Mosaic.{Mosaic, IsMosaic}
 use Rattle.catalogue.specs.Sealed.{IsSealed}
-use Rattle.edits.specs.Plans.{ends_any}
+use Rattle.catalogue.specs.Endings.{ends_any}
 
 -- none of these corners' tiles holds the point
 abbrev pub IsHeldByNone : ℕ → List Corner → Point → Type 0

@@ -1,24 +1,13 @@
--- Directions by their codes, and the levels that they are found from.
-use Rattle.std.specs.Prelude.{◌≡◌, ℕ, ◌+◌, ◌*◌, ◌<◌, ℤ, IsTrue, IsFalse, Option, Some, None, List, length, slice_index_or}
+-- The levels that directions are found from.
+use Rattle.std.specs.Prelude.{◌≡◌, ℕ, ◌+◌, ◌*◌, ◌<◌, ℤ, IsTrue, IsFalse, List, length, slice_index_or}
 use Rattle.lattice.specs.declared.point.Point.{Point}
-use Rattle.lattice.specs.declared.direction.Dir.{Dir}
 use Rattle.lattice.specs.Corners.{Corner}
 use Rattle.lattice.specs.Lattice.{point_of}
-use Rattle.lattice.specs.Steps.{code_of}
-use Rattle.lattice.specs.Terrain.{Terrain, IsFilledLevel}
+use Rattle.lattice.specs.Terrain.{IsFilledLevel}
 use Rattle.lattice.specs.Mosaic.{Mosaic, IsMosaic, void}
 use Rattle.lattice.specs.Ground.{is_ground, terrain}
-use Rattle.flow_d8.specs.Drainage.{AreFilledLevels, IsDirection}
+use Rattle.flow_d8.specs.Drainage.{AreFilledLevels}
 use Rattle.drainage.specs.Flooded.{corner_at}
-
--- the code in replies, 0 off the mosaic
-abbrev pub code_by : Option Dir → ℕ
-code_by None = 0
-code_by (Some d) = code_of d
-
--- the point drains in the direction with this code
-abbrev pub DrainsBy : Terrain Point → (Point → ℤ) → Point → ℕ → Type 0
-DrainsBy t level p code = (d : Option Dir) × (IsDirection t level p d × (code ≡ code_by d))
 
 -- on every mosaic some function gives the filled levels of all ground points
 abbrev pub LevelFunctionsExist : Type 0

@@ -1,4 +1,3 @@
 pub mod Flooded
 pub mod Asking
 pub mod Draining
-pub mod Outcomes

@@ -8,7 +8,7 @@ ghost use Rattle.lattice.specs.declared.refusal.Refusal.TheVariants.{Outside, Vo
 ghost use Rattle.catalogue.specs.Readers.{OnlyReads, reads_of};
 ghost use Rattle.catalogue.specs.Tiles.{corners_of};
 ghost use Rattle.catalogue.specs.Sealed.{IsSealed};
-ghost use Rattle.edits.specs.Plans.{ends_any};
+ghost use Rattle.catalogue.specs.Endings.{ends_any};
 ghost use Rattle.drainage.specs.Asking.{IsHeldByNone, IsSealedOfSome, may_refuse};
 
 use catalogue::{Samples, Table, height, sealed};

@@ -14,7 +14,7 @@ ghost use Rattle.flow_d8.specs.FlowPath.{IsFlowPath, IsInWatershed};
 ghost use Rattle.watershed.specs.Runs.{AreRuns};
 ghost use Rattle.catalogue.specs.Sealed.{IsSealed};
 ghost use Rattle.drainage.specs.Asking.{IsHeldByNone, may_refuse};
-ghost use Rattle.drainage.specs.Draining.{code_by, DrainsBy};
+ghost use Rattle.watershed.specs.Questions.{code_by, DrainsBy};
 
 use crate::asking::survey;
 use crate::flooding::{all_levels, flood};

@@ -20,13 +20,13 @@ pub record IsCarried (changes : List Change) (old now : Mosaic) (left : List Cha
   pub sure : All AddsNone changes → All AddsNone left
 
 -- a sample more or less changes no corner
-same_corner : (c : Corner) (i : ℕ) (s : ℤ) (t : Tile) → (with_sample_in c i s t).corner ≡ t.corner
-same_corner c i s t = elim (same_corner t.corner c) as (λ b. (cond b (record t { samples = slice_set t.samples i s }) t).corner ≡ t.corner) [ true ↦ refl | false ↦ refl ]
+corner_kept : (c : Corner) (i : ℕ) (s : ℤ) (t : Tile) → (with_sample_in c i s t).corner ≡ t.corner
+corner_kept c i s t = elim (same_corner t.corner c) as (λ b. (cond b (record t { samples = slice_set t.samples i s }) t).corner ≡ t.corner) [ true ↦ refl | false ↦ refl ]
 
 pub same_corners : (c : Corner) (i : ℕ) (s : ℤ) (ts : List Tile) → map (λ t. t.corner) (map (with_sample_in c i s) ts) ≡ map (λ (t : Tile). t.corner) ts
 same_corners c i s [] = refl
 same_corners c i s (t ∷ ts) =
-    ap (λ (p : Corner). p ∷ map (λ (u : Tile). u.corner) (map (with_sample_in c i s) ts)) (same_corner c i s t)
+    ap (λ (p : Corner). p ∷ map (λ (u : Tile). u.corner) (map (with_sample_in c i s) ts)) (corner_kept c i s t)
     ∙ ap (λ (l : List Corner). t.corner ∷ l) (same_corners c i s ts)
 
 no_more : (x : Change) (rest : List Change) → length (x ∷ rest) ≡ 1 → rest ≡ []

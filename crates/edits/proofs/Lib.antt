@@ -12,7 +12,6 @@ mod PatchSteps
 mod PlanLemmas
 mod PutLemmas
 mod Putting
-pub mod Refusals
 mod Repeats
 mod SamePoints
 mod StaleTiles

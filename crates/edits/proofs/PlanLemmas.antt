@@ -17,7 +17,8 @@ use Rattle.edits.specs.declared.command.Command.TheVariants.{Import, Remove, Pat
 use Rattle.edits.specs.declared.change.Change.TheVariants.{Set}
 use Rattle.edits.specs.Changes.{CanBeMade, CanBeSet, IsSet, StandAlone, SetOnce, all_changed}
 use Rattle.edits.specs.Effect.{effect}
-use Rattle.edits.specs.Plans.{is_own, ends_any, may_end}
+use Rattle.catalogue.specs.Endings.{ends_any}
+use Rattle.edits.specs.Plans.{is_own, may_end}
 
 module _ (capacity : ℕ) (m : Mosaic) (result : Result (Vec Change) Refusal) (a b : Command) (same : a ≡ b) where
   pub made_as : IfOk result (λ changes. effect capacity m a ≡ Ok (all_changed changes.items m)) → IfOk result (λ changes. effect capacity m b ≡ Ok (all_changed changes.items m))

@@ -27,7 +27,7 @@ use Rattle.edits.specs.Changes.{CanBeSet, all_changed}
 use Rattle.edits.specs.Effect.{is_named, is_repeated, first_fault, fault_at, edited}
 use Rattle.edits.specs.Puts.{IsPut, ArePutAt, Puts, PutsOnce}
 use Rattle.edits.specs.declared.named.Treatment.TheVariants.{Lower, Raise}
-use Rattle.edits.specs.Plans.{ends_any}
+use Rattle.catalogue.specs.Endings.{ends_any}
 use Rattle.edits.specs.Treatments.{treated, depth_of, treatment_at, fault_of, is_fault, is_groundless}
 use Rattle.edits.proofs.Once.{once_none, once_then, not_named}
 use Rattle.edits.proofs.Putting.{puts_edit}

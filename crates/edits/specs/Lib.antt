@@ -3,9 +3,7 @@ pub mod Changes
 pub mod Effect
 pub mod EffectLaws
 pub mod LeftStale
-pub mod Outcomes
 pub mod Plans
 pub mod Puts
-pub mod State
 pub mod Touched
 pub mod Treatments

@@ -2,7 +2,8 @@
 use Rattle.std.specs.Prelude.{◌≡◌, ◌≤◌, ◌*◌, ℕ, length, Bool, true, false, ◌||◌, Result, Ok, Err, List, All}
 use Rattle.lattice.specs.Corners.{Corner}
 use Rattle.lattice.specs.declared.refusal.Refusal.{Refusal}
-use Rattle.lattice.specs.declared.refusal.Refusal.TheVariants.{BadLength, TileThere, NoTile, Full, Outside, Void, NothingVoid, BadHeight, BadDepth, BadBox, Repeated, TooDeep, Device, NoMemory, Failed, Damaged}
+use Rattle.lattice.specs.declared.refusal.Refusal.TheVariants.{BadLength, TileThere, NoTile, Full, Outside, Void, NothingVoid, BadHeight, BadDepth, BadBox, Repeated, TooDeep}
+use Rattle.catalogue.specs.Endings.{ends_any}
 use Rattle.edits.specs.declared.command.Command.{Command}
 use Rattle.edits.specs.declared.command.Command.TheVariants.{Import, Remove, Patch, Burn, Wall}
 use Rattle.edits.specs.declared.change.Change.{Change}
@@ -28,14 +29,7 @@ is_own (Wall h points) Outside = true
 is_own (Wall h points) Void = true
 is_own _ _ = false
 
--- those that may end the planning of any command: no memory, or a read
-abbrev pub ends_any : Refusal → Bool
-ends_any NoMemory = true
-ends_any Device = true
-ends_any Failed = true
-ends_any Damaged = true
-ends_any _ = false
-
+-- .. or those that may end any call that reads
 abbrev pub may_end : Command → Refusal → Bool
 may_end command r = is_own command r || ends_any r
 

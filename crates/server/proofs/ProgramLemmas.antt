@@ -3,7 +3,7 @@ use Rattle.std.proofs.Common.{◌≡◌, ℕ, List, Option, Result, Ok, Err, OnO
 use Rattle.std.specs.Io.KnownBytes.{Appends, Keeps}
 use Rattle.std.proofs.KnownBytes.{Appends-kept}
 use Rattle.std.proofs.lemmas.List.{take_all}
-use Rattle.edits.specs.State.{State, fresh}
+use Rattle.calls.specs.State.{State, fresh}
 use Rattle.server.specs.Answers.{Replied}
 use Rattle.server.specs.CommandLine.{Begins, EndsFlushing, EndsServing, fault_line}
 use Rattle.server.specs.Served.{Outcome}

@@ -9,8 +9,8 @@ use Rattle.lattice.specs.declared.refusal.Refusal.{Refusal}
 use Rattle.lattice.specs.declared.refusal.Refusal.TheVariants.{Device, Failed}
 use Rattle.page_codec.specs.Roots.{RootValue}
 use Rattle.edits.specs.declared.command.Command.{Command}
-use Rattle.edits.specs.Outcomes.{Applies, Accepts, Fails}
-use Rattle.edits.specs.State.{Contents, State, would_make, made_by, in_doubt}
+use Rattle.calls.specs.Outcomes.{Applies, Accepts, Fails}
+use Rattle.calls.specs.State.{Contents, State, would_make, made_by, in_doubt}
 use Rattle.store.specs.Queried.{Queries}
 use Rattle.store.specs.Standing.{StandsFor}
 use Rattle.store.specs.States.{StandsForState, StandsForMade}

@@ -10,12 +10,11 @@ use Rattle.edits.specs.declared.command.Command.{Command}
 use Rattle.edits.specs.Effect.{effect}
 use Rattle.catalogue.specs.Readers.{reads_of}
 use Rattle.edits.specs.Plans.{is_own, may_end}
-use Rattle.edits.specs.State.{State, made_by}
-use Rattle.edits.specs.Outcomes.{Stays, Accepts, IsWorn, AppliesNot, last_number}
+use Rattle.calls.specs.State.{State, made_by}
+use Rattle.calls.specs.Outcomes.{Stays, Accepts, IsWorn, AppliesNot, last_number, Fills, Directs, Traces, Sheds}
 use Rattle.edits.proofs.AllStale.{all_stale}
-use Rattle.edits.proofs.Refusals.{applies_not}
+use Rattle.calls.proofs.Applying.{plan_refused}
 use Rattle.watershed.specs.declared.runs.Run.{Run}
-use Rattle.drainage.specs.Outcomes.{Fills, Directs, Traces, Sheds}
 use Rattle.server.specs.Answers.{items_in}
 use Rattle.server.specs.TableState.{Held, held_of, contents_of, working}
 
@@ -38,7 +37,7 @@ module _ (held : Held) (m : Mosaic) (capacity k g : ℕ) (view : held_of capacit
   stays = record { working = not_failed; same = refl }
 
   pub refused : (r : Refusal) → IsTrue (may_end c r) → reads_of {T = Unit {0}} (Err r) ≡ Ok tt → (IsTrue (is_own c r) → effect capacity m c ≡ Err r) → AppliesNot held.capacity s c r s
-  refused r may read own = applies_not held.capacity s c r not_failed may read (λ is. effect_is (Err r) (own is))
+  refused r may read own = plan_refused held.capacity s c r not_failed may read (λ is. effect_is (Err r) (own is))
 
   pub worn : (new : Mosaic) → effect capacity m c ≡ Ok new → g ≡ last_number → IsWorn held.capacity s c s
   worn new e full = record { stays = stays; accepted = (new, effect_is (Ok new) e); worn = ap (λ (z : State). z.contents.number) now ∙ full }

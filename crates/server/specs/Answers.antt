@@ -12,10 +12,9 @@ use Rattle.lattice.specs.declared.refusal.Refusal.TheVariants as refusal
 use Rattle.hgt.specs.Names.{IsName}
 use Rattle.edits.specs.declared.command.Command.{Command}
 use Rattle.edits.specs.declared.command.Command.TheVariants.{Import, Remove, Patch, Burn, Wall}
-use Rattle.edits.specs.Outcomes.{Applies, Elevates, Exports, Lists}
-use Rattle.edits.specs.State.{State}
+use Rattle.calls.specs.Outcomes.{Applies, Elevates, Exports, Lists, Fills, Directs, Traces, Sheds}
+use Rattle.calls.specs.State.{State}
 use Rattle.watershed.specs.declared.runs.Run.{Run}
-use Rattle.drainage.specs.Outcomes.{Fills, Directs, Traces, Sheds}
 use Rattle.lines.specs.Grammar.{Asked, AskImport, AskRemove, AskPatch, AskBurn, AskWall, AskElevation, AskFill, AskDirection, AskTrace, AskWatershed, AskExport, AskTiles, AskStep, AskCount, AskQuit}
 use Rattle.server.specs.Items.{Heard}
 use Rattle.lines.specs.Replies.{ok_line, done_text, names_line, path_text, runs_text, refusal_text}

@@ -6,7 +6,7 @@ use Rattle.lattice.specs.Corners.{Corner}
 use Rattle.lattice.specs.declared.refusal.Refusal.{Refusal}
 use Rattle.lattice.specs.declared.refusal.Refusal.TheVariants.{NoMemory, BadName, BadSide, BadCapacity}
 use Rattle.hgt.specs.Names.{IsFileName}
-use Rattle.edits.specs.State.{State, fresh}
+use Rattle.calls.specs.State.{State, fresh}
 use Rattle.lines.specs.Grammar.{IsNat}
 use Rattle.lines.specs.Replies.{line_of, ok_line, refusal_text}
 use Rattle.server.specs.Answers.{Replied}

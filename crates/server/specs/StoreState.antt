@@ -3,7 +3,7 @@ use Rattle.std.specs.Prelude.{◌≡◌, ℕ, List, Contains}
 use Rattle.disk.specs.Disk.{Image}
 use Rattle.disk.specs.Stops.{LeavesOnly}
 use Rattle.disk.specs.declared.disk.Disk.{Ghosts}
-use Rattle.edits.specs.State.{State}
+use Rattle.calls.specs.State.{State}
 use Rattle.store.specs.States.{StandsForState}
 use Rattle.store.specs.Stores.{IsAt, disk_of, side_of, capacity_of}
 use Rattle.store.specs.declared.store.Store.{Store}

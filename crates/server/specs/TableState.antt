@@ -2,7 +2,7 @@
 use Rattle.std.specs.Prelude.{ℕ, ◌<◌, ◌≤◌, false, None, length}
 use Rattle.lattice.specs.Mosaic.{Mosaic, IsMosaic}
 use Rattle.catalogue.specs.Tiles.{corners_of}
-use Rattle.edits.specs.State.{Contents, State}
+use Rattle.calls.specs.State.{Contents, State}
 
 -- how many tiles it takes, and what it holds
 pub record Held : Type 0 where

@@ -1,6 +1,6 @@
 //! Answers items over an engine.
 ghost use Rattle.std.specs.Prelude.{◌≡◌, ◌<◌, ◌⊎◌, ℕ, List, [], ◌∷◌, length};
-ghost use Rattle.edits.specs.State.{State};
+ghost use Rattle.calls.specs.State.{State};
 ghost use Rattle.server.specs.Answers.{Replied, Commanded, AnswersImport, AnswersRemove, AnswersElevation, AnswersFill, AnswersDirection, AnswersTrace, AnswersWatershed, AnswersExport, AnswersTiles, height_text, level_text, code_text, trace_text, watershed_text, names_text};
 ghost use Rattle.server.specs.Items.{Heard};
 ghost use Rattle.server.specs.Session.{Stored, Holds};

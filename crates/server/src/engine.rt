@@ -2,9 +2,8 @@
 ghost use Rattle.std.specs.Prelude.{◌≡◌, ◌≢◌, ◌≤◌, ℕ, List, [], ◌∷◌, ◌++◌, Contains, Bool, Err};
 ghost use Rattle.lattice.specs.declared.refusal.Refusal.TheVariants.{Device};
 ghost use Rattle.catalogue.specs.Reading.{HasRisen};
-ghost use Rattle.edits.specs.State.{State};
-ghost use Rattle.edits.specs.Outcomes.{Applies, Elevates, Exports, Lists};
-ghost use Rattle.drainage.specs.Outcomes.{Directs, Fills, Sheds, Traces};
+ghost use Rattle.calls.specs.State.{State};
+ghost use Rattle.calls.specs.Outcomes.{Applies, Elevates, Exports, Lists, Directs, Fills, Sheds, Traces};
 ghost use Rattle.server.specs.Answers.{items_in};
 ghost use Rattle.server.specs.Told.{IsAsked};
 

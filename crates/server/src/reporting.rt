@@ -1,6 +1,6 @@
 //! What there is to report on a store.
 ghost use Rattle.std.specs.Prelude.{◌≡◌, ◌++◌, IfOk, OnOk, decimal, flat_map};
-ghost use Rattle.edits.specs.State.{State};
+ghost use Rattle.calls.specs.State.{State};
 ghost use Rattle.store.specs.Queried.{Queries};
 ghost use Rattle.store.specs.Stores.{disk_of, items_in, IsAt};
 ghost use Rattle.server.specs.Report.{IsReportText, Reports, report_text, tile_line};

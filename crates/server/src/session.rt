@@ -1,6 +1,6 @@
 //! Serves items, one after another: each is heard, answered, and its reply written.
 ghost use Rattle.std.specs.Prelude.{◌≡◌, ◌<◌, Bool, List, [], ◌∷◌, Ok, Err};
-ghost use Rattle.edits.specs.State.{State};
+ghost use Rattle.calls.specs.State.{State};
 ghost use Rattle.lines.specs.Ahead.{to_come, weight};
 ghost use Rattle.server.specs.Answers.{Replied};
 ghost use Rattle.server.specs.Served.{Outcome, last_of};

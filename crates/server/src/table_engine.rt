@@ -1,6 +1,6 @@
 //! A mosaic in memory, as an engine.
 ghost use Rattle.std.specs.Prelude.{◌≡◌, ◌≤◌};
-ghost use Rattle.edits.specs.State.{fresh};
+ghost use Rattle.calls.specs.State.{fresh};
 
 use crate::engine::Engine;
 use catalogue::{Samples, Table, height};
@@ -50,7 +50,7 @@ impl TableEngine {
 impl Engine for TableEngine {
     ghost use Rattle.std.specs.Prelude.{◌≡◌, List, [], ◌∷◌, false, refl, ⊤};
     ghost use Rattle.std.proofs.Common.{ap};
-    ghost use Rattle.edits.specs.State.{State};
+    ghost use Rattle.calls.specs.State.{State};
     ghost use Rattle.server.specs.TableState.{working};
 
     ghost is_honest = { λ _. ⊤ };

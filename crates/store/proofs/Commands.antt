@@ -9,7 +9,7 @@ use Rattle.catalogue.specs.Tiles.{added, without}
 use Rattle.page_codec.specs.Sizes.{pages_of}
 use Rattle.edits.specs.declared.command.Command.TheVariants.{Import, Remove}
 use Rattle.edits.specs.Effect.{effect}
-use Rattle.edits.specs.State.{Contents, made_by}
+use Rattle.calls.specs.State.{Contents, made_by}
 use Rattle.cow_tree.specs.Stored.{StoredTile, Stored, next_commit, pages_of_bytes, with_tile, without_tile, stale_tile}
 use Rattle.store.specs.Standing.{Holds}
 use Rattle.store.proofs.HeldTiles.{AreTilesOf, imported, removed}

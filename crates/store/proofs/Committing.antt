@@ -7,8 +7,8 @@ use Rattle.disk.specs.declared.disk.Disk.{Ghosts}
 use Rattle.lattice.specs.Mosaic.{Mosaic}
 use Rattle.edits.specs.declared.command.Command.{Command}
 use Rattle.edits.specs.Effect.{effect}
-use Rattle.edits.specs.Outcomes.{last_number}
-use Rattle.edits.specs.State.{State, made_by}
+use Rattle.calls.specs.Outcomes.{last_number}
+use Rattle.calls.specs.State.{State, made_by}
 use Rattle.cow_tree.specs.Layout.{Stands}
 use Rattle.cow_tree.specs.Stored.{Stored, next_commit}
 use Rattle.cow_tree.specs.Trees.{disk_of, root_of, staged_in, IsAt as IsTreeAt}

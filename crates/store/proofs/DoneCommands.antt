@@ -10,18 +10,18 @@ use Rattle.lattice.specs.declared.refusal.Refusal.TheVariants.{Device}
 use Rattle.page_codec.specs.Roots.{RootValue}
 use Rattle.edits.specs.declared.command.Command.{Command}
 use Rattle.edits.specs.Effect.{effect}
-use Rattle.edits.specs.Outcomes.{AppliesNot, last_number}
-use Rattle.edits.specs.State.{Contents, State, made_by, in_doubt, failing}
+use Rattle.calls.specs.Outcomes.{AppliesNot, last_number}
+use Rattle.calls.specs.State.{Contents, State, made_by, in_doubt, failing, working}
 use Rattle.cow_tree.specs.Layout.{Stands}
 use Rattle.cow_tree.specs.Stored.{Stored}
 use Rattle.cow_tree.specs.Trees.{disk_of, root_of, has_failed, staged_in, IsAt as IsTreeAt}
 use Rattle.cow_tree.specs.declared.tree.Tree.{Tree}
 use Rattle.store.specs.Applied.{HasContents, MayHaveMade, IsApplied}
 use Rattle.store.specs.Standing.{Holds, StandsFor}
-use Rattle.store.specs.States.{EachStandsFor, working, IsStateOf}
+use Rattle.store.specs.States.{EachStandsFor, IsStateOf}
 use Rattle.store.specs.TreeStates.{IsInState}
 use Rattle.store.proofs.Opened.{in_state}
-use Rattle.store.proofs.Outcomes.{fails, doubt_is}
+use Rattle.calls.proofs.Applying.{fails, doubt_is}
 use Rattle.store.proofs.States.{at_failure, leaves_contents, still_contents, one_of_two, one_made}
 
 pub risen_later : (a b c : ℕ) → a ≤ b → HasRisen b c → HasRisen a c

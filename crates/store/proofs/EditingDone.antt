@@ -11,8 +11,8 @@ use Rattle.edits.specs.declared.change.Change.{Change}
 use Rattle.edits.specs.declared.command.Command.{Command}
 use Rattle.edits.specs.Changes.{all_changed}
 use Rattle.edits.specs.Effect.{effect}
-use Rattle.edits.specs.Outcomes.{AppliesNot}
-use Rattle.edits.specs.State.{State}
+use Rattle.calls.specs.Outcomes.{AppliesNot}
+use Rattle.calls.specs.State.{State}
 use Rattle.cow_tree.specs.Layout.{Stands}
 use Rattle.cow_tree.specs.Stored.{Stored}
 use Rattle.cow_tree.specs.Trees.{disk_of, root_of, has_failed, staged_in, IsAt as IsTreeAt}

@@ -9,7 +9,7 @@ use Rattle.lattice.specs.declared.refusal.Refusal.{Refusal}
 use Rattle.lattice.specs.declared.refusal.Refusal.TheVariants.{BadLine, BadName, BadLength, TileThere, NoTile, Full, Outside, Void, NothingVoid, BadHeight, BadDepth, BadBox, Repeated, TooDeep, Device, NoMemory, Failed, Damaged, Worn, NotAStore, Version, BadSide, BadCapacity, TooSmall}
 use Rattle.page_codec.specs.Roots.{RootValue}
 use Rattle.catalogue.specs.Readers.{reads_of}
-use Rattle.edits.specs.State.{State}
+use Rattle.calls.specs.State.{State}
 use Rattle.cow_tree.specs.Charts.{ChartValue, HasFreshHeights, corners_of_places}
 use Rattle.cow_tree.specs.Layout.{TilePlace, Stands}
 use Rattle.cow_tree.specs.Planes.{HasPlane}

@@ -10,7 +10,7 @@ use Rattle.edits.specs.declared.change.Change.{Change}
 use Rattle.edits.specs.declared.change.Change.TheVariants.{Set}
 use Rattle.edits.specs.Changes.{all_changed}
 use Rattle.edits.specs.Effect.{effect}
-use Rattle.edits.specs.State.{Contents, made_by}
+use Rattle.calls.specs.State.{Contents, made_by}
 use Rattle.cow_tree.specs.Stored.{StoredTile, Stored, next_commit, with_page}
 use Rattle.store.specs.Standing.{Holds}
 use Rattle.store.proofs.Pages.{with_bytes}

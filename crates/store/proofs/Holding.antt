@@ -8,7 +8,7 @@ use Rattle.lattice.specs.Mosaic.{Tile, Mosaic, IsTile, IsMosaic}
 use Rattle.catalogue.specs.Tiles.{corners_of}
 use Rattle.edits.specs.declared.command.Command.{Command}
 use Rattle.edits.specs.Effect.{effect}
-use Rattle.edits.specs.State.{Contents, fresh, made_by}
+use Rattle.calls.specs.State.{Contents, fresh, made_by}
 use Rattle.edits.specs.Touched.{stale_after}
 use Rattle.cow_tree.specs.Stored.{StoredTile, Stored, no_tiles, next_commit, mosaic_of_tiles}
 use Rattle.cow_tree.proofs.OneStored.{one_stored}

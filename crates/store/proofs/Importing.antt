@@ -11,7 +11,7 @@ use Rattle.catalogue.specs.Tiles.{added, without}
 use Rattle.page_codec.specs.Sizes.{pages_of}
 use Rattle.edits.specs.declared.command.Command.TheVariants.{Import, Remove}
 use Rattle.edits.specs.EffectLaws.{CommandsMakeMosaics}
-use Rattle.edits.specs.State.{State, made_by}
+use Rattle.calls.specs.State.{State, made_by}
 use Rattle.cow_tree.specs.Layout.{Stands}
 use Rattle.cow_tree.specs.Stored.{StoredTile, Stored, next_commit, pages_of_bytes, stale_tile, with_tile, without_tile}
 use Rattle.cow_tree.specs.Trees.{disk_of, root_of, has_failed, staged_in, corners_of as corners_under, IsAt as IsTreeAt}

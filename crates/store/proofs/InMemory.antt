@@ -15,8 +15,8 @@ use Rattle.page_codec.specs.Sizes.{pages_of}
 use Rattle.edits.specs.declared.command.Command.{Command}
 use Rattle.edits.specs.declared.command.Command.TheVariants.{Import, Remove}
 use Rattle.edits.specs.Effect.{effect}
-use Rattle.edits.specs.Outcomes.{Refuses, IsWorn, last_number}
-use Rattle.edits.specs.State.{State, made_by}
+use Rattle.calls.specs.Outcomes.{Refuses, IsWorn, last_number}
+use Rattle.calls.specs.State.{State, made_by}
 use Rattle.edits.specs.EffectLaws.{CommandsMakeMosaics}
 use Rattle.cow_tree.specs.Layout.{TilePlace, tile_in}
 use Rattle.cow_tree.specs.Charts.{corners_of_places}

@@ -15,7 +15,6 @@ pub mod InMemory
 pub mod OneEvent
 pub mod Opened
 pub mod Openings
-pub mod Outcomes
 pub mod Pages
 pub mod Querying
 pub mod QueryingDrainage

@@ -9,21 +9,22 @@ use Rattle.lattice.specs.declared.refusal.Refusal.{Refusal}
 use Rattle.lattice.specs.declared.refusal.Refusal.TheVariants.{Device, NoMemory, Failed, Worn}
 use Rattle.page_codec.specs.Roots.{RootValue}
 use Rattle.edits.specs.declared.command.Command.{Command}
-use Rattle.edits.specs.Outcomes.{Applies}
-use Rattle.edits.specs.State.{Contents, State, made_by, in_doubt}
+use Rattle.calls.specs.Outcomes.{Applies}
+use Rattle.calls.specs.State.{Contents, State, made_by, in_doubt, working}
 use Rattle.cow_tree.specs.Trees.{disk_of, root_of, has_failed}
 use Rattle.cow_tree.specs.declared.tree.Tree.{Tree}
 use Rattle.store.specs.Applied.{HasContents, MayHaveMade}
-use Rattle.store.specs.Events.{Happens, StandsForOneOf, SaysFailed, failures_after, fails_after, HasRun}
+use Rattle.calls.specs.Events.{Happens, SaysFailed, fails_after}
+use Rattle.store.specs.Events.{StandsForOneOf, failures_after, HasRun}
 use Rattle.store.specs.Queried.{IsQueried}
 use Rattle.store.specs.Standing.{StandsFor}
-use Rattle.store.specs.States.{StandsForState, working}
+use Rattle.store.specs.States.{StandsForState}
 use Rattle.store.specs.TreeStates.{IsInState}
-use Rattle.store.specs.declared.event.Event.{Event}
-use Rattle.store.specs.declared.event.Event.TheVariants as ask
-use Rattle.store.specs.declared.event.Reply.{Reply}
-use Rattle.store.specs.declared.event.Reply.TheVariants as reply
-use Rattle.store.proofs.Outcomes.{doubt_is}
+use Rattle.calls.specs.declared.event.Event.{Event}
+use Rattle.calls.specs.declared.event.Event.TheVariants as ask
+use Rattle.calls.specs.declared.event.Reply.{Reply}
+use Rattle.calls.specs.declared.event.Reply.TheVariants as reply
+use Rattle.calls.proofs.Applying.{doubt_is}
 
 -- an image stands for the state, on a disk like this tree's
 abbrev pub Stands : {D : Type 0} (g : Ghosts D) → Tree D g → State → Image → Type 0

@@ -4,13 +4,13 @@ use Rattle.std.specs.Prelude.{Some}
 use Rattle.disk.specs.Disk.{Image}
 use Rattle.disk.specs.declared.disk.Disk.{Ghosts}
 use Rattle.page_codec.specs.Roots.{RootValue}
-use Rattle.edits.specs.State.{Contents, State}
+use Rattle.calls.specs.State.{Contents, State, working}
 use Rattle.cow_tree.specs.Layout.{StoresAt, Stands}
 use Rattle.cow_tree.specs.Stored.{Stored}
 use Rattle.cow_tree.specs.Trees.{disk_of, root_of, has_failed, staged_in, IsAt as IsTreeAt}
 use Rattle.cow_tree.specs.declared.tree.Tree.{Tree}
 use Rattle.store.specs.Standing.{Holds}
-use Rattle.store.specs.States.{StandsForState, working}
+use Rattle.store.specs.States.{StandsForState}
 use Rattle.store.specs.TreeStates.{IsInState}
 use Rattle.store.proofs.Openings.{found_holds}
 use Rattle.store.proofs.States.{root_side, root_capacity, held_by_root, at_contents}

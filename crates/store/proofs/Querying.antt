@@ -9,8 +9,8 @@ use Rattle.lattice.specs.Mosaic.{IsMosaic}
 use Rattle.lattice.specs.declared.refusal.Refusal.{Refusal}
 use Rattle.lattice.specs.declared.refusal.Refusal.TheVariants.{Device, Failed}
 use Rattle.page_codec.specs.Roots.{RootValue}
-use Rattle.edits.specs.Outcomes.{Stays, StaysFailed, Fails}
-use Rattle.edits.specs.State.{State, failing}
+use Rattle.calls.specs.Outcomes.{Stays, StaysFailed, Fails}
+use Rattle.calls.specs.State.{State, failing}
 use Rattle.cow_tree.specs.Reading.{mosaic_of, IsReadable, HasOnlyRead}
 use Rattle.cow_tree.specs.Stored.{StoredTile, Stored, AreWhole, mosaic_of_tiles}
 use Rattle.cow_tree.specs.Charts.{ChartValue, HasFreshHeights, fresh_corners}

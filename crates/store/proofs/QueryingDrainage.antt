@@ -14,7 +14,7 @@ use Rattle.page_codec.specs.Roots.{RootValue, IsRoot}
 use Rattle.catalogue.specs.Readers.{reads_of}
 use Rattle.catalogue.specs.Reading.{MayRefuse}
 use Rattle.catalogue.specs.Tiles.{corners_of}
-use Rattle.edits.specs.State.{State, failing}
+use Rattle.calls.specs.State.{State, failing}
 use Rattle.cow_tree.specs.Reading.{mosaic_of, HasOnlyRead}
 use Rattle.cow_tree.specs.Trees.{disk_of, root_of, has_failed, corners_of as corners_under}
 use Rattle.cow_tree.specs.declared.tree.Tree.{Tree}

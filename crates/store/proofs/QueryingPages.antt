@@ -23,7 +23,7 @@ use Rattle.cow_tree.specs.Trees.{root_of, has_failed, corners_of as corners_unde
 use Rattle.cow_tree.specs.declared.tree.Tree.{Tree}
 use Rattle.cow_tree.proofs.Adding.{contains-map}
 use Rattle.cow_tree.proofs.Due.{placed_tile}
-use Rattle.edits.specs.State.{State}
+use Rattle.calls.specs.State.{State}
 use Rattle.store.specs.Queried.{IsTileOf}
 use Rattle.store.specs.TreeStates.{IsInState}
 use Rattle.store.proofs.Finding.{stored_corner, after_contained, rising_stored, bytes_stored}

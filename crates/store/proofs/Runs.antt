@@ -7,16 +7,17 @@ use Rattle.disk.specs.Disk.{Image, counted}
 use Rattle.disk.specs.Stops.{in_turn, weaker, nothing_done}
 use Rattle.disk.specs.declared.disk.Disk.{Ghosts}
 use Rattle.lattice.specs.declared.refusal.Refusal.TheVariants.{Device}
-use Rattle.edits.specs.State.{State}
+use Rattle.calls.specs.State.{State}
 use Rattle.cow_tree.specs.Trees.{disk_of, root_of, has_failed}
 use Rattle.cow_tree.specs.declared.tree.Tree.{Tree}
-use Rattle.store.specs.Events.{IsRun, end_of, StandsForOneOf, GoesThrough, failures_after, fails_after, SaysFailedUntilOpen, HasRun}
+use Rattle.calls.specs.Events.{IsRun, end_of, fails_after, SaysFailedUntilOpen}
+use Rattle.store.specs.Events.{StandsForOneOf, GoesThrough, failures_after, HasRun}
 use Rattle.store.specs.States.{StandsForState}
 use Rattle.store.specs.TreeStates.{IsInState}
-use Rattle.store.specs.declared.event.Event.{Event}
-use Rattle.store.specs.declared.event.Event.TheVariants as ask
-use Rattle.store.specs.declared.event.Reply.{Reply}
-use Rattle.store.specs.declared.event.Reply.TheVariants as reply
+use Rattle.calls.specs.declared.event.Event.{Event}
+use Rattle.calls.specs.declared.event.Event.TheVariants as ask
+use Rattle.calls.specs.declared.event.Reply.{Reply}
+use Rattle.calls.specs.declared.event.Reply.TheVariants as reply
 
 -- ---- one run, and then another
 

@@ -5,11 +5,11 @@ use Rattle.disk.specs.Disk.{Image}
 use Rattle.disk.specs.declared.disk.Disk.{Ghosts}
 use Rattle.page_codec.specs.Roots.{RootValue}
 use Rattle.edits.specs.declared.command.Command.{Command}
-use Rattle.edits.specs.State.{Contents, State, in_doubt, failing}
+use Rattle.calls.specs.State.{Contents, State, in_doubt, failing, working}
 use Rattle.cow_tree.specs.Stored.{StoredTile, Stored}
 use Rattle.cow_tree.specs.Layout.{TilePlace, StoresAt, Stands}
 use Rattle.store.specs.Standing.{Holds, StandsFor}
-use Rattle.store.specs.States.{StandsForState, EachStandsFor, StandsForMade, working, IsStateOf}
+use Rattle.store.specs.States.{StandsForState, EachStandsFor, StandsForMade, IsStateOf}
 
 -- the known root's numbers are those of what is stored
 module _ (sectors : ℕ) (root : RootValue) (tiles : List TilePlace) (stored : Stored) (image : Image) (stores : StoresAt sectors root tiles stored image) where

@@ -7,8 +7,8 @@ use Rattle.lattice.specs.declared.refusal.Refusal.{Refusal}
 use Rattle.lattice.specs.declared.refusal.Refusal.TheVariants.{Device}
 use Rattle.edits.specs.declared.command.Command.{Command}
 use Rattle.edits.specs.declared.command.Command.TheVariants.{Import, Remove}
-use Rattle.edits.specs.Outcomes.{Applies}
-use Rattle.edits.specs.State.{Contents, State}
+use Rattle.calls.specs.Outcomes.{Applies}
+use Rattle.calls.specs.State.{Contents, State}
 use Rattle.cow_tree.specs.Trees.{disk_of, root_of, has_failed}
 use Rattle.cow_tree.specs.declared.tree.Tree.{Tree}
 use Rattle.store.specs.Standing.{StandsFor}

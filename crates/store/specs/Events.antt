@@ -1,91 +1,25 @@
--- What may happen to a store: one event after another, each with its reply (this product's own profile).
-use Rattle.std.specs.Prelude.{◌≡◌, ◌≤◌, ◌⊎◌, ℕ, Bool, true, false, IsTrue, List, [], ◌∷◌, length, Contains, Some, Ok, Err}
+-- A store answers a run of events: the replies, and what a stop leaves (this product's own profile).
+use Rattle.std.specs.Prelude.{◌≡◌, ◌≤◌, ℕ, List, [], ◌∷◌, length, Contains}
 use Rattle.disk.specs.Disk.{Image, counted}
 use Rattle.disk.specs.Stops.{LeavesOnly}
 use Rattle.disk.specs.declared.disk.Disk.{Ghosts}
-use Rattle.lattice.specs.declared.refusal.Refusal.{Refusal}
-use Rattle.lattice.specs.declared.refusal.Refusal.TheVariants.{Device, NoMemory, Failed}
-use Rattle.edits.specs.Outcomes.{Applies, Elevates, Exports, Lists}
-use Rattle.edits.specs.State.{Contents, State}
-use Rattle.drainage.specs.Outcomes.{Fills, Directs, Traces, Sheds}
+use Rattle.lattice.specs.declared.refusal.Refusal.TheVariants.{Device}
+use Rattle.calls.specs.State.{State}
+use Rattle.calls.specs.Events.{SaysFailedUntilOpen, IsRun, end_of}
 use Rattle.cow_tree.specs.Trees.{disk_of, root_of, has_failed}
 use Rattle.cow_tree.specs.declared.tree.Tree.{Tree}
-use Rattle.store.specs.States.{StandsForState, working}
+use Rattle.store.specs.States.{StandsForState}
 use Rattle.store.specs.TreeStates.{IsInState}
-use Rattle.store.specs.declared.event.Event.{Event}
-use Rattle.store.specs.declared.event.Event.TheVariants as ask
-use Rattle.store.specs.declared.event.Reply.{Reply}
-use Rattle.store.specs.declared.event.Reply.TheVariants as reply
+use Rattle.calls.specs.declared.event.Event.{Event}
+use Rattle.calls.specs.declared.event.Reply.{Reply}
+use Rattle.calls.specs.declared.event.Reply.TheVariants as reply
 use Rattle.store.specs.declared.store.Store.{Store}
-
--- a reopening comes to the contents known last, or to those of the commit in doubt
-abbrev pub Reopens : State → State → Type 0
-Reopens s t = (t ≡ working s.contents) ⊎ ((doubted : Contents) × (s.doubt ≡ Some doubted) × (t ≡ working doubted))
-
--- refused, for the disk or for memory, it leaves the state but for the failure
-abbrev pub ReopensNot : State → Refusal → State → Type 0
-ReopensNot s Device t = t ≡ record s { failed = true }
-ReopensNot s NoMemory t = t ≡ record s { failed = true }
-ReopensNot s r t = ⊥
-
--- in the state s the event may have this reply and leave the state t; each other reply is wrong
-abbrev pub Happens : ℕ → State → Event → Reply → State → Type 0
-Happens capacity s (ask.Do command) (reply.Done count) t = Applies capacity s command (Ok count) t
-Happens capacity s (ask.Do command) (reply.Refused r) t = Applies capacity s command (Err r) t
-Happens capacity s (ask.Elevation p) (reply.Elevation height) t = Elevates s p (Ok height) t
-Happens capacity s (ask.Elevation p) (reply.Refused r) t = Elevates s p (Err r) t
-Happens capacity s (ask.Fill p) (reply.Fill level) t = Fills s p (Ok level) t
-Happens capacity s (ask.Fill p) (reply.Refused r) t = Fills s p (Err r) t
-Happens capacity s (ask.Direction p) (reply.Direction code) t = Directs s p (Ok code) t
-Happens capacity s (ask.Direction p) (reply.Refused r) t = Directs s p (Err r) t
-Happens capacity s (ask.Trace p) (reply.Trace path) t = Traces s p (Ok path.items) t
-Happens capacity s (ask.Trace p) (reply.Refused r) t = Traces s p (Err r) t
-Happens capacity s (ask.Watershed p) (reply.Watershed runs) t = Sheds s p (Ok runs.items) t
-Happens capacity s (ask.Watershed p) (reply.Refused r) t = Sheds s p (Err r) t
-Happens capacity s (ask.Export c) (reply.Export bytes) t = Exports s c (Ok bytes.items) t
-Happens capacity s (ask.Export c) (reply.Refused r) t = Exports s c (Err r) t
-Happens capacity s ask.Tiles (reply.Tiles corners) t = Lists s (Ok corners.items) t
-Happens capacity s ask.Tiles (reply.Refused r) t = Lists s (Err r) t
-Happens capacity s ask.Count (reply.Count count) t = (count ≡ s.contents.count) × (t ≡ s)
-Happens capacity s ask.Reopen reply.Reopened t = Reopens s t
-Happens capacity s ask.Reopen (reply.Refused r) t = ReopensNot s r t
-Happens capacity s asked replied t = ⊥
 
 -- the count of failures after these replies is at least this: each that blames the disk had a fault of its own
 abbrev pub failures_after : ℕ → List Reply → ℕ
 failures_after before [] = before
 failures_after before (reply.Refused Device ∷ replies) = failures_after (counted before) replies
 failures_after before (replied ∷ replies) = failures_after before replies
-
--- what a store that failed says: the count, and else that it failed, but it may open again
-abbrev pub SaysFailed : Event → Reply → Type 0
-SaysFailed ask.Count replied = (count : ℕ) × (replied ≡ reply.Count count)
-SaysFailed ask.Reopen replied = Unit {0}
-SaysFailed asked replied = replied ≡ reply.Refused Failed
-
--- whether it has failed after an event with this reply, by what it had before
-abbrev pub fails_after : Bool → Event → Reply → Bool
-fails_after failed ask.Reopen (reply.Refused r) = true
-fails_after failed asked (reply.Refused Device) = true
-fails_after failed asked reply.Reopened = false
-fails_after failed asked replied = failed
-
--- from a fault of the disk on, each reply says that the store failed, until it is open again
-abbrev pub SaysFailedUntilOpen : Bool → List Event → List Reply → Bool → Type 0
-SaysFailedUntilOpen failed [] [] ends = IsTrue failed → IsTrue ends
-SaysFailedUntilOpen failed (event ∷ events) (replied ∷ replies) ends = (IsTrue failed → SaysFailed event replied) × SaysFailedUntilOpen (fails_after failed event replied) events replies ends
-SaysFailedUntilOpen failed events replies ends = ⊥
-
--- one after another: each event has a reply, and a state that it leaves, from which the next one goes on
-abbrev pub IsRun : ℕ → State → List Event → List Reply → List State → Type 0
-IsRun capacity s [] [] [] = Unit {0}
-IsRun capacity s (event ∷ events) (replied ∷ replies) (t ∷ states) = Happens capacity s event replied t × IsRun capacity t events replies states
-IsRun capacity s events replies states = ⊥
-
--- the state at the end of a run that begins in s
-abbrev pub end_of : State → List State → State
-end_of s [] = s
-end_of s (t ∷ states) = end_of t states
 
 -- the image stands for one of these states: for its contents, or for those of its commit in doubt
 abbrev pub StandsForOneOf : (sectors side capacity : ℕ) → List State → Image → Type 0

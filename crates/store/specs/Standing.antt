@@ -5,7 +5,7 @@ use Rattle.disk.specs.Disk.{Image}
 use Rattle.lattice.specs.Mosaic.{Tile, IsMosaic}
 use Rattle.hgt.specs.Bytes.{AreHgtBytes}
 use Rattle.catalogue.specs.Tiles.{corners_of}
-use Rattle.edits.specs.State.{Contents}
+use Rattle.calls.specs.State.{Contents}
 use Rattle.cow_tree.specs.Stored.{IsPage, plane_bytes, StoredTile, Stored}
 use Rattle.cow_tree.specs.Layout.{Stands}
 

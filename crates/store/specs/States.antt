@@ -5,7 +5,7 @@ use Rattle.disk.specs.Disk.{Image}
 use Rattle.disk.specs.declared.disk.Disk.{Ghosts}
 use Rattle.page_codec.specs.Roots.{RootValue}
 use Rattle.edits.specs.declared.command.Command.{Command}
-use Rattle.edits.specs.State.{Contents, State, in_doubt}
+use Rattle.calls.specs.State.{Contents, State, in_doubt}
 use Rattle.cow_tree.specs.Stored.{StoredTile, Stored}
 use Rattle.store.specs.Standing.{Holds, StandsFor}
 
@@ -23,10 +23,6 @@ EachStandsFor g disk side capacity s = (image : Image) → g.may disk image → 
 abbrev pub StandsForMade : (sectors side capacity : ℕ) → Image → Contents → Command → Type 0
 StandsForMade sectors side capacity image c command =
     (made : Contents) × (in_doubt capacity c command ≡ Some made) × StandsFor sectors side capacity image made
-
--- the contents known last, and no failure since
-abbrev pub working : Contents → State
-working c = record { contents = c; failed = false; doubt = None }
 
 -- A tree that is at what is stored where the test says so: it is at what holds the contents, nothing is staged beyond it,
 -- and no commit is in doubt.

@@ -3,7 +3,7 @@ use Rattle.std.specs.Prelude.{ℕ, Bool, List, Vec, Result, Ok, Err}
 use Rattle.disk.specs.declared.disk.Disk.{Ghosts}
 use Rattle.lattice.specs.declared.refusal.Refusal.{Refusal}
 use Rattle.page_codec.specs.Roots.{RootValue}
-use Rattle.edits.specs.State.{State}
+use Rattle.calls.specs.State.{State}
 use Rattle.cow_tree.specs.Trees.{disk_of as disk_under, root_of as root_under, has_failed as have_failed}
 use Rattle.roots.specs.declared.roots.NotOpened.{NotOpened}
 use Rattle.store.specs.TreeStates.{IsInState}

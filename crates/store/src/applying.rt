@@ -7,8 +7,8 @@ ghost use Rattle.lattice.specs.declared.refusal.Refusal.TheVariants.{Device, Fai
 ghost use Rattle.lattice.specs.Mosaic.{Mosaic};
 ghost use Rattle.edits.specs.declared.command.Command.TheVariants.{Import, Remove};
 ghost use Rattle.edits.specs.Effect.{effect};
-ghost use Rattle.edits.specs.Outcomes.{Applies, AppliesNot};
-ghost use Rattle.edits.specs.State.{State};
+ghost use Rattle.calls.specs.Outcomes.{Applies, AppliesNot};
+ghost use Rattle.calls.specs.State.{State};
 ghost use Rattle.cow_tree.specs.Trees.{corners_of};
 ghost use Rattle.store.specs.Standing.{StandsFor};
 ghost use Rattle.store.specs.States.{StandsForMade};

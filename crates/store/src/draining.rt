@@ -1,8 +1,8 @@
 //! Where water stands and goes in a store's mosaic: it only reads.
 ghost use Rattle.std.specs.Prelude.{◌≡◌, ◌≤◌, length, false};
-ghost use Rattle.edits.specs.State.{State};
+ghost use Rattle.calls.specs.State.{State};
 ghost use Rattle.cow_tree.specs.Trees.{corners_of};
-ghost use Rattle.drainage.specs.Outcomes.{Fills, Directs, Traces, Sheds};
+ghost use Rattle.calls.specs.Outcomes.{Fills, Directs, Traces, Sheds};
 ghost use Rattle.store.specs.Queried.{Queries};
 ghost use Rattle.store.specs.Stores.{disk_of, has_failed, items_in, IsAt};
 

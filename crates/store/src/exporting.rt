@@ -1,7 +1,7 @@
 //! A tile's HGT file.
 ghost use Rattle.std.specs.Prelude.{◌≡◌, ◌≤◌, ◌*◌, Contains, false, OnOk, vec_len, vec_capacity};
-ghost use Rattle.edits.specs.Outcomes.{Exports};
-ghost use Rattle.edits.specs.State.{State};
+ghost use Rattle.calls.specs.Outcomes.{Exports};
+ghost use Rattle.calls.specs.State.{State};
 ghost use Rattle.cow_tree.specs.Reading.{Reads};
 ghost use Rattle.cow_tree.specs.Stored.{StoredTile, plane_bytes};
 ghost use Rattle.cow_tree.specs.Trees.{disk_of as disk_under, root_of as root_under, corners_of, has_failed as have_failed, staged_in};

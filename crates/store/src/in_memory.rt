@@ -3,8 +3,7 @@ ghost use Rattle.std.specs.Prelude.{◌≡◌, ◌≤◌, ◌⊎◌, IfOk, IfErr
 ghost use Rattle.disk.specs.MemDisk.{sectors_of};
 ghost use Rattle.lattice.specs.declared.refusal.Refusal.TheVariants.{Device, NoMemory};
 ghost use Rattle.page_codec.specs.Sizes.{sectors_of as sectors_needed};
-ghost use Rattle.edits.specs.State.{fresh};
-ghost use Rattle.store.specs.States.{working};
+ghost use Rattle.calls.specs.State.{fresh, working};
 ghost use Rattle.store.specs.Stores.{disk_of, side_of, capacity_of, IsAt};
 
 use crate::Store;

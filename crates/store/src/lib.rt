@@ -4,7 +4,7 @@
 //! the store was in, and leaves the state that goes with the answer; a stop at any moment inside a command leaves the
 //! contents as they were or as the command makes them, whole; after an Ok it leaves nothing else. An image stands for at
 //! most one contents. `specs/Standing.antt` says when an image stands for contents, `specs/States.antt` when a store is in a
-//! state, and the crate edits has the states and answers.
+//! state, and the crate calls has the states and answers.
 #![tactic(auto)]
 
 mod applying;
@@ -14,7 +14,6 @@ mod draining;
 #[cfg(test)]
 mod draining_tests;
 mod editing;
-mod event;
 mod exporting;
 #[cfg(test)]
 mod fixtures;
@@ -33,7 +32,7 @@ mod running;
 mod stop_tests;
 mod store;
 
-pub use event::{Event, Reply};
+pub use calls::{Event, Reply};
 pub use in_memory::store_in_memory;
 pub use laws::images_stand_for_one_contents;
 pub use store::Store;

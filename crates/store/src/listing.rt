@@ -1,8 +1,8 @@
 //! What a store lists.
 ghost use Rattle.std.specs.Prelude.{◌≡◌, ◌≢◌, true, Err};
 ghost use Rattle.lattice.specs.declared.refusal.Refusal.TheVariants.{Device, Failed};
-ghost use Rattle.edits.specs.Outcomes.{Lists};
-ghost use Rattle.edits.specs.State.{State};
+ghost use Rattle.calls.specs.Outcomes.{Lists};
+ghost use Rattle.calls.specs.State.{State};
 ghost use Rattle.store.specs.Stores.{disk_of, has_failed, items_in, IsAt};
 
 use crate::Store;

@@ -1,8 +1,8 @@
 //! What a store tells of its mosaic: it only reads.
 ghost use Rattle.std.specs.Prelude.{◌≢◌, Err};
 ghost use Rattle.lattice.specs.declared.refusal.Refusal.TheVariants.{NoMemory};
-ghost use Rattle.edits.specs.Outcomes.{Elevates};
-ghost use Rattle.edits.specs.State.{State};
+ghost use Rattle.calls.specs.Outcomes.{Elevates};
+ghost use Rattle.calls.specs.State.{State};
 ghost use Rattle.store.specs.Queried.{Queries, CountsSeams};
 ghost use Rattle.store.specs.Stores.{disk_of, IsAt};
 

@@ -3,10 +3,10 @@ ghost use Rattle.std.specs.Prelude.{◌≡◌, ◌≤◌, ◌++◌, ◌∷◌, [
 ghost use Rattle.lattice.specs.declared.refusal.Refusal.TheVariants.{NoMemory};
 ghost use Rattle.store.specs.Events.{Runs};
 ghost use Rattle.store.specs.Stores.{disk_of};
-ghost use Rattle.store.specs.declared.event.Reply.{Reply};
+ghost use Rattle.calls.specs.declared.event.Reply.{Reply};
 
 use crate::Store;
-use crate::event::{Event, Reply};
+use calls::{Event, Reply};
 use disk::Disk;
 use lattice::Refusal;
 

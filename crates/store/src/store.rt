@@ -5,10 +5,9 @@ ghost use Rattle.disk.specs.Stops.{AddsNothing};
 ghost use Rattle.lattice.specs.Corners.{Corner};
 ghost use Rattle.lattice.specs.declared.refusal.Refusal.TheVariants.{Device, NoMemory, BadSide, BadCapacity, TooSmall};
 ghost use Rattle.page_codec.specs.Sizes.{sectors_of};
-ghost use Rattle.edits.specs.State.{Contents, State, fresh};
+ghost use Rattle.calls.specs.State.{Contents, State, fresh, working};
 ghost use Rattle.cow_tree.specs.Trees.{HasStaged, records_due, MayRefuse, corners_of as corners_under, root_of as root_under, has_failed as have_failed};
 ghost use Rattle.store.specs.Standing.{StandsFor};
-ghost use Rattle.store.specs.States.{working};
 
 use cow_tree::{NotOpened, Tree};
 use disk::Disk;

@@ -2,3 +2,4 @@ pub mod Runs
 pub mod RunsLaws
 pub mod Order
 pub mod Search
+pub mod Questions

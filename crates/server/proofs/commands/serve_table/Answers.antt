@@ -1,5 +1,5 @@
 use Rattle.std.proofs.Common.{ap, sym, subst, List, ℕ}
-use Rattle.edits.specs.State.{fresh}
+use Rattle.calls.specs.State.{fresh}
 use Rattle.server.specs.CommandLine.{Begins}
 use Rattle.server.specs.TableState.{working}
 use Rattle.server.proofs.ProgramLemmas.{failed, flushed}

@@ -1,5 +1,5 @@
 use Rattle.std.proofs.Common.{rules, refl, sym, ap, subst, ◌∙◌, ◌≡◌, ℕ, List, [], ◌∷◌, ◌++◌, Bool}
-use Rattle.edits.specs.State.{State}
+use Rattle.calls.specs.State.{State}
 use Rattle.server.specs.declared.session.Next.TheVariants.{More, End}
 use Rattle.server.specs.Answers.{Replied}
 use Rattle.server.specs.Items.{Heard}

@@ -1,5 +1,5 @@
 use Rattle.std.proofs.Common.{◌≡◌, List, ◌∷◌, Bool}
-use Rattle.edits.specs.State.{State}
+use Rattle.calls.specs.State.{State}
 use Rattle.lines.specs.Ahead.{to_come, weight}
 use Rattle.server.specs.Answers.{Replied}
 use Rattle.server.specs.Served.{last_of}

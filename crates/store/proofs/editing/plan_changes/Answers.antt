@@ -9,7 +9,7 @@ use Rattle.cow_tree.specs.Trees.{root_of, has_failed}
 use Rattle.store.proofs.EditingReads.{reading, mosaic_is, readable, none_refused}
 use Rattle.store.proofs.EditingSteps.{refusal_is}
 use Rattle.store.proofs.InMemory.{is_working}
-use Rattle.store.proofs.Outcomes.{plan_refused}
+use Rattle.calls.proofs.Applying.{plan_refused}
 use Rattle.store.proofs.editing.plan_changes.Goals as goal
 
 pub returns-in-Ok-clause-changes : goal.returns-in-Ok-clause-changes

@@ -1,5 +1,5 @@
 use Rattle.std.proofs.Common.{inl, ⊎_elim}
-use Rattle.edits.specs.State.{fresh}
+use Rattle.calls.specs.State.{fresh}
 use Rattle.store.proofs.in_memory.store_in_memory.Goals as goal
 
 pub returns-in-Ok-open-clause-fresh : goal.returns-in-Ok-open-clause-fresh

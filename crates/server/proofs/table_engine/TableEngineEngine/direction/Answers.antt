@@ -1,4 +1,7 @@
-use Rattle.drainage.proofs.Answered.{directs}
+use Rattle.calls.proofs.Answered.{directs}
+use Rattle.lattice.specs.Ground.{terrain}
+use Rattle.watershed.specs.Questions.{DrainsBy}
+use Rattle.drainage.proofs.Answered.{told_of_levels}
 use Rattle.server.specs.TableState.{contents_of, working}
 use Rattle.server.proofs.TableLemmas.{directed, stands, stays_this}
 use Rattle.server.proofs.table_engine.TableEngineEngine.direction.Goals as goal
@@ -16,6 +19,6 @@ returns-clause-outcome c = λ honest s at.
       stands held e.table e.capacity e.count e.number view s at c.direction.new.samples says.reads.keeps,
       tt,
       directed held e.table e.capacity e.count e.number view s at valid c.args.point c.direction.result
-          (directs this this (stays_this held e.table e.capacity e.count e.number view s at) valid c.args.point c.direction.result (says.reads.answers valid) (says.direction new_valid) (says.on_ground new_valid)
-          says.outside (says.void new_valid) says.causes),
+          (directs this this (stays_this held e.table e.capacity e.count e.number view s at) c.args.point c.direction.result (told_of_levels this.contents.mosaic valid c.args.point (λ code level. DrainsBy (terrain this.contents.mosaic) level c.args.point code) c.direction.result (says.reads.answers valid) (says.direction new_valid) (says.on_ground new_valid)
+          says.outside (says.void new_valid) says.causes)),
     )

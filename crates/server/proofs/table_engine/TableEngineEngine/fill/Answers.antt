@@ -1,4 +1,7 @@
-use Rattle.drainage.proofs.Answered.{fills}
+use Rattle.calls.proofs.Answered.{fills}
+use Rattle.lattice.specs.Ground.{terrain}
+use Rattle.lattice.specs.Terrain.{IsFilledLevel}
+use Rattle.drainage.proofs.Answered.{told}
 use Rattle.server.specs.TableState.{contents_of, working}
 use Rattle.server.proofs.TableLemmas.{filled, stands, stays_this}
 use Rattle.server.proofs.table_engine.TableEngineEngine.fill.Goals as goal
@@ -16,6 +19,6 @@ returns-clause-outcome c = λ honest s at.
       stands held e.table e.capacity e.count e.number view s at c.fill.new.samples says.reads.keeps,
       tt,
       filled held e.table e.capacity e.count e.number view s at valid c.args.point c.fill.result
-          (fills this this (stays_this held e.table e.capacity e.count e.number view s at) valid c.args.point c.fill.result (says.reads.answers valid) (says.level new_valid)
-          says.outside (says.void new_valid) says.causes),
+          (fills this this (stays_this held e.table e.capacity e.count e.number view s at) c.args.point c.fill.result (told this.contents.mosaic valid c.args.point (IsFilledLevel (terrain this.contents.mosaic) c.args.point) c.fill.result (says.reads.answers valid) (says.level new_valid)
+          says.outside (says.void new_valid) says.causes)),
     )

@@ -1,4 +1,7 @@
-use Rattle.drainage.proofs.Answered.{traces}
+use Rattle.calls.proofs.Answered.{traces}
+use Rattle.lattice.specs.Ground.{terrain}
+use Rattle.flow_d8.specs.FlowPath.{IsFlowPath}
+use Rattle.drainage.proofs.Answered.{told_of_levels}
 use Rattle.server.specs.TableState.{contents_of, working}
 use Rattle.server.proofs.TableLemmas.{traced, stands, stays_this}
 use Rattle.server.proofs.table_engine.TableEngineEngine.trace.Goals as goal
@@ -16,6 +19,6 @@ returns-clause-outcome c = λ honest s at.
       stands held e.table e.capacity e.count e.number view s at c.trace.new.samples says.reads.keeps,
       tt,
       traced held e.table e.capacity e.count e.number view s at valid c.args.point c.trace.result
-          (traces this this (stays_this held e.table e.capacity e.count e.number view s at) valid c.args.point c.trace.result (says.reads.answers valid) (says.path new_valid) (says.on_ground new_valid)
-          says.outside (says.void new_valid) says.causes),
+          (traces this this (stays_this held e.table e.capacity e.count e.number view s at) c.args.point c.trace.result (told_of_levels this.contents.mosaic valid c.args.point (λ path level. IsFlowPath (terrain this.contents.mosaic) level c.args.point path.items) c.trace.result (says.reads.answers valid) (says.path new_valid) (says.on_ground new_valid)
+          says.outside (says.void new_valid) says.causes)),
     )

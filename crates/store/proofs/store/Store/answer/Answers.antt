@@ -5,15 +5,14 @@ use Rattle.lattice.specs.declared.height.Height.{Height}
 use Rattle.lattice.specs.declared.point.Point.{Point}
 use Rattle.lattice.specs.declared.refusal.Refusal.{Refusal}
 use Rattle.lattice.specs.declared.refusal.Refusal.TheVariants.{Failed}
-use Rattle.edits.specs.Outcomes.{Elevates, Exports, Lists}
-use Rattle.edits.specs.State.{State}
-use Rattle.drainage.specs.Outcomes.{Fills, Directs, Traces, Sheds}
+use Rattle.calls.specs.Outcomes.{Elevates, Exports, Lists, Fills, Directs, Traces, Sheds}
+use Rattle.calls.specs.State.{State}
 use Rattle.watershed.specs.declared.runs.Run.{Run}
-use Rattle.store.specs.Events.{Happens}
+use Rattle.calls.specs.Events.{Happens}
 use Rattle.store.specs.Stores.{items_in, capacity_of}
-use Rattle.store.specs.declared.event.Event.TheVariants as ask
-use Rattle.store.specs.declared.event.Reply.{Reply}
-use Rattle.store.specs.declared.event.Reply.TheVariants as reply
+use Rattle.calls.specs.declared.event.Event.TheVariants as ask
+use Rattle.calls.specs.declared.event.Reply.{Reply}
+use Rattle.calls.specs.declared.event.Reply.TheVariants as reply
 use Rattle.store.proofs.OneEvent.{Tells, as_asked, told_right, told_device, told_refused, by_query, by_memory, by_reopening, by_command}
 use Rattle.store.proofs.store.Store.answer.Goals as goal
 

@@ -7,8 +7,8 @@ use Rattle.page_codec.specs.Entries.{EntryValue}
 use Rattle.page_codec.specs.Roots.{RootValue}
 use Rattle.edits.specs.Changes.{all_changed}
 use Rattle.edits.specs.declared.change.Change.{Change}
-use Rattle.edits.specs.Outcomes.{AppliesNot}
-use Rattle.edits.specs.State.{State}
+use Rattle.calls.specs.Outcomes.{AppliesNot}
+use Rattle.calls.specs.State.{State}
 use Rattle.cow_tree.specs.Stored.{StoredTile}
 use Rattle.cow_tree.specs.Trees.{root_of, has_begun, records_due, staged_in}
 use Rattle.cow_tree.proofs.Steps.{ok_where_works}
@@ -22,7 +22,7 @@ use Rattle.store.proofs.EditingReads.{device_or_not}
 use Rattle.store.proofs.EditingSteps.{uncommitted_on, given_up}
 use Rattle.store.proofs.EditingWrites.{begun_written, commit_written, few_written, none_written}
 use Rattle.store.proofs.InMemory.{is_working, worn_at, room_at}
-use Rattle.store.proofs.Outcomes.{no_memory}
+use Rattle.calls.proofs.Applying.{no_memory}
 use Rattle.store.proofs.store.Store.edit.Goals as goal
 use Rattle.store.proofs.store.Store.edit.Goals.{After-stage_changes, After-commit}
 

@@ -4,8 +4,8 @@ use Rattle.lattice.specs.Height.{height_of}
 use Rattle.lattice.specs.Mosaic.{Mosaic}
 use Rattle.lattice.specs.declared.height.Height.{Height}
 use Rattle.lattice.specs.declared.refusal.Refusal.{Refusal}
-use Rattle.edits.specs.Outcomes.{Elevates}
-use Rattle.edits.specs.State.{State}
+use Rattle.calls.specs.Outcomes.{Elevates}
+use Rattle.calls.specs.State.{State}
 use Rattle.cow_tree.specs.Trees.{has_failed}
 use Rattle.store.proofs.Querying.{mosaic_at, stays_at, still_clean, still_none_due, still_corners, still_readable, fails_so, answered}
 use Rattle.store.proofs.store.Store.elevation.Goals as goal

@@ -2,8 +2,8 @@ use Rattle.std.proofs.Common.{◌≡◌, false, sym, ◌∙◌, subst}
 use Rattle.std.specs.Prelude.{None, Err}
 use Rattle.std.proofs.lemmas.Bool.{both_ways}
 use Rattle.lattice.specs.declared.refusal.Refusal.{Refusal}
-use Rattle.edits.specs.Outcomes.{Exports}
-use Rattle.edits.specs.State.{failing}
+use Rattle.calls.specs.Outcomes.{Exports}
+use Rattle.calls.specs.State.{failing}
 use Rattle.cow_tree.specs.Trees.{has_failed}
 use Rattle.store.proofs.Querying.{stays_at, still_clean, still_none_due, still_corners, still_at, failing_at, fails_so}
 use Rattle.store.proofs.QueryingPages.{no_tile_of, tile, tile_of, exported}

@@ -7,9 +7,10 @@ use Rattle.lattice.specs.Terrain.{IsFilledLevel}
 use Rattle.lattice.specs.declared.height.Height.TheVariants as height
 use Rattle.lattice.specs.declared.refusal.Refusal.{Refusal}
 use Rattle.lattice.specs.declared.refusal.Refusal.TheVariants.{Outside, Void}
-use Rattle.edits.specs.State.{State}
-use Rattle.drainage.specs.Outcomes.{Fills}
-use Rattle.drainage.proofs.Answered.{fills}
+use Rattle.calls.specs.State.{State}
+use Rattle.calls.specs.Outcomes.{Fills}
+use Rattle.calls.proofs.Answered.{fills}
+use Rattle.drainage.proofs.Answered.{told}
 use Rattle.cow_tree.specs.Trees.{has_failed}
 use Rattle.store.proofs.Querying.{valid_at, stays_at, still_clean, still_none_due, still_corners, still_readable, queried, fails_so}
 use Rattle.store.proofs.QueryingDrainage.{of_here, held_here, risen_read, works_read, fails_read, read_answered}
@@ -43,7 +44,7 @@ returns-clause-outcome g c honest s at =
     let readable = still_readable d old new works keeps honest s at in
     read_answered d old new works keeps honest s at (λ (s : State) (r : Result ℤ Refusal) (t : State). Fills s c.args.point (r) t) result (ensures.reads.ready works) ensures.reads.unready
     (ensures.reads.only_device readable works) (fails_so d old new works keeps honest s at)
-    (λ unread. fills s s (stays_at d old works s at) (valid_at d old works s at) c.args.point result unread
+    (λ unread. fills s s (stays_at d old works s at) c.args.point result (told s.contents.mosaic (valid_at d old works s at) c.args.point (IsFilledLevel (terrain s.contents.mosaic) c.args.point) result unread
     (of_here d old new works keeps honest s at (λ (m : Mosaic). IfOk result (λ level. IsFilledLevel (terrain m) c.args.point level)) (ensures.level readable))
     (held_here d old new works keeps honest s at (IsErrOf result Outside) c.args.point ensures.outside)
-    (of_here d old new works keeps honest s at (λ (m : Mosaic). IsErrOf result Void → height_of m c.args.point ≡ height.Void) (ensures.void readable)) ensures.causes)
+    (of_here d old new works keeps honest s at (λ (m : Mosaic). IsErrOf result Void → height_of m c.args.point ≡ height.Void) (ensures.void readable)) ensures.causes))

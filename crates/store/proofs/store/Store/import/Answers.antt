@@ -5,7 +5,7 @@ use Rattle.disk.specs.Stops.{LeavesOnly, weaker}
 use Rattle.lattice.specs.declared.refusal.Refusal.{Refusal}
 use Rattle.lattice.specs.declared.refusal.Refusal.TheVariants.{Device, NoMemory}
 use Rattle.page_codec.specs.Roots.{RootValue}
-use Rattle.edits.specs.State.{State}
+use Rattle.calls.specs.State.{State}
 use Rattle.edits.specs.declared.command.Command.{Command}
 use Rattle.edits.specs.declared.command.Command.TheVariants.{Import}
 use Rattle.cow_tree.specs.Layout.{Stands}
@@ -18,7 +18,7 @@ use Rattle.store.proofs.Committing.{IsStaged, under_way, committed}
 use Rattle.store.proofs.DoneCommands.{idle, broken, broken_in_commit, done, risen_later}
 use Rattle.store.proofs.Importing.{import_staged}
 use Rattle.store.proofs.InMemory.{is_working, room_at}
-use Rattle.store.proofs.Outcomes.{no_memory}
+use Rattle.calls.proofs.Applying.{no_memory}
 use Rattle.store.proofs.States.{reads_keep}
 use Rattle.store.proofs.store.Store.import.Goals as goal
 use Rattle.store.proofs.store.Store.import.Goals.{After-commit}

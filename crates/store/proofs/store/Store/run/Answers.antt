@@ -2,8 +2,8 @@ use Rattle.std.proofs.Common.{rules, ◌≡◌, ◌≤◌, ◌<◌, ◌+◌, ◌
 use Rattle.std.proofs.lemmas.List.{append-nil, append_assoc, take_more}
 use Rattle.std.specs.Result.{is_ok}
 use Rattle.store.specs.Events.{HasRun}
-use Rattle.store.specs.declared.event.Event.{Event}
-use Rattle.store.specs.declared.event.Reply.{Reply}
+use Rattle.calls.specs.declared.event.Event.{Event}
+use Rattle.calls.specs.declared.event.Reply.{Reply}
 use Rattle.store.proofs.Runs.{none_yet, one_then_other}
 use Rattle.store.proofs.store.Store.run.Goals as goal
 

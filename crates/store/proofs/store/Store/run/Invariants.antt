@@ -1,6 +1,6 @@
 use Rattle.std.proofs.Common.{◌≡◌, ◌≤◌, ◌+◌, ◌++◌, List, length, take, vec_len, vec_capacity}
 use Rattle.store.specs.Events.{HasRun}
-use Rattle.store.specs.declared.event.Reply.{Reply}
+use Rattle.calls.specs.declared.event.Reply.{Reply}
 use Rattle.store.proofs.store.Store.run.Given as goal
 
 -- there is room for the replies to come, and those so far are a run's

@@ -3,7 +3,7 @@ use Rattle.std.proofs.lemmas.Result.{IfOk-weaker}
 use Rattle.lattice.specs.Mosaic.{Mosaic}
 use Rattle.lattice.specs.declared.refusal.Refusal.{Refusal}
 use Rattle.catalogue.specs.Seams.{IsSeamCount}
-use Rattle.edits.specs.State.{State}
+use Rattle.calls.specs.State.{State}
 use Rattle.store.specs.Queried.{CountsSeams}
 use Rattle.cow_tree.specs.Trees.{has_failed}
 use Rattle.store.proofs.Querying.{mosaic_at, stays_at, still_clean, still_none_due, still_corners, still_readable, fails_so, answered}

@@ -8,11 +8,12 @@ use Rattle.lattice.specs.declared.height.Height.TheVariants as height
 use Rattle.lattice.specs.declared.point.Point.{Point}
 use Rattle.lattice.specs.declared.refusal.Refusal.{Refusal}
 use Rattle.lattice.specs.declared.refusal.Refusal.TheVariants.{Outside, Void}
-use Rattle.edits.specs.State.{State}
+use Rattle.calls.specs.State.{State}
 use Rattle.flow_d8.specs.Drainage.{AreFilledLevels}
 use Rattle.flow_d8.specs.FlowPath.{IsFlowPath}
-use Rattle.drainage.specs.Outcomes.{Traces}
-use Rattle.drainage.proofs.Answered.{traces}
+use Rattle.calls.specs.Outcomes.{Traces}
+use Rattle.calls.proofs.Answered.{traces}
+use Rattle.drainage.proofs.Answered.{told_of_levels}
 use Rattle.cow_tree.specs.Trees.{has_failed}
 use Rattle.store.specs.Stores.{items_in}
 use Rattle.store.proofs.Querying.{valid_at, stays_at, still_clean, still_none_due, still_corners, still_readable, queried, fails_so}
@@ -47,8 +48,8 @@ returns-clause-outcome g c honest s at =
     let readable = still_readable d old new works keeps honest s at in
     read_answered d old new works keeps honest s at (λ (s : State) (r : Result (Vec Point) Refusal) (t : State). Traces s c.args.point (items_in r) t) result (ensures.reads.ready works) ensures.reads.unready
     (ensures.reads.only_device readable works) (fails_so d old new works keeps honest s at)
-    (λ unread. listed (λ r. Traces s c.args.point r s) result (traces s s (stays_at d old works s at) (valid_at d old works s at) c.args.point result unread
+    (λ unread. listed (λ r. Traces s c.args.point r s) result (traces s s (stays_at d old works s at) c.args.point result (told_of_levels s.contents.mosaic (valid_at d old works s at) c.args.point (λ path level. IsFlowPath (terrain s.contents.mosaic) level c.args.point path.items) result unread
     (of_here d old new works keeps honest s at (λ (m : Mosaic). IfOk result (λ path. (level : Point → ℤ) → AreFilledLevels (terrain m) level → IsFlowPath (terrain m) level c.args.point path.items)) (ensures.path readable))
     (of_here d old new works keeps honest s at (λ (m : Mosaic). IsOk result → IsTrue (is_ground m c.args.point)) (ensures.on_ground readable))
     (held_here d old new works keeps honest s at (IsErrOf result Outside) c.args.point ensures.outside)
-    (of_here d old new works keeps honest s at (λ (m : Mosaic). IsErrOf result Void → height_of m c.args.point ≡ height.Void) (ensures.void readable)) ensures.causes))
+    (of_here d old new works keeps honest s at (λ (m : Mosaic). IsErrOf result Void → height_of m c.args.point ≡ height.Void) (ensures.void readable)) ensures.causes)))

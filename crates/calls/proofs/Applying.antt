@@ -1,4 +1,4 @@
--- What a call may answer in a state.
+-- What a command may answer in a state.
 use Rattle.std.proofs.Common.{◌≡◌, ◌⊎◌, inl, inr, ℕ, ◌+◌, ◌<◌, true, false, IsTrue, IsFalse, refl, ap}
 use Rattle.std.specs.Prelude.{Ok, Err, Some}
 use Rattle.std.proofs.lemmas.Bool.{or_cases, both_ways}
@@ -9,9 +9,10 @@ use Rattle.edits.specs.declared.command.Command.{Command}
 use Rattle.edits.specs.declared.command.Command.TheVariants.{Import, Remove, Patch, Burn, Wall}
 use Rattle.edits.specs.Effect.{effect}
 use Rattle.catalogue.specs.Readers.{reads_of}
-use Rattle.edits.specs.Plans.{is_own, ends_any, may_end}
-use Rattle.edits.specs.State.{Contents, State, made_by, would_make, in_doubt, failing}
-use Rattle.edits.specs.Outcomes.{Accepts, IsWorn, AppliesNot, last_number}
+use Rattle.catalogue.specs.Endings.{ends_any}
+use Rattle.edits.specs.Plans.{is_own, may_end}
+use Rattle.calls.specs.State.{Contents, State, made_by, would_make, in_doubt, failing}
+use Rattle.calls.specs.Outcomes.{Accepts, IsWorn, AppliesNot, last_number}
 
 not_worn : (c : Command) → IsTrue (may_end c Worn) → ⊥
 not_worn (Import c bytes) e = both_ways false refl e

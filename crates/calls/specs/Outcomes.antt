@@ -1,17 +1,24 @@
 -- What a store may answer to a command or a query, and the state that it is in then (this product's own profile).
 -- Each relation reads: in the state s the call may answer r and leave the state t.
-use Rattle.std.specs.Prelude.{◌≡◌, ℕ, ◌+◌, ◌<◌, IsTrue, IsFalse, List, Option, Some, None, Result, Ok, Err, map}
+use Rattle.std.specs.Prelude.{◌≡◌, ℕ, ◌+◌, ◌<◌, ℤ, IsTrue, IsFalse, List, Option, Some, None, Result, Ok, Err, map}
 use Rattle.lattice.specs.Corners.{Corner}
 use Rattle.lattice.specs.declared.point.Point.{Point}
 use Rattle.lattice.specs.declared.height.Height.{Height}
+use Rattle.lattice.specs.declared.height.Height.TheVariants as height
 use Rattle.lattice.specs.declared.refusal.Refusal.{Refusal}
-use Rattle.lattice.specs.declared.refusal.Refusal.TheVariants.{NoTile, Device, NoMemory, Failed, Worn}
+use Rattle.lattice.specs.declared.refusal.Refusal.TheVariants.{NoTile, Outside, Void, Device, NoMemory, Failed, Worn}
 use Rattle.lattice.specs.Mosaic.{Mosaic, samples_of}
 use Rattle.lattice.specs.Height.{height_of}
+use Rattle.lattice.specs.Ground.{terrain}
+use Rattle.lattice.specs.Terrain.{IsFilledLevel}
 use Rattle.hgt.specs.Bytes.{hgt_bytes}
 use Rattle.edits.specs.declared.command.Command.{Command}
 use Rattle.edits.specs.Effect.{effect}
-use Rattle.edits.specs.State.{Contents, State, made_by, in_doubt, failing}
+use Rattle.flow_d8.specs.FlowPath.{IsFlowPath, IsInWatershed}
+use Rattle.watershed.specs.declared.runs.Run.{Run}
+use Rattle.watershed.specs.Runs.{AreRuns}
+use Rattle.watershed.specs.Questions.{IsAnswered, DrainsBy}
+use Rattle.calls.specs.State.{Contents, State, made_by, in_doubt, failing}
 
 -- the greatest commit number
 abbrev pub last_number : ℕ
@@ -93,3 +100,31 @@ ListsNot s r t = ⊥
 abbrev pub Lists : State → Result (List Corner) Refusal → State → Type 0
 Lists s (Ok corners) t = Stays s t × (corners ≡ map (λ tile. tile.corner) s.contents.mosaic.tiles)
 Lists s (Err r) t = ListsNot s r t
+
+abbrev pub AnswersNot : State → Point → Refusal → State → Type 0
+AnswersNot s p Outside t = Stays s t × (height_of s.contents.mosaic p ≡ height.Outside)
+AnswersNot s p Void t = Stays s t × (height_of s.contents.mosaic p ≡ height.Void)
+AnswersNot s p NoMemory t = Stays s t
+AnswersNot s p Failed t = StaysFailed s t
+AnswersNot s p Device t = Fails s None t
+AnswersNot s p r t = ⊥
+
+-- the filled level of a point
+abbrev pub Fills : State → Point → Result ℤ Refusal → State → Type 0
+Fills s p (Ok level) t = Stays s t × IsFilledLevel (terrain s.contents.mosaic) p level
+Fills s p (Err r) t = AnswersNot s p r t
+
+-- the code of its direction
+abbrev pub Directs : State → Point → Result ℕ Refusal → State → Type 0
+Directs s p (Ok code) t = Stays s t × IsAnswered s.contents.mosaic p (λ level. DrainsBy (terrain s.contents.mosaic) level p code)
+Directs s p (Err r) t = AnswersNot s p r t
+
+-- its flow path
+abbrev pub Traces : State → Point → Result (List Point) Refusal → State → Type 0
+Traces s p (Ok path) t = Stays s t × IsAnswered s.contents.mosaic p (λ level. IsFlowPath (terrain s.contents.mosaic) level p path)
+Traces s p (Err r) t = AnswersNot s p r t
+
+-- its watershed
+abbrev pub Sheds : State → Point → Result (List Run) Refusal → State → Type 0
+Sheds s p (Ok runs) t = Stays s t × IsAnswered s.contents.mosaic p (λ level. AreRuns (IsInWatershed (terrain s.contents.mosaic) level p) runs)
+Sheds s p (Err r) t = AnswersNot s p r t

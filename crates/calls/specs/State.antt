@@ -1,5 +1,5 @@
 -- The state of a store, by which its promises are said (this product's own profile).
-use Rattle.std.specs.Prelude.{ℕ, ◌+◌, Bool, true, List, [], Option, Some, None, Result, Ok, Err}
+use Rattle.std.specs.Prelude.{ℕ, ◌+◌, Bool, true, false, List, [], Option, Some, None, Result, Ok, Err}
 use Rattle.lattice.specs.Corners.{Corner}
 use Rattle.lattice.specs.declared.refusal.Refusal.{Refusal}
 use Rattle.lattice.specs.Mosaic.{Mosaic, empty_mosaic}
@@ -46,3 +46,7 @@ in_doubt capacity was c = would_make was c (effect capacity was.mosaic c)
 -- a call failed on the disk, and this commit is in doubt
 abbrev pub failing : State → Option Contents → State
 failing s doubt = record { contents = s.contents; failed = true; doubt = doubt }
+
+-- the contents known last, and no failure since
+abbrev pub working : Contents → State
+working c = record { contents = c; failed = false; doubt = None }

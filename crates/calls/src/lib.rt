@@ -1,0 +1,10 @@
+//! What a store is asked and what it answers.
+//!
+//! The layers above rest on this: `specs/State.antt` is the state of a store, `specs/Outcomes.antt` says of each call what it
+//! may answer and which state it leaves, and `specs/Events.antt` the same of events, one after another. No disk and no
+//! memory is spoken of here, so a store on a disk and a table in memory meet the same relations.
+#![tactic(auto)]
+
+mod event;
+
+pub use event::{Event, Reply};

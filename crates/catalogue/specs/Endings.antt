@@ -1,0 +1,12 @@
+-- The refusals that may end any call that reads samples (this product's own profile).
+use Rattle.std.specs.Prelude.{Bool, true, false}
+use Rattle.lattice.specs.declared.refusal.Refusal.{Refusal}
+use Rattle.lattice.specs.declared.refusal.Refusal.TheVariants.{Device, NoMemory, Failed, Damaged}
+
+-- no memory, or a read
+abbrev pub ends_any : Refusal → Bool
+ends_any NoMemory = true
+ends_any Device = true
+ends_any Failed = true
+ends_any Damaged = true
+ends_any _ = false
