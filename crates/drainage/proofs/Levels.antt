@@ -13,7 +13,7 @@ use Rattle.lattice.specs.Terrain.{IsFilledLevel}
 use Rattle.catalogue.specs.Tiles.{corners_of}
 use Rattle.catalogue.proofs.Presence.{corners_in_order}
 use Rattle.tile_flood.specs.Raising.{AreTileLevels}
-use Rattle.flow_d8.specs.Levels.{Levels, AreLevels, IsFilledOf}
+use Rattle.flow_d8.specs.Filled.{Filled, AreLevels, IsFilledOf}
 use Rattle.drainage.specs.Flooded.{corner_at}
 use Rattle.drainage.specs.Draining.{AreTilesFilled}
 
@@ -64,7 +64,7 @@ module _ (m : Mosaic) (corners : List Corner) (levels tile : List ℤ) (count : 
 
 -- the levels of all tiles are those of the mosaic
 module _ (m : Mosaic) (is : IsMosaic m) (n : ℕ) (side : n ≡ m.side) (corners : List Corner) (all : corners ≡ corners_of m) (levels : List ℤ) (done : AreTilesFilled m corners levels (length corners)) where
-  found : Levels
+  found : Filled
   found = record { side = n; corners = corners; levels = levels }
 
   found_at : (cs : List Corner) (k : ℕ) (c : Corner) → slice_get cs k ≡ Some c → (k < length cs) × (corner_at cs k ≡ c)

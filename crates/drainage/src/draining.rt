@@ -9,7 +9,7 @@ ghost use Rattle.lattice.specs.declared.refusal.Refusal.TheVariants.{Outside, Vo
 ghost use Rattle.catalogue.specs.Readers.{OnlyReads, reads_of};
 ghost use Rattle.catalogue.specs.Tiles.{corners_of};
 ghost use Rattle.flow_d8.specs.Drainage.{AreFilledLevels};
-ghost use Rattle.flow_d8.specs.Drained.{AreDirectionsOf};
+ghost use Rattle.flow_d8.specs.Directions.{AreDirectionsOf};
 ghost use Rattle.flow_d8.specs.FlowPath.{IsFlowPath, IsInWatershed};
 ghost use Rattle.watershed.specs.Runs.{AreRuns};
 ghost use Rattle.catalogue.specs.Sealed.{IsSealed};
@@ -19,7 +19,7 @@ ghost use Rattle.watershed.specs.Questions.{code_by, DrainsBy};
 use crate::asking::survey;
 use crate::flooding::{all_levels, flood};
 use catalogue::{Samples, Table};
-use flow_d8::{Directions, Filled, directions};
+use flow_d8::{Directions, Filled};
 use lattice::{Dir, Point, Refusal};
 use std::alloc::Global;
 use watershed::Run;
@@ -100,7 +100,7 @@ fn drained(alloc: Global, table: &mut Table) -> Result<Directions, Refusal>
     let Some(filled) = Filled::new(side, flooded.corners, levels) else {
         return Err(Refusal::Damaged);
     };
-    directions(alloc, &filled)
+    filled.directions(alloc)
 }
 
 // The direction's code in replies.

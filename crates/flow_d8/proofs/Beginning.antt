@@ -1,4 +1,4 @@
--- The points that drain downhill or off the mosaic, and the points of flats, one place after another.
+-- The points that drain downhill or off the mosaic, and the points of flats, one number after another.
 use Rattle.std.proofs.Common.{◌≡◌, ◌≢◌, ℕ, ◌+◌, ◌<◌, ◌≤◌, Bool, true, false, cond, not, ◌&&◌, IsTrue, IsFalse, Option, Some, None, List, length, get_or, set, inl, inr, ⊎_elim, refl, sym, ap, ◌∙◌, subst, arith, true≢false, get_or-set_other, get_or-set_same, length-set}
 use Rattle.std.specs.Prelude.{nat_lt, is_some, count_by, MatchOption}
 use Rattle.std.specs.List.{list_all}
@@ -9,9 +9,9 @@ use Rattle.lattice.specs.declared.direction.Dir.{Dir}
 use Rattle.lattice.specs.declared.direction.Dir.TheVariants.{East}
 use Rattle.lattice.specs.Steps.{step, directions}
 use Rattle.flow_d8.specs.Drainage.{HasLower, IsSteepest, IsFlatDistance, IsFirstNearer, IsDirection}
-use Rattle.flow_d8.specs.Levels.{Levels, AreLevels}
-use Rattle.flow_d8.specs.Surface.{place_in, level_at, has_level, adjoins, leads_off, surface, beside_of, around_of}
-use Rattle.flow_d8.specs.Crossing.{unknown, distance_at, Crosses, IsPlaceOf, AreDistances, IsDownhill, drain_at, AreDownhill, AreDrained, IsBegun, IsStart, IsFinishing, LeadsNowhere}
+use Rattle.flow_d8.specs.Filled.{Filled, AreLevels}
+use Rattle.flow_d8.specs.Surface.{number_in, level_at, has_level, adjoins, leads_off, surface, beside_of, around_of}
+use Rattle.flow_d8.specs.Crossing.{unknown, distance_at, Crosses, IsNumberOf, AreDistances, IsDownhill, drain_at, AreDownhill, AreDrained, IsBegun, IsStart, IsFinishing, LeadsNowhere}
 use Rattle.flow_d8.proofs.Surfaces.{same_site, level_within, beside_there, beside_none}
 use Rattle.flow_d8.proofs.Nearest.{on_flat, across_flat}
 
@@ -40,7 +40,7 @@ counted true true false d e f g h = grind (arith, nat_tests)
 counted true false c d e f g h = grind (arith, nat_tests)
 counted false b c d e f g h = grind (arith, nat_tests)
 
-module _ (f : Levels) (p : Point) where
+module _ (f : Filled) (p : Point) where
   some_beside : (d : Dir) → is_some (beside_of f p d) ≡ adjoins f p (step d p)
   some_beside d = elim (cases_Bool (adjoins f p (step d p))) [
     | inl on ↦ ap is_some (beside_there f p d on) ∙ sym on
@@ -67,19 +67,19 @@ module _ (f : Levels) (p : Point) where
   pub at_once : Crosses f p 0 → IsFlatDistance (surface f) (level_at f) p 0
   at_once crosses = record { crosses = crosses; least = λ j c. omega arith }
 
-module _ (f : Levels) (whole : AreLevels f) (drains : List (Option Dir)) (distances : List ℕ) (k : ℕ) (s : IsBegun f drains distances k) where
-  -- where no point has the next place
-  pub begin_none : ((p : Point) → IsTrue (has_level f p) → place_in f p ≡ k → ⊥) → IsBegun f drains distances (k + 1)
+module _ (f : Filled) (whole : AreLevels f) (drains : List (Option Dir)) (distances : List ℕ) (k : ℕ) (s : IsBegun f drains distances k) where
+  -- where no point has the next number
+  pub begin_none : ((p : Point) → IsTrue (has_level f p) → number_in f p ≡ k → ⊥) → IsBegun f drains distances (k + 1)
   begin_none none = record {
     right = s.right;
     drains_whole = s.drains_whole;
-    downhill = λ p level below. elim (cases_eq (place_in f p) k) [ inl same ↦ absurd (none p level same) | inr other ↦ s.downhill p level (omega arith) ];
-    known = λ p level below crosses. elim (cases_eq (place_in f p) k) [ inl same ↦ absurd (none p level same) | inr other ↦ s.known p level (omega arith) crosses ];
+    downhill = λ p level below. elim (cases_eq (number_in f p) k) [ inl same ↦ absurd (none p level same) | inr other ↦ s.downhill p level (omega arith) ];
+    known = λ p level below crosses. elim (cases_eq (number_in f p) k) [ inl same ↦ absurd (none p level same) | inr other ↦ s.known p level (omega arith) crosses ];
     no_drain = λ g above. s.no_drain g (omega arith);
   }
 
-  module _ (p : Point) (level : IsTrue (has_level f p)) (at : place_in f p ≡ k) where
-    this : (q : Point) → IsTrue (has_level f q) → place_in f q ≡ k → p ≡ q
+  module _ (p : Point) (level : IsTrue (has_level f p)) (at : number_in f p ≡ k) where
+    this : (q : Point) → IsTrue (has_level f q) → number_in f q ≡ k → p ≡ q
     this q q_level same = same_site f whole p q level q_level (at ∙ sym same)
 
     -- where the point lies on a flat
@@ -87,13 +87,13 @@ module _ (f : Levels) (whole : AreLevels f) (drains : List (Option Dir)) (distan
     begin_flat no_lower inside = record {
       right = s.right;
       drains_whole = s.drains_whole;
-      downhill = λ q q_level below. elim (cases_eq (place_in f q) k) [
+      downhill = λ q q_level below. elim (cases_eq (number_in f q) k) [
         | inl same ↦
-            let none : drain_at f drains q ≡ None = s.no_drain (place_in f q) (omega arith) in
+            let none : drain_at f drains q ≡ None = s.no_drain (number_in f q) (omega arith) in
             subst (IsDownhill f q) (sym none) (subst (λ r. HasLower (surface f) (level_at f) r → ⊥) (this q q_level same) no_lower)
         | inr other ↦ s.downhill q q_level (omega arith)
       ];
-      known = λ q q_level below crosses. elim (cases_eq (place_in f q) k) [
+      known = λ q q_level below crosses. elim (cases_eq (number_in f q) k) [
         | inl same ↦
             let c : Crosses f p 0 = subst (λ r. Crosses f r 0) (sym (this q q_level same)) crosses in
             absurd (⊎_elim (λ low. no_lower low) (λ out. true≢false (sym out ∙ inside)) c)
@@ -130,23 +130,23 @@ module _ (f : Levels) (whole : AreLevels f) (drains : List (Option Dir)) (distan
           right = λ g known. elim (cases_eq g k) [
             | inl same ↦
                 let zero_g : distance_at (set distances k 0) g ≡ 0 = ap (distance_at (set distances k 0)) same ∙ this_distance in
-                subst (λ v. IsPlaceOf f 0 g v) (sym zero_g) (record { point = p; level = level; place = at ∙ sym same; near = omega arith; exact = at_once f p crosses })
+                subst (λ v. IsNumberOf f 0 g v) (sym zero_g) (record { point = p; level = level; numbered = at ∙ sym same; near = omega arith; exact = at_once f p crosses })
             | inr other ↦
                 let is = other_distance g other in
-                subst (λ v. IsPlaceOf f 0 g v) (sym is) (s.right.right g (omega arith))
+                subst (λ v. IsNumberOf f 0 g v) (sym is) (s.right.right g (omega arith))
           ];
         };
         drains_whole = length-set drains k way ∙ s.drains_whole;
-        downhill = λ q q_level below. elim (cases_eq (place_in f q) k) [
+        downhill = λ q q_level below. elim (cases_eq (number_in f q) k) [
           | inl same ↦
               let is : drain_at f (set drains k way) q ≡ way = ap (λ g. get_or (set drains k way) g None) same ∙ get_or-set_same drains k way None in_drains in
               subst (IsDownhill f q) (sym is) (subst (λ r. IsDownhill f r way) (this q q_level same) down)
           | inr other ↦
-              subst (IsDownhill f q) (sym (other_drain (place_in f q) other)) (s.downhill q q_level (omega arith))
+              subst (IsDownhill f q) (sym (other_drain (number_in f q) other)) (s.downhill q q_level (omega arith))
         ];
-        known = λ q q_level below c. elim (cases_eq (place_in f q) k) [
-          | inl same ↦ let is : distance_at (set distances k 0) (place_in f q) ≡ 0 = ap (distance_at (set distances k 0)) same ∙ this_distance in omega arith
-          | inr other ↦ let is = other_distance (place_in f q) other in let old = s.known q q_level (omega arith) c in omega arith
+        known = λ q q_level below c. elim (cases_eq (number_in f q) k) [
+          | inl same ↦ let is : distance_at (set distances k 0) (number_in f q) ≡ 0 = ap (distance_at (set distances k 0)) same ∙ this_distance in omega arith
+          | inr other ↦ let is = other_distance (number_in f q) other in let old = s.known q q_level (omega arith) c in omega arith
         ];
         no_drain = λ g above. let other : g ≢ k = omega arith in other_drain g other ∙ s.no_drain g (omega arith);
       }
@@ -159,7 +159,7 @@ module _ (f : Levels) (whole : AreLevels f) (drains : List (Option Dir)) (distan
     pub begun_distances : IsStart f distances
     begun_distances = record { right = s.right; known = λ p level crosses. s.known p level (omega (arith, level_within f whole p level)) crosses }
 
-pub begin_start : (f : Levels) (drains : List (Option Dir)) (distances : List ℕ) → AreLevels f → length drains ≡ length f.levels → length distances ≡ length f.levels
+pub begin_start : (f : Filled) (drains : List (Option Dir)) (distances : List ℕ) → AreLevels f → length drains ≡ length f.levels → length distances ≡ length f.levels
     → ((g : ℕ) → get_or drains g None ≡ None) → ((g : ℕ) → distance_at distances g ≡ unknown) → IsBegun f drains distances 0
 begin_start f drains distances whole drains_whole distances_whole no_drains no_distances = record {
   right = record { valid = whole; whole = distances_whole; right = λ g known. absurd (omega (arith, no_distances g)) };
@@ -170,12 +170,12 @@ begin_start f drains distances whole drains_whole distances_whole no_drains no_d
 }
 
 -- the points of flats
-module _ (f : Levels) (drains : List (Option Dir)) (distances : List ℕ) (dist : AreDistances f distances) (k : ℕ) (s : IsFinishing f drains distances k) where
+module _ (f : Filled) (drains : List (Option Dir)) (distances : List ℕ) (dist : AreDistances f distances) (k : ℕ) (s : IsFinishing f drains distances k) where
   whole : AreLevels f
   whole = dist.valid
 
-  module _ (p : Point) (level : IsTrue (has_level f p)) (at : place_in f p ≡ k) where
-    same_point_at : (q : Point) → IsTrue (has_level f q) → place_in f q ≡ k → p ≡ q
+  module _ (p : Point) (level : IsTrue (has_level f p)) (at : number_in f p ≡ k) where
+    same_point_at : (q : Point) → IsTrue (has_level f q) → number_in f q ≡ k → p ≡ q
     same_point_at q q_level same = same_site f dist.valid p q level q_level (at ∙ sym same)
 
     -- a point whose distance isn't known leads nowhere
@@ -185,12 +185,12 @@ module _ (f : Levels) (drains : List (Option Dir)) (distances : List ℕ) (dist 
     finish_off : distance_at distances k ≡ 0 → IsFinishing f drains distances (k + 1)
     finish_off zero_k = record {
       whole = s.whole;
-      drained = λ q q_level below. elim (cases_eq (place_in f q) k) [
+      drained = λ q q_level below. elim (cases_eq (number_in f q) k) [
         | inl same ↦ subst (λ r. IsDirection (surface f) (level_at f) r (drain_at f drains r)) (same_point_at q q_level same)
             (on_flat f dist.valid distances dist p 0 level (ap (distance_at distances) at ∙ zero_k) (omega arith) (drain_at f drains p) (s.downhill p level (omega arith)) refl)
         | inr other ↦ s.drained q q_level (omega arith)
       ];
-      known = λ q q_level below. elim (cases_eq (place_in f q) k) [
+      known = λ q q_level below. elim (cases_eq (number_in f q) k) [
         | inl same ↦ let here = ap (distance_at distances) same in omega arith
         | inr other ↦ s.known q q_level (omega arith)
       ];
@@ -212,32 +212,32 @@ module _ (f : Levels) (drains : List (Option Dir)) (distances : List ℕ) (dist 
       pub finish_across : IsFinishing f (set drains k way) distances (k + 1)
       finish_across = record {
         whole = length-set drains k way ∙ s.whole;
-        drained = λ q q_level below. elim (cases_eq (place_in f q) k) [
+        drained = λ q q_level below. elim (cases_eq (number_in f q) k) [
           | inl same ↦
               let is : drain_at f (set drains k way) q ≡ way = ap (λ g. get_or (set drains k way) g None) same ∙ get_or-set_same drains k way None k_in_drains in
               subst (IsDirection (surface f) (level_at f) q) (sym is) (subst (λ r. IsDirection (surface f) (level_at f) r way) (same_point_at q q_level same) (direction way first))
-          | inr other ↦ subst (IsDirection (surface f) (level_at f) q) (sym (drain_elsewhere (place_in f q) other)) (s.drained q q_level (omega arith))
+          | inr other ↦ subst (IsDirection (surface f) (level_at f) q) (sym (drain_elsewhere (number_in f q) other)) (s.drained q q_level (omega arith))
         ];
-        known = λ q q_level below. elim (cases_eq (place_in f q) k) [
+        known = λ q q_level below. elim (cases_eq (number_in f q) k) [
           | inl same ↦ let at_q = ap (distance_at distances) same in omega arith
           | inr other ↦ s.known q q_level (omega arith)
         ];
-        downhill = λ q q_level above. let other : place_in f q ≢ k = omega arith in
-            subst (IsDownhill f q) (sym (drain_elsewhere (place_in f q) other)) (s.downhill q q_level (omega arith));
+        downhill = λ q q_level above. let other : number_in f q ≢ k = omega arith in
+            subst (IsDownhill f q) (sym (drain_elsewhere (number_in f q) other)) (s.downhill q q_level (omega arith));
       }
 
   -- a point whose distance is 0 drains already
   pub finish_done : distance_at distances k ≡ 0 → IsFinishing f drains distances (k + 1)
-  finish_done zero_k = let s = (dist.right k (omega arith)).1 in finish_off s.point s.level s.place zero_k
+  finish_done zero_k = let s = (dist.right k (omega arith)).1 in finish_off s.point s.level s.numbered zero_k
 
   module _ (all : length f.levels ≤ k) where
     pub finished : AreDrained f drains
     finished = record { whole = s.whole; drained = λ p level. s.drained p level (omega (arith, level_within f dist.valid p level)) }
 
-    pub finished_known : (p : Point) → IsTrue (has_level f p) → distance_at distances (place_in f p) < unknown
+    pub finished_known : (p : Point) → IsTrue (has_level f p) → distance_at distances (number_in f p) < unknown
     finished_known p level = s.known p level (omega (arith, level_within f dist.valid p level))
 
-pub finish_start : (f : Levels) (drains : List (Option Dir)) (distances : List ℕ) → AreDownhill f drains → IsFinishing f drains distances 0
+pub finish_start : (f : Filled) (drains : List (Option Dir)) (distances : List ℕ) → AreDownhill f drains → IsFinishing f drains distances 0
 finish_start f drains distances down = record {
   whole = down.whole;
   drained = λ p level below. absurd (omega arith);
@@ -245,7 +245,7 @@ finish_start f drains distances down = record {
   downhill = λ p level above. down.downhill p level;
 }
 
-module _ (f : Levels) (p : Point) where
+module _ (f : Filled) (p : Point) where
   -- what the search for the steepest way says
   pub downhill_of : (way : Option Dir) → MatchOption way (HasLower (surface f) (level_at f) p → ⊥) (λ d. IsSteepest (surface f) (level_at f) p d) → IsDownhill f p way
   downhill_of None none = none

@@ -1,4 +1,4 @@
--- The eight directions by their place in code order, and the first of them with a property.
+-- The eight directions by their rank in code order, and the first of them with a property.
 use Rattle.std.proofs.Common.{◌≡◌, ℕ, zero, suc, ◌+◌, ◌<◌, ◌≤◌, ◌⊎◌, inl, inr, ⊎_elim, refl, sym, ap, ◌∙◌, subst, arith, get_or}
 use Rattle.std.proofs.lemmas.Bool.{cases_eq}
 use Rattle.lattice.specs.declared.direction.Dir.{Dir}
@@ -51,30 +51,30 @@ order_of-dir_at (suc (suc (suc (suc (suc (suc zero)))))) h = refl
 order_of-dir_at (suc (suc (suc (suc (suc (suc (suc zero))))))) h = refl
 order_of-dir_at (suc (suc (suc (suc (suc (suc (suc (suc k)))))))) h = absurd (omega arith)
 
--- the direction at this place or one of a later place
+-- the direction at this rank or one of a later rank
 pub at_or_later : (k : ℕ) (e : Dir) → k < 8 → k ≤ order_of e → (e ≡ dir_at k) ⊎ (suc k ≤ order_of e)
 at_or_later k e lt le = elim (cases_eq k (order_of e)) [
   | inl same ↦ inl (same_order e (dir_at k) (sym same ∙ sym (order_of-dir_at k lt)))
   | inr other ↦ inr (omega arith)
 ]
 
--- the first direction of at least this place that has the property, or that none has it
+-- the first direction of at least this rank that has the property, or that none has it
 module _ (Q : Dir → Type 0) (decide : (d : Dir) → Q d ⊎ (Q d → ⊥)) where
   pub record IsFirst (k : ℕ) (d : Dir) : Type 0 where
     pub has : Q d
-    pub place : k ≤ order_of d
+    pub rank : k ≤ order_of d
     pub first : (e : Dir) → k ≤ order_of e → Q e → order_of d ≤ order_of e
 
   first_from : (left k : ℕ) → k + left ≡ 8 → ((d : Dir) × IsFirst k d) ⊎ ((e : Dir) → k ≤ order_of e → Q e → ⊥)
   first_from zero k full = inr (λ e le q. absurd (omega (arith, order_below e)))
   first_from (suc left) k full = ⊎_elim
-      (λ here. inl (dir_at k, record { has = here; place = omega (arith, order_of-dir_at k lt); first = λ e le q. omega (arith, order_of-dir_at k lt) }))
+      (λ here. inl (dir_at k, record { has = here; rank = omega (arith, order_of-dir_at k lt); first = λ e le q. omega (arith, order_of-dir_at k lt) }))
       (λ not_here. ⊎_elim
       (λ found. inl (
         found.0,
         record {
           has = found.1.has;
-          place = omega (arith, found.1.place);
+          rank = omega (arith, found.1.rank);
           first = λ e le q. ⊎_elim (λ same. absurd (not_here (subst Q same q))) (λ later. found.1.first e later q) (at_or_later k e lt le);
         },
       ))
@@ -88,7 +88,7 @@ module _ (Q : Dir → Type 0) (decide : (d : Dir) → Q d ⊎ (Q d → ⊥)) whe
   pub first_dir : ((d : Dir) × IsFirst 0 d) ⊎ ((e : Dir) → Q e → ⊥)
   first_dir = ⊎_elim (λ found. inl found) (λ none. inr (λ e q. none e (omega arith) q)) (first_from 8 0 refl)
 
--- the direction at its place in the list of directions
+-- the direction at its rank in the list of directions
 pub dir_listed : (d x : Dir) → get_or directions (order_of d) x ≡ d
 dir_listed East x = refl
 dir_listed SouthEast x = refl

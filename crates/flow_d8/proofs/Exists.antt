@@ -39,10 +39,10 @@ module _ (t : Terrain Point) (bottom : ℤ) (grid : IsGrid t bottom) (level : Po
     | inr off ↦ inr (λ h. true≢false (sym h.beside ∙ off))
   ]
 
-  -- the steepest lower step among those of at least this place, the first of equals
+  -- the steepest lower step among those of at least this rank, the first of equals
   record IsBest (x : Point) (k : ℕ) (d : Dir) : Type 0 where
     lower : IsLower t level x (step d x)
-    place : k ≤ order_of d
+    rank : k ≤ order_of d
     steepest : (e : Dir) → k ≤ order_of e → IsLower t level x (step e x) → slope_of e (drop_by t level x e) ≤ slope_of d (drop_by t level x d)
     first : (e : Dir) → k ≤ order_of e → IsLower t level x (step e x) → order_of e < order_of d → slope_of e (drop_by t level x e) < slope_of d (drop_by t level x d)
 
@@ -56,7 +56,7 @@ module _ (t : Terrain Point) (bottom : ℤ) (grid : IsGrid t bottom) (level : Po
     better : (k : ℕ) (e d : Dir) → k < 8 → e ≡ dir_at k → IsLower t level x (step e x) → IsBest x (suc k) d → slope e < slope d → IsBest x k d
     better k e d lt is here best less = record {
       lower = best.lower;
-      place = omega (arith, best.place);
+      rank = omega (arith, best.rank);
       steepest = λ f le low. ⊎_elim (λ same. subst (λ g. slope g ≤ slope d) (is ∙ sym same) (omega arith)) (λ later. best.steepest f later low) (at_or_later k f lt le);
       first = λ f le low before. ⊎_elim (λ same. subst (λ g. slope g < slope d) (is ∙ sym same) less) (λ later. best.first f later low before) (at_or_later k f lt le);
     }
@@ -64,7 +64,7 @@ module _ (t : Terrain Point) (bottom : ℤ) (grid : IsGrid t bottom) (level : Po
     no_better : (k : ℕ) (e d : Dir) → k < 8 → e ≡ dir_at k → IsLower t level x (step e x) → IsBest x (suc k) d → slope d ≤ slope e → IsBest x k e
     no_better k e d lt is here best more = record {
       lower = here;
-      place = omega (arith, ap order_of is, order_of-dir_at k lt);
+      rank = omega (arith, ap order_of is, order_of-dir_at k lt);
       steepest = λ f le low. ⊎_elim (λ same. subst (λ g. slope g ≤ slope e) (is ∙ sym same) (omega arith)) (λ later. omega (arith, best.steepest f later low)) (at_or_later k f lt le);
       first = λ f le low before. absurd (omega (arith, ap order_of is, order_of-dir_at k lt));
     }
@@ -72,7 +72,7 @@ module _ (t : Terrain Point) (bottom : ℤ) (grid : IsGrid t bottom) (level : Po
     alone : (k : ℕ) (e : Dir) → k < 8 → e ≡ dir_at k → IsLower t level x (step e x) → NoneLower x (suc k) → IsBest x k e
     alone k e lt is here none = record {
       lower = here;
-      place = omega (arith, ap order_of is, order_of-dir_at k lt);
+      rank = omega (arith, ap order_of is, order_of-dir_at k lt);
       steepest = λ f le low. ⊎_elim (λ same. subst (λ g. slope g ≤ slope e) (is ∙ sym same) (omega arith)) (λ later. absurd (none f later low)) (at_or_later k f lt le);
       first = λ f le low before. absurd (omega (arith, ap order_of is, order_of-dir_at k lt));
     }
@@ -80,7 +80,7 @@ module _ (t : Terrain Point) (bottom : ℤ) (grid : IsGrid t bottom) (level : Po
     passed_over : (k : ℕ) (d : Dir) → k < 8 → (IsLower t level x (step (dir_at k) x) → ⊥) → IsBest x (suc k) d → IsBest x k d
     passed_over k d lt not_here best = record {
       lower = best.lower;
-      place = omega (arith, best.place);
+      rank = omega (arith, best.rank);
       steepest = λ f le low. ⊎_elim (λ same. absurd (not_here (subst (λ g. IsLower t level x (step g x)) same low))) (λ later. best.steepest f later low) (at_or_later k f lt le);
       first = λ f le low before. ⊎_elim (λ same. absurd (not_here (subst (λ g. IsLower t level x (step g x)) same low))) (λ later. best.first f later low before) (at_or_later k f lt le);
     }

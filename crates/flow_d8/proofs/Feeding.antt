@@ -1,4 +1,4 @@
--- The points around a point, their places, and which of them drain straight back.
+-- The points around a point, their numbers, and which of them drain straight back.
 use Rattle.std.proofs.Common.{◌≡◌, ℕ, ◌+◌, ◌*◌, ◌%◌, ◌<◌, ◌≤◌, ◌↔◌, ℤ, pos, ◌+ℤ◌, true, not, ◌&&◌, IsTrue, Option, Some, None, List, [], ◌∷◌, ◌++◌, length, map, get_or, refl, sym, ◌∙◌, ap, ap₂, subst, arith, inl, inr, true≢false}
 use Rattle.std.specs.Prelude.{All, Contains, nat_lt, slice_index_or, if◌then◌else◌, MatchOption, SomeIff}
 use Rattle.std.specs.Ordering.{int_eq}
@@ -13,12 +13,12 @@ use Rattle.lattice.specs.declared.direction.Dir.TheVariants.{East, SouthEast, So
 use Rattle.lattice.specs.Steps.{step, order_of, north_of, east_of}
 use Rattle.lattice.specs.Stepping.{fits_point}
 use Rattle.lattice.specs.Mosaic.{void, is_void}
-use Rattle.flow_d8.specs.Levels.{Levels, AreLevels, is_held, is_deep, place_of}
+use Rattle.flow_d8.specs.Filled.{Filled, AreLevels, is_held, is_deep, number_of}
 use Rattle.flow_d8.specs.Surface.{has_level, beside_of}
 use Rattle.flow_d8.specs.Crossing.{unknown, distance_at}
-use Rattle.flow_d8.specs.Drained.{Drained, AreWhole, DrainsTo, direction_in, place_beside, back_of}
+use Rattle.flow_d8.specs.Directions.{Directions, AreWhole, DrainsTo, direction_in, number_beside, back_of}
 use Rattle.flow_d8.proofs.Compass.{order_below, same_order}
-use Rattle.flow_d8.proofs.Places.{seat_of, held_fits, place_below}
+use Rattle.flow_d8.proofs.Numbers.{seat_of, held_fits, number_below}
 use Rattle.flow_d8.proofs.Surfaces.{beside_some, surface_lawful, level_from, level_held}
 use Rattle.flow_d8.proofs.Inside.{IsDeep, deep_of, Beside}
 use Rattle.flow_d8.proofs.Tracing.{direction_known, direction_unknown, unheld_unknown}
@@ -97,44 +97,44 @@ none_some a e = cc
 some_same : {A : Type 0} (a b : A) → ◌≡◌ {A = Option A} (Some a) (Some b) → a ≡ b
 some_same a b e = cc
 
-module _ (d : Drained) (whole : AreWhole d) where
+module _ (d : Directions) (whole : AreWhole d) where
   held_fit : (q : Point) → IsTrue (is_held d.side d.corners q) → IsTrue (fits_point q)
   held_fit q held = let seat = seat_of d.side d.corners q held in held_fits d.side seat.corner q whole.side_low whole.side_high seat.held
 
-  -- the place of a point one step away, where it has one
+  -- the number of a point one step away, where it has one
   pub record IsBeside (p : Point) (e : Dir) (g : ℕ) : Type 0 where
     pub fits : IsTrue (fits_point (step e p))
     pub held : IsTrue (is_held d.side d.corners (step e p))
-    pub place : g ≡ place_of d.side d.corners (step e p)
+    pub numbered : g ≡ number_of d.side d.corners (step e p)
     pub in_drains : g < length d.drains
     pub in_distances : g < length d.distances
 
-  pub beside_held : (p : Point) (e : Dir) → IsTrue (is_held d.side d.corners (step e p)) → place_beside d p e ≡ Some (place_of d.side d.corners (step e p))
-  beside_held p e held = cond-true (fits_point (step e p) && is_held d.side d.corners (step e p)) (Some (place_of d.side d.corners (step e p))) None
+  pub beside_held : (p : Point) (e : Dir) → IsTrue (is_held d.side d.corners (step e p)) → number_beside d p e ≡ Some (number_of d.side d.corners (step e p))
+  beside_held p e held = cond-true (fits_point (step e p) && is_held d.side d.corners (step e p)) (Some (number_of d.side d.corners (step e p))) None
       (and_from (fits_point (step e p)) (is_held d.side d.corners (step e p)) (held_fit (step e p) held) held)
 
-  pub beside_is : (p : Point) (e : Dir) (g : ℕ) → place_beside d p e ≡ Some g → IsBeside p e g
+  pub beside_is : (p : Point) (e : Dir) (g : ℕ) → number_beside d p e ≡ Some g → IsBeside p e g
   beside_is p e g is = elim (cases_Bool (fits_point (step e p) && is_held d.side d.corners (step e p))) [
     | inl on ↦
         let both = and_parts (fits_point (step e p)) (is_held d.side d.corners (step e p)) on in
-        let place : g ≡ place_of d.side d.corners (step e p) = some_same g (place_of d.side d.corners (step e p)) (sym is ∙ beside_held p e both.1) in
-        let below = place_below d.side d.corners (step e p) whole.side_low both.1 in
-        record { fits = both.0; held = both.1; place = place; in_drains = omega (arith, place, below, whole.drains); in_distances = omega (arith, place, below, whole.distances) }
-    | inr off ↦ absurd (none_some g (sym (cond-false (fits_point (step e p) && is_held d.side d.corners (step e p)) (Some (place_of d.side d.corners (step e p))) None off) ∙ is))
+        let numbered : g ≡ number_of d.side d.corners (step e p) = some_same g (number_of d.side d.corners (step e p)) (sym is ∙ beside_held p e both.1) in
+        let below = number_below d.side d.corners (step e p) whole.side_low both.1 in
+        record { fits = both.0; held = both.1; numbered = numbered; in_drains = omega (arith, numbered, below, whole.drains); in_distances = omega (arith, numbered, below, whole.distances) }
+    | inr off ↦ absurd (none_some g (sym (cond-false (fits_point (step e p) && is_held d.side d.corners (step e p)) (Some (number_of d.side d.corners (step e p))) None off) ∙ is))
   ]
 
-  pub beside_not : (p : Point) (e : Dir) → place_beside d p e ≡ None → direction_in d (step e p) ≡ None
-  beside_not p e is = direction_unknown d (step e p) (unheld_unknown d (step e p) whole (λ held. none_some (place_of d.side d.corners (step e p)) (sym is ∙ beside_held p e held)))
+  pub beside_not : (p : Point) (e : Dir) → number_beside d p e ≡ None → direction_in d (step e p) ≡ None
+  beside_not p e is = direction_unknown d (step e p) (unheld_unknown d (step e p) whole (λ held. none_some (number_of d.side d.corners (step e p)) (sym is ∙ beside_held p e held)))
 
-  -- what is read at that place
+  -- what is read at that number
   pub direction_there : (p : Point) (e : Dir) (g : ℕ) → IsBeside p e g → distance_at d.distances g < unknown → direction_in d (step e p) ≡ slice_index_or d.drains g None
-  direction_there p e g b known = direction_known d (step e p) (subst (λ k. distance_at d.distances k < unknown) b.place known) ∙ ap (λ k. slice_index_or d.drains k None) (sym b.place)
+  direction_there p e g b known = direction_known d (step e p) (subst (λ k. distance_at d.distances k < unknown) b.numbered known) ∙ ap (λ k. slice_index_or d.drains k None) (sym b.numbered)
 
   pub direction_hidden : (p : Point) (e : Dir) (g : ℕ) → IsBeside p e g → (distance_at d.distances g < unknown → ⊥) → direction_in d (step e p) ≡ None
-  direction_hidden p e g b hidden = direction_unknown d (step e p) (λ known. hidden (subst (λ k. distance_at d.distances k < unknown) (sym b.place) known))
+  direction_hidden p e g b hidden = direction_unknown d (step e p) (λ known. hidden (subst (λ k. distance_at d.distances k < unknown) (sym b.numbered) known))
 
   -- the same tiles with a level everywhere
-  abbrev pub plain : Levels
+  abbrev pub plain : Filled
   plain = record { side = d.side; corners = d.corners; levels = map (λ (x : ℕ). pos 0) d.distances }
 
   pub plain_valid : AreLevels plain
@@ -145,14 +145,14 @@ module _ (d : Drained) (whole : AreWhole d) where
 
   pub held_level : (p : Point) → IsTrue (is_held d.side d.corners p) → IsTrue (has_level plain p)
   held_level p held =
-      let below = place_below d.side d.corners p whole.side_low held in
-      sym (level_from plain p (place_of d.side d.corners p) refl) ∙ plain_read (place_of d.side d.corners p) (omega (arith, whole.distances))
+      let below = number_below d.side d.corners p whole.side_low held in
+      sym (level_from plain p (number_of d.side d.corners p) refl) ∙ plain_read (number_of d.side d.corners p) (omega (arith, whole.distances))
 
-  module _ (p : Point) (held : IsTrue (is_held d.side d.corners p)) (number : ℕ) (at : place_of d.side d.corners p ≡ number) (test : is_deep d.side (number % (d.side * d.side)) ≡ true) where
+  module _ (p : Point) (held : IsTrue (is_held d.side d.corners p)) (number : ℕ) (at : number_of d.side d.corners p ≡ number) (test : is_deep d.side (number % (d.side * d.side)) ≡ true) where
     pub deep : IsDeep plain p number
     deep = deep_of plain plain_valid p (held_level p held) number at test
 
-    pub inside_beside : (e : Dir) (g : ℕ) → Beside plain plain_valid p (held_level p held) number at deep e g → Some g ≡ place_beside d p e
+    pub inside_beside : (e : Dir) (g : ℕ) → Beside plain plain_valid p (held_level p held) number at deep e g → Some g ≡ number_beside d p e
     inside_beside e g b =
         let within : g < length d.distances = omega (arith, b.within, length-map d.distances (λ (x : ℕ). pos 0)) in
         let there : beside_of plain p e ≡ Some g = sym b.is ∙ cond-true (not (is_void (slice_index_or plain.levels g void))) (Some g) None (plain_read g within) in
@@ -161,7 +161,7 @@ module _ (d : Drained) (whole : AreWhole d) where
         ap Some beside.1 ∙ sym (beside_held p e there_held)
 
     -- the same for a number that is read with another row length
-    pub inside_told : (e : Dir) (n : ℕ) (g : ℕ → ℕ) → n ≡ d.side → Beside plain plain_valid p (held_level p held) number at deep e (g d.side) → Some (g n) ≡ place_beside d p e
+    pub inside_told : (e : Dir) (n : ℕ) (g : ℕ → ℕ) → n ≡ d.side → Beside plain plain_valid p (held_level p held) number at deep e (g d.side) → Some (g n) ≡ number_beside d p e
     inside_told e n g side b = ap (λ m. Some (g m)) side ∙ inside_beside e (g d.side) b
 
   -- whether the point one step away drains in a direction
@@ -177,12 +177,12 @@ answered N Q F None x none fits is = absurd (none fits)
 answered N Q F (Some y) x some fits is = (some.1, is)
 
 -- of the first i directions, the points that drain straight back are found
-pub record IsFeeding (d : Drained) (p : Point) (i : ℕ) (found : List Point) : Type 0 where
+pub record IsFeeding (d : Directions) (p : Point) (i : ℕ) (found : List Point) : Type 0 where
   pub drain : All (λ q. (e : Dir) × ((order_of e < i) × ((q ≡ step e p) × (direction_in d q ≡ Some (back_of e))))) found
   pub whole : (e : Dir) → order_of e < i → direction_in d (step e p) ≡ Some (back_of e) → Contains found (step e p)
   pub once : (j k : ℕ) (x : Point) → j < k → k < length found → get_or found j x ≡ get_or found k x → ⊥
 
-module _ (d : Drained) (p : Point) (i : ℕ) (found : List Point) (e : Dir) (is : order_of e ≡ i) (so_far : IsFeeding d p i found) where
+module _ (d : Directions) (p : Point) (i : ℕ) (found : List Point) (e : Dir) (is : order_of e ≡ i) (so_far : IsFeeding d p i found) where
   earlier : (q : Point) → (c : Dir) × ((order_of c < i) × ((q ≡ step c p) × (direction_in d q ≡ Some (back_of c)))) → (c : Dir) × ((order_of c < i + 1) × ((q ≡ step c p) × (direction_in d q ≡ Some (back_of c))))
   earlier q h = (h.0, (omega (arith, h.1.0), h.1.1))
 
@@ -223,7 +223,7 @@ module _ (d : Drained) (p : Point) (i : ℕ) (found : List Point) (e : Dir) (is 
       Drains : Point → Type 0
       Drains x = (c : Dir) × ((order_of c < i + 1) × ((x ≡ step c p) × (direction_in d x ≡ Some (back_of c))))
 
-pub fed : (d : Drained) (p : Point) (i : ℕ) (found : List Point) → 8 ≤ i → IsFeeding d p i found → (q : Point) → Contains found q ↔ DrainsTo d q p
+pub fed : (d : Directions) (p : Point) (i : ℕ) (found : List Point) → 8 ≤ i → IsFeeding d p i found → (q : Point) → Contains found q ↔ DrainsTo d q p
 fed d p i found all is q = (
   (λ has.
       let at = subst (λ x. (e : Dir) × ((order_of e < i) × ((x ≡ step e p) × (direction_in d x ≡ Some (back_of e))))) has.2 (is.drain has.0 q has.1) in

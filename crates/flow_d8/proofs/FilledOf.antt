@@ -19,9 +19,9 @@ use Rattle.lattice.proofs.Samples.{point_of_index}
 use Rattle.lattice.proofs.WaysOut.{held}
 use Rattle.lattice.proofs.Levels.{height-le_level, level_is_unique}
 use Rattle.flow_d8.specs.Drainage.{AreFilledLevels}
-use Rattle.flow_d8.specs.Levels.{Levels, AreLevels, IsFilledOf, is_holder, is_held}
+use Rattle.flow_d8.specs.Filled.{Filled, AreLevels, IsFilledOf, is_holder, is_held}
 use Rattle.flow_d8.specs.Surface.{level_at, has_level, is_shared, adjoins, leads_off, surface}
-use Rattle.flow_d8.proofs.Places.{seat_of, holder_holds, index_small}
+use Rattle.flow_d8.proofs.Numbers.{seat_of, holder_holds, index_small}
 use Rattle.flow_d8.proofs.Surfaces.{level_held, at_level}
 use Rattle.flow_d8.proofs.MosaicGrid.{mosaic_is_grid}
 use Rattle.flow_d8.proofs.Transport.{Alike}
@@ -59,7 +59,7 @@ all_eight : (a b c d e g h i a' b' c' d' e' g' h' i' : Bool) → a ≡ a' → b 
     ≡ 0 + cond a' 1 0 + cond b' 1 0 + cond c' 1 0 + cond d' 1 0 + cond e' 1 0 + cond g' 1 0 + cond h' 1 0 + cond i' 1 0
 all_eight a b c d e g h i a' b' c' d' e' g' h' i' sa sb sc sd se sg sh si = cc
 
-module _ (m : Mosaic) (f : Levels) (is : IsMosaic m) (whole : AreLevels f) (of : IsFilledOf m f) where
+module _ (m : Mosaic) (f : Filled) (is : IsMosaic m) (whole : AreLevels f) (of : IsFilledOf m f) where
   held_same : (p : Point) → is_held f.side f.corners p ≡ list_any (λ t. holds m.side t.corner p) m.tiles
   held_same p = ap₂ (λ n cs. is_held n cs p) of.side of.corners
       ∙ any_corner (λ c. is_holder m.side c p) (λ c. holds m.side c p) m.side m.tiles is.tiles (λ c corner. ap (λ b. b && holds m.side c p) corner)
@@ -81,7 +81,7 @@ module _ (m : Mosaic) (f : Levels) (is : IsMosaic m) (whole : AreLevels f) (of :
       let e = index_of f.side seat.corner p in
       let small = index_small f.side seat.corner p whole.side_low seat.held in
       let point : point_of f.side seat.corner e ≡ p = point_of_index f.side seat.corner p (holder_holds f.side seat.corner p whole.side_low seat.held) in
-      let level : slice_index_or f.levels (seat.number * (f.side * f.side) + e) void ≡ level_at f p = ap (λ g. slice_index_or f.levels g void) (sym seat.place) ∙ at_level f p in
+      let level : slice_index_or f.levels (seat.number * (f.side * f.side) + e) void ≡ level_at f p = ap (λ g. slice_index_or f.levels g void) (sym seat.numbered) ∙ at_level f p in
       record {
         on_ground = λ solid.
             let there = of.on_ground seat.number e seat.corner seat.listed small (subst (λ q. IsTrue (is_ground m q)) (sym point) solid) in

@@ -1,5 +1,5 @@
 -- Each ground point has a flow path, and only one: the level falls, or it stays and the flat distance falls.
-use Rattle.std.proofs.Common.{◌≡◌, ℕ, zero, suc, ℤ, pos, ◌-ℤ◌, ◌≤ℤ◌, ◌<ℤ◌, ⊎_elim, IsTrue, Option, Some, None, List, [], ◌∷◌, refl, sym, ap, ◌∙◌, subst, arith, nat_abs}
+use Rattle.std.proofs.Common.{◌≡◌, ℕ, zero, suc, ℤ, pos, ◌-ℤ◌, ◌≤ℤ◌, ◌<ℤ◌, ⊎_elim, IsTrue, Option, Some, None, List, [], ◌∷◌, length, get_or, Contains, ◌<◌, refl, sym, ap, ◌∙◌, subst, arith, nat_abs}
 use Rattle.std.proofs.lemmas.Int.{ints}
 use Rattle.lattice.specs.declared.point.Point.{Point}
 use Rattle.lattice.specs.declared.direction.Dir.{Dir}
@@ -7,7 +7,7 @@ use Rattle.lattice.specs.Steps.{step}
 use Rattle.lattice.specs.Terrain.{Terrain}
 use Rattle.lattice.proofs.Levels.{height-le_level, ≤ℤ_trans}
 use Rattle.flow_d8.specs.Drainage.{AreFilledLevels, IsFlatDistance, IsDirection}
-use Rattle.flow_d8.specs.FlowPath.{IsFlowPath}
+use Rattle.flow_d8.specs.FlowPath.{IsFlowPath, FlowsTo}
 use Rattle.flow_d8.specs.Grid.{IsGrid}
 use Rattle.flow_d8.proofs.Unique.{one_distance, one_direction}
 use Rattle.flow_d8.proofs.Exists.{distance_exists, direction_exists}
@@ -36,6 +36,27 @@ module _ (t : Terrain Point) (level : Point → ℤ) where
       let same : hp.1.0 ≡ hq.1.0 = same_dir hp.1.0 hq.1.0 (one_direction t level x (Some hp.1.0) (Some hq.1.0) hp.1.1.0 hq.1.1.0) in
       let rest : (v ∷ p) ≡ (w ∷ q) = one_flow_path (step hp.1.0 x) (v ∷ p) (w ∷ q) hp.1.1.1.1 (subst (λ d. IsFlowPath t level (step d x) (w ∷ q)) (sym same) hq.1.1.1.1) in
       ap (λ u. u ∷ v ∷ p) (hp.0 ∙ sym hq.0) ∙ ap (λ r. z ∷ r) rest
+
+  -- what stands on a flow path is what its first point flows to
+  pub on_path : (p x : Point) (path : List Point) → IsFlowPath t level x path → (k : ℕ) → k < length path → get_or path k p ≡ p → (j : ℕ) × FlowsTo t level x j p
+  on_path p x [] is k small at = absurd is
+  on_path p x (y ∷ []) is zero small at = (0, sym is.0 ∙ at)
+  on_path p x (y ∷ []) is (suc k) small at = absurd (omega arith)
+  on_path p x (y ∷ z ∷ rest) is zero small at = (0, sym is.0 ∙ at)
+  on_path p x (y ∷ z ∷ rest) is (suc k) small at =
+      let further = on_path p (step is.1.0 x) (z ∷ rest) is.1.1.1.1 k (omega arith) at in
+      (suc further.0, (is.1.0, (is.1.1.0, further.1)))
+
+  pub from_path : (p x : Point) (path : List Point) → IsFlowPath t level x path → (k : ℕ) → FlowsTo t level x k p → Contains path p
+  from_path p x [] is k flows = absurd is
+  from_path p x (y ∷ []) is zero flows = (0, omega arith, is.0 ∙ flows)
+  from_path p x (y ∷ []) is (suc k) flows = absurd (no_dir flows.0 (one_direction t level x (Some flows.0) None flows.1.0 is.1))
+  from_path p x (y ∷ z ∷ rest) is zero flows = (0, omega arith, is.0 ∙ flows)
+  from_path p x (y ∷ z ∷ rest) is (suc k) flows =
+      let d = is.1.0 in
+      let same : flows.0 ≡ d = same_dir flows.0 d (one_direction t level x (Some flows.0) (Some d) flows.1.0 is.1.1.0) in
+      let later = from_path p (step d x) (z ∷ rest) is.1.1.1.1 k (subst (λ e. FlowsTo t level (step e x) k p) same flows.1.1) in
+      (suc later.0, omega (arith, later.1), later.2)
 
 module _ (t : Terrain Point) (bottom : ℤ) (grid : IsGrid t bottom) (level : Point → ℤ) (filled : AreFilledLevels t level) where
   abbrev Flows : Point → Type 0

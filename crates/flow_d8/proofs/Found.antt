@@ -9,11 +9,11 @@ use Rattle.lattice.specs.declared.direction.Dir.{Dir}
 use Rattle.lattice.specs.Mosaic.{Mosaic, IsMosaic, void}
 use Rattle.lattice.specs.Ground.{is_ground, terrain}
 use Rattle.flow_d8.specs.Drainage.{AreFilledLevels, IsDirection}
-use Rattle.flow_d8.specs.Levels.{Levels, AreLevels, IsFilledOf, is_held}
-use Rattle.flow_d8.specs.Surface.{place_in, level_at, has_level, surface}
+use Rattle.flow_d8.specs.Filled.{Filled, AreLevels, IsFilledOf, is_held}
+use Rattle.flow_d8.specs.Surface.{number_in, level_at, has_level, surface}
 use Rattle.flow_d8.specs.Crossing.{unknown, distance_at, AreDistances, AreDrained, drain_at, LeadsNowhere}
-use Rattle.flow_d8.specs.Drained.{AreDirectionsOf}
-use Rattle.flow_d8.proofs.Places.{place_past, place_injective}
+use Rattle.flow_d8.specs.Directions.{AreDirectionsOf}
+use Rattle.flow_d8.proofs.Numbers.{number_past, number_injective}
 use Rattle.flow_d8.proofs.Surfaces.{level_held}
 use Rattle.flow_d8.proofs.Nearest.{known_is}
 use Rattle.flow_d8.proofs.Transport.{other_way, direction_too, distance_too, crosses_too}
@@ -27,24 +27,24 @@ lt-true a b h = grind (arith, nat_tests)
 lt-said : (a b : ℕ) → nat_lt a b ≡ true → a < b
 lt-said a b h = grind (arith, nat_tests)
 
-module _ (f : Levels) (drains : List (Option Dir)) (distances : List ℕ) (drained : AreDrained f drains) (are : AreDistances f distances)
-    (known : (p : Point) → IsTrue (has_level f p) → distance_at distances (place_in f p) < unknown) where
+module _ (f : Filled) (drains : List (Option Dir)) (distances : List ℕ) (drained : AreDrained f drains) (are : AreDistances f distances)
+    (known : (p : Point) → IsTrue (has_level f p) → distance_at distances (number_in f p) < unknown) where
   -- only points with a level have a known distance
-  level_of_known : (p : Point) → distance_at distances (place_in f p) < unknown → IsTrue (has_level f p)
+  level_of_known : (p : Point) → distance_at distances (number_in f p) < unknown → IsTrue (has_level f p)
   level_of_known p lt = elim (cases_Bool (is_held f.side f.corners p)) [
     | inl held ↦
-        let s = (are.right (place_in f p) lt).1 in
-        let same = place_injective f.side f.corners s.point p are.valid.side_low (level_held f are.valid s.point s.level) held s.place in
+        let s = (are.right (number_in f p) lt).1 in
+        let same = number_injective f.side f.corners s.point p are.valid.side_low (level_held f are.valid s.point s.level) held s.numbered in
         subst (λ q. IsTrue (has_level f q)) same s.level
     | inr out ↦
-        let past : length distances ≤ place_in f p = omega (arith, place_past f.side f.corners p out, are.whole, are.valid.whole) in
-        absurd (omega (arith, get_or_past distances (place_in f p) unknown past))
+        let past : length distances ≤ number_in f p = omega (arith, number_past f.side f.corners p out, are.whole, are.valid.whole) in
+        absurd (omega (arith, get_or_past distances (number_in f p) unknown past))
   ]
 
   module _ (m : Mosaic) (is : IsMosaic m) (of : IsFilledOf m f) where
-    nothing_known : (p : Point) → IsFalse (is_ground m p) → nat_lt (distance_at distances (place_in f p)) unknown ≡ false
-    nothing_known p none = elim (cases_Bool (nat_lt (distance_at distances (place_in f p)) unknown)) [
-      | inl lt ↦ absurd (true≢false (sym (level_ground m f is are.valid of p (level_of_known p (lt-said (distance_at distances (place_in f p)) unknown lt))) ∙ none))
+    nothing_known : (p : Point) → IsFalse (is_ground m p) → nat_lt (distance_at distances (number_in f p)) unknown ≡ false
+    nothing_known p none = elim (cases_Bool (nat_lt (distance_at distances (number_in f p)) unknown)) [
+      | inl lt ↦ absurd (true≢false (sym (level_ground m f is are.valid of p (level_of_known p (lt-said (distance_at distances (number_in f p)) unknown lt))) ∙ none))
       | inr no_less ↦ no_less
     ]
 
@@ -52,26 +52,26 @@ module _ (f : Levels) (drains : List (Option Dir)) (distances : List ℕ) (drain
     directions_found level filled = record {
       direction = λ p solid.
           let has = ground_level m f is are.valid of p solid in
-          let lt = lt-true (distance_at distances (place_in f p)) unknown (known p has) in
-          subst (λ d. IsDirection (terrain m) level p d) (sym (cond-true (nat_lt (distance_at distances (place_in f p)) unknown) (drain_at f drains p) None lt))
+          let lt = lt-true (distance_at distances (number_in f p)) unknown (known p has) in
+          subst (λ d. IsDirection (terrain m) level p d) (sym (cond-true (nat_lt (distance_at distances (number_in f p)) unknown) (drain_at f drains p) None lt))
           (direction_too (surface f) (terrain m) (level_at f) level (alike m f is are.valid of level filled) p (drain_at f drains p) (drained.drained p has));
       distance = λ p solid.
           let has = ground_level m f is are.valid of p solid in
-          let lt = lt-true (distance_at distances (place_in f p)) unknown (known p has) in (
-            distance_at distances (place_in f p),
+          let lt = lt-true (distance_at distances (number_in f p)) unknown (known p has) in (
+            distance_at distances (number_in f p),
             (
-              cond-true (nat_lt (distance_at distances (place_in f p)) unknown) (Some (distance_at distances (place_in f p))) None lt,
-              distance_too (surface f) (terrain m) (level_at f) level (alike m f is are.valid of level filled) p (distance_at distances (place_in f p)) (known_is f are.valid distances are p has (known p has)),
+              cond-true (nat_lt (distance_at distances (number_in f p)) unknown) (Some (distance_at distances (number_in f p))) None lt,
+              distance_too (surface f) (terrain m) (level_at f) level (alike m f is are.valid of level filled) p (distance_at distances (number_in f p)) (known_is f are.valid distances are p has (known p has)),
             ),
           );
       elsewhere = λ p none. (
-        cond-false (nat_lt (distance_at distances (place_in f p)) unknown) (drain_at f drains p) None (nothing_known p none),
-        cond-false (nat_lt (distance_at distances (place_in f p)) unknown) (Some (distance_at distances (place_in f p))) None (nothing_known p none),
+        cond-false (nat_lt (distance_at distances (number_in f p)) unknown) (drain_at f drains p) None (nothing_known p none),
+        cond-false (nat_lt (distance_at distances (number_in f p)) unknown) (Some (distance_at distances (number_in f p))) None (nothing_known p none),
       );
     }
 
 -- a flat that leads nowhere lies in no mosaic's filled levels
-pub nowhere_in_no_mosaic : (f : Levels) → AreLevels f → LeadsNowhere f → (m : Mosaic) → IsMosaic m → IsFilledOf m f → ⊥
+pub nowhere_in_no_mosaic : (f : Filled) → AreLevels f → LeadsNowhere f → (m : Mosaic) → IsMosaic m → IsFilledOf m f → ⊥
 nowhere_in_no_mosaic f whole nowhere m is of =
     let p = nowhere.0 in
     let level : Point → ℤ = level_at f in

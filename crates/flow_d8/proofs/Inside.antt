@@ -17,107 +17,17 @@ use Rattle.lattice.specs.declared.direction.Dir.TheVariants.{East, SouthEast, So
 use Rattle.lattice.specs.Steps.{step, north_of, east_of}
 use Rattle.lattice.specs.Lattice.{IsBefore, Holds, IsSampleAt, IsIndexOf, index_of}
 use Rattle.lattice.specs.Mosaic.{void, is_void}
-use Rattle.lattice.proofs.Along.{distance}
+use Rattle.lattice.proofs.Interior.{inner_holder}
+use Rattle.lattice.proofs.Rising.{rising_from, one_index}
 use Rattle.lattice.proofs.Samples.{index_is, index_of_held}
-use Rattle.flow_d8.specs.Levels.{Levels, AreLevels, is_holder, is_held, is_deep}
-use Rattle.flow_d8.specs.Surface.{place_in, has_level, is_shared, beside_of}
-use Rattle.flow_d8.proofs.Places.{seat_of, holder_holds, holds_holder, index_small, number_below}
+use Rattle.flow_d8.specs.Filled.{Filled, AreLevels, is_holder, is_held, is_deep}
+use Rattle.flow_d8.specs.Surface.{number_in, has_level, is_shared, beside_of}
+use Rattle.flow_d8.proofs.Numbers.{seat_of, holder_holds, holds_holder, index_small, tile_below}
 use Rattle.flow_d8.proofs.Surfaces.{level_held, level_from, step_adjoins, beside_there, beside_none, not_adjoins}
 
-one_more : (z : ℤ) → z +ℤ pos 1 ≡ suc_ℤ z
-one_more (pos n) = omega (arith, ints)
-one_more (negsuc zero) = refl
-one_more (negsuc (suc n)) = omega (arith, ints)
-
-product_plus : (a : ℤ) (d m : ℕ) → ((a +ℤ pos d) *ℤ pos m) ≡ a *ℤ pos m +ℤ pos (d * m)
-product_plus a zero m = ap (λ (z : ℤ). z *ℤ pos m) (+ℤ_idr a) ∙ omega (arith, ints)
-product_plus a (suc d) m =
-    let once_more : a +ℤ pos (suc d) ≡ (a +ℤ pos d) +ℤ pos 1 = omega (arith, ints) in
-    ap (λ (z : ℤ). z *ℤ pos m) (once_more ∙ one_more (a +ℤ pos d))
-    ∙ suc_ℤ-*ℤ (a +ℤ pos d) (pos m)
-    ∙ ap (λ (z : ℤ). z +ℤ pos m) (product_plus a d m)
-    ∙ omega (arith, ints)
-
--- two multiples of m that lie less than m apart are the same
-multiples_same : (a b : ℤ) (m i k : ℕ) → 0 < i → i < m → k ≤ m → (a *ℤ pos m +ℤ pos k) ≡ b *ℤ pos m +ℤ pos i → a ≡ b
-multiples_same a b m i k some inside within e =
-    by_lt_z a b (λ below. absurd (less below)) (λ not_below. by_lt_z b a (λ above. absurd (more above)) (λ not_above. omega (arith, ints)))
-  where
-    less : a <ℤ b → ⊥
-    less below =
-        let d : ℕ = nat_abs (b -ℤ a) in
-        let is : b ≡ a +ℤ pos d = distance a b (omega (arith, ints)) in
-        let some_apart : 1 ≤ d = omega (arith, ints) in
-        let far : 1 * m ≤ d * m = mul-le-mul_right m some_apart in
-        let product : (b *ℤ pos m) ≡ a *ℤ pos m +ℤ pos (d * m) = ap (λ (x : ℤ). x *ℤ pos m) is ∙ product_plus a d m in
-        omega (arith, ints, e, product, far)
-
-    more : b <ℤ a → ⊥
-    more above =
-        let d : ℕ = nat_abs (a -ℤ b) in
-        let is : a ≡ b +ℤ pos d = distance b a (omega (arith, ints)) in
-        let some_apart : 1 ≤ d = omega (arith, ints) in
-        let far : 1 * m ≤ d * m = mul-le-mul_right m some_apart in
-        let product : (a *ℤ pos m) ≡ b *ℤ pos m +ℤ pos (d * m) = ap (λ (x : ℤ). x *ℤ pos m) is ∙ product_plus b d m in
-        omega (arith, ints, e, product, far)
-
--- a tile that holds a point inside the corner's tile is that tile
-inner_holder : (n : ℕ) (c d : Corner) (p : Point) (i j : ℕ) → IsSampleAt n c i j p → 0 < i → i < n - 1 → 0 < j → j < n - 1 → Holds n d p → d ≡ c
-inner_holder n c d p i j at i_some i_inside j_some j_inside held =
-    let other = held.sample.2 in
-    let row : held.sample.0 ≤ n - 1 = omega (arith, other.row) in
-    let column : held.sample.1 ≤ n - 1 = omega (arith, other.column) in
-    let ys : (c.lat *ℤ pos (n - 1) +ℤ pos held.sample.0) ≡ d.lat *ℤ pos (n - 1) +ℤ pos i = omega (arith, ints, at.y, other.y) in
-    let xs : (d.lon *ℤ pos (n - 1) +ℤ pos held.sample.1) ≡ c.lon *ℤ pos (n - 1) +ℤ pos j = sym other.x ∙ at.x in
-    let lat : c.lat ≡ d.lat = multiples_same c.lat d.lat (n - 1) i held.sample.0 i_some i_inside row ys in
-    let lon : d.lon ≡ c.lon = multiples_same d.lon c.lon (n - 1) j held.sample.1 j_some j_inside column xs in
-    ap₂ (λ (y x : ℤ). record { lat = y; lon = x }) (sym lat) lon
-
--- the order of corners
-unfoldable pub Below : Corner → Corner → Type 0
-Below a b = (a.lat <ℤ b.lat) ⊎ ((a.lat ≡ b.lat) × (a.lon <ℤ b.lon))
-
-lt_says : (x y : ℤ) → int_lt x y ≡ true → x <ℤ y
-lt_says x y e = grind (arith, ints)
-
-pub says : (a b : Corner) → is_before a b ≡ true → Below a b
-unfolding Below
-says a b e = elim (or_cases (int_lt a.lat b.lat) (int_eq a.lat b.lat && int_lt a.lon b.lon) e) [
-  | inl below ↦ inl (lt_says a.lat b.lat below)
-  | inr level ↦
-      let both = and_parts (int_eq a.lat b.lat) (int_lt a.lon b.lon) level in
-      inr ((Decides-int_eq a.lat b.lat).0 both.0, lt_says a.lon b.lon both.1)
-]
-
-pub chain : (a b c : Corner) → Below a b → Below b c → Below a c
-unfolding Below
-chain a b c (inl p) (inl q) = inl (omega (arith, ints))
-chain a b c (inl p) (inr q) = inl (let e = q.0 in omega (arith, ints))
-chain a b c (inr p) (inl q) = inl (let e = p.0 in omega (arith, ints))
-chain a b c (inr p) (inr q) = inr (p.0 ∙ q.0, (let e = p.1 in let e' = q.1 in omega (arith, ints)))
-
-pub apart : (a b : Corner) → Below a b → a ≡ b → ⊥
-unfolding Below
-apart a b (inl p) same = let e = ap (λ (c : Corner). c.lat) same in omega (arith, ints)
-apart a b (inr p) same = let e = ap (λ (c : Corner). c.lon) same in let h = p.1 in omega (arith, ints)
-
 -- corners in order are listed once
-pub rising : (corners : List Corner) (x : Corner) → AllAdjacentBelow IsBefore corners (length corners) → (gap j : ℕ) → j + suc gap < length corners → Below (get_or corners j x) (get_or corners (j + suc gap) x)
-rising corners x order zero j lt = subst (λ k. Below (get_or corners j x) (get_or corners k x)) (let e : j + 1 ≡ j + suc zero = omega arith in e) (says (get_or corners j x) (get_or corners (j + 1) x) (order j x (omega arith)))
-rising corners x order (suc gap) j lt =
-    let next : j + suc (suc gap) ≡ (j + suc gap) + 1 = omega arith in
-    subst (λ k. Below (get_or corners j x) (get_or corners k x)) (sym next)
-    (chain (get_or corners j x) (get_or corners (j + suc gap) x) (get_or corners ((j + suc gap) + 1) x) (rising corners x order gap j (omega arith))
-    (says (get_or corners (j + suc gap) x) (get_or corners ((j + suc gap) + 1) x) (order (j + suc gap) x (omega arith))))
-
 listed_once : (corners : List Corner) (x : Corner) (j k : ℕ) → AllAdjacentBelow IsBefore corners (length corners) → j < length corners → k < length corners → get_or corners j x ≡ get_or corners k x → j ≡ k
-listed_once corners x j k order lj lk same = elim (cases_order j k) [
-  | inl e ↦ e
-  | inr other ↦ ⊎_elim
-      (λ lt. let far : j + suc (k - suc j) ≡ k = omega arith in absurd (apart (get_or corners j x) (get_or corners k x) (subst (λ i. Below (get_or corners j x) (get_or corners i x)) far (rising corners x order (k - suc j) j (omega arith))) same))
-      (λ gt. let far : k + suc (j - suc k) ≡ j = omega arith in absurd (apart (get_or corners k x) (get_or corners j x) (subst (λ i. Below (get_or corners k x) (get_or corners i x)) far (rising corners x order (j - suc k) k (omega arith))) (sym same)))
-      other
-]
+listed_once corners x j k order lj lk same = one_index (λ c. c) corners j k x (rising_from (λ c. c) corners order) lj lk same
 
 pub any_at : (P : Corner → Bool) (corners : List Corner) (k : ℕ) (c : Corner) → slice_get corners k ≡ Some c → P c ≡ true → IsTrue (list_any P corners)
 any_at P [] k c at h = absurd (no_some at)
@@ -131,7 +41,7 @@ any_at P (d ∷ rest) zero c at h = or_left (P d) (list_any P rest) (subst (λ e
 any_at P (d ∷ rest) (suc k) c at h = or_right (P d) (list_any P rest) (any_at P rest k c at h)
 
 -- where a point lies inside a tile
-pub record IsInside (f : Levels) (p : Point) (k : ℕ) (c : Corner) (i j : ℕ) : Type 0 where
+pub record IsInside (f : Filled) (p : Point) (k : ℕ) (c : Corner) (i j : ℕ) : Type 0 where
   pub listed : slice_get f.corners k ≡ Some c
   pub at : (x : Corner) → get_or f.corners k x ≡ c
   pub in_range : k < length f.corners
@@ -142,25 +52,25 @@ pub record IsInside (f : Levels) (p : Point) (k : ℕ) (c : Corner) (i j : ℕ) 
   pub j_some : 0 < j
   pub j_inside : j < f.side - 1
 
-module _ (f : Levels) (whole : AreLevels f) where
+module _ (f : Filled) (whole : AreLevels f) where
   inside_holder : (p : Point) (k : ℕ) (c : Corner) (i j : ℕ) → IsInside f p k c i j → is_holder f.side c p ≡ true
   inside_holder p k c i j is = holds_holder f.side c p whole.side_low (record { corner = is.corner; sample = (i, j, is.sample) })
 
-  -- its place
-  inside_place : (p : Point) (k : ℕ) (c : Corner) (i j : ℕ) → IsInside f p k c i j → place_in f p ≡ k * (f.side * f.side) + (i * f.side + j)
+  -- its number
+  inside_place : (p : Point) (k : ℕ) (c : Corner) (i j : ℕ) → IsInside f p k c i j → number_in f p ≡ k * (f.side * f.side) + (i * f.side + j)
   inside_place p k c i j is =
       let held : IsTrue (is_held f.side f.corners p) = any_at (λ d. is_holder f.side d p) f.corners k c is.listed (inside_holder p k c i j is) in
       let seat = seat_of f.side f.corners p held in
       let same : seat.corner ≡ c = inner_holder f.side c seat.corner p i j is.sample is.i_some is.i_inside is.j_some is.j_inside (holder_holds f.side seat.corner p whole.side_low seat.held) in
       let number : seat.number ≡ k = listed_once f.corners c seat.number k whole.in_order seat.in_range is.in_range (seat.at c ∙ same ∙ sym (is.at c)) in
       let index : index_of f.side c p ≡ i * f.side + j = index_is f.side c p (i * f.side + j) (record { corner = is.corner; sample = (i, j, (is.sample, refl)) }) in
-      seat.place ∙ ap₂ (λ m d. m * (f.side * f.side) + index_of f.side d p) number same ∙ ap (λ e. k * (f.side * f.side) + e) index
+      seat.numbered ∙ ap₂ (λ m d. m * (f.side * f.side) + index_of f.side d p) number same ∙ ap (λ e. k * (f.side * f.side) + e) index
 
   -- what lies in a direction, inside the same tile
   module _ (p : Point) (level : IsTrue (has_level f p)) (k : ℕ) (c : Corner) (i j : ℕ) (is : IsInside f p k c i j) (d : Dir) (i' j' g : ℕ) (there : IsInside f (step d p) k c i' j')
       (at : g ≡ k * (f.side * f.side) + (i' * f.side + j')) where
-    place_there : place_in f (step d p) ≡ g
-    place_there = inside_place (step d p) k c i' j' there ∙ sym at
+    number_there : number_in f (step d p) ≡ g
+    number_there = inside_place (step d p) k c i' j' there ∙ sym at
 
     shared : IsTrue (is_shared f p (step d p))
     unfolding is_shared
@@ -170,10 +80,10 @@ module _ (f : Levels) (whole : AreLevels f) where
     pub inside_beside : (if not (is_void (slice_index_or f.levels g void)) then Some g else None) ≡ beside_of f p d
     inside_beside = elim (cases_Bool (has_level f (step d p))) [
       | inl on ↦
-          cond-true (not (is_void (slice_index_or f.levels g void))) (Some g) None (level_from f (step d p) g place_there ∙ on)
-          ∙ ap Some (sym place_there) ∙ sym (beside_there f p d (step_adjoins f p d level on shared))
+          cond-true (not (is_void (slice_index_or f.levels g void))) (Some g) None (level_from f (step d p) g number_there ∙ on)
+          ∙ ap Some (sym number_there) ∙ sym (beside_there f p d (step_adjoins f p d level on shared))
       | inr off ↦
-          cond-false (not (is_void (slice_index_or f.levels g void))) (Some g) None (level_from f (step d p) g place_there ∙ off)
+          cond-false (not (is_void (slice_index_or f.levels g void))) (Some g) None (level_from f (step d p) g number_there ∙ off)
           ∙ sym (beside_none f p d (not_adjoins f p (step d p) (λ on share. true≢false (sym on ∙ off))))
     ]
 
@@ -193,19 +103,19 @@ remainder : (n i j : ℕ) → j < n → (i * n + j) % n ≡ j
 remainder n i j small = grind (arith, rows)
 
 -- a point deep inside its tile
-pub record IsDeep (f : Levels) (p : Point) (number : ℕ) : Type 0 where
+pub record IsDeep (f : Filled) (p : Point) (number : ℕ) : Type 0 where
   pub k : ℕ
   pub c : Corner
   pub i : ℕ
   pub j : ℕ
   pub inside : IsInside f p k c i j
-  pub place : number ≡ k * (f.side * f.side) + (i * f.side + j)
+  pub numbered : number ≡ k * (f.side * f.side) + (i * f.side + j)
   pub i_low : 2 ≤ i
   pub i_high : i + 3 ≤ f.side
   pub j_low : 2 ≤ j
   pub j_high : j + 3 ≤ f.side
 
-module _ (f : Levels) (whole : AreLevels f) (p : Point) (level : IsTrue (has_level f p)) (number : ℕ) (at : place_in f p ≡ number) where
+module _ (f : Filled) (whole : AreLevels f) (p : Point) (level : IsTrue (has_level f p)) (number : ℕ) (at : number_in f p ≡ number) where
   pub deep_of : is_deep f.side (number % (f.side * f.side)) ≡ true → IsDeep f p number
   deep_of test =
       let seat = seat_of f.side f.corners p (level_held f whole p level) in
@@ -216,7 +126,7 @@ module _ (f : Levels) (whole : AreLevels f) (p : Point) (level : IsTrue (has_lev
       let j = x.sample.1 in
       let column : j < f.side = x.sample.2.0.column in
       let e_is : e ≡ i * f.side + j = x.sample.2.1 in
-      let number_is : number ≡ seat.number * (f.side * f.side) + e = sym at ∙ seat.place in
+      let number_is : number ≡ seat.number * (f.side * f.side) + e = sym at ∙ seat.numbered in
       let rest : number % (f.side * f.side) ≡ e = ap (λ v. v % (f.side * f.side)) number_is ∙ remainder (f.side * f.side) seat.number e (index_small f.side seat.corner p whole.side_low seat.held) in
       let row_is : (number % (f.side * f.side)) / f.side ≡ i = ap (λ v. v / f.side) (rest ∙ e_is) ∙ quotient f.side i j column in
       let column_is : (number % (f.side * f.side)) % f.side ≡ j = ap (λ v. v % f.side) (rest ∙ e_is) ∙ remainder f.side i j column in
@@ -245,7 +155,7 @@ module _ (f : Levels) (whole : AreLevels f) (p : Point) (level : IsTrue (has_lev
           j_some = omega arith;
           j_inside = omega arith;
         };
-        place = number_is ∙ ap (λ v. seat.number * (f.side * f.side) + v) e_is;
+        numbered = number_is ∙ ap (λ v. seat.number * (f.side * f.side) + v) e_is;
         i_low = i_low;
         i_high = i_high;
         j_low = j_low;
@@ -278,46 +188,46 @@ module _ (f : Levels) (whole : AreLevels f) (p : Point) (level : IsTrue (has_lev
 
     beside_at : (d : Dir) (i' j' g : ℕ) → pos i' ≡ pos deep.i -ℤ north_of d → pos j' ≡ pos deep.j +ℤ east_of d → 0 < i' → i' < f.side - 1 → 0 < j' → j' < f.side - 1
         → g ≡ deep.k * (f.side * f.side) + (i' * f.side + j') → Beside d g
-    beside_at d i' j' g row column i_some i_inside j_some j_inside place =
+    beside_at d i' j' g row column i_some i_inside j_some j_inside numbered =
         let there = moved_inside d i' j' row column i_some i_inside j_some j_inside in
         record {
-          within = inside_within f whole p level deep.k deep.c deep.i deep.j deep.inside d i' j' g there place;
-          is = inside_beside f whole p level deep.k deep.c deep.i deep.j deep.inside d i' j' g there place;
+          within = inside_within f whole p level deep.k deep.c deep.i deep.j deep.inside d i' j' g there numbered;
+          is = inside_beside f whole p level deep.k deep.c deep.i deep.j deep.inside d i' j' g there numbered;
         }
 
     north_row : deep.i * f.side ≡ (deep.i - 1) * f.side + f.side
     north_row = let i = deep.i - 1 in let is : deep.i ≡ i + 1 = let low = deep.i_low in omega arith in ap (λ v. v * f.side) is ∙ omega arith
 
     pub east : Beside East (number + 1)
-    east = let a = deep.i_low in let b = deep.i_high in let c = deep.j_low in let d = deep.j_high in let e = deep.place in
+    east = let a = deep.i_low in let b = deep.i_high in let c = deep.j_low in let d = deep.j_high in let e = deep.numbered in
         beside_at East deep.i (deep.j + 1) (number + 1) (omega (arith, ints)) (omega (arith, ints)) (omega arith) (omega arith) (omega arith) (omega arith) (omega arith)
 
     pub south_east : Beside SouthEast (number + f.side + 1)
-    south_east = let a = deep.i_low in let b = deep.i_high in let c = deep.j_low in let d = deep.j_high in let e = deep.place in
+    south_east = let a = deep.i_low in let b = deep.i_high in let c = deep.j_low in let d = deep.j_high in let e = deep.numbered in
         beside_at SouthEast (deep.i + 1) (deep.j + 1) (number + f.side + 1) (omega (arith, ints)) (omega (arith, ints)) (omega arith) (omega arith) (omega arith) (omega arith) (omega arith)
 
     pub south : Beside South (number + f.side)
-    south = let a = deep.i_low in let b = deep.i_high in let c = deep.j_low in let d = deep.j_high in let e = deep.place in
+    south = let a = deep.i_low in let b = deep.i_high in let c = deep.j_low in let d = deep.j_high in let e = deep.numbered in
         beside_at South (deep.i + 1) deep.j (number + f.side) (omega (arith, ints)) (omega (arith, ints)) (omega arith) (omega arith) (omega arith) (omega arith) (omega arith)
 
     pub south_west : Beside SouthWest (number + f.side - 1)
-    south_west = let a = deep.i_low in let b = deep.i_high in let c = deep.j_low in let d = deep.j_high in let e = deep.place in
+    south_west = let a = deep.i_low in let b = deep.i_high in let c = deep.j_low in let d = deep.j_high in let e = deep.numbered in
         beside_at SouthWest (deep.i + 1) (deep.j - 1) (number + f.side - 1) (omega (arith, ints)) (omega (arith, ints)) (omega arith) (omega arith) (omega arith) (omega arith) (omega arith)
 
     pub west : Beside West (number - 1)
-    west = let a = deep.i_low in let b = deep.i_high in let c = deep.j_low in let d = deep.j_high in let e = deep.place in
+    west = let a = deep.i_low in let b = deep.i_high in let c = deep.j_low in let d = deep.j_high in let e = deep.numbered in
         beside_at West deep.i (deep.j - 1) (number - 1) (omega (arith, ints)) (omega (arith, ints)) (omega arith) (omega arith) (omega arith) (omega arith) (omega arith)
 
     pub north_west : Beside NorthWest (number - f.side - 1)
-    north_west = let a = deep.i_low in let b = deep.i_high in let c = deep.j_low in let d = deep.j_high in let e = deep.place in let r = north_row in
+    north_west = let a = deep.i_low in let b = deep.i_high in let c = deep.j_low in let d = deep.j_high in let e = deep.numbered in let r = north_row in
         beside_at NorthWest (deep.i - 1) (deep.j - 1) (number - f.side - 1) (omega (arith, ints)) (omega (arith, ints)) (omega arith) (omega arith) (omega arith) (omega arith) (omega arith)
 
     pub north : Beside North (number - f.side)
-    north = let a = deep.i_low in let b = deep.i_high in let c = deep.j_low in let d = deep.j_high in let e = deep.place in let r = north_row in
+    north = let a = deep.i_low in let b = deep.i_high in let c = deep.j_low in let d = deep.j_high in let e = deep.numbered in let r = north_row in
         beside_at North (deep.i - 1) deep.j (number - f.side) (omega (arith, ints)) (omega (arith, ints)) (omega arith) (omega arith) (omega arith) (omega arith) (omega arith)
 
     pub north_east : Beside NorthEast (number - f.side + 1)
-    north_east = let a = deep.i_low in let b = deep.i_high in let c = deep.j_low in let d = deep.j_high in let e = deep.place in let r = north_row in
+    north_east = let a = deep.i_low in let b = deep.i_high in let c = deep.j_low in let d = deep.j_high in let e = deep.numbered in let r = north_row in
         beside_at NorthEast (deep.i - 1) (deep.j + 1) (number - f.side + 1) (omega (arith, ints)) (omega (arith, ints)) (omega arith) (omega arith) (omega arith) (omega arith) (omega arith)
 
     -- what is read of a list that holds the levels
@@ -329,7 +239,7 @@ module _ (f : Levels) (whole : AreLevels f) (p : Point) (level : IsTrue (has_lev
     pub room : (n : ℕ) → n ≡ f.side → n + 1 ≤ number
     room n side =
         let a = deep.i_low in
-        let e = deep.place in
+        let e = deep.numbered in
         let rows : 2 * f.side ≤ deep.i * f.side = mul-le-mul_right f.side deep.i_low in
         let low = whole.side_low in
         omega arith
@@ -343,10 +253,10 @@ deep_says n e test =
     let three = and_parts (nat_le 2 q) (nat_le (q + 3) n) two.0 in
     (le_said 2 q three.0, le_said (q + 3) n three.1, le_said 2 r two.1, le_said (r + 3) n one.1)
 
--- the point of a deep sample has that sample's number as its place
-pub deep_place : (f : Levels) → AreLevels f → (p : Point) (k e : ℕ) (c : Corner) → slice_get f.corners k ≡ Some c → k < length f.corners → IsIndexOf f.side c p e → is_deep f.side e ≡ true
-    → place_in f p ≡ k * (f.side * f.side) + e
-deep_place f whole p k e c listed in_range index test =
+-- the point of a deep sample has that sample's number as its number
+pub deep_number : (f : Filled) → AreLevels f → (p : Point) (k e : ℕ) (c : Corner) → slice_get f.corners k ≡ Some c → k < length f.corners → IsIndexOf f.side c p e → is_deep f.side e ≡ true
+    → number_in f p ≡ k * (f.side * f.side) + e
+deep_number f whole p k e c listed in_range index test =
     let i = index.sample.0 in
     let j = index.sample.1 in
     let at = index.sample.2.0 in
@@ -375,13 +285,13 @@ tile_and_index : (a number : ℕ) → number / a * a + number % a ≡ number
 tile_and_index a number = grind (arith, rows)
 
 -- the same for a point that was read from the number
-pub deep_site : (f : Levels) → AreLevels f → (p : Point) (number area : ℕ) (corners : List Corner) (c : Corner) (n : ℕ) → corners ≡ f.corners → n ≡ f.side → area ≡ f.side * f.side
-    → c ≡ get_or corners (number / area) c → number < length f.levels → IsIndexOf n c p (number % area) → is_deep f.side (number % (f.side * f.side)) ≡ true → place_in f p ≡ number
+pub deep_site : (f : Filled) → AreLevels f → (p : Point) (number area : ℕ) (corners : List Corner) (c : Corner) (n : ℕ) → corners ≡ f.corners → n ≡ f.side → area ≡ f.side * f.side
+    → c ≡ get_or corners (number / area) c → number < length f.levels → IsIndexOf n c p (number % area) → is_deep f.side (number % (f.side * f.side)) ≡ true → number_in f p ≡ number
 deep_site f whole p number area corners c n same side area_is read small index test =
     let k = number / (f.side * f.side) in
     let at : c ≡ get_or f.corners k c = read ∙ ap₂ (λ ks a. get_or ks (number / a) c) same area_is in
     let some : 1 * 1 ≤ f.side * f.side = grind (arith, whole.side_low) in
-    let within : k < length f.corners = number_below (f.side * f.side) (length f.corners) number (omega arith) (omega (arith, small, whole.whole)) in
+    let within : k < length f.corners = tile_below (f.side * f.side) (length f.corners) number (omega arith) (omega (arith, small, whole.whole)) in
     let listed : slice_get f.corners k ≡ Some c = slice_get_read f.corners (length f.corners) k c refl within at in
     let here : IsIndexOf f.side c p (number % (f.side * f.side)) = subst (λ m. IsIndexOf m c p (number % (f.side * f.side))) side (subst (λ a. IsIndexOf n c p (number % a)) area_is index) in
-    deep_place f whole p k (number % (f.side * f.side)) c listed within here test ∙ tile_and_index (f.side * f.side) number
+    deep_number f whole p k (number % (f.side * f.side)) c listed within here test ∙ tile_and_index (f.side * f.side) number

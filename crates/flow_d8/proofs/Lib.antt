@@ -3,7 +3,7 @@ pub mod Unique
 pub mod Exists
 pub mod FlowPaths
 pub mod MosaicGrid
-pub mod Places
+pub mod Numbers
 pub mod Surfaces
 pub mod Inside
 pub mod Tiles

@@ -10,7 +10,7 @@ use Rattle.lattice.specs.Steps.{step, order_of, slope_of, is_steeper}
 use Rattle.lattice.specs.Mosaic.{void, is_void}
 use Rattle.flow_d8.specs.declared.downhill.Descent.{Descent}
 use Rattle.flow_d8.specs.Drainage.{IsLower, HasLower, IsSteepest}
-use Rattle.flow_d8.specs.Levels.{Levels}
+use Rattle.flow_d8.specs.Filled.{Filled}
 use Rattle.flow_d8.specs.Surface.{level_at, has_level, adjoins, beside_of, surface}
 use Rattle.flow_d8.specs.Descents.{LeadsDown, drop_in, slope_in, IsBest, IsBestOf}
 use Rattle.flow_d8.proofs.Compass.{same_order, order_below}
@@ -28,7 +28,7 @@ lt-said a b h = grind (arith, nat_tests)
 le-said : (a b : ℕ) → nat_lt a b ≡ false → b ≤ a
 le-said a b h = grind (arith, nat_tests)
 
-module _ (f : Levels) (p : Point) where
+module _ (f : Filled) (p : Point) where
   -- a direction among one more
   this_or_before : (d e : Dir) → order_of e < order_of d + 1 → (e ≡ d) ⊎ (order_of e < order_of d)
   this_or_before d e below = elim (cases_eq (order_of e) (order_of d)) [ inl same ↦ inl (same_order e d same) | inr other ↦ inr (omega arith) ]
@@ -92,7 +92,7 @@ module _ (f : Levels) (p : Point) where
   pub none_of_all : (k : ℕ) → 8 ≤ k → IsBestOf f p k None → HasLower (surface f) (level_at f) p → ⊥
   none_of_all k all none low = let away = surface_steps f p low.0 low.1.beside in none away.0 (omega (arith, order_below away.0)) (subst (λ y. IsLower (surface f) (level_at f) p y) away.1 low.1)
 
-  -- how far the level falls by a step to a place
+  -- how far the level falls by a step to a number
   pub falls : (d : Dir) (a b : ℤ) (r : Option ℕ) → IsTrue (adjoins f p (step d p)) → a ≡ level_at f p → b ≡ level_at f (step d p)
       → MatchOption r (a ≤ℤ b) (λ drop. (b <ℤ a) × (drop ≡ nat_abs (a -ℤ b)) × (drop ≤ 65534))
       → MatchOption r (LeadsDown f p d → ⊥) (λ drop. LeadsDown f p d × (drop ≡ drop_in f p d) × (drop ≤ 65534))

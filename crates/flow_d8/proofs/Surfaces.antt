@@ -16,9 +16,9 @@ use Rattle.lattice.specs.Terrain.{IsLawful}
 use Rattle.lattice.specs.Mosaic.{void, is_void}
 use Rattle.lattice.specs.Ground.{same_point, is_near}
 use Rattle.lattice.proofs.Lawful.{AllFive, five_parts, five_from}
-use Rattle.flow_d8.specs.Levels.{Levels, AreLevels, is_holder, is_held, place_of}
-use Rattle.flow_d8.specs.Surface.{place_in, level_at, has_level, is_shared, adjoins, leads_off, surface, beside_of}
-use Rattle.flow_d8.proofs.Places.{place_past, place_below, place_injective, seat_of, held_fits}
+use Rattle.flow_d8.specs.Filled.{Filled, AreLevels, is_holder, is_held, number_of}
+use Rattle.flow_d8.specs.Surface.{number_in, level_at, has_level, is_shared, adjoins, leads_off, surface, beside_of}
+use Rattle.flow_d8.proofs.Numbers.{number_past, number_below, number_injective, seat_of, held_fits}
 use Rattle.flow_d8.proofs.MosaicGrid.{Away, away}
 
 int_eq-swap : (a b : ℤ) → int_eq a b ≡ int_eq b a
@@ -85,7 +85,7 @@ step_other p NorthWest = ap (λ b. b && int_eq p.x (p.x +ℤ negsuc 0)) (not_up 
 step_other p North = ap (λ b. b && int_eq p.x (p.x +ℤ pos 0)) (not_up p.y)
 step_other p NorthEast = ap (λ b. b && int_eq p.x (p.x +ℤ pos 1)) (not_up p.y)
 
-module _ (f : Levels) where
+module _ (f : Filled) where
   pub adjoins_parts : (p q : Point) → IsTrue (adjoins f p q) → AllFive (has_level f p) (has_level f q) (not (same_point p q)) (is_near p q) (is_shared f p q)
   unfolding adjoins
   adjoins_parts p q h = five_parts (has_level f p) (has_level f q) (not (same_point p q)) (is_near p q) (is_shared f p q) h
@@ -137,19 +137,19 @@ module _ (f : Levels) where
     level_held p here = elim (cases_Bool (is_held f.side f.corners p)) [
       | inl on ↦ on
       | inr off ↦
-          let past : length f.levels ≤ place_in f p = omega (arith, place_past f.side f.corners p off, whole.whole) in
-          let out : slice_index_or f.levels (place_in f p) void ≡ void = get_or_past f.levels (place_in f p) void past in
+          let past : length f.levels ≤ number_in f p = omega (arith, number_past f.side f.corners p off, whole.whole) in
+          let out : slice_index_or f.levels (number_in f p) void ≡ void = get_or_past f.levels (number_in f p) void past in
           absurd (true≢false (sym here ∙ ap (λ v. not (is_void v)) out))
     ]
 
-    pub held_within : (p : Point) → IsTrue (is_held f.side f.corners p) → place_in f p < length f.levels
-    held_within p held = let below = place_below f.side f.corners p whole.side_low held in omega (arith, whole.whole)
+    pub held_within : (p : Point) → IsTrue (is_held f.side f.corners p) → number_in f p < length f.levels
+    held_within p held = let below = number_below f.side f.corners p whole.side_low held in omega (arith, whole.whole)
 
-    pub level_within : (p : Point) → IsTrue (has_level f p) → place_in f p < length f.levels
+    pub level_within : (p : Point) → IsTrue (has_level f p) → number_in f p < length f.levels
     level_within p here = held_within p (level_held p here)
 
-    pub same_site : (p q : Point) → IsTrue (has_level f p) → IsTrue (has_level f q) → place_in f p ≡ place_in f q → p ≡ q
-    same_site p q hp hq same = place_injective f.side f.corners p q whole.side_low (level_held p hp) (level_held q hq) same
+    pub same_site : (p q : Point) → IsTrue (has_level f p) → IsTrue (has_level f q) → number_in f p ≡ number_in f q → p ≡ q
+    same_site p q hp hq same = number_injective f.side f.corners p q whole.side_low (level_held p hp) (level_held q hq) same
 
     pub fits_held : (p : Point) → IsTrue (is_held f.side f.corners p) → IsTrue (fits_point p)
     fits_held p held = let seat = seat_of f.side f.corners p held in held_fits f.side seat.corner p whole.side_low whole.side_high seat.held
@@ -157,19 +157,19 @@ module _ (f : Levels) where
     pub shared_fits : (p q : Point) → IsTrue (is_shared f p q) → IsTrue (fits_point q)
     shared_fits p q share = fits_held q (shared_held q p (shared_both q p ∙ share))
 
-  pub at_level : (p : Point) → slice_index_or f.levels (place_in f p) void ≡ level_at f p
+  pub at_level : (p : Point) → slice_index_or f.levels (number_in f p) void ≡ level_at f p
   unfolding level_at
   at_level p = refl
 
-  pub beside_there : (p : Point) (d : Dir) → IsTrue (adjoins f p (step d p)) → beside_of f p d ≡ Some (place_in f (step d p))
+  pub beside_there : (p : Point) (d : Dir) → IsTrue (adjoins f p (step d p)) → beside_of f p d ≡ Some (number_in f (step d p))
   unfolding beside_of
-  beside_there p d h = cond-true (adjoins f p (step d p)) (Some (place_in f (step d p))) None h
+  beside_there p d h = cond-true (adjoins f p (step d p)) (Some (number_in f (step d p))) None h
 
   pub beside_none : (p : Point) (d : Dir) → IsFalse (adjoins f p (step d p)) → beside_of f p d ≡ None
   unfolding beside_of
-  beside_none p d h = cond-false (adjoins f p (step d p)) (Some (place_in f (step d p))) None h
+  beside_none p d h = cond-false (adjoins f p (step d p)) (Some (number_in f (step d p))) None h
 
-  pub beside_some : (p : Point) (d : Dir) (g : ℕ) → beside_of f p d ≡ Some g → IsTrue (adjoins f p (step d p)) × (g ≡ place_in f (step d p))
+  pub beside_some : (p : Point) (d : Dir) (g : ℕ) → beside_of f p d ≡ Some g → IsTrue (adjoins f p (step d p)) × (g ≡ number_in f (step d p))
   beside_some p d g is = elim (cases_Bool (adjoins f p (step d p))) [
     | inl on ↦ (on, some_same (sym is ∙ beside_there p d on))
     | inr off ↦ absurd (no_some (sym is ∙ beside_none p d off))
@@ -204,12 +204,12 @@ module _ (f : Levels) where
     pub beside_unheld : (IsTrue (is_held f.side f.corners (step d p)) → ⊥) → None ≡ beside_of f p d
     beside_unheld out = sym (beside_none p d (not_adjoins p (step d p) (λ level share. out (level_held whole (step d p) level))))
 
-    pub beside_void : not (is_void (slice_index_or f.levels (place_in f (step d p)) void)) ≡ false → None ≡ beside_of f p d
+    pub beside_void : not (is_void (slice_index_or f.levels (number_in f (step d p)) void)) ≡ false → None ≡ beside_of f p d
     unfolding has_level level_at
     beside_void low = sym (beside_none p d (not_adjoins p (step d p) (λ level share. true≢false (sym level ∙ low))))
 
     pub beside_found : IsTrue (has_level f p) → list_any (λ c. is_holder f.side c p && is_holder f.side c (step d p)) f.corners ≡ true
-        → not (is_void (slice_index_or f.levels (place_in f (step d p)) void)) ≡ true → Some (place_in f (step d p)) ≡ beside_of f p d
+        → not (is_void (slice_index_or f.levels (number_in f (step d p)) void)) ≡ true → Some (number_in f (step d p)) ≡ beside_of f p d
     unfolding has_level level_at is_shared
     beside_found here share level = sym (beside_there p d (step_adjoins p d here level share))
 
@@ -223,20 +223,20 @@ module _ (f : Levels) where
     pub read_held : is_held n cs to ≡ is_held f.side f.corners (step d p)
     read_held = ap (λ k. is_held k cs to) same_n ∙ ap (λ ks. is_held f.side ks to) same_cs ∙ ap (λ q. is_held f.side f.corners q) is
 
-    pub read_place : place_of n cs to ≡ place_in f (step d p)
-    read_place = ap (λ k. place_of k cs to) same_n ∙ ap (λ ks. place_of f.side ks to) same_cs ∙ ap (λ q. place_of f.side f.corners q) is
+    pub read_place : number_of n cs to ≡ number_in f (step d p)
+    read_place = ap (λ k. number_of k cs to) same_n ∙ ap (λ ks. number_of f.side ks to) same_cs ∙ ap (λ q. number_of f.side f.corners q) is
 
-  -- the sample at a place that isn't void, or is
-  pub level_from : (p : Point) (number : ℕ) → place_in f p ≡ number → not (is_void (slice_index_or f.levels number void)) ≡ has_level f p
+  -- the sample at a number that isn't void, or is
+  pub level_from : (p : Point) (number : ℕ) → number_in f p ≡ number → not (is_void (slice_index_or f.levels number void)) ≡ has_level f p
   unfolding has_level level_at
   level_from p number at = ap (λ k. not (is_void (slice_index_or f.levels k void))) (sym at)
 
-  -- what a list that holds the levels says of the points at two places
+  -- what a list that holds the levels says of the points at two numbers
   module _ (whole : AreLevels f) (xs : List ℤ) (same : xs ≡ f.levels) where
-    pub read_level : (p : Point) (g : ℕ) → g ≡ place_in f p → slice_index_or xs g void ≡ level_at f p
+    pub read_level : (p : Point) (g : ℕ) → g ≡ number_in f p → slice_index_or xs g void ≡ level_at f p
     read_level p g at = ap₂ (λ ys k. slice_index_or ys k void) same at ∙ at_level p
 
-    pub read_within : (p : Point) (g : ℕ) → g ≡ place_in f p → IsTrue (has_level f p) → g < length xs
+    pub read_within : (p : Point) (g : ℕ) → g ≡ number_in f p → IsTrue (has_level f p) → g < length xs
     read_within p g at level =
         let below = level_within whole p level in
         let same_length = ap length same in

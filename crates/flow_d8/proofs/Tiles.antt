@@ -18,9 +18,11 @@ use Rattle.lattice.specs.declared.point.Point.{Point}
 use Rattle.lattice.specs.Corners.{Corner}
 use Rattle.lattice.specs.Lattice.{IsBefore, Holds, IsIndexOf, index_of}
 use Rattle.lattice.proofs.Samples.{index_is, held_at}
-use Rattle.flow_d8.specs.Levels.{is_holder, is_held, place_of}
-use Rattle.flow_d8.proofs.Places.{seat_of, place-here, place-later, holder_holds, holds_holder}
-use Rattle.flow_d8.proofs.Inside.{Below, says, chain, apart, rising, any_at}
+use Rattle.flow_d8.specs.Filled.{is_holder, is_held, number_of}
+use Rattle.flow_d8.proofs.Numbers.{seat_of, number-here, number-later, holder_holds, holds_holder}
+use Rattle.lattice.proofs.CornerOrder.{Below, before_says, before_apart, before_not_back}
+use Rattle.lattice.proofs.Rising.{rising_from, rises_at}
+use Rattle.flow_d8.proofs.Inside.{any_at}
 
 -- the order of corners, as a comparison answers
 abbrev pub compared : Corner → Corner → Ordering
@@ -56,13 +58,12 @@ same_compared : (a : Corner) → compared a a ≡ Equal
 same_compared a = ap₂ ordering_then (to_Equal a.lat a.lat (int_cmp a.lat a.lat) refl (int_ranks a.lat a.lat)) (to_Equal a.lon a.lon (int_cmp a.lon a.lon) refl (int_ranks a.lon a.lon))
 
 not_less : (a b : Corner) → Below a b → is_lt (compared b a) ≡ false
-unfolding Below
 not_less a b (inl south) = ap (λ (o : Ordering). is_lt (ordering_then o (int_cmp b.lon a.lon))) (to_Greater b.lat a.lat (int_cmp b.lat a.lat) south (int_ranks b.lat a.lat))
 not_less a b (inr west) = ap₂ (λ (o q : Ordering). is_lt (ordering_then o q))
     (to_Equal b.lat a.lat (int_cmp b.lat a.lat) (sym west.0) (int_ranks b.lat a.lat)) (to_Greater b.lon a.lon (int_cmp b.lon a.lon) west.1 (int_ranks b.lon a.lon))
 
 rises : (corners : List Corner) (c : Corner) → AllAdjacentBelow IsBefore corners (length corners) → IsNonDecreasingBy (λ y. ordering_index (compared y c)) corners
-rises corners c order = searchable_from_sorted compared_total (λ (x : Corner). x) corners c (λ k d low lt. not_less (get_or corners k d) (get_or corners (k + 1) d) (says (get_or corners k d) (get_or corners (k + 1) d) (order k d lt)))
+rises corners c order = searchable_from_sorted compared_total (λ (x : Corner). x) corners c (λ k d low lt. not_less (get_or corners k d) (get_or corners (k + 1) d) (before_says (get_or corners k d) (get_or corners (k + 1) d) (order k d lt)))
 
 -- what a binary search tells
 pub told_tile : (corners : List Corner) (c : Corner) (r : Result ℕ ℕ) → AllAdjacentBelow IsBefore corners (length corners) → IsSearchInRange r (length corners) → IsBinarySearchResult (λ y. compared y c) corners r
@@ -87,20 +88,20 @@ told_tile corners c (Err k) order bound position = λ has.
     split j k = elim (cases_order j k) [ inl same ↦ inr (omega arith) | inr other ↦ ⊎_elim (λ lt. inl lt) (λ gt. inr (omega arith)) other ]
 
 -- the first tile that holds a point is the first of its holders that is among the corners
-place_first : (n : ℕ) (corners : List Corner) (p : Point) (k : ℕ) (c : Corner) → slice_get corners k ≡ Some c → is_holder n c p ≡ true → ((j : ℕ) → j < k → is_holder n (get_or corners j c) p ≡ false)
-    → place_of n corners p ≡ k * (n * n) + index_of n c p
-place_first n [] p k c at on before = absurd (no_some c at)
+number_first : (n : ℕ) (corners : List Corner) (p : Point) (k : ℕ) (c : Corner) → slice_get corners k ≡ Some c → is_holder n c p ≡ true → ((j : ℕ) → j < k → is_holder n (get_or corners j c) p ≡ false)
+    → number_of n corners p ≡ k * (n * n) + index_of n c p
+number_first n [] p k c at on before = absurd (no_some c at)
   where
     no_some : (c : Corner) → ◌≡◌ {A = Option Corner} None (Some c) → ⊥
     no_some c e = cc
-place_first n (d ∷ rest) p zero c at on before =
+number_first n (d ∷ rest) p zero c at on before =
     let same : d ≡ c = some_same at in
-    place-here n d rest p (subst (λ (e : Corner). is_holder n e p ≡ true) (sym same) on) ∙ ap (λ (e : Corner). index_of n e p) same ∙ omega arith
+    number-here n d rest p (subst (λ (e : Corner). is_holder n e p ≡ true) (sym same) on) ∙ ap (λ (e : Corner). index_of n e p) same ∙ omega arith
   where
     some_same : ◌≡◌ {A = Option Corner} (Some d) (Some c) → d ≡ c
     some_same e = cc
-place_first n (d ∷ rest) p (suc k) c at on before =
-    place-later n d rest p (before 0 (omega arith)) ∙ ap (λ m. n * n + m) (place_first n rest p k c at on (λ j lt. before (suc j) (omega arith))) ∙ omega arith
+number_first n (d ∷ rest) p (suc k) c at on before =
+    number-later n d rest p (before 0 (omega arith)) ∙ ap (λ m. n * n + m) (number_first n rest p k c at on (λ j lt. before (suc j) (omega arith))) ∙ omega arith
 
 -- none of the first i holders is among the corners
 abbrev pub IsPassed : List Corner → List Corner → ℕ → Type 0
@@ -126,30 +127,28 @@ module _ (n : ℕ) (corners around : List Corner) (p : Point) (side : 3 ≤ n) (
     | inr off ↦ off
     | inl on ↦
         let e = get_or corners j c in
-        let far : j + suc (k - suc j) ≡ k = omega arith in
-        let below : Below e c = subst (λ (d : Corner). Below e d) (get_or_from_slice_get corners k c c at) (subst (λ m. Below e (get_or corners m c)) far (rising corners c order (k - suc j) j (omega arith))) in
+        let below : IsBefore e c = subst (IsBefore e) (get_or_from_slice_get corners k c c at) (rises_at (λ d. d) corners j k c (rising_from (λ d. d) corners order) lt in_range) in
         let has = (exactly e).1 (holder_holds n e p side on) in
         let m = has.0 in
         let there : get_or around m c ≡ e = get_or_default around m c e has.1 ∙ has.2 in
         elim (cases_order m i) [
-          | inl same ↦ absurd (apart e c below (sym there ∙ ap (λ h. get_or around h c) same ∙ sym is))
+          | inl same ↦ absurd (before_apart e c below (sym there ∙ ap (λ h. get_or around h c) same ∙ sym is))
           | inr other ↦ ⊎_elim
               (λ earlier. absurd (passed m e earlier (j, omega arith, get_or_default corners j (get_or around m e) c (omega arith) ∙ sym has.2)))
               (λ later.
-              let further : i + suc (m - suc i) ≡ m = omega arith in
-              let above : Below c e = subst (λ (d : Corner). Below c d) there (subst (λ h. Below c (get_or around h c)) further (subst (λ (d : Corner). Below d (get_or around (i + suc (m - suc i)) c)) (sym is) (rising around c in_order (m - suc i) i (omega (arith, has.1))))) in
-              absurd (apart e e (chain e c e below above) refl))
+              let above : IsBefore c e = subst (IsBefore c) there (subst (λ d. IsBefore d (get_or around m c)) (sym is) (rises_at (λ d. d) around i m c (rising_from (λ d. d) around in_order) later has.1)) in
+              absurd (true≢false (sym above ∙ before_not_back e c below)))
               other
         ]
   ]
 
-  -- the first of them that is tells the place
+  -- the first of them that is tells the number
   pub first_found : (i k e : ℕ) (c : Corner) → i < length around → c ≡ get_or around i c → slice_get corners k ≡ Some c → k < length corners → IsIndexOf n c p e → IsPassed corners around i
-      → IsTrue (is_held n corners p) × (k * (n * n) + e ≡ place_of n corners p)
+      → IsTrue (is_held n corners p) × (k * (n * n) + e ≡ number_of n corners p)
   first_found i k e c small is at in_range index passed =
       let on : is_holder n c p ≡ true = holds_holder n c p side (held_at n c p e index) in
-      let place = place_first n corners p k c at on (before_falls i k c small is at in_range passed) in
-      (any_at (λ d. is_holder n d p) corners k c at on, ap (λ m. k * (n * n) + m) (sym (index_is n c p e index)) ∙ sym place)
+      let numbered = number_first n corners p k c at on (before_falls i k c small is at in_range passed) in
+      (any_at (λ d. is_holder n d p) corners k c at on, ap (λ m. k * (n * n) + m) (sym (index_is n c p e index)) ∙ sym numbered)
 
 -- none of the first i holders holds the other point and is among the corners
 abbrev pub AreApart : ℕ → List Corner → List Corner → Point → ℕ → Type 0

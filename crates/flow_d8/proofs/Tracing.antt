@@ -12,11 +12,11 @@ use Rattle.lattice.specs.Mosaic.{Mosaic, IsMosaic}
 use Rattle.lattice.specs.Ground.{is_ground, terrain}
 use Rattle.flow_d8.specs.Drainage.{IsDirection}
 use Rattle.flow_d8.specs.FlowPath.{IsFlowPath}
-use Rattle.flow_d8.specs.Levels.{is_held, place_of}
+use Rattle.flow_d8.specs.Filled.{is_held, number_of}
 use Rattle.flow_d8.specs.Crossing.{unknown, distance_at}
-use Rattle.flow_d8.specs.Drained.{Drained, AreWhole, AreDirectionsOf, IsKnown, direction_in, distance_in}
+use Rattle.flow_d8.specs.Directions.{Directions, AreWhole, AreDirectionsOf, IsKnown, direction_in, distance_in}
 use Rattle.flow_d8.proofs.FlowPaths.{from_next}
-use Rattle.flow_d8.proofs.Places.{place_past}
+use Rattle.flow_d8.proofs.Numbers.{number_past}
 use Rattle.flow_d8.proofs.MosaicGrid.{mosaic_is_grid}
 use Rattle.flow_d8.proofs.Fitting.{ground_fits}
 
@@ -26,29 +26,29 @@ lt-true a b h = grind (arith, nat_tests)
 lt-not : (a b : ℕ) → (a < b → ⊥) → nat_lt a b ≡ false
 lt-not a b h = grind (arith, nat_tests)
 
-module _ (d : Drained) (p : Point) where
-  pub direction_known : IsKnown d p → direction_in d p ≡ get_or d.drains (place_of d.side d.corners p) None
-  direction_known known = cond-true (nat_lt (distance_at d.distances (place_of d.side d.corners p)) unknown) (get_or d.drains (place_of d.side d.corners p) None) None (lt-true _ _ known)
+module _ (d : Directions) (p : Point) where
+  pub direction_known : IsKnown d p → direction_in d p ≡ get_or d.drains (number_of d.side d.corners p) None
+  direction_known known = cond-true (nat_lt (distance_at d.distances (number_of d.side d.corners p)) unknown) (get_or d.drains (number_of d.side d.corners p) None) None (lt-true _ _ known)
 
   pub direction_unknown : (IsKnown d p → ⊥) → direction_in d p ≡ None
-  direction_unknown none = cond-false (nat_lt (distance_at d.distances (place_of d.side d.corners p)) unknown) (get_or d.drains (place_of d.side d.corners p) None) None (lt-not _ _ none)
+  direction_unknown none = cond-false (nat_lt (distance_at d.distances (number_of d.side d.corners p)) unknown) (get_or d.drains (number_of d.side d.corners p) None) None (lt-not _ _ none)
 
   pub distance_unknown : (IsKnown d p → ⊥) → distance_in d p ≡ None
-  distance_unknown none = cond-false (nat_lt (distance_at d.distances (place_of d.side d.corners p)) unknown) (Some (distance_at d.distances (place_of d.side d.corners p))) None (lt-not _ _ none)
+  distance_unknown none = cond-false (nat_lt (distance_at d.distances (number_of d.side d.corners p)) unknown) (Some (distance_at d.distances (number_of d.side d.corners p))) None (lt-not _ _ none)
 
   -- a point that no tile holds has no known distance
   pub unheld_unknown : AreWhole d → (IsTrue (is_held d.side d.corners p) → ⊥) → IsKnown d p → ⊥
   unheld_unknown whole out known = elim (cases_Bool (is_held d.side d.corners p)) [
     | inl held ↦ out held
     | inr off ↦
-        let past : length d.distances ≤ place_of d.side d.corners p = omega (arith, place_past d.side d.corners p off, whole.distances) in
-        absurd (omega (arith, get_or_past d.distances (place_of d.side d.corners p) unknown past))
+        let past : length d.distances ≤ number_of d.side d.corners p = omega (arith, number_past d.side d.corners p off, whole.distances) in
+        absurd (omega (arith, get_or_past d.distances (number_of d.side d.corners p) unknown past))
   ]
 
 no_some : {A : Type 0} (a : A) → ◌≡◌ {A = Option A} None (Some a) → ⊥
 no_some a e = cc
 
-module _ (m : Mosaic) (level : Point → ℤ) (d : Drained) (is : IsMosaic m) (are : AreDirectionsOf m level d) where
+module _ (m : Mosaic) (level : Point → ℤ) (d : Directions) (is : IsMosaic m) (are : AreDirectionsOf m level d) where
   -- a ground point has a known distance
   pub ground_known : (p : Point) → IsTrue (is_ground m p) → (IsKnown d p → ⊥) → ⊥
   ground_known p solid none = let dist = are.distance p solid in no_some dist.0 (sym (distance_unknown d p none) ∙ dist.1.0)

@@ -7,9 +7,9 @@ use Rattle.std.proofs.lemmas.List.Elements.{Contains-append_left, Contains-appen
 use Rattle.std.proofs.lemmas.List.{get_or_past}
 use Rattle.lattice.specs.declared.point.Point.{Point}
 use Rattle.flow_d8.specs.Drainage.{CrossesFlat, IsFlatDistance}
-use Rattle.flow_d8.specs.Levels.{Levels, AreLevels}
-use Rattle.flow_d8.specs.Surface.{place_in, level_at, has_level, adjoins, surface}
-use Rattle.flow_d8.specs.Crossing.{unknown, distance_at, gap, gaps, AreKept, Crosses, IsPlaceOf, AreRight, IsStart, IsWave, IsWayOut, IsReaching, IsSpreading, IsSpread, AreDistances}
+use Rattle.flow_d8.specs.Filled.{Filled, AreLevels}
+use Rattle.flow_d8.specs.Surface.{number_in, level_at, has_level, adjoins, surface}
+use Rattle.flow_d8.specs.Crossing.{unknown, distance_at, gap, gaps, AreKept, Crosses, IsNumberOf, AreRight, IsStart, IsWave, IsWayOut, IsReaching, IsSpreading, IsSpread, AreDistances}
 use Rattle.flow_d8.proofs.Surfaces.{surface_lawful, same_site, level_within}
 
 single : (g : ℕ) → Contains (g ∷ []) g
@@ -25,23 +25,23 @@ known_within distances g known = elim (cases_lt g (length distances)) [
   | inr past ↦ absurd (omega (arith, get_or_past distances g unknown past))
 ]
 
-module _ (f : Levels) (whole : AreLevels f) where
-  pub site_is : (p : Point) (k g distance : ℕ) → IsTrue (has_level f p) → place_in f p ≡ g → (s : IsPlaceOf f k g distance) → s.point ≡ p
-  site_is p k g distance level at s = same_site f whole s.point p s.level level (s.place ∙ sym at)
+module _ (f : Filled) (whole : AreLevels f) where
+  pub site_is : (p : Point) (k g distance : ℕ) → IsTrue (has_level f p) → number_in f p ≡ g → (s : IsNumberOf f k g distance) → s.point ≡ p
+  site_is p k g distance level at s = same_site f whole s.point p s.level level (s.numbered ∙ sym at)
 
   -- of a point with a level whose distance is known
-  pub right_at : (distances : List ℕ) (k : ℕ) (p : Point) → AreRight f distances k → IsTrue (has_level f p) → distance_at distances (place_in f p) < unknown
-      → (distance_at distances (place_in f p) ≤ k) × IsFlatDistance (surface f) (level_at f) p (distance_at distances (place_in f p))
+  pub right_at : (distances : List ℕ) (k : ℕ) (p : Point) → AreRight f distances k → IsTrue (has_level f p) → distance_at distances (number_in f p) < unknown
+      → (distance_at distances (number_in f p) ≤ k) × IsFlatDistance (surface f) (level_at f) p (distance_at distances (number_in f p))
   right_at distances k p right level known =
-      let s = right.right (place_in f p) known in
-      (s.near, subst (λ q. IsFlatDistance (surface f) (level_at f) q (distance_at distances (place_in f p))) (site_is p k (place_in f p) (distance_at distances (place_in f p)) level refl s) s.exact)
+      let s = right.right (number_in f p) known in
+      (s.near, subst (λ q. IsFlatDistance (surface f) (level_at f) q (distance_at distances (number_in f p))) (site_is p k (number_in f p) (distance_at distances (number_in f p)) level refl s) s.exact)
 
   -- a point beside one of the wave gets the next distance
   module _ (distances : List ℕ) (k : ℕ) (next : List ℕ) (s : IsSpreading f distances k next) (small : k < unknown)
-      (p q : Point) (from : suc (distance_at distances (place_in f p)) ≡ k) (beside : IsTrue (adjoins f p q)) (same_level : level_at f q ≡ level_at f p)
-      (new : distance_at distances (place_in f q) ≡ unknown) where
+      (p q : Point) (from : suc (distance_at distances (number_in f p)) ≡ k) (beside : IsTrue (adjoins f p q)) (same_level : level_at f q ≡ level_at f p)
+      (new : distance_at distances (number_in f q) ≡ unknown) where
     g : ℕ
-    g = place_in f q
+    g = number_in f q
 
     p_level : IsTrue (has_level f p)
     p_level = (surface_lawful f).from_ground p q beside
@@ -49,19 +49,19 @@ module _ (f : Levels) (whole : AreLevels f) where
     q_level : IsTrue (has_level f q)
     q_level = (surface_lawful f).to_ground p q beside
 
-    within : place_in f q < length distances
-    within = subst (λ n. place_in f q < n) (sym s.right.whole) (level_within f whole q q_level)
+    within : number_in f q < length distances
+    within = subst (λ n. number_in f q < n) (sym s.right.whole) (level_within f whole q q_level)
 
-    now_at : distance_at (set distances (place_in f q) k) (place_in f q) ≡ k
-    now_at = get_or-set_same distances (place_in f q) k unknown within
+    now_at : distance_at (set distances (number_in f q) k) (number_in f q) ≡ k
+    now_at = get_or-set_same distances (number_in f q) k unknown within
 
-    elsewhere : (i : ℕ) → (i ≡ place_in f q → ⊥) → distance_at (set distances (place_in f q) k) i ≡ distance_at distances i
-    elsewhere i other = get_or-set_other distances (place_in f q) i k unknown other
+    elsewhere : (i : ℕ) → (i ≡ number_in f q → ⊥) → distance_at (set distances (number_in f q) k) i ≡ distance_at distances i
+    elsewhere i other = get_or-set_other distances (number_in f q) i k unknown other
 
-    pub reach_kept : AreKept distances (set distances (place_in f q) k)
+    pub reach_kept : AreKept distances (set distances (number_in f q) k)
     reach_kept i known = elsewhere i (λ same. absurd (omega (arith, ap (distance_at distances) same)))
 
-    still : (i : ℕ) → distance_at distances i < unknown → distance_at (set distances (place_in f q) k) i < unknown
+    still : (i : ℕ) → distance_at distances i < unknown → distance_at (set distances (number_in f q) k) i < unknown
     still i known = omega (arith, reach_kept i known)
 
     is_distance : IsFlatDistance (surface f) (level_at f) q k
@@ -72,36 +72,36 @@ module _ (f : Levels) (whole : AreLevels f) where
           least = λ j crosses. elim (cases_lt j k) [ inl below ↦ absurd (omega (arith, s.known q j q_level below crosses)) | inr ge ↦ ge ];
         }
 
-    right_now : (i : ℕ) → distance_at (set distances (place_in f q) k) i < unknown → IsPlaceOf f k i (distance_at (set distances (place_in f q) k) i)
-    right_now i known = elim (cases_eq i (place_in f q)) [
+    right_now : (i : ℕ) → distance_at (set distances (number_in f q) k) i < unknown → IsNumberOf f k i (distance_at (set distances (number_in f q) k) i)
+    right_now i known = elim (cases_eq i (number_in f q)) [
       | inl same ↦
-          let is : distance_at (set distances (place_in f q) k) i ≡ k = ap (distance_at (set distances (place_in f q) k)) same ∙ now_at in
-          subst (λ v. IsPlaceOf f k i v) (sym is) (record { point = q; level = q_level; place = sym same; near = omega arith; exact = is_distance })
+          let is : distance_at (set distances (number_in f q) k) i ≡ k = ap (distance_at (set distances (number_in f q) k)) same ∙ now_at in
+          subst (λ v. IsNumberOf f k i v) (sym is) (record { point = q; level = q_level; numbered = sym same; near = omega arith; exact = is_distance })
       | inr other ↦
-          let is : distance_at (set distances (place_in f q) k) i ≡ distance_at distances i = elsewhere i other in
-          subst (λ v. IsPlaceOf f k i v) (sym is) (s.right.right i (omega arith))
+          let is : distance_at (set distances (number_in f q) k) i ≡ distance_at distances i = elsewhere i other in
+          subst (λ v. IsNumberOf f k i v) (sym is) (s.right.right i (omega arith))
     ]
 
-    pub reached : IsSpreading f (set distances (place_in f q) k) k (next ++ place_in f q ∷ [])
+    pub reached : IsSpreading f (set distances (number_in f q) k) k (next ++ number_in f q ∷ [])
     reached = record {
-      right = record { valid = whole; whole = length-set distances (place_in f q) k ∙ s.right.whole; right = right_now };
-      known = λ r j level below crosses. still (place_in f r) (s.known r j level below crosses);
-      waits = λ r level at. elim (cases_eq (place_in f r) (place_in f q)) [
-        | inl same ↦ subst (Contains (next ++ place_in f q ∷ [])) (sym same) (Contains-append_right next (place_in f q ∷ []) (place_in f q) (single (place_in f q)))
-        | inr other ↦ Contains-append_left next (place_in f q ∷ []) (place_in f r) (s.waits r level (sym (elsewhere (place_in f r) other) ∙ at))
+      right = record { valid = whole; whole = length-set distances (number_in f q) k ∙ s.right.whole; right = right_now };
+      known = λ r j level below crosses. still (number_in f r) (s.known r j level below crosses);
+      waits = λ r level at. elim (cases_eq (number_in f r) (number_in f q)) [
+        | inl same ↦ subst (Contains (next ++ number_in f q ∷ [])) (sym same) (Contains-append_right next (number_in f q ∷ []) (number_in f q) (single (number_in f q)))
+        | inr other ↦ Contains-append_left next (number_in f q ∷ []) (number_in f r) (s.waits r level (sym (elsewhere (number_in f r) other) ∙ at))
       ];
-      members = All-append (λ i. distance_at (set distances (place_in f q) k) i ≡ k) next (place_in f q ∷ [])
+      members = All-append (λ i. distance_at (set distances (number_in f q) k) i ≡ k) next (number_in f q ∷ [])
           (λ i d lt. let at = s.members i d lt in reach_kept (get_or next i d) (omega arith) ∙ at)
-          (all_single (λ i. distance_at (set distances (place_in f q) k) i ≡ k) (place_in f q) now_at);
+          (all_single (λ i. distance_at (set distances (number_in f q) k) i ≡ k) (number_in f q) now_at);
     }
 
-    pub reached_known : distance_at (set distances (place_in f q) k) (place_in f q) < unknown
+    pub reached_known : distance_at (set distances (number_in f q) k) (number_in f q) < unknown
     reached_known = omega (arith, now_at)
 
-    pub reached_count : gaps (set distances (place_in f q) k) + 1 ≡ gaps distances
+    pub reached_count : gaps (set distances (number_in f q) k) + 1 ≡ gaps distances
     reached_count =
-        let total : gaps (set distances (place_in f q) k) + gap (distance_at distances (place_in f q)) ≡ gaps distances + gap k = sum_by-set gap distances (place_in f q) k unknown within in
-        let old : gap (distance_at distances (place_in f q)) ≡ 1 = ap gap new in
+        let total : gaps (set distances (number_in f q) k) + gap (distance_at distances (number_in f q)) ≡ gaps distances + gap k = sum_by-set gap distances (number_in f q) k unknown within in
+        let old : gap (distance_at distances (number_in f q)) ≡ 1 = ap gap new in
         let now : gap k ≡ 0 = ap (λ b. cond b 1 0) (ne_eqb k unknown (omega arith)) in
         omega arith
 
@@ -111,7 +111,7 @@ module _ (f : Levels) (whole : AreLevels f) where
     right = record {
       valid = whole;
       whole = s.right.whole;
-      right = λ g known. let at = s.right.right g known in record { point = at.point; level = at.level; place = at.place; near = omega (arith, at.near); exact = at.exact };
+      right = λ g known. let at = s.right.right g known in record { point = at.point; level = at.level; numbered = at.numbered; near = omega (arith, at.near); exact = at.exact };
     };
     known = λ p i level below crosses. s.known p i level (omega arith) crosses;
     waits = λ p level at. absurd (omega (arith, (right_at distances j p s.right level (omega arith)).0));
@@ -131,20 +131,20 @@ module _ (f : Levels) (whole : AreLevels f) where
       keeps : (g : ℕ) → distance_at old g < unknown → distance_at new g < unknown
       keeps g known = omega (arith, kept g known)
 
-      beyond : (p y : Point) → IsTrue (has_level f p) → IsTrue (adjoins f p y) → level_at f y ≡ level_at f p → CrossesFlat (surface f) (level_at f) y j → distance_at new (place_in f p) < unknown
+      beyond : (p y : Point) → IsTrue (has_level f p) → IsTrue (adjoins f p y) → level_at f y ≡ level_at f p → CrossesFlat (surface f) (level_at f) y j → distance_at new (number_in f p) < unknown
       beyond p y level beside same crosses =
           let y_level = (surface_lawful f).to_ground p y beside in
           let y_known = w.known y j y_level (omega arith) crosses in
           let at = right_at old j y w.right y_level y_known in
-          elim (cases_eq (distance_at old (place_in f y)) j) [
+          elim (cases_eq (distance_at old (number_in f y)) j) [
             | inl here ↦
                 let listed = w.waits y y_level here in
-                spread listed.0 (place_in f y) listed.1 y p (sym listed.2) ((surface_lawful f).both_ways p y beside) (sym same)
+                spread listed.0 (number_in f y) listed.1 y p (sym listed.2) ((surface_lawful f).both_ways p y beside) (sym same)
             | inr other ↦
-                keeps (place_in f p) (w.known p (suc (distance_at old (place_in f y))) level (omega (arith, at.0)) (y, (beside, same, at.1.crosses)))
+                keeps (number_in f p) (w.known p (suc (distance_at old (number_in f y))) level (omega (arith, at.0)) (y, (beside, same, at.1.crosses)))
           ]
 
-      known_now : (p : Point) (i : ℕ) → IsTrue (has_level f p) → i ≤ k → Crosses f p i → distance_at new (place_in f p) < unknown
+      known_now : (p : Point) (i : ℕ) → IsTrue (has_level f p) → i ≤ k → Crosses f p i → distance_at new (number_in f p) < unknown
       known_now p i level below crosses = elim (cases_eq i k) [
         | inl same ↦
             let c : CrossesFlat (surface f) (level_at f) p (suc j) = subst (λ n. CrossesFlat (surface f) (level_at f) p n) (same ∙ sym is) crosses in
@@ -152,14 +152,14 @@ module _ (f : Levels) (whole : AreLevels f) where
         | inr other ↦ s.known p i level (omega arith) crosses
       ]
 
-  -- a look at one place after another for points beside a way out
+  -- a look at one number after another for points beside a way out
   pub reaching_start : (distances : List ℕ) → IsStart f distances → IsReaching f distances [] 0
   reaching_start distances s = record {
     spreading = record {
       right = record {
         valid = whole;
         whole = s.right.whole;
-        right = λ g known. let at = s.right.right g known in record { point = at.point; level = at.level; place = at.place; near = omega (arith, at.near); exact = at.exact };
+        right = λ g known. let at = s.right.right g known in record { point = at.point; level = at.level; numbered = at.numbered; near = omega (arith, at.near); exact = at.exact };
       };
       known = λ p j level below crosses. s.known p level (let zero_j : j ≡ 0 = omega arith in subst (λ i. CrossesFlat (surface f) (level_at f) p i) zero_j crosses);
       waits = λ p level at. absurd (omega (arith, (right_at distances 0 p s.right level (omega arith)).0));
@@ -169,34 +169,34 @@ module _ (f : Levels) (whole : AreLevels f) where
   }
 
   module _ (distances next : List ℕ) (k : ℕ) (s : IsReaching f distances next k) where
-    -- where the point with the next place, if there is one, has its distance or no way out beside it
-    pub reaching_on : ((p q : Point) → place_in f p ≡ k → IsWayOut f distances p q → distance_at distances (place_in f p) < unknown) → IsReaching f distances next (k + 1)
+    -- where the point with the next number, if there is one, has its distance or no way out beside it
+    pub reaching_on : ((p q : Point) → number_in f p ≡ k → IsWayOut f distances p q → distance_at distances (number_in f p) < unknown) → IsReaching f distances next (k + 1)
     reaching_on here = record {
       spreading = s.spreading;
-      reached = λ p q below out. elim (cases_eq (place_in f p) k) [ inl same ↦ here p q same out | inr other ↦ s.reached p q (omega arith) out ];
+      reached = λ p q below out. elim (cases_eq (number_in f p) k) [ inl same ↦ here p q same out | inr other ↦ s.reached p q (omega arith) out ];
     }
 
     -- where it has a way out beside it, and no distance yet
-    module _ (p q : Point) (at : place_in f p ≡ k) (out : IsWayOut f distances p q) (new : distance_at distances (place_in f p) ≡ unknown) where
+    module _ (p q : Point) (at : number_in f p ≡ k) (out : IsWayOut f distances p q) (new : distance_at distances (number_in f p) ≡ unknown) where
       back : IsTrue (adjoins f q p)
       back = (surface_lawful f).both_ways p q out.beside
 
-      reaching_at : IsReaching f (set distances (place_in f p) 1) (next ++ place_in f p ∷ []) (k + 1)
+      reaching_at : IsReaching f (set distances (number_in f p) 1) (next ++ number_in f p ∷ []) (k + 1)
       reaching_at = record {
         spreading = reached distances 1 next s.spreading (omega arith) q p (omega (arith, out.drains)) back (sym out.same_level) new;
-        reached = λ r t below r_out. elim (cases_eq (place_in f r) (place_in f p)) [
-          | inl same ↦ subst (λ g. distance_at (set distances (place_in f p) 1) g < unknown) (sym same)
+        reached = λ r t below r_out. elim (cases_eq (number_in f r) (number_in f p)) [
+          | inl same ↦ subst (λ g. distance_at (set distances (number_in f p) 1) g < unknown) (sym same)
               (reached_known distances 1 next s.spreading (omega arith) q p (omega (arith, out.drains)) back (sym out.same_level) new)
           | inr other ↦
-              let apart : place_in f t ≡ place_in f p → ⊥ = λ same. absurd (omega (arith, r_out.drains, ap (distance_at (set distances (place_in f p) 1)) same, get_or-set_same distances (place_in f p) 1 unknown within_p)) in
-              let old : IsWayOut f distances r t = record { beside = r_out.beside; same_level = r_out.same_level; drains = sym (get_or-set_other distances (place_in f p) (place_in f t) 1 unknown apart) ∙ r_out.drains } in
+              let apart : number_in f t ≡ number_in f p → ⊥ = λ same. absurd (omega (arith, r_out.drains, ap (distance_at (set distances (number_in f p) 1)) same, get_or-set_same distances (number_in f p) 1 unknown within_p)) in
+              let old : IsWayOut f distances r t = record { beside = r_out.beside; same_level = r_out.same_level; drains = sym (get_or-set_other distances (number_in f p) (number_in f t) 1 unknown apart) ∙ r_out.drains } in
               let known = s.reached r t (omega (arith, at)) old in
-              omega (arith, get_or-set_other distances (place_in f p) (place_in f r) 1 unknown other)
+              omega (arith, get_or-set_other distances (number_in f p) (number_in f r) 1 unknown other)
         ];
       }
         where
-          within_p : place_in f p < length distances
-          within_p = subst (λ n. place_in f p < n) (sym s.spreading.right.whole) (level_within f whole p ((surface_lawful f).from_ground p q out.beside))
+          within_p : number_in f p < length distances
+          within_p = subst (λ n. number_in f p < n) (sym s.spreading.right.whole) (level_within f whole p ((surface_lawful f).from_ground p q out.beside))
 
       pub reaching_more : IsReaching f (set distances k 1) (next ++ k ∷ []) (k + 1)
       reaching_more = subst (λ g. IsReaching f (set distances g 1) (next ++ g ∷ []) (k + 1)) at reaching_at
@@ -213,7 +213,7 @@ module _ (f : Levels) (whole : AreLevels f) where
     members = s.spreading.members;
   }
     where
-      known_now : (p : Point) (i : ℕ) → IsTrue (has_level f p) → i ≤ 1 → CrossesFlat (surface f) (level_at f) p i → distance_at distances (place_in f p) < unknown
+      known_now : (p : Point) (i : ℕ) → IsTrue (has_level f p) → i ≤ 1 → CrossesFlat (surface f) (level_at f) p i → distance_at distances (number_in f p) < unknown
       known_now p zero level below crosses = s.spreading.known p zero level (omega arith) crosses
       known_now p (suc i) level below crosses =
           let y = crosses.0 in
@@ -232,16 +232,16 @@ module _ (f : Levels) (whole : AreLevels f) where
     all = λ p j level crosses. reaches j p level crosses;
   }
     where
-      reaches : (j : ℕ) (p : Point) → IsTrue (has_level f p) → Crosses f p j → distance_at distances (place_in f p) < unknown
+      reaches : (j : ℕ) (p : Point) → IsTrue (has_level f p) → Crosses f p j → distance_at distances (number_in f p) < unknown
       reaches zero p level crosses = w.known p zero level (omega arith) crosses
       reaches (suc j) p level crosses =
           let y = crosses.0 in
           let y_level = (surface_lawful f).to_ground p y crosses.1.0 in
           let y_known = reaches j y y_level crosses.1.2 in
           let at = right_at distances k y w.right y_level y_known in
-          elim (cases_eq (distance_at distances (place_in f y)) k) [
+          elim (cases_eq (distance_at distances (number_in f y)) k) [
             | inl here ↦ absurd (omega (arith, (w.waits y y_level here).1))
-            | inr other ↦ w.known p (suc (distance_at distances (place_in f y))) level (omega (arith, at.0)) (y, (crosses.1.0, crosses.1.1, at.1.crosses))
+            | inr other ↦ w.known p (suc (distance_at distances (number_in f y))) level (omega (arith, at.0)) (y, (crosses.1.0, crosses.1.1, at.1.crosses))
           ]
 
 -- no more distances are unknown than there are

@@ -5,10 +5,10 @@ use Rattle.lattice.specs.declared.direction.Dir.{Dir}
 use Rattle.lattice.specs.Steps.{step, order_of, slope_of}
 use Rattle.flow_d8.specs.declared.downhill.Descent.{Descent}
 use Rattle.flow_d8.specs.Drainage.{IsLower, drop_by}
-use Rattle.flow_d8.specs.Levels.{Levels}
+use Rattle.flow_d8.specs.Filled.{Filled}
 use Rattle.flow_d8.specs.Surface.{level_at, surface}
 
-module _ (f : Levels) (p : Point) where
+module _ (f : Filled) (p : Point) where
   -- a step in this direction leads down
   abbrev pub LeadsDown : Dir → Type 0
   LeadsDown d = IsLower (surface f) (level_at f) p (step d p)

@@ -2,8 +2,8 @@ pub mod Drainage
 pub mod FlowPath
 pub mod Grid
 pub mod DrainageLaws
-pub mod Levels
+pub mod Filled
 pub mod Surface
 pub mod Descents
 pub mod Crossing
-pub mod Drained
+pub mod Directions

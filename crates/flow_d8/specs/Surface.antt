@@ -7,14 +7,14 @@ use Rattle.lattice.specs.Steps.{step, directions}
 use Rattle.lattice.specs.Terrain.{Terrain}
 use Rattle.lattice.specs.Mosaic.{void, is_void}
 use Rattle.lattice.specs.Ground.{same_point, is_near}
-use Rattle.flow_d8.specs.Levels.{Levels, is_holder, place_of}
+use Rattle.flow_d8.specs.Filled.{Filled, is_holder, number_of}
 
-module _ (f : Levels) where
-  abbrev pub place_in : Point → ℕ
-  place_in p = place_of f.side f.corners p
+module _ (f : Filled) where
+  abbrev pub number_in : Point → ℕ
+  number_in p = number_of f.side f.corners p
 
   unfoldable pub level_at : Point → ℤ
-  level_at p = slice_index_or f.levels (place_in p) void
+  level_at p = slice_index_or f.levels (number_in p) void
 
   unfoldable pub has_level : Point → Bool
   has_level p = not (is_void (level_at p))
@@ -33,9 +33,9 @@ module _ (f : Levels) where
   abbrev pub surface : Terrain Point
   surface = record { is_ground = has_level; height = level_at; is_adjacent = adjoins; is_outlet = leads_off }
 
-  -- the place of the adjacent point in this direction, if there is one
+  -- the number of the adjacent point in this direction, if there is one
   unfoldable pub beside_of : Point → Dir → Option ℕ
-  beside_of p d = if adjoins p (step d p) then Some (place_in (step d p)) else None
+  beside_of p d = if adjoins p (step d p) then Some (number_in (step d p)) else None
 
   abbrev pub around_of : Point → List (Option ℕ)
   around_of p = map (beside_of p) directions

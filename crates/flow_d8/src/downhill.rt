@@ -3,7 +3,7 @@ ghost use Rattle.std.specs.Prelude.{◌≡◌, ◌≤◌, ◌<◌, ◌+◌, ◌-
 ghost use Rattle.lattice.specs.Steps.{step, order_of};
 ghost use Rattle.lattice.specs.Mosaic.{void};
 ghost use Rattle.flow_d8.specs.Drainage.{HasLower, IsSteepest};
-ghost use Rattle.flow_d8.specs.Surface.{place_in, level_at, has_level, beside_of, around_of, surface};
+ghost use Rattle.flow_d8.specs.Surface.{number_in, level_at, has_level, beside_of, around_of, surface};
 ghost use Rattle.flow_d8.specs.Descents.{LeadsDown, drop_in, IsBestOf};
 
 use crate::filled::Filled;
@@ -24,7 +24,7 @@ pub(crate) fn steepest(
     around: &[Option<usize>; 8],
 ) -> Option<Dir>
     requires level { IsTrue (has_level filled.now point) }
-    requires place { place_in filled.now point ≡ number }
+    requires numbered { number_in filled.now point ≡ number }
     requires around { around.now ≡ around_of filled.now point }
     ensures { MatchOption result (HasLower (surface filled.now) (level_at filled.now) point → ⊥) (λ d. IsSteepest (surface filled.now) (level_at filled.now) point d) }
 {
@@ -48,7 +48,7 @@ fn better(
     beside: Option<usize>,
 ) -> Option<Descent>
     requires level { IsTrue (has_level filled.now point) }
-    requires place { place_in filled.now point ≡ number }
+    requires numbered { number_in filled.now point ≡ number }
     requires beside { beside ≡ beside_of filled.now point direction }
     requires best { IsBestOf filled.now point (order_of direction) best }
     ensures { IsBestOf filled.now point (order_of direction + 1) result }
@@ -75,7 +75,7 @@ fn drop_to(
     beside: Option<usize>,
 ) -> Option<u32>
     requires level { IsTrue (has_level filled.now point) }
-    requires place { place_in filled.now point ≡ number }
+    requires numbered { number_in filled.now point ≡ number }
     requires beside { beside ≡ beside_of filled.now point direction }
     ensures { MatchOption result (LeadsDown filled.now point direction → ⊥) (λ drop. LeadsDown filled.now point direction × (drop ≡ drop_in filled.now point direction) × (drop ≤ 65534)) }
 {
@@ -84,7 +84,7 @@ fn drop_to(
     fall(at(levels, number), at(levels, other))
 }
 
-// The level at a place.
+// The level at a number.
 fn at(levels: &[i16], number: usize) -> i16
     requires { number < length levels.now }
     ensures { result ≡ slice_index_or levels.now number void }

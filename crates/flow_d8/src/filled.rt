@@ -5,18 +5,12 @@ ghost use Rattle.lattice.specs.Corners.{is_before};
 ghost use Rattle.lattice.specs.Lattice.{IsBefore};
 ghost use Rattle.lattice.specs.Mosaic.{void, is_void};
 ghost use Rattle.lattice.specs.declared.point.Point.{Point};
-ghost use Rattle.flow_d8.specs.Levels.{AreLevels, is_held, is_deep};
-ghost use Rattle.flow_d8.specs.Surface.{place_in, has_level, beside_of, around_of};
+ghost use Rattle.flow_d8.specs.Filled.{AreLevels, is_held, is_deep};
+ghost use Rattle.flow_d8.specs.Surface.{number_in, has_level, beside_of, around_of};
 
-use crate::place::{place, share_tile, stepped};
-use lattice::{Corner, Dir, Point, Side, point_at};
+use crate::numbering::{number_of, share_tile};
+use lattice::{Corner, Dir, MOST_TILES, Point, Side, VOID, neighbour, point_at};
 use std::marker::Model;
-
-// The most tiles that a store has room for.
-const MOST_TILES: usize = 240;
-
-// The level of a point that has none.
-const VOID: i16 = i16::MIN;
 
 /// The filled levels of all present tiles, from which directions are found.
 #[derive(Drop)]
@@ -27,9 +21,9 @@ pub struct Filled {
 }
 
 impl Model for Filled {
-    ghost use Rattle.flow_d8.specs.Levels.{Levels, AreLevels};
+    ghost use Rattle.flow_d8.specs.Filled.{Filled, AreLevels};
 
-    ghost Value = { Levels };
+    ghost Value = { Filled };
 
     ghost view = { λ f. record { side = f.side; corners = f.corners.items; levels = f.levels.items } };
 
@@ -43,7 +37,7 @@ impl Filled {
     pub fn new(side: Side, corners: Vec<Corner>, levels: Vec<i16>) -> Option<Filled>
         ensures { SomeIff result (AreLevels (record { side = side; corners = corners.items; levels = levels.items })) (record { side = side; corners = corners.items; levels = levels.items }) }
     {
-        if corners.len() <= MOST_TILES
+        if corners.len() <= MOST_TILES as usize
             && are_rising(&corners)
             && levels.len() == corners.len() * side.area() as usize
         {
@@ -81,12 +75,12 @@ impl Filled {
         &self.levels
     }
 
-    /// The point with a level that has this place, if there is one: a point that several tiles hold has its place in
+    /// The point with a level that has this number, if there is one: a point that several tiles hold has its number in
     /// the first of them.
     #[inline(always)]
     pub(crate) fn site(&self, number: usize) -> Option<Point>
         requires { number < length self.now.levels }
-        ensures { MatchOption result ((p : Point) → IsTrue (has_level self.now p) → place_in self.now p ≡ number → ⊥) (λ p. IsTrue (has_level self.now p) × (place_in self.now p ≡ number)) }
+        ensures { MatchOption result ((p : Point) → IsTrue (has_level self.now p) → number_in self.now p ≡ number → ⊥) (λ p. IsTrue (has_level self.now p) × (number_in self.now p ≡ number)) }
     {
         if !is_level(self.levels(), number) {
             return None;
@@ -95,26 +89,26 @@ impl Filled {
         if lies_deep(self.side(), number) {
             return Some(point);
         }
-        let first = place(self.side(), self.corners(), point)?;
+        let first = number_of(self.side(), self.corners(), point)?;
         if first == number { Some(point) } else { None }
     }
 
     // The point of a sample. Where the sample lies deep in its tile, no other tile holds the point.
     fn point(&self, number: usize) -> Point
         requires { number < length self.now.levels }
-        ensures first { (p : Point) → IsTrue (is_held self.now.side self.now.corners p) → place_in self.now p ≡ number → result ≡ p }
-        ensures deep { is_deep self.now.side (number % (self.now.side * self.now.side)) ≡ true → place_in self.now result ≡ number }
+        ensures first { (p : Point) → IsTrue (is_held self.now.side self.now.corners p) → number_in self.now p ≡ number → result ≡ p }
+        ensures deep { is_deep self.now.side (number % (self.now.side * self.now.side)) ≡ true → number_in self.now result ≡ number }
     {
         let area = self.side().area() as usize;
         let corners = self.corners();
         point_at(self.side(), corners[number / area], (number % area) as u32)
     }
 
-    /// The places of the points that are adjacent to the one with this place, by direction in the order of codes.
+    /// The numbers of the points that are adjacent to the one with this number, by direction in the order of codes.
     #[inline(always)]
     pub(crate) fn around(&self, point: Point, number: usize) -> [Option<usize>; 8]
         requires level { IsTrue (has_level self.now point) }
-        requires place { place_in self.now point ≡ number }
+        requires numbered { number_in self.now point ≡ number }
         ensures { result ≡ around_of self.now point }
     {
         if lies_deep(self.side(), number) {
@@ -127,27 +121,27 @@ impl Filled {
     // The same for a point that isn't near the edges of its tile: all around it lies inside that tile alone.
     #[inline(always)]
     fn around_inside(&self, number: usize) -> [Option<usize>; 8]
-        requires site { (p : Point) × (IsTrue (has_level self.now p) × (place_in self.now p ≡ number)) }
+        requires site { (p : Point) × (IsTrue (has_level self.now p) × (number_in self.now p ≡ number)) }
         requires deep { is_deep self.now.side (number % (self.now.side * self.now.side)) ≡ true }
-        ensures { (p : Point) → IsTrue (has_level self.now p) → place_in self.now p ≡ number → result ≡ around_of self.now p }
+        ensures { (p : Point) → IsTrue (has_level self.now p) → number_in self.now p ≡ number → result ≡ around_of self.now p }
     {
         let levels = self.levels();
         let n = self.row_length(number);
         [
-            level_place(levels, number + 1),
-            level_place(levels, number + n + 1),
-            level_place(levels, number + n),
-            level_place(levels, number + n - 1),
-            level_place(levels, number - 1),
-            level_place(levels, number - n - 1),
-            level_place(levels, number - n),
-            level_place(levels, number - n + 1),
+            number_with_level(levels, number + 1),
+            number_with_level(levels, number + n + 1),
+            number_with_level(levels, number + n),
+            number_with_level(levels, number + n - 1),
+            number_with_level(levels, number - 1),
+            number_with_level(levels, number - n - 1),
+            number_with_level(levels, number - n),
+            number_with_level(levels, number - n + 1),
         ]
     }
 
     // The samples of a row. As many lie before such a point, and after it, and one more.
     fn row_length(&self, number: usize) -> usize
-        requires site { (p : Point) × (IsTrue (has_level self.now p) × (place_in self.now p ≡ number)) }
+        requires site { (p : Point) × (IsTrue (has_level self.now p) × (number_in self.now p ≡ number)) }
         requires deep { is_deep self.now.side (number % (self.now.side * self.now.side)) ≡ true }
         ensures value { result ≡ self.now.side }
         ensures before { result + 1 ≤ number }
@@ -174,17 +168,17 @@ impl Filled {
         ]
     }
 
-    // The place of the adjacent point in this direction, if there is one.
+    // The number of the adjacent point in this direction, if there is one.
     fn beside(&self, point: Point, direction: Dir) -> Option<usize>
         requires { IsTrue (has_level self.now point) }
         ensures { result ≡ beside_of self.now point direction }
     {
         let levels = self.levels();
-        let to = stepped(point, direction)?;
+        let to = neighbour(point, direction)?;
         if !share_tile(self.side(), self.corners(), point, to) {
             return None;
         }
-        let number = place(self.side(), self.corners(), to)?;
+        let number = number_of(self.side(), self.corners(), to)?;
         if is_level(levels, number) {
             Some(number)
         } else {
@@ -206,8 +200,8 @@ pub(crate) fn lies_deep(side: Side, number: usize) -> bool
     2 <= row && row + 3 <= n && 2 <= column && column + 3 <= n
 }
 
-// The place, where its point has a level.
-fn level_place(levels: &[i16], number: usize) -> Option<usize>
+// The number, where its point has a level.
+fn number_with_level(levels: &[i16], number: usize) -> Option<usize>
     requires { number < length levels.now }
     ensures { result ≡ (if not (is_void (slice_index_or levels.now number void)) then Some number else None) }
 {

@@ -6,30 +6,32 @@ ghost use Rattle.lattice.specs.declared.refusal.Refusal.TheVariants.{NoMemory, D
 ghost use Rattle.lattice.specs.Mosaic.{Mosaic, IsMosaic};
 ghost use Rattle.lattice.specs.Ground.{terrain};
 ghost use Rattle.flow_d8.specs.Drainage.{AreFilledLevels};
-ghost use Rattle.flow_d8.specs.Levels.{IsFilledOf, IsOfNoMosaic};
-ghost use Rattle.flow_d8.specs.Surface.{place_in, has_level};
+ghost use Rattle.flow_d8.specs.Filled.{IsFilledOf, IsOfNoMosaic};
+ghost use Rattle.flow_d8.specs.Surface.{number_in, has_level};
 ghost use Rattle.flow_d8.specs.Crossing.{unknown, distance_at, IsStart, IsBegun, IsFinishing, AreDownhill, AreDistances, AreDrained};
-ghost use Rattle.flow_d8.specs.Drained.{AreDirectionsOf};
+ghost use Rattle.flow_d8.specs.Directions.{AreDirectionsOf};
 
+use crate::directions::Directions;
 use crate::downhill::steepest;
-use crate::drained::Directions;
 use crate::filled::Filled;
 use crate::flats::{UNKNOWN, cross, nearer};
 use lattice::{Dir, Refusal};
 use std::alloc::Global;
 
-/// The directions of all ground points, from their filled levels. Damaged where the levels aren't the filled levels of
-/// any mosaic; the other refusal is NoMemory.
-pub fn directions(alloc: Global, filled: &Filled) -> Result<Directions, Refusal>
-    ensures found { IfOk result (λ d. (m : Mosaic) (level : Point → ℤ) → IsMosaic m → AreFilledLevels (terrain m) level → IsFilledOf m filled.now → AreDirectionsOf m level d) }
-    ensures refusal { IfErr result (λ r. (r ≡ NoMemory) ⊎ ((r ≡ Damaged) × IsOfNoMosaic filled.now)) }
-{
-    let count = filled.levels().len();
-    let corners = Vec::from_slice(alloc, filled.corners())?;
-    let mut drains = vec![in alloc; None; count]?;
-    let mut distances = vec![in alloc; UNKNOWN; count]?;
-    drain(alloc, filled, &mut drains, &mut distances)?;
-    Ok(Directions::new(filled.side(), corners, drains, distances))
+impl Filled {
+    /// The directions of all ground points, from their filled levels. Damaged where the levels aren't the filled levels
+    /// of any mosaic; the other refusal is NoMemory.
+    pub fn directions(&self, alloc: Global) -> Result<Directions, Refusal>
+        ensures found { IfOk result (λ d. (m : Mosaic) (level : Point → ℤ) → IsMosaic m → AreFilledLevels (terrain m) level → IsFilledOf m self.now → AreDirectionsOf m level d) }
+        ensures refusal { IfErr result (λ r. (r ≡ NoMemory) ⊎ ((r ≡ Damaged) × IsOfNoMosaic self.now)) }
+    {
+        let count = self.levels().len();
+        let corners = Vec::from_slice(alloc, self.corners())?;
+        let mut drains = vec![in alloc; None; count]?;
+        let mut distances = vec![in alloc; UNKNOWN; count]?;
+        drain(alloc, self, &mut drains, &mut distances)?;
+        Ok(Directions::new(self.side(), corners, drains, distances))
+    }
 }
 
 // Drains each point, and gives it its flat distance.
@@ -45,7 +47,7 @@ fn drain(
     requires no_distances { (g : ℕ) → distance_at distances.old g ≡ unknown }
     ensures drained { OnOk result (AreDrained filled.now drains.new) }
     ensures distances { OnOk result (AreDistances filled.now distances.new) }
-    ensures known { OnOk result ((p : Point) → IsTrue (has_level filled.now p) → distance_at distances.new (place_in filled.now p) < unknown) }
+    ensures known { OnOk result ((p : Point) → IsTrue (has_level filled.now p) → distance_at distances.new (number_in filled.now p) < unknown) }
     ensures refusal { IfErr result (λ r. (r ≡ NoMemory) ⊎ ((r ≡ Damaged) × IsOfNoMosaic filled.now)) }
 {
     drain_downhill(filled, drains, distances);
@@ -69,7 +71,7 @@ fn drain_downhill(filled: &Filled, drains: &mut [Option<Dir>], distances: &mut [
     }
 }
 
-// Drains the point with this place, if there is one and it has a lower one beside it. It gets the distance 0 then, as an
+// Drains the point with this number, if there is one and it has a lower one beside it. It gets the distance 0 then, as an
 // outlet does.
 fn begin(filled: &Filled, drains: &mut [Option<Dir>], distances: &mut [u32], number: usize)
     requires state { IsBegun filled.now drains.old distances.old number }
@@ -105,7 +107,7 @@ fn drain_flats(
     requires downhill { AreDownhill filled.now drains.old }
     requires distances { AreDistances filled.now distances.now }
     ensures drained { OnOk result (AreDrained filled.now drains.new) }
-    ensures known { OnOk result ((p : Point) → IsTrue (has_level filled.now p) → distance_at distances.now (place_in filled.now p) < unknown) }
+    ensures known { OnOk result ((p : Point) → IsTrue (has_level filled.now p) → distance_at distances.now (number_in filled.now p) < unknown) }
     ensures damaged { IfErr result (λ r. (r ≡ Damaged) × IsOfNoMosaic filled.now) }
 {
     let count = filled.levels().len();
@@ -115,7 +117,7 @@ fn drain_flats(
     Ok(())
 }
 
-// Drains the point with this place, if there is one and it lies on a flat.
+// Drains the point with this number, if there is one and it lies on a flat.
 fn finish(
     filled: &Filled,
     drains: &mut [Option<Dir>],

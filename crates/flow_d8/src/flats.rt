@@ -4,7 +4,7 @@ ghost use Rattle.lattice.specs.Steps.{step, order_of};
 ghost use Rattle.lattice.specs.declared.direction.Dir.{Dir};
 ghost use Rattle.lattice.specs.declared.point.Point.{Point};
 ghost use Rattle.flow_d8.specs.Drainage.{IsFirstNearer, IsNearer, IsFlatDistance};
-ghost use Rattle.flow_d8.specs.Surface.{place_in, level_at, has_level, adjoins, beside_of, surface};
+ghost use Rattle.flow_d8.specs.Surface.{number_in, level_at, has_level, adjoins, beside_of, surface};
 ghost use Rattle.flow_d8.specs.Crossing.{unknown, distance_at, gaps, AreKept, IsStart, IsWave, IsWayOut, IsReaching, IsSpreading, IsSpread, AreDistances};
 
 use crate::filled::{Filled, same_level};
@@ -45,7 +45,7 @@ fn first_wave(alloc: Global, filled: &Filled, distances: &mut [u32]) -> Result<V
     Ok(wave)
 }
 
-// Gives the point with this place the distance 1, if there is one that has no distance and lies beside a way out.
+// Gives the point with this number the distance 1, if there is one that has no distance and lies beside a way out.
 fn reach(
     filled: &Filled,
     distances: &mut [u32],
@@ -76,7 +76,7 @@ fn reach(
 fn has_way_out(filled: &Filled, distances: &[u32], point: Point, number: usize) -> bool
     requires whole { length distances.now ≡ length filled.now.levels }
     requires level { IsTrue (has_level filled.now point) }
-    requires place { place_in filled.now point ≡ number }
+    requires numbered { number_in filled.now point ≡ number }
     ensures { IsTrue result ↔ ((d : Dir) × IsWayOut filled.now distances.now point (step d point)) }
 {
     let around = filled.around(point, number);
@@ -99,7 +99,7 @@ fn is_way_out(
 ) -> bool
     requires whole { length distances.now ≡ length filled.now.levels }
     requires level { IsTrue (has_level filled.now point) }
-    requires place { place_in filled.now point ≡ number }
+    requires numbered { number_in filled.now point ≡ number }
     requires beside { beside ≡ beside_of filled.now point direction }
     ensures { IsTrue result ↔ IsWayOut filled.now distances.now point (step direction point) }
 {
@@ -181,12 +181,12 @@ fn visit(
     requires small { distance < unknown }
     requires state { IsSpreading filled.now distances.old distance next.old.items }
     requires level { IsTrue (has_level filled.now point) }
-    requires place { place_in filled.now point ≡ number }
+    requires numbered { number_in filled.now point ≡ number }
     requires from { distance_at distances.old number + 1 ≡ distance }
     requires beside { beside ≡ beside_of filled.now point direction }
     ensures state { OnOk result (IsSpreading filled.now distances.new distance next.new.items) }
     ensures kept { OnOk result (AreKept distances.old distances.new) }
-    ensures visited { OnOk result (IsTrue (adjoins filled.now point (step direction point)) → level_at filled.now (step direction point) ≡ level_at filled.now point → distance_at distances.new (place_in filled.now (step direction point)) < unknown) }
+    ensures visited { OnOk result (IsTrue (adjoins filled.now point (step direction point)) → level_at filled.now (step direction point) ≡ level_at filled.now point → distance_at distances.new (number_in filled.now (step direction point)) < unknown) }
     ensures count { OnOk result (gaps distances.new + length next.new.items ≡ gaps distances.old + length next.old.items) }
 {
     let Some(other) = beside else {
@@ -209,7 +209,7 @@ pub(crate) fn nearer(
     distance: u32,
 ) -> Option<Dir>
     requires level { IsTrue (has_level filled.now point) }
-    requires place { place_in filled.now point ≡ number }
+    requires numbered { number_in filled.now point ≡ number }
     requires distances { AreDistances filled.now distances.now }
     requires distance { distance_at distances.now number ≡ distance }
     requires known { distance < unknown }
@@ -244,7 +244,7 @@ fn is_nearer(
     distance: u32,
 ) -> bool
     requires level { IsTrue (has_level filled.now point) }
-    requires place { place_in filled.now point ≡ number }
+    requires numbered { number_in filled.now point ≡ number }
     requires distances { AreDistances filled.now distances.now }
     requires distance { distance_at distances.now number ≡ distance }
     requires known { distance < unknown }

@@ -2,20 +2,22 @@
 //! 1984).
 //!
 //! The layer above rests on this: each ground point of a mosaic has exactly one direction and one flow path, and from
-//! the mosaic's filled levels `directions` finds them.
+//! the mosaic's filled levels `Filled::directions` finds them.
 #![tactic(auto)]
 
+mod directions;
 mod downhill;
-mod drained;
 mod filled;
 mod finding;
 mod flats;
 mod laws;
-mod place;
+mod numbering;
 #[cfg(test)]
 mod tests;
 
-pub use drained::Directions;
+pub use directions::Directions;
 pub use filled::Filled;
-pub use finding::directions;
-pub use laws::{directions_are_unique, flat_distances_are_unique, flow_paths_are_unique};
+pub use laws::{
+    directions_are_unique, flat_distances_are_unique, flow_paths_are_unique,
+    watersheds_follow_flow_paths,
+};

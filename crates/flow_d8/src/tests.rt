@@ -1,20 +1,20 @@
-use crate::{Directions, Filled, directions};
+use crate::{Directions, Filled};
 use lattice::{Corner, Dir, Point, Refusal, Side};
 use std::alloc::Global;
 
 const VOID: i16 = i16::MIN;
 
 fn filled(alloc: Global, side: u32, corners: &[(i16, i16)], levels: &[i16]) -> Option<Filled> {
-    let mut places = Vec::new(alloc);
+    let mut tiles = Vec::new(alloc);
     for (lat, lon) in corners {
-        places.push(Corner::new(*lat, *lon)?).ok()?;
+        tiles.push(Corner::new(*lat, *lon)?).ok()?;
     }
     let levels = Vec::from_slice(alloc, levels).ok()?;
-    Filled::new(Side::new(side)?, places, levels)
+    Filled::new(Side::new(side)?, tiles, levels)
 }
 
 fn found(alloc: Global, corners: &[(i16, i16)], levels: &[i16]) -> Option<Directions> {
-    directions(alloc, &filled(alloc, 3, corners, levels)?).ok()
+    filled(alloc, 3, corners, levels)?.directions(alloc).ok()
 }
 
 fn at(y: i32, x: i32) -> Point {
@@ -117,7 +117,7 @@ fn water_leaves_beside_a_void(rt: HostRuntime) {
         9, 9, 9, 9, 9, 9, 5, VOID, 9, 9, 9, 9, 9, 3, 9, 9, 9, 3, 9, 9, 9, 9, 9, 9, 9,
     ];
     let levels = filled(rt.alloc(), 5, &[(0, 0)], &levels).expect(&rt, "levels");
-    let drained = directions(rt.alloc(), &levels).expect(&rt, "directions");
+    let drained = levels.directions(rt.alloc()).expect(&rt, "directions");
     assert_eq!(rt; drained.direction(at(1, 2)), Some(Dir::NorthEast));
     assert_eq!(rt; drained.direction(at(2, 3)), None);
     assert_eq!(rt; drained.direction(at(3, 1)), None);
@@ -128,10 +128,7 @@ fn levels_that_lead_nowhere_are_damaged(rt: HostRuntime) {
     let levels = filled(rt.alloc(), 3, &[(0, 0)], &[9, 9, 9, 9, 1, 9, 9, 9, 5]).expect(
         &rt, "levels",
     );
-    assert_eq!(rt;
-        directions(rt.alloc(), &levels).err(),
-        Some(Refusal::Damaged)
-    );
+    assert_eq!(rt; levels.directions(rt.alloc()).err(), Some(Refusal::Damaged));
 }
 
 #[test]

@@ -6,7 +6,7 @@ use Rattle.lattice.specs.declared.point.Point.{Point}
 use Rattle.lattice.specs.Mosaic.{Mosaic, IsMosaic}
 use Rattle.lattice.specs.Ground.{is_ground, terrain}
 use Rattle.flow_d8.specs.FlowPath.{IsInWatershed}
-use Rattle.flow_d8.specs.Drained.{Drained, AreDirectionsOf}
+use Rattle.flow_d8.specs.Directions.{Directions, AreDirectionsOf}
 use Rattle.watershed.specs.declared.runs.Run.{Run}
 use Rattle.watershed.specs.Runs.{AreRuns}
 use Rattle.watershed.specs.Search.{AreUpstream}
@@ -22,7 +22,7 @@ empty_runs inside (r ∷ rest) are none =
     let start : Point = record { y = r.y; x = r.first } in
     absurd (none start ((are.covers start).0 (0, r, omega arith, refl, (refl, (≤ℤ_same r.first, are.full 0 r (omega arith))))))
 
-module _ (m : Mosaic) (level : Point → ℤ) (d : Drained) (is : IsMosaic m) (dirs : AreDirectionsOf m level d) (p : Point) (found sorted : List Point) (runs : List Run)
+module _ (m : Mosaic) (level : Point → ℤ) (d : Directions) (is : IsMosaic m) (dirs : AreDirectionsOf m level d) (p : Point) (found sorted : List Point) (runs : List Run)
     (up : AreUpstream d p found) (same : (x : Point) → Contains sorted x ↔ Contains found x) (are : AreRuns (Contains sorted) runs) where
   pub watershed_runs : AreRuns (IsInWatershed (terrain m) level p) runs
   watershed_runs = record {

@@ -10,12 +10,12 @@ use Rattle.lattice.specs.Steps.{step}
 use Rattle.lattice.specs.Mosaic.{Mosaic, IsMosaic}
 use Rattle.lattice.specs.Ground.{is_ground, terrain}
 use Rattle.flow_d8.specs.FlowPath.{FlowsTo, IsInWatershed}
-use Rattle.flow_d8.specs.Drained.{Drained, DrainsTo, AreDirectionsOf, direction_in, distance_in}
+use Rattle.flow_d8.specs.Directions.{Directions, DrainsTo, AreDirectionsOf, direction_in, distance_in}
 use Rattle.flow_d8.proofs.Unique.{one_direction}
 use Rattle.flow_d8.proofs.Tracing.{drains_to_ground}
 use Rattle.watershed.specs.Search.{LeadsTo, AreFeeders, AreUpstream}
 
-module _ (d : Drained) where
+module _ (d : Directions) where
   -- the points found so far; what drains straight to the first `done` of them is found
   pub record IsSearching (p : Point) (found : List Point) (done : ℕ) : Type 0 where
     pub lead : All (λ x. (k : ℕ) × LeadsTo d x k p) found
@@ -56,7 +56,7 @@ module _ (d : Drained) where
 no_some : {A : Type 0} (a : A) → ◌≡◌ {A = Option A} None (Some a) → ⊥
 no_some a e = cc
 
-module _ (m : Mosaic) (level : Point → ℤ) (d : Drained) (is : IsMosaic m) (are : AreDirectionsOf m level d) where
+module _ (m : Mosaic) (level : Point → ℤ) (d : Directions) (is : IsMosaic m) (are : AreDirectionsOf m level d) where
   -- a point with a direction or a distance is ground
   pub known_ground : (p : Point) → IsTrue (is_some (distance_in d p)) → IsTrue (is_ground m p)
   known_ground p known = elim (cases_Bool (is_ground m p)) [

@@ -3,9 +3,9 @@ use Rattle.std.specs.Prelude.{◌≡◌, ◌↔◌, ℕ, zero, suc, IsTrue, IsFa
 use Rattle.lattice.specs.declared.point.Point.{Point}
 use Rattle.lattice.specs.declared.direction.Dir.{Dir}
 use Rattle.lattice.specs.Steps.{step}
-use Rattle.flow_d8.specs.Drained.{Drained, DrainsTo, direction_in, distance_in}
+use Rattle.flow_d8.specs.Directions.{Directions, DrainsTo, direction_in, distance_in}
 
-module _ (d : Drained) where
+module _ (d : Directions) where
   -- so many such steps lead from x to p
   abbrev pub LeadsTo : Point → ℕ → Point → Type 0
   LeadsTo x zero p = x ≡ p

@@ -5,7 +5,7 @@ ghost use Rattle.lattice.specs.declared.refusal.Refusal.TheVariants.{NoMemory};
 ghost use Rattle.lattice.specs.Mosaic.{Mosaic, IsMosaic};
 ghost use Rattle.lattice.specs.Ground.{is_ground, terrain};
 ghost use Rattle.flow_d8.specs.FlowPath.{IsInWatershed};
-ghost use Rattle.flow_d8.specs.Drained.{AreDirectionsOf};
+ghost use Rattle.flow_d8.specs.Directions.{AreDirectionsOf};
 ghost use Rattle.watershed.specs.Runs.{AreRuns};
 ghost use Rattle.watershed.specs.Search.{AreFeeders, AreUpstream};
 

@@ -1,5 +1,5 @@
 use crate::{Run, watershed};
-use flow_d8::{Filled, directions};
+use flow_d8::Filled;
 use lattice::{Corner, Point, Side};
 use std::alloc::Global;
 
@@ -13,13 +13,13 @@ fn drained(
     y: i32,
     x: i32,
 ) -> Option<Vec<Run>> {
-    let mut places = Vec::new(alloc);
+    let mut tiles = Vec::new(alloc);
     for (lat, lon) in corners {
-        places.push(Corner::new(*lat, *lon)?).ok()?;
+        tiles.push(Corner::new(*lat, *lon)?).ok()?;
     }
     let levels = Vec::from_slice(alloc, levels).ok()?;
-    let filled = Filled::new(Side::new(3)?, places, levels)?;
-    let directions = directions(alloc, &filled).ok()?;
+    let filled = Filled::new(Side::new(3)?, tiles, levels)?;
+    let directions = filled.directions(alloc).ok()?;
     watershed(alloc, &directions, Point { y, x }).ok()
 }
 

@@ -1,6 +1,6 @@
 use Rattle.std.proofs.Common.{ℕ, refl, ◌∙◌, ap, Err}
 use Rattle.std.proofs.lemmas.Result.{err_from_is_err_and}
-use Rattle.flow_d8.specs.Drained.{direction_in}
+use Rattle.flow_d8.specs.Directions.{direction_in}
 use Rattle.watershed.specs.Questions.{code_by}
 use Rattle.drainage.proofs.Sealing.{read_then}
 use Rattle.drainage.proofs.draining.direction.Goals as goal

@@ -2,7 +2,7 @@ use Rattle.std.proofs.Common.{◌≤◌, sym, ◌∙◌, subst, length, List}
 use Rattle.std.proofs.lemmas.Result.{IfOk-weaker}
 use Rattle.lattice.specs.Corners.{Corner}
 use Rattle.lattice.specs.Mosaic.{Mosaic, IsMosaic}
-use Rattle.flow_d8.specs.Levels.{IsFilledOf}
+use Rattle.flow_d8.specs.Filled.{IsFilledOf}
 use Rattle.catalogue.specs.Sealed.{IsSealed}
 use Rattle.drainage.proofs.Levels.{are_levels, is_filled}
 use Rattle.drainage.proofs.Refused.{only_memory}

@@ -15,7 +15,7 @@ returns-in_err-other c =
     (no_fall c.args.filled.now c.args.point c.args.direction (sym c.requires.beside ∙ c.in_err-other.was))
 
 pub at-requires : goal.at-requires
-at-requires c = read_within c.args.filled.now c.levels-levels.ensures.valid c.levels-levels.result.now c.levels-levels.ensures.value c.args.point c.args.number (sym c.requires.place) c.requires.level
+at-requires c = read_within c.args.filled.now c.levels-levels.ensures.valid c.levels-levels.result.now c.levels-levels.ensures.value c.args.point c.args.number (sym c.requires.numbered) c.requires.level
 
 pub at-requires-2 : goal.at-requires-2
 at-requires-2 c =
@@ -42,7 +42,7 @@ returns c =
     let fits : SFits w16 c.at.result = search rules in
     let fits_there : SFits w16 c.at-2.result = search rules in
     let s = beside_some f c.args.point c.args.direction c.in_ok-other.other (sym c.requires.beside ∙ c.in_ok-other.was) in
-    let here = read_level f c.levels-levels.ensures.valid c.levels-levels.result.now c.levels-levels.ensures.value c.args.point c.args.number (sym c.requires.place) in
+    let here = read_level f c.levels-levels.ensures.valid c.levels-levels.result.now c.levels-levels.ensures.value c.args.point c.args.number (sym c.requires.numbered) in
     let there = read_level f c.levels-levels.ensures.valid c.levels-levels.result.now c.levels-levels.ensures.value (step c.args.direction c.args.point) c.in_ok-other.other s.1 in
     falls f c.args.point c.args.direction (to_z w16 (of_z w16 c.at.result)) (to_z w16 (of_z w16 c.at-2.result)) c.fall.result s.0
     (read_as c.at.result (level_at f c.args.point) fits (c.at.ensures ∙ here))

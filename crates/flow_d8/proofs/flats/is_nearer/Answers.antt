@@ -2,7 +2,7 @@ use Rattle.std.proofs.Common.{◌≡◌, ◌<◌, ◌-◌, length, get_or, sym, 
 use Rattle.std.proofs.lemmas.List.{get_or_default}
 use Rattle.std.proofs.lemmas.Bool.{eqb-true}
 use Rattle.lattice.specs.Steps.{step}
-use Rattle.flow_d8.specs.Surface.{place_in}
+use Rattle.flow_d8.specs.Surface.{number_in}
 use Rattle.flow_d8.specs.Crossing.{unknown, distance_at}
 use Rattle.flow_d8.proofs.Surfaces.{beside_some, beside_not, surface_lawful, read_level, read_within}
 use Rattle.flow_d8.proofs.Nearest.{nearer_from, nearer_said}
@@ -26,7 +26,7 @@ returns-then-not-same_level c =
     let f = c.args.filled.now in
     let q = step c.args.direction c.args.point in
     let s = beside_some f c.args.point c.args.direction c.in-Some.other (sym c.requires.beside ∙ c.in-Some.is) in
-    let here = read_level f c.levels.ensures.valid c.levels.result.now c.levels.ensures.value c.args.point c.args.number (sym c.requires.place) in
+    let here = read_level f c.levels.ensures.valid c.levels.result.now c.levels.ensures.value c.args.point c.args.number (sym c.requires.numbered) in
     let there = read_level f c.levels.ensures.valid c.levels.result.now c.levels.ensures.value q c.in-Some.other s.1 in (
       λ yes. absurd (true≢false (sym yes)),
       λ near. absurd (true≢false (sym (c.same_level.ensures.1 (there ∙ near.same_level ∙ sym here)) ∙ c.if-not-same_level.true)),
@@ -56,13 +56,13 @@ returns c =
     let q = step c.args.direction c.args.point in
     let distances = c.args.distances.now in
     let s = beside_some f c.args.point c.args.direction c.in-Some.other (sym c.requires.beside ∙ c.in-Some.is) in
-    let here = read_level f c.levels.ensures.valid c.levels.result.now c.levels.ensures.value p c.args.number (sym c.requires.place) in
+    let here = read_level f c.levels.ensures.valid c.levels.result.now c.levels.ensures.value p c.args.number (sym c.requires.numbered) in
     let there = read_level f c.levels.ensures.valid c.levels.result.now c.levels.ensures.value q c.in-Some.other s.1 in
     let same = sym there ∙ c.same_level.ensures.0 c.if-not-same_level.false ∙ here in
     let within = read_within f c.levels.ensures.valid f.levels refl q c.in-Some.other s.1 ((surface_lawful f).to_ground p q s.0) in
     let in_distances : c.in-Some.other < length distances = subst (λ n. c.in-Some.other < n) (sym c.requires.distances.whole) within in
-    let read : get_or distances c.in-Some.other 0 ≡ distance_at distances (place_in f q) = get_or_default distances c.in-Some.other 0 unknown in_distances ∙ ap (distance_at distances) s.1 in
-    let at : distance_at distances (place_in f p) ≡ c.args.distance = ap (distance_at distances) c.requires.place ∙ c.requires.distance in (
+    let read : get_or distances c.in-Some.other 0 ≡ distance_at distances (number_in f q) = get_or_default distances c.in-Some.other 0 unknown in_distances ∙ ap (distance_at distances) s.1 in
+    let at : distance_at distances (number_in f p) ≡ c.args.distance = ap (distance_at distances) c.requires.numbered ∙ c.requires.distance in (
       λ yes. nearer_from f c.levels.ensures.valid distances c.requires.distances p c.args.distance c.requires.level at c.requires.known q c.requires.some s.0 same
           (sym read ∙ eqb-true (get_or distances c.in-Some.other 0) (c.args.distance - 1) yes),
       λ near. eq-eqb (get_or distances c.in-Some.other 0) (c.args.distance - 1)

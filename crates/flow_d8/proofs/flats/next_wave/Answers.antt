@@ -1,7 +1,7 @@
 use Rattle.std.proofs.Common.{◌≡◌, ◌+◌, length, get_or, sym, subst, ap, ◌∙◌, arith, inl, inr, refl}
 use Rattle.std.proofs.lemmas.Bool.{cases_eq}
 use Rattle.std.proofs.lemmas.List.{get_or_default}
-use Rattle.flow_d8.specs.Surface.{place_in}
+use Rattle.flow_d8.specs.Surface.{number_in}
 use Rattle.flow_d8.specs.Crossing.{distance_at, IsSpreading, IsSpread}
 use Rattle.flow_d8.proofs.Waves.{spreading_start, spreading_end}
 use Rattle.flow_d8.proofs.flats.next_wave.Goals as goal
@@ -39,7 +39,7 @@ loop-number-preserved c = record {
         subst (λ g. IsSpread c.args.filled.now c.spread.new.distances g) is c.in_ok-spread.ensures.spread
     | inr other ↦ λ p q at on same.
         let known = c.loop-number.invariant.spread i d (omega arith) p q at on same in
-        omega (arith, c.in_ok-spread.ensures.kept (place_in c.args.filled.now q) known)
+        omega (arith, c.in_ok-spread.ensures.kept (number_in c.args.filled.now q) known)
   ];
 }
 

@@ -2,7 +2,7 @@ use Rattle.std.proofs.Common.{◌≡◌, ◌+◌, ◌<◌, length, set, sym, ap,
 use Rattle.std.proofs.lemmas.List.{get_or_default}
 use Rattle.lattice.specs.declared.point.Point.{Point}
 use Rattle.lattice.specs.Steps.{step}
-use Rattle.flow_d8.specs.Surface.{place_in}
+use Rattle.flow_d8.specs.Surface.{number_in}
 use Rattle.flow_d8.specs.Crossing.{unknown, distance_at, IsWayOut, IsReaching}
 use Rattle.flow_d8.proofs.Surfaces.{surface_lawful, surface_steps, same_site}
 use Rattle.flow_d8.proofs.Waves.{reaching_on, reaching_more}
@@ -28,7 +28,7 @@ returns-then-not-has_way_out-clause-state c =
     absurd (true≢false (sym (c.has_way_out.ensures.1 (away.0, here)) ∙ c.if-not-has_way_out.true)))
 
 -- the point has no distance yet
-new : (c : In_ok-push) → distance_at c.args.distances.now (place_in c.args.filled.now c.in-Some.point) ≡ unknown
+new : (c : In_ok-push) → distance_at c.args.distances.now (number_in c.args.filled.now c.in-Some.point) ≡ unknown
 new c =
     let within : c.args.number < length c.args.distances.now = subst (λ n. c.args.number < n) (sym c.requires.state.spreading.right.whole) c.requires.number in
     ap (distance_at c.args.distances.now) c.in-Some.ensures.1 ∙ sym (get_or_default c.args.distances.now c.args.number 0 unknown within) ∙ c.if-distances-number.false

@@ -2,7 +2,7 @@ use Rattle.std.proofs.Common.{◌≡◌, ◌<◌, IsTrue, sym, subst, ap, ◌∙
 use Rattle.std.proofs.lemmas.Bool.{cases_eq}
 use Rattle.lattice.specs.declared.direction.Dir.{Dir}
 use Rattle.lattice.specs.Steps.{step, order_of}
-use Rattle.flow_d8.specs.Surface.{place_in, level_at, adjoins}
+use Rattle.flow_d8.specs.Surface.{number_in, level_at, adjoins}
 use Rattle.flow_d8.specs.Crossing.{unknown, distance_at}
 use Rattle.flow_d8.proofs.Compass.{dir_at_place, order_below}
 use Rattle.flow_d8.proofs.Surfaces.{surface_steps, same_site, surface_lawful}
@@ -14,14 +14,14 @@ pub loop-i-preserved : goal.loop-i-preserved
 loop-i-preserved c =
     let f = c.args.filled.now in
     let p = c.in-Some.point in
-    let there : Dir → Type 0 = λ e. IsTrue (adjoins f p (step e p)) → level_at f (step e p) ≡ level_at f p → distance_at c.visit.new.distances (place_in f (step e p)) < unknown in
+    let there : Dir → Type 0 = λ e. IsTrue (adjoins f p (step e p)) → level_at f (step e p) ≡ level_at f p → distance_at c.visit.new.distances (number_in f (step e p)) < unknown in
     record {
       state = c.in_ok-visit.ensures.state;
       kept = λ g known. let old = c.loop-i.invariant.kept g known in c.in_ok-visit.ensures.kept g (omega (arith, old)) ∙ old;
       count = let a = c.in_ok-visit.ensures.count in let b = c.loop-i.invariant.count in omega arith;
       spread = λ d below on same. elim (cases_eq (order_of d) c.loop-i.i) [
         | inl here ↦ subst there (dir_at_place d _ c.loop-i.i here) c.in_ok-visit.ensures.visited on same
-        | inr other ↦ let known = c.loop-i.invariant.spread d (omega arith) on same in omega (arith, c.in_ok-visit.ensures.kept (place_in c.args.filled.now (step d c.in-Some.point)) known)
+        | inr other ↦ let known = c.loop-i.invariant.spread d (omega arith) on same in omega (arith, c.in_ok-visit.ensures.kept (number_in c.args.filled.now (step d c.in-Some.point)) known)
       ];
     }
 
@@ -35,14 +35,14 @@ returns-clause-spread c = λ p q at on same.
     let reach = c.loop-i.invariant.spread away.0 (omega (arith, order_below away.0))
     (subst (λ r. IsTrue (adjoins f c.in-Some.point r)) q_is (subst (λ r. IsTrue (adjoins f r q)) p_is on))
     (ap (level_at f) (sym q_is) ∙ same ∙ ap (level_at f) p_is) in
-    subst (λ r. distance_at c.loop-i.distances (place_in f r) < unknown) (sym q_is) reach
+    subst (λ r. distance_at c.loop-i.distances (number_in f r) < unknown) (sym q_is) reach
 
--- there is a point at this place
+-- there is a point at this number
 some_site : (c : In_default) → ⊥
 some_site c =
     let known : distance_at c.args.distances.now c.args.number < unknown = omega (arith, c.requires.from, c.requires.small) in
     let s = c.requires.state.right.right c.args.number known in
-    c.in_default.ensures s.point s.level s.place
+    c.in_default.ensures s.point s.level s.numbered
 
 pub returns-in_default-clause-spread : goal.returns-in_default-clause-spread
 returns-in_default-clause-spread c = absurd (some_site c)

@@ -3,7 +3,7 @@ use Rattle.std.specs.Prelude.{slice_index_or}
 use Rattle.std.proofs.lemmas.List.{get_or_default}
 use Rattle.lattice.specs.Mosaic.{void}
 use Rattle.lattice.specs.Steps.{step}
-use Rattle.flow_d8.specs.Surface.{place_in, level_at, adjoins}
+use Rattle.flow_d8.specs.Surface.{number_in, level_at, adjoins}
 use Rattle.flow_d8.specs.Crossing.{unknown, distance_at, AreKept, IsSpreading}
 use Rattle.flow_d8.proofs.Surfaces.{beside_some, beside_not, level_within, surface_lawful, at_level}
 use Rattle.flow_d8.proofs.Waves.{reached, reached_known, reach_kept}
@@ -35,7 +35,7 @@ offset_bounds-distances-other c =
     let small = c.levels.ensures.small in
     omega (arith, s.1, within)
 
--- what is read at a place is below 2 ^ 32
+-- what is read at a number is below 2 ^ 32
 below : (x : ℕ) → Fits w32 x → (x ≡ unknown → ⊥) → x < unknown
 below x fits other = omega arith
 
@@ -50,8 +50,8 @@ returns-then-not-same_level-clause-visited c =
     let within : c.in-Some.other < length c.args.distances.now = bounds-distances-other_of c.requires.state.right.whole (level_within f c.levels.ensures.valid q ((surface_lawful f).to_ground c.args.point q s.0)) s.1 in
     elim c.then-not-same_level.branch [
       | then-not-same_level-via-then-not-same_level w ↦ λ on same. absurd (true≢false (sym (c.same_level.ensures.1
-          (read c.levels.result.now f.levels c.in-Some.other (place_in f q) c.levels.ensures.value s.1 ∙ at_level f q ∙ same
-          ∙ sym (at_level f c.args.point) ∙ sym (read c.levels.result.now f.levels c.args.number (place_in f c.args.point) c.levels.ensures.value (sym c.requires.place)))) ∙ w.if-not-same_level.true))
+          (read c.levels.result.now f.levels c.in-Some.other (number_in f q) c.levels.ensures.value s.1 ∙ at_level f q ∙ same
+          ∙ sym (at_level f c.args.point) ∙ sym (read c.levels.result.now f.levels c.args.number (number_in f c.args.point) c.levels.ensures.value (sym c.requires.numbered)))) ∙ w.if-not-same_level.true))
       | then-not-same_level-via-else-not-same_level+then-distances-other w ↦ λ on same.
           subst (λ k. distance_at c.args.distances.now k < unknown) s.1
           (subst (λ v. v < unknown) (get_or_default c.args.distances.now c.in-Some.other 0 unknown within) (below (get_or c.args.distances.now c.in-Some.other 0) (c.type_inv.distances c.in-Some.other) w.if-distances-other.true))
@@ -63,10 +63,10 @@ returns-then-not-same_level-clause-visited c =
 -- the state as the point is reached
 record Reached (c : In_ok-push) : Type 0 where
   on : IsTrue (adjoins c.args.filled.now c.args.point (step c.args.direction c.args.point))
-  is : c.in-Some.other ≡ place_in c.args.filled.now (step c.args.direction c.args.point)
+  is : c.in-Some.other ≡ number_in c.args.filled.now (step c.args.direction c.args.point)
   same : level_at c.args.filled.now (step c.args.direction c.args.point) ≡ level_at c.args.filled.now c.args.point
-  new : distance_at c.args.distances.now (place_in c.args.filled.now (step c.args.direction c.args.point)) ≡ unknown
-  from : suc (distance_at c.args.distances.now (place_in c.args.filled.now c.args.point)) ≡ c.args.distance
+  new : distance_at c.args.distances.now (number_in c.args.filled.now (step c.args.direction c.args.point)) ≡ unknown
+  from : suc (distance_at c.args.distances.now (number_in c.args.filled.now c.args.point)) ≡ c.args.distance
 
 facts : (c : In_ok-push) → Reached c
 facts c =
@@ -78,10 +78,10 @@ facts c =
     record {
       on = s.0;
       is = s.1;
-      same = sym (at_level f q) ∙ sym (read c.levels.result.now f.levels c.in-Some.other (place_in f q) c.levels.ensures.value s.1) ∙ c.same_level.ensures.0 c.if-not-same_level.false
-          ∙ read c.levels.result.now f.levels c.args.number (place_in f c.args.point) c.levels.ensures.value (sym c.requires.place) ∙ at_level f c.args.point;
+      same = sym (at_level f q) ∙ sym (read c.levels.result.now f.levels c.in-Some.other (number_in f q) c.levels.ensures.value s.1) ∙ c.same_level.ensures.0 c.if-not-same_level.false
+          ∙ read c.levels.result.now f.levels c.args.number (number_in f c.args.point) c.levels.ensures.value (sym c.requires.numbered) ∙ at_level f c.args.point;
       new = ap (distance_at c.args.distances.now) (sym s.1) ∙ sym (get_or_default c.args.distances.now c.in-Some.other 0 unknown within) ∙ c.if-distances-other.false;
-      from = subst (λ k. suc (distance_at c.args.distances.now k) ≡ c.args.distance) (sym c.requires.place) (omega (arith, c.requires.from));
+      from = subst (λ k. suc (distance_at c.args.distances.now k) ≡ c.args.distance) (sym c.requires.numbered) (omega (arith, c.requires.from));
     }
 
 pub returns-clause-state : goal.returns-clause-state
@@ -98,7 +98,7 @@ returns-clause-visited c = λ _ _.
     let f = c.args.filled.now in
     let q = step c.args.direction c.args.point in
     let r = facts c in
-    subst (λ k. distance_at (set c.args.distances.now k c.args.distance) (place_in f q) < unknown) (sym r.is)
+    subst (λ k. distance_at (set c.args.distances.now k c.args.distance) (number_in f q) < unknown) (sym r.is)
     (reached_known f c.levels.ensures.valid c.args.distances.now c.args.distance c.args.next.now.items c.requires.state c.requires.small c.args.point q r.from r.on r.same r.new)
 
 pub returns-clause-kept : goal.returns-clause-kept

@@ -2,7 +2,7 @@ use Rattle.std.proofs.Common.{pos, ◌≡◌, [], ◌∷◌, ◌++◌, List, ap,
 use Rattle.std.specs.Prelude.{Contains, ◌↔◌}
 use Rattle.std.proofs.lemmas.List.{get_or_default, append-nil, take_all}
 use Rattle.lattice.specs.declared.point.Point.{Point}
-use Rattle.flow_d8.specs.Drained.{DrainsTo}
+use Rattle.flow_d8.specs.Directions.{DrainsTo}
 use Rattle.watershed.proofs.Drawing.{take_more}
 use Rattle.watershed.proofs.search.add_feeders.Goals as goal
 

@@ -1,7 +1,7 @@
 use Rattle.std.proofs.Common.{◌≡◌, ◌*◌, ◌/◌, ◌%◌, get_or, ap, ap₂, ◌∙◌}
 use Rattle.lattice.specs.Corners.{Corner}
 use Rattle.lattice.specs.Lattice.{point_of}
-use Rattle.flow_d8.proofs.Places.{point_at_place}
+use Rattle.flow_d8.proofs.Numbers.{point_at_number}
 use Rattle.flow_d8.proofs.Inside.{deep_site}
 use Rattle.flow_d8.proofs.filled.Filled.point.Goals as goal
 
@@ -16,7 +16,7 @@ returns-clause-first c = λ p held at.
     ∙ ap (λ n. point_of n corner (c.args.number % c.area-area.result)) c.side-2.ensures
     ∙ ap (λ a. point_of f.side corner (c.args.number % a)) area
     ∙ ap (λ (k : Corner). point_of f.side k (c.args.number % (f.side * f.side))) corner_is
-    ∙ point_at_place f.side f.corners p c.args.number corner c.corners-corners.ensures.valid.side_low held at
+    ∙ point_at_number f.side f.corners p c.args.number corner c.corners-corners.ensures.valid.side_low held at
 
 pub returns-clause-deep : goal.returns-clause-deep
 returns-clause-deep c = λ test.

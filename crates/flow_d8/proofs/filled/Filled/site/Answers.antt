@@ -4,8 +4,8 @@ use Rattle.std.specs.List.{AllAdjacentBelow}
 use Rattle.lattice.specs.declared.point.Point.{Point}
 use Rattle.lattice.specs.Lattice.{IsBefore}
 use Rattle.lattice.specs.Mosaic.{void, is_void}
-use Rattle.flow_d8.specs.Levels.{is_held, place_of, is_deep}
-use Rattle.flow_d8.specs.Surface.{place_in, has_level}
+use Rattle.flow_d8.specs.Filled.{is_held, number_of, is_deep}
+use Rattle.flow_d8.specs.Surface.{number_in, has_level}
 use Rattle.flow_d8.proofs.Surfaces.{level_from, level_held}
 use Rattle.flow_d8.proofs.filled.Filled.site.Goals as goal
 
@@ -14,8 +14,8 @@ returns-then-not-is_level c = λ p level at.
     true≢false (sym level ∙ sym (level_from c.args.self.now p c.args.number at) ∙ ap (λ xs. not (is_void (slice_index_or xs c.args.number void))) (sym c.levels.ensures.value)
     ∙ sym c.is_level.ensures ∙ c.if-not-is_level.true)
 
-pub place-requires : goal.place-requires
-place-requires c = record {
+pub number_of-requires : goal.number_of-requires
+number_of-requires c = record {
   few = subst (λ ks. length ks ≤ 240) (sym c.corners.ensures.value) c.corners.ensures.valid.few;
   in_order = subst (λ ks. AllAdjacentBelow IsBefore ks (length ks)) (sym c.corners.ensures.value) c.corners.ensures.valid.in_order;
 }
@@ -23,7 +23,7 @@ place-requires c = record {
 pub returns-in_err-first : goal.returns-in_err-first
 returns-in_err-first c =
     let f = c.args.self.now in
-    subst (λ r. MatchOption r ((p : Point) → IsTrue (has_level f p) → place_in f p ≡ c.args.number → ⊥) (λ p. IsTrue (has_level f p) × (place_in f p ≡ c.args.number))) (sym c.from_residual.ensures)
+    subst (λ r. MatchOption r ((p : Point) → IsTrue (has_level f p) → number_in f p ≡ c.args.number → ⊥) (λ p. IsTrue (has_level f p) × (number_in f p ≡ c.args.number))) (sym c.from_residual.ensures)
     (λ p level at.
     let held = level_held f c.levels.ensures.valid p level in
     let is : c.point-point.result ≡ p = c.point-point.ensures.first p held at in
@@ -32,8 +32,8 @@ returns-in_err-first c =
 pub returns-then-first-number : goal.returns-then-first-number
 returns-then-first-number c =
     let f = c.args.self.now in
-    let at : place_in f c.point-point.result ≡ c.args.number =
-    sym (ap₂ (λ n ks. place_of n ks c.point-point.result) c.side-2.ensures c.corners.ensures.value) ∙ sym c.in_ok-first.ensures.1 ∙ c.if-first-number.true in (
+    let at : number_in f c.point-point.result ≡ c.args.number =
+    sym (ap₂ (λ n ks. number_of n ks c.point-point.result) c.side-2.ensures c.corners.ensures.value) ∙ sym c.in_ok-first.ensures.1 ∙ c.if-first-number.true in (
       sym (level_from f c.point-point.result c.args.number at) ∙ ap (λ xs. not (is_void (slice_index_or xs c.args.number void))) (sym c.levels.ensures.value)
           ∙ sym c.is_level.ensures ∙ c.if-not-is_level.false,
       at,
@@ -44,12 +44,12 @@ returns-else-first-number c = λ p level at.
     let f = c.args.self.now in
     let held = level_held f c.levels.ensures.valid p level in
     let is : c.point-point.result ≡ p = c.point-point.ensures.first p held at in
-    c.if-first-number.false (c.in_ok-first.ensures.1 ∙ ap₂ (λ n ks. place_of n ks c.point-point.result) c.side-2.ensures c.corners.ensures.value ∙ ap (λ q. place_of f.side f.corners q) is ∙ at)
+    c.if-first-number.false (c.in_ok-first.ensures.1 ∙ ap₂ (λ n ks. number_of n ks c.point-point.result) c.side-2.ensures c.corners.ensures.value ∙ ap (λ q. number_of f.side f.corners q) is ∙ at)
 
 pub returns-then-lies_deep : goal.returns-then-lies_deep
 returns-then-lies_deep c =
     let f = c.args.self.now in
-    let at : place_in f c.point-point.result ≡ c.args.number =
+    let at : number_in f c.point-point.result ≡ c.args.number =
     c.point-point.ensures.deep (ap (λ n. is_deep n (c.args.number % (n * n))) (sym c.side.ensures) ∙ sym c.lies_deep.ensures ∙ c.if-lies_deep.true) in (
       sym (level_from f c.point-point.result c.args.number at) ∙ ap (λ xs. not (is_void (slice_index_or xs c.args.number void))) (sym c.levels.ensures.value)
           ∙ sym c.is_level.ensures ∙ c.if-not-is_level.false,

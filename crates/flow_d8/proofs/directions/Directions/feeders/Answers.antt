@@ -1,0 +1,36 @@
+use Rattle.std.proofs.Common.{◌≡◌, ℕ, ◌+◌, ◌<◌, List, ap, sym, subst, ◌∙◌, arith, get_or}
+use Rattle.arrayvec.specs.ArrayVec.{ArrayVec, array_vec_len}
+use Rattle.lattice.specs.declared.point.Point.{Point}
+use Rattle.lattice.specs.declared.direction.Dir.{Dir}
+use Rattle.lattice.specs.declared.direction.Dir.TheVariants.{East}
+use Rattle.lattice.specs.Steps.{directions, order_of}
+use Rattle.flow_d8.proofs.Compass.{dir_at, order_of-dir_at, dir_at_place}
+use Rattle.flow_d8.proofs.Feeding.{IsFeeding, feeding_on, feeding_more, fed}
+use Rattle.flow_d8.proofs.directions.Directions.feeders.Goals as goal
+use Rattle.flow_d8.proofs.directions.Directions.feeders.Goals.{in-Some, in_default}
+
+listed : (i : ℕ) → i < 8 → order_of (get_or directions i East) ≡ i
+listed i lt = ap order_of (dir_at_place (dir_at i) East i (order_of-dir_at i lt)) ∙ order_of-dir_at i lt
+
+pub loop-i-preserved : goal.loop-i-preserved
+loop-i-preserved c =
+    let d = c.args.self.now in
+    let p = c.args.point in
+    let i = c.loop-i.i in
+    let e : Dir = get_or directions i East in
+    let order = listed i c.loop-i-test.true in
+    let so_far = c.loop-i.invariant.feeding in
+    elim c.match-feeder.branch [
+      | in-Some w ↦ record {
+        short = omega (arith, ap (λ (v : ArrayVec Point). array_vec_len v) w.found-is, w.push.ensures.len, c.loop-i.invariant.short);
+        feeding = subst (λ (v : ArrayVec Point). IsFeeding d p (i + 1) v.items) (sym w.found-is)
+            (subst (λ (l : List Point). IsFeeding d p (i + 1) l) (sym w.push.ensures.items) (feeding_more d p i c.loop-i.found.items e order so_far w.in-Some.feeder w.in-Some.ensures.0 w.in-Some.ensures.1));
+      }
+      | in_default w ↦ record {
+        short = omega (arith, ap (λ (v : ArrayVec Point). array_vec_len v) w.found-is, c.loop-i.invariant.short);
+        feeding = subst (λ (v : ArrayVec Point). IsFeeding d p (i + 1) v.items) (sym w.found-is) (feeding_on d p i c.loop-i.found.items e order so_far w.in_default.ensures);
+      }
+    ]
+
+pub returns-clause-exactly : goal.returns-clause-exactly
+returns-clause-exactly c = fed c.args.self.now c.args.point c.loop-i.i c.loop-i.found.items c.loop-i-test.false c.loop-i.invariant.feeding

@@ -1,0 +1,54 @@
+-- Filled of many tiles, tile after tile in one list, and where in it a point lies.
+use Rattle.std.specs.Prelude.{◌≡◌, ℕ, ◌+◌, ◌*◌, ◌/◌, ◌%◌, nat_le, ◌<◌, ◌≤◌, ℤ, Bool, IsTrue, IsFalse, ◌&&◌, if◌then◌else◌, List, [], ◌∷◌, length, map, slice_index_or, slice_get, Some}
+use Rattle.std.specs.List.{list_any, AllAdjacentBelow}
+use Rattle.lattice.specs.declared.point.Point.{Point}
+use Rattle.lattice.specs.Corners.{Corner, is_corner}
+use Rattle.lattice.specs.Lattice.{IsBefore, holds, index_of, point_of}
+use Rattle.lattice.specs.Terrain.{IsFilledLevel}
+use Rattle.lattice.specs.Mosaic.{Mosaic, IsMosaic, void}
+use Rattle.lattice.specs.Ground.{is_ground, terrain}
+
+-- the corners of the tiles, and of each tile in turn the levels row by row from the north, in a row from the west
+pub record Filled : Type 0 where
+  pub side : ℕ
+  pub corners : List Corner
+  pub levels : List ℤ
+
+-- corners in the order of tiles, no more than a store has room for, and a level for each sample
+pub record AreLevels (f : Filled) : Type 0 where
+  pub side_low : 3 ≤ f.side
+  pub side_high : f.side ≤ 3601
+  pub few : length f.corners ≤ 240
+  pub in_order : AllAdjacentBelow IsBefore f.corners (length f.corners)
+  pub whole : length f.levels ≡ length f.corners * (f.side * f.side)
+
+-- the levels are the filled levels of the mosaic's blocks: those of its present tiles, void where a point isn't ground
+pub record IsFilledOf (m : Mosaic) (f : Filled) : Type 0 where
+  pub side : f.side ≡ m.side
+  pub corners : f.corners ≡ map (λ t. t.corner) m.tiles
+  pub on_ground : (k e : ℕ) (c : Corner) → slice_get f.corners k ≡ Some c → e < f.side * f.side → IsTrue (is_ground m (point_of f.side c e))
+      → IsFilledLevel (terrain m) (point_of f.side c e) (slice_index_or f.levels (k * (f.side * f.side) + e) void)
+  pub elsewhere : (k e : ℕ) (c : Corner) → slice_get f.corners k ≡ Some c → e < f.side * f.side → IsFalse (is_ground m (point_of f.side c e))
+      → slice_index_or f.levels (k * (f.side * f.side) + e) void ≡ void
+
+-- the corner's tile holds the point
+abbrev pub is_holder : ℕ → Corner → Point → Bool
+is_holder n c p = is_corner c && holds n c p
+
+-- some tile of these corners holds the point
+abbrev pub is_held : ℕ → List Corner → Point → Bool
+is_held n corners p = list_any (λ c. is_holder n c p) corners
+
+-- the number of the point's sample, in the first tile that holds it, where samples are numbered tile after tile; past
+-- all samples where no tile holds it
+unfoldable pub number_of : ℕ → List Corner → Point → ℕ
+number_of n [] p = 0
+number_of n (c ∷ rest) p = if is_holder n c p then index_of n c p else n * n + number_of n rest p
+
+-- no mosaic has these filled levels
+abbrev pub IsOfNoMosaic : Filled → Type 0
+IsOfNoMosaic f = (m : Mosaic) → IsMosaic m → IsFilledOf m f → ⊥
+
+-- the sample lies at least two samples from the edges of its tile
+abbrev pub is_deep : ℕ → ℕ → Bool
+is_deep n e = nat_le 2 (e / n) && nat_le (e / n + 3) n && nat_le 2 (e % n) && nat_le (e % n + 3) n
