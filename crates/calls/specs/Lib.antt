@@ -1,3 +1,6 @@
+pub mod Engines
 pub mod Events
 pub mod Outcomes
+pub mod Runs
 pub mod State
+pub mod Told
