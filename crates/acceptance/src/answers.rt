@@ -4,9 +4,9 @@ ghost use Rattle.lattice.specs.Ground.{is_ground, terrain};
 ghost use Rattle.flow_d8.specs.Drainage.{AreFilledLevels};
 ghost use Rattle.plain.specs.Levels.{level_of};
 
+use engine::Engine;
 use lattice::{Height, Point, Refusal};
 use plain::{Levels, Plain};
-use server::Engine;
 use std::alloc::{AllocError, Global};
 use watershed::Run;
 

@@ -11,6 +11,8 @@ mod random;
 #[cfg(test)]
 mod region;
 #[cfg(test)]
+mod serving_tests;
+#[cfg(test)]
 mod session;
 #[cfg(test)]
 mod tests;

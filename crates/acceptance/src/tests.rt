@@ -4,11 +4,11 @@ ghost use Rattle.std.specs.Prelude.{◌≤◌};
 use crate::session::Session;
 use disk::MemDisk;
 use lattice::{Refusal, Side};
-use server::TableEngine;
 use std::alloc::Global;
 use std::process::Abort;
 use std::test::Fail;
 use store::{Store, store_in_memory};
+use table_engine::TableEngine;
 
 /// Room for a store of four tiles of any side here.
 const SECTORS: u32 = 40;

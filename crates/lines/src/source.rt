@@ -2,7 +2,7 @@
 //!
 //! One fact runs through this module: what was taken, what is still ahead and what the reader has left make up what
 //! the reader had at first. A read gives any number of bytes, so neither a line nor a payload ends where a read ends.
-ghost use Rattle.std.specs.Prelude.{◌≡◌, ◌+◌, ◌<◌, ◌≤◌, ℕ, List, [], ◌++◌, drop, length, OnOk, OnErr, IfOk, IfSome, Ok, Option, Some, None, MatchOption, slice_index, take, vec_len, vec_capacity, if◌then◌else◌, IsTrue, ◌↔◌};
+ghost use Rattle.std.specs.Prelude.{◌≡◌, ◌+◌, ◌-◌, ◌<◌, ◌≤◌, ℕ, List, [], ◌++◌, drop, length, OnOk, OnErr, IfOk, IfSome, Ok, Option, Some, None, MatchOption, slice_index, take, vec_len, vec_capacity, if◌then◌else◌, IsTrue, ◌↔◌};
 ghost use Rattle.std.specs.Io.KnownBytes.{IsAtEnd};
 ghost use Rattle.lines.specs.Ahead.{Lookahead, lookahead_code, bytes_of, is_usable, Taken, weight};
 ghost use Rattle.lines.specs.Lines.{IsLine, kept, line_code, line_feed, Reaches};
@@ -71,9 +71,10 @@ impl Model for Ahead {
 }
 
 impl Ahead {
-    /// Nothing read yet.
+    /// Nothing read yet; 2^64 - 1 reads may be made.
     pub fn new(alloc: Global) -> Ahead
-        ensures { result.bytes ≡ [] }
+        ensures bytes { result.bytes ≡ [] }
+        ensures reads { result.reads ≡ 18446744073709551615 }
     {
         Ahead {
             room: chunk_of_room(alloc),
@@ -107,6 +108,7 @@ impl Ahead {
         requires { self.old.bytes ≡ [] }
         ensures taken { Taken self.old (R.remaining reader.old) self.new (R.remaining reader.new) [] }
         ensures end { OnOk result (self.new.bytes ≡ [] → IsAtEnd (R.remaining reader.new)) }
+        ensures one_less { self.new.reads ≡ self.old.reads - 1 }
         ensures spent { OnOk result (weight self.new < weight self.old) }
         ensures err { OnErr result (self.new.bytes ≡ []) }
     {

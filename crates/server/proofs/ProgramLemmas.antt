@@ -4,11 +4,11 @@ use Rattle.std.specs.Io.KnownBytes.{Appends, Keeps}
 use Rattle.std.proofs.KnownBytes.{Appends-kept}
 use Rattle.std.proofs.lemmas.List.{take_all}
 use Rattle.calls.specs.State.{State, fresh}
-use Rattle.server.specs.Answers.{Replied}
+use Rattle.serving.specs.Answers.{Replied}
 use Rattle.server.specs.CommandLine.{Begins, EndsFlushing, EndsServing, fault_line}
-use Rattle.server.specs.Served.{Outcome}
-use Rattle.server.specs.TableState.{working}
-use Rattle.server.specs.declared.session.ServeFault.{ServeFault}
+use Rattle.serving.specs.Served.{Outcome}
+use Rattle.table_engine.specs.TableState.{working}
+use Rattle.serving.specs.declared.session.ServeFault.{ServeFault}
 
 -- a text that was tried, and then a flush
 pub begins : {E : Type 0} (r : Result (Unit {0}) E) (a b c : Option (List ℕ)) (text : List ℕ) → OnOk r (Appends a b text)

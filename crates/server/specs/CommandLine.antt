@@ -9,14 +9,14 @@ use Rattle.hgt.specs.Names.{IsFileName}
 use Rattle.calls.specs.State.{State, fresh}
 use Rattle.lines.specs.Grammar.{IsNat}
 use Rattle.lines.specs.Replies.{line_of, ok_line, refusal_text}
-use Rattle.server.specs.Answers.{Replied}
+use Rattle.serving.specs.Answers.{Replied}
 use Rattle.server.specs.Report.{IsReportText}
-use Rattle.server.specs.Served.{Outcome}
-use Rattle.server.specs.TableState.{working}
+use Rattle.serving.specs.Served.{Outcome}
+use Rattle.table_engine.specs.TableState.{working}
 use Rattle.server.specs.declared.arguments.Arguments.{Arguments}
 use Rattle.server.specs.declared.arguments.Arguments.TheVariants.{Format, Import, Serve, Table, Check}
-use Rattle.server.specs.declared.session.ServeFault.{ServeFault}
-use Rattle.server.specs.declared.session.ServeFault.TheVariants.{Input, Output}
+use Rattle.serving.specs.declared.session.ServeFault.{ServeFault}
+use Rattle.serving.specs.declared.session.ServeFault.TheVariants.{Input, Output}
 
 -- the words, as clap reads them: one subcommand with its required texts
 abbrev pub required_text : List ℕ → Rule

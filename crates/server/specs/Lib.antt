@@ -1,10 +1,2 @@
-pub mod Answers
 pub mod CommandLine
-pub mod Items
 pub mod Report
-pub mod Served
-pub mod Session
-pub mod StoreRuns
-pub mod StoreState
-pub mod TableState
-pub mod Told

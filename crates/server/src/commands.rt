@@ -5,14 +5,14 @@ ghost use Rattle.server.specs.CommandLine.{Begins, EndsFlushing, EndsReplying, E
 
 use crate::arguments::{ArgumentFault, Arguments};
 use crate::files::{check_file, format_file, import_file, serve_file};
-use crate::session::{ServeFault, serve};
-use crate::table_engine::TableEngine;
 use hgt::side_ok;
 use lattice::{Refusal, Side};
 use lines::{Reply, write_bytes};
+use serving::{ServeFault, serve};
 use std::alloc::Global;
 use std::convert::AsStr;
 use std::io::{Read, Write};
+use table_engine::TableEngine;
 
 /// The most tiles that a mosaic takes.
 pub const MOST_TILES: u32 = 240;

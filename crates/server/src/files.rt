@@ -7,13 +7,13 @@ use crate::commands::{
     MOST_TILES, REFUSED, end_with, fault_line, flush, refuse, reply, reply_text, tile_side,
 };
 use crate::reporting::report;
-use crate::session::serve;
 use disk::FileDisk;
 use edits::{Bytes, Command};
 use hgt::file_name;
 use lattice::Refusal;
 use lines::Reply;
 use page_codec::sectors_needed;
+use serving::serve;
 use std::alloc::{AllocError, Global};
 use std::fs::File;
 use std::io::{ErrorKind, Read, Write};

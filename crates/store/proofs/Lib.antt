@@ -23,4 +23,5 @@ pub mod Runs
 pub mod Sets
 pub mod Stale
 pub mod States
+pub mod StoreLemmas
 pub mod WholeTiles

@@ -4,5 +4,7 @@ pub mod Events
 pub mod Queried
 pub mod Standing
 pub mod States
+pub mod StoreRuns
+pub mod StoreState
 pub mod Stores
 pub mod TreeStates

@@ -31,6 +31,7 @@ mod running;
 #[cfg(test)]
 mod stop_tests;
 mod store;
+mod store_engine;
 
 pub use calls::{Event, Reply};
 pub use in_memory::store_in_memory;

@@ -1,7 +1,7 @@
 use Rattle.std.proofs.Common.{ap, sym, subst, List, ℕ}
 use Rattle.calls.specs.State.{fresh}
 use Rattle.server.specs.CommandLine.{Begins}
-use Rattle.server.specs.TableState.{working}
+use Rattle.table_engine.specs.TableState.{working}
 use Rattle.server.proofs.ProgramLemmas.{failed, flushed}
 use Rattle.server.proofs.commands.serve_table.Goals as goal
 

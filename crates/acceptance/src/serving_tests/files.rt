@@ -1,0 +1,145 @@
+//! The program on files of stores.
+use super::sessions::{TILE, run};
+use std::fs;
+use std::test::Fail;
+
+/// 9 9 9 / 9 9 7 / 9 9 9.
+const G: &[u8] = b"\x00\x09\x00\x09\x00\x09\x00\x09\x00\x09\x00\x07\x00\x09\x00\x09\x00\x09";
+
+/// 9 9 9 / 8 9 9 / 9 9 9.
+const H: &[u8] = b"\x00\x09\x00\x09\x00\x09\x00\x08\x00\x09\x00\x09\x00\x09\x00\x09\x00\x09";
+
+/// Whether the program ends so with these words.
+fn ends(rt: &HostRuntime, words: &[&str], input: &[u8], status: u8, wanted: &[u8]) -> bool {
+    let (ended, output) = run(rt, words, input);
+    ended == status && output.as_slice() == wanted
+}
+
+/// A path at which there is nothing.
+fn cleared<'a>(rt: &HostRuntime, path: &'a str) -> &'a str {
+    let _ = fs::remove_file(rt, path);
+    path
+}
+
+#[test]
+fn a_store_on_a_file(rt: HostRuntime) -> Result<(), Fail> {
+    let m = cleared(&rt, "server_test_m");
+    let x = cleared(&rt, "server_test_x");
+    let tile = "N00E000.hgt";
+    fs::write(&rt, tile, TILE)?;
+    assert!(rt; ends(&rt, &["format", m, "3", "2"], b"", 0, b"OK 0\n"));
+    assert_eq!(rt; fs::metadata(&rt, m)?.len(), 98_304);
+    assert!(rt; ends(&rt, &["import", m, tile], b"", 0, b"OK 1\n"));
+    assert!(rt; ends(&rt, &["import", m, tile], b"", 1, b"ERR 4 TileThere\n"));
+    assert!(rt;
+        ends(
+            &rt,
+            &["check", m],
+            b"",
+            0,
+            b"count 1 commits 2\nN00E000 stale\nseams 0\n"
+        )
+    );
+    assert!(rt;
+        ends(
+            &rt,
+            &["format", m, "3", "2"],
+            b"",
+            1,
+            b"mosaic: exists server_test_m\n"
+        )
+    );
+    assert!(rt; ends(&rt, &["format", x, "2", "1"], b"", 1, b"ERR 32 BadSide\n"));
+    assert!(rt;
+        ends(
+            &rt,
+            &["format", x, "3", "241"],
+            b"",
+            1,
+            b"ERR 33 BadCapacity\n"
+        )
+    );
+    assert!(rt; fs::metadata(&rt, x).is_err());
+    assert!(rt; ends(&rt, &["import", m, "A.hgt"], b"", 1, b"ERR 2 BadName\n"));
+    assert!(rt; ends(&rt, &["import", x, "A.hgt"], b"", 1, b"ERR 2 BadName\n"));
+    assert!(rt; ends(&rt, &["serve", m], b"elev 0 2\ncount\n", 0, b"OK 5\nOK 1\n"));
+    fs::remove_file(&rt, m)?;
+    fs::remove_file(&rt, tile)?;
+    Ok(())
+}
+
+#[test]
+fn seams_of_a_file(rt: HostRuntime) -> Result<(), Fail> {
+    let m = cleared(&rt, "server_test_seams");
+    let west = "n00e000.srtm.HGT";
+    let east = "N00E001.hgt";
+    fs::write(&rt, west, G)?;
+    fs::write(&rt, east, H)?;
+    assert!(rt; ends(&rt, &["format", m, "3", "4"], b"", 0, b"OK 0\n"));
+    assert!(rt; ends(&rt, &["check", m], b"", 0, b"count 0 commits 1\nseams 0\n"));
+    assert!(rt; ends(&rt, &["import", m, east], b"", 0, b"OK 1\n"));
+    assert!(rt; ends(&rt, &["import", m, west], b"", 0, b"OK 2\n"));
+    let report = b"count 2 commits 3\nN00E000 stale\nN00E001 stale\nseams 1\n";
+    assert!(rt; ends(&rt, &["check", m], b"", 0, report));
+    fs::remove_file(&rt, m)?;
+    fs::remove_file(&rt, west)?;
+    fs::remove_file(&rt, east)?;
+    Ok(())
+}
+
+#[test]
+fn files_that_are_none(rt: HostRuntime) -> Result<(), Fail> {
+    let m = cleared(&rt, "server_test_none");
+    let tile = "S01W001.hgt";
+    fs::write(&rt, tile, TILE)?;
+    let missing = b"mosaic: cannot open server_test_none\n";
+    assert!(rt; ends(&rt, &["serve", m], b"count\n", 1, missing));
+    assert!(rt; ends(&rt, &["check", m], b"", 1, missing));
+    assert!(rt; ends(&rt, &["import", m, tile], b"", 1, missing));
+    let folder = b"mosaic: cannot open server_test_none/m\n";
+    assert!(rt;
+        ends(
+            &rt,
+            &["format", "server_test_none/m", "3", "1"],
+            b"",
+            1,
+            folder
+        )
+    );
+    fs::File::create(&rt, m)?.set_len(65_536)?;
+    let refused = b"ERR 30 NotAStore\n";
+    assert!(rt; ends(&rt, &["serve", m], b"count\n", 1, refused));
+    assert!(rt; ends(&rt, &["check", m], b"", 1, refused));
+    assert!(rt; ends(&rt, &["import", m, "N05E005.hgt"], b"", 1, refused));
+    fs::remove_file(&rt, m)?;
+    assert!(rt; ends(&rt, &["format", m, "3", "1"], b"", 0, b"OK 0\n"));
+    let unread = b"mosaic: cannot read N05E005.hgt\n";
+    assert!(rt; ends(&rt, &["import", m, "N05E005.hgt"], b"", 1, unread));
+    fs::write(&rt, tile, &TILE[..17])?;
+    assert!(rt; ends(&rt, &["import", m, tile], b"", 1, b"ERR 3 BadLength\n"));
+    fs::File::create(&rt, tile)?.set_len(1_000_000)?;
+    assert!(rt; ends(&rt, &["import", m, tile], b"", 1, b"ERR 3 BadLength\n"));
+    fs::remove_file(&rt, m)?;
+    fs::remove_file(&rt, tile)?;
+    Ok(())
+}
+
+#[test]
+fn a_real_tile_comes_back(rt: HostRuntime) -> Result<(), Fail> {
+    let m = cleared(&rt, "server_test_real");
+    let tile = "N01E002.hgt";
+    let mut bytes = Vec::new(rt.alloc());
+    for i in 0..2_884_802_u32 {
+        bytes.push((i % 251) as u8)?;
+    }
+    let mut wanted = Vec::new(rt.alloc());
+    wanted.extend_from_slice(b"OK 2884802\n")?;
+    wanted.extend_from_slice(&bytes)?;
+    fs::write(&rt, tile, &bytes)?;
+    assert!(rt; ends(&rt, &["format", m, "1201", "1"], b"", 0, b"OK 0\n"));
+    assert!(rt; ends(&rt, &["import", m, tile], b"", 0, b"OK 1\n"));
+    assert!(rt; ends(&rt, &["serve", m], b"export N01E002\n", 0, &wanted));
+    fs::remove_file(&rt, m)?;
+    fs::remove_file(&rt, tile)?;
+    Ok(())
+}

@@ -1,0 +1,5 @@
+pub mod Answers
+pub mod Items
+pub mod Served
+pub mod Session
+pub mod Told

@@ -1,0 +1,10 @@
+use Rattle.std.proofs.Common.{rules, ◌≡◌, [], ◌∷◌}
+use Rattle.store.specs.Stores.{side_of}
+use Rattle.store.proofs.StoreLemmas.{queried}
+use Rattle.store.proofs.store_engine.StoreEngine.fill.Goals as goal
+
+pub returns-clause-outcome : goal.returns-clause-outcome
+returns-clause-outcome g c = λ honest s at.
+    let found = c.fill.ensures.outcome honest s at.at in
+    let side : found.0.contents.mosaic.side ≡ side_of c.fill.new.self = search rules in
+    (found.0, record { at = found.1.0; same_side = side }, queried g.D.Disk c.args.self.now c.fill.new.self c.fill.result s (found.0 ∷ []) c.fill.ensures.reads honest at, found.1.1)

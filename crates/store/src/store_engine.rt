@@ -1,0 +1,84 @@
+//! A store on a disk, as an engine.
+//!
+//! So `serve` over a store promises through power cuts: each image that a stop may have left at any moment since its start,
+//! inside a call of the disk or between two, stands for the contents that the store had at the start or after one of the
+//! items, or for those of the commit then in doubt. What the next opening makes of such an image is the contract of `Store`.
+ghost use Rattle.std.specs.Prelude.{◌≡◌};
+
+use crate::store::Store;
+use disk::Disk;
+use edits::Command;
+use engine::Engine;
+use lattice::{Corner, Height, Point, Refusal, Side};
+use watershed::Run;
+
+impl<D: Disk> Engine for Store<D> {
+    ghost use Rattle.std.specs.Prelude.{◌≡◌, ◌≤◌, List, [], ◌∷◌, Err};
+    ghost use Rattle.store.specs.Stores.{disk_of, side_of, capacity_of, has_failed};
+    ghost use Rattle.store.specs.StoreState.{IsStoreAt, LeavesStates};
+    ghost use Rattle.store.specs.StoreRuns.{nothing_done, one_by_one, among_more};
+
+    ghost is_honest = { λ e. D.honest (disk_of e) };
+
+    ghost is_at = { λ e s. IsStoreAt D.Disk e s };
+
+    // Each image that a stop leaves on the disk stands for the contents of one of the states, or for those of its commit in
+    // doubt.
+    ghost leaves_only = { λ first last states. LeavesStates D.Disk first last states };
+
+    ghost side_of = { λ e. side_of e };
+
+    ghost capacity_of = { λ e. capacity_of e };
+
+    ghost has_failed = { λ e. has_failed e };
+
+    ghost failures = { λ e. D.failures (disk_of e) };
+
+    ghost stays = { λ e s others honest at. nothing_done e s others (λ image. D.only_now (disk_of e) image) honest at };
+
+    ghost in_turn = { λ first mid last states more before after. one_by_one first mid last states more before after };
+
+    ghost weaker = { λ first last states more among before. among_more first last states more among before };
+
+    ghost same_side = { λ e s at. at.same_side };
+
+    fn side(&self) -> Side {
+        self.tile_side()
+    }
+
+    fn apply(&mut self, command: &Command) -> Result<u64, Refusal> {
+        Store::apply(self, command)
+    }
+
+    fn elevation(&mut self, point: Point) -> Result<Height, Refusal> {
+        Store::elevation(self, point)
+    }
+
+    fn fill(&mut self, point: Point) -> Result<i16, Refusal> {
+        Store::fill(self, point)
+    }
+
+    fn direction(&mut self, point: Point) -> Result<u8, Refusal> {
+        Store::direction(self, point)
+    }
+
+    fn trace(&mut self, point: Point) -> Result<Vec<Point>, Refusal> {
+        Store::trace(self, point)
+    }
+
+    fn watershed(&mut self, point: Point) -> Result<Vec<Run>, Refusal> {
+        Store::watershed(self, point)
+    }
+
+    fn export(&mut self, corner: Corner) -> Result<Vec<u8>, Refusal> {
+        Store::export(self, corner)
+    }
+
+    fn tiles(&self) -> Result<Vec<Corner>, Refusal> {
+        Store::tiles(self)
+    }
+
+    fn count(&self) -> u64 {
+        Store::count(self)
+    }
+}
