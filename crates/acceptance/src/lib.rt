@@ -15,4 +15,6 @@ mod serving_tests;
 #[cfg(test)]
 mod session;
 #[cfg(test)]
+mod store_tests;
+#[cfg(test)]
 mod tests;

@@ -18,7 +18,8 @@ use Rattle.cow_tree.specs.Reading.{mosaic_of, IsReadable, HasOnlyRead, Reads}
 use Rattle.cow_tree.specs.Stored.{StoredTile, AreWhole, mosaic_of_tiles}
 use Rattle.cow_tree.specs.Trees.{disk_of, root_of, has_failed, staged_in, HasStaged}
 use Rattle.cow_tree.specs.declared.tree.Tree.{Tree}
-use Rattle.store.specs.Editing.{CommitsNothing, StagesOnly}
+use Rattle.store.specs.Editing.{StagesOnly}
+use Rattle.store.specs.Staging.{CommitsNothing}
 use Rattle.store.specs.TreeStates.{IsInState}
 use Rattle.store.proofs.EditingSteps.{each_stands}
 use Rattle.store.proofs.HeldTiles.{AreTilesOf, whole_filled}

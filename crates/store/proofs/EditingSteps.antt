@@ -3,6 +3,7 @@ use Rattle.std.proofs.Common.{◌≡◌, ◌≤◌, false, Result, Ok, Err, OnOk
 use Rattle.disk.specs.Disk.{Image, HasRisen}
 use Rattle.disk.specs.Stops.{LeavesOnly, weaker, in_turn, nothing_done}
 use Rattle.disk.specs.declared.disk.Disk.{Ghosts}
+use Rattle.std.specs.Prelude.{IsErrAnd}
 use Rattle.lattice.specs.declared.refusal.Refusal.{Refusal}
 use Rattle.lattice.specs.declared.refusal.Refusal.TheVariants.{Device}
 use Rattle.cow_tree.specs.Layout.{Stands}
@@ -11,7 +12,13 @@ use Rattle.cow_tree.specs.Trees.{disk_of, root_of, has_failed, IsAt}
 use Rattle.cow_tree.specs.declared.tree.Tree.{Tree}
 use Rattle.cow_tree.proofs.ReadOnly.{never_refused}
 use Rattle.cow_tree.proofs.Steps.{on_ok}
-use Rattle.store.specs.Editing.{CommitsNothing, StagesOnly}
+use Rattle.store.specs.Editing.{StagesOnly}
+use Rattle.store.specs.Staging.{CommitsNothing}
+
+-- what a refusal that was handed on answers
+pub refused_as : {T : Type 0} (result : Result T Refusal) (r : Refusal) → IsErrAnd result (λ why. why ≡ r) → result ≡ Err r
+refused_as (Ok x) r is = absurd is
+refused_as (Err why) r same = ap (λ (x : Refusal). Err x) same
 
 pub refusal_is : {T : Type 0} (r : Refusal) → ◌≡◌ {A = Result T Refusal} (Err r) (Err Device) → r ≡ Device
 refusal_is r e = cc

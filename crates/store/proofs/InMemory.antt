@@ -26,7 +26,7 @@ use Rattle.cow_tree.specs.declared.tree.Tree.{Tree}
 use Rattle.store.specs.Standing.{Holds}
 use Rattle.store.specs.States.{IsSound}
 use Rattle.store.specs.TreeStates.{IsInState}
-use Rattle.store.proofs.Commands.{holds_imported, holds_removed}
+use Rattle.store.proofs.StoredCommands.{holds_imported, holds_removed}
 use Rattle.store.proofs.HeldTiles.{corners_held}
 use Rattle.store.proofs.Holding.{held}
 use Rattle.store.proofs.WholeTiles.{no_tile, removes, bad_length, tile_there, full, imports}

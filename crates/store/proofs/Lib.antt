@@ -1,7 +1,5 @@
-pub mod Commands
-pub mod Committing
-pub mod DoneCommands
-pub mod EditingDone
+pub mod Committed
+pub mod EditingHeld
 pub mod EditingPages
 pub mod EditingReads
 pub mod EditingSteps
@@ -24,4 +22,5 @@ pub mod Sets
 pub mod Stale
 pub mod States
 pub mod StoreLemmas
+pub mod StoredCommands
 pub mod WholeTiles

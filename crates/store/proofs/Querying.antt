@@ -4,7 +4,6 @@ use Rattle.std.specs.Prelude.{None, Result, Ok, Err, IsErrOf, IfOk, IfErr, OnOk,
 use Rattle.disk.specs.Disk.{Image, HasRisen}
 use Rattle.disk.specs.Stops.{nothing_done}
 use Rattle.disk.specs.declared.disk.Disk.{Ghosts}
-use Rattle.lattice.specs.Corners.{Corner}
 use Rattle.lattice.specs.Mosaic.{IsMosaic}
 use Rattle.lattice.specs.declared.refusal.Refusal.{Refusal}
 use Rattle.lattice.specs.declared.refusal.Refusal.TheVariants.{Device, Failed}
@@ -14,10 +13,10 @@ use Rattle.calls.specs.State.{State, failing}
 use Rattle.cow_tree.specs.Reading.{mosaic_of, IsReadable, HasOnlyRead}
 use Rattle.cow_tree.specs.Stored.{StoredTile, Stored, AreWhole, mosaic_of_tiles}
 use Rattle.cow_tree.specs.Charts.{ChartValue, HasFreshHeights, fresh_corners}
-use Rattle.cow_tree.specs.Trees.{HasStaged, records_due, disk_of, root_of, has_failed, corners_of, staged_in, IsAt as IsTreeAt}
+use Rattle.cow_tree.specs.Trees.{disk_of, root_of, has_failed, staged_in, IsAt as IsTreeAt}
 use Rattle.cow_tree.specs.declared.tree.Tree.{Tree}
 use Rattle.store.specs.Queried.{IsQueried}
-use Rattle.store.specs.TreeStates.{IsInState}
+use Rattle.store.specs.TreeStates.{IsInState, IsClean}
 use Rattle.store.proofs.HeldTiles.{AreTilesOf, whole_filled}
 use Rattle.store.proofs.Holding.{held}
 use Rattle.store.proofs.InMemory.{is_working}
@@ -93,15 +92,13 @@ module _ {D : Type 0} (g : Ghosts D) (old new : Tree D g) (works : has_failed ol
     nothing = keeps.nothing;
   }
 
-  -- between two calls nothing is staged
-  pub still_clean : (has_failed old ≡ false → (c : Corner) → ¬ HasStaged old c) → has_failed new ≡ false → (c : Corner) → ¬ HasStaged new c
-  still_clean clean still c staged = clean works c (subst (λ chart. HasFreshHeights c chart) keeps.chart staged)
-
-  pub still_none_due : (has_failed old ≡ false → records_due old ≡ 0) → has_failed new ≡ false → records_due new ≡ 0
-  still_none_due none still = ap (λ (chart : ChartValue). length (fresh_corners chart)) keeps.chart ∙ none works
-
-  pub still_corners : (has_failed old ≡ false → corners_of old ≡ map (λ e. e.corner) (root_of old).entries) → has_failed new ≡ false → corners_of new ≡ map (λ e. e.corner) (root_of new).entries
-  still_corners corners still = keeps.corners ∙ corners works ∙ ap (λ (r : RootValue). map (λ e. e.corner) r.entries) (sym keeps.root)
+  -- nothing is staged still
+  pub still_clean : (has_failed old ≡ false → IsClean old) → has_failed new ≡ false → IsClean new
+  still_clean clean _ = let was = clean works in record {
+    none_staged = λ c staged. was.none_staged c (subst (λ chart. HasFreshHeights c chart) keeps.chart staged);
+    none_due = ap (λ (chart : ChartValue). length (fresh_corners chart)) keeps.chart ∙ was.none_due;
+    corners = keeps.corners ∙ was.corners ∙ ap (λ (r : RootValue). map (λ e. e.corner) r.entries) (sym keeps.root);
+  }
 
   module _ (honest : g.honest (disk_of new)) (s : State) (at : IsInState g old s) where
     none_new : (image : Image) → g.may (disk_of new) image → g.may (disk_of old) image

@@ -1,5 +1,5 @@
 -- What doing a command leaves, by the store's tree.
-use Rattle.std.specs.Prelude.{◌≡◌, ◌≢◌, ◌≤◌, ◌⊎◌, ℕ, false, true, Result, OnOk, IfErr, IsErrOf}
+use Rattle.std.specs.Prelude.{◌≡◌, ◌≢◌, ◌≤◌, ◌+◌, ◌⊎◌, ℕ, false, true, Result, OnOk, OnErr, IfOk, IfErr, IsErrOf}
 use Rattle.disk.specs.Disk.{Image, HasRisen}
 use Rattle.disk.specs.Stops.{LeavesOnly}
 use Rattle.disk.specs.declared.disk.Disk.{Ghosts}
@@ -40,6 +40,11 @@ pub record IsApplied {D : Type 0} (g : Ghosts D) (command : Command) (result : R
   pub device : IsErrOf result Device → HasRisen (g.failures (disk_of old)) (g.failures (disk_of new))
   pub works : OnOk result (has_failed new ≡ false)
   pub fails : IsErrOf result Device → has_failed new ≡ true
+  -- the root that is known then, on any disk
+  pub counted : IfOk result (λ k. (k ≡ (root_of old).count + 1) × ((root_of new).count ≡ k) × ((root_of new).number ≡ (root_of old).number + 1))
+  pub last_known : OnErr result (root_of new ≡ root_of old)
+  -- where it is refused for another reason than the disk, it writes nothing
+  pub unwritten : IfErr result (λ r. r ≢ Device → g.writes (disk_of new) ≡ g.writes (disk_of old))
   pub honest : g.honest (disk_of new) → g.honest (disk_of old)
   -- the answer, and the state that it leaves
   pub outcome : g.honest (disk_of new) → (s : State) → IsInState g old s → (t : State) × (IsInState g new t × Applies (root_of old).capacity s command result t)

@@ -2,6 +2,7 @@ pub mod Applied
 pub mod Editing
 pub mod Events
 pub mod Queried
+pub mod Staging
 pub mod Standing
 pub mod States
 pub mod StoreRuns

@@ -1,4 +1,4 @@
-//! Commands that set samples of present tiles: patches, burns and walls.
+//! What a command that sets samples of present tiles stages: a patch, a burn or a wall.
 ghost use Rattle.std.specs.Prelude.{◌≡◌, ◌≢◌, ◌≤◌, ◌<◌, ◌+◌, ◌/◌, ◌⊎◌, ℕ, ℤ, List, length, get_or, take, false, All, Contains, IfSome, IfNone, IfOk, IfErr, OnOk, vec_len};
 ghost use Rattle.lattice.specs.Corners.{Corner};
 ghost use Rattle.lattice.specs.Mosaic.{Mosaic};
@@ -14,10 +14,10 @@ ghost use Rattle.calls.specs.State.{State};
 ghost use Rattle.cow_tree.specs.Stored.{StoredTile, Stored, with_page};
 ghost use Rattle.cow_tree.specs.Trees.{disk_of, root_of, has_failed, has_begun, corners_of, records_due, HasStaged, staged_in, IsAt};
 ghost use Rattle.store.specs.Applied.{SetsSamples, IsApplied};
-ghost use Rattle.store.specs.Editing.{HoldsMosaic, SetsInPage, CommitsNothing, StagesOnly, WritesFew, writes_begun};
-ghost use Rattle.store.specs.TreeStates.{IsInState};
+ghost use Rattle.store.specs.Editing.{HoldsMosaic, SetsInPage, StagesOnly, WritesFew, writes_begun};
+ghost use Rattle.store.specs.Staging.{CommitsNothing};
+ghost use Rattle.store.specs.TreeStates.{IsInState, IsClean};
 
-use crate::Store;
 use cow_tree::{Plane, Tree};
 use disk::Disk;
 use edits::{Change, Command, plan};
@@ -28,38 +28,8 @@ use std::alloc::Global;
 // Samples in a page, two bytes each.
 const SAMPLES_IN_PAGE: u32 = 2048;
 
-impl<D: Disk> Store<D> {
-    // A patch, a burn or a wall.
-    pub(crate) fn edit(&mut self, command: &Command) -> Result<u64, Refusal>
-        requires not_failed { has_failed self.old.tree ≡ false }
-        requires samples { SetsSamples command.now }
-        ensures applied { IsApplied D.Disk command.now result self.old.tree self.new.tree }
-        ensures writes { WritesFew command.now (D.writes (disk_of self.old.tree)) (D.writes (disk_of self.new.tree)) }
-    {
-        let changes = match plan_changes(self.alloc, &mut self.tree, command) {
-            Ok(changes) => changes,
-            Err(refusal) => return Err(refusal),
-        };
-        if self.tree.current().number() == u64::MAX {
-            return Err(Refusal::Worn);
-        }
-        match stage_changes(&mut self.tree, &changes) {
-            Ok(()) => {}
-            Err(refusal) => {
-                self.tree.abandon();
-                return Err(refusal);
-            }
-        }
-        let count = self.tree.current().count() + 1;
-        match self.tree.commit(count) {
-            Ok(()) => Ok(count),
-            Err(refusal) => Err(refusal),
-        }
-    }
-}
-
 // The changes that the command comes to, or its refusal. Samples are read, and nothing is staged.
-fn plan_changes<D: Disk>(
+pub(crate) fn plan_changes<D: Disk>(
     alloc: Global,
     tree: &mut Tree<D>,
     command: &Command,
@@ -67,12 +37,9 @@ fn plan_changes<D: Disk>(
     requires works { has_failed tree.old ≡ false }
     requires sets { SetsSamples command.now }
     ensures reads { CommitsNothing D.Disk tree.old tree.new result }
-    ensures corners { corners_of tree.new ≡ corners_of tree.old }
-    ensures clean { has_failed tree.new ≡ false → (c : Corner) → HasStaged tree.new c → HasStaged tree.old c }
+    ensures clean { has_failed tree.new ≡ false → IsClean tree.old → IsClean tree.new }
     ensures staged { D.honest (disk_of tree.new) → staged_in D.Disk tree.new ≡ staged_in D.Disk tree.old }
     ensures writes { D.writes (disk_of tree.new) ≡ D.writes (disk_of tree.old) }
-    ensures begun { OnOk result (has_begun tree.new ≡ has_begun tree.old) }
-    ensures due { has_failed tree.new ≡ false → records_due tree.new ≡ records_due tree.old }
     ensures few { IfOk result (λ changes. IsFew command.now (vec_len changes)) }
     ensures sets { IfOk result (λ changes. All (CanBeSet (root_of tree.old).side (corners_of tree.old)) changes.items) }
     ensures changes { D.honest (disk_of tree.new) → (s : State) → IsInState D.Disk tree.old s
@@ -95,11 +62,11 @@ fn plan_changes<D: Disk>(
 
 // Stages the pages that the changes set samples in. Memory for all of them is had before the first is written: refused
 // with NoMemory, and then no call of the disk was made, or with Device.
-fn stage_changes<D: Disk>(tree: &mut Tree<D>, changes: &[Change]) -> Result<(), Refusal>
+pub(crate) fn stage_changes<D: Disk>(tree: &mut Tree<D>, changes: &[Change]) -> Result<(), Refusal>
     requires works { has_failed tree.old ≡ false }
     requires sets { All (CanBeSet (root_of tree.old).side (corners_of tree.old)) changes.now }
     ensures stages { StagesOnly D.Disk tree.old tree.new result }
-    ensures refused { IfErr result (λ r. (r ≡ Device) ⊎ ((r ≡ NoMemory) × (has_failed tree.new ≡ false))) }
+    ensures refused { IfErr result (λ r. (r ≡ Device) ⊎ ((r ≡ NoMemory) × (has_failed tree.new ≡ false) × (D.writes (disk_of tree.new) ≡ D.writes (disk_of tree.old)))) }
     ensures writes { D.writes (disk_of tree.new) ≤ writes_begun D.Disk tree.old + length changes.now }
     ensures pages { OnOk result (writes_begun D.Disk tree.new ≤ writes_begun D.Disk tree.old + length changes.now) }
     ensures due { OnOk result (records_due tree.new ≤ records_due tree.old + length changes.now) }
@@ -107,10 +74,8 @@ fn stage_changes<D: Disk>(tree: &mut Tree<D>, changes: &[Change]) -> Result<(), 
         → HoldsMosaic (root_of tree.old).side (staged_in D.Disk tree.old) m
         → OnOk result (HoldsMosaic (root_of tree.old).side (staged_in D.Disk tree.new) (all_changed changes.now m)) }
 {
-    match prepare_tiles(tree, changes) {
-        Ok(()) => stage_pages(tree, changes),
-        Err(refusal) => Err(refusal),
-    }
+    prepare_tiles(tree, changes)?;
+    stage_pages(tree, changes)
 }
 
 // Has the memory to stage pages of each tile that a change is of.
@@ -127,10 +92,7 @@ fn prepare_tiles<D: Disk>(tree: &mut Tree<D>, changes: &[Change]) -> Result<(), 
     ensures prepared { OnOk result (All (λ change. HasStaged tree.new (tile_of change)) changes.now) }
 {
     for change in changes {
-        match tree.prepare(change.corner()) {
-            Ok(()) => {}
-            Err(refusal) => return Err(refusal),
-        }
+        tree.prepare(change.corner())?;
     }
     Ok(())
 }
@@ -151,10 +113,7 @@ fn stage_pages<D: Disk>(tree: &mut Tree<D>, changes: &[Change]) -> Result<(), Re
 {
     let mut done = 0;
     while done < changes.len() {
-        match stage_page(tree, changes, done) {
-            Ok(next) => done = next,
-            Err(refusal) => return Err(refusal),
-        }
+        done = stage_page(tree, changes, done)?;
     }
     Ok(())
 }
@@ -185,14 +144,10 @@ fn stage_page<D: Disk>(
         _ => unreachable!(),
     };
     let mut page = [0; 4096];
-    if let Err(refusal) = tree.read_page(corner, Plane::Heights, index, &mut page) {
-        return Err(refusal);
-    }
+    tree.read_page(corner, Plane::Heights, index, &mut page)?;
     let next = set_in_page(changes, first, corner, index, &mut page);
-    match tree.stage(corner, Plane::Heights, index, &page) {
-        Ok(()) => Ok(next),
-        Err(refusal) => Err(refusal),
-    }
+    tree.stage(corner, Plane::Heights, index, &page)?;
+    Ok(next)
 }
 
 // Sets the samples of a page of the corner's heights, by the changes of it that follow one another from the index `first`
@@ -214,10 +169,10 @@ fn set_in_page(
 {
     let mut next = first;
     while next < changes.len() {
-        let Some((place, sample)) = sample_in(&changes[next], corner, index) else {
+        let Some((at, sample)) = sample_in(&changes[next], corner, index) else {
             return next;
         };
-        put_sample(page, place, sample);
+        put_sample(page, at, sample);
         next += 1;
     }
     next

@@ -28,13 +28,10 @@ pub fn store_in_memory(
     ensures sure { 3 ≤ side → side ≤ 1201 → 1 ≤ capacity → capacity ≤ 240 → sectors_needed side capacity ≤ sectors
         → IfErr result (λ r. (r ≡ Device) ⊎ (r ≡ NoMemory)) }
 {
-    let mut disk = match MemDisk::new(alloc, sectors) {
-        Ok(disk) => disk,
-        Err(_) => return Err(Refusal::NoMemory),
+    let Ok(mut disk) = MemDisk::new(alloc, sectors) else {
+        return Err(Refusal::NoMemory);
     };
-    if let Err(refusal) = Store::format(&mut disk, side, capacity) {
-        return Err(refusal);
-    }
+    Store::format(&mut disk, side, capacity)?;
     match Store::open(alloc, disk) {
         Ok(store) => Ok(store),
         Err(not_opened) => Err(not_opened.refusal),

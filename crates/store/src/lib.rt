@@ -7,31 +7,17 @@
 //! state, and the crate calls has the states and answers.
 #![tactic(auto)]
 
-mod applying;
-#[cfg(test)]
-mod counted_disk;
-mod draining;
-#[cfg(test)]
-mod draining_tests;
+mod commands;
+mod committing;
 mod editing;
-mod exporting;
-#[cfg(test)]
-mod fixtures;
 mod in_memory;
 mod laws;
-mod listing;
 mod queries;
-#[cfg(test)]
-mod real_tile_tests;
-#[cfg(test)]
-mod row_tests;
-#[cfg(test)]
-mod run_tests;
 mod running;
-#[cfg(test)]
-mod stop_tests;
 mod store;
 mod store_engine;
+#[cfg(test)]
+mod tests;
 
 pub use calls::{Event, Reply};
 pub use in_memory::store_in_memory;

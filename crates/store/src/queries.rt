@@ -1,14 +1,20 @@
-//! What a store tells of its mosaic: it only reads.
-ghost use Rattle.std.specs.Prelude.{◌≢◌, Err};
-ghost use Rattle.lattice.specs.declared.refusal.Refusal.TheVariants.{NoMemory};
-ghost use Rattle.calls.specs.Outcomes.{Elevates};
+//! The queries of a store: they only read.
+ghost use Rattle.std.specs.Prelude.{◌≡◌, ◌≢◌, ◌≤◌, ◌*◌, Contains, length, false, true, Err, OnOk, IfErr, vec_len, vec_capacity};
+ghost use Rattle.lattice.specs.declared.refusal.Refusal.TheVariants.{Device, NoMemory, Failed};
 ghost use Rattle.calls.specs.State.{State};
-ghost use Rattle.store.specs.Queried.{Queries, CountsSeams};
-ghost use Rattle.store.specs.Stores.{disk_of, IsAt};
+ghost use Rattle.calls.specs.Outcomes.{Elevates, Exports, Lists, Fills, Directs, Traces, Sheds};
+ghost use Rattle.cow_tree.specs.Reading.{Reads};
+ghost use Rattle.cow_tree.specs.Stored.{StoredTile, plane_bytes};
+ghost use Rattle.cow_tree.specs.Trees.{disk_of as disk_under, root_of as root_under, corners_of, has_failed as have_failed, staged_in};
+ghost use Rattle.store.specs.Queried.{Queries, IsTileOf, CountsSeams};
+ghost use Rattle.store.specs.Stores.{disk_of, has_failed, items_in, IsAt};
 
 use crate::Store;
+use cow_tree::{Plane, Tree};
 use disk::Disk;
-use lattice::{Height, Point, Refusal};
+use lattice::{Corner, Height, Point, Refusal};
+use page_codec::{PAGE_BYTES, pages_in_plane};
+use watershed::Run;
 
 impl<D: Disk> Store<D> {
     /// The height of a point, in metres where it is ground. Refused with Failed or Device.
@@ -18,9 +24,7 @@ impl<D: Disk> Store<D> {
         ensures outcome { D.honest (disk_of self.new) → (s : State) → IsAt D.Disk self.old s
             → (t : State) × (IsAt D.Disk self.new t × Elevates s point result t) }
     {
-        if self.tree.has_failed() {
-            return Err(Refusal::Failed);
-        }
+        self.check_working()?;
         catalogue::height(&mut self.tree, point)
     }
 
@@ -32,9 +36,125 @@ impl<D: Disk> Store<D> {
         ensures outcome { D.honest (disk_of self.new) → (s : State) → IsAt D.Disk self.old s
             → (t : State) × (IsAt D.Disk self.new t × CountsSeams s result t) }
     {
+        self.check_working()?;
+        catalogue::seams(&mut self.tree)
+    }
+
+    /// The filled level of a point, in metres: the least, over all paths to an outlet, of the greatest height on the path.
+    /// Refused with Failed, Outside, Void, NoMemory or Device.
+    pub fn fill(&mut self, point: Point) -> Result<i16, Refusal>
+        ensures reads { Queries D.Disk self.old self.new result }
+        ensures outcome { D.honest (disk_of self.new) → (s : State) → IsAt D.Disk self.old s
+            → (t : State) × (IsAt D.Disk self.new t × Fills s point result t) }
+    {
+        self.check_working()?;
+        drainage::fill(self.alloc, &mut self.tree, point)
+    }
+
+    /// The code of the direction in which water leaves a point: east is 1, and each next one clockwise twice as much; 0
+    /// where it leaves the mosaic. Refused as `fill` is.
+    pub fn direction(&mut self, point: Point) -> Result<u8, Refusal>
+        ensures reads { Queries D.Disk self.old self.new result }
+        ensures outcome { D.honest (disk_of self.new) → (s : State) → IsAt D.Disk self.old s
+            → (t : State) × (IsAt D.Disk self.new t × Directs s point result t) }
+    {
+        self.check_working()?;
+        drainage::direction(self.alloc, &mut self.tree, point)
+    }
+
+    /// The flow path of a point: the point, then the one that its direction leads to, and so on, to one where water leaves
+    /// the mosaic. Refused as `fill` is.
+    pub fn trace(&mut self, point: Point) -> Result<Vec<Point>, Refusal>
+        ensures reads { Queries D.Disk self.old self.new result }
+        ensures outcome { D.honest (disk_of self.new) → (s : State) → IsAt D.Disk self.old s
+            → (t : State) × (IsAt D.Disk self.new t × Traces s point (items_in result) t) }
+    {
+        self.check_working()?;
+        drainage::trace(self.alloc, &mut self.tree, point)
+    }
+
+    /// The watershed of a point: the ground points whose flow path contains it, as maximal runs, north first, west first.
+    /// Refused as `fill` is.
+    pub fn watershed(&mut self, point: Point) -> Result<Vec<Run>, Refusal>
+        ensures reads { Queries D.Disk self.old self.new result }
+        ensures outcome { D.honest (disk_of self.new) → (s : State) → IsAt D.Disk self.old s
+            → (t : State) × (IsAt D.Disk self.new t × Sheds s point (items_in result) t) }
+    {
+        self.check_working()?;
+        drainage::watershed(self.alloc, &mut self.tree, point)
+    }
+
+    /// The bytes of the HGT file of a tile's own samples. Refused with Failed, NoTile, NoMemory (before any read) or
+    /// Device.
+    pub fn export(&mut self, corner: Corner) -> Result<Vec<u8>, Refusal>
+        ensures reads { Queries D.Disk self.old self.new result }
+        ensures outcome { D.honest (disk_of self.new) → (s : State) → IsAt D.Disk self.old s
+            → (t : State) × (IsAt D.Disk self.new t × Exports s corner (items_in result) t) }
+    {
+        self.check_working()?;
+        if !self.tree.present(corner) {
+            return Err(Refusal::NoTile);
+        }
+        let len = self.tree.current().side().file_bytes() as usize;
+        let Ok(mut bytes) = Vec::with_capacity(self.alloc, len) else {
+            return Err(Refusal::NoMemory);
+        };
+        read_heights(&mut self.tree, corner, &mut bytes)?;
+        Ok(bytes)
+    }
+
+    /// The corners of the present tiles, in order. They are held in memory, so that no disk refuses.
+    pub fn tiles(&self) -> Result<Vec<Corner>, Refusal>
+        ensures memory { result ≢ Err Device }
+        ensures failed { has_failed self.now ≡ true → result ≡ Err Failed }
+        ensures outcome { D.honest (disk_of self.now) → (s : State) → IsAt D.Disk self.now s → Lists s (items_in result) s }
+    {
+        self.check_working()?;
+        let mut corners = Vec::new(self.alloc);
+        for entry in self.tree.current().entries() {
+            if corners.push(entry.corner).is_err() {
+                return Err(Refusal::NoMemory);
+            }
+        }
+        Ok(corners)
+    }
+
+    // Refused where the store has failed. One that works has no more tiles than a root has room for.
+    fn check_working(&self) -> Result<(), Refusal>
+        ensures works { OnOk result (has_failed self.now ≡ false) }
+        ensures few { OnOk result (length (corners_of self.now.tree) ≤ 240) }
+        ensures failed { IfErr result (λ r. (r ≡ Failed) × (has_failed self.now ≡ true)) }
+    {
         if self.tree.has_failed() {
             return Err(Refusal::Failed);
         }
-        catalogue::seams(&mut self.tree)
+        // The rules of the root tell how many.
+        let _entries = self.tree.current().entries();
+        Ok(())
     }
+}
+
+// Reads the bytes of the corner's heights as they stand in their pages, into the vector, which has room for them.
+fn read_heights<D: Disk>(
+    tree: &mut Tree<D>,
+    corner: Corner,
+    bytes: &mut Vec<u8>,
+) -> Result<(), Refusal>
+    requires works { have_failed tree.old ≡ false }
+    requires present { Contains (corners_of tree.old) corner }
+    requires empty { vec_len bytes.old ≡ 0 }
+    requires room { 2 * ((root_under tree.old).side * (root_under tree.old).side) ≤ vec_capacity bytes.old }
+    ensures reads { Reads D.Disk tree.old tree.new result }
+    ensures bytes { D.honest (disk_under tree.new) → OnOk result ((t : StoredTile) → IsTileOf (staged_in D.Disk tree.old) corner t
+        → bytes.new.items ≡ plane_bytes (root_under tree.old).side t.heights) }
+{
+    let side = tree.current().side();
+    let len = side.file_bytes() as usize;
+    let mut page = [0; PAGE_BYTES];
+    for i in 0..pages_in_plane(side) {
+        tree.read_page(corner, Plane::Heights, i, &mut page)?;
+        let count = (len - bytes.len()).min(PAGE_BYTES);
+        let _ = bytes.extend_from_slice(&page[..count]);
+    }
+    Ok(())
 }

@@ -1,13 +1,13 @@
 //! The store.
-ghost use Rattle.std.specs.Prelude.{◌≡◌, ◌≢◌, ◌≤◌, ◌<◌, ◌⊎◌, ◌↔◌, ℕ, map, true, false, Some, Ok, Err, OnOk, IfOk, IfErr, IsErrOf};
+ghost use Rattle.std.specs.Prelude.{◌≡◌, ◌≢◌, ◌≤◌, ◌<◌, ◌⊎◌, ◌↔◌, ℕ, true, false, Some, Ok, Err, OnOk, IfOk, IfErr, IsErrOf};
 ghost use Rattle.disk.specs.Disk.{Image, HasRisen};
 ghost use Rattle.disk.specs.Stops.{AddsNothing};
-ghost use Rattle.lattice.specs.Corners.{Corner};
 ghost use Rattle.lattice.specs.declared.refusal.Refusal.TheVariants.{Device, NoMemory, BadSide, BadCapacity, TooSmall};
 ghost use Rattle.page_codec.specs.Sizes.{sectors_of};
 ghost use Rattle.calls.specs.State.{Contents, State, fresh, working};
-ghost use Rattle.cow_tree.specs.Trees.{HasStaged, records_due, MayRefuse, corners_of as corners_under, root_of as root_under, has_failed as have_failed};
+ghost use Rattle.cow_tree.specs.Trees.{MayRefuse, has_failed as have_failed};
 ghost use Rattle.store.specs.Standing.{StandsFor};
+ghost use Rattle.store.specs.TreeStates.{IsClean};
 
 use cow_tree::{NotOpened, Tree};
 use disk::Disk;
@@ -25,9 +25,7 @@ pub struct Store<D: Disk> {
     pub(crate) alloc: Global,
     pub(crate) tree: Tree<D>,
     // Between two calls nothing is staged.
-    ghost clean: { have_failed tree ≡ false → (c : Corner) → ¬ HasStaged tree c },
-    ghost none_due: { have_failed tree ≡ false → records_due tree ≡ 0 },
-    ghost corners: { have_failed tree ≡ false → corners_under tree ≡ map (λ e. e.corner) (root_under tree).entries },
+    ghost clean: { have_failed tree ≡ false → IsClean tree },
 }
 
 impl<D: Disk> Store<D> {

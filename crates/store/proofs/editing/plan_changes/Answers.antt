@@ -10,7 +10,14 @@ use Rattle.store.proofs.EditingReads.{reading, mosaic_is, readable, none_refused
 use Rattle.store.proofs.EditingSteps.{refusal_is}
 use Rattle.store.proofs.InMemory.{is_working}
 use Rattle.calls.proofs.Applying.{plan_refused}
+use Rattle.store.proofs.Querying.{still_clean}
 use Rattle.store.proofs.editing.plan_changes.Goals as goal
+
+pub returns-in-Ok-clause-clean : goal.returns-in-Ok-clause-clean
+returns-in-Ok-clause-clean g c works clean = still_clean g.D.Disk c.args.tree.now c.plan.new.samples c.requires.works c.plan.ensures.reads.keeps (λ _. clean) works
+
+pub returns-in_default-clause-clean : goal.returns-in_default-clause-clean
+returns-in_default-clause-clean g c works clean = still_clean g.D.Disk c.args.tree.now c.plan.new.samples c.requires.works c.plan.ensures.reads.keeps (λ _. clean) works
 
 pub returns-in-Ok-clause-changes : goal.returns-in-Ok-clause-changes
 returns-in-Ok-clause-changes g c honest s at =

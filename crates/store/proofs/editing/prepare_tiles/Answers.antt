@@ -1,4 +1,4 @@
-use Rattle.std.proofs.Common.{◌≡◌, ◌∙◌, ℕ, false, Result, Ok, Err, get_or, below_more, ap, subst, arith}
+use Rattle.std.proofs.Common.{◌≡◌, ◌∙◌, ℕ, false, Result, Ok, Err, get_or, below_more, sym, ap, subst, arith}
 use Rattle.std.proofs.lemmas.List.{get_or_default}
 use Rattle.lattice.specs.Corners.{Corner}
 use Rattle.lattice.specs.declared.refusal.Refusal.{Refusal}
@@ -6,24 +6,27 @@ use Rattle.lattice.specs.declared.refusal.Refusal.TheVariants.{Device, NoMemory}
 use Rattle.edits.specs.declared.change.Change.{Change}
 use Rattle.edits.specs.LeftStale.{tile_of}
 use Rattle.cow_tree.specs.Trees.{has_failed, HasStaged}
+use Rattle.store.specs.Editing.{StagesOnly}
 use Rattle.cow_tree.proofs.ReadOnly.{never_refused}
-use Rattle.store.proofs.EditingSteps.{in_memory, stages_on}
+use Rattle.store.proofs.EditingSteps.{refused_as, in_memory, stages_on}
 use Rattle.store.proofs.editing.prepare_tiles.Goals as goal
 
-pub returns-in-Err-clause-stages : goal.returns-in-Err-clause-stages
-returns-in-Err-clause-stages g c =
+pub returns-in_err-prepare-clause-stages : goal.returns-in_err-prepare-clause-stages
+returns-in_err-prepare-clause-stages g c =
     let d = g.D.Disk in
     let mid = c.loop-change.tree in
     let new = c.prepare.new.self in
     let here = c.loop-change.invariant in
     let works : has_failed new ≡ false = c.prepare.ensures.failed ∙ here.stages.uncommitted.works in
-    stages_on d c.args.tree.now mid new tt (Err c.in-Err.refusal) here.stages
+    let r : Refusal = c.in_err-prepare.field-0.0 in
+    subst (λ (result : Result (Unit {0}) Refusal). StagesOnly d c.args.tree.now new result) (sym (refused_as c.from_residual.result r c.from_residual.ensures.1))
+    (stages_on d c.args.tree.now mid new tt (Err r) here.stages
     (record {
-      uncommitted = in_memory d mid new (Err c.in-Err.refusal) g.met.D.Disk.only_now c.prepare.ensures.disk c.prepare.ensures.root works c.prepare.ensures.at
-          (λ is. let other : c.in-Err.refusal ≡ NoMemory = c.in-Err.ensures.refused in let e : ◌≡◌ {A = Result (Unit {0}) Refusal} (Err c.in-Err.refusal) (Err Device) = is in cc);
+      uncommitted = in_memory d mid new (Err r) g.met.D.Disk.only_now c.prepare.ensures.disk c.prepare.ensures.root works c.prepare.ensures.at
+          (λ is. let other : r ≡ NoMemory = c.in_err-prepare.ensures.refused in let e : ◌≡◌ {A = Result (Unit {0}) Refusal} (Err r) (Err Device) = is in cc);
       corners = c.prepare.ensures.corners;
       still_staged = c.prepare.ensures.still_staged;
-    })
+    }))
 
 pub loop-change-preserved : goal.loop-change-preserved
 loop-change-preserved g c =
@@ -50,5 +53,5 @@ loop-change-preserved g c =
           (λ j below x. c.prepare.ensures.still_staged (tile_of (get_or changes j x)) (here.prepared j x below))
           (λ x. subst (λ (p : Corner). HasStaged new p)
           (c.corner.ensures ∙ ap tile_of (c.change-item.is ∙ get_or_default changes index c.change-item.result x c.loop-change-test.true))
-          c.in-Ok.ensures.has_staged) k lt change;
+          c.in_ok-prepare.ensures.has_staged) k lt change;
     }

@@ -9,17 +9,17 @@ use Rattle.cow_tree.proofs.Steps.{on_ok}
 use Rattle.store.proofs.editing.stage_changes.Goals as goal
 use Rattle.store.proofs.editing.stage_changes.Goals.{After-stage_pages}
 
-pub returns-in-Ok-clause-stages : goal.returns-in-Ok-clause-stages
-returns-in-Ok-clause-stages g c =
-    stages_on g.D.Disk c.args.tree.now c.prepare_tiles.new.tree c.stage_pages.new.tree c.in-Ok.field-0 c.stage_pages.result c.in-Ok.ensures.stages c.stage_pages.ensures.stages
+pub returns-clause-stages : goal.returns-clause-stages
+returns-clause-stages g c =
+    stages_on g.D.Disk c.args.tree.now c.prepare_tiles.new.tree c.stage_pages.new.tree tt c.stage_pages.result c.in_ok-prepare_tiles.ensures.stages c.stage_pages.ensures.stages
 
-pub returns-in-Ok-clause-set : goal.returns-in-Ok-clause-set
-returns-in-Ok-clause-set g c honest s m at start =
+pub returns-clause-set : goal.returns-clause-set
+returns-clause-set g c honest s m at start =
     let d = g.D.Disk in
     let old = c.args.tree.now in
     let mid = c.prepare_tiles.new.tree in
     let new = c.stage_pages.new.tree in
-    let first = c.in-Ok.ensures.stages.uncommitted in
+    let first = c.in_ok-prepare_tiles.ensures.stages.uncommitted in
     let side = ap (λ (r : RootValue). r.side) first.root in
     let mid_at = first.at (c.stage_pages.ensures.stages.uncommitted.honest honest) s at first.works in
     subst (λ (n : ℕ). OnOk c.stage_pages.result (HoldsMosaic n (staged_in d new) (all_changed c.args.changes.now m))) side
@@ -27,17 +27,17 @@ returns-in-Ok-clause-set g c honest s m at start =
     (subst (λ (n : ℕ). HoldsMosaic n (staged_in d mid) m) (sym side) (subst (λ (tiles : List StoredTile). HoldsMosaic (root_of old).side tiles m) (sym c.prepare_tiles.ensures.staged) start)))
 
 same_begun : (g : _) (c : After-stage_pages g) → writes_begun g.D.Disk c.prepare_tiles.new.tree ≡ writes_begun g.D.Disk c.args.tree.now
-same_begun g c = ap₂ (λ (n : ℕ) (b : Bool). n + (if b then 0 else 1)) c.in-Ok.ensures.writes c.in-Ok.ensures.begun
+same_begun g c = ap₂ (λ (n : ℕ) (b : Bool). n + (if b then 0 else 1)) c.in_ok-prepare_tiles.ensures.writes c.in_ok-prepare_tiles.ensures.begun
 
-pub returns-in-Ok-clause-writes : goal.returns-in-Ok-clause-writes
-returns-in-Ok-clause-writes g c =
-    let same = same_begun g (goal.at.returns-in-Ok-clause-writes g c).After-stage_pages in
+pub returns-clause-writes : goal.returns-clause-writes
+returns-clause-writes g c =
+    let same = same_begun g (goal.at.returns-clause-writes g c).After-stage_pages in
     subst (λ (n : ℕ). g.D.Disk.writes (disk_of c.stage_pages.new.tree) ≤ n + length c.args.changes.now) same c.stage_pages.ensures.writes
 
-pub returns-in-Ok-clause-pages : goal.returns-in-Ok-clause-pages
-returns-in-Ok-clause-pages g c =
-    let same = same_begun g (goal.at.returns-in-Ok-clause-pages g c).After-stage_pages in
+pub returns-clause-pages : goal.returns-clause-pages
+returns-clause-pages g c =
+    let same = same_begun g (goal.at.returns-clause-pages g c).After-stage_pages in
     subst (λ (n : ℕ). OnOk c.stage_pages.result (writes_begun g.D.Disk c.stage_pages.new.tree ≤ n + length c.args.changes.now)) same c.stage_pages.ensures.pages
 
-pub returns-in-Ok-clause-due : goal.returns-in-Ok-clause-due
-returns-in-Ok-clause-due g c = on_ok c.stage_pages.result (λ same. let few = c.in-Ok.ensures.due in omega (arith, same, few)) c.stage_pages.ensures.due
+pub returns-clause-due : goal.returns-clause-due
+returns-clause-due g c = on_ok c.stage_pages.result (λ same. let few = c.in_ok-prepare_tiles.ensures.due in omega (arith, same, few)) c.stage_pages.ensures.due

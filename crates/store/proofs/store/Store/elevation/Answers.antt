@@ -7,7 +7,7 @@ use Rattle.lattice.specs.declared.refusal.Refusal.{Refusal}
 use Rattle.calls.specs.Outcomes.{Elevates}
 use Rattle.calls.specs.State.{State}
 use Rattle.cow_tree.specs.Trees.{has_failed}
-use Rattle.store.proofs.Querying.{mosaic_at, stays_at, still_clean, still_none_due, still_corners, still_readable, fails_so, answered}
+use Rattle.store.proofs.Querying.{mosaic_at, stays_at, still_clean, still_readable, fails_so, answered}
 use Rattle.store.proofs.store.Store.elevation.Goals as goal
 
 pub invariant_of-self : goal.invariant_of-self
@@ -15,16 +15,14 @@ invariant_of-self g c =
     let d = g.D.Disk in
     let old = c.args.self.now in
     let new = c.height.new.samples in
-    let works : has_failed old.tree ≡ false = sym c.has_failed.ensures ∙ c.if-has_failed.false in
-    let keeps = c.height.ensures.reads.keeps in
-    record { clean = still_clean d old.tree new works keeps old.clean; none_due = still_none_due d old.tree new works keeps old.none_due; corners = still_corners d old.tree new works keeps old.corners }
+    record { clean = still_clean d old.tree new c.in_ok-check_working.ensures.works c.height.ensures.reads.keeps old.clean }
 
 pub returns-clause-outcome : goal.returns-clause-outcome
 returns-clause-outcome g c honest s at =
     let d = g.D.Disk in
     let old = c.args.self.now.tree in
     let new = c.height.new.samples in
-    let works : has_failed old ≡ false = sym c.has_failed.ensures ∙ c.if-has_failed.false in
+    let works = c.in_ok-check_working.ensures.works in
     let reads = c.height.ensures.reads in
     let readable = still_readable d old new works reads.keeps honest s at in
     answered d old new works reads.keeps honest s at (λ (s : State) (r : Result Height Refusal) (t : State). Elevates s c.args.point r t) c.height.result (reads.ready works) reads.unready (reads.only_device readable works)

@@ -1,11 +1,13 @@
-use Rattle.std.proofs.Common.{◌≡◌, false, sym, ◌∙◌, subst}
+use Rattle.std.proofs.Common.{ℕ, Result, sym, ap, ◌∙◌, subst}
 use Rattle.std.specs.Prelude.{None, Err}
+use Rattle.std.specs.Global.{Vec}
 use Rattle.std.proofs.lemmas.Bool.{both_ways}
 use Rattle.lattice.specs.declared.refusal.Refusal.{Refusal}
 use Rattle.calls.specs.Outcomes.{Exports}
 use Rattle.calls.specs.State.{failing}
-use Rattle.cow_tree.specs.Trees.{has_failed}
-use Rattle.store.proofs.Querying.{stays_at, still_clean, still_none_due, still_corners, still_at, failing_at, fails_so}
+use Rattle.store.specs.Stores.{items_in}
+use Rattle.store.proofs.EditingSteps.{refused_as}
+use Rattle.store.proofs.Querying.{stays_at, still_clean, still_at, failing_at, fails_so}
 use Rattle.store.proofs.QueryingPages.{no_tile_of, tile, tile_of, exported}
 use Rattle.store.proofs.store.Store.export.Goals as goal
 
@@ -13,7 +15,7 @@ pub returns-then-not-present-clause-outcome : goal.returns-then-not-present-clau
 returns-then-not-present-clause-outcome g c honest s at =
     let d = g.D.Disk in
     let tree = c.args.self.now.tree in
-    let works : has_failed tree ≡ false = sym c.has_failed.ensures ∙ c.if-has_failed.false in
+    let works = c.in_ok-check_working.ensures.works in
     (s, (at, (stays_at d tree works s at, no_tile_of d tree works s at c.args.corner (λ has. both_ways c.present.result c.if-not-present.true (c.present.ensures.answer.1 has)))))
 
 pub invariant_of-self : goal.invariant_of-self
@@ -21,31 +23,31 @@ invariant_of-self g c =
     let d = g.D.Disk in
     let old = c.args.self.now in
     let new = c.read_heights.new.tree in
-    let works : has_failed old.tree ≡ false = sym c.has_failed.ensures ∙ c.if-has_failed.false in
-    let keeps = c.read_heights.ensures.reads.keeps in
-    record { clean = still_clean d old.tree new works keeps old.clean; none_due = still_none_due d old.tree new works keeps old.none_due; corners = still_corners d old.tree new works keeps old.corners }
+    record { clean = still_clean d old.tree new c.in_ok-check_working.ensures.works c.read_heights.ensures.reads.keeps old.clean }
 
-pub returns-in-Ok-read_heights-clause-outcome : goal.returns-in-Ok-read_heights-clause-outcome
-returns-in-Ok-read_heights-clause-outcome g c honest s at =
+pub returns-clause-outcome : goal.returns-clause-outcome
+returns-clause-outcome g c honest s at =
     let d = g.D.Disk in
     let old = c.args.self.now.tree in
     let new = c.read_heights.new.tree in
-    let works : has_failed old ≡ false = sym c.has_failed.ensures ∙ c.if-has_failed.false in
+    let works = c.in_ok-check_working.ensures.works in
     let present = c.present.ensures.answer.0 c.if-not-present.false in
-    let reads = c.in-Ok-read_heights.ensures.reads in
-    let bytes = c.in-Ok-read_heights.ensures.bytes honest (tile d old works s at c.args.corner present) (tile_of d old works s at c.args.corner present) in
+    let reads = c.in_ok-read_heights.ensures.reads in
+    let bytes = c.in_ok-read_heights.ensures.bytes honest (tile d old works s at c.args.corner present) (tile_of d old works s at c.args.corner present) in
     (s, (still_at d old new works reads.keeps honest s at reads.not_failed, (stays_at d old works s at, exported d old works s at c.args.corner present c.read_heights.new.bytes.items bytes)))
 
-pub returns-in-Err-read_heights-clause-outcome : goal.returns-in-Err-read_heights-clause-outcome
-returns-in-Err-read_heights-clause-outcome g c honest s at =
+pub returns-in_err-read_heights-clause-outcome : goal.returns-in_err-read_heights-clause-outcome
+returns-in_err-read_heights-clause-outcome g c honest s at =
     let d = g.D.Disk in
     let old = c.args.self.now.tree in
     let new = c.read_heights.new.tree in
-    let works : has_failed old ≡ false = sym c.has_failed.ensures ∙ c.if-has_failed.false in
-    let reads = c.in-Err-read_heights.ensures.reads in (
+    let works = c.in_ok-check_working.ensures.works in
+    let reads = c.in_err-read_heights.ensures.reads in (
       failing s None,
       (
         failing_at d old new works reads.keeps honest s at reads.failed,
-        subst (λ (r : Refusal). Exports s c.args.corner (Err r) (failing s None)) (sym (reads.only_device works)) (fails_so d old new works reads.keeps honest s at),
+        subst (λ (result : Result (Vec ℕ) Refusal). Exports s c.args.corner (items_in result) (failing s None))
+            (sym (refused_as c.from_residual-in_err-read_heights.result c.in_err-read_heights.field-0.0 c.from_residual-in_err-read_heights.ensures.1 ∙ ap (λ (r : Refusal). Err r) (reads.only_device works)))
+            (fails_so d old new works reads.keeps honest s at),
       ),
     )

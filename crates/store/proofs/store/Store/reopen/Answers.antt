@@ -8,9 +8,11 @@ use Rattle.store.proofs.store.Store.reopen.Goals as goal
 
 pub invariant_of-self : goal.invariant_of-self
 invariant_of-self g c = record {
-  clean = λ works. ok_where_works c.reopen.result _ c.reopen.ensures.failed works c.reopen.ensures.clean;
-  none_due = λ works. ok_where_works c.reopen.result _ c.reopen.ensures.failed works c.reopen.ensures.none_due;
-  corners = λ works. ok_where_works c.reopen.result _ c.reopen.ensures.failed works c.reopen.ensures.corners;
+  clean = λ works. record {
+    none_staged = ok_where_works c.reopen.result _ c.reopen.ensures.failed works c.reopen.ensures.clean;
+    none_due = ok_where_works c.reopen.result _ c.reopen.ensures.failed works c.reopen.ensures.none_due;
+    corners = ok_where_works c.reopen.result _ c.reopen.ensures.failed works c.reopen.ensures.corners;
+  };
 }
 
 pub returns-clause-at : goal.returns-clause-at

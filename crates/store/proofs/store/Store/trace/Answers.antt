@@ -16,7 +16,7 @@ use Rattle.calls.proofs.Answered.{traces}
 use Rattle.drainage.proofs.Answered.{told_of_levels}
 use Rattle.cow_tree.specs.Trees.{has_failed}
 use Rattle.store.specs.Stores.{items_in}
-use Rattle.store.proofs.Querying.{valid_at, stays_at, still_clean, still_none_due, still_corners, still_readable, queried, fails_so}
+use Rattle.store.proofs.Querying.{valid_at, stays_at, still_clean, still_readable, queried, fails_so}
 use Rattle.store.proofs.QueryingDrainage.{listed, of_here, held_here, risen_read, works_read, fails_read, read_answered}
 use Rattle.store.proofs.store.Store.trace.Goals as goal
 
@@ -25,14 +25,12 @@ invariant_of-self g c =
     let d = g.D.Disk in
     let old = c.args.self.now in
     let new = c.trace.new.samples in
-    let works : has_failed old.tree ≡ false = sym c.has_failed.ensures ∙ c.if-has_failed.false in
-    let keeps = c.trace.ensures.reads.keeps in
-    record { clean = still_clean d old.tree new works keeps old.clean; none_due = still_none_due d old.tree new works keeps old.none_due; corners = still_corners d old.tree new works keeps old.corners }
+    record { clean = still_clean d old.tree new c.in_ok-check_working.ensures.works c.trace.ensures.reads.keeps old.clean }
 
 pub returns-clause-reads : goal.returns-clause-reads
 returns-clause-reads g c =
     let old = c.args.self.now.tree in
-    let works : has_failed old ≡ false = sym c.has_failed.ensures ∙ c.if-has_failed.false in
+    let works = c.in_ok-check_working.ensures.works in
     let reads = c.trace.ensures.reads in
     queried g.D.Disk old c.trace.new.samples works reads.keeps c.trace.result (risen_read c.trace.result _ _ reads.refusal) (works_read c.trace.result _ (reads.ready works)) (fails_read c.trace.result _ reads.unready)
 
@@ -41,7 +39,7 @@ returns-clause-outcome g c honest s at =
     let d = g.D.Disk in
     let old = c.args.self.now.tree in
     let new = c.trace.new.samples in
-    let works : has_failed old ≡ false = sym c.has_failed.ensures ∙ c.if-has_failed.false in
+    let works = c.in_ok-check_working.ensures.works in
     let ensures = c.trace.ensures in
     let keeps = ensures.reads.keeps in
     let result : Result (Vec Point) Refusal = c.trace.result in

@@ -1,9 +1,9 @@
 //! Where water stands and goes in stores of tiles of side 3.
-use crate::Store;
-use crate::fixtures::{A, B, EAST, HERE, at, import, store_of, wall};
+use super::fixtures::{A, B, EAST, HERE, at, import, store_of, wall};
 use disk::MemDisk;
 use lattice::{Point, Refusal};
 use std::test::Fail;
+use store::Store;
 use watershed::Run;
 
 // 9 9 9 / 1 1 3 / 9 9 9: to the east of B the valley goes on, and ends higher.

@@ -1,51 +1,51 @@
 //! Tiles of side 3, and commands on them, for tests.
-use crate::{Store, store_in_memory};
 use arrayvec::ArrayVec;
 use disk::{Disk, MemDisk};
 use edits::{Bytes, Command};
 use lattice::{Corner, Point};
 use std::alloc::Global;
 use std::test::Fail;
+use store::{Store, store_in_memory};
 
-pub const HERE: Corner = Corner { lat: 0, lon: 0 };
+pub(crate) const HERE: Corner = Corner { lat: 0, lon: 0 };
 
-pub const EAST: Corner = Corner { lat: 0, lon: 1 };
+pub(crate) const EAST: Corner = Corner { lat: 0, lon: 1 };
 
-pub const NORTH: Corner = Corner { lat: 1, lon: 0 };
+pub(crate) const NORTH: Corner = Corner { lat: 1, lon: 0 };
 
 // Tiles: nine samples of two bytes each, the higher first, rows from the north.
 
 /// 9 9 9 / 9 1 9 / 9 9 5.
-pub const A: [u8; 18] = [0, 9, 0, 9, 0, 9, 0, 9, 0, 1, 0, 9, 0, 9, 0, 9, 0, 5];
+pub(crate) const A: [u8; 18] = [0, 9, 0, 9, 0, 9, 0, 9, 0, 1, 0, 9, 0, 9, 0, 9, 0, 5];
 
 /// 9 9 9 / 9 1 1 / 9 9 9.
-pub const B: [u8; 18] = [0, 9, 0, 9, 0, 9, 0, 9, 0, 1, 0, 1, 0, 9, 0, 9, 0, 9];
+pub(crate) const B: [u8; 18] = [0, 9, 0, 9, 0, 9, 0, 9, 0, 1, 0, 1, 0, 9, 0, 9, 0, 9];
 
 /// 9 9 9 / 8 9 9 / 9 9 9.
-pub const H: [u8; 18] = [0, 9, 0, 9, 0, 9, 0, 8, 0, 9, 0, 9, 0, 9, 0, 9, 0, 9];
+pub(crate) const H: [u8; 18] = [0, 9, 0, 9, 0, 9, 0, 8, 0, 9, 0, 9, 0, 9, 0, 9, 0, 9];
 
 /// 9 9 9 / 9 void 9 / 9 9 9.
-pub const V: [u8; 18] = [0, 9, 0, 9, 0, 9, 0, 9, 128, 0, 0, 9, 0, 9, 0, 9, 0, 9];
+pub(crate) const V: [u8; 18] = [0, 9, 0, 9, 0, 9, 0, 9, 128, 0, 0, 9, 0, 9, 0, 9, 0, 9];
 
-pub fn at(y: i32, x: i32) -> Point {
+pub(crate) fn at(y: i32, x: i32) -> Point {
     Point { y, x }
 }
 
-pub fn import(alloc: Global, corner: Corner, bytes: &[u8]) -> Result<Command, Fail> {
+pub(crate) fn import(alloc: Global, corner: Corner, bytes: &[u8]) -> Result<Command, Fail> {
     let bytes = Bytes::new(Vec::from_slice(alloc, bytes)?);
     Ok(Command::Import { corner, bytes })
 }
 
-pub fn patch(from: Point, to: Point, height: i32) -> Command {
+pub(crate) fn patch(from: Point, to: Point, height: i32) -> Command {
     Command::Patch { from, to, height }
 }
 
-pub fn burn(depth: i32, points: &[Point]) -> Command {
+pub(crate) fn burn(depth: i32, points: &[Point]) -> Command {
     let points = listed(points);
     Command::Burn { depth, points }
 }
 
-pub fn wall(height: i32, points: &[Point]) -> Command {
+pub(crate) fn wall(height: i32, points: &[Point]) -> Command {
     let points = listed(points);
     Command::Wall { height, points }
 }
@@ -60,7 +60,7 @@ fn listed(points: &[Point]) -> ArrayVec<Point, 64> {
 
 /// A store of so many tiles at most, with these, on the smallest disk: behind two roots and two gates it has a record and
 /// a page for each of four planes a tile, and for two planes more.
-pub fn store_of(
+pub(crate) fn store_of(
     alloc: Global,
     capacity: u32,
     tiles: &[(Corner, [u8; 18])],
@@ -76,12 +76,16 @@ pub fn store_of(
     Ok(store)
 }
 
-pub fn lists<D: Disk>(store: &Store<D>, corners: &[Corner]) -> Result<bool, Fail> {
+pub(crate) fn lists<D: Disk>(store: &Store<D>, corners: &[Corner]) -> Result<bool, Fail> {
     let tiles = store.tiles().ok().ok_or("not listed")?;
     Ok(tiles.as_slice() == corners)
 }
 
-pub fn exports<D: Disk>(store: &mut Store<D>, corner: Corner, bytes: &[u8]) -> Result<bool, Fail> {
+pub(crate) fn exports<D: Disk>(
+    store: &mut Store<D>,
+    corner: Corner,
+    bytes: &[u8],
+) -> Result<bool, Fail> {
     let exported = store.export(corner).ok().ok_or("not exported")?;
     Ok(exported.as_slice() == bytes)
 }

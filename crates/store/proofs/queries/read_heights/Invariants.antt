@@ -4,7 +4,7 @@ use Rattle.cow_tree.specs.Stored.{StoredTile}
 use Rattle.cow_tree.specs.Trees.{disk_of, has_failed, staged_in}
 use Rattle.store.specs.Queried.{IsTileOf}
 use Rattle.store.proofs.QueryingPages.{IsReadTo}
-use Rattle.store.proofs.exporting.read_heights.Given as goal
+use Rattle.store.proofs.queries.read_heights.Given as goal
 
 abbrev pub invariant-loop-i : goal.invariant-loop-i
 invariant-loop-i g l = record {

@@ -1,4 +1,4 @@
-//! Doing a command.
+//! The commands of a store.
 ghost use Rattle.std.specs.Prelude.{◌≡◌, ◌≢◌, ◌≤◌, ◌<◌, ◌+◌, ◌*◌, ◌^◌, ◌⊎◌, false, true, length, All, Contains, IsTrue, IsFalse, Ok, Err, OnOk, IfErr, IsErrOf};
 ghost use Rattle.disk.specs.Disk.{HasRisen};
 ghost use Rattle.disk.specs.Stops.{LeavesOnly};
@@ -12,11 +12,13 @@ ghost use Rattle.calls.specs.State.{State};
 ghost use Rattle.cow_tree.specs.Trees.{corners_of};
 ghost use Rattle.store.specs.Standing.{StandsFor};
 ghost use Rattle.store.specs.States.{StandsForMade};
-ghost use Rattle.store.specs.Applied.{IsApplied};
+ghost use Rattle.store.specs.Applied.{SetsSamples, IsApplied};
 ghost use Rattle.store.specs.Editing.{WritesFew};
 ghost use Rattle.store.specs.Stores.{disk_of, root_of, side_of, capacity_of, has_failed, IsAt};
 
 use crate::Store;
+use crate::committing::commit_staged;
+use crate::editing::{plan_changes, stage_changes};
 use cow_tree::Plane;
 use disk::Disk;
 use edits::{Command, commands_make_mosaics};
@@ -74,23 +76,11 @@ impl<D: Disk> Store<D> {
         requires { has_failed self.old ≡ false }
         ensures { IsApplied D.Disk (Import corner bytes.now) result self.old.tree self.new.tree }
     {
-        if let Err(refusal) = self.can_import(corner, bytes) {
-            return Err(refusal);
-        }
+        self.can_import(corner, bytes)?;
         // What is made is a mosaic.
         commands_make_mosaics();
-        match self.tree.stage_plane(corner, Plane::Heights, bytes) {
-            Ok(()) => {}
-            Err(refusal) => {
-                self.tree.abandon();
-                return Err(refusal);
-            }
-        }
-        let count = self.tree.current().count() + 1;
-        match self.tree.commit(count) {
-            Ok(()) => Ok(count),
-            Err(refusal) => Err(refusal),
-        }
+        let staged = self.tree.stage_plane(corner, Plane::Heights, bytes);
+        commit_staged(&mut self.tree, staged)
     }
 
     // Takes a tile out.
@@ -98,16 +88,25 @@ impl<D: Disk> Store<D> {
         requires { has_failed self.old ≡ false }
         ensures { IsApplied D.Disk (Remove corner) result self.old.tree self.new.tree }
     {
-        if let Err(refusal) = self.can_remove(corner) {
-            return Err(refusal);
-        }
+        self.can_remove(corner)?;
         commands_make_mosaics();
         self.tree.drop_plane(corner, Plane::Heights);
-        let accepted = self.tree.current().count() + 1;
-        match self.tree.commit(accepted) {
-            Ok(()) => Ok(accepted),
-            Err(fault) => Err(fault),
+        commit_staged(&mut self.tree, Ok(()))
+    }
+
+    // A patch, a burn or a wall.
+    fn edit(&mut self, command: &Command) -> Result<u64, Refusal>
+        requires not_failed { has_failed self.old ≡ false }
+        requires samples { SetsSamples command.now }
+        ensures applied { IsApplied D.Disk command.now result self.old.tree self.new.tree }
+        ensures writes { WritesFew command.now (D.writes (disk_of self.old)) (D.writes (disk_of self.new)) }
+    {
+        let changes = plan_changes(self.alloc, &mut self.tree, command)?;
+        if self.tree.current().number() == u64::MAX {
+            return Err(Refusal::Worn);
         }
+        let staged = stage_changes(&mut self.tree, &changes);
+        commit_staged(&mut self.tree, staged)
     }
 
     // Whether an import is accepted, by what is held in memory.

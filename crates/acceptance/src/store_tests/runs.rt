@@ -1,22 +1,15 @@
-use crate::{Event, Reply, Store, store_in_memory};
+//! Whole runs of a store.
+use super::fixtures::{A, HERE, at, import};
 use disk::{Disk, FaultOnceDisk};
-use edits::{Bytes, Command};
-use lattice::{Corner, Height, Point, Refusal};
+use edits::Command;
+use lattice::{Height, Refusal};
 use std::alloc::Global;
 use std::test::Fail;
+use store::{Event, Reply, Store, store_in_memory};
 use watershed::Run;
-
-const HERE: Corner = Corner { lat: 0, lon: 0 };
-
-// 9 9 9, 9 1 9, 9 9 5.
-const A: [u8; 18] = [0, 9, 0, 9, 0, 9, 0, 9, 0, 1, 0, 9, 0, 9, 0, 9, 0, 5];
 
 // How many calls opening a store with one tile makes: a sync, both gates, both roots and the record.
 const CALLS_TO_OPEN: u64 = 6;
-
-fn at(y: i32, x: i32) -> Point {
-    Point { y, x }
-}
 
 // The whole line of the tile.
 fn line(y: i32) -> Run {
@@ -27,12 +20,8 @@ fn line(y: i32) -> Run {
     }
 }
 
-fn import(alloc: Global) -> Result<Event, Fail> {
-    let bytes = Vec::from_array(alloc, A).ok().ok_or("no memory")?;
-    Ok(Event::Do(Command::Import {
-        corner: HERE,
-        bytes: Bytes::new(bytes),
-    }))
+fn importing(alloc: Global) -> Result<Event, Fail> {
+    Ok(Event::Do(import(alloc, HERE, &A)?))
 }
 
 fn removal() -> Event {
@@ -56,8 +45,8 @@ fn every_event_of_a_run(rt: HostRuntime) -> Result<(), Fail> {
     let mut store = store_in_memory(alloc, 16, 3, 1).map_err(|_| "not made")?;
     let events = [
         Event::Count,
-        import(alloc)?,
-        import(alloc)?,
+        importing(alloc)?,
+        importing(alloc)?,
         Event::Elevation(at(0, 2)),
         Event::Fill(at(1, 1)),
         Event::Direction(at(1, 1)),
@@ -101,7 +90,7 @@ fn replies_go_behind_what_is_there(rt: HostRuntime) -> Result<(), Fail> {
     let mut store = store_in_memory(alloc, 16, 3, 1).map_err(|_| "not made")?;
     let mut out = vec![in alloc; Reply::Reopened]?;
     assert_eq!(rt;
-        store.run(&[import(alloc)?, Event::Count], &mut out),
+        store.run(&[importing(alloc)?, Event::Count], &mut out),
         Ok(())
     );
     assert_eq!(rt; store.run(&[], &mut out), Ok(()));
@@ -113,7 +102,7 @@ fn replies_go_behind_what_is_there(rt: HostRuntime) -> Result<(), Fail> {
 fn a_fault_in_a_run(rt: HostRuntime) -> Result<(), Fail> {
     let alloc = rt.alloc();
     let mut store = store_in_memory(alloc, 16, 3, 1).map_err(|_| "not made")?;
-    let _ = replies(alloc, &mut store, &[import(alloc)?])?;
+    let _ = replies(alloc, &mut store, &[importing(alloc)?])?;
     let faulty = FaultOnceDisk::new(store.into_disk(), CALLS_TO_OPEN);
     let mut store = Store::open(alloc, faulty).map_err(|_| "not opened")?;
     let events = [

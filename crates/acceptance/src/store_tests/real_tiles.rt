@@ -1,13 +1,11 @@
-use crate::{Store, store_in_memory};
+//! Tiles of 1201 by 1201 samples.
+use super::fixtures::{EAST, HERE};
 use disk::MemDisk;
 use edits::{Bytes, Command};
 use lattice::Corner;
 use std::alloc::Global;
 use std::test::Fail;
-
-const HERE: Corner = Corner { lat: 0, lon: 0 };
-
-const EAST: Corner = Corner { lat: 0, lon: 1 };
+use store::{Store, store_in_memory};
 
 // What a store of two tiles of 1201 x 1201 samples needs.
 const SECTORS: u32 = 7064;

@@ -3,14 +3,14 @@ use disk::{Disk, Fault};
 
 /// Passes each call on, and counts writes and syncs.
 #[derive(Drop)]
-pub struct CountedDisk<D: Disk> {
+pub(crate) struct CountedDisk<D: Disk> {
     inner: D,
     writes: u32,
     syncs: u32,
 }
 
 impl<D: Disk> CountedDisk<D> {
-    pub fn new(disk: D) -> CountedDisk<D> {
+    pub(crate) fn new(disk: D) -> CountedDisk<D> {
         CountedDisk {
             inner: disk,
             writes: 0,
@@ -18,15 +18,15 @@ impl<D: Disk> CountedDisk<D> {
         }
     }
 
-    pub fn writes(&self) -> u32 {
+    pub(crate) fn writes(&self) -> u32 {
         self.writes
     }
 
-    pub fn syncs(&self) -> u32 {
+    pub(crate) fn syncs(&self) -> u32 {
         self.syncs
     }
 
-    pub fn into_inner(self) -> D {
+    pub(crate) fn into_inner(self) -> D {
         let CountedDisk { inner, .. } = self;
         inner
     }

@@ -1,7 +1,6 @@
 //! What a store of tiles of side 3 answers, command by command and query by query.
-use crate::Store;
-use crate::counted_disk::CountedDisk;
-use crate::fixtures::{
+use super::counted_disk::CountedDisk;
+use super::fixtures::{
     A, B, EAST, H, HERE, V, at, burn, exports, import, lists, patch, store_of, wall,
 };
 use disk::MemDisk;
@@ -9,7 +8,7 @@ use edits::Command;
 use lattice::{Corner, Height, Refusal};
 use std::alloc::Global;
 use std::test::Fail;
-use watershed::Run;
+use store::Store;
 
 const SOUTH_WEST: Corner = Corner { lat: -1, lon: -1 };
 

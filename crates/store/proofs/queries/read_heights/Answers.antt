@@ -9,7 +9,7 @@ use Rattle.cow_tree.specs.Trees.{staged_in}
 use Rattle.cow_tree.specs.declared.plane.Plane.TheVariants.{Heights}
 use Rattle.cow_tree.proofs.Due.{placed_tile}
 use Rattle.store.proofs.QueryingPages.{IsReadTo, read_more, all_read, page_of_tile}
-use Rattle.store.proofs.exporting.read_heights.Goals as goal
+use Rattle.store.proofs.queries.read_heights.Goals as goal
 
 pub read_page-requires-clause-held : goal.read_page-requires-clause-held
 read_page-requires-clause-held g c =

@@ -1,6 +1,5 @@
 //! Stops and faults at each call of each command, of each query and of an opening, on stores of tiles of side 3.
-use crate::Store;
-use crate::fixtures::{
+use super::fixtures::{
     A, B, EAST, H, HERE, NORTH, V, at, burn, exports, import, patch, store_of, wall,
 };
 use cow_tree::NotOpened;
@@ -9,6 +8,7 @@ use edits::Command;
 use lattice::{Corner, Height, Refusal};
 use std::alloc::Global;
 use std::test::Fail;
+use store::Store;
 
 // The tiles of these corners, as far as they are there.
 const CORNERS: [Corner; 3] = [HERE, EAST, NORTH];
