@@ -7,7 +7,8 @@ use std::test::Fail;
 use table_engine::TableEngine;
 
 /// 9 9 9 / 9 1 9 / 9 9 5, rows from the north.
-pub(crate) const TILE: &[u8] = b"\x00\x09\x00\x09\x00\x09\x00\x09\x00\x01\x00\x09\x00\x09\x00\x09\x00\x05";
+pub(crate) const TILE: &[u8] =
+    b"\x00\x09\x00\x09\x00\x09\x00\x09\x00\x01\x00\x09\x00\x09\x00\x09\x00\x05";
 
 /// Gives the bytes in two reads, the first of `cut` bytes.
 #[derive(Drop)]
