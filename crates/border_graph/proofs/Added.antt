@@ -6,7 +6,7 @@ use Rattle.std.proofs.lemmas.List.Elements.{Contains-append_left, Contains-push,
 use Rattle.border_graph.specs.declared.waiting.Link.{Link}
 use Rattle.border_graph.specs.Rising.{links_to}
 use Rattle.border_graph.specs.Linking.{IsAddedTo}
-use Rattle.border_graph.proofs.Tiles.{get_or-map}
+use Rattle.std.proofs.Math.ListN.{get_or-map}
 
 map_set : {V : Type 0} (items : V → List Link) (xs : List V) (k : ℕ) (v : V) → map items (set xs k v) ≡ set (map items xs) k (items v)
 map_set items [] k v = refl

@@ -1,5 +1,5 @@
 -- What waits in a heap of reversed links: the lowest comes first.
-use Rattle.std.proofs.Common.{◌≡◌, zero, suc, ◌+◌, ◌<◌, ◌⊎◌, inl, inr, ◌≤ℤ◌, false, List, [], ◌∷◌, length, get_or, refl, sym, ap, ◌∙◌, subst, arith, true≢false, map, cond, int_lt, Contains}
+use Rattle.std.proofs.Common.{◌≡◌, zero, suc, ◌<◌, ◌⊎◌, inl, inr, ◌≤ℤ◌, false, List, [], ◌∷◌, length, get_or, refl, sym, ap, ◌∙◌, subst, arith, true≢false, map, cond, int_lt, Contains}
 use Rattle.std.proofs.lemmas.List.{length-map}
 use Rattle.std.specs.List.{AllByRecursion}
 use Rattle.std.specs.List.Sorted.{IsPermutation}
@@ -9,10 +9,10 @@ use Rattle.std.specs.declared.cmp.Reverse.{Reverse}
 use Rattle.std.proofs.lemmas.Int.{ints}
 use Rattle.std.proofs.lemmas.Bool.{cases_Bool}
 use Rattle.std.proofs.lemmas.List.Elements.{Contains-get_or, Contains-append_right}
-use Rattle.std.proofs.lemmas.List.Sorted.{Contains-permutation, IsPermutation-sym, length_permutation}
+use Rattle.std.proofs.lemmas.List.Sorted.{Contains-permutation, IsPermutation-sym}
 use Rattle.border_graph.specs.declared.waiting.Link.{Link}
 use Rattle.border_graph.specs.Waiting.{IsAdded, IsTaken}
-use Rattle.border_graph.proofs.Tiles.{get_or-map}
+use Rattle.std.proofs.Math.ListN.{get_or-map}
 
 contains_map : (xs : List (Reverse Link)) (x : Reverse Link) → Contains xs x → Contains (map (λ (r : Reverse Link). r.0) xs) x.0
 contains_map xs x has = (has.0, subst (λ n. has.0 < n) (sym (length-map xs (λ (r : Reverse Link). r.0))) has.1, get_or-map (λ (r : Reverse Link). r.0) xs has.0 x ∙ ap (λ (r : Reverse Link). r.0) has.2)

@@ -1,5 +1,5 @@
 -- Joining is right: each link is a path of no greater crest, and a path out is cut at the rims that it crosses.
-use Rattle.std.proofs.Common.{◌≡◌, ◌≢◌, ℕ, ◌*◌, ◌+◌, ◌-◌, ◌<◌, ◌≤◌, ◌⊎◌, inl, inr, ℤ, pos, ◌≤ℤ◌, not, IsTrue, ◌&&◌, List, [], ◌∷◌, length, get_or, slice_index, slice_index_or, refl, sym, ap, ap₂, ◌∙◌, subst, arith, true≢false, map, Contains}
+use Rattle.std.proofs.Common.{suc, Bool, false, ◌≡◌, ◌≢◌, ℕ, ◌*◌, ◌+◌, ◌-◌, ◌<◌, ◌≤◌, ◌⊎◌, inl, inr, ℤ, pos, ◌≤ℤ◌, not, IsTrue, ◌&&◌, List, [], ◌∷◌, length, get_or, slice_index, slice_index_or, refl, sym, ap, ap₂, ◌∙◌, subst, arith, true≢false, map, Contains}
 use Rattle.std.proofs.lemmas.List.{length-map, get_or_default}
 use denote.Struct.Props.{props}
 use Rattle.std.specs.Int.{int_max}
@@ -16,7 +16,7 @@ use Rattle.lattice.specs.Ground.{is_ground, is_outlet, is_adjacent, same_point, 
 use Rattle.lattice.specs.Block.{block, is_solid, is_linked, is_rim, rim_number, is_inner_outlet}
 use Rattle.lattice.proofs.Levels.{≤ℤ_trans, le-max_left, le-max_right, max-le, height-le_level, height-le_crest, level_is_unique, level_of_outlet}
 use Rattle.lattice.proofs.Lawful.{terrain_is_lawful, block_is_lawful, five_parts}
-use Rattle.lattice.proofs.Samples.{holds_is, point_of_index, index_of_below, index_of_point_is, point_of_held}
+use Rattle.lattice.proofs.Samples.{index_of_point, holds_is, point_of_index, index_of_below, index_of_point_is, point_of_held}
 use Rattle.lattice.proofs.FilledLevels.{filled_level_exists}
 use Rattle.tile_flood.specs.declared.passing.Spill.{Spill}
 use Rattle.tile_flood.specs.Labelling.{OUT}
@@ -26,70 +26,81 @@ use Rattle.tile_flood.proofs.InMosaic.{block_is_part, ground_is, inner_outlet_is
 use Rattle.tile_flood.proofs.Raised.{rim_number_below}
 use Rattle.tile_flood.proofs.Passages.{not_void}
 use Rattle.tile_flood.proofs.Squares.{solid_below, solid_height, solid_if, linked_parts, rim_is_exit}
-use Rattle.border_graph.specs.Borders.{Border}
+use Rattle.border_graph.specs.Summaries.{Summary}
 use Rattle.border_graph.specs.Sharing.{AreInOrder}
 use Rattle.border_graph.specs.Links.{IsLinkBelow, IsWayBelow, IsJoinedLevel}
-use Rattle.border_graph.specs.Joining.{AreBorders, IsBorderOf, IsRimNumberOf, Node, Outlet, Rim, rim_point, border_at, IsThere, IsLabelLink, IsOutletLink, IsSpillLink, IsSharedLink, IsInnerLink, IsLink}
-use Rattle.border_graph.proofs.RimNumbers.{one_rim_point, rim_point_of}
+use Rattle.border_graph.specs.Joining.{AreSummaries, IsSummaryOf, IsRimNumberOf, Node, Outlet, Rim, rim_point, summary_at, IsThere, IsLabelLink, IsOutletLink, IsSpillLink, IsSharedLink, IsInnerLink, IsLink}
+use Rattle.lattice.proofs.RimNumbers.{one_rim_point, rim_point_of}
 use Rattle.border_graph.proofs.Ways.{WayOut, along, back, way_of_level, level_of_ways}
-use Rattle.border_graph.proofs.Tiles.{any_at, index_of_any, get_or-map, one_place, inner_point_held}
+use Rattle.std.proofs.Math.ListN.{get_or-map}
+use Rattle.std.specs.List.{list_any}
+use Rattle.std.proofs.lemmas.List.Folds.{list_any_at}
+use Rattle.lattice.proofs.Rising.{rising_from, one_index}
+use Rattle.lattice.proofs.Interior.{inner_only}
 
-module _ (m : Mosaic) (is : IsMosaic m) (borders : List Border) (all : AreBorders m borders) where
-  as_many : length borders ≡ length m.tiles
-  as_many = sym (length-map borders (λ (b : Border). b.corner)) ∙ (ap length all.corners ∙ length-map m.tiles (λ (t : Tile). t.corner))
+index_of_any : {X : Type 0} (f : X → Bool) (xs : List X) → IsTrue (list_any f xs) → (k : ℕ) × ((k < length xs) × ((d : X) → IsTrue (f (get_or xs k d))))
+index_of_any f [] h = absurd (true≢false (sym h))
+index_of_any f (x ∷ xs) h = elim (or_cases (f x) (list_any f xs) h) [
+  | inl here ↦ (0, (omega arith, λ d. here))
+  | inr later ↦ let there = index_of_any f xs later in (suc there.0, (omega (arith, there.1.0), there.1.1))
+]
 
-  tile_corner : (t : ℕ) → (get_or m.tiles t (record { corner = record { lat = pos 0; lon = pos 0 }; samples = [] })).corner ≡ (border_at borders t).corner
+module _ (m : Mosaic) (is : IsMosaic m) (summaries : List Summary) (all : AreSummaries m summaries) where
+  as_many : length summaries ≡ length m.tiles
+  as_many = sym (length-map summaries (λ (b : Summary). b.corner)) ∙ (ap length all.corners ∙ length-map m.tiles (λ (t : Tile). t.corner))
+
+  tile_corner : (t : ℕ) → (get_or m.tiles t (record { corner = record { lat = pos 0; lon = pos 0 }; samples = [] })).corner ≡ (summary_at summaries t).corner
   tile_corner t =
       sym (get_or-map (λ (t : Tile). t.corner) m.tiles t (record { corner = record { lat = pos 0; lon = pos 0 }; samples = [] }))
       ∙ (ap (λ (cs : List Corner). get_or cs t (record { lat = pos 0; lon = pos 0 })) (sym all.corners)
-      ∙ get_or-map (λ (b : Border). b.corner) borders t (record { corner = record { lat = pos 0; lon = pos 0 }; rim = []; spills = [] }))
+      ∙ get_or-map (λ (b : Summary). b.corner) summaries t (record { corner = record { lat = pos 0; lon = pos 0 }; rim = []; spills = [] }))
 
   same_itself : (c : Corner) → IsTrue (same_corner c c)
   same_itself c = and_from (int_eq c.lat c.lat) (int_eq c.lon c.lon) ((Decides-int_eq c.lat c.lat).1 refl) ((Decides-int_eq c.lon c.lon).1 refl)
 
-  pub present : (t : ℕ) → t < length borders → IsTrue (is_present m (border_at borders t).corner)
-  present t small = any_at (λ (tile : Tile). same_corner tile.corner (border_at borders t).corner) m.tiles t (record { corner = record { lat = pos 0; lon = pos 0 }; samples = [] }) (subst (λ k. t < k) as_many small)
-      (subst (λ c. IsTrue (same_corner c (border_at borders t).corner)) (sym (tile_corner t)) (same_itself (border_at borders t).corner))
+  pub present : (t : ℕ) → t < length summaries → IsTrue (is_present m (summary_at summaries t).corner)
+  present t small = list_any_at (λ (tile : Tile). same_corner tile.corner (summary_at summaries t).corner) m.tiles t (record { corner = record { lat = pos 0; lon = pos 0 }; samples = [] }) (subst (λ k. t < k) as_many small)
+      (subst (λ c. IsTrue (same_corner c (summary_at summaries t).corner)) (sym (tile_corner t)) (same_itself (summary_at summaries t).corner))
 
-  one_border : (t u : ℕ) → t < length borders → u < length borders → (border_at borders t).corner ≡ (border_at borders u).corner → t ≡ u
-  one_border t u in_t in_u same = one_place (λ (tile : Tile). tile.corner) m.tiles is.in_order (record { corner = record { lat = pos 0; lon = pos 0 }; samples = [] }) t u
+  one_summary : (t u : ℕ) → t < length summaries → u < length summaries → (summary_at summaries t).corner ≡ (summary_at summaries u).corner → t ≡ u
+  one_summary t u in_t in_u same = one_index (λ (tile : Tile). tile.corner) m.tiles t u (record { corner = record { lat = pos 0; lon = pos 0 }; samples = [] }) (rising_from (λ (tile : Tile). tile.corner) m.tiles is.in_order)
       (subst (λ k. t < k) as_many in_t) (subst (λ k. u < k) as_many in_u) (tile_corner t ∙ (same ∙ sym (tile_corner u)))
 
-  corner_is : (t : ℕ) → t < length borders → IsTrue (is_corner (border_at borders t).corner)
+  corner_is : (t : ℕ) → t < length summaries → IsTrue (is_corner (summary_at summaries t).corner)
   corner_is t small = subst (λ c. IsTrue (is_corner c)) (tile_corner t) (is.tiles t (record { corner = record { lat = pos 0; lon = pos 0 }; samples = [] }) (subst (λ k. t < k) as_many small)).corner
 
   some : 0 < m.side
   some = let low = is.side_low in omega arith
 
-  held_in : (t : ℕ) → t < length borders → (e : ℕ) → e < m.side * m.side → IsTrue (holds m.side (border_at borders t).corner (point_of m.side (border_at borders t).corner e))
-  held_in t small e inside = (holds_is m.side (border_at borders t).corner (point_of m.side (border_at borders t).corner e) is.side_low (corner_is t small)).1
-      (point_of_held m.side (border_at borders t).corner e some (corner_is t small) inside)
+  held_in : (t : ℕ) → t < length summaries → (e : ℕ) → e < m.side * m.side → IsTrue (holds m.side (summary_at summaries t).corner (point_of m.side (summary_at summaries t).corner e))
+  held_in t small e inside = (holds_is m.side (summary_at summaries t).corner (point_of m.side (summary_at summaries t).corner e) is.side_low (corner_is t small)).1
+      (point_of_held m.side (summary_at summaries t).corner e some (corner_is t small) inside)
 
   record Holder (p q : Point) : Type 0 where
     tile : ℕ
-    small : tile < length borders
-    first : IsTrue (holds m.side (border_at borders tile).corner p)
-    second : IsTrue (holds m.side (border_at borders tile).corner q)
+    small : tile < length summaries
+    first : IsTrue (holds m.side (summary_at summaries tile).corner p)
+    second : IsTrue (holds m.side (summary_at summaries tile).corner q)
 
   holder : (p q : Point) → IsTrue (share_tile m p q) → Holder p q
   holder p q h =
       let there = index_of_any (λ (t : Tile). holds m.side t.corner p && holds m.side t.corner q) m.tiles h in
       let both = subst (λ c. IsTrue (holds m.side c p && holds m.side c q)) (tile_corner there.0) (there.1.1 (record { corner = record { lat = pos 0; lon = pos 0 }; samples = [] })) in
-      let parts = and_parts (holds m.side (border_at borders there.0).corner p) (holds m.side (border_at borders there.0).corner q) both in
+      let parts = and_parts (holds m.side (summary_at summaries there.0).corner p) (holds m.side (summary_at summaries there.0).corner q) both in
       record { tile = there.0; small = subst (λ k. there.0 < k) (sym as_many) there.1.0; first = parts.0; second = parts.1 }
 
-  module _ (t : ℕ) (small : t < length borders) where
-    pub of : IsBorderOf m (border_at borders t)
+  module _ (t : ℕ) (small : t < length summaries) where
+    pub of : IsSummaryOf m (summary_at summaries t)
     of = all.each t (record { corner = record { lat = pos 0; lon = pos 0 }; rim = []; spills = [] }) small
 
-    part : IsPart (block m.side of.heights) (terrain m) (λ e. point_of m.side (border_at borders t).corner e) (is_rim m.side)
-    part = block_is_part m is (border_at borders t).corner (present t small) of.heights of.block
+    part : IsPart (block m.side of.heights) (terrain m) (λ e. point_of m.side (summary_at summaries t).corner e) (is_rim m.side)
+    part = block_is_part m is (summary_at summaries t).corner (present t small) of.heights of.block
 
-    pub ground_at : (e : ℕ) → IsTrue (is_solid m.side of.heights e) → IsTrue (is_ground m (point_of m.side (border_at borders t).corner e))
+    pub ground_at : (e : ℕ) → IsTrue (is_solid m.side of.heights e) → IsTrue (is_ground m (point_of m.side (summary_at summaries t).corner e))
     ground_at e solid = part.solid e solid
 
-    pub solid_at : (e : ℕ) → e < m.side * m.side → IsTrue (is_ground m (point_of m.side (border_at borders t).corner e)) → IsTrue (is_solid m.side of.heights e)
-    solid_at e inside on = ground_is m is (border_at borders t).corner (present t small) of.heights of.block e inside ∙ on
+    pub solid_at : (e : ℕ) → e < m.side * m.side → IsTrue (is_ground m (point_of m.side (summary_at summaries t).corner e)) → IsTrue (is_solid m.side of.heights e)
+    solid_at e inside on = ground_is m is (summary_at summaries t).corner (present t small) of.heights of.block e inside ∙ on
 
     pub height-le_level_at : (e : ℕ) → IsTrue (is_solid m.side of.heights e) → slice_index_or of.heights e void ≤ℤ slice_index_or of.levels e void
     height-le_level_at e solid = height-le_level (block m.side of.heights) e (slice_index_or of.levels e void) (of.labelling.level e solid)
@@ -140,9 +151,9 @@ module _ (m : Mosaic) (is : IsMosaic m) (borders : List Border) (all : AreBorder
       pub rim : IsTrue (is_rim m.side e)
       pub number : rim_number m.side e ≡ k
       pub solid : IsTrue (is_solid m.side of.heights e)
-      pub height : (rim_point (border_at borders t) k).height ≡ slice_index_or of.heights e void
-      pub label : (rim_point (border_at borders t) k).label ≡ slice_index of.labels e
-      pub outlet : (rim_point (border_at borders t) k).outlet ≡ is_outlet m (point_of m.side (border_at borders t).corner e)
+      pub height : (rim_point (summary_at summaries t) k).height ≡ slice_index_or of.heights e void
+      pub label : (rim_point (summary_at summaries t) k).label ≡ slice_index of.labels e
+      pub outlet : (rim_point (summary_at summaries t) k).outlet ≡ is_outlet m (point_of m.side (summary_at summaries t).corner e)
 
     rim_at : (e : ℕ) → e < m.side * m.side → IsTrue (is_rim m.side e) → IsTrue (is_solid m.side of.heights e) → At (rim_number m.side e)
     rim_at e inside rim solid = record {
@@ -156,56 +167,56 @@ module _ (m : Mosaic) (is : IsMosaic m) (borders : List Border) (all : AreBorder
       outlet = of.rim.outlet e inside rim (ground_at e solid);
     }
 
-    pub at_node : (k : ℕ) → IsThere m.side borders t k → At k
+    pub at_node : (k : ℕ) → IsThere m.side summaries t k → At k
     at_node k there =
         let found = rim_point_of m.side k is.side_low there.number in
-        let height : (rim_point (border_at borders t) k).height ≡ slice_index_or of.heights found.0 void =
-        subst (λ j. (rim_point (border_at borders t) j).height ≡ slice_index_or of.heights found.0 void) found.1.number (of.rim.height found.0 found.1.small found.1.rim) in
+        let height : (rim_point (summary_at summaries t) k).height ≡ slice_index_or of.heights found.0 void =
+        subst (λ j. (rim_point (summary_at summaries t) j).height ≡ slice_index_or of.heights found.0 void) found.1.number (of.rim.height found.0 found.1.small found.1.rim) in
         subst At found.1.number (rim_at found.0 found.1.small found.1.rim (solid_if m.side of.heights found.0 found.1.small (not_void (slice_index_or of.heights found.0 void) (λ gap. there.solid (height ∙ gap)))))
 
-    pub there_at : (e : ℕ) → e < m.side * m.side → IsTrue (is_rim m.side e) → IsTrue (is_solid m.side of.heights e) → IsThere m.side borders t (rim_number m.side e)
+    pub there_at : (e : ℕ) → e < m.side * m.side → IsTrue (is_rim m.side e) → IsTrue (is_solid m.side of.heights e) → IsThere m.side summaries t (rim_number m.side e)
     there_at e inside rim solid = record {
       tile = small;
       number = number_small e solid;
       solid = λ gap. solid_height m.side of.heights e solid (sym (of.rim.height e inside rim) ∙ gap);
     }
 
-    there_named : (e : ℕ) (n : Named e) → IsThere m.side borders t (slice_index of.labels e)
-    there_named e n = subst (IsThere m.side borders t) n.number (there_at n.r (solid_below m.side of.heights n.r n.solid) n.rim n.solid)
+    there_named : (e : ℕ) (n : Named e) → IsThere m.side summaries t (slice_index of.labels e)
+    there_named e n = subst (IsThere m.side summaries t) n.number (there_at n.r (solid_below m.side of.heights n.r n.solid) n.rim n.solid)
 
     named_is : (e k : ℕ) (n : Named e) (a : At k) → slice_index of.labels e ≡ k → n.r ≡ a.e
     named_is e k n a label = one_rim_point m.side n.r a.e is.side_low (solid_below m.side of.heights n.r n.solid) a.inside n.rim a.rim (n.number ∙ (label ∙ sym a.number))
 
     module _ (level : ℤ) where
       forth : (e : ℕ) (rest : List ℕ) → IsPath (block m.side of.heights) e rest → crest (block m.side of.heights) e rest ≤ℤ level →
-          WayOut (terrain m) level (point_of m.side (border_at borders t).corner (end_of (block m.side of.heights) e rest)) → WayOut (terrain m) level (point_of m.side (border_at borders t).corner e)
+          WayOut (terrain m) level (point_of m.side (summary_at summaries t).corner (end_of (block m.side of.heights) e rest)) → WayOut (terrain m) level (point_of m.side (summary_at summaries t).corner e)
       forth e rest path low way =
-          let at : ℕ → Point = λ e. point_of m.side (border_at borders t).corner e in
+          let at : ℕ → Point = λ e. point_of m.side (summary_at summaries t).corner e in
           along (terrain m) level (at e) (map at rest) (path_onto (block m.side of.heights) (terrain m) at (is_rim m.side) part (block_is_lawful m.side of.heights) e rest path)
           (subst (λ v. v ≤ℤ level) (sym (crest_onto (block m.side of.heights) (terrain m) at (is_rim m.side) part (block_is_lawful m.side of.heights) e rest path)) low)
           (subst (λ p. WayOut (terrain m) level p) (sym (end_onto (block m.side of.heights) (terrain m) at (is_rim m.side) part (block_is_lawful m.side of.heights) e rest)) way)
 
       home : (e : ℕ) (rest : List ℕ) → IsPath (block m.side of.heights) e rest → crest (block m.side of.heights) e rest ≤ℤ level →
-          WayOut (terrain m) level (point_of m.side (border_at borders t).corner e) → WayOut (terrain m) level (point_of m.side (border_at borders t).corner (end_of (block m.side of.heights) e rest))
+          WayOut (terrain m) level (point_of m.side (summary_at summaries t).corner e) → WayOut (terrain m) level (point_of m.side (summary_at summaries t).corner (end_of (block m.side of.heights) e rest))
       home e rest path low way =
-          let at : ℕ → Point = λ e. point_of m.side (border_at borders t).corner e in
+          let at : ℕ → Point = λ e. point_of m.side (summary_at summaries t).corner e in
           subst (λ p. WayOut (terrain m) level p) (end_onto (block m.side of.heights) (terrain m) at (is_rim m.side) part (block_is_lawful m.side of.heights) e rest)
           (back (terrain m) (terrain_is_lawful m) level (at e) (map at rest) (path_onto (block m.side of.heights) (terrain m) at (is_rim m.side) part (block_is_lawful m.side of.heights) e rest path)
           (subst (λ v. v ≤ℤ level) (sym (crest_onto (block m.side of.heights) (terrain m) at (is_rim m.side) part (block_is_lawful m.side of.heights) e rest path)) low) way)
 
       to_named : (e : ℕ) (n : Named e) → slice_index_or of.levels e void ≤ℤ level →
-          WayOut (terrain m) level (point_of m.side (border_at borders t).corner n.r) → WayOut (terrain m) level (point_of m.side (border_at borders t).corner e)
-      to_named e n low way = forth e n.rest n.path (subst (λ v. v ≤ℤ level) (sym n.crest_is) low) (subst (λ r. WayOut (terrain m) level (point_of m.side (border_at borders t).corner r)) (sym n.ends) way)
+          WayOut (terrain m) level (point_of m.side (summary_at summaries t).corner n.r) → WayOut (terrain m) level (point_of m.side (summary_at summaries t).corner e)
+      to_named e n low way = forth e n.rest n.path (subst (λ v. v ≤ℤ level) (sym n.crest_is) low) (subst (λ r. WayOut (terrain m) level (point_of m.side (summary_at summaries t).corner r)) (sym n.ends) way)
 
       from_named : (e : ℕ) (n : Named e) → slice_index_or of.levels e void ≤ℤ level →
-          WayOut (terrain m) level (point_of m.side (border_at borders t).corner e) → WayOut (terrain m) level (point_of m.side (border_at borders t).corner n.r)
-      from_named e n low way = subst (λ r. WayOut (terrain m) level (point_of m.side (border_at borders t).corner r)) n.ends (home e n.rest n.path (subst (λ v. v ≤ℤ level) (sym n.crest_is) low) way)
+          WayOut (terrain m) level (point_of m.side (summary_at summaries t).corner e) → WayOut (terrain m) level (point_of m.side (summary_at summaries t).corner n.r)
+      from_named e n low way = subst (λ r. WayOut (terrain m) level (point_of m.side (summary_at summaries t).corner r)) n.ends (home e n.rest n.path (subst (λ v. v ≤ℤ level) (sym n.crest_is) low) way)
 
       -- an inner outlet that is reached
       out_below : (e : ℕ) → IsTrue (is_solid m.side of.heights e) → slice_index of.labels e ≡ OUT → slice_index_or of.levels e void ≤ℤ level →
-          WayOut (terrain m) level (point_of m.side (border_at borders t).corner e)
+          WayOut (terrain m) level (point_of m.side (summary_at summaries t).corner e)
       out_below e solid out low =
-          let at : ℕ → Point = λ e. point_of m.side (border_at borders t).corner e in
+          let at : ℕ → Point = λ e. point_of m.side (summary_at summaries t).corner e in
           let label = of.labelling.label e solid in
           let rest = label.way.0 in
           let last = end_of (block m.side of.heights) e rest in
@@ -216,14 +227,14 @@ module _ (m : Mosaic) (is : IsMosaic m) (borders : List Border) (all : AreBorder
             | inl by_rim ↦ absurd (number_is_not_out (rim_number m.side last) (number_small last solid_last) (sym by_rim.1 ∙ out))
             | inr inner ↦ forth e rest path crest_low (record {
               rest = [];
-              out = record { path = ground_at last solid_last; outlet = inner_outlet_is_outlet m is (border_at borders t).corner (present t small) of.heights of.block last inner.0 };
+              out = record { path = ground_at last solid_last; outlet = inner_outlet_is_outlet m is (summary_at summaries t).corner (present t small) of.heights of.block last inner.0 };
               below = subst (λ v. v ≤ℤ level) (part.heights last solid_last) (≤ℤ_trans (slice_index_or of.heights last void) (crest (block m.side of.heights) e rest) level (end-le_crest (block m.side of.heights) e rest) crest_low);
             })
           ]
 
       -- over two adjacent points
       over : (e f : ℕ) → IsTrue (is_linked m.side of.heights e f) → slice_index_or of.levels e void ≤ℤ level → slice_index_or of.levels f void ≤ℤ level →
-          WayOut (terrain m) level (point_of m.side (border_at borders t).corner f) → WayOut (terrain m) level (point_of m.side (border_at borders t).corner e)
+          WayOut (terrain m) level (point_of m.side (summary_at summaries t).corner f) → WayOut (terrain m) level (point_of m.side (summary_at summaries t).corner e)
       over e f link low_e low_f way =
           let both = linked_parts m.side of.heights e f link in
           forth e (f ∷ []) (link, both.to) (max-le (slice_index_or of.heights e void) (slice_index_or of.heights f void) level
@@ -232,26 +243,26 @@ module _ (m : Mosaic) (is : IsMosaic m) (borders : List Border) (all : AreBorder
 
       -- to a point with the label of a rim point, and back
       to_rim : (k : ℕ) (a : At k) (e : ℕ) → IsTrue (is_solid m.side of.heights e) → slice_index of.labels e ≡ k → slice_index_or of.levels e void ≤ℤ level →
-          WayOut (terrain m) level (point_of m.side (border_at borders t).corner a.e) → WayOut (terrain m) level (point_of m.side (border_at borders t).corner e)
+          WayOut (terrain m) level (point_of m.side (summary_at summaries t).corner a.e) → WayOut (terrain m) level (point_of m.side (summary_at summaries t).corner e)
       to_rim k a e solid label low way =
           let n = named e solid (λ out. number_is_not_out k (subst (λ j. j < 4 * (m.side - 1)) a.number (number_small a.e a.solid)) (sym label ∙ out)) in
-          to_named e n low (subst (λ r. WayOut (terrain m) level (point_of m.side (border_at borders t).corner r)) (sym (named_is e k n a label)) way)
+          to_named e n low (subst (λ r. WayOut (terrain m) level (point_of m.side (summary_at summaries t).corner r)) (sym (named_is e k n a label)) way)
 
       from_rim : (k : ℕ) (a : At k) (e : ℕ) → IsTrue (is_solid m.side of.heights e) → slice_index of.labels e ≡ k → slice_index_or of.levels e void ≤ℤ level →
-          WayOut (terrain m) level (point_of m.side (border_at borders t).corner e) → WayOut (terrain m) level (point_of m.side (border_at borders t).corner a.e)
+          WayOut (terrain m) level (point_of m.side (summary_at summaries t).corner e) → WayOut (terrain m) level (point_of m.side (summary_at summaries t).corner a.e)
       from_rim k a e solid label low way =
           let n = named e solid (λ out. number_is_not_out k (subst (λ j. j < 4 * (m.side - 1)) a.number (number_small a.e a.solid)) (sym label ∙ out)) in
-          subst (λ r. WayOut (terrain m) level (point_of m.side (border_at borders t).corner r)) (named_is e k n a label) (from_named e n low way)
+          subst (λ r. WayOut (terrain m) level (point_of m.side (summary_at summaries t).corner r)) (named_is e k n a label) (from_named e n low way)
 
-      level_of_node : (k : ℕ) (a : At k) (v : ℤ) → (rim_point (border_at borders t) k).height ≡ v → v ≤ℤ level → slice_index_or of.levels a.e void ≤ℤ level
+      level_of_node : (k : ℕ) (a : At k) (v : ℤ) → (rim_point (summary_at summaries t) k).height ≡ v → v ≤ℤ level → slice_index_or of.levels a.e void ≤ℤ level
       level_of_node k a v at low = subst (λ w. w ≤ℤ level) (sym (rim_level a.e a.solid a.rim ∙ (sym a.height ∙ at))) low
 
-      spill_pass : (a b : ℕ) (v : ℤ) → IsSpillLink m.side borders t a b v → v ≤ℤ level → Meets m.side of.heights of.levels of.labels a b v
+      spill_pass : (a b : ℕ) (v : ℤ) → IsSpillLink m.side summaries t a b v → v ≤ℤ level → Meets m.side of.heights of.levels of.labels a b v
       spill_pass a b v has low = (of.spills.each (record { a = a; b = b; level = v }) has).meets
 
       -- a link to the outlet node
-      to_outlet : (k : ℕ) (a : At k) (v : ℤ) → IsOutletLink m.side borders t k v ⊎ (IsLabelLink m.side borders t k OUT v ⊎ IsSpillLink m.side borders t k OUT v) → v ≤ℤ level →
-          WayOut (terrain m) level (point_of m.side (border_at borders t).corner a.e)
+      to_outlet : (k : ℕ) (a : At k) (v : ℤ) → IsOutletLink m.side summaries t k v ⊎ (IsLabelLink m.side summaries t k OUT v ⊎ IsSpillLink m.side summaries t k OUT v) → v ≤ℤ level →
+          WayOut (terrain m) level (point_of m.side (summary_at summaries t).corner a.e)
       to_outlet k a v (inl out) low = record {
         rest = [];
         out = record { path = ground_at a.e a.solid; outlet = sym a.outlet ∙ out.outlet };
@@ -271,7 +282,7 @@ module _ (m : Mosaic) (is : IsMosaic m) (borders : List Border) (all : AreBorder
 
       -- a spill between two rim points
       spilled : (k l : ℕ) (a : At k) (b : At l) (v : ℤ) → Meets m.side of.heights of.levels of.labels k l v → v ≤ℤ level →
-          WayOut (terrain m) level (point_of m.side (border_at borders t).corner b.e) → WayOut (terrain m) level (point_of m.side (border_at borders t).corner a.e)
+          WayOut (terrain m) level (point_of m.side (summary_at summaries t).corner b.e) → WayOut (terrain m) level (point_of m.side (summary_at summaries t).corner a.e)
       spilled k l a b v meets low way =
           let e = meets.points.0 in
           let f = meets.points.1 in
@@ -298,8 +309,8 @@ module _ (m : Mosaic) (is : IsMosaic m) (borders : List Border) (all : AreBorder
           max-swap a b = omega (arith, ints, clamps)
 
       -- a link between two rim points of the tile
-      inner_link : (k l : ℕ) (a : At k) (b : At l) (v : ℤ) → IsInnerLink m.side borders t k l v → v ≤ℤ level →
-          WayOut (terrain m) level (point_of m.side (border_at borders t).corner b.e) → WayOut (terrain m) level (point_of m.side (border_at borders t).corner a.e)
+      inner_link : (k l : ℕ) (a : At k) (b : At l) (v : ℤ) → IsInnerLink m.side summaries t k l v → v ≤ℤ level →
+          WayOut (terrain m) level (point_of m.side (summary_at summaries t).corner b.e) → WayOut (terrain m) level (point_of m.side (summary_at summaries t).corner a.e)
       inner_link k l a b v (inl label) low way = to_rim l b a.e a.solid (sym a.label ∙ label.names) (level_of_node k a v label.height low) way
       inner_link k l a b v (inr (inl label)) low way = from_rim k a b.e b.solid (sym b.label ∙ label.names) (level_of_node l b v label.height low) way
       inner_link k l a b v (inr (inr (inl spill))) low way = spilled k l a b v (spill_pass k l v spill low) low way
@@ -308,12 +319,12 @@ module _ (m : Mosaic) (is : IsMosaic m) (borders : List Border) (all : AreBorder
   -- water at the node's point leaves at no more than the level
   abbrev Sinks : ℤ → Node → Type 0
   Sinks level Outlet = Unit {0}
-  Sinks level (Rim t k) = (small : t < length borders) (a : At t small k) → WayOut (terrain m) level (point_of m.side (border_at borders t).corner a.e)
+  Sinks level (Rim t k) = (small : t < length summaries) (a : At t small k) → WayOut (terrain m) level (point_of m.side (summary_at summaries t).corner a.e)
 
-  numbered : (t k : ℕ) (small : t < length borders) (a : At t small k) (p : Point) → IsRimNumberOf m.side (border_at borders t).corner k p → point_of m.side (border_at borders t).corner a.e ≡ p
-  numbered t k small a p at = ap (λ e. point_of m.side (border_at borders t).corner e) (one_rim_point m.side a.e at.index is.side_low a.inside at.small a.rim at.rim (a.number ∙ sym at.number)) ∙ at.point
+  numbered : (t k : ℕ) (small : t < length summaries) (a : At t small k) (p : Point) → IsRimNumberOf m.side (summary_at summaries t).corner k p → point_of m.side (summary_at summaries t).corner a.e ≡ p
+  numbered t k small a p at = ap (λ e. point_of m.side (summary_at summaries t).corner e) (one_rim_point m.side a.e at.index is.side_low a.inside at.small a.rim at.rim (a.number ∙ sym at.number)) ∙ at.point
 
-  sinks : (level : ℤ) (x : Node) (rest : List Node) → IsWayBelow (IsLink m.side borders) Outlet level x rest → Sinks level x
+  sinks : (level : ℤ) (x : Node) (rest : List Node) → IsWayBelow (IsLink m.side summaries) Outlet level x rest → Sinks level x
   sinks level Outlet rest way = tt
   sinks level (Rim t k) [] way = absurd (not_outlet way)
     where
@@ -321,17 +332,17 @@ module _ (m : Mosaic) (is : IsMosaic m) (borders : List Border) (all : AreBorder
       not_outlet h = cc
   sinks level (Rim t k) (Outlet ∷ rest) way = λ small a. to_outlet t small level k a way.0.0 way.0.1.0.1 way.0.1.1
   sinks level (Rim t k) (Rim u l ∷ rest) way =
-      let on : (small : u < length borders) (a : At u small l) → WayOut (terrain m) level (point_of m.side (border_at borders u).corner a.e) = sinks level (Rim u l) rest way.1 in
+      let on : (small : u < length summaries) (a : At u small l) → WayOut (terrain m) level (point_of m.side (summary_at summaries u).corner a.e) = sinks level (Rim u l) rest way.1 in
       let there = way.0.1.0.1.0 in
       linked on there way.0.1.0.1.1
     where
-      linked : ((small : u < length borders) (a : At u small l) → WayOut (terrain m) level (point_of m.side (border_at borders u).corner a.e)) → IsThere m.side borders u l →
-          ((t ≡ u) × IsInnerLink m.side borders t k l way.0.0) ⊎ IsSharedLink m.side borders t k u l way.0.0 →
-          (small : t < length borders) (a : At t small k) → WayOut (terrain m) level (point_of m.side (border_at borders t).corner a.e)
+      linked : ((small : u < length summaries) (a : At u small l) → WayOut (terrain m) level (point_of m.side (summary_at summaries u).corner a.e)) → IsThere m.side summaries u l →
+          ((t ≡ u) × IsInnerLink m.side summaries t k l way.0.0) ⊎ IsSharedLink m.side summaries t k u l way.0.0 →
+          (small : t < length summaries) (a : At t small k) → WayOut (terrain m) level (point_of m.side (summary_at summaries t).corner a.e)
       linked on there (inl inner) small a =
-          let in_t : IsThere m.side borders t l = subst (λ v. IsThere m.side borders v l) (sym inner.0) there in
-          let T : ℕ → Type 0 = λ v. (small : v < length borders) (a : At v small l) → WayOut (terrain m) level (point_of m.side (border_at borders v).corner a.e) in
-          let on_t : (small : t < length borders) (a : At t small l) → WayOut (terrain m) level (point_of m.side (border_at borders t).corner a.e) = subst T (sym inner.0) on in
+          let in_t : IsThere m.side summaries t l = subst (λ v. IsThere m.side summaries v l) (sym inner.0) there in
+          let T : ℕ → Type 0 = λ v. (small : v < length summaries) (a : At v small l) → WayOut (terrain m) level (point_of m.side (summary_at summaries v).corner a.e) in
+          let on_t : (small : t < length summaries) (a : At t small l) → WayOut (terrain m) level (point_of m.side (summary_at summaries t).corner a.e) = subst T (sym inner.0) on in
           let b = at_node t small l in_t in
           inner_link t small level k l a b way.0.0 inner.1 way.0.1.1 (on_t small b)
       linked on there (inr shared) small a =
@@ -341,15 +352,15 @@ module _ (m : Mosaic) (is : IsMosaic m) (borders : List Border) (all : AreBorder
   -- a way of links of no more than the level
   pub record WayBelow (level : ℤ) (x : Node) : Type 0 where
     pub rest : List Node
-    pub way : IsWayBelow (IsLink m.side borders) Outlet level x rest
+    pub way : IsWayBelow (IsLink m.side summaries) Outlet level x rest
 
-  step_to : (level : ℤ) (x y : Node) → IsLinkBelow (IsLink m.side borders) Outlet level x y → WayBelow level y → WayBelow level x
+  step_to : (level : ℤ) (x y : Node) → IsLinkBelow (IsLink m.side summaries) Outlet level x y → WayBelow level y → WayBelow level x
   step_to level x y link on = record { rest = y ∷ on.rest; way = (link, on.way) }
 
   at_outlet : (level : ℤ) → WayBelow level Outlet
   at_outlet level = record { rest = []; way = refl }
 
-  module _ (level : ℤ) (t : ℕ) (small : t < length borders) where
+  module _ (level : ℤ) (t : ℕ) (small : t < length summaries) where
     -- from a rim point to what its label names, and back
     of_node : (e : ℕ) → e < m.side * m.side → IsTrue (is_rim m.side e) → IsTrue (is_solid m.side (of t small).heights e) → slice_index_or (of t small).heights e void ≤ℤ level →
         (slice_index (of t small).labels e ≡ OUT) ⊎ WayBelow level (Rim t (slice_index (of t small).labels e)) → WayBelow level (Rim t (rim_number m.side e))
@@ -380,10 +391,10 @@ module _ (m : Mosaic) (is : IsMosaic m) (borders : List Border) (all : AreBorder
     ]
 
     -- an outlet of the mosaic
-    outlet_drains : (e : ℕ) → e < m.side * m.side → IsTrue (is_outlet m (point_of m.side (border_at borders t).corner e)) → slice_index_or (of t small).heights e void ≤ℤ level →
+    outlet_drains : (e : ℕ) → e < m.side * m.side → IsTrue (is_outlet m (point_of m.side (summary_at summaries t).corner e)) → slice_index_or (of t small).heights e void ≤ℤ level →
         (slice_index (of t small).labels e ≡ OUT) ⊎ WayBelow level (Rim t (slice_index (of t small).labels e))
     outlet_drains e inside out low =
-        let on = (terrain_is_lawful m).outlet_ground (point_of m.side (border_at borders t).corner e) out in
+        let on = (terrain_is_lawful m).outlet_ground (point_of m.side (summary_at summaries t).corner e) out in
         let solid = solid_at t small e inside on in
         elim (cases_Bool (is_rim m.side e)) [
           | inl rim ↦ to_label e inside rim solid low (step_to level (Rim t (rim_number m.side e)) Outlet
@@ -395,14 +406,14 @@ module _ (m : Mosaic) (is : IsMosaic m) (borders : List Border) (all : AreBorder
         ]
 
     -- over two adjacent points
-    spill_to : (a b : ℕ) (v : ℤ) → a < b → Meets m.side (of t small).heights (of t small).levels (of t small).labels a b v → v ≤ℤ level → (w : ℤ) × (IsSpillLink m.side borders t a b w × (w ≤ℤ level))
+    spill_to : (a b : ℕ) (v : ℤ) → a < b → Meets m.side (of t small).heights (of t small).levels (of t small).labels a b v → v ≤ℤ level → (w : ℤ) × (IsSpillLink m.side summaries t a b w × (w ≤ℤ level))
     spill_to a b v less meets low =
         let found = (of t small).spills.all a b v less meets in
         let spill = (of t small).spills.each found.0 found.1.0 in
         let same : ◌≡◌ {A = Spill} found.0 (record { a = a; b = b; level = found.0.level }) = ap₂ (λ (x y : ℕ). record { a = x; b = y; level = found.0.level }) found.1.1.0 found.1.1.1 in (
           found.0.level,
           (
-            subst (λ (p : Spill). Contains (border_at borders t).spills p) same found.1.0,
+            subst (λ (p : Spill). Contains (summary_at summaries t).spills p) same found.1.0,
             ≤ℤ_trans found.0.level v level (spill.least v (subst (λ x. Meets m.side (of t small).heights (of t small).levels (of t small).labels x found.0.b v) (sym found.1.1.0)
                 (subst (λ y. Meets m.side (of t small).heights (of t small).levels (of t small).labels a y v) (sym found.1.1.1) meets))) low,
           ),
@@ -455,25 +466,34 @@ module _ (m : Mosaic) (is : IsMosaic m) (borders : List Border) (all : AreBorder
         other_way a b other more = omega arith
 
   -- a point's level inside the tile is no more than the crest of a way out
-  low_level : (t : ℕ) (small : t < length borders) (e : ℕ) (p : Point) (rest : List Point) → IsTrue (is_solid m.side (of t small).heights e) → point_of m.side (border_at borders t).corner e ≡ p → LeadsOut (terrain m) p rest →
+  low_level : (t : ℕ) (small : t < length summaries) (e : ℕ) (p : Point) (rest : List Point) → IsTrue (is_solid m.side (of t small).heights e) → point_of m.side (summary_at summaries t).corner e ≡ p → LeadsOut (terrain m) p rest →
       {level : ℤ} → crest (terrain m) p rest ≤ℤ level → slice_index_or (of t small).levels e void ≤ℤ level
   low_level t small e p rest solid at out {level} low =
-      let inside = way_in_part (block m.side (of t small).heights) (terrain m) (λ e. point_of m.side (border_at borders t).corner e) (is_rim m.side) (part t small) (block_is_lawful m.side (of t small).heights) e p rest solid at out in
+      let inside = way_in_part (block m.side (of t small).heights) (terrain m) (λ e. point_of m.side (summary_at summaries t).corner e) (is_rim m.side) (part t small) (block_is_lawful m.side (of t small).heights) e p rest solid at out in
       ≤ℤ_trans (slice_index_or (of t small).levels e void) (crest (block m.side (of t small).heights) e inside.0) level (((of t small).labelling.level e solid).least inside.0 inside.1.0)
       (≤ℤ_trans (crest (block m.side (of t small).heights) e inside.0) (crest (terrain m) p rest) level inside.1.1 low)
 
+  -- no other tile holds a point off the rim of one
+  inner_held : (t u : ℕ) → t < length summaries → u < length summaries → (e : ℕ) → e < m.side * m.side → is_rim m.side e ≡ false →
+      IsTrue (holds m.side (summary_at summaries u).corner (point_of m.side (summary_at summaries t).corner e)) → (summary_at summaries t).corner ≡ (summary_at summaries u).corner
+  inner_held t u in_t in_u e inside off held =
+      let c = (summary_at summaries t).corner in
+      let p = point_of m.side c e in
+      sym (inner_only m.side c e p is.side_low (index_of_point m.side c e some (corner_is t in_t) inside) off (summary_at summaries u).corner
+      ((holds_is m.side (summary_at summaries u).corner p is.side_low (corner_is u in_u)).0 held))
+
   -- one point in two tiles
-  moved : (level : ℤ) (p : Point) (t u : ℕ) (in_t : t < length borders) (in_u : u < length borders) (e f : ℕ) → e < m.side * m.side → f < m.side * m.side →
-      point_of m.side (border_at borders t).corner e ≡ p → point_of m.side (border_at borders u).corner f ≡ p → IsTrue (is_ground m p) → (terrain m).height p ≤ℤ level →
+  moved : (level : ℤ) (p : Point) (t u : ℕ) (in_t : t < length summaries) (in_u : u < length summaries) (e f : ℕ) → e < m.side * m.side → f < m.side * m.side →
+      point_of m.side (summary_at summaries t).corner e ≡ p → point_of m.side (summary_at summaries u).corner f ≡ p → IsTrue (is_ground m p) → (terrain m).height p ≤ℤ level →
       (slice_index (of u in_u).labels f ≡ OUT) ⊎ WayBelow level (Rim u (slice_index (of u in_u).labels f)) → (slice_index (of t in_t).labels e ≡ OUT) ⊎ WayBelow level (Rim t (slice_index (of t in_t).labels e))
   moved level p t u in_t in_u e f inside inside' at at' on low drains = elim (cases_eq t u) [
     | inl same ↦ same_tile same
     | inr other ↦ elim (cases_Bool (is_rim m.side e)) [
-      | inr off ↦ absurd (other (one_border t u in_t in_u (inner_point_held m.side (border_at borders t).corner (border_at borders u).corner e is.side_low inside off
-          (subst (λ q. IsTrue (holds m.side (border_at borders u).corner q)) (at' ∙ sym at) (held u in_u f inside')))))
+      | inr off ↦ absurd (other (one_summary t u in_t in_u (inner_held t u in_t in_u e inside off
+          (subst (λ q. IsTrue (holds m.side (summary_at summaries u).corner q)) (at' ∙ sym at) (held u in_u f inside')))))
       | inl rim ↦ elim (cases_Bool (is_rim m.side f)) [
-        | inr off ↦ absurd (other (sym (one_border u t in_u in_t (inner_point_held m.side (border_at borders u).corner (border_at borders t).corner f is.side_low inside' off
-            (subst (λ q. IsTrue (holds m.side (border_at borders t).corner q)) (at ∙ sym at') (held t in_t e inside))))))
+        | inr off ↦ absurd (other (sym (one_summary u t in_u in_t (inner_held u t in_u in_t f inside' off
+            (subst (λ q. IsTrue (holds m.side (summary_at summaries t).corner q)) (at ∙ sym at') (held t in_t e inside))))))
         | inl rim' ↦
             let solid = solid_at t in_t e inside (subst (λ q. IsTrue (is_ground m q)) (sym at) on) in
             let solid' = solid_at u in_u f inside' (subst (λ q. IsTrue (is_ground m q)) (sym at') on) in
@@ -502,29 +522,29 @@ module _ (m : Mosaic) (is : IsMosaic m) (borders : List Border) (all : AreBorder
     ]
   ]
     where
-      held : (t : ℕ) (small : t < length borders) (e : ℕ) → e < m.side * m.side → IsTrue (holds m.side (border_at borders t).corner (point_of m.side (border_at borders t).corner e))
+      held : (t : ℕ) (small : t < length summaries) (e : ℕ) → e < m.side * m.side → IsTrue (holds m.side (summary_at summaries t).corner (point_of m.side (summary_at summaries t).corner e))
       held t small e inside = held_in t small e inside
 
       same_tile : t ≡ u → (slice_index (of t in_t).labels e ≡ OUT) ⊎ WayBelow level (Rim t (slice_index (of t in_t).labels e))
       same_tile same =
-          let c = (border_at borders t).corner in
-          let there : point_of m.side c f ≡ p = ap (λ v. point_of m.side (border_at borders v).corner f) same ∙ at' in
+          let c = (summary_at summaries t).corner in
+          let there : point_of m.side c f ≡ p = ap (λ v. point_of m.side (summary_at summaries v).corner f) same ∙ at' in
           let index : f ≡ e = sym (index_of_point_is m.side c f some (corner_is t in_t) inside') ∙ (ap (index_of m.side c) (there ∙ sym at) ∙ index_of_point_is m.side c e some (corner_is t in_t) inside) in
-          let T : ℕ → Type 0 = λ v. (in_v : v < length borders) → (slice_index (of v in_v).labels f ≡ OUT) ⊎ WayBelow level (Rim v (slice_index (of v in_v).labels f)) in
-          let on_u : (in_v : u < length borders) → (slice_index (of u in_v).labels f ≡ OUT) ⊎ WayBelow level (Rim u (slice_index (of u in_v).labels f)) =
+          let T : ℕ → Type 0 = λ v. (in_v : v < length summaries) → (slice_index (of v in_v).labels f ≡ OUT) ⊎ WayBelow level (Rim v (slice_index (of v in_v).labels f)) in
+          let on_u : (in_v : u < length summaries) → (slice_index (of u in_v).labels f ≡ OUT) ⊎ WayBelow level (Rim u (slice_index (of u in_v).labels f)) =
           λ in_v. subst (λ h. (slice_index (of u h).labels f ≡ OUT) ⊎ WayBelow level (Rim u (slice_index (of u h).labels f))) (lt-one in_u in_v) drains in
           subst (λ g. (slice_index (of t in_t).labels g ≡ OUT) ⊎ WayBelow level (Rim t (slice_index (of t in_t).labels g))) index (subst T (sym same) on_u in_t)
         where
-          lt-one : (a b : u < length borders) → a ≡ b
-          lt-one a b = let one : (a b : u < length borders) → a ≡ b = hlevel props in one a b
+          lt-one : (a b : u < length summaries) → a ≡ b
+          lt-one a b = let one : (a b : u < length summaries) → a ≡ b = hlevel props in one a b
 
   -- each path out is followed by links
   drains_along : (level : ℤ) (p : Point) (rest : List Point) → LeadsOut (terrain m) p rest → crest (terrain m) p rest ≤ℤ level →
-      (t : ℕ) (small : t < length borders) (e : ℕ) → e < m.side * m.side → point_of m.side (border_at borders t).corner e ≡ p →
+      (t : ℕ) (small : t < length summaries) (e : ℕ) → e < m.side * m.side → point_of m.side (summary_at summaries t).corner e ≡ p →
       (slice_index (of t small).labels e ≡ OUT) ⊎ WayBelow level (Rim t (slice_index (of t small).labels e))
   drains_along level p [] out low t small e inside at =
       let outlet = subst (λ q. IsTrue (is_outlet m q)) (sym at) out.outlet in
-      let solid = solid_at t small e inside ((terrain_is_lawful m).outlet_ground (point_of m.side (border_at borders t).corner e) outlet) in
+      let solid = solid_at t small e inside ((terrain_is_lawful m).outlet_ground (point_of m.side (summary_at summaries t).corner e) outlet) in
       outlet_drains level t small e inside outlet (subst (λ w. w ≤ℤ level) (sym ((part t small).heights e solid ∙ ap (terrain m).height at)) low)
   drains_along level p (q ∷ rest) out low t small e inside at =
       let on : LeadsOut (terrain m) q rest = record { path = out.path.1; outlet = out.outlet } in
@@ -534,7 +554,7 @@ module _ (m : Mosaic) (is : IsMosaic m) (borders : List Border) (all : AreBorder
       let five = five_parts (is_ground m p) (is_ground m q) (not (same_point p q)) (is_near p q) (share_tile m p q) beside in
       let h = holder p q five.fifth in
       let u = h.tile in
-      let c = (border_at borders u).corner in
+      let c = (summary_at summaries u).corner in
       let held_p = (holds_is m.side c p is.side_low (corner_is u h.small)).0 h.first in
       let held_q = (holds_is m.side c q is.side_low (corner_is u h.small)).0 h.second in
       let i = index_of m.side c p in
@@ -552,10 +572,10 @@ module _ (m : Mosaic) (is : IsMosaic m) (borders : List Border) (all : AreBorder
       (drains_along level q rest on low_q u h.small j in_j at_j))
 
   -- the rim point's level is the filled level of its point
-  pub joined_is_filled : (t k : ℕ) (there : IsThere m.side borders t k) (v : ℤ) → IsJoinedLevel (IsLink m.side borders) Outlet (Rim t k) v → (p : Point) → IsRimNumberOf m.side (border_at borders t).corner k p → IsFilledLevel (terrain m) p v
+  pub joined_is_filled : (t k : ℕ) (there : IsThere m.side summaries t k) (v : ℤ) → IsJoinedLevel (IsLink m.side summaries) Outlet (Rim t k) v → (p : Point) → IsRimNumberOf m.side (summary_at summaries t).corner k p → IsFilledLevel (terrain m) p v
   joined_is_filled t k there v joined p number =
       let a = at_node t there.tile k there in
-      let here : point_of m.side (border_at borders t).corner a.e ≡ p = numbered t k there.tile a p number in
+      let here : point_of m.side (summary_at summaries t).corner a.e ≡ p = numbered t k there.tile a p number in
       let out = filled_level_exists m is p (subst (λ q. IsTrue (is_ground m q)) here (ground_at t there.tile a.e a.solid)) in
       level_of_ways (terrain m) p v (subst (λ q. WayOut (terrain m) v q) here (sinks v (Rim t k) joined.reached.0 joined.reached.1 there.tile a))
       (λ lower way.
@@ -563,13 +583,13 @@ module _ (m : Mosaic) (is : IsMosaic m) (borders : List Border) (all : AreBorder
       (≤ℤ_trans ((terrain m).height p) (crest (terrain m) p way.rest) lower (height-le_crest (terrain m) p way.rest) way.below) in
       let drains = drains_along lower p way.rest way.out way.below t there.tile a.e a.inside here in
       let on = of_node lower t there.tile a.e a.inside a.rim a.solid low drains in
-      joined.least lower on.rest (subst (λ j. IsWayBelow (IsLink m.side borders) Outlet lower (Rim t j) on.rest) a.number on.way))
+      joined.least lower on.rest (subst (λ j. IsWayBelow (IsLink m.side summaries) Outlet lower (Rim t j) on.rest) a.number on.way))
 
   -- and there is such a level
-  pub is_joined : (t k : ℕ) (there : IsThere m.side borders t k) → (v : ℤ) × WayBelow v (Rim t k)
+  pub is_joined : (t k : ℕ) (there : IsThere m.side summaries t k) → (v : ℤ) × WayBelow v (Rim t k)
   is_joined t k there =
       let a = at_node t there.tile k there in
-      let p = point_of m.side (border_at borders t).corner a.e in
+      let p = point_of m.side (summary_at summaries t).corner a.e in
       let fill = filled_level_exists m is p (ground_at t there.tile a.e a.solid) in
       let way = way_of_level (terrain m) p fill.0 fill.1 in
       let low : slice_index_or (of t there.tile).heights a.e void ≤ℤ fill.0 = subst (λ w. w ≤ℤ fill.0) (sym ((part t there.tile).heights a.e a.solid)) (height-le_level (terrain m) p fill.0 fill.1) in
@@ -577,15 +597,15 @@ module _ (m : Mosaic) (is : IsMosaic m) (borders : List Border) (all : AreBorder
       (fill.0, subst (λ j. WayBelow fill.0 (Rim t j)) a.number (of_node fill.0 t there.tile a.e a.inside a.rim a.solid low drains))
 
   -- the summaries are in the order of tiles
-  pub are_in_order : AreInOrder borders
+  pub are_in_order : AreInOrder summaries
   are_in_order = record {
     corners = corner_is;
     rising = λ k d small.
-        let none : Border = record { corner = record { lat = pos 0; lon = pos 0 }; rim = []; spills = [] } in
-        let first = get_or_default borders k none d (omega arith) in
-        let second = get_or_default borders (k + 1) none d small in
+        let none : Summary = record { corner = record { lat = pos 0; lon = pos 0 }; rim = []; spills = [] } in
+        let first = get_or_default summaries k none d (omega arith) in
+        let second = get_or_default summaries (k + 1) none d small in
         let rise = is.in_order k (record { corner = record { lat = pos 0; lon = pos 0 }; samples = [] }) (subst (λ v. k + 1 < v) as_many small) in
-        subst (λ (b : Border). IsBefore (get_or borders k d).corner b.corner) second
-        (subst (λ (b : Border). IsBefore b.corner (border_at borders (k + 1)).corner) first
-        (subst (λ c. IsBefore c (border_at borders (k + 1)).corner) (tile_corner k) (subst (λ c. IsBefore (get_or m.tiles k (record { corner = record { lat = pos 0; lon = pos 0 }; samples = [] })).corner c) (tile_corner (k + 1)) rise)));
+        subst (λ (b : Summary). IsBefore (get_or summaries k d).corner b.corner) second
+        (subst (λ (b : Summary). IsBefore b.corner (summary_at summaries (k + 1)).corner) first
+        (subst (λ c. IsBefore c (summary_at summaries (k + 1)).corner) (tile_corner k) (subst (λ c. IsBefore (get_or m.tiles k (record { corner = record { lat = pos 0; lon = pos 0 }; samples = [] })).corner c) (tile_corner (k + 1)) rise)));
   }

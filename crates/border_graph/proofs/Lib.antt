@@ -5,9 +5,7 @@ pub mod Joined
 pub mod Linked
 pub mod Parts
 pub mod Listed
-pub mod RimNumbers
 pub mod Rims
 pub mod Shared
 pub mod Surge
-pub mod Tiles
 pub mod Ways

@@ -1,6 +1,6 @@
 -- The steps of water that rises over links: each node that is reached has its least level (after the correctness
 -- argument of Barnes, Lehman and Mulla 2014).
-use Rattle.std.proofs.Common.{◌≡◌, ◌≢◌, ℕ, zero, suc, ◌+◌, ◌<◌, ◌⊎◌, inl, inr, ℤ, ◌≤ℤ◌, false, List, [], ◌∷◌, length, get_or, set, cond, refl, sym, ap, ◌∙◌, subst, arith, true≢false, get_or-set_same, get_or-set_other, length-set, Contains, map}
+use Rattle.std.proofs.Common.{◌≡◌, ◌≢◌, ℕ, zero, suc, ◌+◌, ◌<◌, ◌⊎◌, inl, inr, ℤ, ◌≤ℤ◌, false, List, [], ◌∷◌, length, get_or, set, cond, sym, ap, ◌∙◌, subst, arith, true≢false, get_or-set_same, get_or-set_other, length-set, Contains, map}
 use Rattle.std.specs.Int.{int_max}
 use Rattle.std.specs.Ordering.{int_eq}
 use Rattle.std.proofs.Math.ListN.{get_or-eq_default}
@@ -8,7 +8,7 @@ use Rattle.std.proofs.lemmas.Int.{ints}
 use Rattle.std.proofs.lemmas.Bool.{cases_Bool, cases_eq, cases_lt}
 use Rattle.std.proofs.lemmas.Bool.Decides.{Decides-int_eq}
 use Rattle.std.proofs.lemmas.List.{get_or_default, length-map}
-use Rattle.border_graph.proofs.Tiles.{get_or-map}
+use Rattle.std.proofs.Math.ListN.{get_or-map}
 use Rattle.std.proofs.lemmas.List.Elements.{Contains-get_or}
 use Rattle.lattice.specs.Mosaic.{void, is_void}
 use Rattle.lattice.proofs.Levels.{≤ℤ_same, ≤ℤ_trans, le-max_left, le-max_right, max-le}

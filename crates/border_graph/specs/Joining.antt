@@ -10,27 +10,27 @@ use Rattle.lattice.specs.Block.{IsBlockOf, is_rim, rim_number}
 use Rattle.tile_flood.specs.Labelling.{IsLabelling, OUT, NO_LABEL}
 use Rattle.tile_flood.specs.Spills.{AreSpills}
 use Rattle.border_graph.specs.declared.summary.RimPoint.{RimPoint}
-use Rattle.border_graph.specs.Borders.{Border}
+use Rattle.border_graph.specs.Summaries.{Summary}
 
 -- a rim number that isn't there
 abbrev pub nowhere : RimPoint
 nowhere = record { height = void; label = NO_LABEL; outlet = false }
 
-abbrev pub rim_point : Border → ℕ → RimPoint
+abbrev pub rim_point : Summary → ℕ → RimPoint
 rim_point b k = slice_index_or b.rim k nowhere
 
-abbrev pub border_at : List Border → ℕ → Border
-border_at borders t = slice_index_or borders t (record { corner = record { lat = pos 0; lon = pos 0 }; rim = []; spills = [] })
+abbrev pub summary_at : List Summary → ℕ → Summary
+summary_at summaries t = slice_index_or summaries t (record { corner = record { lat = pos 0; lon = pos 0 }; rim = []; spills = [] })
 
 -- each rim point of the block with its height, its label, and whether it is an outlet of the mosaic
-pub record IsRimOf (m : Mosaic) (c : Corner) (heights : List ℤ) (labels : List ℕ) (b : Border) : Type 0 where
+pub record IsRimOf (m : Mosaic) (c : Corner) (heights : List ℤ) (labels : List ℕ) (b : Summary) : Type 0 where
   pub whole : length b.rim ≡ 4 * (m.side - 1)
   pub height : (e : ℕ) → e < m.side * m.side → IsTrue (is_rim m.side e) → (rim_point b (rim_number m.side e)).height ≡ slice_index_or heights e void
   pub label : (e : ℕ) → e < m.side * m.side → IsTrue (is_rim m.side e) → (rim_point b (rim_number m.side e)).label ≡ slice_index labels e
   pub outlet : (e : ℕ) → e < m.side * m.side → IsTrue (is_rim m.side e) → IsTrue (is_ground m (point_of m.side c e)) → (rim_point b (rim_number m.side e)).outlet ≡ is_outlet m (point_of m.side c e)
 
 -- the summary of a valid labelling of the tile's block
-pub record IsBorderOf (m : Mosaic) (b : Border) : Type 0 where
+pub record IsSummaryOf (m : Mosaic) (b : Summary) : Type 0 where
   pub heights : List ℤ
   pub levels : List ℤ
   pub labels : List ℕ
@@ -40,11 +40,11 @@ pub record IsBorderOf (m : Mosaic) (b : Border) : Type 0 where
   pub rim : IsRimOf m b.corner heights labels b
 
 -- of each present tile, in the order of tiles
-pub record AreBorders (m : Mosaic) (borders : List Border) : Type 0 where
-  pub corners : map (λ b. b.corner) borders ≡ map (λ t. t.corner) m.tiles
-  pub each : All (IsBorderOf m) borders
+pub record AreSummaries (m : Mosaic) (summaries : List Summary) : Type 0 where
+  pub corners : map (λ b. b.corner) summaries ≡ map (λ t. t.corner) m.tiles
+  pub each : All (IsSummaryOf m) summaries
 
--- the outlet node, and each rim point of each tile: by the tile's place in the list and the rim number
+-- the outlet node, and each rim point of each tile: by the tile's index in the list and the rim number
 pub data Node : Type 0 where
   Outlet : Node
   Rim : ℕ → ℕ → Node
@@ -57,39 +57,39 @@ pub record IsRimNumberOf (n : ℕ) (c : Corner) (k : ℕ) (p : Point) : Type 0 w
   pub number : rim_number n index ≡ k
   pub point : point_of n c index ≡ p
 
-module _ (n : ℕ) (borders : List Border) where
+module _ (n : ℕ) (summaries : List Summary) where
   -- a ground point of a rim
   pub record IsThere (t k : ℕ) : Type 0 where
-    pub tile : t < length borders
+    pub tile : t < length summaries
     pub number : k < 4 * (n - 1)
-    pub solid : (rim_point (border_at borders t) k).height ≢ void
+    pub solid : (rim_point (summary_at summaries t) k).height ≢ void
 
   -- and what the summary says of it
   pub record IsThereAt (t k : ℕ) (point : RimPoint) : Type 0 where
     pub there : IsThere t k
-    pub is : rim_point (border_at borders t) k ≡ point
+    pub is : rim_point (summary_at summaries t) k ≡ point
 
   -- to what its label names, at its height
   pub record IsLabelLink (t k label : ℕ) (level : ℤ) : Type 0 where
-    pub names : (rim_point (border_at borders t) k).label ≡ label
-    pub height : (rim_point (border_at borders t) k).height ≡ level
+    pub names : (rim_point (summary_at summaries t) k).label ≡ label
+    pub height : (rim_point (summary_at summaries t) k).height ≡ level
 
   -- between two labels of a tile, at their spill
   abbrev pub IsSpillLink : ℕ → ℕ → ℕ → ℤ → Type 0
-  IsSpillLink t a b level = Contains (border_at borders t).spills (record { a = a; b = b; level = level })
+  IsSpillLink t a b level = Contains (summary_at summaries t).spills (record { a = a; b = b; level = level })
 
   -- an outlet of the mosaic, at its height
   pub record IsOutletLink (t k : ℕ) (level : ℤ) : Type 0 where
-    pub outlet : IsTrue (rim_point (border_at borders t) k).outlet
-    pub height : (rim_point (border_at borders t) k).height ≡ level
+    pub outlet : IsTrue (rim_point (summary_at summaries t) k).outlet
+    pub height : (rim_point (summary_at summaries t) k).height ≡ level
 
   -- one point of two tiles, at its height
   pub record IsSharedLink (t k u l : ℕ) (level : ℤ) : Type 0 where
     pub apart : t ≢ u
     pub point : Point
-    pub here : IsRimNumberOf n (border_at borders t).corner k point
-    pub there : IsRimNumberOf n (border_at borders u).corner l point
-    pub height : (rim_point (border_at borders t) k).height ≡ level
+    pub here : IsRimNumberOf n (summary_at summaries t).corner k point
+    pub there : IsRimNumberOf n (summary_at summaries u).corner l point
+    pub height : (rim_point (summary_at summaries t) k).height ≡ level
 
   -- between two rim points of one tile
   abbrev pub IsInnerLink : ℕ → ℕ → ℕ → ℤ → Type 0

@@ -1,22 +1,40 @@
 -- What joining gives.
-use Rattle.std.specs.Prelude.{◌≡◌, ℕ, ◌+◌, ◌-◌, ◌*◌, ◌<◌, ◌≤◌, ℤ, List, [], length, slice_index_or}
+use Rattle.std.specs.Prelude.{◌≡◌, ◌≢◌, ◌⊎◌, ℕ, ◌+◌, ◌-◌, ◌*◌, ◌<◌, ◌≤◌, ℤ, List, [], length, slice_index_or}
 use Rattle.lattice.specs.Mosaic.{Mosaic, void}
 use Rattle.tile_flood.specs.Raising.{AreRimLevels}
-use Rattle.border_graph.specs.Borders.{Border}
-use Rattle.border_graph.specs.Joining.{border_at}
+use Rattle.border_graph.specs.Summaries.{Summary}
+use Rattle.border_graph.specs.Links.{IsWayBelow}
+use Rattle.border_graph.specs.Joining.{Node, Outlet, Rim, summary_at, rim_point, IsThere, IsLink}
+use Rattle.border_graph.specs.Linking.{node_number}
+use Rattle.border_graph.specs.Sharing.{AreInOrder}
 
 -- each rim has as many points as that of a tile with this side
-abbrev pub IsSideOf : ℕ → List Border → Type 0
-IsSideOf n borders = (t : ℕ) → t < length borders → length (border_at borders t).rim ≡ 4 * (n - 1)
+abbrev pub IsSideOf : ℕ → List Summary → Type 0
+IsSideOf n summaries = (t : ℕ) → t < length summaries → length (summary_at summaries t).rim ≡ 4 * (n - 1)
 
 -- no side is that of all tiles
-abbrev pub HaveNoSide : List Border → Type 0
-HaveNoSide borders = (n : ℕ) → 3 ≤ n → n ≤ 3601 → IsSideOf n borders → ⊥
+abbrev pub HaveNoSide : List Summary → Type 0
+HaveNoSide summaries = (n : ℕ) → 3 ≤ n → n ≤ 3601 → IsSideOf n summaries → ⊥
 
 -- the filled levels of the rim of each tile, in the order of tiles
-pub record AreJoined (m : Mosaic) (borders : List Border) (joined : List (List ℤ)) : Type 0 where
-  pub whole : length joined ≡ length borders
-  pub each : (t : ℕ) → t < length borders → AreRimLevels m (border_at borders t).corner (slice_index_or joined t [])
+pub record AreJoined (m : Mosaic) (summaries : List Summary) (joined : List (List ℤ)) : Type 0 where
+  pub whole : length joined ≡ length summaries
+  pub each : (t : ℕ) → t < length summaries → AreRimLevels m (summary_at summaries t).corner (slice_index_or joined t [])
+
+-- each ground rim point of the summaries has a level
+abbrev pub AreLevelled : List Summary → List (List ℤ) → Type 0
+AreLevelled summaries joined = (t k : ℕ) → t < length summaries → (rim_point (summary_at summaries t) k).height ≢ void → slice_index_or (slice_index_or joined t []) k void ≢ void
+
+-- from some ground rim point no links above the void lead out, if the summaries are in the order of tiles
+pub record LeadsNowhere (n : ℕ) (summaries : List Summary) : Type 0 where
+  pub tile : ℕ
+  pub number : ℕ
+  pub there : IsThere n summaries tile number
+  pub no_way : AreInOrder summaries → (level : ℤ) (rest : List Node) → IsWayBelow (λ x y l. IsLink n summaries x y l × (l ≢ void)) Outlet level (Rim tile number) rest → ⊥
+
+-- no side is that of all tiles, or from some ground rim point nothing leads out
+abbrev pub CannotBeJoined : List Summary → Type 0
+CannotBeJoined summaries = HaveNoSide summaries ⊎ ((n : ℕ) × (IsSideOf n summaries × LeadsNowhere n summaries))
 
 -- the levels of a tile's part of the list of all nodes
 pub record IsPart (levels : List ℤ) (size t : ℕ) (rim : List ℤ) : Type 0 where
@@ -25,3 +43,8 @@ pub record IsPart (levels : List ℤ) (size t : ℕ) (rim : List ℤ) : Type 0 w
 
 abbrev pub AreParts : List ℤ → ℕ → List (List ℤ) → ℕ → Type 0
 AreParts levels size rims tiles = (t : ℕ) → t < tiles → IsPart levels size t (slice_index_or rims t [])
+
+-- the ground rim point has no level in the list of all nodes
+pub record IsUnlevelled (n : ℕ) (summaries : List Summary) (levels : List ℤ) (t k : ℕ) : Type 0 where
+  pub there : IsThere n summaries t k
+  pub no_level : slice_index_or levels (node_number n (Rim t k)) void ≡ void

@@ -1,9 +1,8 @@
-pub mod Borders
+pub mod Summaries
 pub mod Links
 pub mod Joining
 pub mod Joins
 pub mod Waiting
 pub mod Rising
 pub mod Linking
-pub mod RimPoints
 pub mod Sharing

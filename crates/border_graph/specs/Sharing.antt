@@ -6,15 +6,15 @@ use Rattle.lattice.specs.Corners.{Corner, is_corner}
 use Rattle.lattice.specs.Lattice.{IsBefore, IsIndexOf}
 use Rattle.lattice.specs.Block.{is_rim, rim_number}
 use Rattle.border_graph.specs.declared.waiting.Link.{Link}
-use Rattle.border_graph.specs.Borders.{Border}
-use Rattle.border_graph.specs.Joining.{Rim, border_at, IsThere, IsSharedLink}
+use Rattle.border_graph.specs.Summaries.{Summary}
+use Rattle.border_graph.specs.Joining.{Rim, summary_at, IsThere, IsSharedLink}
 use Rattle.border_graph.specs.Rising.{IsListed}
-use Rattle.border_graph.specs.Linking.{place_of, AreOutletsListed, AreLabelsListed, AreSpillsListed}
+use Rattle.border_graph.specs.Linking.{node_number, AreOutletsListed, AreLabelsListed, AreSpillsListed}
 
 -- tiles in the order of their corners, no corner twice
-pub record AreInOrder (borders : List Border) : Type 0 where
-  pub corners : (t : ℕ) → t < length borders → IsTrue (is_corner (border_at borders t).corner)
-  pub rising : AllAdjacentBelow (λ a b. IsBefore a.corner b.corner) borders (length borders)
+pub record AreInOrder (summaries : List Summary) : Type 0 where
+  pub corners : (t : ℕ) → t < length summaries → IsTrue (is_corner (summary_at summaries t).corner)
+  pub rising : AllAdjacentBelow (λ a b. IsBefore a.corner b.corner) summaries (length summaries)
 
 -- the point with a rim number in the tile at the corner
 pub record IsOfRim (n : ℕ) (c : Corner) (k : ℕ) (p : Point) : Type 0 where
@@ -24,22 +24,22 @@ pub record IsOfRim (n : ℕ) (c : Corner) (k : ℕ) (p : Point) : Type 0 where
   pub at : IsIndexOf n c p index
 
 -- the links from a rim point to the same point of other tiles are listed
-abbrev pub AreSharedListed : ℕ → List Border → List (List Link) → ℕ → ℕ → Type 0
-AreSharedListed n borders links t k = (u l : ℕ) (level : ℤ) → IsThere n borders t k → IsThere n borders u l → IsSharedLink n borders t k u l level →
-    IsListed links (place_of n (Rim t k)) (place_of n (Rim u l)) level
+abbrev pub AreSharedListed : ℕ → List Summary → List (List Link) → ℕ → ℕ → Type 0
+AreSharedListed n summaries links t k = (u l : ℕ) (level : ℤ) → IsThere n summaries t k → IsThere n summaries u l → IsSharedLink n summaries t k u l level →
+    IsListed links (node_number n (Rim t k)) (node_number n (Rim u l)) level
 
 -- those to the tile at the corner
-abbrev pub IsSharedListed : ℕ → List Border → List (List Link) → ℕ → ℕ → Corner → Type 0
-IsSharedListed n borders links t k c = (u l : ℕ) (level : ℤ) → (border_at borders u).corner ≡ c → IsThere n borders t k → IsThere n borders u l → IsSharedLink n borders t k u l level →
-    IsListed links (place_of n (Rim t k)) (place_of n (Rim u l)) level
+abbrev pub IsSharedListed : ℕ → List Summary → List (List Link) → ℕ → ℕ → Corner → Type 0
+IsSharedListed n summaries links t k c = (u l : ℕ) (level : ℤ) → (summary_at summaries u).corner ≡ c → IsThere n summaries t k → IsThere n summaries u l → IsSharedLink n summaries t k u l level →
+    IsListed links (node_number n (Rim t k)) (node_number n (Rim u l)) level
 
 -- the links of a rim point, but for spills
-pub record IsPointListed (n : ℕ) (borders : List Border) (links : List (List Link)) (t k : ℕ) : Type 0 where
-  pub outlets : AreOutletsListed n borders links t k
-  pub labels : AreLabelsListed n borders links t k
-  pub shared : AreInOrder borders → AreSharedListed n borders links t k
+pub record IsPointListed (n : ℕ) (summaries : List Summary) (links : List (List Link)) (t k : ℕ) : Type 0 where
+  pub outlets : AreOutletsListed n summaries links t k
+  pub labels : AreLabelsListed n summaries links t k
+  pub shared : AreInOrder summaries → AreSharedListed n summaries links t k
 
 -- the links of a tile
-pub record IsTileListed (n : ℕ) (borders : List Border) (links : List (List Link)) (t : ℕ) : Type 0 where
-  pub points : (k : ℕ) → k < 4 * (n - 1) → IsPointListed n borders links t k
-  pub spills : AreSpillsListed n borders links t (length (border_at borders t).spills)
+pub record IsTileListed (n : ℕ) (summaries : List Summary) (links : List (List Link)) (t : ℕ) : Type 0 where
+  pub points : (k : ℕ) → k < 4 * (n - 1) → IsPointListed n summaries links t k
+  pub spills : AreSpillsListed n summaries links t (length (summary_at summaries t).spills)

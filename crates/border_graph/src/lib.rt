@@ -6,7 +6,6 @@
 
 mod joining;
 mod linking;
-mod rim;
 mod rising;
 mod sharing;
 mod summary;
@@ -15,5 +14,4 @@ mod tests;
 mod waiting;
 
 pub use joining::join;
-pub use rim::index_of_rim;
 pub use summary::{RimPoint, Summary};

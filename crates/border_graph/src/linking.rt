@@ -1,9 +1,9 @@
 //! The links between the rim points of all tiles.
 ghost use Rattle.std.specs.Prelude.{◌≡◌, Contains, ◌+◌, ◌*◌, ◌-◌, ◌<◌, ◌≤◌, ℕ, [], IfSome, IfNone, IfOk, IfErr, OnOk, length, map, vec_len, slice_index_or};
-ghost use Rattle.border_graph.specs.Joining.{IsThere, IsThereAt, Rim, border_at};
+ghost use Rattle.border_graph.specs.Joining.{IsThere, IsThereAt, Rim, summary_at};
 ghost use Rattle.lattice.specs.declared.refusal.Refusal.TheVariants.{NoMemory};
 ghost use Rattle.border_graph.specs.Sharing.{AreInOrder, IsPointListed, IsTileListed};
-ghost use Rattle.border_graph.specs.Linking.{AreLinked, IsAddedTo, AreSoFar, AreSpillsListed, IsSpillListed, AreListedStill, AreOutletsListed, AreLabelsListed, place_of};
+ghost use Rattle.border_graph.specs.Linking.{AreLinked, IsAddedTo, AreSoFar, AreSpillsListed, IsSpillListed, AreListedStill, AreOutletsListed, AreLabelsListed, node_number};
 
 use crate::sharing::link_shared;
 use crate::summary::{RimPoint, Summary};
@@ -44,11 +44,11 @@ pub(crate) fn add(links: &mut Vec<Vec<Link>>, to: usize, link: Link) -> Result<(
     Ok(())
 }
 
-// The place of a rim point in the list of all nodes.
-pub(crate) fn place(n: usize, nodes: usize, t: usize, k: usize) -> usize
+// The number of a rim point in the list of all nodes.
+pub(crate) fn node_number(n: usize, nodes: usize, t: usize, k: usize) -> usize
     requires side { (3 ≤ n) × (n ≤ 3601) }
     requires room { 1 + t * (4 * (n - 1)) + k < nodes }
-    ensures { result ≡ place_of n (Rim t k) }
+    ensures { result ≡ node_number n (Rim t k) }
 {
     1 + t * (4 * (n - 1)) + k
 }
@@ -75,7 +75,7 @@ fn link_outlet(
         return Ok(());
     }
     let nodes = links.len();
-    let from = place(n, nodes, t, k);
+    let from = node_number(n, nodes, t, k);
     add(
         links,
         0,
@@ -110,8 +110,8 @@ fn link_label(
         return Ok(());
     };
     let nodes = links.len();
-    let here = place(n, nodes, t, k);
-    let there = place(n, nodes, t, named);
+    let here = node_number(n, nodes, t, k);
+    let there = node_number(n, nodes, t, named);
     add(
         links,
         there,
@@ -141,7 +141,7 @@ fn link_spill(
 ) -> Result<(), AllocError>
     requires side { (3 ≤ n) × (n ≤ 3601) }
     requires t { t < length summaries.now }
-    requires spill { Contains (border_at summaries.now t).spills spill }
+    requires spill { Contains (summary_at summaries.now t).spills spill }
     requires so_far { AreSoFar n summaries.now (map (λ v. v.items) links.old.items) }
     ensures so_far { OnOk result (AreSoFar n summaries.now (map (λ v. v.items) links.new.items)) }
     ensures still { OnOk result (AreListedStill (map (λ v. v.items) links.old.items) (map (λ v. v.items) links.new.items)) }
@@ -156,7 +156,7 @@ fn link_spill(
         return Ok(());
     }
     let nodes = links.len();
-    let first = place(n, nodes, t, a);
+    let first = node_number(n, nodes, t, a);
     if spill.b == OUT {
         add(
             links,
@@ -171,7 +171,7 @@ fn link_spill(
     let Some(_) = ground_rim_point(n, summaries, t, b) else {
         return Ok(());
     };
-    let second = place(n, nodes, t, b);
+    let second = node_number(n, nodes, t, b);
     add(
         links,
         second,
@@ -203,7 +203,7 @@ fn link_spills(
     requires so_far { AreSoFar n summaries.now (map (λ v. v.items) links.old.items) }
     ensures so_far { OnOk result (AreSoFar n summaries.now (map (λ v. v.items) links.new.items)) }
     ensures still { OnOk result (AreListedStill (map (λ v. v.items) links.old.items) (map (λ v. v.items) links.new.items)) }
-    ensures listed { OnOk result (AreSpillsListed n summaries.now (map (λ v. v.items) links.new.items) t (length (border_at summaries.now t).spills)) }
+    ensures listed { OnOk result (AreSpillsListed n summaries.now (map (λ v. v.items) links.new.items) t (length (summary_at summaries.now t).spills)) }
 {
     let spills = spills_of(summaries, t);
     for j in 0..spills.len() {
@@ -214,7 +214,7 @@ fn link_spills(
 
 fn spills_of(summaries: &[Summary], t: usize) -> &[Spill]
     requires { t < length summaries.now }
-    ensures { result.now ≡ (border_at summaries.now t).spills }
+    ensures { result.now ≡ (summary_at summaries.now t).spills }
 {
     summaries[t].spills()
 }

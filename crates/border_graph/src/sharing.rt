@@ -1,15 +1,16 @@
 //! The links between rim points that are one point of several tiles.
 ghost use Rattle.std.specs.Prelude.{◌≡◌, ℕ, ◌-◌, ◌*◌, ◌<◌, ◌≤◌, IfSome, IfNone, OnOk, length, map};
 ghost use Rattle.lattice.specs.Corners.{is_before};
-ghost use Rattle.border_graph.specs.Joining.{border_at};
+ghost use Rattle.lattice.specs.Lattice.{Holds, IsIndexOf};
+ghost use Rattle.lattice.specs.Block.{rim_number as number_of};
+ghost use Rattle.border_graph.specs.Joining.{summary_at};
 ghost use Rattle.border_graph.specs.Linking.{AreSoFar, AreListedStill};
 ghost use Rattle.border_graph.specs.Sharing.{AreInOrder, IsOfRim, IsSharedListed, AreSharedListed};
 
-use crate::linking::{add, ground_rim_point, place};
-use crate::rim::{index_of_rim, rim_number_in};
+use crate::linking::{add, ground_rim_point, node_number};
 use crate::summary::Summary;
 use crate::waiting::Link;
-use lattice::{Corner, Point, Side, holders, point_at};
+use lattice::{Corner, Point, Side, holders, index_in, point_at, rim_index, rim_number};
 use std::alloc::AllocError;
 
 // Lists the links from a rim point to the same point of other tiles.
@@ -39,16 +40,16 @@ pub(crate) fn link_shared(
 fn point_on_rim(side: Side, summaries: &[Summary], t: usize, k: usize) -> Point
     requires t { t < length summaries.now }
     requires k { k < 4 * (side - 1) }
-    ensures point { IsOfRim side (border_at summaries.now t).corner k result }
+    ensures point { IsOfRim side (summary_at summaries.now t).corner k result }
     ensures low { 3 ≤ side }
 {
     let corner = corner_of(summaries, t);
-    point_at(side, corner, index_of_rim(side.samples(), k as u32))
+    point_at(side, corner, rim_index(side, k as u32))
 }
 
 fn corner_of(summaries: &[Summary], t: usize) -> Corner
     requires { t < length summaries.now }
-    ensures { result ≡ (border_at summaries.now t).corner }
+    ensures { result ≡ (summary_at summaries.now t).corner }
 {
     summaries[t].corner()
 }
@@ -64,7 +65,7 @@ fn link_to_tile(
     links: &mut Vec<Vec<Link>>,
 ) -> Result<(), AllocError>
     requires t { t < length summaries.now }
-    requires point { IsOfRim side (border_at summaries.now t).corner k point }
+    requires point { IsOfRim side (summary_at summaries.now t).corner k point }
     requires so_far { AreSoFar side summaries.now (map (λ v. v.items) links.old.items) }
     ensures so_far { OnOk result (AreSoFar side summaries.now (map (λ v. v.items) links.new.items)) }
     ensures still { OnOk result (AreListedStill (map (λ v. v.items) links.old.items) (map (λ v. v.items) links.new.items)) }
@@ -87,8 +88,8 @@ fn link_to_tile(
         return Ok(());
     };
     let nodes = links.len();
-    let from = place(n, nodes, t, k);
-    let to = place(n, nodes, u, l);
+    let from = node_number(n, nodes, t, k);
+    let to = node_number(n, nodes, u, l);
     add(
         links,
         to,
@@ -100,10 +101,19 @@ fn link_to_tile(
     Ok(())
 }
 
-// The place in the list of the tile at the corner, where it is present, if tiles are in order.
+// The rim number of a point in the corner's tile, where that tile holds it.
+fn rim_number_in(side: Side, corner: Corner, point: Point) -> Option<usize>
+    ensures none { IfNone result (Holds side corner point → ⊥) }
+    ensures some { IfSome result (λ l. (e : ℕ) × (IsIndexOf side corner point e × (l ≡ number_of side e))) }
+{
+    let index = index_in(side, corner, point)?;
+    Some(rim_number(side, index) as usize)
+}
+
+// Where in the list the tile at the corner stands, if tiles are in order.
 fn tile_at(summaries: &[Summary], corner: Corner) -> Option<usize>
-    ensures some { IfSome result (λ u. (u < length summaries.now) × ((border_at summaries.now u).corner ≡ corner)) }
-    ensures none { IfNone result (AreInOrder summaries.now → (u : ℕ) → u < length summaries.now → (border_at summaries.now u).corner ≡ corner → ⊥) }
+    ensures some { IfSome result (λ u. (u < length summaries.now) × ((summary_at summaries.now u).corner ≡ corner)) }
+    ensures none { IfNone result (AreInOrder summaries.now → (u : ℕ) → u < length summaries.now → (summary_at summaries.now u).corner ≡ corner → ⊥) }
 {
     let mut low = 0;
     let mut high = summaries.len();

@@ -23,9 +23,9 @@ pub struct Summary {
 }
 
 impl Model for Summary {
-    ghost use Rattle.border_graph.specs.Borders.{Border};
+    ghost use Rattle.border_graph.specs.Summaries.{Summary};
 
-    ghost Value = { Border };
+    ghost Value = { Summary };
 
     ghost view = { λ s. record { corner = s.corner; rim = s.rim.items; spills = s.spills.items } };
 }

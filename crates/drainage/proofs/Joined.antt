@@ -11,22 +11,22 @@ use Rattle.catalogue.specs.Tiles.{corners_of}
 use Rattle.catalogue.proofs.Presence.{present_iff}
 use Rattle.tile_flood.specs.Blocks.{LabelledGround}
 use Rattle.tile_flood.specs.Raising.{IsRimFilled, AreRimLevels}
-use Rattle.border_graph.specs.Borders.{Border}
-use Rattle.border_graph.specs.Joining.{border_at, IsBorderOf, AreBorders}
+use Rattle.border_graph.specs.Summaries.{Summary}
+use Rattle.border_graph.specs.Joining.{summary_at, IsSummaryOf, AreSummaries}
 use Rattle.border_graph.specs.Joins.{AreJoined}
-use Rattle.border_graph.proofs.Tiles.{get_or-map}
+use Rattle.std.proofs.Math.ListN.{get_or-map}
 use Rattle.drainage.specs.Flooded.{corner_at, labelled_at, IsFlooded, AreFlooded, AreRimsFilled}
 
-abbrev pub border_corner : Border → Corner
-border_corner b = b.corner
+abbrev pub summary_corner : Summary → Corner
+summary_corner b = b.corner
 
 -- one tile more
-pub one_more_flooded : (m : Mosaic) (corners : List Corner) (labelled : List LabelledGround) (borders : List Border) (k : ℕ) (c : Corner) (l : LabelledGround) (b : Border)
-    → k < length corners → corner_at corners k ≡ c → b.corner ≡ c → IsFlooded m c l → IsBorderOf m b → AreFlooded m corners labelled borders k → AreFlooded m corners (labelled ++ l ∷ []) (borders ++ b ∷ []) (k + 1)
-one_more_flooded m corners labelled borders k c l b below at of flooded border done = record {
+pub one_more_flooded : (m : Mosaic) (corners : List Corner) (labelled : List LabelledGround) (summaries : List Summary) (k : ℕ) (c : Corner) (l : LabelledGround) (b : Summary)
+    → k < length corners → corner_at corners k ≡ c → b.corner ≡ c → IsFlooded m c l → IsSummaryOf m b → AreFlooded m corners labelled summaries k → AreFlooded m corners (labelled ++ l ∷ []) (summaries ++ b ∷ []) (k + 1)
+one_more_flooded m corners labelled summaries k c l b below at of flooded border done = record {
   whole = length-append labelled (l ∷ []) ∙ ap (λ n. n + 1) done.whole;
-  in_order = map-append border_corner borders (b ∷ []) ∙ ap₂ (λ (xs : List Corner) (x : Corner). xs ++ x ∷ []) done.in_order (of ∙ sym at) ∙ sym (take_more corners k (record { lat = pos 0; lon = pos 0 }) below);
-  each = All-append (IsBorderOf m) borders (b ∷ []) done.each (All-cons (IsBorderOf m) b [] border (All-nil (IsBorderOf m)));
+  in_order = map-append summary_corner summaries (b ∷ []) ∙ ap₂ (λ (xs : List Corner) (x : Corner). xs ++ x ∷ []) done.in_order (of ∙ sym at) ∙ sym (take_more corners k (record { lat = pos 0; lon = pos 0 }) below);
+  each = All-append (IsSummaryOf m) summaries (b ∷ []) done.each (All-cons (IsSummaryOf m) b [] border (All-nil (IsSummaryOf m)));
   flooded = λ i less. elim (cases_lt i k) [
     | inl earlier ↦ subst (IsFlooded m (corner_at corners i)) (sym (get_or_append_left labelled (l ∷ []) (record { side = 0; levels = []; labels = [] }) i (subst (λ n. i < n) (sym done.whole) earlier))) (done.flooded i earlier)
     | inr later ↦
@@ -38,29 +38,29 @@ one_more_flooded m corners labelled borders k c l b below at of flooded border d
 }
 
 -- each of the corners' tiles is flooded
-pub all_done : (m : Mosaic) (seen corners : List Corner) (labelled : List LabelledGround) (borders : List Border) (k : ℕ) → seen ≡ corners → k ≤ length seen → length seen ≤ k
-    → AreFlooded m seen labelled borders k → AreFlooded m corners labelled borders (length corners)
-all_done m seen corners labelled borders k same low high done =
+pub all_done : (m : Mosaic) (seen corners : List Corner) (labelled : List LabelledGround) (summaries : List Summary) (k : ℕ) → seen ≡ corners → k ≤ length seen → length seen ≤ k
+    → AreFlooded m seen labelled summaries k → AreFlooded m corners labelled summaries (length corners)
+all_done m seen corners labelled summaries k same low high done =
     let here : k ≡ length seen = omega arith in
-    subst (λ (cs : List Corner). AreFlooded m cs labelled borders (length cs)) same (subst (AreFlooded m seen labelled borders) here done)
+    subst (λ (cs : List Corner). AreFlooded m cs labelled summaries (length cs)) same (subst (AreFlooded m seen labelled summaries) here done)
 
-module _ (m : Mosaic) (is : IsMosaic m) (corners : List Corner) (all : corners ≡ corners_of m) (labelled : List LabelledGround) (borders : List Border) (done : AreFlooded m corners labelled borders (length corners)) where
-  same_corners : map border_corner borders ≡ corners
+module _ (m : Mosaic) (is : IsMosaic m) (corners : List Corner) (all : corners ≡ corners_of m) (labelled : List LabelledGround) (summaries : List Summary) (done : AreFlooded m corners labelled summaries (length corners)) where
+  same_corners : map summary_corner summaries ≡ corners
   same_corners = done.in_order ∙ take_all (length corners) corners (omega arith)
 
-  pub all_borders : AreBorders m borders
+  pub all_borders : AreSummaries m summaries
   all_borders = record { corners = same_corners ∙ all; each = done.each }
 
-  as_many : length borders ≡ length corners
-  as_many = sym (length-map borders border_corner) ∙ ap length same_corners
+  as_many : length summaries ≡ length corners
+  as_many = sym (length-map summaries summary_corner) ∙ ap length same_corners
 
-  pub rims_are_filled : (rims : List (List ℤ)) → AreJoined m borders rims → AreRimsFilled m corners labelled rims
+  pub rims_are_filled : (rims : List (List ℤ)) → AreJoined m summaries rims → AreRimsFilled m corners labelled rims
   rims_are_filled rims joined = record {
     all = all;
     whole = joined.whole ∙ as_many;
     each = λ k below.
         let flooded = done.flooded k below in
-        let same : (border_at borders k).corner ≡ corner_at corners k = sym (get_or-map border_corner borders k (record { corner = record { lat = pos 0; lon = pos 0 }; rim = []; spills = [] })) ∙ ap (λ (cs : List Corner). corner_at cs k) same_corners in
+        let same : (summary_at summaries k).corner ≡ corner_at corners k = sym (get_or-map summary_corner summaries k (record { corner = record { lat = pos 0; lon = pos 0 }; rim = []; spills = [] })) ∙ ap (λ (cs : List Corner). corner_at cs k) same_corners in
         record {
           mosaic = is;
           side = flooded.side;

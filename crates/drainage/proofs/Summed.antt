@@ -16,9 +16,9 @@ use Rattle.tile_flood.specs.Labelling.{IsLabelling}
 use Rattle.tile_flood.specs.Spills.{AreSpills}
 use Rattle.tile_flood.proofs.Raised.{rim_number_below}
 use Rattle.border_graph.specs.declared.summary.RimPoint.{RimPoint}
-use Rattle.border_graph.specs.Joining.{nowhere, IsRimOf, IsBorderOf}
-use Rattle.border_graph.specs.RimPoints.{IsRimPoint}
-use Rattle.border_graph.proofs.RimNumbers.{one_rim_point}
+use Rattle.border_graph.specs.Joining.{nowhere, IsRimOf, IsSummaryOf}
+use Rattle.lattice.specs.RimPoints.{IsRimPoint}
+use Rattle.lattice.proofs.RimNumbers.{one_rim_point}
 use Rattle.catalogue.specs.Sealed.{IsSealed}
 use Rattle.drainage.specs.Flooded.{IsGroundIn, IsRimPointIn, AreRimPointsIn, IsFlooded}
 use Rattle.drainage.proofs.Tiles.{of_tile}
@@ -56,7 +56,7 @@ module _ (m s : Mosaic) (sealed : IsSealed m s) (c : Corner) (block : Ground) (g
     }
 
     pub border_is : (levels : List ℤ) (spills : List Spill) → IsLabelling block.side block.heights levels labels → AreSpills block.side block.heights levels labels spills
-        → IsBorderOf m (record { corner = c; rim = rim; spills = spills })
+        → IsSummaryOf m (record { corner = c; rim = rim; spills = spills })
     border_is levels spills labelling found = record {
       heights = block.heights;
       levels = levels;

@@ -11,9 +11,9 @@ use Rattle.tile_flood.specs.Blocks.{Ground, LabelledGround}
 use Rattle.tile_flood.specs.Labelling.{IsLabelling}
 use Rattle.tile_flood.specs.Raising.{IsRimFilled}
 use Rattle.border_graph.specs.declared.summary.RimPoint.{RimPoint}
-use Rattle.border_graph.specs.Borders.{Border}
-use Rattle.border_graph.specs.Joining.{nowhere, IsBorderOf}
-use Rattle.border_graph.specs.RimPoints.{IsRimPoint}
+use Rattle.border_graph.specs.Summaries.{Summary}
+use Rattle.border_graph.specs.Joining.{nowhere, IsSummaryOf}
+use Rattle.lattice.specs.RimPoints.{IsRimPoint}
 
 -- the side and the samples of the corner's tile
 pub record IsGroundIn (table : Mosaic) (c : Corner) (block : Ground) : Type 0 where
@@ -45,10 +45,10 @@ abbrev pub labelled_at : List LabelledGround → ℕ → LabelledGround
 labelled_at labelled k = slice_index_or labelled k (record { side = 0; levels = []; labels = [] })
 
 -- of the first corners a labelling each, and a summary each
-pub record AreFlooded (m : Mosaic) (corners : List Corner) (labelled : List LabelledGround) (borders : List Border) (count : ℕ) : Type 0 where
+pub record AreFlooded (m : Mosaic) (corners : List Corner) (labelled : List LabelledGround) (summaries : List Summary) (count : ℕ) : Type 0 where
   pub whole : length labelled ≡ count
-  pub in_order : map (λ b. b.corner) borders ≡ take count corners
-  pub each : All (IsBorderOf m) borders
+  pub in_order : map (λ b. b.corner) summaries ≡ take count corners
+  pub each : All (IsSummaryOf m) summaries
   pub flooded : (k : ℕ) → k < count → IsFlooded m (corner_at corners k) (labelled_at labelled k)
 
 -- all tiles, with the filled levels of their rims

@@ -3,14 +3,14 @@ ghost use Rattle.std.specs.Prelude.{◌≡◌, ◌-◌, ◌*◌, ◌<◌, IfOk, 
 ghost use Rattle.lattice.specs.Mosaic.{Mosaic, IsMosaic};
 ghost use Rattle.lattice.specs.declared.refusal.Refusal.TheVariants.{NoMemory};
 ghost use Rattle.catalogue.specs.Tiles.{corners_of};
-ghost use Rattle.border_graph.specs.Joining.{IsBorderOf};
+ghost use Rattle.border_graph.specs.Joining.{IsSummaryOf};
 ghost use Rattle.catalogue.specs.Sealed.{IsSealed};
 ghost use Rattle.drainage.specs.Flooded.{IsGroundIn, IsRimPointIn, AreRimPointsIn, IsFlooded};
 
 use crate::growth::push;
-use border_graph::{RimPoint, Summary, index_of_rim};
+use border_graph::{RimPoint, Summary};
 use catalogue::{Samples, Table, outlet};
-use lattice::{Corner, Refusal, point_at};
+use lattice::{Corner, Refusal, point_at, rim_index};
 use std::alloc::Global;
 use tile_flood::{Block, Flood, Labelled, spills};
 
@@ -25,7 +25,7 @@ pub(crate) fn flood_tile(
     ensures same { table.new ≡ table.old }
     ensures corner { IfOk result (λ r. r.1.corner ≡ corner) }
     ensures flooded { IfOk result (λ r. (m : Mosaic) → IsMosaic m → IsSealed m table.old → IsFlooded m corner r.0) }
-    ensures border { IfOk result (λ r. (m : Mosaic) → IsMosaic m → IsSealed m table.old → IsBorderOf m r.1) }
+    ensures border { IfOk result (λ r. (m : Mosaic) → IsMosaic m → IsSealed m table.old → IsSummaryOf m r.1) }
     ensures refusal { IfErr result (λ r. r ≡ NoMemory) }
 {
     let block = block_of(alloc, table, corner)?;
@@ -93,7 +93,7 @@ fn rim_point(
     ensures refusal { IfErr result (λ r. r ≡ NoMemory) }
 {
     let side = block.side();
-    let index = index_of_rim(side.samples(), number);
+    let index = rim_index(side, number);
     let is_outlet = outlet(table, point_at(side, corner, index))?;
     Ok(RimPoint {
         height: block.heights()[index as usize],

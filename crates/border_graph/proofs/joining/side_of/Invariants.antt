@@ -1,6 +1,6 @@
 use Rattle.std.proofs.Common.{ℕ, ◌≡◌, ◌<◌, ◌*◌, length}
-use Rattle.border_graph.specs.Joining.{border_at}
+use Rattle.border_graph.specs.Joining.{summary_at}
 use Rattle.border_graph.proofs.joining.side_of.Given as goal
 
 abbrev pub invariant-loop-t : goal.invariant-loop-t
-invariant-loop-t l = (i : ℕ) → i < l.t → length (border_at l.summaries i).rim ≡ 4 * l.edge
+invariant-loop-t l = (i : ℕ) → i < l.t → length (summary_at l.summaries i).rim ≡ 4 * l.edge

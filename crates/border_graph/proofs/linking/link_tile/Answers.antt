@@ -1,5 +1,5 @@
 use Rattle.std.proofs.Common.{arith, map, length, subst}
-use Rattle.border_graph.specs.Joining.{border_at}
+use Rattle.border_graph.specs.Joining.{summary_at}
 use Rattle.border_graph.specs.Linking.{AreSpillsListed}
 use Rattle.border_graph.proofs.Linked.{points_more, point_still}
 use Rattle.border_graph.proofs.linking.link_tile.Goals as goal
@@ -15,5 +15,5 @@ pub returns-clause-listed : goal.returns-clause-listed
 returns-clause-listed c = record {
   points = λ k small. point_still c.args.side c.args.summaries.now (map (λ v. v.items) c.loop-k.links.items) (map (λ v. v.items) c.link_spills.new.links.items) c.args.t c.in_ok-link_spills.ensures.still k
       (c.loop-k.invariant.listed k (let edge = c.edge.ensures.value in let done = c.loop-k-test.false in omega arith));
-  spills = subst (λ n. AreSpillsListed n c.args.summaries.now (map (λ v. v.items) c.link_spills.new.links.items) c.args.t (length (border_at c.args.summaries.now c.args.t).spills)) c.samples.ensures.value c.in_ok-link_spills.ensures.listed;
+  spills = subst (λ n. AreSpillsListed n c.args.summaries.now (map (λ v. v.items) c.link_spills.new.links.items) c.args.t (length (summary_at c.args.summaries.now c.args.t).spills)) c.samples.ensures.value c.in_ok-link_spills.ensures.listed;
 }

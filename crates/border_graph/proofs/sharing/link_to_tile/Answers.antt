@@ -3,8 +3,8 @@ use Rattle.std.proofs.lemmas.List.{length-map}
 use Rattle.std.proofs.Common.{rules, arith, ◌≡◌, ◌+◌, ◌*◌, ◌-◌, ◌<◌, ◌∙◌, map, length, ap, sym, subst, SFits, w16, of_z, to_z}
 use Rattle.lattice.specs.Block.{rim_number}
 use Rattle.border_graph.specs.Joining.{Rim, IsThere, IsThereAt}
-use Rattle.border_graph.specs.Linking.{IsAddedTo, place_of}
-use Rattle.border_graph.proofs.Building.{place_below}
+use Rattle.border_graph.specs.Linking.{IsAddedTo, node_number}
+use Rattle.border_graph.proofs.Building.{node_number_below}
 use Rattle.border_graph.proofs.Shared.{shared_held, one_tile_at, shared_so_far, shared_listed, none_shared}
 use Rattle.border_graph.proofs.sharing.link_to_tile.Goals as goal
 
@@ -25,29 +25,29 @@ returns-in_default-ground_rim_point-clause-listed c =
     (λ there. c.in_default-ground_rim_point.ensures.none (subst (λ n. IsThere n c.args.summaries.now c.in-Some-tile_at.u c.in-Some-rim_number_in.l) (sym c.samples-n.ensures.value)
     (subst (λ j. IsThere c.args.side c.args.summaries.now c.in-Some-tile_at.u j) (sym index.1.1) there)))
 
-pub place-from-requires-clause-room : goal.place-from-requires-clause-room
-place-from-requires-clause-room c =
+pub node_number-from-requires-clause-room : goal.node_number-from-requires-clause-room
+node_number-from-requires-clause-room c =
     let below : 1 + c.args.t * (4 * (c.samples-n.result - 1)) + c.args.k < length (map (λ v. v.items) c.args.links.now.items) =
     subst (λ n. 1 + c.args.t * (4 * (n - 1)) + c.args.k < length (map (λ v. v.items) c.args.links.now.items)) (sym c.samples-n.ensures.value)
-    (place_below c.args.side c.args.summaries.now (map (λ v. v.items) c.args.links.now.items) c.args.t c.args.k c.requires.so_far c.requires.t (subst (λ n. c.args.k < 4 * (n - 1)) c.samples-n.ensures.value c.in-Some.ensures.some.there.number)) in
+    (node_number_below c.args.side c.args.summaries.now (map (λ v. v.items) c.args.links.now.items) c.args.t c.args.k c.requires.so_far c.requires.t (subst (λ n. c.args.k < 4 * (n - 1)) c.samples-n.ensures.value c.in-Some.ensures.some.there.number)) in
     let many = length-map c.args.links.now.items (λ v. v.items) in
     let nodes = c.len-nodes.ensures in
     omega (arith, c.args.links.now.ok.0)
 
-pub place-to-requires-clause-room : goal.place-to-requires-clause-room
-place-to-requires-clause-room c =
+pub node_number-to-requires-clause-room : goal.node_number-to-requires-clause-room
+node_number-to-requires-clause-room c =
     let below : 1 + c.in-Some-tile_at.u * (4 * (c.samples-n.result - 1)) + c.in-Some-rim_number_in.l < length (map (λ v. v.items) c.args.links.now.items) =
     subst (λ n. 1 + c.in-Some-tile_at.u * (4 * (n - 1)) + c.in-Some-rim_number_in.l < length (map (λ v. v.items) c.args.links.now.items)) (sym c.samples-n.ensures.value)
-    (place_below c.args.side c.args.summaries.now (map (λ v. v.items) c.args.links.now.items) c.in-Some-tile_at.u c.in-Some-rim_number_in.l c.requires.so_far c.in-Some-tile_at.ensures.some.0 (subst (λ n. c.in-Some-rim_number_in.l < 4 * (n - 1)) c.samples-n.ensures.value c.in-Some-ground_rim_point.ensures.some.there.number)) in
+    (node_number_below c.args.side c.args.summaries.now (map (λ v. v.items) c.args.links.now.items) c.in-Some-tile_at.u c.in-Some-rim_number_in.l c.requires.so_far c.in-Some-tile_at.ensures.some.0 (subst (λ n. c.in-Some-rim_number_in.l < 4 * (n - 1)) c.samples-n.ensures.value c.in-Some-ground_rim_point.ensures.some.there.number)) in
     let many = length-map c.args.links.now.items (λ v. v.items) in
     let nodes = c.len-nodes.ensures in
     omega (arith, c.args.links.now.ok.0)
 
 pub add-requires : goal.add-requires
 add-requires c =
-    let below = place_below c.args.side c.args.summaries.now (map (λ v. v.items) c.args.links.now.items) c.in-Some-tile_at.u c.in-Some-rim_number_in.l c.requires.so_far c.in-Some-tile_at.ensures.some.0 (subst (λ n. c.in-Some-rim_number_in.l < 4 * (n - 1)) c.samples-n.ensures.value c.in-Some-ground_rim_point.ensures.some.there.number) in
-    let at : c.place-to.result ≡ 1 + c.in-Some-tile_at.u * (4 * (c.args.side - 1)) + c.in-Some-rim_number_in.l = subst (λ n. c.place-to.result ≡ 1 + c.in-Some-tile_at.u * (4 * (n - 1)) + c.in-Some-rim_number_in.l) c.samples-n.ensures.value c.place-to.ensures in
-    let inside : c.place-to.result < length (map (λ v. v.items) c.args.links.now.items) = subst (λ v. v < length (map (λ v. v.items) c.args.links.now.items)) (sym at) below in
+    let below = node_number_below c.args.side c.args.summaries.now (map (λ v. v.items) c.args.links.now.items) c.in-Some-tile_at.u c.in-Some-rim_number_in.l c.requires.so_far c.in-Some-tile_at.ensures.some.0 (subst (λ n. c.in-Some-rim_number_in.l < 4 * (n - 1)) c.samples-n.ensures.value c.in-Some-ground_rim_point.ensures.some.there.number) in
+    let at : c.node_number-to.result ≡ 1 + c.in-Some-tile_at.u * (4 * (c.args.side - 1)) + c.in-Some-rim_number_in.l = subst (λ n. c.node_number-to.result ≡ 1 + c.in-Some-tile_at.u * (4 * (n - 1)) + c.in-Some-rim_number_in.l) c.samples-n.ensures.value c.node_number-to.ensures in
+    let inside : c.node_number-to.result < length (map (λ v. v.items) c.args.links.now.items) = subst (λ v. v < length (map (λ v. v.items) c.args.links.now.items)) (sym at) below in
     let many = length-map c.args.links.now.items (λ v. v.items) in
     omega (arith, c.args.links.now.ok.0)
 
@@ -57,14 +57,14 @@ returns-clause-so_far c =
     let index = c.in-Some-rim_number_in.ensures.some in
     let fits : SFits w16 c.in-Some.here.height = search rules in
     let n_is = c.samples-n.ensures.value in
-    let to_is : c.place-to.result ≡ place_of c.args.side (Rim c.in-Some-tile_at.u (rim_number c.args.side index.0)) =
-    subst (λ n. c.place-to.result ≡ place_of n (Rim c.in-Some-tile_at.u c.in-Some-rim_number_in.l)) n_is c.place-to.ensures ∙ ap (λ j. place_of c.args.side (Rim c.in-Some-tile_at.u j)) index.1.1 in
+    let to_is : c.node_number-to.result ≡ node_number c.args.side (Rim c.in-Some-tile_at.u (rim_number c.args.side index.0)) =
+    subst (λ n. c.node_number-to.result ≡ node_number n (Rim c.in-Some-tile_at.u c.in-Some-rim_number_in.l)) n_is c.node_number-to.ensures ∙ ap (λ j. node_number c.args.side (Rim c.in-Some-tile_at.u j)) index.1.1 in
     shared_so_far c.args.side c.args.summaries.now c.args.t c.args.k c.args.point c.args.corner c.samples-n.ensures.low c.requires.point c.in-Some-tile_at.u index.0 found.0 found.1 index.1.0
-    (map (λ v. v.items) c.args.links.now.items) (map (λ v. v.items) c.add.new.links.items) c.in-Some.here (record { level = to_z w16 (of_z w16 c.in-Some.here.height); from = c.place-from.result }) c.requires.so_far
+    (map (λ v. v.items) c.args.links.now.items) (map (λ v. v.items) c.add.new.links.items) c.in-Some.here (record { level = to_z w16 (of_z w16 c.in-Some.here.height); from = c.node_number-from.result }) c.requires.so_far
     (subst (λ n. IsThereAt n c.args.summaries.now c.args.t c.args.k c.in-Some.here) n_is c.in-Some.ensures.some)
     (subst (λ j. IsThere c.args.side c.args.summaries.now c.in-Some-tile_at.u j) index.1.1 (subst (λ n. IsThere n c.args.summaries.now c.in-Some-tile_at.u c.in-Some-rim_number_in.l) n_is c.in-Some-ground_rim_point.ensures.some.there))
-    c.if-u-t.false (subst (λ n. c.place-from.result ≡ place_of n (Rim c.args.t c.args.k)) n_is c.place-from.ensures) (to_z-of_z w16 c.in-Some.here.height fits) fits
-    (subst (λ to. IsAddedTo (map (λ v. v.items) c.args.links.now.items) (map (λ v. v.items) c.add.new.links.items) to (record { level = to_z w16 (of_z w16 c.in-Some.here.height); from = c.place-from.result })) to_is c.in_ok-add.ensures)
+    c.if-u-t.false (subst (λ n. c.node_number-from.result ≡ node_number n (Rim c.args.t c.args.k)) n_is c.node_number-from.ensures) (to_z-of_z w16 c.in-Some.here.height fits) fits
+    (subst (λ to. IsAddedTo (map (λ v. v.items) c.args.links.now.items) (map (λ v. v.items) c.add.new.links.items) to (record { level = to_z w16 (of_z w16 c.in-Some.here.height); from = c.node_number-from.result })) to_is c.in_ok-add.ensures)
 
 pub returns-clause-listed : goal.returns-clause-listed
 returns-clause-listed c =
@@ -72,11 +72,11 @@ returns-clause-listed c =
     let index = c.in-Some-rim_number_in.ensures.some in
     let fits : SFits w16 c.in-Some.here.height = search rules in
     let n_is = c.samples-n.ensures.value in
-    let to_is : c.place-to.result ≡ place_of c.args.side (Rim c.in-Some-tile_at.u (rim_number c.args.side index.0)) =
-    subst (λ n. c.place-to.result ≡ place_of n (Rim c.in-Some-tile_at.u c.in-Some-rim_number_in.l)) n_is c.place-to.ensures ∙ ap (λ j. place_of c.args.side (Rim c.in-Some-tile_at.u j)) index.1.1 in
+    let to_is : c.node_number-to.result ≡ node_number c.args.side (Rim c.in-Some-tile_at.u (rim_number c.args.side index.0)) =
+    subst (λ n. c.node_number-to.result ≡ node_number n (Rim c.in-Some-tile_at.u c.in-Some-rim_number_in.l)) n_is c.node_number-to.ensures ∙ ap (λ j. node_number c.args.side (Rim c.in-Some-tile_at.u j)) index.1.1 in
     shared_listed c.args.side c.args.summaries.now c.args.t c.args.k c.args.point c.args.corner c.samples-n.ensures.low c.requires.point c.in-Some-tile_at.u index.0 found.0 found.1 index.1.0
-    (map (λ v. v.items) c.args.links.now.items) (map (λ v. v.items) c.add.new.links.items) c.in-Some.here (record { level = to_z w16 (of_z w16 c.in-Some.here.height); from = c.place-from.result }) c.requires.so_far
+    (map (λ v. v.items) c.args.links.now.items) (map (λ v. v.items) c.add.new.links.items) c.in-Some.here (record { level = to_z w16 (of_z w16 c.in-Some.here.height); from = c.node_number-from.result }) c.requires.so_far
     (subst (λ n. IsThereAt n c.args.summaries.now c.args.t c.args.k c.in-Some.here) n_is c.in-Some.ensures.some)
     (subst (λ j. IsThere c.args.side c.args.summaries.now c.in-Some-tile_at.u j) index.1.1 (subst (λ n. IsThere n c.args.summaries.now c.in-Some-tile_at.u c.in-Some-rim_number_in.l) n_is c.in-Some-ground_rim_point.ensures.some.there))
-    c.if-u-t.false (subst (λ n. c.place-from.result ≡ place_of n (Rim c.args.t c.args.k)) n_is c.place-from.ensures) (to_z-of_z w16 c.in-Some.here.height fits) fits
-    (subst (λ to. IsAddedTo (map (λ v. v.items) c.args.links.now.items) (map (λ v. v.items) c.add.new.links.items) to (record { level = to_z w16 (of_z w16 c.in-Some.here.height); from = c.place-from.result })) to_is c.in_ok-add.ensures)
+    c.if-u-t.false (subst (λ n. c.node_number-from.result ≡ node_number n (Rim c.args.t c.args.k)) n_is c.node_number-from.ensures) (to_z-of_z w16 c.in-Some.here.height fits) fits
+    (subst (λ to. IsAddedTo (map (λ v. v.items) c.args.links.now.items) (map (λ v. v.items) c.add.new.links.items) to (record { level = to_z w16 (of_z w16 c.in-Some.here.height); from = c.node_number-from.result })) to_is c.in_ok-add.ensures)

@@ -2,8 +2,8 @@ use Rattle.std.proofs.Common.{◌+◌, sym, ◌∙◌, ap, subst, length, List, 
 use Rattle.std.proofs.lemmas.List.{get_or_read}
 use Rattle.std.proofs.lemmas.Result.{err_from_is_err_and}
 use Rattle.tile_flood.specs.Blocks.{LabelledGround}
-use Rattle.border_graph.specs.Borders.{Border}
-use Rattle.border_graph.specs.Joining.{AreBorders}
+use Rattle.border_graph.specs.Summaries.{Summary}
+use Rattle.border_graph.specs.Joining.{AreSummaries}
 use Rattle.border_graph.specs.Joins.{AreJoined}
 use Rattle.catalogue.specs.Sealed.{IsSealed}
 use Rattle.drainage.specs.Flooded.{AreFlooded}
@@ -21,7 +21,7 @@ loop-corner-preserved c =
       whole = ap length c.in_ok-push.ensures.pushed ∙ length-append c.loop-corner.labelled.items (c.in_ok-levels.levels ∷ []) ∙ ap (λ n. n + 1) c.loop-corner.invariant.whole;
       flooded = λ m is sealed.
           let sealed_here = subst (IsSealed m) (sym c.loop-corner.invariant.same) sealed in
-          subst (λ (l : List Border). AreFlooded m items c.push.new.items.items l (i + 1)) (sym c.in_ok-push-2.ensures.pushed)
+          subst (λ (l : List Summary). AreFlooded m items c.push.new.items.items l (i + 1)) (sym c.in_ok-push-2.ensures.pushed)
           (subst (λ (l : List LabelledGround). AreFlooded m items l (c.loop-corner.summaries.items ++ c.in_ok-levels.summary ∷ []) (i + 1)) (sym c.in_ok-push.ensures.pushed)
           (one_more_flooded m items c.loop-corner.labelled.items c.loop-corner.summaries.items i corner c.in_ok-levels.levels c.in_ok-levels.summary c.loop-corner-test.true at c.in_ok-levels.ensures.corner
           (c.in_ok-levels.ensures.flooded m is sealed_here) (c.in_ok-levels.ensures.border m is sealed_here) (c.loop-corner.invariant.flooded m is sealed)));
@@ -31,15 +31,15 @@ pub returns-in_err-rims-clause-not_damaged : goal.returns-in_err-rims-clause-not
 returns-in_err-rims-clause-not_damaged c m is sealed =
     let items = c.in_ok-corners.corners.items in
     let done = all_done m c.deref-corner-items.result.now items c.loop-corner.labelled.items c.loop-corner.summaries.items c.loop-corner.corner-index c.deref-corner-items.ensures.value c.loop-corner.auto.corner-index-end c.loop-corner-test.false (c.loop-corner.invariant.flooded m is sealed) in
-    let borders = subst (AreBorders m) (sym c.deref.ensures.value) (all_borders m is items (c.in_ok-corners.ensures.corners ∙ sealed.corners) c.loop-corner.labelled.items c.loop-corner.summaries.items done) in
+    let summaries = subst (AreSummaries m) (sym c.deref.ensures.value) (all_borders m is items (c.in_ok-corners.ensures.corners ∙ sealed.corners) c.loop-corner.labelled.items c.loop-corner.summaries.items done) in
     let p = err_from_is_err_and c.from_residual-in_err-rims.result c.from_residual-in_err-rims.ensures.1 in
-    rw p.1 (p.2 ∙ c.in_err-rims.ensures.not_damaged m is borders)
+    rw p.1 (p.2 ∙ c.in_err-rims.ensures.not_damaged m is summaries)
 
 pub returns-clause-rims : goal.returns-clause-rims
 returns-clause-rims c m is sealed =
     let items = c.in_ok-corners.corners.items in
     let all = c.in_ok-corners.ensures.corners ∙ sealed.corners in
     let done = all_done m c.deref-corner-items.result.now items c.loop-corner.labelled.items c.loop-corner.summaries.items c.loop-corner.corner-index c.deref-corner-items.ensures.value c.loop-corner.auto.corner-index-end c.loop-corner-test.false (c.loop-corner.invariant.flooded m is sealed) in
-    let borders = all_borders m is items all c.loop-corner.labelled.items c.loop-corner.summaries.items done in
+    let summaries = all_borders m is items all c.loop-corner.labelled.items c.loop-corner.summaries.items done in
     rims_are_filled m is items all c.loop-corner.labelled.items c.loop-corner.summaries.items done _
-    (subst (λ (bs : List Border). AreJoined m bs (map (λ v. v.items) c.in_ok-rims.rims.items)) c.deref.ensures.value (c.in_ok-rims.ensures.levels m is (subst (AreBorders m) (sym c.deref.ensures.value) borders)))
+    (subst (λ (bs : List Summary). AreJoined m bs (map (λ v. v.items) c.in_ok-rims.rims.items)) c.deref.ensures.value (c.in_ok-rims.ensures.levels m is (subst (AreSummaries m) (sym c.deref.ensures.value) summaries)))

@@ -1,5 +1,5 @@
 use Rattle.std.proofs.Common.{sym, subst}
-use Rattle.border_graph.specs.Joining.{IsBorderOf}
+use Rattle.border_graph.specs.Joining.{IsSummaryOf}
 use Rattle.tile_flood.specs.Labelling.{IsLabelling}
 use Rattle.tile_flood.specs.Spills.{AreSpills}
 use Rattle.catalogue.proofs.SealedHeights.{sealed_outlet}
@@ -18,6 +18,6 @@ returns-clause-border c m is sealed =
     let given = c.in_ok-block.ensures.heights in
     let labelling : IsLabelling labelled.side block.heights labelled.levels labelled.labels = subst (λ n. IsLabelling n block.heights labelled.levels labelled.labels) (sym c.in_ok-labelled.ensures.side) c.in_ok-labelled.ensures.labelling in
     let found = c.in_ok-spills.ensures.spills block.heights (are_samples s c.args.corner block c.requires.valid given) labelling in
-    subst (IsBorderOf m) (sym c.new.ensures)
+    subst (IsSummaryOf m) (sym c.new.ensures)
     (border_is m s sealed c.args.corner block given is (sealed_outlet m s is c.requires.valid sealed) labelled.labels c.in_ok-rim.rim.items c.in_ok-rim.ensures.rim labelled.levels c.in_ok-spills.spills.items c.in_ok-labelled.ensures.labelling
     (subst (λ n. AreSpills n block.heights labelled.levels labelled.labels c.in_ok-spills.spills.items) c.in_ok-labelled.ensures.side found))

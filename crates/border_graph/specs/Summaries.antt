@@ -5,7 +5,7 @@ use Rattle.tile_flood.specs.declared.passing.Spill.{Spill}
 use Rattle.border_graph.specs.declared.summary.RimPoint.{RimPoint}
 
 -- a tile's corner, the points of its rim by rim number, and the spills between its labels
-pub record Border : Type 0 where
+pub record Summary : Type 0 where
   pub corner : Corner
   pub rim : List RimPoint
   pub spills : List Spill
