@@ -1,3 +1,4 @@
 pub mod Answered
 pub mod Applying
 pub mod Chains
+mod Decided

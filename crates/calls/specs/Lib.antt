@@ -1,3 +1,4 @@
+pub mod CommandLaws
 pub mod Engines
 pub mod Events
 pub mod Outcomes

@@ -1,5 +1,5 @@
 -- What the answer to an event tells on any disk, honest or not (this product's own profile).
-use Rattle.std.specs.Prelude.{◌≡◌, ◌≤◌, ◌+◌, ◌*◌, ℕ, min, length, Bool, true, false, ◌||◌, IsTrue, if◌then◌else◌, nat_eq, List, [], ◌∷◌}
+use Rattle.std.specs.Prelude.{◌≡◌, ◌≢◌, ◌≤◌, ◌+◌, ◌*◌, ℕ, min, length, Bool, true, false, ◌||◌, IsTrue, if◌then◌else◌, nat_eq, List, [], ◌∷◌}
 use Rattle.lattice.specs.declared.refusal.Refusal.{Refusal}
 use Rattle.lattice.specs.declared.refusal.Refusal.TheVariants.{NoTile, Outside, Void, Device, NoMemory, Failed, Damaged, Worn, NotAStore, Version, TooSmall}
 use Rattle.catalogue.specs.Reading.{HasRisen}
@@ -115,7 +115,8 @@ WritesFew version asked before now = now ≡ before
 -- how many writes an event with this answer makes
 pub record IsWritten (version : ℕ) (event : Event) (answer : Reply) (before now : ℕ) : Type 0 where
   pub few : WritesFew version event before now
-  pub no_memory : answer ≡ reply.Refused NoMemory → now ≡ before
+  -- what is refused for another reason than the disk writes nothing
+  pub refused : (r : Refusal) → answer ≡ reply.Refused r → r ≢ Device → now ≡ before
 
 -- what an engine knows without a disk: the version of its format, its accepted commands and its commits
 pub record Known : Type 0 where

@@ -6,5 +6,7 @@
 #![tactic(auto)]
 
 mod event;
+mod laws;
 
 pub use event::{Event, Reply};
+pub use laws::commands_come_to_their_effects;

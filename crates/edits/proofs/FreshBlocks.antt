@@ -1,19 +1,16 @@
 -- A tile that doesn't go stale by a command keeps the heights of its points.
-use Rattle.std.proofs.Common.{◌≡◌, ℕ, zero, suc, ◌+◌, ◌-◌, ◌*◌, ◌<◌, ◌≤◌, ◌⊎◌, inl, inr, ℤ, pos, ◌+ℤ◌, ◌-ℤ◌, ◌*ℤ◌, ◌≤ℤ◌, nat_abs, Bool, true, false, cond, not, ◌&&◌, IsTrue, List, [], ◌∷◌, length, map, refl, sym, ◌∙◌, ap, ap₂, subst, arith}
+use Rattle.std.proofs.Common.{◌≡◌, ℕ, suc, ◌≤◌, ℤ, ◌-ℤ◌, nat_abs, Bool, true, false, cond, not, ◌&&◌, List, [], ◌∷◌, map, refl, sym, ◌∙◌, ap, ap₂, arith}
 use Rattle.std.specs.Prelude.{Ok, nat_lt}
 use Rattle.std.specs.Int.{int_max}
-use Rattle.std.specs.List.{All, Contains, filter, list_any}
-use Rattle.std.proofs.lemmas.Bool.{and_parts, and_from, false_from_ne_true, both_ways, lt-ltb}
-use Rattle.std.proofs.Math.IntN.{+ℤ_idr, +ℤ-suc_ℤ, suc_ℤ-*ℤ}
-use Rattle.std.proofs.lemmas.Int.{ints, by_lt_z}
+use Rattle.std.specs.List.{Contains, filter}
+use Rattle.std.proofs.lemmas.Bool.{and_from, false_from_ne_true, both_ways, lt-ltb}
 use Rattle.std.proofs.lemmas.List.Elements.{All-contains}
 use Rattle.lattice.specs.Corners.{Corner, is_before, same_corner}
 use Rattle.lattice.specs.declared.point.Point.{Point}
 use Rattle.lattice.specs.Ground.{metres}
-use Rattle.lattice.specs.Height.{height_of, by_seam_rule, samples_at, sample_at}
-use Rattle.lattice.specs.Lattice.{is_along, holds, point_of}
+use Rattle.lattice.specs.Height.{height_of, by_seam_rule, sample_at}
+use Rattle.lattice.specs.Lattice.{holds, point_of}
 use Rattle.lattice.specs.Mosaic.{Tile, Mosaic, IsTile, IsMosaic}
-use Rattle.lattice.proofs.Along.{steps}
 use Rattle.hgt.specs.Bytes.{samples_in}
 use Rattle.catalogue.specs.Tiles.{with_tile, added, without}
 use Rattle.catalogue.proofs.Nearby.{holders_near}

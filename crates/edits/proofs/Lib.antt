@@ -14,7 +14,6 @@ mod PutLemmas
 mod Putting
 mod Repeats
 mod SamePoints
-mod StaleTiles
 mod Treating
 mod Untouched
 mod Voids

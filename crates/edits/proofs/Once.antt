@@ -61,10 +61,6 @@ module _ (n : ℕ) where
       none clear x p passes at (inl was) = clear x p was (joined p ∙ or_right (first p) (second p) passes) at
       none clear x p passes at (inr (q, (early, there))) = apart p (ap first (sym (same_at n q p x there at)) ∙ early) passes
 
-  -- the same by tests that say the same
-  pub once_as : (test same : Point → Bool) (a b : List Change) → ((p : Point) → test p ≡ same p) → PutsOnce n test a b → PutsOnce n same a b
-  once_as test same a b is once = subst (λ (t : Point → Bool). PutsOnce n t a b) (λ i p. is p i) once
-
   pub once_from_none : (test : Point → Bool) (b : List Change) → PutsOnce n test [] b → SetOnce b
   once_from_none test b once = once.once no_sets (λ x p there passes at. nowhere x there)
     where

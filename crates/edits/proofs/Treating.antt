@@ -195,10 +195,3 @@ module _ {S : Type 0} (g : Ghosts S) (t : Treatment) (points : List Point) (i : 
   -- without a height
   pub groundless : (r : Refusal) → g.is_honest mid → fault_of (height_of (g.mosaic mid) p) r → IsTrue (is_fault t r) → first_fault (g.mosaic old) (depth_of t) points ≡ Some r
   groundless r honest why fault = fault_from g t points i p old mid now changes changes within is so honest ∙ fault_says t (height_of (g.mosaic mid) p) r (first_fault (g.mosaic old) (depth_of t) (drop (i + 1) points)) why fault
-
-  -- too low
-  pub too_deep : (h : ℤ) → g.is_honest mid → height_of (g.mosaic mid) p ≡ height.At h → (h ≢ void → int_lt (h -ℤ depth_of t) (negsuc 32766) ≡ true) → first_fault (g.mosaic old) (depth_of t) points ≡ Some TooDeep
-  too_deep h honest at deep =
-      fault_from g t points i p old mid now changes changes within is so honest
-      ∙ ap (λ v. fault_at (depth_of t) v (first_fault (g.mosaic old) (depth_of t) (drop (i + 1) points))) at
-      ∙ ap (λ b. if b then Some TooDeep else first_fault (g.mosaic old) (depth_of t) (drop (i + 1) points)) (deep (height_not_void (g.mosaic mid) p h at))

@@ -1,7 +1,7 @@
 -- The tiles that changes leave stale (this product's own profile).
-use Rattle.std.specs.Prelude.{Bool, not, ◌&&◌, ◌||◌, if◌then◌else◌, List, [], ◌∷◌, map, filter}
+use Rattle.std.specs.Prelude.{Bool, ◌&&◌, ◌||◌, List, map, filter}
 use Rattle.std.specs.List.{list_any}
-use Rattle.lattice.specs.Corners.{Corner, is_before, same_corner}
+use Rattle.lattice.specs.Corners.{Corner, same_corner}
 use Rattle.lattice.specs.Mosaic.{Tile, Mosaic}
 use Rattle.edits.specs.declared.change.Change.{Change}
 use Rattle.edits.specs.declared.change.Change.TheVariants.{Add, Drop, Set}
@@ -25,14 +25,3 @@ is_near_one touched m p = list_any (λ t. touched t && are_neighbours t.corner p
 -- and their neighbours
 abbrev pub left_stale : List Change → List Corner → Mosaic → List Corner
 left_stale changes stale new = filter (λ p. list_any (same_corner p) stale || is_beside changes p) (map (λ t. t.corner) new.tiles)
-
--- the corners with one more, in their order
-abbrev pub with_corner : Corner → List Corner → List Corner
-with_corner c [] = c ∷ []
-with_corner c (d ∷ rest) = if is_before c d then c ∷ (d ∷ rest) else d ∷ with_corner c rest
-
--- the corners of the present tiles once the change is made
-abbrev pub corners_changed : Change → List Corner → List Corner
-corners_changed (Add c samples) corners = with_corner c corners
-corners_changed (Drop c) corners = filter (λ d. not (same_corner d c)) corners
-corners_changed (Set c i s) corners = corners

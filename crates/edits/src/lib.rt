@@ -13,7 +13,6 @@ mod named;
 mod patching;
 mod planning;
 mod room;
-mod staleness;
 #[cfg(test)]
 mod tests;
 mod tiles;
@@ -25,4 +24,3 @@ pub use laws::{
     commands_make_mosaics, fresh_heights_stay, stale_tiles_are_present, untouched_tiles_stay,
 };
 pub use planning::plan;
-pub use staleness::stale_after;

@@ -1,14 +1,12 @@
 //! Rows worked by hand, with tiles of side 3, written as three rows from the north.
 ghost use Rattle.std.specs.Prelude.{◌≡◌, IfOk};
 
-use crate::{Bytes, Command, carry_out, plan, stale_after};
+use crate::{Bytes, Command, carry_out, plan};
 use arrayvec::ArrayVec;
 use catalogue::{Samples, Table, height};
-use lattice::{Corner, Height, Point, Refusal, Side};
+use lattice::{Corner, Height, Point, Refusal, Side, VOID};
 use std::alloc::Global;
 use std::test::Fail;
-
-const VOID: i16 = i16::MIN;
 
 const A: [i16; 9] = [9, 9, 9, 9, 1, 9, 9, 9, 5];
 
@@ -23,10 +21,6 @@ const V: [i16; 9] = [9, 9, 9, 9, VOID, 9, 9, 9, 9];
 const N00E000: Corner = Corner { lat: 0, lon: 0 };
 
 const N00E001: Corner = Corner { lat: 0, lon: 1 };
-
-const N00E002: Corner = Corner { lat: 0, lon: 2 };
-
-const N00E003: Corner = Corner { lat: 0, lon: 3 };
 
 fn table(alloc: Global) -> Result<Table, Fail> {
     let side = Side::new(3).ok_or("no side")?;
@@ -47,21 +41,6 @@ fn apply_to(
             Ok(None)
         }
     }
-}
-
-// The tiles that the command would leave stale.
-fn stale_by(
-    table: &mut Table,
-    alloc: Global,
-    command: Command,
-    stale: &[Corner],
-) -> Result<Vec<Corner>, Fail> {
-    let changes = plan(alloc, table, 4, &command).ok().ok_or("refused")?;
-    Ok(
-        stale_after(alloc, table, &changes, stale)
-            .ok()
-            .ok_or("no memory")?,
-    )
 }
 
 fn apply(table: &mut Table, alloc: Global, command: Command) -> Result<Option<Refusal>, Fail> {
@@ -317,30 +296,5 @@ fn named_points_are_tested_in_order(rt: HostRuntime) -> Result<(), Fail> {
         apply(&mut table, alloc, wall(32768, &[(1, 1), (1, 1)]))?,
         Some(Refusal::BadHeight)
     );
-    Ok(())
-}
-
-#[test]
-fn tiles_beside_a_touched_one_go_stale(rt: HostRuntime) -> Result<(), Fail> {
-    let alloc = rt.alloc();
-    let mut table = table(alloc)?;
-    for corner in [N00E000, N00E001, N00E003] {
-        assert_eq!(rt; apply(&mut table, alloc, import(alloc, corner, H)?)?, None);
-    }
-    let by_import = stale_by(&mut table, alloc, import(alloc, N00E002, H)?, &[N00E000])?;
-    assert_eq!(rt;
-        by_import.as_slice(),
-        [N00E000, N00E001, N00E002, N00E003].as_slice()
-    );
-    let by_removal = stale_by(
-        &mut table,
-        alloc,
-        Command::Remove { corner: N00E001 },
-        &[N00E001],
-    )?;
-    assert_eq!(rt; by_removal.as_slice(), [N00E000].as_slice());
-    assert_eq!(rt; apply(&mut table, alloc, import(alloc, N00E002, H)?)?, None);
-    let by_wall = stale_by(&mut table, alloc, wall(5, &[(1, 8)]), &[])?;
-    assert_eq!(rt; by_wall.as_slice(), [N00E002, N00E003].as_slice());
     Ok(())
 }

@@ -7,6 +7,7 @@ ghost use Rattle.plain.specs.Answers.{refusal_of};
 ghost use Rattle.lattice.specs.declared.refusal.Refusal.TheVariants.{NoMemory, Repeated};
 ghost use Rattle.hgt.specs.Bytes.{sample_of, samples_in};
 ghost use Rattle.catalogue.specs.Tiles.{added, without, with_tile};
+ghost use Rattle.edits.specs.declared.command.Command.TheVariants.{Import, Remove, Patch};
 ghost use Rattle.edits.specs.Effect.{effect, is_height, is_depth, is_repeated, is_box, has_void, has_void_from, first_fault};
 
 use crate::change::{at_most, edited, is_named, is_void_in_box, lowered};
@@ -39,34 +40,10 @@ fn refusal(capacity: u32, mosaic: &Plain, command: &Command) -> Option<Refusal>
 {
     match command {
         Command::Import { corner, bytes } => {
-            if bytes.as_slice().len() != mosaic.side().file_bytes() as usize {
-                Some(Refusal::BadLength)
-            } else if is_present(mosaic, *corner) {
-                Some(Refusal::TileThere)
-            } else if mosaic.tiles().len() >= capacity as usize {
-                Some(Refusal::Full)
-            } else {
-                None
-            }
+            refusal_of_import(capacity, mosaic, *corner, bytes.as_slice())
         }
-        Command::Remove { corner } => {
-            if is_present(mosaic, *corner) {
-                None
-            } else {
-                Some(Refusal::NoTile)
-            }
-        }
-        Command::Patch { from, to, height } => {
-            if !is_height(*height) {
-                Some(Refusal::BadHeight)
-            } else if !is_box(mosaic, *from, *to) {
-                Some(Refusal::BadBox)
-            } else if !has_void(mosaic, *from, *to) {
-                Some(Refusal::NothingVoid)
-            } else {
-                None
-            }
-        }
+        Command::Remove { corner } => refusal_of_removal(mosaic, *corner),
+        Command::Patch { from, to, height } => refusal_of_patch(mosaic, *from, *to, *height),
         Command::Burn { depth, points } => {
             if is_depth(*depth) {
                 fault(mosaic, *depth, points.as_slice())
@@ -81,6 +58,44 @@ fn refusal(capacity: u32, mosaic: &Plain, command: &Command) -> Option<Refusal>
                 Some(Refusal::BadHeight)
             }
         }
+    }
+}
+
+fn refusal_of_import(capacity: u32, mosaic: &Plain, corner: Corner, bytes: &[u8]) -> Option<Refusal>
+    ensures { result ≡ refusal_of (effect capacity mosaic.now (Import corner bytes.now)) }
+{
+    if bytes.len() != mosaic.side().file_bytes() as usize {
+        Some(Refusal::BadLength)
+    } else if is_present(mosaic, corner) {
+        Some(Refusal::TileThere)
+    } else if mosaic.tiles().len() >= capacity as usize {
+        Some(Refusal::Full)
+    } else {
+        None
+    }
+}
+
+fn refusal_of_removal(mosaic: &Plain, corner: Corner) -> Option<Refusal>
+    ensures { (capacity : ℕ) → result ≡ refusal_of (effect capacity mosaic.now (Remove corner)) }
+{
+    if is_present(mosaic, corner) {
+        None
+    } else {
+        Some(Refusal::NoTile)
+    }
+}
+
+fn refusal_of_patch(mosaic: &Plain, from: Point, to: Point, height: i32) -> Option<Refusal>
+    ensures { (capacity : ℕ) → result ≡ refusal_of (effect capacity mosaic.now (Patch from to height)) }
+{
+    if !is_height(height) {
+        Some(Refusal::BadHeight)
+    } else if !is_box(mosaic, from, to) {
+        Some(Refusal::BadBox)
+    } else if !has_void(mosaic, from, to) {
+        Some(Refusal::NothingVoid)
+    } else {
+        None
     }
 }
 

@@ -11,9 +11,9 @@ ghost use Rattle.plain.specs.declared.levels.Cell.{Cell};
 
 use crate::adjacency::is_same;
 use crate::points::ground_points;
-use crate::seam::{VOID, metres};
+use crate::seam::metres;
 use crate::{Plain, height, is_adjacent, is_outlet};
-use lattice::Point;
+use lattice::{Point, VOID};
 use std::alloc::{AllocError, Global};
 use std::marker::Model;
 

@@ -5,10 +5,7 @@ ghost use Rattle.lattice.specs.Height.{sample_at, height_of, disagrees};
 ghost use Rattle.lattice.specs.Ground.{metres};
 
 use crate::{Plain, PlainTile};
-use lattice::{Height, Point, index_in};
-
-// The sample of a data void.
-pub(crate) const VOID: i16 = -32768;
+use lattice::{Height, Point, VOID, index_in};
 
 /// The height of the point: the first sample that isn't void among the present tiles that hold it, in their order.
 pub fn height(mosaic: &Plain, point: Point) -> Height
