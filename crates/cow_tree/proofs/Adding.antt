@@ -4,51 +4,52 @@ use Rattle.std.specs.List.{list_any}
 use Rattle.std.proofs.lemmas.List.Elements.{All-nil, All-cons, All-head, All-tail}
 use Rattle.disk.specs.Disk.{Image}
 use Rattle.lattice.specs.Corners.{Corner, is_before}
-use Rattle.cow_tree.specs.Places.{PlanePlace, pages_of_plane, times}
-use Rattle.cow_tree.specs.Layout.{TilePlace, pages_of_kept, pages_of_tile, reached, tile_in, HasRecord, HaveKeptRecords}
-use Rattle.cow_tree.specs.Charts.{ChartValue, IsChart, IsAdded, IsFresh, IsPlaced, HasHeights, with_tile_place, is_changed}
+use Rattle.charts.specs.Locations.{PlaneLocation, pages_of_plane, times}
+use Rattle.charts.specs.TileLocations.{TileLocation, pages_of_kept, pages_of_tile, reached}
+use Rattle.cow_tree.specs.Layout.{tile_in, HasRecord, HaveKeptRecords}
+use Rattle.charts.specs.Charts.{ChartValue, IsChart, IsAdded, IsFresh, IsLocated, HasHeights, with_tile_location, is_changed}
 use Rattle.cow_tree.specs.Stored.{StoredTile, with_tile, stale_tile, pages_of_bytes}
 use Rattle.cow_tree.specs.Staged.{AreStaged}
 use Rattle.cow_tree.proofs.Standing.{SameOn, All-front, All-back, tile_same, tiles_same, record_same, kept_records_same}
-use Rattle.cow_tree.proofs.Occurrences.{times-append, stands_there}
+use Rattle.charts.proofs.Occurrences.{times-append, stands_there}
 use Rattle.cow_tree.proofs.Staging.{unreached_test}
 use Rattle.cow_tree.proofs.Tiles.{one_at_corner}
 use Rattle.page_codec.specs.Sizes.{pages_of}
 use Rattle.cow_tree.proofs.Recording.{all_at_times, at_times}
 
 -- it is among them
-pub added_there : (t : TilePlace) (tiles : List TilePlace) → Contains (with_tile_place t tiles) t
+pub added_there : (t : TileLocation) (tiles : List TileLocation) → Contains (with_tile_location t tiles) t
 added_there t [] = (0, omega arith, refl)
 added_there t (u ∷ rest) = by_test (is_before t.corner u.corner) (added_there t rest)
   where
-    by_test : (v : Bool) → Contains (with_tile_place t rest) t → Contains (if v then t ∷ (u ∷ rest) else u ∷ with_tile_place t rest) t
+    by_test : (v : Bool) → Contains (with_tile_location t rest) t → Contains (if v then t ∷ (u ∷ rest) else u ∷ with_tile_location t rest) t
     by_test true later = (0, omega arith, refl)
     by_test false later = (suc later.0, omega (arith, later.1), later.2)
 
 -- the others are still there
-pub times_added : (p : ℕ) (t : TilePlace) (tiles : List TilePlace) → times p (reached (with_tile_place t tiles)) ≡ times p (pages_of_tile t) + times p (reached tiles)
+pub times_added : (p : ℕ) (t : TileLocation) (tiles : List TileLocation) → times p (reached (with_tile_location t tiles)) ≡ times p (pages_of_tile t) + times p (reached tiles)
 times_added p t [] = times-append p (pages_of_tile t) []
 times_added p t (u ∷ rest) =
     let here = times-append p (pages_of_tile u) (reached rest) in
     let later = times_added p t rest in
     by_test (is_before t.corner u.corner) here later
   where
-    by_test : (v : Bool) → times p (pages_of_tile u ++ reached rest) ≡ times p (pages_of_tile u) + times p (reached rest) → times p (reached (with_tile_place t rest)) ≡ times p (pages_of_tile t) + times p (reached rest)
-        → times p (reached (if v then t ∷ (u ∷ rest) else u ∷ with_tile_place t rest)) ≡ times p (pages_of_tile t) + times p (reached (u ∷ rest))
+    by_test : (v : Bool) → times p (pages_of_tile u ++ reached rest) ≡ times p (pages_of_tile u) + times p (reached rest) → times p (reached (with_tile_location t rest)) ≡ times p (pages_of_tile t) + times p (reached rest)
+        → times p (reached (if v then t ∷ (u ∷ rest) else u ∷ with_tile_location t rest)) ≡ times p (pages_of_tile t) + times p (reached (u ∷ rest))
     by_test true here later = times-append p (pages_of_tile t) (pages_of_tile u ++ reached rest)
-    by_test false here later = let first = times-append p (pages_of_tile u) (reached (with_tile_place t rest)) in omega (arith, first, here, later)
+    by_test false here later = let first = times-append p (pages_of_tile u) (reached (with_tile_location t rest)) in omega (arith, first, here, later)
 
 -- what all have, with one more
-pub all_added : (P : TilePlace → Type 0) (t : TilePlace) (tiles : List TilePlace) → P t → All P tiles → All P (with_tile_place t tiles)
+pub all_added : (P : TileLocation → Type 0) (t : TileLocation) (tiles : List TileLocation) → P t → All P tiles → All P (with_tile_location t tiles)
 all_added P t [] here all = All-cons P t [] here all
 all_added P t (u ∷ rest) here all = by_test (is_before t.corner u.corner) (all_added P t rest here (All-tail P u rest all))
   where
-    by_test : (v : Bool) → All P (with_tile_place t rest) → All P (if v then t ∷ (u ∷ rest) else u ∷ with_tile_place t rest)
+    by_test : (v : Bool) → All P (with_tile_location t rest) → All P (if v then t ∷ (u ∷ rest) else u ∷ with_tile_location t rest)
     by_test true later = All-cons P t (u ∷ rest) here all
-    by_test false later = All-cons P u (with_tile_place t rest) (All-head P u rest all) later
+    by_test false later = All-cons P u (with_tile_location t rest) (All-head P u rest all) later
 
 -- what stands there, with one more
-pub added_tiles : (t : TilePlace) (new : StoredTile) (a b : Image) (tiles : List TilePlace) → tile_in b t ≡ new → SameOn (reached tiles) a b → map (tile_in b) (with_tile_place t tiles) ≡ with_tile new (map (tile_in a) tiles)
+pub added_tiles : (t : TileLocation) (new : StoredTile) (a b : Image) (tiles : List TileLocation) → tile_in b t ≡ new → SameOn (reached tiles) a b → map (tile_in b) (with_tile_location t tiles) ≡ with_tile new (map (tile_in a) tiles)
 added_tiles t new a b [] is_new same = ap (λ (x : StoredTile). x ∷ []) is_new
 added_tiles t new a b (u ∷ rest) is_new same =
     let here = tile_same u a b (All-front (λ q. a q ≡ b q) (pages_of_tile u) (reached rest) same) in
@@ -58,22 +59,22 @@ added_tiles t new a b (u ∷ rest) is_new same =
     by_test (is_before t.corner u.corner) here later (tiles_same rest a b same_rest)
     ∙ ap (λ (v : Bool). if v then new ∷ (tile_in a u ∷ map (tile_in a) rest) else tile_in a u ∷ with_tile new (map (tile_in a) rest)) (sym test)
   where
-    by_test : (v : Bool) → tile_in a u ≡ tile_in b u → map (tile_in b) (with_tile_place t rest) ≡ with_tile new (map (tile_in a) rest) → map (tile_in a) rest ≡ map (tile_in b) rest
-        → map (tile_in b) (if v then t ∷ (u ∷ rest) else u ∷ with_tile_place t rest) ≡ (if v then new ∷ (tile_in a u ∷ map (tile_in a) rest) else tile_in a u ∷ with_tile new (map (tile_in a) rest))
+    by_test : (v : Bool) → tile_in a u ≡ tile_in b u → map (tile_in b) (with_tile_location t rest) ≡ with_tile new (map (tile_in a) rest) → map (tile_in a) rest ≡ map (tile_in b) rest
+        → map (tile_in b) (if v then t ∷ (u ∷ rest) else u ∷ with_tile_location t rest) ≡ (if v then new ∷ (tile_in a u ∷ map (tile_in a) rest) else tile_in a u ∷ with_tile new (map (tile_in a) rest))
     by_test true here later others = ap₂ (λ (x : StoredTile) (xs : List StoredTile). x ∷ xs) is_new (ap₂ (λ (x : StoredTile) (xs : List StoredTile). x ∷ xs) (sym here) (sym others))
     by_test false here later others = ap₂ (λ (x : StoredTile) (xs : List StoredTile). x ∷ xs) (sym here) later
 
 -- the others' pages were not written
-pub others_same : (t : TilePlace) (tiles : List TilePlace) (a b : Image) → All (λ q. 4 ≤ q) (reached (with_tile_place t tiles)) → ((p : ℕ) → times p (reached (with_tile_place t tiles)) ≤ 1)
+pub others_same : (t : TileLocation) (tiles : List TileLocation) (a b : Image) → All (λ q. 4 ≤ q) (reached (with_tile_location t tiles)) → ((p : ℕ) → times p (reached (with_tile_location t tiles)) ≤ 1)
     → ((p : ℕ) → 4 ≤ p → ¬ Contains t.heights.pages p → a p ≡ b p) → SameOn (reached tiles) a b
 others_same t tiles a b low once unwritten =
     all_at_times (λ q. a q ≡ b q) (reached tiles)
     (λ q some. let split = times_added q t tiles in let one = once q in
-    unwritten q (at_times (λ p. 4 ≤ p) q (reached (with_tile_place t tiles)) low (omega (arith, split, some)))
+    unwritten q (at_times (λ p. 4 ≤ p) q (reached (with_tile_location t tiles)) low (omega (arith, split, some)))
     (λ has. let there = stands_there q t.heights.pages has in let whole = times-append q (pages_of_plane t.heights) (pages_of_kept t.kept) in let front = times-append q (t.heights.record_page ∷ []) t.heights.pages in absurd (omega (arith, split, one, some, there, whole, front))))
 
 -- what was on the disk of the staged tiles is there still
-still_records : (n : ℕ) (committed tiles : List TilePlace) (a b : Image) → SameOn (reached tiles) a b → AreStaged n committed tiles a → AreStaged n committed tiles b
+still_records : (n : ℕ) (committed tiles : List TileLocation) (a b : Image) → SameOn (reached tiles) a b → AreStaged n committed tiles a → AreStaged n committed tiles b
 still_records n committed [] a b same had = record { heights = All-nil (λ t. is_changed committed t ≡ false → HasRecord n b t.heights); kept = All-nil (λ t. IfSome t.kept (HaveKeptRecords n b)) }
 still_records n committed (t ∷ rest) a b same had =
     let here = All-front (λ q. a q ≡ b q) (pages_of_tile t) (reached rest) same in
@@ -85,10 +86,10 @@ still_records n committed (t ∷ rest) a b same had =
       kept = All-cons (λ t. IfSome t.kept (HaveKeptRecords n b)) t rest (kept_records_same n t.kept a b (All-back (λ q. a q ≡ b q) (pages_of_plane t.heights) (pages_of_kept t.kept) here) (All-head (λ t. IfSome t.kept (HaveKeptRecords n a)) t rest had.kept)) later.kept;
     }
 
-pub staged_with : (n : ℕ) (committed tiles : List TilePlace) (c : Corner) (place : PlanePlace) (a b : Image) → list_any (λ q. q == place.record_page) (reached committed) ≡ false → SameOn (reached tiles) a b → AreStaged n committed tiles a
-    → AreStaged n committed (with_tile_place (record { corner = c; heights = place; kept = None }) tiles) b
-staged_with n committed tiles c place a b fresh same had =
-    let t : TilePlace = record { corner = c; heights = place; kept = None } in
+pub staged_with : (n : ℕ) (committed tiles : List TileLocation) (c : Corner) (location : PlaneLocation) (a b : Image) → list_any (λ q. q == location.record_page) (reached committed) ≡ false → SameOn (reached tiles) a b → AreStaged n committed tiles a
+    → AreStaged n committed (with_tile_location (record { corner = c; heights = location; kept = None }) tiles) b
+staged_with n committed tiles c location a b fresh same had =
+    let t : TileLocation = record { corner = c; heights = location; kept = None } in
     let still = still_records n committed tiles a b same had in
     record {
       heights = all_added (λ t. is_changed committed t ≡ false → HasRecord n b t.heights) t tiles (λ unchanged. absurd (let no : true ≡ false = sym (ap not fresh) ∙ unchanged in cc)) still.heights;
@@ -102,63 +103,63 @@ contains-map f (y ∷ ys) x (suc k, lt, here) = let later = contains-map f ys x 
 
 -- a tile was added to a chart
 module _ (old new : ChartValue) (c : Corner) (rules : IsChart new) (added : IsAdded c old new) where
-  staged_is : new.staged ≡ with_tile_place (record { corner = c; heights = added.place; kept = None }) old.staged
+  staged_is : new.staged ≡ with_tile_location (record { corner = c; heights = added.location; kept = None }) old.staged
   staged_is = ap (λ (x : ChartValue). x.staged) added.changed
 
   committed_is : new.committed ≡ old.committed
   committed_is = ap (λ (x : ChartValue). x.committed) added.changed
 
-  among : Contains new.staged (record { corner = c; heights = added.place; kept = None })
-  among = subst (λ (tiles : List TilePlace). Contains tiles (record { corner = c; heights = added.place; kept = None })) (sym staged_is) (added_there (record { corner = c; heights = added.place; kept = None }) old.staged)
+  among : Contains new.staged (record { corner = c; heights = added.location; kept = None })
+  among = subst (λ (tiles : List TileLocation). Contains tiles (record { corner = c; heights = added.location; kept = None })) (sym staged_is) (added_there (record { corner = c; heights = added.location; kept = None }) old.staged)
 
-  pub added_placed : IsPlaced c new.staged
-  added_placed = contains-map (λ (t : TilePlace). t.corner) new.staged (record { corner = c; heights = added.place; kept = None }) among
+  pub added_located : IsLocated c new.staged
+  added_located = contains-map (λ (t : TileLocation). t.corner) new.staged (record { corner = c; heights = added.location; kept = None }) among
 
-  pub place_is : (plane : PlanePlace) → HasHeights c plane new.staged → added.place ≡ plane
-  place_is plane had = ap (λ (t : TilePlace). t.heights) (one_at_corner new.staged (record { corner = c; heights = added.place; kept = None }) had.0 rules.staged.in_order among had.1.0 (sym had.1.1)) ∙ had.1.2
+  pub location_is : (plane : PlaneLocation) → HasHeights c plane new.staged → added.location ≡ plane
+  location_is plane had = ap (λ (t : TileLocation). t.heights) (one_at_corner new.staged (record { corner = c; heights = added.location; kept = None }) had.0 rules.staged.in_order among had.1.0 (sym had.1.1)) ∙ had.1.2
 
-  fresh_pages : (plane : PlanePlace) → HasHeights c plane new.staged → All (IsFresh new) plane.pages
-  fresh_pages plane had = subst (λ (q : PlanePlace). All (IsFresh new) q.pages) (place_is plane had) (All-tail (IsFresh new) added.place.record_page added.place.pages added.fresh)
+  fresh_pages : (plane : PlaneLocation) → HasHeights c plane new.staged → All (IsFresh new) plane.pages
+  fresh_pages plane had = subst (λ (q : PlaneLocation). All (IsFresh new) q.pages) (location_is plane had) (All-tail (IsFresh new) added.location.record_page added.location.pages added.fresh)
 
-  pub pages_low : (plane : PlanePlace) → HasHeights c plane new.staged → All (λ p. 4 ≤ p) plane.pages
+  pub pages_low : (plane : PlaneLocation) → HasHeights c plane new.staged → All (λ p. 4 ≤ p) plane.pages
   pages_low plane had k d lt = (fresh_pages plane had k d lt).low
 
-  pub pages_high : (plane : PlanePlace) → HasHeights c plane new.staged → All (λ p. p < new.sectors) plane.pages
+  pub pages_high : (plane : PlaneLocation) → HasHeights c plane new.staged → All (λ p. p < new.sectors) plane.pages
   pages_high plane had k d lt = (fresh_pages plane had k d lt).high
 
-  pub pages_unreached : (plane : PlanePlace) → HasHeights c plane new.staged → All (λ p. ¬ Contains (reached old.committed) p) plane.pages
-  pages_unreached plane had k d lt = subst (λ (tiles : List TilePlace). ¬ Contains (reached tiles) (get_or plane.pages k d)) committed_is (fresh_pages plane had k d lt).unreached
+  pub pages_unreached : (plane : PlaneLocation) → HasHeights c plane new.staged → All (λ p. ¬ Contains (reached old.committed) p) plane.pages
+  pages_unreached plane had k d lt = subst (λ (tiles : List TileLocation). ¬ Contains (reached tiles) (get_or plane.pages k d)) committed_is (fresh_pages plane had k d lt).unreached
 
-  once_there : (p : ℕ) → times p (reached (with_tile_place (record { corner = c; heights = added.place; kept = None }) old.staged)) ≤ 1
-  once_there p = subst (λ (tiles : List TilePlace). times p (reached tiles) ≤ 1) staged_is (rules.staged.page_rule.once p)
+  once_there : (p : ℕ) → times p (reached (with_tile_location (record { corner = c; heights = added.location; kept = None }) old.staged)) ≤ 1
+  once_there p = subst (λ (tiles : List TileLocation). times p (reached tiles) ≤ 1) staged_is (rules.staged.page_rule.once p)
 
-  pub pages_once : (plane : PlanePlace) → HasHeights c plane new.staged → (p : ℕ) → times p plane.pages ≤ 1
+  pub pages_once : (plane : PlaneLocation) → HasHeights c plane new.staged → (p : ℕ) → times p plane.pages ≤ 1
   pages_once plane had p =
       let one = once_there p in
-      let split = times_added p (record { corner = c; heights = added.place; kept = None }) old.staged in
-      let whole = times-append p (pages_of_plane added.place) [] in
-      let front = times-append p (added.place.record_page ∷ []) added.place.pages in
-      subst (λ (q : PlanePlace). times p q.pages ≤ 1) (place_is plane had) (omega (arith, one, split, whole, front))
+      let split = times_added p (record { corner = c; heights = added.location; kept = None }) old.staged in
+      let whole = times-append p (pages_of_plane added.location) [] in
+      let front = times-append p (added.location.record_page ∷ []) added.location.pages in
+      subst (λ (q : PlaneLocation). times p q.pages ≤ 1) (location_is plane had) (omega (arith, one, split, whole, front))
 
-  module _ (plane : PlanePlace) (had : HasHeights c plane new.staged) (a b : Image) (bytes : List ℕ) (others : (p : ℕ) → 4 ≤ p → ¬ Contains plane.pages p → a p ≡ b p) where
-    unwritten : (p : ℕ) → 4 ≤ p → ¬ Contains added.place.pages p → a p ≡ b p
-    unwritten p low none = others p low (subst (λ (q : PlanePlace). ¬ Contains q.pages p) (place_is plane had) none)
+  module _ (plane : PlaneLocation) (had : HasHeights c plane new.staged) (a b : Image) (bytes : List ℕ) (others : (p : ℕ) → 4 ≤ p → ¬ Contains plane.pages p → a p ≡ b p) where
+    unwritten : (p : ℕ) → 4 ≤ p → ¬ Contains added.location.pages p → a p ≡ b p
+    unwritten p low none = others p low (subst (λ (q : PlaneLocation). ¬ Contains q.pages p) (location_is plane had) none)
 
     kept_pages : SameOn (reached old.staged) a b
-    kept_pages = others_same (record { corner = c; heights = added.place; kept = None }) old.staged a b (subst (λ (tiles : List TilePlace). All (λ q. 4 ≤ q) (reached tiles)) staged_is rules.staged.page_rule.low) once_there unwritten
+    kept_pages = others_same (record { corner = c; heights = added.location; kept = None }) old.staged a b (subst (λ (tiles : List TileLocation). All (λ q. 4 ≤ q) (reached tiles)) staged_is rules.staged.page_rule.low) once_there unwritten
 
     pub plane_staged : (n : ℕ) → old.side ≡ n → map b plane.pages ≡ pages_of_bytes (length plane.pages) bytes → map (tile_in b) new.staged ≡ with_tile (stale_tile c (pages_of_bytes (pages_of n) bytes)) (map (tile_in a) old.staged)
     plane_staged n side wrote =
-        let wrote_there : map b added.place.pages ≡ pages_of_bytes (length added.place.pages) bytes = subst (λ (q : PlanePlace). map b q.pages ≡ pages_of_bytes (length q.pages) bytes) (sym (place_is plane had)) wrote in
-        let count : length added.place.pages ≡ pages_of n = added.whole ∙ ap pages_of side in
+        let wrote_there : map b added.location.pages ≡ pages_of_bytes (length added.location.pages) bytes = subst (λ (q : PlaneLocation). map b q.pages ≡ pages_of_bytes (length q.pages) bytes) (sym (location_is plane had)) wrote in
+        let count : length added.location.pages ≡ pages_of n = added.whole ∙ ap pages_of side in
         ap (map (tile_in b)) staged_is
-        ∙ added_tiles (record { corner = c; heights = added.place; kept = None }) (stale_tile c (pages_of_bytes (pages_of n) bytes)) a b old.staged
+        ∙ added_tiles (record { corner = c; heights = added.location; kept = None }) (stale_tile c (pages_of_bytes (pages_of n) bytes)) a b old.staged
         (ap (stale_tile c) (wrote_there ∙ ap (λ (k : ℕ). pages_of_bytes k bytes) count)) kept_pages
 
     pub plane_stays : (n : ℕ) → AreStaged n old.committed old.staged a → AreStaged n new.committed new.staged b
     plane_stays n was =
-        subst (λ (tiles : List TilePlace). AreStaged n tiles new.staged b) (sym committed_is)
-        (subst (λ (tiles : List TilePlace). AreStaged n old.committed tiles b) (sym staged_is)
-        (staged_with n old.committed old.staged c added.place a b
-        (unreached_test added.place.record_page (reached old.committed) (subst (λ (tiles : List TilePlace). ¬ Contains (reached tiles) added.place.record_page) committed_is (All-head (IsFresh new) added.place.record_page added.place.pages added.fresh).unreached))
+        subst (λ (tiles : List TileLocation). AreStaged n tiles new.staged b) (sym committed_is)
+        (subst (λ (tiles : List TileLocation). AreStaged n old.committed tiles b) (sym staged_is)
+        (staged_with n old.committed old.staged c added.location a b
+        (unreached_test added.location.record_page (reached old.committed) (subst (λ (tiles : List TileLocation). ¬ Contains (reached tiles) added.location.record_page) committed_is (All-head (IsFresh new) added.location.record_page added.location.pages added.fresh).unreached))
         kept_pages was))

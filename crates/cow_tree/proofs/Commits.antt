@@ -9,9 +9,10 @@ use Rattle.page_codec.specs.Records.{IsRecord, record_bytes}
 use Rattle.page_codec.specs.Roots.{RootValue}
 use Rattle.page_codec.specs.Sizes.{pages_of, sectors_of}
 use Rattle.roots.specs.Slots.{SamePages, KeepsAll, HasMoved}
-use Rattle.cow_tree.specs.Layout.{TilePlace, pages_of_kept, pages_of_tile, tile_in, stored_in, entry_of, HasRecord, HasRecords, HaveKeptRecords, StoresAt, Stands, KeepsPageRule}
-use Rattle.cow_tree.specs.Places.{pages_of_plane, times}
-use Rattle.cow_tree.specs.Charts.{ChartValue, IsChart, is_changed}
+use Rattle.charts.specs.TileLocations.{TileLocation, pages_of_kept, pages_of_tile, entry_of, KeepsPageRule}
+use Rattle.cow_tree.specs.Layout.{tile_in, stored_in, HasRecord, HasRecords, HaveKeptRecords, StoresAt, Stands}
+use Rattle.charts.specs.Locations.{pages_of_plane, times}
+use Rattle.charts.specs.Charts.{ChartValue, IsChart, is_changed}
 use Rattle.cow_tree.specs.Staged.{AreStaged, changed_tiles, record_pages}
 use Rattle.cow_tree.specs.Stored.{Stored, StoredTile, next_commit}
 use Rattle.cow_tree.proofs.Standing.{All-front, stores_kept}
@@ -30,7 +31,7 @@ module _ (chart : ChartValue) (rules : IsChart chart) (root : RootValue) (sector
   -- each list of pages is one of a record
   spells : All (λ t. IsRecord (pages_of root.side) t.heights.pages) chart.staged
   spells k d lt =
-      let t : TilePlace = get_or chart.staged k d in
+      let t : TileLocation = get_or chart.staged k d in
       let high : All (λ p. p < chart.sectors) (pages_of_tile t) = each_tile (λ p. p < chart.sectors) chart.staged rules.staged.page_rule.high k d lt in
       let pages : All (λ p. p < chart.sectors) t.heights.pages = All-tail (λ p. p < chart.sectors) t.heights.record_page t.heights.pages (All-front (λ p. p < chart.sectors) (pages_of_plane t.heights) (pages_of_kept t.kept) high) in
       record {
@@ -59,14 +60,14 @@ module _ (chart : ChartValue) (rules : IsChart chart) (root : RootValue) (sector
   same_tiles image pages = recorded_tiles chart.committed chart.staged a image (unwritten_same chart.committed chart.staged a image rules.staged.page_rule.low rules.staged.page_rule.once (λ q low none. others q low none ∙ pages q low))
 
 -- what is staged once it is committed: nothing else than it
-pub nothing_staged : (sectors : ℕ) (root : RootValue) (tiles : List TilePlace) (s : Stored) (image : Image) → StoresAt sectors root tiles s image → AreStaged root.side tiles tiles image
+pub nothing_staged : (sectors : ℕ) (root : RootValue) (tiles : List TileLocation) (s : Stored) (image : Image) → StoresAt sectors root tiles s image → AreStaged root.side tiles tiles image
 nothing_staged sectors root tiles s image stores = record {
   heights = All-weaker (HasRecords root.side image) (λ t. is_changed tiles t ≡ false → HasRecord root.side image t.heights) (λ t has _. has.heights) tiles stores.laid_out.records;
   kept = All-weaker (HasRecords root.side image) (λ t. IfSome t.kept (HaveKeptRecords root.side image)) (λ t has. has.kept) tiles stores.laid_out.records;
 }
 
 -- the run of a commit
-pub committing : {D : Type 0} (g : Ghosts D) (old mid new : D) (sectors : ℕ) (root next : RootValue) (committed staged : List TilePlace) (s t : Stored) → LeavesOnly g old mid (StoresAt sectors root committed s)
+pub committing : {D : Type 0} (g : Ghosts D) (old mid new : D) (sectors : ℕ) (root next : RootValue) (committed staged : List TileLocation) (s t : Stored) → LeavesOnly g old mid (StoresAt sectors root committed s)
     → ((image : Image) → HasMoved next (g.seen mid) image → StoresAt sectors next staged t image)
     → LeavesOnly g mid new (λ image. KeepsAll root (g.may mid) image ⊎ HasMoved next (g.seen mid) image) → LeavesOnly g old new (λ image. Stands sectors image s ⊎ Stands sectors image t)
 committing g old mid new sectors root next committed staged s t first land second =

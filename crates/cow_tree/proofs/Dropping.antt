@@ -5,8 +5,9 @@ use Rattle.std.proofs.lemmas.List.Elements.{All-head, All-contains, All-contains
 use Rattle.disk.specs.Disk.{Image}
 use Rattle.lattice.specs.Corners.{Corner}
 use Rattle.page_codec.specs.Entries.{EntryValue}
-use Rattle.cow_tree.specs.Layout.{TilePlace, reached, pages_of_kept, pages_of_tile, entry_of, HasRecord, HaveKeptRecords}
-use Rattle.cow_tree.specs.Charts.{ChartValue, HasFreshHeights, is_at, is_changed, corners_of_places, without_place}
+use Rattle.charts.specs.TileLocations.{TileLocation, reached, pages_of_kept, pages_of_tile, entry_of}
+use Rattle.cow_tree.specs.Layout.{HasRecord, HaveKeptRecords}
+use Rattle.charts.specs.Charts.{ChartValue, HasFreshHeights, is_at, is_changed, corners_of_locations, without_location}
 use Rattle.cow_tree.specs.Staged.{AreStaged}
 use Rattle.cow_tree.proofs.Tiles.{each_tile}
 
@@ -18,17 +19,17 @@ filter-map {X} {Y} test f (x ∷ xs) =
       | false ↦ filter-map test f xs
     ]
 
-pub corners_of_entries : (tiles : List TilePlace) → corners_of_places tiles ≡ map (λ (e : EntryValue). e.corner) (map entry_of tiles)
+pub corners_of_entries : (tiles : List TileLocation) → corners_of_locations tiles ≡ map (λ (e : EntryValue). e.corner) (map entry_of tiles)
 corners_of_entries [] = refl
 corners_of_entries (t ∷ rest) = ap (λ (cs : List Corner). t.corner ∷ cs) (corners_of_entries rest)
 
 pub clean_is_committed : (chart : ChartValue) → chart.staged ≡ chart.committed → (c : Corner) → ¬ HasFreshHeights c chart
 clean_is_committed chart clean c (t, (staged, corner, fresh)) =
-    let among : Contains chart.committed t = subst (λ (tiles : List TilePlace). Contains tiles t) clean staged in
+    let among : Contains chart.committed t = subst (λ (tiles : List TileLocation). Contains tiles t) clean staged in
     let all : All (Contains (reached chart.committed)) (pages_of_tile t) = All-contains (λ u. All (Contains (reached chart.committed)) (pages_of_tile u)) chart.committed t (each_tile (Contains (reached chart.committed)) chart.committed (All-contains_itself (reached chart.committed))) among in
     fresh.unreached (All-head (Contains (reached chart.committed)) t.heights.record_page (t.heights.pages ++ pages_of_kept t.kept) all)
 
-pub staged_without : (n : ℕ) (committed tiles : List TilePlace) (c : Corner) (image : Image) → AreStaged n committed tiles image → AreStaged n committed (without_place c tiles) image
+pub staged_without : (n : ℕ) (committed tiles : List TileLocation) (c : Corner) (image : Image) → AreStaged n committed tiles image → AreStaged n committed (without_location c tiles) image
 staged_without n committed tiles c image had = record {
   heights = All-filter (λ t. not (is_at c t)) (λ t. is_changed committed t ≡ false → HasRecord n image t.heights) tiles had.heights;
   kept = All-filter (λ t. not (is_at c t)) (λ t. IfSome t.kept (HaveKeptRecords n image)) tiles had.kept;

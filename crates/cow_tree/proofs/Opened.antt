@@ -11,8 +11,9 @@ use Rattle.page_codec.specs.Sizes.{sectors_of}
 use Rattle.roots.specs.Opening.{OpensAs, StoresOpen}
 use Rattle.roots.specs.Slots.{is_open, IsCurrent}
 use Rattle.roots.specs.declared.slot.Slot.TheVariants.{A}
-use Rattle.cow_tree.specs.Charts.{ChartValue, IsChart, IsClean}
-use Rattle.cow_tree.specs.Layout.{TilePlace, entry_of, stored_in, HasRecords, KeepsPageRule, IsLaidOut, StoresAt, Stands, NoTilesStand}
+use Rattle.charts.specs.Charts.{ChartValue, IsChart, IsClean}
+use Rattle.charts.specs.TileLocations.{TileLocation, entry_of, KeepsPageRule}
+use Rattle.cow_tree.specs.Layout.{stored_in, HasRecords, IsLaidOut, StoresAt, Stands, NoTilesStand}
 use Rattle.cow_tree.specs.Pagers.{IsRefusedFor}
 use Rattle.cow_tree.specs.Staged.{AreStaged}
 use Rattle.cow_tree.specs.Stored.{Stored, no_tiles}
@@ -50,14 +51,14 @@ opened_stores n root chart image current rules sectors side capacity entries rec
 
 pub clean_staged : (n : ℕ) (root : RootValue) (chart : ChartValue) (image : Image) → IsClean chart → StoresAt n root chart.committed (stored_in image root chart.committed) image → AreStaged root.side chart.committed chart.staged image
 clean_staged n root chart image clean stores =
-    subst (λ (tiles : List TilePlace). AreStaged root.side chart.committed tiles image) (sym clean) (nothing_staged n root chart.committed (stored_in image root chart.committed) image stores)
+    subst (λ (tiles : List TileLocation). AreStaged root.side chart.committed tiles image) (sym clean) (nothing_staged n root chart.committed (stored_in image root chart.committed) image stores)
 
 -- the refusals of opening
 pub roots_refuse : (n : ℕ) (image : Image) (why : Refusal) (answer : Result RootValue Refusal) → answer ≡ Err why → (answer ≡ Err refusal.Device) ⊎ OpensAs n image answer → MayRefuse n image why
 roots_refuse n image why answer same opens =
     ⊎_elim (λ device. inl (let e : Err why ≡ Err refusal.Device = sym same ∙ device in cc)) (λ as_roots. inr (inr (inl (subst (OpensAs n image) same as_roots)))) opens
 
-pub records_refuse : (n : ℕ) (image : Image) (root : RootValue) (why : Refusal) → StoresOpen → OpensAs n image (Ok root) → (n < sectors_of root.side root.capacity) ⊎ IsRefusedFor ((tiles : List TilePlace) → ¬ IsLaidOut n image root tiles) why → MayRefuse n image why
+pub records_refuse : (n : ℕ) (image : Image) (root : RootValue) (why : Refusal) → StoresOpen → OpensAs n image (Ok root) → (n < sectors_of root.side root.capacity) ⊎ IsRefusedFor ((tiles : List TileLocation) → ¬ IsLaidOut n image root tiles) why → MayRefuse n image why
 records_refuse n image root why law opens refused =
     ⊎_elim (λ small. let store = (law n image root).0 opens in absurd (omega (arith, small, store.1)))
     (λ other. ⊎_elim (λ device. inl device) (λ rest. ⊎_elim (λ memory. inr (inl memory)) (λ damaged. inr (inr (inr (damaged.0, (root, (opens, damaged.1)))))) rest) other) refused
@@ -70,7 +71,7 @@ stands_opens n image s why (root, tiles, stores) refused =
     by_roots : OpensAs n image (Err why) → ⊥
     by_roots opens = let no : Err why ≡ Ok root = only_root n image root (Err why) stores.laid_out.store opens in cc
 
-    by_records : (why ≡ refusal.Damaged) × ((other : RootValue) × (OpensAs n image (Ok other) × ((ts : List TilePlace) → ¬ IsLaidOut n image other ts))) → ⊥
+    by_records : (why ≡ refusal.Damaged) × ((other : RootValue) × (OpensAs n image (Ok other) × ((ts : List TileLocation) → ¬ IsLaidOut n image other ts))) → ⊥
     by_records (damaged, (other, (opens, none))) =
         let same : root ≡ other = one_is_current image root other stores.laid_out.store.0 ((stores_open n image other).0 opens).0 in
         none tiles (subst (λ (r : RootValue). IsLaidOut n image r tiles) same stores.laid_out)

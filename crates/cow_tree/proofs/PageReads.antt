@@ -1,5 +1,5 @@
 -- Where a plane of a staged tile lies, and what its pages read as.
-use Rattle.std.proofs.Common.{◌≡◌, ℕ, ◌<◌, List, All, Contains, length, get_or, map, Option, Some, None, IfSome, refl, sym, ap, ◌∙◌, subst, arith}
+use Rattle.std.proofs.Common.{◌≡◌, ℕ, ◌<◌, List, All, Contains, length, get_or, map, Option, Some, IfSome, refl, sym, ap, ◌∙◌, subst, arith}
 use Rattle.std.specs.Prelude.{slice_get}
 use Rattle.std.proofs.lemmas.Option.{slice_get_read}
 use Rattle.std.proofs.lemmas.List.{length-map, get_or-map}
@@ -7,67 +7,63 @@ use Rattle.std.proofs.lemmas.List.Elements.{All-tail, All-contains}
 use Rattle.disk.specs.Disk.{Image}
 use Rattle.lattice.specs.Corners.{Corner}
 use Rattle.page_codec.specs.Sizes.{pages_of}
-use Rattle.cow_tree.specs.declared.places.KeptPlaces.{KeptPlaces}
-use Rattle.cow_tree.specs.declared.plane.Plane.{Plane}
-use Rattle.cow_tree.specs.declared.plane.Plane.TheVariants.{Heights, Levels, Labels}
-use Rattle.cow_tree.specs.Places.{PlanePlace, pages_of_plane}
-use Rattle.cow_tree.specs.Layout.{TilePlace, pages_of_kept, pages_of_tile, reached, plane_in, kept_in, tile_in}
-use Rattle.cow_tree.specs.Charts.{IsWholeTile, AreWholeKept}
-use Rattle.cow_tree.specs.Planes.{HasPlane, HasPlaneAt, HasPage}
+use Rattle.charts.specs.declared.locations.KeptLocations.{KeptLocations}
+use Rattle.charts.specs.declared.plane.Plane.{Plane}
+use Rattle.charts.specs.declared.plane.Plane.TheVariants.{Heights, Levels, Labels}
+use Rattle.charts.specs.Locations.{PlaneLocation, pages_of_plane}
+use Rattle.charts.specs.TileLocations.{TileLocation, pages_of_kept, pages_of_tile, reached}
+use Rattle.cow_tree.specs.Layout.{plane_in, kept_in, tile_in}
+use Rattle.charts.specs.Charts.{IsWholeTile, AreWholeKept}
+use Rattle.charts.specs.Planes.{HasPlaneAt}
+use Rattle.cow_tree.specs.Planes.{HasPage}
 use Rattle.cow_tree.proofs.Adding.{contains-map}
 use Rattle.cow_tree.proofs.Standing.{All-front, All-back}
 use Rattle.cow_tree.proofs.Tiles.{each_tile}
 
-pub no_levels : (c : Corner) (tiles : List TilePlace) → ((t : TilePlace) → Contains tiles t → t.corner ≡ c → t.kept ≡ None) → ¬ HasPlane tiles c Levels
-no_levels c tiles none (t, (has, (corner, (place, (kept, (some, at)))))) = let no : None ≡ Some kept = sym (none t has corner) ∙ some in cc
-
-pub no_labels : (c : Corner) (tiles : List TilePlace) → ((t : TilePlace) → Contains tiles t → t.corner ≡ c → t.kept ≡ None) → ¬ HasPlane tiles c Labels
-no_labels c tiles none (t, (has, (corner, (place, (kept, (some, at)))))) = let no : None ≡ Some kept = sym (none t has corner) ∙ some in cc
-
 -- what holds of all pages that the tiles reach holds of the plane's
-module _ (P : ℕ → Type 0) (tiles : List TilePlace) (c : Corner) (place : PlanePlace) (all : All P (reached tiles)) where
-  of_tile : (t : TilePlace) → Contains tiles t → All P (pages_of_tile t)
+module _ (P : ℕ → Type 0) (tiles : List TileLocation) (c : Corner) (location : PlaneLocation) (all : All P (reached tiles)) where
+  of_tile : (t : TileLocation) → Contains tiles t → All P (pages_of_tile t)
   of_tile t has = All-contains (λ u. All P (pages_of_tile u)) tiles t (each_tile P tiles all) has
 
-  of_kept : (t : TilePlace) (kept : KeptPlaces) → Contains tiles t → t.kept ≡ Some kept → All P (pages_of_kept (Some kept))
-  of_kept t kept has some = subst (λ (o : Option KeptPlaces). All P (pages_of_kept o)) some (All-back P (pages_of_plane t.heights) (pages_of_kept t.kept) (of_tile t has))
+  of_kept : (t : TileLocation) (kept : KeptLocations) → Contains tiles t → t.kept ≡ Some kept → All P (pages_of_kept (Some kept))
+  of_kept t kept has some = subst (λ (o : Option KeptLocations). All P (pages_of_kept o)) some (All-back P (pages_of_plane t.heights) (pages_of_kept t.kept) (of_tile t has))
 
-  pub plane_pages : (plane : Plane) → HasPlaneAt tiles c plane place → All P place.pages
+  pub plane_pages : (plane : Plane) → HasPlaneAt tiles c plane location → All P location.pages
   plane_pages Heights (t, (has, (corner, at))) =
-      subst (λ (p : PlanePlace). All P p.pages) at (All-tail P t.heights.record_page t.heights.pages (All-front P (pages_of_plane t.heights) (pages_of_kept t.kept) (of_tile t has)))
+      subst (λ (p : PlaneLocation). All P p.pages) at (All-tail P t.heights.record_page t.heights.pages (All-front P (pages_of_plane t.heights) (pages_of_kept t.kept) (of_tile t has)))
   plane_pages Levels (t, (has, (corner, (kept, (some, at))))) =
-      subst (λ (p : PlanePlace). All P p.pages) at (All-tail P kept.levels.record_page kept.levels.pages (All-front P (pages_of_plane kept.levels) (pages_of_plane kept.labels) (of_kept t kept has some)))
+      subst (λ (p : PlaneLocation). All P p.pages) at (All-tail P kept.levels.record_page kept.levels.pages (All-front P (pages_of_plane kept.levels) (pages_of_plane kept.labels) (of_kept t kept has some)))
   plane_pages Labels (t, (has, (corner, (kept, (some, at))))) =
-      subst (λ (p : PlanePlace). All P p.pages) at (All-tail P kept.labels.record_page kept.labels.pages (All-back P (pages_of_plane kept.levels) (pages_of_plane kept.labels) (of_kept t kept has some)))
+      subst (λ (p : PlaneLocation). All P p.pages) at (All-tail P kept.labels.record_page kept.labels.pages (All-back P (pages_of_plane kept.levels) (pages_of_plane kept.labels) (of_kept t kept has some)))
 
 -- it has all its pages
-module _ (side : ℕ) (tiles : List TilePlace) (c : Corner) (place : PlanePlace) (all : All (IsWholeTile side) tiles) where
-  whole_kept : (t : TilePlace) (kept : KeptPlaces) → Contains tiles t → t.kept ≡ Some kept → AreWholeKept side kept
-  whole_kept t kept has some = let whole : IfSome (Some kept) (AreWholeKept side) = subst (λ (o : Option KeptPlaces). IfSome o (AreWholeKept side)) some (All-contains (IsWholeTile side) tiles t all has).kept in whole
+module _ (side : ℕ) (tiles : List TileLocation) (c : Corner) (location : PlaneLocation) (all : All (IsWholeTile side) tiles) where
+  whole_kept : (t : TileLocation) (kept : KeptLocations) → Contains tiles t → t.kept ≡ Some kept → AreWholeKept side kept
+  whole_kept t kept has some = let whole : IfSome (Some kept) (AreWholeKept side) = subst (λ (o : Option KeptLocations). IfSome o (AreWholeKept side)) some (All-contains (IsWholeTile side) tiles t all has).kept in whole
 
-  pub whole_plane : (plane : Plane) → HasPlaneAt tiles c plane place → length place.pages ≡ pages_of side
-  whole_plane Heights (t, (has, (corner, at))) = subst (λ (p : PlanePlace). length p.pages ≡ pages_of side) at (All-contains (IsWholeTile side) tiles t all has).heights
-  whole_plane Levels (t, (has, (corner, (kept, (some, at))))) = subst (λ (p : PlanePlace). length p.pages ≡ pages_of side) at (whole_kept t kept has some).levels
-  whole_plane Labels (t, (has, (corner, (kept, (some, at))))) = subst (λ (p : PlanePlace). length p.pages ≡ pages_of side) at (whole_kept t kept has some).labels
+  pub whole_plane : (plane : Plane) → HasPlaneAt tiles c plane location → length location.pages ≡ pages_of side
+  whole_plane Heights (t, (has, (corner, at))) = subst (λ (p : PlaneLocation). length p.pages ≡ pages_of side) at (All-contains (IsWholeTile side) tiles t all has).heights
+  whole_plane Levels (t, (has, (corner, (kept, (some, at))))) = subst (λ (p : PlaneLocation). length p.pages ≡ pages_of side) at (whole_kept t kept has some).levels
+  whole_plane Labels (t, (has, (corner, (kept, (some, at))))) = subst (λ (p : PlaneLocation). length p.pages ≡ pages_of side) at (whole_kept t kept has some).labels
 
 -- page i, read from where it lies
-module _ (image : Image) (tiles : List TilePlace) (c : Corner) (place : PlanePlace) (i : ℕ) (bytes : List ℕ) (within : i < length place.pages) (read : bytes ≡ image (get_or place.pages i 0)) where
-  found : slice_get (plane_in image place) i ≡ Some bytes
-  found = slice_get_read (plane_in image place) (length (plane_in image place)) i bytes refl (omega (arith, within, length-map place.pages image)) (read ∙ sym (get_or-map image place.pages i 0 bytes within))
+module _ (image : Image) (tiles : List TileLocation) (c : Corner) (location : PlaneLocation) (i : ℕ) (bytes : List ℕ) (within : i < length location.pages) (read : bytes ≡ image (get_or location.pages i 0)) where
+  found : slice_get (plane_in image location) i ≡ Some bytes
+  found = slice_get_read (plane_in image location) (length (plane_in image location)) i bytes refl (omega (arith, within, length-map location.pages image)) (read ∙ sym (get_or-map image location.pages i 0 bytes within))
 
-  pub page_there : (plane : Plane) → HasPlaneAt tiles c plane place → HasPage (map (tile_in image) tiles) c plane i bytes
-  page_there Heights (t, (has, (corner, at))) = (tile_in image t, (contains-map (tile_in image) tiles t has, (corner, (plane_in image place, (ap (plane_in image) at, found)))))
+  pub page_there : (plane : Plane) → HasPlaneAt tiles c plane location → HasPage (map (tile_in image) tiles) c plane i bytes
+  page_there Heights (t, (has, (corner, at))) = (tile_in image t, (contains-map (tile_in image) tiles t has, (corner, (plane_in image location, (ap (plane_in image) at, found)))))
   page_there Levels (t, (has, (corner, (kept, (some, at))))) = (
     tile_in image t,
     (
       contains-map (tile_in image) tiles t has,
-      (corner, (plane_in image place, ((record { levels = plane_in image kept.levels; labels = plane_in image kept.labels }, (ap (kept_in image) some, ap (plane_in image) at)), found))),
+      (corner, (plane_in image location, ((record { levels = plane_in image kept.levels; labels = plane_in image kept.labels }, (ap (kept_in image) some, ap (plane_in image) at)), found))),
     ),
   )
   page_there Labels (t, (has, (corner, (kept, (some, at))))) = (
     tile_in image t,
     (
       contains-map (tile_in image) tiles t has,
-      (corner, (plane_in image place, ((record { levels = plane_in image kept.levels; labels = plane_in image kept.labels }, (ap (kept_in image) some, ap (plane_in image) at)), found))),
+      (corner, (plane_in image location, ((record { levels = plane_in image kept.levels; labels = plane_in image kept.labels }, (ap (kept_in image) some, ap (plane_in image) at)), found))),
     ),
   )

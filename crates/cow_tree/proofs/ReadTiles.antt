@@ -8,11 +8,12 @@ use Rattle.lattice.specs.Corners.{Corner, is_before}
 use Rattle.page_codec.specs.Entries.{EntryValue}
 use Rattle.page_codec.specs.Roots.{RootValue, AreInOrder}
 use Rattle.lattice.proofs.Rising.{AllAfter, Rising, rising_from}
-use Rattle.cow_tree.specs.Places.{times}
-use Rattle.cow_tree.specs.Layout.{TilePlace, pages_of_tile, reached, entry_of, HasRecords, KeepsPageRule, IsLaidOut}
+use Rattle.charts.specs.Locations.{times}
+use Rattle.charts.specs.TileLocations.{TileLocation, pages_of_tile, reached, entry_of, KeepsPageRule}
+use Rattle.cow_tree.specs.Layout.{HasRecords, IsLaidOut}
 use Rattle.cow_tree.specs.Found.{NoTileAt}
 use Rattle.cow_tree.proofs.Standing.{All-front}
-use Rattle.cow_tree.proofs.Occurrences.{times-append}
+use Rattle.charts.proofs.Occurrences.{times-append}
 use Rattle.cow_tree.proofs.OneStored.{one_layout}
 use Rattle.cow_tree.proofs.Tiles.{each_tile}
 
@@ -35,40 +36,40 @@ unmapped P f [] all = All-nil (λ x. P (f x))
 unmapped P f (x ∷ xs) all = All-cons (λ x. P (f x)) x xs (All-head P (f x) (map f xs) all) (unmapped P f xs (All-tail P (f x) (map f xs) all))
 
 -- the tiles so far stand before the next
-pub before_next : (entries : List EntryValue) (tiles : List TilePlace) (k : ℕ) (e : EntryValue) (c : Corner) → AreInOrder entries → k < length entries → map entry_of tiles ≡ take k entries → e ≡ get_or entries k e → e.corner ≡ c → All (λ t. IsTrue (is_before t.corner c)) tiles
+pub before_next : (entries : List EntryValue) (tiles : List TileLocation) (k : ℕ) (e : EntryValue) (c : Corner) → AreInOrder entries → k < length entries → map entry_of tiles ≡ take k entries → e ≡ get_or entries k e → e.corner ≡ c → All (λ t. IsTrue (is_before t.corner c)) tiles
 before_next entries tiles k e c in_order lt so_far is_e at =
     let P : EntryValue → Type 0 = λ x. IsTrue (is_before x.corner c) in
     let all : All P (take k entries) = subst (λ (p : Corner). All (λ x. IsTrue (is_before x.corner p)) (take k entries)) (sym (ap entry_corner is_e) ∙ at) (rising_at entries k e (rising_from entry_corner entries in_order) lt) in
     unmapped P entry_of tiles (subst (All P) (sym so_far) all)
 
 -- one tile more
-pub one_more : (entries : List EntryValue) (tiles : List TilePlace) (k : ℕ) (e : EntryValue) (t : TilePlace) → k < length entries → map entry_of tiles ≡ take k entries → e ≡ get_or entries k e → entry_of t ≡ e → map entry_of (tiles ++ t ∷ []) ≡ take (k + 1) entries
+pub one_more : (entries : List EntryValue) (tiles : List TileLocation) (k : ℕ) (e : EntryValue) (t : TileLocation) → k < length entries → map entry_of tiles ≡ take k entries → e ≡ get_or entries k e → entry_of t ≡ e → map entry_of (tiles ++ t ∷ []) ≡ take (k + 1) entries
 one_more entries tiles k e t lt so_far is_e at =
     map-append entry_of tiles (t ∷ []) ∙ ap₂ (λ (xs : List EntryValue) (x : EntryValue). xs ++ x ∷ []) so_far (at ∙ is_e) ∙ sym (take_more entries k e lt)
 
 -- the next tile of a layout
-next_tile : (tiles : List TilePlace) (k : ℕ) → k < length tiles → (t : TilePlace) × (get_or tiles k t ≡ t)
+next_tile : (tiles : List TileLocation) (k : ℕ) → k < length tiles → (t : TileLocation) × (get_or tiles k t ≡ t)
 next_tile [] k lt = absurd (omega arith)
 next_tile (t ∷ rest) zero lt = (t, refl)
 next_tile (t ∷ rest) (suc k) lt = next_tile rest k (omega arith)
 
-entry_at : (tiles : List TilePlace) (k : ℕ) (t : TilePlace) (e : EntryValue) → k < length tiles → get_or tiles k t ≡ t → get_or (map entry_of tiles) k e ≡ entry_of t
+entry_at : (tiles : List TileLocation) (k : ℕ) (t : TileLocation) (e : EntryValue) → k < length tiles → get_or tiles k t ≡ t → get_or (map entry_of tiles) k e ≡ entry_of t
 entry_at [] k t e lt here = absurd (omega arith)
 entry_at (u ∷ rest) zero t e lt here = ap entry_of here
 entry_at (u ∷ rest) (suc k) t e lt here = entry_at rest k t e (omega arith) here
 
 module _ (sectors : ℕ) (image : Image) (root : RootValue) where
-  pub no_next_tile : (k : ℕ) (e : EntryValue) → k < length root.entries → e ≡ get_or root.entries k e → NoTileAt root.side sectors image e → (tiles : List TilePlace) → ¬ IsLaidOut sectors image root tiles
+  pub no_next_tile : (k : ℕ) (e : EntryValue) → k < length root.entries → e ≡ get_or root.entries k e → NoTileAt root.side sectors image e → (tiles : List TileLocation) → ¬ IsLaidOut sectors image root tiles
   no_next_tile k e lt is_e none tiles laid =
       let within : k < length tiles = omega (arith, lt, ap length laid.entries, length-map tiles entry_of) in
       let next = next_tile tiles k within in
       let same : entry_of next.0 ≡ e = sym (entry_at tiles k next.0 e within next.1) ∙ ap (λ (es : List EntryValue). get_or es k e) laid.entries ∙ sym is_e in
       none next.0 same
-      (subst (λ (t : TilePlace). All (λ p. 4 ≤ p) (pages_of_tile t)) next.1 (each_tile (λ p. 4 ≤ p) tiles laid.page_rule.low k next.0 within))
-      (subst (λ (t : TilePlace). All (λ p. p < sectors) (pages_of_tile t)) next.1 (each_tile (λ p. p < sectors) tiles laid.page_rule.high k next.0 within))
+      (subst (λ (t : TileLocation). All (λ p. 4 ≤ p) (pages_of_tile t)) next.1 (each_tile (λ p. 4 ≤ p) tiles laid.page_rule.low k next.0 within))
+      (subst (λ (t : TileLocation). All (λ p. p < sectors) (pages_of_tile t)) next.1 (each_tile (λ p. p < sectors) tiles laid.page_rule.high k next.0 within))
       (subst (HasRecords root.side image) next.1 (laid.records k next.0 within))
 
-  rule_of_first : (k : ℕ) (tiles : List TilePlace) → KeepsPageRule sectors tiles → KeepsPageRule sectors (take k tiles)
+  rule_of_first : (k : ℕ) (tiles : List TileLocation) → KeepsPageRule sectors tiles → KeepsPageRule sectors (take k tiles)
   rule_of_first k tiles rule =
       let split : reached tiles ≡ reached (take k tiles) ++ reached (drop k tiles) = sym (ap reached (take-append-drop k tiles)) ∙ flat_map-append pages_of_tile (take k tiles) (drop k tiles) in
       record {
@@ -77,8 +78,8 @@ module _ (sectors : ℕ) (image : Image) (root : RootValue) where
         once = λ p. let one = rule.once p in let parts = times-append p (reached (take k tiles)) (reached (drop k tiles)) in let same : times p (reached tiles) ≡ times p (reached (take k tiles) ++ reached (drop k tiles)) = ap (times p) split in omega (arith, one, parts, same);
       }
 
-  pub no_rule : (k : ℕ) (so_far : List TilePlace) (t : TilePlace) → map entry_of (so_far ++ t ∷ []) ≡ take (k + 1) root.entries → All (HasRecords root.side image) so_far → HasRecords root.side image t → ¬ KeepsPageRule sectors (so_far ++ t ∷ [])
-      → (tiles : List TilePlace) → ¬ IsLaidOut sectors image root tiles
+  pub no_rule : (k : ℕ) (so_far : List TileLocation) (t : TileLocation) → map entry_of (so_far ++ t ∷ []) ≡ take (k + 1) root.entries → All (HasRecords root.side image) so_far → HasRecords root.side image t → ¬ KeepsPageRule sectors (so_far ++ t ∷ [])
+      → (tiles : List TileLocation) → ¬ IsLaidOut sectors image root tiles
   no_rule k so_far t entries records has none tiles laid =
       let same : take (k + 1) tiles ≡ so_far ++ t ∷ [] =
       one_layout root.side image (take (k + 1) tiles) (so_far ++ t ∷ []) (All-take (HasRecords root.side image) (k + 1) tiles laid.records) (All-push (HasRecords root.side image) so_far t records has)

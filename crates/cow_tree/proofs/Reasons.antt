@@ -4,8 +4,8 @@ use Rattle.std.proofs.lemmas.List.Elements.{All-head}
 use Rattle.disk.specs.Disk.{Image}
 use Rattle.page_codec.specs.Entries.{EntryValue}
 use Rattle.page_codec.specs.declared.entry.Kept.{Kept}
-use Rattle.cow_tree.specs.Places.{pages_of_plane}
-use Rattle.cow_tree.specs.Layout.{pages_of_kept}
+use Rattle.charts.specs.Locations.{pages_of_plane}
+use Rattle.charts.specs.TileLocations.{pages_of_kept}
 use Rattle.cow_tree.specs.Found.{NonePlane, NoneKept, NoTileAt}
 use Rattle.cow_tree.proofs.Standing.{All-front, All-back}
 

@@ -10,17 +10,18 @@ use Rattle.disk.specs.Disk.{Image}
 use Rattle.page_codec.specs.Records.{IsRecord, record_bytes}
 use Rattle.page_codec.specs.Sizes.{pages_of}
 use Rattle.lattice.specs.Corners.{Corner}
-use Rattle.cow_tree.specs.Places.{PlanePlace, pages_of_plane, times}
-use Rattle.cow_tree.specs.Layout.{TilePlace, pages_of_kept, pages_of_tile, reached, HasRecord, HaveKeptRecords, HasRecords, tile_in}
+use Rattle.charts.specs.Locations.{PlaneLocation, pages_of_plane, times}
+use Rattle.charts.specs.TileLocations.{TileLocation, pages_of_kept, pages_of_tile, reached}
+use Rattle.cow_tree.specs.Layout.{HasRecord, HaveKeptRecords, HasRecords, tile_in}
 use Rattle.cow_tree.specs.Stored.{StoredTile, PlanePages, KeptPlanes}
-use Rattle.cow_tree.specs.Charts.{ChartValue, IsChart, HasHeights, IsPlaced, is_changed, fresh_corners}
+use Rattle.charts.specs.Charts.{ChartValue, IsChart, HasHeights, IsLocated, is_changed, fresh_corners}
 use Rattle.cow_tree.specs.Staged.{changed_tiles, record_pages}
 use Rattle.cow_tree.proofs.Standing.{SameOn, All-front, All-back, map_same, kept_same, record_same, kept_records_same}
-use Rattle.cow_tree.proofs.Occurrences.{times-append, times_other, stands_there, once_apart}
+use Rattle.charts.proofs.Occurrences.{times-append, times_other, stands_there, once_apart}
 use Rattle.cow_tree.proofs.Tiles.{each_tile, unfiltered, one_at_corner}
 
 -- what of a tile isn't written: its pages and the records of its kept planes, and its record if that is committed
-abbrev pub unwritten : List TilePlace → TilePlace → List ℕ
+abbrev pub unwritten : List TileLocation → TileLocation → List ℕ
 unwritten committed t = (if is_changed committed t then [] else t.heights.record_page ∷ []) ++ (t.heights.pages ++ pages_of_kept t.kept)
 
 -- what holds of a number that stands there
@@ -35,7 +36,7 @@ pub all_at_times : (P : ℕ → Type 0) (xs : List ℕ) → ((q : ℕ) → 1 ≤
 all_at_times P xs each k d lt = each _ (stands_there _ xs (All-contains_itself xs k d lt))
 
 -- the pages of a tile are its record's, if it is written, and the others
-split_tile : (committed : List TilePlace) (t : TilePlace) (q : ℕ) → times q (if is_changed committed t then t.heights.record_page ∷ [] else []) + times q (unwritten committed t) ≡ times q (pages_of_tile t)
+split_tile : (committed : List TileLocation) (t : TileLocation) (q : ℕ) → times q (if is_changed committed t then t.heights.record_page ∷ [] else []) + times q (unwritten committed t) ≡ times q (pages_of_tile t)
 split_tile committed t q =
     let whole = times-append q (pages_of_plane t.heights) (pages_of_kept t.kept) in
     let front = times-append q (t.heights.record_page ∷ []) t.heights.pages in
@@ -49,7 +50,7 @@ split_tile committed t q =
     by_test true whole front behind = omega (arith, whole, front, behind)
     by_test false whole front behind = let rest = times-append q (t.heights.record_page ∷ []) (t.heights.pages ++ pages_of_kept t.kept) in omega (arith, whole, front, behind, rest)
 
-pub split_reached : (committed tiles : List TilePlace) (q : ℕ) → times q (record_pages (filter (is_changed committed) tiles)) + times q (flat_map (unwritten committed) tiles) ≡ times q (reached tiles)
+pub split_reached : (committed tiles : List TileLocation) (q : ℕ) → times q (record_pages (filter (is_changed committed) tiles)) + times q (flat_map (unwritten committed) tiles) ≡ times q (reached tiles)
 split_reached committed [] q = omega arith
 split_reached committed (t ∷ rest) q =
     let later = split_reached committed rest q in
@@ -64,7 +65,7 @@ split_reached committed (t ∷ rest) q =
     by_test false = omega arith
 
 -- pages that stay where only records are written
-module _ (committed tiles : List TilePlace) (a b : Image) where
+module _ (committed tiles : List TileLocation) (a b : Image) where
   pub unwritten_same : All (λ q. 4 ≤ q) (reached tiles) → ((q : ℕ) → times q (reached tiles) ≤ 1) → ((q : ℕ) → 4 ≤ q → times q (record_pages (filter (is_changed committed) tiles)) ≡ 0 → a q ≡ b q) → SameOn (flat_map (unwritten committed) tiles) a b
   unwritten_same low once others =
       all_at_times (λ q. a q ≡ b q) (flat_map (unwritten committed) tiles)
@@ -72,17 +73,17 @@ module _ (committed tiles : List TilePlace) (a b : Image) where
       others q (at_times (λ p. 4 ≤ p) q (reached tiles) low (omega (arith, split, some))) (omega (arith, split, some, one)))
 
 -- a tile whose record is written, and nothing else of it
-behind_record : (committed : List TilePlace) (t : TilePlace) (a b : Image) → SameOn (unwritten committed t) a b → SameOn (t.heights.pages ++ pages_of_kept t.kept) a b
+behind_record : (committed : List TileLocation) (t : TileLocation) (a b : Image) → SameOn (unwritten committed t) a b → SameOn (t.heights.pages ++ pages_of_kept t.kept) a b
 behind_record committed t a b same = All-back (λ q. a q ≡ b q) (if is_changed committed t then [] else t.heights.record_page ∷ []) (t.heights.pages ++ pages_of_kept t.kept) same
 
-pub recorded_tile : (committed : List TilePlace) (t : TilePlace) (a b : Image) → SameOn (unwritten committed t) a b → tile_in a t ≡ tile_in b t
+pub recorded_tile : (committed : List TileLocation) (t : TileLocation) (a b : Image) → SameOn (unwritten committed t) a b → tile_in a t ≡ tile_in b t
 recorded_tile committed t a b same =
     let rest = behind_record committed t a b same in
     ap₂ (λ (x : PlanePages) (y : Option KeptPlanes). record { corner = t.corner; heights = x; kept = y })
     (map_same t.heights.pages a b (All-front (λ q. a q ≡ b q) t.heights.pages (pages_of_kept t.kept) rest))
     (kept_same t.kept a b (All-back (λ q. a q ≡ b q) t.heights.pages (pages_of_kept t.kept) rest))
 
-pub recorded_tiles : (committed tiles : List TilePlace) (a b : Image) → SameOn (flat_map (unwritten committed) tiles) a b → map (tile_in a) tiles ≡ map (tile_in b) tiles
+pub recorded_tiles : (committed tiles : List TileLocation) (a b : Image) → SameOn (flat_map (unwritten committed) tiles) a b → map (tile_in a) tiles ≡ map (tile_in b) tiles
 recorded_tiles committed [] a b same = refl
 recorded_tiles committed (t ∷ rest) a b same =
     ap₂ (λ (x : StoredTile) (xs : List StoredTile). x ∷ xs)
@@ -90,7 +91,7 @@ recorded_tiles committed (t ∷ rest) a b same =
     (recorded_tiles committed rest a b (All-back (λ q. a q ≡ b q) (unwritten committed t) (flat_map (unwritten committed) rest) same))
 
 -- all records stand there after it
-has_record : (n : ℕ) (committed : List TilePlace) (t : TilePlace) (a b : Image) → SameOn (unwritten committed t) a b
+has_record : (n : ℕ) (committed : List TileLocation) (t : TileLocation) (a b : Image) → SameOn (unwritten committed t) a b
     → (is_changed committed t ≡ false → HasRecord n a t.heights) → (is_changed committed t ≡ true → b t.heights.record_page ≡ record_bytes t.heights.pages) → IsRecord (pages_of n) t.heights.pages → HasRecord n b t.heights
 has_record n committed t a b same was written fits =
     elim (is_changed committed t) as (λ (v : Bool). is_changed committed t ≡ v → SameOn ((if v then [] else t.heights.record_page ∷ []) ++ (t.heights.pages ++ pages_of_kept t.kept)) a b → HasRecord n b t.heights) [
@@ -98,7 +99,7 @@ has_record n committed t a b same was written fits =
       | false ↦ λ other same. record_same n t.heights a b (All-head (λ q. a q ≡ b q) t.heights.record_page (t.heights.pages ++ pages_of_kept t.kept) same) (was other)
     ] refl same
 
-pub recorded : (n : ℕ) (committed tiles : List TilePlace) (a b : Image) → SameOn (flat_map (unwritten committed) tiles) a b
+pub recorded : (n : ℕ) (committed tiles : List TileLocation) (a b : Image) → SameOn (flat_map (unwritten committed) tiles) a b
     → All (λ t. is_changed committed t ≡ false → HasRecord n a t.heights) tiles → All (λ t. IfSome t.kept (HaveKeptRecords n a)) tiles
     → All (λ t. is_changed committed t ≡ true → b t.heights.record_page ≡ record_bytes t.heights.pages) tiles → All (λ t. IsRecord (pages_of n) t.heights.pages) tiles → All (HasRecords n b) tiles
 recorded n committed [] a b same was kept written fits = All-nil (HasRecords n b)
@@ -120,36 +121,36 @@ get_or-map f [] k x d lt e = absurd (omega arith)
 get_or-map f (y ∷ ys) zero x d lt e = ap f e
 get_or-map f (y ∷ ys) (suc k) x d lt e = get_or-map f ys k x d (omega arith) e
 
-pub record IsChangedAt (chart : ChartValue) (k : ℕ) (plane : PlanePlace) : Type 0 where
-  pub tile : TilePlace
+pub record IsChangedAt (chart : ChartValue) (k : ℕ) (plane : PlaneLocation) : Type 0 where
+  pub tile : TileLocation
   pub here : get_or (changed_tiles chart) k tile ≡ tile
   pub staged : Contains chart.staged tile
   pub changed : is_changed chart.committed tile ≡ true
   pub heights : tile.heights ≡ plane
 
-pub changed_at : (chart : ChartValue) → IsChart chart → (k : ℕ) (c : Corner) (plane : PlanePlace) → k < length (fresh_corners chart) → c ≡ get_or (fresh_corners chart) k c → HasHeights c plane chart.staged → IsChangedAt chart k plane
+pub changed_at : (chart : ChartValue) → IsChart chart → (k : ℕ) (c : Corner) (plane : PlaneLocation) → k < length (fresh_corners chart) → c ≡ get_or (fresh_corners chart) k c → HasHeights c plane chart.staged → IsChangedAt chart k plane
 changed_at chart rules k c plane lt is_c had =
-    let tiles : List TilePlace = changed_tiles chart in
-    let u : TilePlace = had.0 in
-    let within : k < length tiles = omega (arith, lt, length-map tiles (λ (t : TilePlace). t.corner)) in
-    let t : TilePlace = get_or tiles k u in
+    let tiles : List TileLocation = changed_tiles chart in
+    let u : TileLocation = had.0 in
+    let within : k < length tiles = omega (arith, lt, length-map tiles (λ (t : TileLocation). t.corner)) in
+    let t : TileLocation = get_or tiles k u in
     let here : get_or tiles k t ≡ t = get_or_default tiles k t u within in
     let staged : Contains chart.staged t = All-filter (is_changed chart.committed) (Contains chart.staged) chart.staged (All-contains_itself chart.staged) k u within in
-    let corner : t.corner ≡ u.corner = sym (get_or-map (λ (v : TilePlace). v.corner) tiles k t c within here) ∙ sym is_c ∙ sym had.1.1 in
+    let corner : t.corner ≡ u.corner = sym (get_or-map (λ (v : TileLocation). v.corner) tiles k t c within here) ∙ sym is_c ∙ sym had.1.1 in
     let same : t ≡ u = one_at_corner chart.staged t u rules.staged.in_order staged had.1.0 corner in
     record {
       tile = t;
       here = here;
       staged = staged;
       changed = filter_passes (is_changed chart.committed) chart.staged k u within;
-      heights = ap (λ (v : TilePlace). v.heights) same ∙ had.1.2;
+      heights = ap (λ (v : TileLocation). v.heights) same ∙ had.1.2;
     }
 
 -- its record page
-pub record_page_of : (chart : ChartValue) → IsChart chart → (P : ℕ → Type 0) (t : TilePlace) → All P (reached chart.staged) → Contains chart.staged t → P t.heights.record_page
+pub record_page_of : (chart : ChartValue) → IsChart chart → (P : ℕ → Type 0) (t : TileLocation) → All P (reached chart.staged) → Contains chart.staged t → P t.heights.record_page
 record_page_of chart rules P t all staged = All-head P t.heights.record_page (t.heights.pages ++ pages_of_kept t.kept) (All-contains (λ u. All P (pages_of_tile u)) chart.staged t (each_tile P chart.staged all) staged)
 
-pub changed_unreached : (committed : List TilePlace) (t : TilePlace) → is_changed committed t ≡ true → ¬ Contains (reached committed) t.heights.record_page
+pub changed_unreached : (committed : List TileLocation) (t : TileLocation) → is_changed committed t ≡ true → ¬ Contains (reached committed) t.heights.record_page
 changed_unreached committed t changed has =
     let some : list_any (λ q. q == t.heights.record_page) (reached committed) ≡ true = list_any_at (λ q. q == t.heights.record_page) (reached committed) has.0 t.heights.record_page has.1 (equal _ _ has.2) in
     let no : not true ≡ true = sym (ap not some) ∙ changed in
@@ -161,42 +162,42 @@ changed_unreached committed t changed has =
 pub records_once : (chart : ChartValue) → IsChart chart → (p : ℕ) → times p (record_pages (changed_tiles chart)) ≤ 1
 records_once chart rules p = let split = split_reached chart.committed chart.staged p in let one = rules.staged.page_rule.once p in omega (arith, split, one)
 
-pub among_records : (chart : ChartValue) (k : ℕ) (t : TilePlace) → k < length (fresh_corners chart) → get_or (changed_tiles chart) k t ≡ t → 1 ≤ times t.heights.record_page (record_pages (changed_tiles chart))
+pub among_records : (chart : ChartValue) (k : ℕ) (t : TileLocation) → k < length (fresh_corners chart) → get_or (changed_tiles chart) k t ≡ t → 1 ≤ times t.heights.record_page (record_pages (changed_tiles chart))
 among_records chart k t lt here =
-    let within : k < length (changed_tiles chart) = omega (arith, lt, length-map (changed_tiles chart) (λ (t : TilePlace). t.corner)) in
-    stands_there t.heights.record_page (record_pages (changed_tiles chart)) (k, omega (arith, within, length-map (changed_tiles chart) (λ (t : TilePlace). t.heights.record_page)), get_or-map (λ (v : TilePlace). v.heights.record_page) (changed_tiles chart) k t t.heights.record_page within here)
+    let within : k < length (changed_tiles chart) = omega (arith, lt, length-map (changed_tiles chart) (λ (t : TileLocation). t.corner)) in
+    stands_there t.heights.record_page (record_pages (changed_tiles chart)) (k, omega (arith, within, length-map (changed_tiles chart) (λ (t : TileLocation). t.heights.record_page)), get_or-map (λ (v : TileLocation). v.heights.record_page) (changed_tiles chart) k t t.heights.record_page within here)
 
-pub records_apart : (chart : ChartValue) → IsChart chart → (k j : ℕ) (t u : TilePlace) → k < length (fresh_corners chart) → j < length (fresh_corners chart) → k ≢ j → get_or (changed_tiles chart) k t ≡ t → get_or (changed_tiles chart) j u ≡ u
+pub records_apart : (chart : ChartValue) → IsChart chart → (k j : ℕ) (t u : TileLocation) → k < length (fresh_corners chart) → j < length (fresh_corners chart) → k ≢ j → get_or (changed_tiles chart) k t ≡ t → get_or (changed_tiles chart) j u ≡ u
     → t.heights.record_page ≢ u.heights.record_page
 records_apart chart rules k j t u in_k in_j apart here there same =
-    let f : TilePlace → ℕ = λ v. v.heights.record_page in
-    let tiles : List TilePlace = changed_tiles chart in
-    let within_k : k < length tiles = omega (arith, in_k, length-map tiles (λ (t : TilePlace). t.corner)) in
-    let within_j : j < length tiles = omega (arith, in_j, length-map tiles (λ (t : TilePlace). t.corner)) in
+    let f : TileLocation → ℕ = λ v. v.heights.record_page in
+    let tiles : List TileLocation = changed_tiles chart in
+    let within_k : k < length tiles = omega (arith, in_k, length-map tiles (λ (t : TileLocation). t.corner)) in
+    let within_j : j < length tiles = omega (arith, in_j, length-map tiles (λ (t : TileLocation). t.corner)) in
     once_apart (record_pages tiles) (records_once chart rules) k j (omega (arith, within_k, length-map tiles f)) (omega (arith, within_j, length-map tiles f)) apart
     (get_or-map f tiles k t 0 within_k here ∙ same ∙ sym (get_or-map f tiles j u 0 within_j there))
 
 -- all that were written
-pub all_recorded : (chart : ChartValue) (image : Image) → ((k : ℕ) → k < length (fresh_corners chart) → (t : TilePlace) → get_or (changed_tiles chart) k t ≡ t → image t.heights.record_page ≡ record_bytes t.heights.pages)
+pub all_recorded : (chart : ChartValue) (image : Image) → ((k : ℕ) → k < length (fresh_corners chart) → (t : TileLocation) → get_or (changed_tiles chart) k t ≡ t → image t.heights.record_page ≡ record_bytes t.heights.pages)
     → All (λ t. is_changed chart.committed t ≡ true → image t.heights.record_page ≡ record_bytes t.heights.pages) chart.staged
 all_recorded chart image each =
     unfiltered (is_changed chart.committed) (λ t. image t.heights.record_page ≡ record_bytes t.heights.pages) chart.staged
-    (λ k d lt. each k (omega (arith, lt, length-map (changed_tiles chart) (λ (t : TilePlace). t.corner))) (get_or (changed_tiles chart) k d) (get_or_default (changed_tiles chart) k (get_or (changed_tiles chart) k d) d lt))
+    (λ k d lt. each k (omega (arith, lt, length-map (changed_tiles chart) (λ (t : TileLocation). t.corner))) (get_or (changed_tiles chart) k d) (get_or_default (changed_tiles chart) k (get_or (changed_tiles chart) k d) d lt))
 
 -- the k-th as a loop over the corners reads it
-pub record IsNext (chart : ChartValue) (k : ℕ) (plane : PlanePlace) : Type 0 where
+pub record IsNext (chart : ChartValue) (k : ℕ) (plane : PlaneLocation) : Type 0 where
   pub among : IsChangedAt chart k plane
   pub within : k < length (fresh_corners chart)
   pub low : 4 ≤ plane.record_page
   pub high : plane.record_page < chart.sectors
   pub unreached : ¬ Contains (reached chart.committed) plane.record_page
 
-pub next_changed : (chart : ChartValue) → IsChart chart → (k : ℕ) (c : Corner) (plane : PlanePlace) (xs ys : List Corner) → xs ≡ ys → ys ≡ fresh_corners chart → k < length xs → c ≡ get_or xs k c → HasHeights c plane chart.staged → IsNext chart k plane
+pub next_changed : (chart : ChartValue) → IsChart chart → (k : ℕ) (c : Corner) (plane : PlaneLocation) (xs ys : List Corner) → xs ≡ ys → ys ≡ fresh_corners chart → k < length xs → c ≡ get_or xs k c → HasHeights c plane chart.staged → IsNext chart k plane
 next_changed chart rules k c plane xs ys same listed lt is_c had =
     let all : xs ≡ fresh_corners chart = same ∙ listed in
     let within : k < length (fresh_corners chart) = subst (λ (l : List Corner). k < length l) all lt in
     let among = changed_at chart rules k c plane within (subst (λ (l : List Corner). c ≡ get_or l k c) all is_c) had in
-    let at : among.tile.heights.record_page ≡ plane.record_page = ap (λ (p : PlanePlace). p.record_page) among.heights in
+    let at : among.tile.heights.record_page ≡ plane.record_page = ap (λ (p : PlaneLocation). p.record_page) among.heights in
     record {
       among = among;
       within = within;
@@ -205,29 +206,29 @@ next_changed chart rules k c plane xs ys same listed lt is_c had =
       unreached = subst (λ (p : ℕ). ¬ Contains (reached chart.committed) p) at (changed_unreached chart.committed among.tile among.changed);
     }
 
-pub staged_at : (chart : ChartValue) (k : ℕ) (t : TilePlace) → k < length (fresh_corners chart) → get_or (changed_tiles chart) k t ≡ t → Contains chart.staged t
+pub staged_at : (chart : ChartValue) (k : ℕ) (t : TileLocation) → k < length (fresh_corners chart) → get_or (changed_tiles chart) k t ≡ t → Contains chart.staged t
 staged_at chart k t lt here =
-    let within : k < length (changed_tiles chart) = omega (arith, lt, length-map (changed_tiles chart) (λ (t : TilePlace). t.corner)) in
+    let within : k < length (changed_tiles chart) = omega (arith, lt, length-map (changed_tiles chart) (λ (t : TileLocation). t.corner)) in
     subst (Contains chart.staged) here (All-filter (is_changed chart.committed) (Contains chart.staged) chart.staged (All-contains_itself chart.staged) k t within)
 
-pub same_at : (chart : ChartValue) (k : ℕ) (t u : TilePlace) → k < length (fresh_corners chart) → get_or (changed_tiles chart) k t ≡ t → get_or (changed_tiles chart) k u ≡ u → t ≡ u
+pub same_at : (chart : ChartValue) (k : ℕ) (t u : TileLocation) → k < length (fresh_corners chart) → get_or (changed_tiles chart) k t ≡ t → get_or (changed_tiles chart) k u ≡ u → t ≡ u
 same_at chart k t u lt here there =
-    let within : k < length (changed_tiles chart) = omega (arith, lt, length-map (changed_tiles chart) (λ (t : TilePlace). t.corner)) in
+    let within : k < length (changed_tiles chart) = omega (arith, lt, length-map (changed_tiles chart) (λ (t : TileLocation). t.corner)) in
     sym here ∙ get_or_default (changed_tiles chart) k t u within ∙ there
 
-unfiltered_corner : (test : TilePlace → Bool) (tiles : List TilePlace) (c : Corner) → Contains (map (λ (t : TilePlace). t.corner) (filter test tiles)) c → Contains (map (λ (t : TilePlace). t.corner) tiles) c
+unfiltered_corner : (test : TileLocation → Bool) (tiles : List TileLocation) (c : Corner) → Contains (map (λ (t : TileLocation). t.corner) (filter test tiles)) c → Contains (map (λ (t : TileLocation). t.corner) tiles) c
 unfiltered_corner test [] c has = has
 unfiltered_corner test (t ∷ rest) c has =
-    elim (test t) as (λ (v : Bool). Contains (map (λ (t : TilePlace). t.corner) (cond v (t ∷ filter test rest) (filter test rest))) c → Contains (t.corner ∷ map (λ (t : TilePlace). t.corner) rest) c) [
+    elim (test t) as (λ (v : Bool). Contains (map (λ (t : TileLocation). t.corner) (cond v (t ∷ filter test rest) (filter test rest))) c → Contains (t.corner ∷ map (λ (t : TileLocation). t.corner) rest) c) [
       | true ↦ λ has. first has (λ later. unfiltered_corner test rest c later)
       | false ↦ λ has. let later = unfiltered_corner test rest c has in (suc later.0, omega (arith, later.1), later.2)
     ] has
   where
-    first : Contains (t.corner ∷ map (λ (t : TilePlace). t.corner) (filter test rest)) c → (Contains (map (λ (t : TilePlace). t.corner) (filter test rest)) c → Contains (map (λ (t : TilePlace). t.corner) rest) c) → Contains (t.corner ∷ map (λ (t : TilePlace). t.corner) rest) c
+    first : Contains (t.corner ∷ map (λ (t : TileLocation). t.corner) (filter test rest)) c → (Contains (map (λ (t : TileLocation). t.corner) (filter test rest)) c → Contains (map (λ (t : TileLocation). t.corner) rest) c) → Contains (t.corner ∷ map (λ (t : TileLocation). t.corner) rest) c
     first (zero, lt, here) later = (zero, omega arith, here)
     first (suc k, lt, here) later = let found = later (k, omega arith, here) in (suc found.0, omega (arith, found.1), found.2)
 
-pub next_placed : (chart : ChartValue) (k : ℕ) (c : Corner) (xs ys : List Corner) → xs ≡ ys → ys ≡ fresh_corners chart → k < length xs → c ≡ get_or xs k c → IsPlaced c chart.staged
-next_placed chart k c xs ys same listed lt is_c =
+pub next_located : (chart : ChartValue) (k : ℕ) (c : Corner) (xs ys : List Corner) → xs ≡ ys → ys ≡ fresh_corners chart → k < length xs → c ≡ get_or xs k c → IsLocated c chart.staged
+next_located chart k c xs ys same listed lt is_c =
     let all : xs ≡ fresh_corners chart = same ∙ listed in
     unfiltered_corner (is_changed chart.committed) chart.staged c (k, subst (λ (l : List Corner). k < length l) all lt, sym (subst (λ (l : List Corner). c ≡ get_or l k c) all is_c))

@@ -15,7 +15,7 @@ use Rattle.hgt.specs.Bytes.{sample_of, samples_in}
 use Rattle.hgt.proofs.BytesLemmas.{get_or-samples_in}
 use Rattle.lattice.proofs.CornerOrder.{same_from, before_not_same}
 use Rattle.lattice.proofs.Rising.{AllAfter, Rising, rising_from}
-use Rattle.cow_tree.specs.declared.plane.Plane.TheVariants.{Heights}
+use Rattle.charts.specs.declared.plane.Plane.TheVariants.{Heights}
 use Rattle.cow_tree.specs.Planes.{HasPage}
 use Rattle.cow_tree.specs.Stored.{StoredTile, PlanePages, IsPage, AreWhole, plane_bytes, samples_of_plane, mosaic_of_tiles}
 use Rattle.cow_tree.proofs.Adding.{contains-map}
@@ -60,12 +60,12 @@ byte_at : (pages : PlanePages) (i r : ℕ) → All IsPage pages → i < length p
 byte_at [] i r all lt small = absurd (omega (arith, lt))
 byte_at (p ∷ rest) zero r all lt small =
     let whole : length p ≡ 4096 = (All-head IsPage p rest all).whole in
-    let place : 4096 * 0 + r ≡ r = omega arith in
-    ap (λ (m : ℕ). get_or (p ++ concat rest) m 0) place ∙ get_or_append_left p (concat rest) 0 r (omega arith)
+    let location : 4096 * 0 + r ≡ r = omega arith in
+    ap (λ (m : ℕ). get_or (p ++ concat rest) m 0) location ∙ get_or_append_left p (concat rest) 0 r (omega arith)
 byte_at (p ∷ rest) (suc i) r all lt small =
     let whole : length p ≡ 4096 = (All-head IsPage p rest all).whole in
-    let place : 4096 * suc i + r ≡ length p + (4096 * i + r) = omega arith in
-    ap (λ (m : ℕ). get_or (p ++ concat rest) m 0) place ∙ get_or-append-add p (concat rest) (4096 * i + r) 0 ∙ byte_at rest i r (All-tail IsPage p rest all) (omega arith) small
+    let location : 4096 * suc i + r ≡ length p + (4096 * i + r) = omega arith in
+    ap (λ (m : ℕ). get_or (p ++ concat rest) m 0) location ∙ get_or-append-add p (concat rest) (4096 * i + r) 0 ∙ byte_at rest i r (All-tail IsPage p rest all) (omega arith) small
 
 -- ---- samples read from one page
 module _ (n : ℕ) (tiles : List StoredTile) (c : Corner) (first len from : ℕ) (page : List ℕ) (into : List ℤ) (valid : IsMosaic (mosaic_of_tiles n tiles)) (whole : AreWhole tiles)

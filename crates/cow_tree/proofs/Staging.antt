@@ -7,26 +7,27 @@ use Rattle.std.proofs.lemmas.List.Elements.{All-nil, All-cons, All-head, All-tai
 use Rattle.disk.specs.Disk.{Image}
 use Rattle.lattice.specs.Corners.{Corner}
 use Rattle.roots.specs.Slots.{SamePagesBut}
-use Rattle.cow_tree.specs.Places.{pages_of_plane, times}
-use Rattle.cow_tree.specs.Layout.{TilePlace, pages_of_kept, pages_of_tile, reached, HasRecord, HaveKeptRecords, tile_in}
-use Rattle.cow_tree.specs.Charts.{is_at, is_changed}
+use Rattle.charts.specs.Locations.{pages_of_plane, times}
+use Rattle.charts.specs.TileLocations.{TileLocation, pages_of_kept, pages_of_tile, reached}
+use Rattle.cow_tree.specs.Layout.{HasRecord, HaveKeptRecords, tile_in}
+use Rattle.charts.specs.Charts.{is_at, is_changed}
 use Rattle.cow_tree.specs.Staged.{AreStaged}
 use Rattle.cow_tree.specs.Stored.{PlanePages, KeptPlanes, StoredTile, with_page_in, with_page}
 use Rattle.cow_tree.proofs.Standing.{SameOn, All-front, All-back, map_same, kept_same, tile_same, record_same, kept_records_same}
-use Rattle.cow_tree.proofs.Occurrences.{times-append, times_here, apart_head, absent, set_there}
+use Rattle.charts.proofs.Occurrences.{times-append, times_here, apart_head, absent, set_there}
 
 -- the tile with page i of its heights, and their record, elsewhere, if it is the corner's
-abbrev pub rewritten : Corner → (i p r : ℕ) → TilePlace → TilePlace
+abbrev pub rewritten : Corner → (i p r : ℕ) → TileLocation → TileLocation
 rewritten c i p r t = if is_at c t then record t { heights = record { record_page = r; pages = slice_set t.heights.pages i p } } else t
 
-pub rewritten_here : (c : Corner) (i p r : ℕ) (t : TilePlace) → is_at c t ≡ true → rewritten c i p r t ≡ record t { heights = record { record_page = r; pages = slice_set t.heights.pages i p } }
+pub rewritten_here : (c : Corner) (i p r : ℕ) (t : TileLocation) → is_at c t ≡ true → rewritten c i p r t ≡ record t { heights = record { record_page = r; pages = slice_set t.heights.pages i p } }
 rewritten_here c i p r t here = ap (λ (b : Bool). if b then record t { heights = record { record_page = r; pages = slice_set t.heights.pages i p } } else t) here
 
-pub rewritten_other : (c : Corner) (i p r : ℕ) (t : TilePlace) → is_at c t ≡ false → rewritten c i p r t ≡ t
+pub rewritten_other : (c : Corner) (i p r : ℕ) (t : TileLocation) → is_at c t ≡ false → rewritten c i p r t ≡ t
 rewritten_other c i p r t other = ap (λ (b : Bool). if b then record t { heights = record { record_page = r; pages = slice_set t.heights.pages i p } } else t) other
 
 -- what the page does to a tile
-pub record IsWrittenAt (c : Corner) (i p : ℕ) (page : List ℕ) (a b : Image) (t : TilePlace) : Type 0 where
+pub record IsWrittenAt (c : Corner) (i p : ℕ) (page : List ℕ) (a b : Image) (t : TileLocation) : Type 0 where
   pub others : is_at c t ≡ false → SameOn (pages_of_tile t) a b
   pub kept : is_at c t ≡ true → SameOn (pages_of_kept t.kept) a b
   pub heights : is_at c t ≡ true → map b (slice_set t.heights.pages i p) ≡ slice_set (map a t.heights.pages) i page
@@ -51,22 +52,22 @@ set_written (x ∷ xs) (suc i) p page a b lt low once same written =
 -- the tiles behind the one with the page
 module _ (c : Corner) (i p r : ℕ) (page : List ℕ) (a b : Image) (same : SamePagesBut p a b) where
   -- the rewritten tile reaches it
-  reaches : (t : TilePlace) → is_at c t ≡ true → i < length t.heights.pages → 1 ≤ times p (pages_of_tile (rewritten c i p r t))
+  reaches : (t : TileLocation) → is_at c t ≡ true → i < length t.heights.pages → 1 ≤ times p (pages_of_tile (rewritten c i p r t))
   reaches t here lt =
       let there = set_there p t.heights.pages i lt in
       let pages : List ℕ = slice_set t.heights.pages i p in
-      subst (λ (u : TilePlace). 1 ≤ times p (pages_of_tile u)) (sym (rewritten_here c i p r t here))
+      subst (λ (u : TileLocation). 1 ≤ times p (pages_of_tile u)) (sym (rewritten_here c i p r t here))
       (omega (arith, there, times-append p (r ∷ []) (pages ++ pages_of_kept t.kept), times-append p pages (pages_of_kept t.kept)))
 
-  beyond_one : (t : TilePlace) → i < length t.heights.pages → All (λ q. 4 ≤ q) (pages_of_tile (rewritten c i p r t)) → times p (pages_of_tile (rewritten c i p r t)) ≡ 0 → IsWrittenAt c i p page a b t
+  beyond_one : (t : TileLocation) → i < length t.heights.pages → All (λ q. 4 ≤ q) (pages_of_tile (rewritten c i p r t)) → times p (pages_of_tile (rewritten c i p r t)) ≡ 0 → IsWrittenAt c i p page a b t
   beyond_one t lt low none = record {
     others = λ other. let e = rewritten_other c i p r t other in
-        same_where_absent (pages_of_tile t) p a b (subst (λ (u : TilePlace). All (λ q. 4 ≤ q) (pages_of_tile u)) e low) (ap (λ (u : TilePlace). times p (pages_of_tile u)) (sym e) ∙ none) same;
+        same_where_absent (pages_of_tile t) p a b (subst (λ (u : TileLocation). All (λ q. 4 ≤ q) (pages_of_tile u)) e low) (ap (λ (u : TileLocation). times p (pages_of_tile u)) (sym e) ∙ none) same;
     kept = λ here. absurd (omega (arith, reaches t here lt, none));
     heights = λ here. absurd (omega (arith, reaches t here lt, none));
   }
 
-  beyond : (tiles : List TilePlace) → All (λ t. i < length t.heights.pages) tiles → All (λ q. 4 ≤ q) (reached (map (rewritten c i p r) tiles)) → times p (reached (map (rewritten c i p r) tiles)) ≡ 0 → All (IsWrittenAt c i p page a b) tiles
+  beyond : (tiles : List TileLocation) → All (λ t. i < length t.heights.pages) tiles → All (λ q. 4 ≤ q) (reached (map (rewritten c i p r) tiles)) → times p (reached (map (rewritten c i p r) tiles)) ≡ 0 → All (IsWrittenAt c i p page a b) tiles
   beyond [] long low none = All-nil (IsWrittenAt c i p page a b)
   beyond (t ∷ rest) long low none =
       let first : List ℕ = pages_of_tile (rewritten c i p r t) in
@@ -77,7 +78,7 @@ module _ (c : Corner) (i p r : ℕ) (page : List ℕ) (a b : Image) (same : Same
       (beyond rest (All-tail (λ t. i < length t.heights.pages) t rest long) (All-back (λ q. 4 ≤ q) first others low) (omega (arith, split, none)))
 
   -- .. and some tile before the end is the corner's
-  some_reaches : (tiles : List TilePlace) → All (λ t. i < length t.heights.pages) tiles → list_any (is_at c) tiles ≡ true → 1 ≤ times p (reached (map (rewritten c i p r) tiles))
+  some_reaches : (tiles : List TileLocation) → All (λ t. i < length t.heights.pages) tiles → list_any (is_at c) tiles ≡ true → 1 ≤ times p (reached (map (rewritten c i p r) tiles))
   some_reaches [] long present = cc
   some_reaches (t ∷ rest) long present =
       let split = times-append p (pages_of_tile (rewritten c i p r t)) (reached (map (rewritten c i p r) rest)) in
@@ -87,14 +88,14 @@ module _ (c : Corner) (i p r : ℕ) (page : List ℕ) (a b : Image) (same : Same
       ] refl
 
   -- the corner's tile
-  written_one : (t : TilePlace) → is_at c t ≡ true → i < length t.heights.pages → b p ≡ page → All (λ q. 4 ≤ q) (pages_of_tile (rewritten c i p r t)) → times p (pages_of_tile (rewritten c i p r t)) ≤ 1 → IsWrittenAt c i p page a b t
+  written_one : (t : TileLocation) → is_at c t ≡ true → i < length t.heights.pages → b p ≡ page → All (λ q. 4 ≤ q) (pages_of_tile (rewritten c i p r t)) → times p (pages_of_tile (rewritten c i p r t)) ≤ 1 → IsWrittenAt c i p page a b t
   written_one t here lt written low once =
       let e = rewritten_here c i p r t here in
       let pages : List ℕ = slice_set t.heights.pages i p in
       let kept : List ℕ = pages_of_kept t.kept in
-      let low_here : All (λ q. 4 ≤ q) ((r ∷ pages) ++ kept) = subst (λ (u : TilePlace). All (λ q. 4 ≤ q) (pages_of_tile u)) e low in
+      let low_here : All (λ q. 4 ≤ q) ((r ∷ pages) ++ kept) = subst (λ (u : TileLocation). All (λ q. 4 ≤ q) (pages_of_tile u)) e low in
       let low_pages : All (λ q. 4 ≤ q) pages = All-tail (λ q. 4 ≤ q) r pages (All-front (λ q. 4 ≤ q) (r ∷ pages) kept low_here) in
-      let once_here : times p ((r ∷ pages) ++ kept) ≤ 1 = subst (λ (u : TilePlace). times p (pages_of_tile u) ≤ 1) e once in
+      let once_here : times p ((r ∷ pages) ++ kept) ≤ 1 = subst (λ (u : TileLocation). times p (pages_of_tile u) ≤ 1) e once in
       let split = times-append p (r ∷ pages) kept in
       let split_2 = times-append p (r ∷ []) pages in
       let there = set_there p t.heights.pages i lt in
@@ -104,7 +105,7 @@ module _ (c : Corner) (i p r : ℕ) (page : List ℕ) (a b : Image) (same : Same
         heights = λ _. set_written t.heights.pages i p page a b lt low_pages (omega (arith, split, split_2, once_here)) same written;
       }
 
-  pub written_tiles : b p ≡ page → (tiles : List TilePlace) → All (λ t. i < length t.heights.pages) tiles → list_any (is_at c) tiles ≡ true → All (λ q. 4 ≤ q) (reached (map (rewritten c i p r) tiles)) → times p (reached (map (rewritten c i p r) tiles)) ≤ 1
+  pub written_tiles : b p ≡ page → (tiles : List TileLocation) → All (λ t. i < length t.heights.pages) tiles → list_any (is_at c) tiles ≡ true → All (λ q. 4 ≤ q) (reached (map (rewritten c i p r) tiles)) → times p (reached (map (rewritten c i p r) tiles)) ≤ 1
       → All (IsWrittenAt c i p page a b) tiles
   written_tiles written [] long present low once = cc
   written_tiles written (t ∷ rest) long present low once =
@@ -130,22 +131,22 @@ module _ (c : Corner) (i p r : ℕ) (page : List ℕ) (a b : Image) (same : Same
       ] refl
 
 -- what stands there then
-staged_one : (c : Corner) (i p r : ℕ) (page : List ℕ) (a b : Image) (t : TilePlace) → IsWrittenAt c i p page a b t → tile_in b (rewritten c i p r t) ≡ with_page_in c i page (tile_in a t)
+staged_one : (c : Corner) (i p r : ℕ) (page : List ℕ) (a b : Image) (t : TileLocation) → IsWrittenAt c i p page a b t → tile_in b (rewritten c i p r t) ≡ with_page_in c i page (tile_in a t)
 staged_one c i p r page a b t written =
     elim (is_at c t) as (λ (v : Bool). is_at c t ≡ v → tile_in b (if v then record t { heights = record { record_page = r; pages = slice_set t.heights.pages i p } } else t) ≡ (if v then record (tile_in a t) { heights = slice_set (map a t.heights.pages) i page } else tile_in a t)) [
       | true ↦ λ here. ap₂ (λ (x : PlanePages) (y : Option KeptPlanes). record { corner = t.corner; heights = x; kept = y }) (written.heights here) (sym (kept_same t.kept a b (written.kept here)))
       | false ↦ λ other. sym (tile_same t a b (written.others other))
     ] refl
 
-pub staged_pages : (c : Corner) (i p r : ℕ) (page : List ℕ) (a b : Image) (tiles : List TilePlace) → All (IsWrittenAt c i p page a b) tiles → map (tile_in b) (map (rewritten c i p r) tiles) ≡ with_page c i page (map (tile_in a) tiles)
+pub staged_pages : (c : Corner) (i p r : ℕ) (page : List ℕ) (a b : Image) (tiles : List TileLocation) → All (IsWrittenAt c i p page a b) tiles → map (tile_in b) (map (rewritten c i p r) tiles) ≡ with_page c i page (map (tile_in a) tiles)
 staged_pages c i p r page a b [] written = refl
 staged_pages c i p r page a b (t ∷ rest) written =
     ap₂ (λ (x : StoredTile) (xs : List StoredTile). x ∷ xs)
     (staged_one c i p r page a b t (All-head (IsWrittenAt c i p page a b) t rest written))
     (staged_pages c i p r page a b rest (All-tail (IsWrittenAt c i p page a b) t rest written))
 
-module _ (n : ℕ) (committed : List TilePlace) (c : Corner) (i p r : ℕ) (page : List ℕ) (a b : Image) (fresh : list_any (λ q. q == r) (reached committed) ≡ false) where
-  heights_one : (t : TilePlace) → IsWrittenAt c i p page a b t → (is_changed committed t ≡ false → HasRecord n a t.heights) → is_changed committed (rewritten c i p r t) ≡ false → HasRecord n b (rewritten c i p r t).heights
+module _ (n : ℕ) (committed : List TileLocation) (c : Corner) (i p r : ℕ) (page : List ℕ) (a b : Image) (fresh : list_any (λ q. q == r) (reached committed) ≡ false) where
+  heights_one : (t : TileLocation) → IsWrittenAt c i p page a b t → (is_changed committed t ≡ false → HasRecord n a t.heights) → is_changed committed (rewritten c i p r t) ≡ false → HasRecord n b (rewritten c i p r t).heights
   heights_one t written had =
       elim (is_at c t) as (λ (v : Bool). is_at c t ≡ v
       → is_changed committed (if v then record t { heights = record { record_page = r; pages = slice_set t.heights.pages i p } } else t) ≡ false
@@ -154,28 +155,28 @@ module _ (n : ℕ) (committed : List TilePlace) (c : Corner) (i p r : ℕ) (page
         | false ↦ λ other unchanged. record_same n t.heights a b (All-head (λ q. a q ≡ b q) t.heights.record_page t.heights.pages (All-front (λ q. a q ≡ b q) (pages_of_plane t.heights) (pages_of_kept t.kept) (written.others other))) (had unchanged)
       ] refl
 
-  kept_one : (t : TilePlace) → IsWrittenAt c i p page a b t → IfSome t.kept (HaveKeptRecords n a) → IfSome (rewritten c i p r t).kept (HaveKeptRecords n b)
+  kept_one : (t : TileLocation) → IsWrittenAt c i p page a b t → IfSome t.kept (HaveKeptRecords n a) → IfSome (rewritten c i p r t).kept (HaveKeptRecords n b)
   kept_one t written had =
       elim (is_at c t) as (λ (v : Bool). is_at c t ≡ v → IfSome (if v then record t { heights = record { record_page = r; pages = slice_set t.heights.pages i p } } else t).kept (HaveKeptRecords n b)) [
         | true ↦ λ here. kept_records_same n t.kept a b (written.kept here) had
         | false ↦ λ other. kept_records_same n t.kept a b (All-back (λ q. a q ≡ b q) (pages_of_plane t.heights) (pages_of_kept t.kept) (written.others other)) had
       ] refl
 
-  heights_staged : (tiles : List TilePlace) → All (IsWrittenAt c i p page a b) tiles → All (λ t. is_changed committed t ≡ false → HasRecord n a t.heights) tiles → All (λ t. is_changed committed t ≡ false → HasRecord n b t.heights) (map (rewritten c i p r) tiles)
+  heights_staged : (tiles : List TileLocation) → All (IsWrittenAt c i p page a b) tiles → All (λ t. is_changed committed t ≡ false → HasRecord n a t.heights) tiles → All (λ t. is_changed committed t ≡ false → HasRecord n b t.heights) (map (rewritten c i p r) tiles)
   heights_staged [] written had = All-nil (λ t. is_changed committed t ≡ false → HasRecord n b t.heights)
   heights_staged (t ∷ rest) written had =
       All-cons (λ t. is_changed committed t ≡ false → HasRecord n b t.heights) (rewritten c i p r t) (map (rewritten c i p r) rest)
       (heights_one t (All-head (IsWrittenAt c i p page a b) t rest written) (All-head (λ t. is_changed committed t ≡ false → HasRecord n a t.heights) t rest had))
       (heights_staged rest (All-tail (IsWrittenAt c i p page a b) t rest written) (All-tail (λ t. is_changed committed t ≡ false → HasRecord n a t.heights) t rest had))
 
-  kept_staged : (tiles : List TilePlace) → All (IsWrittenAt c i p page a b) tiles → All (λ t. IfSome t.kept (HaveKeptRecords n a)) tiles → All (λ t. IfSome t.kept (HaveKeptRecords n b)) (map (rewritten c i p r) tiles)
+  kept_staged : (tiles : List TileLocation) → All (IsWrittenAt c i p page a b) tiles → All (λ t. IfSome t.kept (HaveKeptRecords n a)) tiles → All (λ t. IfSome t.kept (HaveKeptRecords n b)) (map (rewritten c i p r) tiles)
   kept_staged [] written had = All-nil (λ t. IfSome t.kept (HaveKeptRecords n b))
   kept_staged (t ∷ rest) written had =
       All-cons (λ t. IfSome t.kept (HaveKeptRecords n b)) (rewritten c i p r t) (map (rewritten c i p r) rest)
       (kept_one t (All-head (IsWrittenAt c i p page a b) t rest written) (All-head (λ t. IfSome t.kept (HaveKeptRecords n a)) t rest had))
       (kept_staged rest (All-tail (IsWrittenAt c i p page a b) t rest written) (All-tail (λ t. IfSome t.kept (HaveKeptRecords n a)) t rest had))
 
-  pub still_staged : (tiles : List TilePlace) → All (IsWrittenAt c i p page a b) tiles → AreStaged n committed tiles a → AreStaged n committed (map (rewritten c i p r) tiles) b
+  pub still_staged : (tiles : List TileLocation) → All (IsWrittenAt c i p page a b) tiles → AreStaged n committed tiles a → AreStaged n committed (map (rewritten c i p r) tiles) b
   still_staged tiles written had = record { heights = heights_staged tiles written had.heights; kept = kept_staged tiles written had.kept }
 
 -- a page that no committed tile reaches isn't among theirs, as a test

@@ -6,9 +6,10 @@ use Rattle.disk.specs.Disk.{Image}
 use Rattle.page_codec.specs.Roots.{RootValue}
 use Rattle.roots.specs.Slots.{SamePages, SamePagesBut, KeepsAll, KeepsBut, IsCurrent}
 use Rattle.cow_tree.specs.Stored.{PlanePages, KeptPlanes, StoredTile, Stored}
-use Rattle.cow_tree.specs.declared.places.KeptPlaces.{KeptPlaces}
-use Rattle.cow_tree.specs.Places.{PlanePlace, pages_of_plane}
-use Rattle.cow_tree.specs.Layout.{TilePlace, pages_of_kept, pages_of_tile, reached, HasRecord, HaveKeptRecords, HasRecords, plane_in, kept_in, tile_in, StoresAt}
+use Rattle.charts.specs.declared.locations.KeptLocations.{KeptLocations}
+use Rattle.charts.specs.Locations.{PlaneLocation, pages_of_plane}
+use Rattle.charts.specs.TileLocations.{TileLocation, pages_of_kept, pages_of_tile, reached}
+use Rattle.cow_tree.specs.Layout.{HasRecord, HaveKeptRecords, HasRecords, plane_in, kept_in, tile_in, StoresAt}
 
 -- both images have the same in these pages
 abbrev pub SameOn : List ℕ → Image → Image → Type 0
@@ -24,46 +25,46 @@ pub map_same : (pages : List ℕ) (a b : Image) → SameOn pages a b → map a p
 map_same [] a b same = refl
 map_same (p ∷ rest) a b same = ap₂ (λ (x : List ℕ) (xs : List (List ℕ)). x ∷ xs) (All-head (λ q. a q ≡ b q) p rest same) (map_same rest a b (All-tail (λ q. a q ≡ b q) p rest same))
 
-pub plane_same : (p : PlanePlace) (a b : Image) → SameOn (pages_of_plane p) a b → plane_in a p ≡ plane_in b p
+pub plane_same : (p : PlaneLocation) (a b : Image) → SameOn (pages_of_plane p) a b → plane_in a p ≡ plane_in b p
 plane_same p a b same = map_same p.pages a b (All-tail (λ q. a q ≡ b q) p.record_page p.pages same)
 
-pub kept_same : (kept : Option KeptPlaces) (a b : Image) → SameOn (pages_of_kept kept) a b → kept_in a kept ≡ kept_in b kept
+pub kept_same : (kept : Option KeptLocations) (a b : Image) → SameOn (pages_of_kept kept) a b → kept_in a kept ≡ kept_in b kept
 kept_same None a b same = refl
 kept_same (Some k) a b same =
     let front : SameOn (pages_of_plane k.levels) a b = All-front (λ q. a q ≡ b q) (pages_of_plane k.levels) (pages_of_plane k.labels) same in
     let back : SameOn (pages_of_plane k.labels) a b = All-back (λ q. a q ≡ b q) (pages_of_plane k.levels) (pages_of_plane k.labels) same in
     ap₂ (λ (x y : PlanePages). Some (record { levels = x; labels = y })) (plane_same k.levels a b front) (plane_same k.labels a b back)
 
-pub tile_same : (t : TilePlace) (a b : Image) → SameOn (pages_of_tile t) a b → tile_in a t ≡ tile_in b t
+pub tile_same : (t : TileLocation) (a b : Image) → SameOn (pages_of_tile t) a b → tile_in a t ≡ tile_in b t
 tile_same t a b same =
     ap₂ (λ (x : PlanePages) (y : Option KeptPlanes). record { corner = t.corner; heights = x; kept = y })
     (plane_same t.heights a b (All-front (λ q. a q ≡ b q) (pages_of_plane t.heights) (pages_of_kept t.kept) same))
     (kept_same t.kept a b (All-back (λ q. a q ≡ b q) (pages_of_plane t.heights) (pages_of_kept t.kept) same))
 
-pub tiles_same : (tiles : List TilePlace) (a b : Image) → SameOn (reached tiles) a b → map (tile_in a) tiles ≡ map (tile_in b) tiles
+pub tiles_same : (tiles : List TileLocation) (a b : Image) → SameOn (reached tiles) a b → map (tile_in a) tiles ≡ map (tile_in b) tiles
 tiles_same [] a b same = refl
 tiles_same (t ∷ rest) a b same =
     ap₂ (λ (x : StoredTile) (xs : List StoredTile). x ∷ xs)
     (tile_same t a b (All-front (λ q. a q ≡ b q) (pages_of_tile t) (reached rest) same))
     (tiles_same rest a b (All-back (λ q. a q ≡ b q) (pages_of_tile t) (reached rest) same))
 
-pub record_same : (n : ℕ) (p : PlanePlace) (a b : Image) → a p.record_page ≡ b p.record_page → HasRecord n a p → HasRecord n b p
+pub record_same : (n : ℕ) (p : PlaneLocation) (a b : Image) → a p.record_page ≡ b p.record_page → HasRecord n a p → HasRecord n b p
 record_same n p a b same has = (has.0, sym same ∙ has.1)
 
-pub kept_records_same : (n : ℕ) (kept : Option KeptPlaces) (a b : Image) → SameOn (pages_of_kept kept) a b → IfSome kept (HaveKeptRecords n a) → IfSome kept (HaveKeptRecords n b)
+pub kept_records_same : (n : ℕ) (kept : Option KeptLocations) (a b : Image) → SameOn (pages_of_kept kept) a b → IfSome kept (HaveKeptRecords n a) → IfSome kept (HaveKeptRecords n b)
 kept_records_same n None a b same has = has
 kept_records_same n (Some k) a b same has = record {
   levels = record_same n k.levels a b (All-head (λ q. a q ≡ b q) k.levels.record_page k.levels.pages (All-front (λ q. a q ≡ b q) (pages_of_plane k.levels) (pages_of_plane k.labels) same)) has.levels;
   labels = record_same n k.labels a b (All-head (λ q. a q ≡ b q) k.labels.record_page k.labels.pages (All-back (λ q. a q ≡ b q) (pages_of_plane k.levels) (pages_of_plane k.labels) same)) has.labels;
 }
 
-pub tile_records_same : (n : ℕ) (t : TilePlace) (a b : Image) → SameOn (pages_of_tile t) a b → HasRecords n a t → HasRecords n b t
+pub tile_records_same : (n : ℕ) (t : TileLocation) (a b : Image) → SameOn (pages_of_tile t) a b → HasRecords n a t → HasRecords n b t
 tile_records_same n t a b same has = record {
   heights = record_same n t.heights a b (All-head (λ q. a q ≡ b q) t.heights.record_page t.heights.pages (All-front (λ q. a q ≡ b q) (pages_of_plane t.heights) (pages_of_kept t.kept) same)) has.heights;
   kept = kept_records_same n t.kept a b (All-back (λ q. a q ≡ b q) (pages_of_plane t.heights) (pages_of_kept t.kept) same) has.kept;
 }
 
-pub records_same : (n : ℕ) (tiles : List TilePlace) (a b : Image) → SameOn (reached tiles) a b → All (HasRecords n a) tiles → All (HasRecords n b) tiles
+pub records_same : (n : ℕ) (tiles : List TileLocation) (a b : Image) → SameOn (reached tiles) a b → All (HasRecords n a) tiles → All (HasRecords n b) tiles
 records_same n [] a b same all = All-nil (HasRecords n b)
 records_same n (t ∷ rest) a b same all =
     All-cons (HasRecords n b) t rest
@@ -71,7 +72,7 @@ records_same n (t ∷ rest) a b same all =
     (records_same n rest a b (All-back (λ q. a q ≡ b q) (pages_of_tile t) (reached rest) same) (All-tail (HasRecords n a) t rest all))
 
 -- what is stored survives on an image with the same current root and the same reached pages
-pub stores_same : (sectors : ℕ) (root : RootValue) (tiles : List TilePlace) (s : Stored) (a b : Image) → IsCurrent root b → SameOn (reached tiles) a b → StoresAt sectors root tiles s a → StoresAt sectors root tiles s b
+pub stores_same : (sectors : ℕ) (root : RootValue) (tiles : List TileLocation) (s : Stored) (a b : Image) → IsCurrent root b → SameOn (reached tiles) a b → StoresAt sectors root tiles s a → StoresAt sectors root tiles s b
 stores_same sectors root tiles s a b current same stores = record {
   laid_out = record {
     store = (current, stores.laid_out.store.1);
@@ -92,13 +93,13 @@ pub same_on_but : (pages : List ℕ) (p : ℕ) (a b : Image) → All (λ q. 4 �
 same_on_but pages p a b low none same k d lt = same _ (low k d lt) (apart_from pages p none k d lt)
 
 -- a step of roots that keeps all pages, or all but one that no tile reaches
-pub stores_kept : (sectors : ℕ) (root : RootValue) (tiles : List TilePlace) (s : Stored) (images : Image → Type 0) → ((i : Image) → images i → StoresAt sectors root tiles s i)
+pub stores_kept : (sectors : ℕ) (root : RootValue) (tiles : List TileLocation) (s : Stored) (images : Image → Type 0) → ((i : Image) → images i → StoresAt sectors root tiles s i)
     → (i : Image) → KeepsAll root images i → StoresAt sectors root tiles s i
 stores_kept sectors root tiles s images each i keeps =
     let was = each keeps.1.0 keeps.1.1 in
     stores_same sectors root tiles s keeps.1.0 i keeps.0 (same_on_all (reached tiles) keeps.1.0 i was.laid_out.page_rule.low keeps.1.2) was
 
-pub stores_kept_but : (p sectors : ℕ) (root : RootValue) (tiles : List TilePlace) (s : Stored) (images : Image → Type 0) → ((i : Image) → images i → StoresAt sectors root tiles s i)
+pub stores_kept_but : (p sectors : ℕ) (root : RootValue) (tiles : List TileLocation) (s : Stored) (images : Image → Type 0) → ((i : Image) → images i → StoresAt sectors root tiles s i)
     → ¬ Contains (reached tiles) p → (i : Image) → KeepsBut p root images i → StoresAt sectors root tiles s i
 stores_kept_but p sectors root tiles s images each none i keeps =
     let was = each keeps.1.0 keeps.1.1 in

@@ -12,14 +12,15 @@ use Rattle.lattice.specs.declared.refusal.Refusal.TheVariants.{Device, NoMemory}
 use Rattle.page_codec.specs.Roots.{RootValue}
 use Rattle.page_codec.specs.Sizes.{pages_of}
 use Rattle.roots.specs.Slots.{SamePagesBut, KeepsBut}
-use Rattle.cow_tree.specs.Layout.{TilePlace, reached, tile_in, StoresAt, Stands}
-use Rattle.cow_tree.specs.Places.{times}
-use Rattle.cow_tree.specs.Charts.{ChartValue, IsChart, IsRewritten, IsPlaced, IsWholeTile, is_at, corners_of_places, with_page_place}
+use Rattle.charts.specs.TileLocations.{TileLocation, reached}
+use Rattle.cow_tree.specs.Layout.{tile_in, StoresAt, Stands}
+use Rattle.charts.specs.Locations.{times}
+use Rattle.charts.specs.Charts.{ChartValue, IsChart, IsRewritten, IsLocated, IsWholeTile, is_at, corners_of_locations, with_page_location}
 use Rattle.cow_tree.specs.Staged.{AreStaged}
 use Rattle.cow_tree.specs.Stored.{Stored, with_page}
 use Rattle.cow_tree.proofs.Standing.{stores_kept_but}
 use Rattle.cow_tree.proofs.Staging.{IsWrittenAt, written_tiles, staged_pages, still_staged, unreached_test}
-use Rattle.cow_tree.proofs.Tiles.{placed_is}
+use Rattle.cow_tree.proofs.Tiles.{located_is}
 
 -- a call that left its owner unfailed answered Ok
 pub ok_where_works : {T E : Type 0} {P : Type 0} (r : Result T E) (failed : Bool) → OnErr r (failed ≡ true) → failed ≡ false → OnOk r P → P
@@ -27,7 +28,7 @@ ok_where_works (Ok t) failed err works ok = ok
 ok_where_works (Err e) failed err works ok = absurd (let no : true ≡ false = sym err ∙ works in cc)
 
 -- the same corners
-pub corners_same : (c : Corner) (i p r : ℕ) (tiles : List TilePlace) → corners_of_places (with_page_place c i p r tiles) ≡ corners_of_places tiles
+pub corners_same : (c : Corner) (i p r : ℕ) (tiles : List TileLocation) → corners_of_locations (with_page_location c i p r tiles) ≡ corners_of_locations tiles
 corners_same c i p r [] = refl
 corners_same c i p r (t ∷ rest) =
     ap₂ (λ (x : Corner) (xs : List Corner). x ∷ xs) (by_test (is_at c t)) (corners_same c i p r rest)
@@ -41,42 +42,42 @@ module _ (old new : ChartValue) (c : Corner) (i p : ℕ) (page : List ℕ) (a b 
   committed_same : new.committed ≡ old.committed
   committed_same = ap (λ (x : ChartValue). x.committed) rw.changed
 
-  staged_is : new.staged ≡ with_page_place c i p rw.record_page old.staged
+  staged_is : new.staged ≡ with_page_location c i p rw.record_page old.staged
   staged_is = ap (λ (x : ChartValue). x.staged) rw.changed
 
   pub page_unreached : ¬ Contains (reached old.committed) p
-  page_unreached = subst (λ (tiles : List TilePlace). ¬ Contains (reached tiles) p) committed_same rw.fresh_page.unreached
+  page_unreached = subst (λ (tiles : List TileLocation). ¬ Contains (reached tiles) p) committed_same rw.fresh_page.unreached
 
-  each_written : IsPlaced c old.staged → i < pages_of old.side → SamePagesBut p a b → b p ≡ page → All (IsWrittenAt c i p page a b) old.staged
-  each_written placed lt same written =
+  each_written : IsLocated c old.staged → i < pages_of old.side → SamePagesBut p a b → b p ≡ page → All (IsWrittenAt c i p page a b) old.staged
+  each_written located lt same written =
       written_tiles c i p rw.record_page page a b same written old.staged
       (All-weaker (IsWholeTile old.side) (λ t. i < length t.heights.pages) (λ t whole. omega (arith, whole.heights, lt)) old.staged rules.staged.whole)
-      (placed_is c old.staged placed)
-      (subst (λ (tiles : List TilePlace). All (λ q. 4 ≤ q) (reached tiles)) staged_is after.staged.page_rule.low)
-      (subst (λ (tiles : List TilePlace). times p (reached tiles) ≤ 1) staged_is (after.staged.page_rule.once p))
+      (located_is c old.staged located)
+      (subst (λ (tiles : List TileLocation). All (λ q. 4 ≤ q) (reached tiles)) staged_is after.staged.page_rule.low)
+      (subst (λ (tiles : List TileLocation). times p (reached tiles) ≤ 1) staged_is (after.staged.page_rule.once p))
 
-  pub stage_pages : IsPlaced c old.staged → i < pages_of old.side → SamePagesBut p a b → b p ≡ page → map (tile_in b) new.staged ≡ with_page c i page (map (tile_in a) old.staged)
-  stage_pages placed lt same written =
-      ap (map (tile_in b)) staged_is ∙ staged_pages c i p rw.record_page page a b old.staged (each_written placed lt same written)
+  pub stage_pages : IsLocated c old.staged → i < pages_of old.side → SamePagesBut p a b → b p ≡ page → map (tile_in b) new.staged ≡ with_page c i page (map (tile_in a) old.staged)
+  stage_pages located lt same written =
+      ap (map (tile_in b)) staged_is ∙ staged_pages c i p rw.record_page page a b old.staged (each_written located lt same written)
 
-  pub stage_stays : (n : ℕ) → IsPlaced c old.staged → i < pages_of old.side → SamePagesBut p a b → b p ≡ page → AreStaged n old.committed old.staged a → AreStaged n new.committed new.staged b
-  stage_stays n placed lt same written had =
-      subst (λ (tiles : List TilePlace). AreStaged n tiles new.staged b) (sym committed_same)
-      (subst (λ (tiles : List TilePlace). AreStaged n old.committed tiles b) (sym staged_is)
+  pub stage_stays : (n : ℕ) → IsLocated c old.staged → i < pages_of old.side → SamePagesBut p a b → b p ≡ page → AreStaged n old.committed old.staged a → AreStaged n new.committed new.staged b
+  stage_stays n located lt same written had =
+      subst (λ (tiles : List TileLocation). AreStaged n tiles new.staged b) (sym committed_same)
+      (subst (λ (tiles : List TileLocation). AreStaged n old.committed tiles b) (sym staged_is)
       (still_staged n old.committed c i p rw.record_page page a b
-      (unreached_test rw.record_page (reached old.committed) (subst (λ (tiles : List TilePlace). ¬ Contains (reached tiles) rw.record_page) committed_same rw.fresh_record.unreached))
-      old.staged (each_written placed lt same written) had))
+      (unreached_test rw.record_page (reached old.committed) (subst (λ (tiles : List TileLocation). ¬ Contains (reached tiles) rw.record_page) committed_same rw.fresh_record.unreached))
+      old.staged (each_written located lt same written) had))
 
 -- what stores stands
-pub stands : (sectors : ℕ) (root : RootValue) (tiles : List TilePlace) (s : Stored) (image : Image) → StoresAt sectors root tiles s image → Stands sectors image s
+pub stands : (sectors : ℕ) (root : RootValue) (tiles : List TileLocation) (s : Stored) (image : Image) → StoresAt sectors root tiles s image → Stands sectors image s
 stands sectors root tiles s image stores = (root, tiles, stores)
 
-pub still_stands : {D : Type 0} (g : Ghosts D) (old new : D) (p sectors : ℕ) (root : RootValue) (tiles : List TilePlace) (s : Stored) → ((image : Image) → g.may old image → StoresAt sectors root tiles s image) → ¬ Contains (reached tiles) p
+pub still_stands : {D : Type 0} (g : Ghosts D) (old new : D) (p sectors : ℕ) (root : RootValue) (tiles : List TileLocation) (s : Stored) → ((image : Image) → g.may old image → StoresAt sectors root tiles s image) → ¬ Contains (reached tiles) p
     → LeavesOnly g old new (KeepsBut p root (g.may old)) → LeavesOnly g old new (λ image. Stands sectors image s)
 still_stands g old new p sectors root tiles s each none run =
     weaker g old new (KeepsBut p root (g.may old)) (λ image. Stands sectors image s) (λ image keeps. stands sectors root tiles s image (stores_kept_but p sectors root tiles s (g.may old) each none image keeps)) run
 
-pub each_still : {D : Type 0} (g : Ghosts D) (old new : D) (p sectors : ℕ) (root : RootValue) (tiles : List TilePlace) (s : Stored) → ((image : Image) → g.may old image → StoresAt sectors root tiles s image) → ¬ Contains (reached tiles) p
+pub each_still : {D : Type 0} (g : Ghosts D) (old new : D) (p sectors : ℕ) (root : RootValue) (tiles : List TileLocation) (s : Stored) → ((image : Image) → g.may old image → StoresAt sectors root tiles s image) → ¬ Contains (reached tiles) p
     → LeavesOnly g old new (KeepsBut p root (g.may old)) → (image : Image) → g.may new image → StoresAt sectors root tiles s image
 each_still g old new p sectors root tiles s each none run image may = stores_kept_but p sectors root tiles s (g.may old) each none image (run.now image may)
 
@@ -89,9 +90,9 @@ on_ok_both (Ok t) f p q = f p q
 on_ok_both (Err e) f p q = tt
 
 -- the same under other names
-pub stores_along : (n m : ℕ) (root root' : RootValue) (tiles tiles' : List TilePlace) (s : Stored) (image : Image) → m ≡ n → root' ≡ root → tiles' ≡ tiles → StoresAt n root tiles s image → StoresAt m root' tiles' s image
+pub stores_along : (n m : ℕ) (root root' : RootValue) (tiles tiles' : List TileLocation) (s : Stored) (image : Image) → m ≡ n → root' ≡ root → tiles' ≡ tiles → StoresAt n root tiles s image → StoresAt m root' tiles' s image
 stores_along n m root root' tiles tiles' s image e f h stores =
-    subst (λ (k : ℕ). StoresAt k root' tiles' s image) (sym e) (subst (λ (r : RootValue). StoresAt n r tiles' s image) (sym f) (subst (λ (ts : List TilePlace). StoresAt n root ts s image) (sym h) stores))
+    subst (λ (k : ℕ). StoresAt k root' tiles' s image) (sym e) (subst (λ (r : RootValue). StoresAt n r tiles' s image) (sym f) (subst (λ (ts : List TileLocation). StoresAt n root ts s image) (sym h) stores))
 
 -- what holds anyway holds where the call answered Ok
 pub ok_where : {T E : Type 0} {P : Type 0} (r : Result T E) → P → OnOk r P

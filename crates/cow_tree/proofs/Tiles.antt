@@ -7,19 +7,19 @@ use Rattle.lattice.specs.Lattice.{IsBefore}
 use Rattle.lattice.proofs.CornerOrder.{before_apart}
 use Rattle.catalogue.proofs.Presence.{listed_from, listed_says}
 use Rattle.lattice.proofs.Rising.{AllAfter, Rising, rising_from, adjacent_from}
-use Rattle.cow_tree.specs.Layout.{TilePlace, pages_of_tile, reached}
-use Rattle.cow_tree.specs.Charts.{is_at, corners_of_places, IsPlaced}
+use Rattle.charts.specs.TileLocations.{TileLocation, pages_of_tile, reached}
+use Rattle.charts.specs.Charts.{is_at, corners_of_locations, IsLocated}
 use Rattle.cow_tree.proofs.Standing.{All-front, All-back}
 
-abbrev pub corner_of : TilePlace → Corner
+abbrev pub corner_of : TileLocation → Corner
 corner_of t = t.corner
 
-after_says : (c : Corner) (tiles : List TilePlace) (t : TilePlace) → AllAfter corner_of c tiles → Contains tiles t → IsTrue (is_before c t.corner)
+after_says : (c : Corner) (tiles : List TileLocation) (t : TileLocation) → AllAfter corner_of c tiles → Contains tiles t → IsTrue (is_before c t.corner)
 after_says c [] t after (k, lt, here) = absurd (omega (arith, lt))
-after_says c (u ∷ rest) t after (zero, lt, here) = subst (λ (v : TilePlace). IsTrue (is_before c v.corner)) here after.0
+after_says c (u ∷ rest) t after (zero, lt, here) = subst (λ (v : TileLocation). IsTrue (is_before c v.corner)) here after.0
 after_says c (u ∷ rest) t after (suc k, lt, here) = after_says c rest t after.1 (k, omega arith, here)
 
-rising_one : (tiles : List TilePlace) (t u : TilePlace) → Rising corner_of tiles → Contains tiles t → Contains tiles u → t.corner ≡ u.corner → t ≡ u
+rising_one : (tiles : List TileLocation) (t u : TileLocation) → Rising corner_of tiles → Contains tiles t → Contains tiles u → t.corner ≡ u.corner → t ≡ u
 rising_one [] t u rising (k, lt, here) there same = absurd (omega (arith, lt))
 rising_one (v ∷ rest) t u rising (zero, lt, here) (zero, lt_2, there) same = sym here ∙ there
 rising_one (v ∷ rest) t u rising (zero, lt, here) (suc j, lt_2, there) same =
@@ -28,22 +28,22 @@ rising_one (v ∷ rest) t u rising (suc k, lt, here) (zero, lt_2, there) same =
     absurd (before_apart v.corner t.corner (after_says v.corner rest t rising.0 (k, omega arith, here)) (ap corner_of there ∙ sym same))
 rising_one (v ∷ rest) t u rising (suc k, lt, here) (suc j, lt_2, there) same = rising_one rest t u rising.1 (k, omega arith, here) (j, omega arith, there) same
 
-pub one_at_corner : (tiles : List TilePlace) (t u : TilePlace) → AllAdjacentBelow (λ a b. IsBefore a.corner b.corner) tiles (length tiles) → Contains tiles t → Contains tiles u → t.corner ≡ u.corner → t ≡ u
+pub one_at_corner : (tiles : List TileLocation) (t u : TileLocation) → AllAdjacentBelow (λ a b. IsBefore a.corner b.corner) tiles (length tiles) → Contains tiles t → Contains tiles u → t.corner ≡ u.corner → t ≡ u
 one_at_corner tiles t u in_order has_t has_u same = rising_one tiles t u (rising_from corner_of tiles in_order) has_t has_u same
 
 -- the corner's tile is among them, as a test
-pub placed_test : (c : Corner) (tiles : List TilePlace) → list_any (is_at c) tiles ≡ list_any (λ d. same_corner d c) (corners_of_places tiles)
-placed_test c [] = refl
-placed_test c (t ∷ rest) = ap (λ (b : Bool). same_corner t.corner c || b) (placed_test c rest)
+pub located_test : (c : Corner) (tiles : List TileLocation) → list_any (is_at c) tiles ≡ list_any (λ d. same_corner d c) (corners_of_locations tiles)
+located_test c [] = refl
+located_test c (t ∷ rest) = ap (λ (b : Bool). same_corner t.corner c || b) (located_test c rest)
 
-pub placed_is : (c : Corner) (tiles : List TilePlace) → IsPlaced c tiles → list_any (is_at c) tiles ≡ true
-placed_is c tiles placed = placed_test c tiles ∙ listed_from c (corners_of_places tiles) placed
+pub located_is : (c : Corner) (tiles : List TileLocation) → IsLocated c tiles → list_any (is_at c) tiles ≡ true
+located_is c tiles located = located_test c tiles ∙ listed_from c (corners_of_locations tiles) located
 
-pub placed_says : (c : Corner) (tiles : List TilePlace) → list_any (is_at c) tiles ≡ true → IsPlaced c tiles
-placed_says c tiles some = listed_says c (corners_of_places tiles) (sym (placed_test c tiles) ∙ some)
+pub located_says : (c : Corner) (tiles : List TileLocation) → list_any (is_at c) tiles ≡ true → IsLocated c tiles
+located_says c tiles some = listed_says c (corners_of_locations tiles) (sym (located_test c tiles) ∙ some)
 
 -- what holds of all pages that tiles reach holds of those of each tile
-pub each_tile : (P : ℕ → Type 0) (tiles : List TilePlace) → All P (reached tiles) → All (λ t. All P (pages_of_tile t)) tiles
+pub each_tile : (P : ℕ → Type 0) (tiles : List TileLocation) → All P (reached tiles) → All (λ t. All P (pages_of_tile t)) tiles
 each_tile P [] all = All-nil (λ t. All P (pages_of_tile t))
 each_tile P (t ∷ rest) all = All-cons (λ t. All P (pages_of_tile t)) t rest (All-front P (pages_of_tile t) (reached rest) all) (each_tile P rest (All-back P (pages_of_tile t) (reached rest) all))
 
@@ -57,13 +57,13 @@ unfiltered test P (x ∷ xs) all =
     ] refl all
 
 -- their corners are in order
-corners_after : (c : Corner) (tiles : List TilePlace) → AllAfter corner_of c tiles → AllAfter (λ d. d) c (map corner_of tiles)
+corners_after : (c : Corner) (tiles : List TileLocation) → AllAfter corner_of c tiles → AllAfter (λ d. d) c (map corner_of tiles)
 corners_after c [] after = tt
 corners_after c (t ∷ rest) after = (after.0, corners_after c rest after.1)
 
-corners_rise : (tiles : List TilePlace) → Rising corner_of tiles → Rising (λ d. d) (map corner_of tiles)
+corners_rise : (tiles : List TileLocation) → Rising corner_of tiles → Rising (λ d. d) (map corner_of tiles)
 corners_rise [] rising = tt
 corners_rise (t ∷ rest) rising = (corners_after t.corner rest rising.0, corners_rise rest rising.1)
 
-pub corners_adjacent : (tiles : List TilePlace) → AllAdjacentBelow (λ a b. IsBefore a.corner b.corner) tiles (length tiles) → AllAdjacentBelow IsBefore (corners_of_places tiles) (length (corners_of_places tiles))
+pub corners_adjacent : (tiles : List TileLocation) → AllAdjacentBelow (λ a b. IsBefore a.corner b.corner) tiles (length tiles) → AllAdjacentBelow IsBefore (corners_of_locations tiles) (length (corners_of_locations tiles))
 corners_adjacent tiles in_order = adjacent_from (λ d. d) (map corner_of tiles) (corners_rise tiles (rising_from corner_of tiles in_order))

@@ -7,14 +7,15 @@ use Rattle.disk.specs.declared.disk.Disk.{Ghosts}
 use Rattle.page_codec.specs.Numbers.{padded}
 use Rattle.page_codec.specs.Roots.{RootValue}
 use Rattle.roots.specs.Slots.{KeepsBut}
-use Rattle.cow_tree.specs.Layout.{TilePlace, reached, StoresAt}
+use Rattle.charts.specs.TileLocations.{TileLocation, reached}
+use Rattle.cow_tree.specs.Layout.{StoresAt}
 use Rattle.cow_tree.specs.Staged.{page_of_bytes}
 use Rattle.cow_tree.specs.Stored.{Stored, pages_of_bytes}
 use Rattle.cow_tree.proofs.Standing.{stores_kept_but}
 use Rattle.cow_tree.proofs.Planes.{length-pages_of_bytes}
 
 module _ {D : Type 0} (g : Ghosts D) (old mid new : D) where
-  pub one_page_more : (p sectors : ℕ) (root now : RootValue) (tiles : List TilePlace) (s : Stored) → now ≡ root → ¬ Contains (reached tiles) p
+  pub one_page_more : (p sectors : ℕ) (root now : RootValue) (tiles : List TileLocation) (s : Stored) → now ≡ root → ¬ Contains (reached tiles) p
       → LeavesOnly g old mid (StoresAt sectors root tiles s) → LeavesOnly g mid new (KeepsBut p now (g.may mid)) → LeavesOnly g old new (StoresAt sectors root tiles s)
   one_page_more p sectors root now tiles s same none first second =
       let run : LeavesOnly g mid new (KeepsBut p root (g.may mid)) = subst (λ (r : RootValue). LeavesOnly g mid new (KeepsBut p r (g.may mid))) same second in

@@ -3,19 +3,20 @@ use Rattle.std.specs.Prelude.{◌≡◌, ℕ, ◌≤◌, ◌<◌, All, Option, I
 use Rattle.disk.specs.Disk.{Image}
 use Rattle.page_codec.specs.Entries.{EntryValue}
 use Rattle.page_codec.specs.declared.entry.Kept.{Kept}
-use Rattle.cow_tree.specs.declared.places.KeptPlaces.{KeptPlaces}
-use Rattle.cow_tree.specs.Places.{PlanePlace}
-use Rattle.cow_tree.specs.Layout.{TilePlace, pages_of_tile, pages_of_kept, entry_of_kept, entry_of, HasRecord, HasRecords, HaveKeptRecords}
+use Rattle.charts.specs.declared.locations.KeptLocations.{KeptLocations}
+use Rattle.charts.specs.Locations.{PlaneLocation}
+use Rattle.charts.specs.TileLocations.{TileLocation, pages_of_tile, pages_of_kept, entry_of_kept, entry_of}
+use Rattle.cow_tree.specs.Layout.{HasRecord, HasRecords, HaveKeptRecords}
 
 -- no plane has its record in this page of the disk
 abbrev pub NonePlane : (n sectors : ℕ) → Image → ℕ → Type 0
-NonePlane n sectors image record_page = (plane : PlanePlace) → plane.record_page ≡ record_page → 4 ≤ record_page → record_page < sectors → ¬ HasRecord n image plane
+NonePlane n sectors image record_page = (plane : PlaneLocation) → plane.record_page ≡ record_page → 4 ≤ record_page → record_page < sectors → ¬ HasRecord n image plane
 
 -- no planes on pages of the disk are kept so
 abbrev pub NoneKept : (n sectors : ℕ) → Image → Option Kept → Type 0
-NoneKept n sectors image kept = (places : Option KeptPlaces) → entry_of_kept places ≡ kept
-    → All (λ p. 4 ≤ p) (pages_of_kept places) → All (λ p. p < sectors) (pages_of_kept places) → ¬ IfSome places (HaveKeptRecords n image)
+NoneKept n sectors image kept = (locations : Option KeptLocations) → entry_of_kept locations ≡ kept
+    → All (λ p. 4 ≤ p) (pages_of_kept locations) → All (λ p. p < sectors) (pages_of_kept locations) → ¬ IfSome locations (HaveKeptRecords n image)
 
 -- no tile on pages of the disk has this entry
 abbrev pub NoTileAt : (n sectors : ℕ) → Image → EntryValue → Type 0
-NoTileAt n sectors image entry = (t : TilePlace) → entry_of t ≡ entry → All (λ p. 4 ≤ p) (pages_of_tile t) → All (λ p. p < sectors) (pages_of_tile t) → ¬ HasRecords n image t
+NoTileAt n sectors image entry = (t : TileLocation) → entry_of t ≡ entry → All (λ p. 4 ≤ p) (pages_of_tile t) → All (λ p. p < sectors) (pages_of_tile t) → ¬ HasRecords n image t

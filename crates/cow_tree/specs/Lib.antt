@@ -1,12 +1,8 @@
-pub mod Charts
 pub mod Found
-pub mod FreePages
 pub mod Layout
 pub mod Pagers
-pub mod Places
 pub mod Reading
 pub mod Planes
-pub mod Slots
 pub mod Staged
 pub mod Stored
 pub mod Trees

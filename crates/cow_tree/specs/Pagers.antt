@@ -3,7 +3,8 @@ use Rattle.std.specs.Prelude.{◌≡◌, ◌⊎◌, ◌≤◌, Bool, false, List
 use Rattle.disk.specs.declared.disk.Disk.{Ghosts}
 use Rattle.page_codec.specs.Roots.{RootValue}
 use Rattle.roots.specs.Roots.{IsReady as AreReady, disk_of as disk_under, root_of as root_under}
-use Rattle.cow_tree.specs.Layout.{TilePlace, StoresAt}
+use Rattle.charts.specs.TileLocations.{TileLocation}
+use Rattle.cow_tree.specs.Layout.{StoresAt}
 use Rattle.cow_tree.specs.Stored.{Stored}
 use Rattle.disk.specs.Disk.{Image, HasRisen}
 use Rattle.disk.specs.Stops.{AddsNothing}
@@ -33,7 +34,7 @@ pub record IsReady {D : Type 0} (g : Ghosts D) (pager : Pager D g) : Type 0 wher
   pub roots : AreReady g pager.roots
 
 -- each image that a stop may leave has the current root, with these tiles, and stands for this
-abbrev pub EachStores : {D : Type 0} (g : Ghosts D) → Pager D g → List TilePlace → Stored → Type 0
+abbrev pub EachStores : {D : Type 0} (g : Ghosts D) → Pager D g → List TileLocation → Stored → Type 0
 EachStores g pager tiles s = (image : Image) → g.may (disk_of pager) image → StoresAt (g.size (disk_of pager)) (root_of pager) tiles s image
 
 -- a call that only read, and may have been refused

@@ -9,7 +9,8 @@ use Rattle.lattice.specs.Mosaic.{Mosaic, IsMosaic}
 use Rattle.lattice.specs.declared.refusal.Refusal.{Refusal}
 use Rattle.lattice.specs.declared.refusal.Refusal.TheVariants.{Device, Failed}
 use Rattle.catalogue.specs.Tiles.{corners_of as corners_in}
-use Rattle.cow_tree.specs.Layout.{TilePlace, tile_in}
+use Rattle.charts.specs.TileLocations.{TileLocation}
+use Rattle.cow_tree.specs.Layout.{tile_in}
 use Rattle.cow_tree.specs.Stored.{Stored, AreWhole, mosaic_of_tiles}
 use Rattle.cow_tree.specs.Trees.{disk_of, root_of, has_failed, has_begun, corners_of, staged_in, IsAt}
 use Rattle.cow_tree.specs.declared.tree.Tree.{Tree}
@@ -86,6 +87,6 @@ module _ {D : Type 0} (g : Ghosts D) where
   }
 
 -- the mosaic has the corners of the staged tiles
-pub corners_in_mosaic : (n : ℕ) (image : Image) (tiles : List TilePlace) → corners_in (mosaic_of_tiles n (map (tile_in image) tiles)) ≡ map (λ (t : TilePlace). t.corner) tiles
+pub corners_in_mosaic : (n : ℕ) (image : Image) (tiles : List TileLocation) → corners_in (mosaic_of_tiles n (map (tile_in image) tiles)) ≡ map (λ (t : TileLocation). t.corner) tiles
 corners_in_mosaic n image [] = refl
 corners_in_mosaic n image (t ∷ rest) = ap (λ (cs : List Corner). t.corner ∷ cs) (corners_in_mosaic n image rest)

@@ -8,11 +8,12 @@ use Rattle.lattice.specs.declared.refusal.Refusal.TheVariants as refusal
 use Rattle.page_codec.specs.Roots.{RootValue}
 use Rattle.roots.specs.Opening.{OpensAs}
 use Rattle.roots.specs.declared.roots.NotOpened.{NotOpened}
-use Rattle.cow_tree.specs.declared.plane.Plane.{Plane}
+use Rattle.charts.specs.declared.plane.Plane.{Plane}
 use Rattle.cow_tree.specs.Stored.{StoredTile, Stored}
-use Rattle.cow_tree.specs.Layout.{TilePlace, tile_in, IsLaidOut}
-use Rattle.cow_tree.specs.Charts.{corners_of_places, fresh_corners, HasFreshHeights}
-use Rattle.cow_tree.specs.Planes.{HasPlane}
+use Rattle.charts.specs.TileLocations.{TileLocation}
+use Rattle.cow_tree.specs.Layout.{tile_in, IsLaidOut}
+use Rattle.charts.specs.Charts.{corners_of_locations, fresh_corners, HasFreshHeights}
+use Rattle.charts.specs.Planes.{HasPlane}
 use Rattle.cow_tree.specs.Staged.{AreStaged}
 use Rattle.cow_tree.specs.Pagers.{EachStores, IsReady, disk_of as disk_under, has_begun as have_begun, has_failed as have_failed}
 use Rattle.cow_tree.specs.declared.tree.Tree.{Tree}
@@ -35,7 +36,7 @@ module _ {D : Type 0} {g : Ghosts D} where
 
   -- the corners of the staged tiles, in order. They are held in memory, and so known whatever a disk does.
   abbrev pub corners_of : Tree D g → List Corner
-  corners_of tree = corners_of_places tree.chart.staged
+  corners_of tree = corners_of_locations tree.chart.staged
 
   -- the corner has such a plane
   abbrev pub Holds : Tree D g → Corner → Plane → Type 0
@@ -58,7 +59,7 @@ module _ {D : Type 0} {g : Ghosts D} where
 abbrev pub staged_in : {D : Type 0} (g : Ghosts D) → Tree D g → List StoredTile
 staged_in g tree = map (tile_in (g.seen (disk_of tree))) tree.chart.staged
 
--- The tree stands for this: it hasn't failed, each image that a stop may leave stands for it in the places of the chart,
+-- The tree stands for this: it hasn't failed, each image that a stop may leave stands for it in the locations of the chart,
 -- and what the chart has staged is on the disk but for the records that a commit writes.
 pub record IsAt {D : Type 0} (g : Ghosts D) (tree : Tree D g) (s : Stored) : Type 0 where
   pub ready : IsReady g tree.pager
@@ -69,7 +70,7 @@ pub record IsAt {D : Type 0} (g : Ghosts D) (tree : Tree D g) (s : Stored) : Typ
 -- of its current root lie nowhere
 abbrev pub IsRefused : ℕ → Image → Refusal → Type 0
 IsRefused sectors image why = OpensAs sectors image (Err why)
-    ⊎ ((why ≡ refusal.Damaged) × ((root : RootValue) × (OpensAs sectors image (Ok root) × ((tiles : List TilePlace) → ¬ IsLaidOut sectors image root tiles))))
+    ⊎ ((why ≡ refusal.Damaged) × ((root : RootValue) × (OpensAs sectors image (Ok root) × ((tiles : List TileLocation) → ¬ IsLaidOut sectors image root tiles))))
 
 -- .. or for the disk or for memory
 abbrev pub MayRefuse : ℕ → Image → Refusal → Type 0

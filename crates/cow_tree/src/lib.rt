@@ -7,21 +7,16 @@
 //! `specs/Layout.antt` when an image stands for it.
 #![tactic(auto)]
 
-mod chart;
 mod laws;
 mod opening;
 mod pager;
-mod pages;
-mod places;
-mod plane;
 mod samples;
-mod slot;
 #[cfg(test)]
 mod tests;
 mod tree;
 mod writing;
 
+pub use charts::Plane;
 pub use laws::{images_stand_for_one, no_tiles_stand, planes_read_back};
-pub use plane::Plane;
 pub use roots::NotOpened;
 pub use tree::Tree;

@@ -4,15 +4,15 @@ ghost use Rattle.lattice.specs.declared.refusal.Refusal.TheVariants.{Device, NoM
 ghost use Rattle.page_codec.specs.Roots.{RootValue};
 ghost use Rattle.page_codec.specs.Entries.{EntryValue};
 ghost use Rattle.page_codec.specs.Sizes.{pages_of, sectors_of};
-ghost use Rattle.cow_tree.specs.Places.{PlanePlace};
-ghost use Rattle.cow_tree.specs.Layout.{TilePlace, HasRecord, HasRecords, KeepsPageRule, IsLaidOut, entry_of, entry_of_kept, HaveKeptRecords};
-ghost use Rattle.cow_tree.specs.Charts.{IsWholeTile, IsChart, IsClean, tile_at, AreWholeKept};
+ghost use Rattle.charts.specs.Locations.{PlaneLocation};
+ghost use Rattle.charts.specs.TileLocations.{TileLocation, KeepsPageRule, entry_of, entry_of_kept};
+ghost use Rattle.cow_tree.specs.Layout.{HasRecord, HasRecords, IsLaidOut, HaveKeptRecords};
+ghost use Rattle.charts.specs.Charts.{IsWholeTile, IsChart, IsClean, tile_at, AreWholeKept};
 ghost use Rattle.cow_tree.specs.Found.{NonePlane, NoneKept, NoTileAt};
 ghost use Rattle.cow_tree.specs.Pagers.{disk_of, root_of, has_failed, OnlyReads, IsRefusedFor};
 
-use crate::chart::Chart;
 use crate::pager::Pager;
-use crate::places::{KeptPlaces, PagedPlane, TilePlanes};
+use charts::{Chart, KeptLocations, PagedPlane, TilePlanes};
 use disk::Disk;
 use lattice::{Refusal, Side};
 use page_codec::{Entry, Kept, PAGE_BYTES, Record, Root, pages_in_plane, sectors_needed};
@@ -55,13 +55,13 @@ fn read_kept<D: Disk>(
     pager: &mut Pager<D>,
     side: Side,
     kept: Option<Kept>,
-) -> Result<Option<KeptPlaces>, Refusal>
+) -> Result<Option<KeptLocations>, Refusal>
     requires not_failed { has_failed pager.old ≡ false }
     requires side { pages_of side ≤ 1024 }
     ensures reads { OnlyReads D.Disk pager.old pager.new result }
-    ensures records { D.honest (disk_of pager.new) → IfOk result (λ places. IfSome places (HaveKeptRecords side (D.seen (disk_of pager.old)))) }
-    ensures entry { IfOk result (λ places. entry_of_kept places ≡ kept) }
-    ensures whole { IfOk result (λ places. IfSome places (AreWholeKept side)) }
+    ensures records { D.honest (disk_of pager.new) → IfOk result (λ locations. IfSome locations (HaveKeptRecords side (D.seen (disk_of pager.old)))) }
+    ensures entry { IfOk result (λ locations. entry_of_kept locations ≡ kept) }
+    ensures whole { IfOk result (λ locations. IfSome locations (AreWholeKept side)) }
     ensures refused { D.honest (disk_of pager.new) → IfErr result (IsRefusedFor (NoneKept side (D.size (disk_of pager.old)) (D.seen (disk_of pager.old)) kept)) }
 {
     let Some(kept) = kept else {
@@ -69,7 +69,7 @@ fn read_kept<D: Disk>(
     };
     let levels = read_plane(alloc, pager, side, kept.levels)?;
     let labels = read_plane(alloc, pager, side, kept.labels)?;
-    Ok(Some(KeptPlaces { levels, labels }))
+    Ok(Some(KeptLocations { levels, labels }))
 }
 
 /// Where the planes of a tile lie, by their records.
@@ -110,7 +110,7 @@ pub(crate) fn read_chart<D: Disk>(
     ensures records { D.honest (disk_of pager.new) → IfOk result (λ chart. All (HasRecords root.now.side (D.seen (disk_of pager.old))) chart.committed) }
     ensures refused { D.honest (disk_of pager.new)
         → IfErr result (λ why. (D.size (disk_of pager.old) < sectors_of root.now.side root.now.capacity)
-        ⊎ IsRefusedFor ((tiles : List TilePlace) → ¬ IsLaidOut (D.size (disk_of pager.old)) (D.seen (disk_of pager.old)) root.now tiles) why) }
+        ⊎ IsRefusedFor ((tiles : List TileLocation) → ¬ IsLaidOut (D.size (disk_of pager.old)) (D.seen (disk_of pager.old)) root.now tiles) why) }
 {
     let side = root.side();
     let capacity = root.capacity();

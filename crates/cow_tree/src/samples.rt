@@ -4,9 +4,9 @@ ghost use Rattle.lattice.specs.Mosaic.{samples_of};
 ghost use Rattle.cow_tree.specs.Reading.{mosaic_of, IsReadable, HasOnlyRead, Reads, read_nothing, read_again, corners_in_mosaic};
 ghost use Rattle.cow_tree.specs.Trees.{disk_of, root_of, has_failed, corners_of};
 
-use crate::plane::Plane;
 use crate::tree::Tree;
 use catalogue::Samples;
+use charts::Plane;
 use disk::Disk;
 use lattice::{Corner, Refusal, Side};
 use page_codec::PAGE_BYTES;

@@ -8,17 +8,17 @@ ghost use Rattle.std.specs.List.{AllAdjacentBelow};
 ghost use Rattle.lattice.specs.declared.refusal.Refusal.TheVariants.{Device, NoMemory, Failed};
 ghost use Rattle.page_codec.specs.Roots.{RootValue};
 ghost use Rattle.page_codec.specs.Sizes.{pages_of, sectors_of};
-ghost use Rattle.cow_tree.specs.declared.plane.Plane.TheVariants.{Heights};
-ghost use Rattle.cow_tree.specs.Layout.{Stands, entry_of};
+ghost use Rattle.charts.specs.declared.plane.Plane.TheVariants.{Heights};
+ghost use Rattle.charts.specs.TileLocations.{entry_of};
+ghost use Rattle.cow_tree.specs.Layout.{Stands};
 ghost use Rattle.cow_tree.specs.Pagers.{disk_of as disk_under, root_of as root_under, has_failed as have_failed};
 ghost use Rattle.cow_tree.specs.Planes.{HasPage};
 ghost use Rattle.cow_tree.specs.Stored.{Stored, no_tiles, next_commit, pages_of_bytes, stale_tile, with_corner, with_page, with_plane, with_tile, without_tile};
 
-use crate::chart::Chart;
 use crate::opening::read_chart;
 use crate::pager::Pager;
-use crate::plane::Plane;
 use crate::writing::{write_plane, write_records};
+use charts::{Chart, Plane};
 use disk::Disk;
 use lattice::{Corner, Refusal, Side};
 use page_codec::Root;
@@ -226,8 +226,8 @@ impl<D: Disk> Tree<D> {
         }
         self.chart.rules();
         match self.chart.plane(c, plane) {
-            Some(place) => {
-                let number = place.pages()[i as usize];
+            Some(location) => {
+                let number = location.pages()[i as usize];
                 self.pager.read(number, into)
             }
             None => unreachable!(),

@@ -5,17 +5,17 @@ ghost use Rattle.lattice.specs.declared.refusal.Refusal.TheVariants.{Device};
 ghost use Rattle.page_codec.specs.Numbers.{padded};
 ghost use Rattle.page_codec.specs.Records.{record_bytes};
 ghost use Rattle.page_codec.specs.Sizes.{pages_of};
-ghost use Rattle.cow_tree.specs.Charts.{IsChart, is_changed, fresh_corners};
+ghost use Rattle.charts.specs.Charts.{IsChart, is_changed, fresh_corners};
 ghost use Rattle.cow_tree.specs.Staged.{changed_tiles, record_pages};
-ghost use Rattle.cow_tree.specs.Layout.{TilePlace, StoresAt, reached};
-ghost use Rattle.cow_tree.specs.Places.{times};
+ghost use Rattle.charts.specs.TileLocations.{TileLocation, reached};
+ghost use Rattle.cow_tree.specs.Layout.{StoresAt};
+ghost use Rattle.charts.specs.Locations.{times};
 ghost use Rattle.cow_tree.specs.Stored.{Stored, pages_of_bytes};
 ghost use Rattle.cow_tree.specs.Pagers.{disk_of, root_of, has_begun, has_failed, IsReady, EachStores};
 
-use crate::chart::Chart;
 use crate::pager::Pager;
-use crate::places::PagedPlane;
 use arrayvec::ArrayVec;
+use charts::{Chart, PagedPlane};
 use disk::Disk;
 use lattice::Refusal;
 use page_codec::{PAGE_BYTES, RECORD_PAGES, Record};
@@ -80,7 +80,7 @@ pub(crate) fn write_plane<D: Disk>(
 
     // Where no stored tile reaches the pages, a stop at any moment leaves what is stored.
     ensures any_moment { D.honest (disk_of pager.new) → IsReady D.Disk pager.old
-        → (tiles : List TilePlace) (s : Stored) → EachStores D.Disk pager.old tiles s
+        → (tiles : List TileLocation) (s : Stored) → EachStores D.Disk pager.old tiles s
         → All (λ p. ¬ Contains (reached tiles) p) pages.now
         → LeavesOnly D.Disk (disk_of pager.old) (disk_of pager.new) (StoresAt (D.size (disk_of pager.old)) (root_of pager.old) tiles s) }
 {

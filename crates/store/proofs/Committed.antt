@@ -1,6 +1,6 @@
 -- A command by the trees that it goes through: what commits nothing, and the commit of what was staged.
 use Rattle.std.proofs.Common.{◌≡◌, ◌≢◌, ◌⊎◌, inl, inr, ⊎_elim, ℕ, ◌+◌, ◌≤◌, ◌<◌, ◌^◌, Bool, true, false, refl, sym, ap, ap₂, ◌∙◌, subst, arith}
-use Rattle.std.specs.Prelude.{Option, Some, Result, Ok, Err, IfErr, IsErrOf}
+use Rattle.std.specs.Prelude.{Option, Result, Ok, Err, IfErr, IsErrOf}
 use Rattle.disk.specs.Disk.{Image, HasRisen}
 use Rattle.disk.specs.Stops.{LeavesOnly, weaker, in_turn}
 use Rattle.disk.specs.declared.disk.Disk.{Ghosts}
@@ -15,7 +15,7 @@ use Rattle.cow_tree.specs.Stored.{Stored, next_commit}
 use Rattle.cow_tree.specs.Trees.{disk_of, root_of, has_failed, staged_in, IsAt as IsTreeAt}
 use Rattle.cow_tree.specs.declared.tree.Tree.{Tree}
 use Rattle.store.specs.Applied.{HasContents, MayHaveMade, IsApplied}
-use Rattle.store.specs.Staging.{CommitsNothing, WillHold, IsStaged}
+use Rattle.store.specs.Staging.{CommitsNothing, IsStaged}
 use Rattle.store.specs.States.{StandsForState, IsStateOf}
 use Rattle.store.specs.TreeStates.{IsInState}
 use Rattle.store.proofs.InMemory.{is_working}

@@ -10,7 +10,7 @@ use Rattle.lattice.specs.Mosaic.{Tile, Mosaic, IsSample, IsTile, IsMosaic}
 use Rattle.edits.specs.declared.change.Change.{Change}
 use Rattle.edits.specs.declared.change.Change.TheVariants.{Set}
 use Rattle.edits.specs.Changes.{CanBeSet, all_changed}
-use Rattle.cow_tree.specs.declared.plane.Plane.TheVariants.{Heights}
+use Rattle.charts.specs.declared.plane.Plane.TheVariants.{Heights}
 use Rattle.cow_tree.specs.Planes.{HasPage}
 use Rattle.cow_tree.specs.Stored.{PlanePages, StoredTile, with_page}
 use Rattle.store.specs.Editing.{HoldsMosaic, SetsInPage}

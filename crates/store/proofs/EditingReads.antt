@@ -10,10 +10,11 @@ use Rattle.lattice.specs.declared.refusal.Refusal.TheVariants.{BadLine, BadName,
 use Rattle.page_codec.specs.Roots.{RootValue}
 use Rattle.catalogue.specs.Readers.{reads_of}
 use Rattle.calls.specs.State.{State}
-use Rattle.cow_tree.specs.Charts.{ChartValue, HasFreshHeights, corners_of_places}
-use Rattle.cow_tree.specs.Layout.{TilePlace, Stands}
-use Rattle.cow_tree.specs.Planes.{HasPlane}
-use Rattle.cow_tree.specs.declared.plane.Plane.TheVariants.{Heights}
+use Rattle.charts.specs.Charts.{ChartValue, HasFreshHeights, corners_of_locations}
+use Rattle.charts.specs.TileLocations.{TileLocation}
+use Rattle.cow_tree.specs.Layout.{Stands}
+use Rattle.charts.specs.Planes.{HasPlane}
+use Rattle.charts.specs.declared.plane.Plane.TheVariants.{Heights}
 use Rattle.cow_tree.specs.Reading.{mosaic_of, IsReadable, HasOnlyRead, Reads}
 use Rattle.cow_tree.specs.Stored.{StoredTile, AreWhole, mosaic_of_tiles}
 use Rattle.cow_tree.specs.Trees.{disk_of, root_of, has_failed, staged_in, HasStaged}
@@ -106,10 +107,10 @@ module _ {D : Type 0} (g : Ghosts D) (old new : Tree D g) (keeps : HasOnlyRead g
 
 -- the tile of a present corner has heights
 
-held_later : (t : TilePlace) (rest : List TilePlace) (u : TilePlace) → Contains rest u → Contains (t ∷ rest) u
+held_later : (t : TileLocation) (rest : List TileLocation) (u : TileLocation) → Contains rest u → Contains (t ∷ rest) u
 held_later t rest u (k, below, here) = (suc k, omega (arith, below), here)
 
-pub heights_held : (c : Corner) (tiles : List TilePlace) → Contains (corners_of_places tiles) c → HasPlane tiles c Heights
+pub heights_held : (c : Corner) (tiles : List TileLocation) → Contains (corners_of_locations tiles) c → HasPlane tiles c Heights
 heights_held c [] (k, below, here) = absurd (omega (arith, below))
 heights_held c (t ∷ rest) (zero, below, here) = (t, ((0, omega arith, refl), (here, (t.heights, refl))))
 heights_held c (t ∷ rest) (suc k, below, here) =

@@ -1,6 +1,6 @@
 -- An import and a removal, once they are staged.
 use Rattle.std.proofs.Common.{◌≡◌, ℕ, ◌+◌, ◌*◌, ◌<◌, false, List, length, Contains, All, sym, ap, ◌∙◌, subst}
-use Rattle.std.specs.Prelude.{IsTrue, Ok}
+use Rattle.std.specs.Prelude.{IsTrue}
 use Rattle.disk.specs.declared.disk.Disk.{Ghosts}
 use Rattle.lattice.specs.Corners.{Corner, is_corner}
 use Rattle.lattice.specs.Mosaic.{Mosaic}

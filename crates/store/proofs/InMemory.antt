@@ -18,8 +18,9 @@ use Rattle.edits.specs.Effect.{effect}
 use Rattle.calls.specs.Outcomes.{Refuses, IsWorn, last_number}
 use Rattle.calls.specs.State.{State, made_by}
 use Rattle.edits.specs.EffectLaws.{CommandsMakeMosaics}
-use Rattle.cow_tree.specs.Layout.{TilePlace, tile_in}
-use Rattle.cow_tree.specs.Charts.{corners_of_places}
+use Rattle.charts.specs.TileLocations.{TileLocation}
+use Rattle.cow_tree.specs.Layout.{tile_in}
+use Rattle.charts.specs.Charts.{corners_of_locations}
 use Rattle.cow_tree.specs.Stored.{Stored, next_commit, corners_of_stored, pages_of_bytes, stale_tile, with_tile, without_tile}
 use Rattle.cow_tree.specs.Trees.{disk_of, root_of, has_failed, staged_in, corners_of as corners_under, IsAt as IsTreeAt}
 use Rattle.cow_tree.specs.declared.tree.Tree.{Tree}
@@ -34,7 +35,7 @@ use Rattle.store.proofs.WholeTiles.{no_tile, removes, bad_length, tile_there, fu
 pub entries_counted : (entries : List EntryValue) → length (map (λ (e : EntryValue). e.corner) entries) ≡ length entries
 entries_counted entries = length-map entries (λ (e : EntryValue). e.corner)
 
-corners_kept : (image : Image) (tiles : List TilePlace) → corners_of_places tiles ≡ corners_of_stored (map (tile_in image) tiles)
+corners_kept : (image : Image) (tiles : List TileLocation) → corners_of_locations tiles ≡ corners_of_stored (map (tile_in image) tiles)
 corners_kept image [] = refl
 corners_kept image (t ∷ rest) = ap (λ (cs : List Corner). t.corner ∷ cs) (corners_kept image rest)
 

@@ -9,7 +9,8 @@ use Rattle.roots.specs.Opening.{OpensAs}
 use Rattle.roots.proofs.OneAnswer.{only_root}
 use Rattle.calls.specs.State.{Contents}
 use Rattle.cow_tree.specs.Stored.{Stored}
-use Rattle.cow_tree.specs.Layout.{TilePlace, IsLaidOut, Stands}
+use Rattle.charts.specs.TileLocations.{TileLocation}
+use Rattle.cow_tree.specs.Layout.{IsLaidOut, Stands}
 use Rattle.cow_tree.specs.Trees.{MayRefuse}
 use Rattle.cow_tree.proofs.OneStored.{one_stored}
 use Rattle.store.specs.Standing.{Holds, StandsFor}
@@ -23,7 +24,7 @@ module _ (sectors : ℕ) (image : Image) where
   roots_open s why stands opens = let same = only_root sectors image stands.0 (Err why) stands.2.laid_out.store opens in cc
 
   -- and the tiles of the root that they answer lie there
-  pub tiles_lie : (s : Stored) (root : RootValue) → Stands sectors image s → OpensAs sectors image (Ok root) → (tiles : List TilePlace) × IsLaidOut sectors image root tiles
+  pub tiles_lie : (s : Stored) (root : RootValue) → Stands sectors image s → OpensAs sectors image (Ok root) → (tiles : List TileLocation) × IsLaidOut sectors image root tiles
   tiles_lie s root stands opens =
       let same : root ≡ stands.0 = ok_same root stands.0 (only_root sectors image stands.0 (Ok root) stands.2.laid_out.store opens) in
       (stands.1, subst (λ (r : RootValue). IsLaidOut sectors image r stands.1) (sym same) stands.2.laid_out)

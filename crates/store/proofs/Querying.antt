@@ -12,7 +12,7 @@ use Rattle.calls.specs.Outcomes.{Stays, StaysFailed, Fails}
 use Rattle.calls.specs.State.{State, failing}
 use Rattle.cow_tree.specs.Reading.{mosaic_of, IsReadable, HasOnlyRead}
 use Rattle.cow_tree.specs.Stored.{StoredTile, Stored, AreWhole, mosaic_of_tiles}
-use Rattle.cow_tree.specs.Charts.{ChartValue, HasFreshHeights, fresh_corners}
+use Rattle.charts.specs.Charts.{ChartValue, HasFreshHeights, fresh_corners}
 use Rattle.cow_tree.specs.Trees.{disk_of, root_of, has_failed, staged_in, IsAt as IsTreeAt}
 use Rattle.cow_tree.specs.declared.tree.Tree.{Tree}
 use Rattle.store.specs.Queried.{IsQueried}

@@ -15,14 +15,15 @@ use Rattle.catalogue.specs.Tiles.{corners_of}
 use Rattle.lattice.proofs.CornerOrder.{before_not_same, same_from}
 use Rattle.catalogue.proofs.Presence.{present_iff, some-samples}
 use Rattle.lattice.proofs.Rising.{Rising}
-use Rattle.cow_tree.specs.Layout.{TilePlace, tile_in}
+use Rattle.charts.specs.TileLocations.{TileLocation}
+use Rattle.cow_tree.specs.Layout.{tile_in}
 use Rattle.cow_tree.specs.Planes.{HasPage}
-use Rattle.cow_tree.specs.declared.plane.Plane.TheVariants.{Heights}
+use Rattle.charts.specs.declared.plane.Plane.TheVariants.{Heights}
 use Rattle.cow_tree.specs.Stored.{StoredTile, PlanePages, plane_bytes}
 use Rattle.cow_tree.specs.Trees.{root_of, has_failed, corners_of as corners_under, staged_in}
 use Rattle.cow_tree.specs.declared.tree.Tree.{Tree}
 use Rattle.cow_tree.proofs.Adding.{contains-map}
-use Rattle.cow_tree.proofs.Due.{placed_tile}
+use Rattle.cow_tree.proofs.Due.{located_tile}
 use Rattle.calls.specs.State.{State}
 use Rattle.store.specs.Queried.{IsTileOf}
 use Rattle.store.specs.TreeStates.{IsInState}
@@ -117,8 +118,8 @@ module _ {D : Type 0} (g : Ghosts D) (tree : Tree D g) (works : has_failed tree 
       no_samples s.contents.mosaic c (λ has. none (subst (λ (cs : List Corner). Contains cs c) (sym (corners_are g tree works s at)) has))
 
   module _ (present : Contains (corners_under tree) c) where
-    abbrev pub placed : (t : TilePlace) × (Contains tree.chart.staged t × (t.corner ≡ c))
-    placed = placed_tile c tree.chart.staged present
+    abbrev pub placed : (t : TileLocation) × (Contains tree.chart.staged t × (t.corner ≡ c))
+    placed = located_tile c tree.chart.staged present
 
     abbrev pub tile : StoredTile
     tile = tile_in (g.seen tree.pager.roots.disk) placed.0

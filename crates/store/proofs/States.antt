@@ -7,12 +7,13 @@ use Rattle.page_codec.specs.Roots.{RootValue}
 use Rattle.edits.specs.declared.command.Command.{Command}
 use Rattle.calls.specs.State.{Contents, State, in_doubt, failing, working}
 use Rattle.cow_tree.specs.Stored.{StoredTile, Stored}
-use Rattle.cow_tree.specs.Layout.{TilePlace, StoresAt, Stands}
+use Rattle.charts.specs.TileLocations.{TileLocation}
+use Rattle.cow_tree.specs.Layout.{StoresAt, Stands}
 use Rattle.store.specs.Standing.{Holds, StandsFor}
 use Rattle.store.specs.States.{StandsForState, EachStandsFor, StandsForMade, IsStateOf}
 
 -- the known root's numbers are those of what is stored
-module _ (sectors : ℕ) (root : RootValue) (tiles : List TilePlace) (stored : Stored) (image : Image) (stores : StoresAt sectors root tiles stored image) where
+module _ (sectors : ℕ) (root : RootValue) (tiles : List TileLocation) (stored : Stored) (image : Image) (stores : StoresAt sectors root tiles stored image) where
   pub root_side : stored.side ≡ root.side
   root_side = ap (λ (s : Stored). s.side) stores.stands
 
@@ -33,7 +34,7 @@ module _ (sectors : ℕ) (root : RootValue) (tiles : List TilePlace) (stored : S
 
 module _ {D : Type 0} (g : Ghosts D) (disk : D) (root : RootValue) (failed : Bool) (IsTreeAt : Stored → Type 0) (staged : List StoredTile) where
   -- a tree that hasn't failed and has nothing staged, at what holds the contents
-  pub at_contents : (tiles : List TilePlace) (stored : Stored) (c : Contents) → failed ≡ false → ((image : Image) → g.may disk image → StoresAt (g.size disk) root tiles stored image) → g.may disk (g.seen disk)
+  pub at_contents : (tiles : List TileLocation) (stored : Stored) (c : Contents) → failed ≡ false → ((image : Image) → g.may disk image → StoresAt (g.size disk) root tiles stored image) → g.may disk (g.seen disk)
       → IsTreeAt stored → staged ≡ stored.tiles → Holds root.side root.capacity stored c → IsStateOf g disk root failed IsTreeAt staged (working c)
   at_contents tiles stored c works each seen tree clean holds = record {
     images = λ image may. inl (stored, (root, tiles, each image may), holds);

@@ -1,20 +1,16 @@
 -- What an edit makes of a tree before its commit (this product's own profile).
-use Rattle.std.specs.Prelude.{◌≡◌, ◌≤◌, ◌<◌, ◌+◌, ◌*◌, ℕ, ℤ, false, true, List, length, Result, OnOk, IsErrOf, if◌then◌else◌}
+use Rattle.std.specs.Prelude.{◌≡◌, ◌≤◌, ◌<◌, ◌+◌, ◌*◌, ℕ, ℤ, List, length, Result, if◌then◌else◌}
 use Rattle.std.specs.List.{AllZip}
-use Rattle.disk.specs.Disk.{HasRisen}
-use Rattle.disk.specs.Stops.{LeavesOnly}
 use Rattle.disk.specs.declared.disk.Disk.{Ghosts}
 use Rattle.lattice.specs.Corners.{Corner}
 use Rattle.lattice.specs.Mosaic.{Mosaic, IsSample, IsMosaic}
 use Rattle.lattice.specs.declared.refusal.Refusal.{Refusal}
-use Rattle.lattice.specs.declared.refusal.Refusal.TheVariants.{Device}
 use Rattle.edits.specs.declared.change.Change.{Change}
 use Rattle.edits.specs.declared.change.Change.TheVariants.{Set}
 use Rattle.edits.specs.declared.command.Command.{Command}
 use Rattle.edits.specs.declared.command.Command.TheVariants.{Burn, Wall}
-use Rattle.cow_tree.specs.Layout.{Stands}
-use Rattle.cow_tree.specs.Stored.{StoredTile, Stored}
-use Rattle.cow_tree.specs.Trees.{disk_of, root_of, has_failed, has_begun, corners_of, HasStaged, IsAt}
+use Rattle.cow_tree.specs.Stored.{StoredTile}
+use Rattle.cow_tree.specs.Trees.{disk_of, has_begun, corners_of, HasStaged}
 use Rattle.cow_tree.specs.declared.tree.Tree.{Tree}
 use Rattle.store.specs.Staging.{CommitsNothing}
 use Rattle.store.specs.Standing.{HoldsTile, KeepNone}

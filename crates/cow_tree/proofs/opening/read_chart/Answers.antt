@@ -6,9 +6,10 @@ use Rattle.lattice.specs.Corners.{Corner}
 use Rattle.lattice.specs.declared.refusal.Refusal.{Refusal}
 use Rattle.lattice.specs.declared.refusal.Refusal.TheVariants.{Device}
 use Rattle.page_codec.specs.Entries.{EntryValue}
-use Rattle.cow_tree.specs.Charts.{ChartValue, tile_at}
+use Rattle.charts.specs.Charts.{ChartValue, tile_at}
 use Rattle.cow_tree.specs.Found.{NoTileAt}
-use Rattle.cow_tree.specs.Layout.{TilePlace, entry_of, HasRecords, KeepsPageRule}
+use Rattle.charts.specs.TileLocations.{TileLocation, entry_of, KeepsPageRule}
+use Rattle.cow_tree.specs.Layout.{HasRecords}
 use Rattle.cow_tree.specs.Pagers.{has_failed}
 use Rattle.cow_tree.proofs.ReadTiles.{before_next, one_more, no_next_tile, no_rule}
 use Rattle.cow_tree.proofs.ReadOnly.{refused_for, handed_on, read_on, read_as, never_refused, works_ok}
@@ -69,7 +70,7 @@ returns-in_err-chart-2-clause-refused g c honest =
     let is_e : e ≡ get_or root.entries index e = subst (λ (l : List EntryValue). e ≡ get_or l index e) c.entries-entry-items.ensures.value c.entry-item.is in
     let corner : e.corner ≡ c.entry.inside.corner = sym (ap (λ (x : EntryValue). x.corner) c.entry.view_is) in
     let planes = c.in_ok-planes.planes in
-    let tile : TilePlace = tile_at c.entry.inside.corner planes in
+    let tile : TileLocation = tile_at c.entry.inside.corner planes in
     let entry : entry_of tile ≡ e = subst (λ (p : Corner). entry_of (tile_at p planes) ≡ e) corner c.in_ok-planes.ensures.entry in
     let entries : map entry_of (c.loop-entry.chart.committed ++ tile ∷ []) ≡ take (index + 1) root.entries = one_more root.entries c.loop-entry.chart.committed index e tile lt here.entries is_e entry in
     let has_records : d.honest c.read_planes.new.pager.roots.disk → HasRecords root.side seen tile = λ h.
@@ -102,7 +103,7 @@ loop-entry-preserved g c =
     let is_e : e ≡ get_or root.entries index e = subst (λ (l : List EntryValue). e ≡ get_or l index e) c.entries-entry-items.ensures.value c.entry-item.is in
     let corner : e.corner ≡ c.entry.inside.corner = sym (ap (λ (x : EntryValue). x.corner) c.entry.view_is) in
     let planes = c.in_ok-planes.planes in
-    let tile : TilePlace = tile_at c.entry.inside.corner planes in
+    let tile : TileLocation = tile_at c.entry.inside.corner planes in
     let entry : entry_of tile ≡ e = subst (λ (p : Corner). entry_of (tile_at p planes) ≡ e) corner c.in_ok-planes.ensures.entry in
     let entries : map entry_of (c.loop-entry.chart.committed ++ tile ∷ []) ≡ take (index + 1) root.entries = one_more root.entries c.loop-entry.chart.committed index e tile lt here.entries is_e entry in
     let has_records : d.honest c.read_planes.new.pager.roots.disk → HasRecords root.side seen tile = λ h.

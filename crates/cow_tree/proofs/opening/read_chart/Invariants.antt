@@ -1,6 +1,7 @@
 use Rattle.std.proofs.Common.{◌≡◌, All, map, take, false}
-use Rattle.cow_tree.specs.Charts.{IsChart, IsClean}
-use Rattle.cow_tree.specs.Layout.{HasRecords, entry_of}
+use Rattle.charts.specs.Charts.{IsChart, IsClean}
+use Rattle.charts.specs.TileLocations.{entry_of}
+use Rattle.cow_tree.specs.Layout.{HasRecords}
 use Rattle.cow_tree.specs.Pagers.{disk_of, has_failed}
 use Rattle.cow_tree.proofs.ReadOnly.{HasRead}
 use Rattle.cow_tree.proofs.opening.read_chart.Given as goal

@@ -1,13 +1,13 @@
 use Rattle.std.proofs.Common.{length, refl, arith}
 use Rattle.cow_tree.specs.Trees.{staged_in}
-use Rattle.cow_tree.proofs.Due.{placed_tile}
+use Rattle.cow_tree.proofs.Due.{located_tile}
 use Rattle.cow_tree.proofs.SampleReads.{part_read}
 use Rattle.cow_tree.proofs.TreeReads.{was_readable}
 use Rattle.cow_tree.proofs.samples.read_part.Goals as goal
 
 pub read_page-requires-clause-held : goal.read_page-requires-clause-held
 read_page-requires-clause-held g c =
-    let found = placed_tile c.args.c c.args.tree.now.chart.staged c.requires.present in
+    let found = located_tile c.args.c c.args.tree.now.chart.staged c.requires.present in
     (found.0, (found.1.0, (found.1.1, (found.0.heights, refl))))
 
 pub returns-clause-samples : goal.returns-clause-samples

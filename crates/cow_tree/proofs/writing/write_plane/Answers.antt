@@ -3,7 +3,7 @@ use Rattle.std.proofs.lemmas.List.{drop-drop}
 use Rattle.std.proofs.lemmas.List.Elements.{Contains-get_or}
 use Rattle.page_codec.specs.Numbers.{padded}
 use Rattle.cow_tree.specs.Pagers.{disk_of, root_of, has_begun}
-use Rattle.cow_tree.proofs.Occurrences.{once_apart}
+use Rattle.charts.proofs.Occurrences.{once_apart}
 use Rattle.cow_tree.proofs.WrittenPages.{one_page_more, one_write_more, all_written}
 use Rattle.cow_tree.proofs.writing.write_plane.Goals as goal
 

@@ -1,11 +1,11 @@
 use Rattle.std.proofs.Common.{◌≡◌, ℕ, ◌<◌, ◌≤◌, if◌then◌else◌, Contains, length, get_or, below_more, sym, ap, ◌∙◌, subst, arith}
 use Rattle.page_codec.specs.Records.{record_bytes}
-use Rattle.cow_tree.specs.Charts.{fresh_corners}
-use Rattle.cow_tree.specs.Layout.{TilePlace, reached}
+use Rattle.charts.specs.Charts.{fresh_corners}
+use Rattle.charts.specs.TileLocations.{TileLocation, reached}
 use Rattle.cow_tree.specs.Pagers.{disk_of, root_of, has_begun}
-use Rattle.cow_tree.specs.Places.{PlanePlace, times}
+use Rattle.charts.specs.Locations.{PlaneLocation, times}
 use Rattle.cow_tree.specs.Staged.{changed_tiles, record_pages}
-use Rattle.cow_tree.proofs.Recording.{next_changed, records_apart, among_records, all_recorded, record_page_of, staged_at, same_at, next_placed}
+use Rattle.cow_tree.proofs.Recording.{next_changed, records_apart, among_records, all_recorded, record_page_of, staged_at, same_at, next_located}
 use Rattle.cow_tree.proofs.WrittenPages.{one_page_more, one_write_more}
 use Rattle.cow_tree.proofs.writing.write_records.Goals as goal
 
@@ -30,7 +30,7 @@ returns-in_err-write-in-Some-clause-any_moment g c honest ready s each =
 
 pub unreachable-requires : goal.unreachable-requires
 unreachable-requires g c =
-    let none = c.in-None.ensures.present.1 (next_placed c.args.chart.now c.loop-corner.corner-index c.corner-item.result c.as_slice-corner-items.result.now c.fresh-corners.result.items c.as_slice-corner-items.ensures.value c.fresh-corners.ensures.value c.loop-corner-test.true c.corner-item.is) in
+    let none = c.in-None.ensures.present.1 (next_located c.args.chart.now c.loop-corner.corner-index c.corner-item.result c.as_slice-corner-items.result.now c.fresh-corners.result.items c.as_slice-corner-items.ensures.value c.fresh-corners.ensures.value c.loop-corner-test.true c.corner-item.is) in
     cc
 
 pub loop-corner-preserved : goal.loop-corner-preserved
@@ -45,7 +45,7 @@ loop-corner-preserved g c =
     let mid = c.loop-corner.pager in
     let new = c.write.new.self in
     let p = c.record_page.result in
-    let at : p ≡ next.among.tile.heights.record_page = c.record_page.ensures ∙ sym (ap (λ (q : PlanePlace). q.record_page) next.among.heights) in
+    let at : p ≡ next.among.tile.heights.record_page = c.record_page.ensures ∙ sym (ap (λ (q : PlaneLocation). q.record_page) next.among.heights) in
     record {
       size = c.write.ensures.size ∙ here.size;
       works = c.in_ok-write-in-Some.ensures.not_failed;
@@ -56,7 +56,7 @@ loop-corner-preserved g c =
       ready = λ honest ready. c.in_ok-write-in-Some.ensures.ready honest (here.ready (c.write.ensures.honest honest) ready);
       recorded = λ honest ready.
           let mid_honest = c.write.ensures.honest honest in
-          below_more (λ (k : ℕ). (t : TilePlace) → get_or (changed_tiles chart) k t ≡ t → d.seen (disk_of new) t.heights.record_page ≡ record_bytes t.heights.pages) index
+          below_more (λ (k : ℕ). (t : TileLocation) → get_or (changed_tiles chart) k t ≡ t → d.seen (disk_of new) t.heights.record_page ≡ record_bytes t.heights.pages) index
           (λ k lt t is_t.
           let in_k : k < length (fresh_corners chart) = omega (arith, lt, next.within) in
           sym (c.in_ok-write-in-Some.ensures.others honest (here.ready mid_honest ready) t.heights.record_page (record_page_of chart c.rules.ensures (λ p. 4 ≤ p) t c.rules.ensures.staged.page_rule.low (staged_at chart k t in_k is_t)) (λ same. records_apart chart c.rules.ensures k index t next.among.tile in_k next.within (omega (arith, lt)) is_t next.among.here (same ∙ at)))
@@ -64,8 +64,8 @@ loop-corner-preserved g c =
           (λ t is_t.
           let same : t ≡ next.among.tile = same_at chart index t next.among.tile next.within is_t next.among.here in
           let wrote : d.seen (disk_of new) next.among.tile.heights.record_page ≡ record_bytes next.among.tile.heights.pages =
-          ap (d.seen (disk_of new)) (sym at) ∙ c.in_ok-write-in-Some.ensures.written honest ∙ c.record_of.ensures ∙ sym (ap (λ (q : PlanePlace). record_bytes q.pages) next.among.heights) in
-          subst (λ (u : TilePlace). d.seen (disk_of new) u.heights.record_page ≡ record_bytes u.heights.pages) (sym same) wrote);
+          ap (d.seen (disk_of new)) (sym at) ∙ c.in_ok-write-in-Some.ensures.written honest ∙ c.record_of.ensures ∙ sym (ap (λ (q : PlaneLocation). record_bytes q.pages) next.among.heights) in
+          subst (λ (u : TileLocation). d.seen (disk_of new) u.heights.record_page ≡ record_bytes u.heights.pages) (sym same) wrote);
       others = λ honest ready q low none.
           let mid_honest = c.write.ensures.honest honest in
           here.others mid_honest ready q low none

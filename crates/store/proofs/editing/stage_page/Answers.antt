@@ -7,7 +7,7 @@ use Rattle.edits.specs.declared.change.Change.{Change}
 use Rattle.edits.specs.declared.change.Change.TheVariants.{Set}
 use Rattle.edits.specs.Changes.{CanBeSet, all_changed}
 use Rattle.edits.specs.LeftStale.{tile_of}
-use Rattle.cow_tree.specs.Charts.{ChartValue, fresh_corners}
+use Rattle.charts.specs.Charts.{ChartValue, fresh_corners}
 use Rattle.cow_tree.specs.Stored.{StoredTile, with_page}
 use Rattle.cow_tree.specs.Trees.{disk_of, root_of, has_begun, corners_of, HasStaged, staged_in}
 use Rattle.store.specs.Editing.{HoldsMosaic, StagesOnly, writes_begun}

@@ -6,15 +6,15 @@ use Rattle.cow_tree.specs.Planes.{HasPage}
 use Rattle.cow_tree.specs.Reading.{read_again}
 use Rattle.cow_tree.specs.Stored.{StoredTile}
 use Rattle.cow_tree.specs.Trees.{staged_in}
-use Rattle.cow_tree.specs.declared.plane.Plane.TheVariants.{Heights}
-use Rattle.cow_tree.proofs.Due.{placed_tile}
+use Rattle.charts.specs.declared.plane.Plane.TheVariants.{Heights}
+use Rattle.cow_tree.proofs.Due.{located_tile}
 use Rattle.store.proofs.QueryingPages.{IsReadTo, read_more, all_read, page_of_tile}
 use Rattle.store.proofs.queries.read_heights.Goals as goal
 
 pub read_page-requires-clause-held : goal.read_page-requires-clause-held
 read_page-requires-clause-held g c =
     let tree = c.loop-i.tree in
-    let found = placed_tile c.args.corner tree.chart.staged (subst (λ (cs : List Corner). Contains cs c.args.corner) (sym c.loop-i.invariant.keeps.corners) c.requires.present) in
+    let found = located_tile c.args.corner tree.chart.staged (subst (λ (cs : List Corner). Contains cs c.args.corner) (sym c.loop-i.invariant.keeps.corners) c.requires.present) in
     (found.0, (found.1.0, (found.1.1, (found.0.heights, refl))))
 
 -- a choice by a result that is Ok

@@ -8,7 +8,7 @@ use Rattle.cow_tree.specs.Reading.{read_again}
 use Rattle.cow_tree.specs.Stored.{StoredTile, samples_of_plane}
 use Rattle.cow_tree.specs.Trees.{staged_in}
 use Rattle.cow_tree.proofs.Adding.{contains-map}
-use Rattle.cow_tree.proofs.Due.{placed_tile}
+use Rattle.cow_tree.proofs.Due.{located_tile}
 use Rattle.cow_tree.proofs.SampleReads.{samples_are, read_further, length_further, samples_small}
 use Rattle.cow_tree.proofs.TreeReads.{was_readable, same_mosaic}
 use Rattle.cow_tree.proofs.samples.TreeSamples.read_samples.Goals as goal
@@ -54,7 +54,7 @@ returns-clause-samples g c readable =
     let old = c.args.self.now in
     let was = was_readable g.D.Disk old c.loop-done.self c.loop-done.invariant.reads readable in
     let seen = g.D.Disk.seen old.pager.roots.disk in
-    let found = placed_tile c.args.c old.chart.staged c.requires.present in
+    let found = located_tile c.args.c old.chart.staged c.requires.present in
     let among = contains-map (tile_in seen) old.chart.staged found.0 found.1.0 in
     let t : StoredTile = tile_in seen found.0 in
     let all = samples_are old.root.side (staged_in g.D.Disk old) c.args.c t was.valid among found.1.1 in

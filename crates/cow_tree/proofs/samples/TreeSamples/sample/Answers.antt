@@ -8,7 +8,7 @@ use Rattle.cow_tree.specs.Reading.{mosaic_of}
 use Rattle.cow_tree.specs.Stored.{StoredTile, samples_of_plane}
 use Rattle.cow_tree.specs.Trees.{staged_in}
 use Rattle.cow_tree.proofs.Adding.{contains-map}
-use Rattle.cow_tree.proofs.Due.{placed_tile}
+use Rattle.cow_tree.proofs.Due.{located_tile}
 use Rattle.cow_tree.proofs.SampleReads.{samples_are, as_many, one_sample}
 use Rattle.cow_tree.proofs.TreeReads.{was_readable}
 use Rattle.cow_tree.proofs.samples.TreeSamples.sample.Goals as goal
@@ -22,7 +22,7 @@ returns-clause-sample g c readable =
     let old = c.args.self.now in
     let was = was_readable g.D.Disk old c.read_part.new.tree c.in_ok-read_part.ensures.reads.keeps readable in
     let seen = g.D.Disk.seen old.pager.roots.disk in
-    let found = placed_tile c.args.c old.chart.staged c.requires.present in
+    let found = located_tile c.args.c old.chart.staged c.requires.present in
     let among = contains-map (tile_in seen) old.chart.staged found.0 found.1.0 in
     let t : StoredTile = tile_in seen found.0 in
     let all = samples_are old.root.side (staged_in g.D.Disk old) c.args.c t was.valid among found.1.1 in

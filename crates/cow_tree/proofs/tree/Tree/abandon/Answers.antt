@@ -1,13 +1,13 @@
 use Rattle.std.proofs.Common.{map, sym, ap, ◌∙◌}
 use Rattle.page_codec.specs.Entries.{EntryValue}
-use Rattle.cow_tree.specs.Charts.{ChartValue, corners_of_places}
+use Rattle.charts.specs.Charts.{ChartValue, corners_of_locations}
 use Rattle.cow_tree.proofs.Dropping.{corners_of_entries, clean_is_committed}
 use Rattle.cow_tree.proofs.Due.{none_due}
 use Rattle.cow_tree.proofs.tree.Tree.abandon.Goals as goal
 
 pub returns-clause-corners : goal.returns-clause-corners
 returns-clause-corners g c =
-    ap (λ (x : ChartValue). corners_of_places x.staged) c.undo.ensures.undone ∙ corners_of_entries c.args.self.now.chart.committed ∙ ap (map (λ (e : EntryValue). e.corner)) c.args.self.now.entries
+    ap (λ (x : ChartValue). corners_of_locations x.staged) c.undo.ensures.undone ∙ corners_of_entries c.args.self.now.chart.committed ∙ ap (map (λ (e : EntryValue). e.corner)) c.args.self.now.entries
 
 pub returns-clause-none_staged : goal.returns-clause-none_staged
 returns-clause-none_staged g c =

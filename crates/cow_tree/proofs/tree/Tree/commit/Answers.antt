@@ -5,8 +5,9 @@ use Rattle.page_codec.specs.Roots.{RootValue}
 use Rattle.roots.specs.Roots.{ready_current}
 use Rattle.roots.specs.Slots.{KeepsAll, HasMoved, SamePages, IsCurrent}
 use Rattle.page_codec.specs.Entries.{EntryValue}
-use Rattle.cow_tree.specs.Charts.{ChartValue, corners_of_places}
-use Rattle.cow_tree.specs.Layout.{entry_of, stored_in, tile_in, StoresAt, Stands}
+use Rattle.charts.specs.Charts.{ChartValue, corners_of_locations}
+use Rattle.charts.specs.TileLocations.{entry_of}
+use Rattle.cow_tree.specs.Layout.{stored_in, tile_in, StoresAt, Stands}
 use Rattle.cow_tree.specs.Staged.{AreStaged}
 use Rattle.cow_tree.specs.Stored.{Stored, next_commit}
 use Rattle.cow_tree.proofs.Commits.{next_root, lands, same_tiles, nothing_staged, committing}
@@ -143,5 +144,5 @@ returns-clause-none_due g c =
 
 pub returns-clause-entries : goal.returns-clause-entries
 returns-clause-entries g c =
-    ap (λ (x : ChartValue). corners_of_places x.staged) c.settle.ensures.settled ∙ corners_of_entries c.args.self.now.chart.staged
+    ap (λ (x : ChartValue). corners_of_locations x.staged) c.settle.ensures.settled ∙ corners_of_entries c.args.self.now.chart.staged
     ∙ ap (map (λ (e : EntryValue). e.corner)) (sym c.entries-entries.ensures.value) ∙ ap (λ (r : RootValue). map (λ (e : EntryValue). e.corner) r.entries) (sym c.next-root.ensures)

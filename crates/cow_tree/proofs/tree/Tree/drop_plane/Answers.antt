@@ -1,7 +1,8 @@
 use Rattle.std.proofs.Common.{not, map, List, sym, ap, ◌∙◌, subst}
 use Rattle.lattice.specs.Corners.{Corner, same_corner}
-use Rattle.cow_tree.specs.Charts.{ChartValue, corners_of_places}
-use Rattle.cow_tree.specs.Layout.{TilePlace, tile_in, StoresAt}
+use Rattle.charts.specs.Charts.{ChartValue, corners_of_locations}
+use Rattle.charts.specs.TileLocations.{TileLocation}
+use Rattle.cow_tree.specs.Layout.{tile_in, StoresAt}
 use Rattle.cow_tree.specs.Staged.{AreStaged}
 use Rattle.cow_tree.specs.Stored.{StoredTile}
 use Rattle.cow_tree.proofs.Dropping.{filter-map, staged_without}
@@ -10,8 +11,8 @@ use Rattle.cow_tree.proofs.tree.Tree.drop_plane.Goals as goal
 
 pub returns-clause-corners : goal.returns-clause-corners
 returns-clause-corners g c =
-    ap (λ (x : ChartValue). corners_of_places x.staged) c.remove_tile.ensures.removed
-    ∙ filter-map (λ (other : Corner). not (same_corner other c.args.c)) (λ (t : TilePlace). t.corner) c.args.self.now.chart.staged
+    ap (λ (x : ChartValue). corners_of_locations x.staged) c.remove_tile.ensures.removed
+    ∙ filter-map (λ (other : Corner). not (same_corner other c.args.c)) (λ (t : TileLocation). t.corner) c.args.self.now.chart.staged
 
 pub returns-clause-staged : goal.returns-clause-staged
 returns-clause-staged g c =
@@ -25,7 +26,7 @@ returns-clause-at g c s is =
     let removed = c.remove_tile.ensures.removed in
     record {
       ready = is.ready;
-      each = λ image may. subst (λ (tiles : List TilePlace). StoresAt (g.D.Disk.size old.pager.roots.disk) old.pager.roots.root tiles s image) (sym (ap (λ (x : ChartValue). x.committed) removed)) (is.each image may);
+      each = λ image may. subst (λ (tiles : List TileLocation). StoresAt (g.D.Disk.size old.pager.roots.disk) old.pager.roots.root tiles s image) (sym (ap (λ (x : ChartValue). x.committed) removed)) (is.each image may);
       staged = subst (λ (x : ChartValue). AreStaged old.root.side x.committed x.staged (g.D.Disk.seen old.pager.roots.disk)) (sym removed)
           (staged_without old.root.side old.chart.committed old.chart.staged c.args.c (g.D.Disk.seen old.pager.roots.disk) is.staged);
     }

@@ -1,16 +1,17 @@
 use Rattle.std.proofs.Common.{◌≡◌, List, length, map, ap, sym, ◌∙◌, subst, arith}
-use Rattle.cow_tree.specs.Charts.{ChartValue, HasFreshHeights, corners_of_places, fresh_corners}
-use Rattle.cow_tree.specs.Layout.{TilePlace, tile_in, StoresAt}
+use Rattle.charts.specs.Charts.{ChartValue, HasFreshHeights, corners_of_locations, fresh_corners}
+use Rattle.charts.specs.TileLocations.{TileLocation}
+use Rattle.cow_tree.specs.Layout.{tile_in, StoresAt}
 use Rattle.cow_tree.specs.Staged.{AreStaged}
-use Rattle.cow_tree.proofs.Due.{prepared_due, prepared_due_same, prepared_placed, prepared_still}
-use Rattle.cow_tree.proofs.Preparing.{prepared_tiles, prepared_corners, still_prepared}
+use Rattle.cow_tree.proofs.Due.{prepared_due, prepared_due_same, prepared_located, prepared_still}
+use Rattle.cow_tree.proofs.Prepared.{prepared_tiles, prepared_corners, still_prepared}
 use Rattle.cow_tree.proofs.Steps.{on_ok, either_way}
 use Rattle.cow_tree.proofs.tree.Tree.prepare.Goals as goal
 
 pub returns-clause-corners : goal.returns-clause-corners
 returns-clause-corners g c =
     let old = c.args.self.now.chart in
-    let corners = λ (x : ChartValue). corners_of_places x.staged in
+    let corners = λ (x : ChartValue). corners_of_locations x.staged in
     either_way c.prepare.result c.prepare.ensures.prepared c.prepare.ensures.unchanged
     (λ prepared. ap corners prepared.changed ∙ prepared_corners c.args.c prepared.record_page old.staged)
     (λ same. ap corners same)
@@ -40,7 +41,7 @@ returns-clause-due_same g c had =
 
 pub returns-clause-has_staged : goal.returns-clause-has_staged
 returns-clause-has_staged g c =
-    on_ok c.prepare.result (λ prepared. prepared_placed c.args.self.now.chart c.prepare.new.self c.args.c c.rules.ensures prepared c.requires.present) c.prepare.ensures.prepared
+    on_ok c.prepare.result (λ prepared. prepared_located c.args.self.now.chart c.prepare.new.self c.args.c c.rules.ensures prepared c.requires.present) c.prepare.ensures.prepared
 
 pub returns-clause-still_staged : goal.returns-clause-still_staged
 returns-clause-still_staged g c other had =
@@ -57,7 +58,7 @@ returns-clause-at g c s is =
     either_way c.prepare.result c.prepare.ensures.prepared c.prepare.ensures.unchanged (λ prepared. ap (λ (x : ChartValue). x.committed) prepared.changed) (λ same. ap (λ (x : ChartValue). x.committed) same) in
     record {
       ready = is.ready;
-      each = λ image may. subst (λ (tiles : List TilePlace). StoresAt (g.D.Disk.size old.pager.roots.disk) old.pager.roots.root tiles s image) (sym committed) (is.each image may);
+      each = λ image may. subst (λ (tiles : List TileLocation). StoresAt (g.D.Disk.size old.pager.roots.disk) old.pager.roots.root tiles s image) (sym committed) (is.each image may);
       staged = either_way c.prepare.result c.prepare.ensures.prepared c.prepare.ensures.unchanged
           (λ prepared. still_prepared old.root.side old.chart c.prepare.new.self c.args.c seen prepared is.staged)
           (λ same. subst (λ (x : ChartValue). AreStaged old.root.side x.committed x.staged seen) (sym same) is.staged);

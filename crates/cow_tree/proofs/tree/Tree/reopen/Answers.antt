@@ -8,8 +8,9 @@ use Rattle.roots.specs.Opening.{OpensAs}
 use Rattle.roots.specs.Roots.{ready_current}
 use Rattle.roots.specs.Slots.{IsCurrent}
 use Rattle.roots.proofs.OneAnswer.{stores_open}
-use Rattle.cow_tree.specs.Charts.{corners_of_places}
-use Rattle.cow_tree.specs.Layout.{TilePlace, HasRecords, IsLaidOut, StoresAt, stored_in, tile_in}
+use Rattle.charts.specs.Charts.{corners_of_locations}
+use Rattle.charts.specs.TileLocations.{TileLocation}
+use Rattle.cow_tree.specs.Layout.{HasRecords, IsLaidOut, StoresAt, stored_in, tile_in}
 use Rattle.cow_tree.specs.Pagers.{has_failed, IsRefusedFor}
 use Rattle.cow_tree.specs.Stored.{Stored}
 use Rattle.cow_tree.proofs.Dropping.{corners_of_entries, clean_is_committed}
@@ -59,7 +60,7 @@ pub returns-in-Ok-clause-clean : goal.returns-in-Ok-clause-clean
 returns-in-Ok-clause-clean g c = clean_is_committed c.in-Ok.chart c.in-Ok.ensures.clean
 
 pub returns-in-Ok-clause-corners : goal.returns-in-Ok-clause-corners
-returns-in-Ok-clause-corners g c = ap corners_of_places c.in-Ok.ensures.clean ∙ corners_of_entries c.in-Ok.chart.committed ∙ ap (map (λ (e : EntryValue). e.corner)) c.in-Ok.ensures.entries
+returns-in-Ok-clause-corners g c = ap corners_of_locations c.in-Ok.ensures.clean ∙ corners_of_entries c.in-Ok.chart.committed ∙ ap (map (λ (e : EntryValue). e.corner)) c.in-Ok.ensures.entries
 
 pub returns-in-Err-clause-refused : goal.returns-in-Err-clause-refused
 returns-in-Err-clause-refused g c honest =
@@ -74,7 +75,7 @@ returns-in-Err-clause-refused g c honest =
     let seen = d.seen start.roots.disk in
     let root_is : root ≡ mid.roots.root = c.copy_of-root.ensures ∙ c.current.ensures in
     let opens : OpensAs n seen (Ok root) = subst (λ (r : RootValue). OpensAs n seen (Ok r)) (sym root_is) (⊎_elim (λ device. never_refused tt Device device) (λ opened. opened) (c.in_ok-reopen.ensures.opens mid_honest)) in
-    let F : ℕ → Image → Type 0 = λ k image. (k < sectors_of root.side root.capacity) ⊎ IsRefusedFor ((tiles : List TilePlace) → ¬ IsLaidOut k image root tiles) why in
+    let F : ℕ → Image → Type 0 = λ k image. (k < sectors_of root.side root.capacity) ⊎ IsRefusedFor ((tiles : List TileLocation) → ¬ IsLaidOut k image root tiles) why in
     records_refuse n seen root why stores_open opens
     (subst (λ (k : ℕ). F k seen) c.reopen.ensures.size
     (subst (F (d.size mid.roots.disk)) (c.in_ok-reopen.ensures.seen mid_honest) (c.in-Err.ensures.refused now_honest)))

@@ -1,7 +1,7 @@
 use Rattle.std.proofs.Common.{◌<◌, ℕ, length, arith, sym, ap, ◌∙◌, subst}
 use Rattle.page_codec.specs.Sizes.{pages_of}
 use Rattle.std.proofs.lemmas.Bool.{false≢true}
-use Rattle.cow_tree.specs.Charts.{ChartValue, HasFreshHeights, corners_of_places, fresh_corners}
+use Rattle.charts.specs.Charts.{ChartValue, HasFreshHeights, corners_of_locations, fresh_corners}
 use Rattle.cow_tree.proofs.Steps.{corners_same, stage_pages, stage_stays, page_unreached, still_stands, each_still, stores_along, ok_where_works, on_ok_both, ok_where, failed_where, only_device}
 use Rattle.cow_tree.proofs.Due.{written_due, written_due_same, written_here, written_still}
 use Rattle.cow_tree.proofs.tree.Tree.stage.Goals as goal
@@ -9,7 +9,7 @@ use Rattle.cow_tree.proofs.tree.Tree.stage.Goals as goal
 pub returns-clause-corners : goal.returns-clause-corners
 returns-clause-corners g c =
     let rw = c.in_ok-number.ensures.written in
-    ap (λ (chart : ChartValue). corners_of_places chart.staged) rw.changed ∙ corners_same c.args.c c.args.i c.in_ok-number.number rw.record_page c.args.self.now.chart.staged
+    ap (λ (chart : ChartValue). corners_of_locations chart.staged) rw.changed ∙ corners_same c.args.c c.args.i c.in_ok-number.number rw.record_page c.args.self.now.chart.staged
 
 pub returns-clause-staged : goal.returns-clause-staged
 returns-clause-staged g c honest s is =

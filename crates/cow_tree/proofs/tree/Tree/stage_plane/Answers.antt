@@ -1,10 +1,11 @@
 use Rattle.std.proofs.Common.{◌≡◌, ℕ, ◌≤◌, ◌<◌, List, All, Contains, length, map, sym, ap, ◌∙◌, subst}
 use Rattle.disk.specs.Stops.{weaker}
-use Rattle.cow_tree.specs.Charts.{ChartValue}
-use Rattle.cow_tree.specs.Layout.{reached, StoresAt, Stands}
-use Rattle.cow_tree.specs.Places.{times}
+use Rattle.charts.specs.Charts.{ChartValue}
+use Rattle.charts.specs.TileLocations.{reached}
+use Rattle.cow_tree.specs.Layout.{StoresAt, Stands}
+use Rattle.charts.specs.Locations.{times}
 use Rattle.cow_tree.specs.Stored.{pages_of_bytes}
-use Rattle.cow_tree.proofs.Adding.{added_placed, pages_low, pages_high, pages_unreached, pages_once, plane_staged, plane_stays}
+use Rattle.cow_tree.proofs.Adding.{added_located, pages_low, pages_high, pages_unreached, pages_once, plane_staged, plane_stays}
 use Rattle.cow_tree.proofs.Due.{added_corners, added_due, added_here}
 use Rattle.cow_tree.proofs.Steps.{stands, stores_along, ok_where_works, on_ok, on_ok_both, ok_where, failed_where}
 use Rattle.cow_tree.proofs.tree.Tree.stage_plane.Goals as goal
@@ -42,7 +43,7 @@ write_plane-requires-clause-distinct g c =
 
 pub unreachable-requires : goal.unreachable-requires
 unreachable-requires g c =
-    let none = c.in-None.ensures.present.1 (added_placed c.args.self.now.chart c.tile_for_writing.new.self c.args.c c.in_ok-tile_for_writing.ensures.rules c.in_ok-tile_for_writing.ensures.added) in
+    let none = c.in-None.ensures.present.1 (added_located c.args.self.now.chart c.tile_for_writing.new.self c.args.c c.in_ok-tile_for_writing.ensures.rules c.in_ok-tile_for_writing.ensures.added) in
     cc
 
 pub returns-clause-staged : goal.returns-clause-staged

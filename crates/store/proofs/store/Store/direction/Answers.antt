@@ -1,4 +1,4 @@
-use Rattle.std.proofs.Common.{◌≡◌, ℕ, ℤ, false, IsTrue, Result, sym, ◌∙◌}
+use Rattle.std.proofs.Common.{◌≡◌, ℕ, ℤ, IsTrue, Result}
 use Rattle.std.specs.Prelude.{IsOk, IfOk, IsErrOf}
 use Rattle.lattice.specs.Ground.{is_ground, terrain}
 use Rattle.lattice.specs.Height.{height_of}
@@ -13,7 +13,6 @@ use Rattle.watershed.specs.Questions.{DrainsBy}
 use Rattle.calls.specs.Outcomes.{Directs}
 use Rattle.calls.proofs.Answered.{directs}
 use Rattle.drainage.proofs.Answered.{told_of_levels}
-use Rattle.cow_tree.specs.Trees.{has_failed}
 use Rattle.store.proofs.Querying.{valid_at, stays_at, still_clean, still_readable, queried, fails_so}
 use Rattle.store.proofs.QueryingDrainage.{of_here, held_here, risen_read, works_read, fails_read, read_answered}
 use Rattle.store.proofs.store.Store.direction.Goals as goal

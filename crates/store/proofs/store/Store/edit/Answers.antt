@@ -1,13 +1,11 @@
-use Rattle.std.proofs.Common.{◌≡◌, ⊎_elim, inl, inr, ℕ, ◌+◌, ◌≤◌, if◌then◌else◌, List, vec_len, refl, sym, ap, ◌∙◌, subst, arith}
+use Rattle.std.proofs.Common.{◌≡◌, ⊎_elim, inl, inr, ℕ, ◌+◌, ◌≤◌, if◌then◌else◌, List, vec_len, sym, ap, ◌∙◌, subst, arith}
 use Rattle.std.specs.Prelude.{Result, Ok, Err}
 use Rattle.std.proofs.lemmas.Result.{IfErr-weaker}
 use Rattle.lattice.specs.declared.refusal.Refusal.{Refusal}
-use Rattle.lattice.specs.declared.refusal.Refusal.TheVariants.{Device, Worn}
-use Rattle.page_codec.specs.Entries.{EntryValue}
+use Rattle.lattice.specs.declared.refusal.Refusal.TheVariants.{Worn}
 use Rattle.page_codec.specs.Roots.{RootValue}
 use Rattle.edits.specs.Changes.{all_changed}
 use Rattle.edits.specs.declared.change.Change.{Change}
-use Rattle.calls.specs.State.{State}
 use Rattle.cow_tree.specs.Stored.{StoredTile}
 use Rattle.cow_tree.specs.Trees.{root_of, has_begun, records_due, staged_in}
 use Rattle.cow_tree.proofs.Steps.{on_ok}
@@ -17,7 +15,7 @@ use Rattle.store.proofs.Committed.{fails_before, quiet}
 use Rattle.store.proofs.EditingHeld.{holds_contents, edit_holds}
 use Rattle.store.proofs.EditingReads.{device_or_not}
 use Rattle.store.proofs.EditingSteps.{uncommitted_on, refused_as}
-use Rattle.store.proofs.EditingWrites.{none_written, staged_written}
+use Rattle.store.proofs.EditingWrites.{staged_written}
 use Rattle.store.proofs.InMemory.{worn_at}
 use Rattle.store.proofs.store.Store.edit.Goals as goal
 

@@ -1,4 +1,4 @@
-use Rattle.std.proofs.Common.{◌≡◌, false, Result, sym, ap, ◌∙◌}
+use Rattle.std.proofs.Common.{Result, ap, ◌∙◌}
 use Rattle.std.proofs.lemmas.Result.{IfOk-weaker}
 use Rattle.lattice.specs.Height.{height_of}
 use Rattle.lattice.specs.Mosaic.{Mosaic}
@@ -6,7 +6,6 @@ use Rattle.lattice.specs.declared.height.Height.{Height}
 use Rattle.lattice.specs.declared.refusal.Refusal.{Refusal}
 use Rattle.calls.specs.Outcomes.{Elevates}
 use Rattle.calls.specs.State.{State}
-use Rattle.cow_tree.specs.Trees.{has_failed}
 use Rattle.store.proofs.Querying.{mosaic_at, stays_at, still_clean, still_readable, fails_so, answered}
 use Rattle.store.proofs.store.Store.elevation.Goals as goal
 

@@ -1,4 +1,4 @@
-use Rattle.std.proofs.Common.{◌≡◌, ℤ, false, Result, sym, ◌∙◌}
+use Rattle.std.proofs.Common.{◌≡◌, ℤ, Result}
 use Rattle.std.specs.Prelude.{IfOk, IsErrOf}
 use Rattle.lattice.specs.Ground.{terrain}
 use Rattle.lattice.specs.Height.{height_of}
@@ -11,7 +11,6 @@ use Rattle.calls.specs.State.{State}
 use Rattle.calls.specs.Outcomes.{Fills}
 use Rattle.calls.proofs.Answered.{fills}
 use Rattle.drainage.proofs.Answered.{told}
-use Rattle.cow_tree.specs.Trees.{has_failed}
 use Rattle.store.proofs.Querying.{valid_at, stays_at, still_clean, still_readable, queried, fails_so}
 use Rattle.store.proofs.QueryingDrainage.{of_here, held_here, risen_read, works_read, fails_read, read_answered}
 use Rattle.store.proofs.store.Store.fill.Goals as goal

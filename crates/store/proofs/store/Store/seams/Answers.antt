@@ -1,11 +1,10 @@
-use Rattle.std.proofs.Common.{◌≡◌, ℕ, false, Result, sym, ◌∙◌, subst}
+use Rattle.std.proofs.Common.{ℕ, Result, subst}
 use Rattle.std.proofs.lemmas.Result.{IfOk-weaker}
 use Rattle.lattice.specs.Mosaic.{Mosaic}
 use Rattle.lattice.specs.declared.refusal.Refusal.{Refusal}
 use Rattle.catalogue.specs.Seams.{IsSeamCount}
 use Rattle.calls.specs.State.{State}
 use Rattle.store.specs.Queried.{CountsSeams}
-use Rattle.cow_tree.specs.Trees.{has_failed}
 use Rattle.store.proofs.Querying.{mosaic_at, stays_at, still_clean, still_readable, fails_so, answered}
 use Rattle.store.proofs.store.Store.seams.Goals as goal
 

@@ -1,4 +1,4 @@
-use Rattle.std.proofs.Common.{◌≡◌, ℤ, false, IsTrue, Result, sym, ◌∙◌}
+use Rattle.std.proofs.Common.{◌≡◌, ℤ, IsTrue, Result}
 use Rattle.std.specs.Prelude.{IsOk, IfOk, IsErrOf}
 use Rattle.std.specs.Global.{Vec}
 use Rattle.lattice.specs.Ground.{is_ground, terrain}
@@ -14,7 +14,6 @@ use Rattle.flow_d8.specs.FlowPath.{IsFlowPath}
 use Rattle.calls.specs.Outcomes.{Traces}
 use Rattle.calls.proofs.Answered.{traces}
 use Rattle.drainage.proofs.Answered.{told_of_levels}
-use Rattle.cow_tree.specs.Trees.{has_failed}
 use Rattle.store.specs.Stores.{items_in}
 use Rattle.store.proofs.Querying.{valid_at, stays_at, still_clean, still_readable, queried, fails_so}
 use Rattle.store.proofs.QueryingDrainage.{listed, of_here, held_here, risen_read, works_read, fails_read, read_answered}

@@ -1,0 +1,157 @@
+-- What is known of every chart.
+use Rattle.std.proofs.Common.{◌≡◌, ℕ, zero, suc, ◌+◌, ◌<◌, ◌≤◌, Bool, true, false, cond, inl, inr, List, [], ◌∷◌, ◌++◌, map, refl, sym, ap, subst, ◌∙◌, arith}
+use Rattle.std.specs.Prelude.{IsTrue, Option, Some, None, IsSome, IfSome, All, Contains, option_map}
+use Rattle.std.specs.List.{filter_map, flat_map, cons_option, AllByRecursion}
+use Rattle.std.proofs.lemmas.Bool.{false≢true}
+use Rattle.std.proofs.lemmas.List.{append_assoc}
+use Rattle.std.proofs.lemmas.List.Elements.{filter_map-append, All-nil, All-cons, Contains-append_right}
+use Rattle.lattice.specs.Corners.{Corner, is_corner}
+use Rattle.lattice.proofs.Rising.{Rising, rising_from, adjacent_from}
+use Rattle.page_alloc.specs.Pages.{PageSet}
+use Rattle.charts.specs.declared.locations.TilePlanes.{TilePlanes}
+use Rattle.charts.specs.declared.slot.Slot.{Slot}
+use Rattle.charts.specs.declared.slot.Staged.{Staged}
+use Rattle.charts.specs.declared.slot.Staged.TheVariants.{AsCommitted, Heights, Removed}
+use Rattle.charts.specs.Locations.{times}
+use Rattle.charts.specs.FreePages.{page_times, kept_of}
+use Rattle.charts.specs.TileLocations.{TileLocation, KeepsPageRule, reached}
+use Rattle.charts.specs.Charts.{ChartValue, IsChart, IsFresh, IsStagedIn, IsWholeTile, tile_at}
+use Rattle.charts.specs.Slots.{committed_tile, staged_as, staged_tile, committed_tiles, staged_tiles, fresh_as, fresh_pages, pages_of_location, IsSound, AreCounted, IsKept, chart_of}
+use Rattle.charts.proofs.Times.{one-self, times-append, times_of_member, all_numbers}
+use Rattle.charts.proofs.FreeTimes.{page_at, page_le}
+use Rattle.charts.proofs.Slotting.{replaced_count}
+use Rattle.charts.proofs.SlotLists.{reached_all, times-split, corner_of, rising_tiles, committed_own, staged_own}
+
+-- ---- the page rule
+pub page_rule : (sectors : ℕ) (tiles : List TileLocation) → ((p : ℕ) → times p (reached tiles) ≤ page_times sectors p) → KeepsPageRule sectors tiles
+page_rule sectors tiles few = record {
+  low = all_numbers (λ p. 4 ≤ p) (reached tiles) (λ p some. (page_at sectors p (omega (arith, few p))).0);
+  high = all_numbers (λ p. p < sectors) (reached tiles) (λ p some. (page_at sectors p (omega (arith, few p))).1);
+  once = λ p. omega (arith, few p, page_le sectors p);
+}
+
+-- a staged tile reaches no more than its slot uses
+pub staged_le : (p : ℕ) (s : Slot) → times p (pages_of_location (staged_tile s)) ≤ times p (pages_of_location (committed_tile s)) + times p (fresh_pages s)
+staged_le p s = by s.corner s.committed s.staged
+  where
+    by : (c : Corner) (o : Option TilePlanes) (g : Staged) → times p (pages_of_location (staged_as c o g)) ≤ times p (pages_of_location (option_map (tile_at c) o)) + times p (fresh_as o g)
+    by c o AsCommitted = omega arith
+    by c o (Heights location keeps) = omega (arith, replaced_count p c o location keeps)
+    by c o Removed = omega arith
+
+all_staged_le : (p : ℕ) (slots : List Slot)
+    → times p (flat_map (λ s. pages_of_location (staged_tile s)) slots) ≤ times p (flat_map (λ s. pages_of_location (committed_tile s)) slots) + times p (flat_map fresh_pages slots)
+all_staged_le p [] = omega arith
+all_staged_le p (s ∷ rest) =
+    let staged = times-append p (pages_of_location (staged_tile s)) (flat_map (λ s. pages_of_location (staged_tile s)) rest) in
+    let committed = times-append p (pages_of_location (committed_tile s)) (flat_map (λ s. pages_of_location (committed_tile s)) rest) in
+    let fresh = times-append p (fresh_pages s) (flat_map fresh_pages rest) in
+    let here = staged_le p s in
+    let later = all_staged_le p rest in
+    omega arith
+
+module _ (slots : List Slot) (free : PageSet) (counted : AreCounted slots free) where
+  committed_few : (p : ℕ) → times p (reached (committed_tiles slots)) ≤ page_times free.total p
+  committed_few p = omega (arith, counted p)
+
+  staged_few : (p : ℕ) → times p (reached (staged_tiles slots)) ≤ page_times free.total p
+  staged_few p =
+      let staged = ap (times p) (reached_all staged_tile slots) in
+      let committed = ap (times p) (reached_all committed_tile slots) in
+      omega (arith, counted p, staged, committed, all_staged_le p slots)
+
+-- ---- each tile
+pub all_tiles : (P : TileLocation → Type 0) (Q : Slot → Type 0) (tile_of : Slot → Option TileLocation) → ((s : Slot) → Q s → IfSome (tile_of s) P) → (slots : List Slot) → AllByRecursion Q slots → All P (filter_map tile_of slots)
+all_tiles P Q tile_of each [] all = All-nil P
+all_tiles P Q tile_of each (s ∷ rest) all = by (tile_of s) (each s all.0) (all_tiles P Q tile_of each rest all.1)
+  where
+    by : (o : Option TileLocation) → IfSome o P → All P (filter_map tile_of rest) → All P (cons_option o (filter_map tile_of rest))
+    by None here later = later
+    by (Some t) here later = All-cons P t (filter_map tile_of rest) here later
+
+-- a fact of each slot from where it stands
+pub each_slot : (P : Slot → Type 0) (done rest : List Slot) → ((before : List Slot) (s : Slot) (after : List Slot) → done ++ rest ≡ before ++ s ∷ after → P s) → AllByRecursion P rest
+each_slot P done [] each = tt
+each_slot P done (s ∷ rest) each = (
+  each done s rest refl,
+  each_slot P (done ++ s ∷ []) rest (λ before x after is. each before x after (sym (append_assoc done (s ∷ []) rest) ∙ is)),
+)
+
+contains_map : {X Y : Type 0} (f : X → Y) (xs : List X) (x : X) → Contains xs x → Contains (map f xs) (f x)
+contains_map f [] x (i, below, here) = absurd (omega arith)
+contains_map f (y ∷ ys) x (zero, below, here) = (0, omega arith, ap f here)
+contains_map f (y ∷ ys) x (suc i, below, here) = let rest = contains_map f ys x (i, omega arith, here) in (suc rest.0, omega arith, rest.2)
+
+pub contains_at : (tile_of : Slot → Option TileLocation) (before : List Slot) (s : Slot) (after : List Slot) → IfSome (tile_of s) (Contains (filter_map tile_of (before ++ s ∷ after)))
+contains_at tile_of before s after =
+    subst (λ (l : List TileLocation). IfSome (tile_of s) (Contains l)) (sym (filter_map-append tile_of before (s ∷ after))) (by (tile_of s))
+  where
+    by : (o : Option TileLocation) → IfSome o (Contains (filter_map tile_of before ++ cons_option o (filter_map tile_of after)))
+    by None = tt
+    by (Some t) = Contains-append_right (filter_map tile_of before) (t ∷ filter_map tile_of after) t (0, omega arith, refl)
+
+-- a slot of the chart: its committed tile is one of the chart's, and its fresh pages are fresh
+record IsIn (chart : ChartValue) (s : Slot) : Type 0 where
+  pub committed : IfSome (committed_tile s) (Contains chart.committed)
+  pub fresh : (p : ℕ) → 1 ≤ times p (fresh_pages s) → IsFresh chart p
+
+pub fresh_page : (side capacity : ℕ) (slots : List Slot) (free : PageSet) → AreCounted slots free → (p : ℕ) → 1 ≤ times p (flat_map fresh_pages slots) → IsFresh (chart_of side capacity slots free) p
+fresh_page side capacity slots free counted p some =
+    let all = counted p in
+    let few = page_le free.total p in
+    let page = page_at free.total p (omega arith) in
+    record {
+      low = page.0;
+      high = page.1;
+      unreached = λ member. (let there = times_of_member (reached (committed_tiles slots)) p member in absurd (omega arith));
+    }
+
+is_in : (side capacity : ℕ) (slots : List Slot) (free : PageSet) → AreCounted slots free → AllByRecursion (IsIn (chart_of side capacity slots free)) slots
+is_in side capacity slots free counted =
+    each_slot (IsIn (chart_of side capacity slots free)) [] slots (λ before s after is. record {
+      committed = subst (λ (l : List Slot). IfSome (committed_tile s) (Contains (committed_tiles l))) (sym is) (contains_at committed_tile before s after);
+      fresh = λ p some. fresh_page side capacity slots free counted p
+          (let there = ap (λ (l : List Slot). times p (flat_map fresh_pages l)) is in omega (arith, there, times-split fresh_pages p before s after));
+    })
+
+staged_in_chart : (chart : ChartValue) (s : Slot) → IsIn chart s → IfSome (staged_tile s) (IsStagedIn chart)
+staged_in_chart chart s is = by s.corner s.committed s.staged is.committed is.fresh
+  where
+    kept_by : (c : Corner) (o : Option TilePlanes) (keeps : Bool) → IfSome (option_map (tile_at c) o) (Contains chart.committed) → IsSome (cond keeps (kept_of o) None) → Contains (map (λ (u : TileLocation). u.kept) chart.committed) (cond keeps (kept_of o) None)
+    kept_by c None true there some = absurd (false≢true some)
+    kept_by c None false there some = absurd (false≢true some)
+    kept_by c (Some planes) true there some = contains_map (λ (u : TileLocation). u.kept) chart.committed (tile_at c planes) there
+    kept_by c (Some planes) false there some = absurd (false≢true some)
+
+    by : (c : Corner) (o : Option TilePlanes) (g : Staged) → IfSome (option_map (tile_at c) o) (Contains chart.committed) → ((p : ℕ) → 1 ≤ times p (fresh_as o g) → IsFresh chart p) → IfSome (staged_as c o g) (IsStagedIn chart)
+    by c None AsCommitted there fresh = tt
+    by c (Some planes) AsCommitted there fresh = record { settled = inl there; kept = λ some. contains_map (λ (u : TileLocation). u.kept) chart.committed (tile_at c planes) there }
+    by c o (Heights location keeps) there fresh = record { settled = inr (fresh location.record_page (omega (arith, one-self location.record_page))); kept = kept_by c o keeps there }
+    by c o Removed there fresh = tt
+
+own_corner : (s : Slot) (o : Option TileLocation) → IfSome o (λ t. t.corner ≡ s.corner) → IsTrue (is_corner s.corner) → IfSome o (λ t. IsTrue (is_corner t.corner))
+own_corner s None own degrees = tt
+own_corner s (Some t) own degrees = subst (λ (d : Corner). IsTrue (is_corner d)) (sym own) degrees
+
+-- ---- a chart
+pub charted : (side capacity : ℕ) (slots : List Slot) (free : PageSet) → IsKept side capacity slots free → IsChart (chart_of side capacity slots free)
+charted side capacity slots free is =
+    let rising : Rising corner_of slots = rising_from corner_of slots is.in_order in
+    record {
+      size = is.size;
+      committed = record {
+        corners = all_tiles (λ t. IsTrue (is_corner t.corner)) (IsSound side) committed_tile (λ s sound. own_corner s (committed_tile s) (committed_own s) sound.corner) slots is.sound;
+        in_order = adjacent_from (λ (t : TileLocation). t.corner) (committed_tiles slots) (rising_tiles committed_tile committed_own slots rising);
+        room = is.committed_room;
+        whole = all_tiles (IsWholeTile side) (IsSound side) committed_tile (λ s sound. sound.committed) slots is.sound;
+        page_rule = page_rule free.total (committed_tiles slots) (committed_few slots free is.counted);
+      };
+      staged = record {
+        corners = all_tiles (λ t. IsTrue (is_corner t.corner)) (IsSound side) staged_tile (λ s sound. own_corner s (staged_tile s) (staged_own s) sound.corner) slots is.sound;
+        in_order = adjacent_from (λ (t : TileLocation). t.corner) (staged_tiles slots) (rising_tiles staged_tile staged_own slots rising);
+        room = is.staged_room;
+        whole = all_tiles (IsWholeTile side) (IsSound side) staged_tile (λ s sound. sound.staged) slots is.sound;
+        page_rule = page_rule free.total (staged_tiles slots) (staged_few slots free is.counted);
+      };
+      each = all_tiles (IsStagedIn (chart_of side capacity slots free)) (IsIn (chart_of side capacity slots free)) staged_tile (staged_in_chart (chart_of side capacity slots free)) slots (is_in side capacity slots free is.counted);
+    }

@@ -1,0 +1,231 @@
+-- What a chart is once what is staged has ended.
+use Rattle.std.proofs.Common.{◌≡◌, ◌≢◌, ℕ, suc, ◌+◌, ◌<◌, ◌≤◌, Bool, true, false, cond, IsTrue, inl, inr, List, [], ◌∷◌, ◌++◌, length, take, drop, get_or, set, refl, sym, ap, subst, ◌∙◌, arith}
+use Rattle.std.specs.Prelude.{Option, Some, None, is_some, IfSome, option_map, filter}
+use Rattle.std.specs.List.{filter_map, cons_option, AllByRecursion, flat_map}
+use Rattle.std.proofs.Math.Seq.{split_at}
+use Rattle.std.proofs.lemmas.List.{set_split, length-set, get_or-set_other, get_or-set_same, get_or_default}
+use Rattle.std.proofs.lemmas.Bool.{cases_eq}
+use Rattle.lattice.specs.Corners.{Corner, is_before, is_corner}
+use Rattle.lattice.proofs.Rising.{AllAfter, Rising, rising_from, adjacent_from, rising-filter}
+use Rattle.page_alloc.specs.Pages.{PageSet}
+use Rattle.charts.specs.declared.locations.TilePlanes.{TilePlanes}
+use Rattle.charts.specs.declared.slot.Slot.{Slot}
+use Rattle.charts.specs.declared.slot.Staged.{Staged}
+use Rattle.charts.specs.declared.slot.Staged.TheVariants.{AsCommitted}
+use Rattle.charts.specs.declared.slot.Ending.{Ending}
+use Rattle.charts.specs.declared.slot.Ending.TheVariants.{Committed, GivenUp}
+use Rattle.charts.specs.Locations.{times}
+use Rattle.charts.specs.FreePages.{AreInUse}
+use Rattle.charts.specs.TileLocations.{TileLocation, reached}
+use Rattle.charts.specs.Charts.{ChartValue, IsWholeTile, tile_at}
+use Rattle.charts.specs.Slots.{committed_tile, staged_as, staged_tile, committed_tiles, staged_tiles, fresh_as, fresh_pages, used_pages, pages_of_location, is_filled_as, IsSound, IsKept, AreCounted, chart_of, ended_tile, ended_chart, HasEndedAs, IsEndedAs, AreEndedAs}
+use Rattle.charts.proofs.Times.{times-append}
+use Rattle.charts.proofs.SlotLists.{corner_of, slot_in_use, counted_change}
+
+-- ---- how far a loop over the slots has come
+pub record AreEndedTo (ending : Ending) (i : ℕ) (old slots : List Slot) (was now : PageSet) : Type 0 where
+  pub same_length : length slots ≡ length old
+  pub done : (k : ℕ) (d : Slot) → k < i → k < length old → HasEndedAs ending (get_or old k d) (get_or slots k d)
+  pub rest : (k : ℕ) (d : Slot) → i ≤ k → get_or slots k d ≡ get_or old k d
+  pub same_total : now.total ≡ was.total
+  pub counted : AreCounted slots now
+
+pub ended_none : (ending : Ending) (slots : List Slot) (free : PageSet) → AreCounted slots free → AreEndedTo ending 0 slots slots free free
+ended_none ending slots free counted = record { same_length = refl; done = λ k d below within. absurd (omega arith); rest = λ k d from. refl; same_total = refl; counted = counted }
+
+module _ (ending : Ending) (i : ℕ) (old slots : List Slot) (was now : PageSet) (so_far : AreEndedTo ending i old slots was now) (s : Slot) (below : i < length slots) (is : s ≡ get_or slots i s) where
+  there : slots ≡ take i slots ++ s ∷ drop (suc i) slots
+  there = split_at slots i s below ∙ ap (λ x. take i slots ++ x ∷ drop (suc i) slots) (sym is)
+
+  counted_there : AreCounted (take i slots ++ s ∷ drop (suc i) slots) now
+  counted_there = subst (λ (l : List Slot). AreCounted l now) there so_far.counted
+
+  pub next_in_use : AreInUse (used_pages s) now
+  next_in_use = slot_in_use (take i slots) s (drop (suc i) slots) now counted_there
+
+  pub ended_more : (new : Slot) (later : PageSet) → IsEndedAs (ended_tile ending s) s new now later → AreEndedTo ending (i + 1) old (set slots i new) was later
+  ended_more new later ended = record {
+    same_length = length-set slots i new ∙ so_far.same_length;
+    done = λ k d less within. elim (cases_eq k i) [
+      | inl same ↦
+          let in_slots : k < length slots = omega (arith, so_far.same_length) in
+          let here : get_or (set slots i new) k d ≡ new = ap (λ n. get_or (set slots i new) n d) same ∙ get_or-set_same slots i new d below in
+          let old_here : get_or old k d ≡ s = ap (λ n. get_or old n d) same ∙ (sym (so_far.rest i d (omega arith)) ∙ (get_or_default slots i d s below ∙ sym is)) in
+          subst (λ (x : Slot). HasEndedAs ending x (get_or (set slots i new) k d)) (sym old_here)
+          (subst (λ (y : Slot). HasEndedAs ending s y) (sym here) (record { corner = ended.corner; committed = ended.committed; staged = ended.staged }))
+      | inr other ↦ subst (λ (y : Slot). HasEndedAs ending (get_or old k d) y) (sym (get_or-set_other slots i k new d other)) (so_far.done k d (omega arith) within)
+    ];
+    rest = λ k d from. (let other : k ≢ i = omega arith in get_or-set_other slots i k new d other ∙ so_far.rest k d (omega arith));
+    same_total = ended.same_total ∙ so_far.same_total;
+    counted =
+        subst (λ (l : List Slot). AreCounted l later) (sym (set_split slots i new below))
+        (counted_change (take i slots) s (drop (suc i) slots) now counted_there new later ended.same_total (λ p. (
+        let none = ap (λ g. times p (fresh_as new.committed g)) ended.staged in
+        let tile = ap (λ o. times p (pages_of_location o)) ended.committed in
+        omega (arith, none, tile, ended.each p, times-append p (pages_of_location (committed_tile new)) (fresh_pages new)))));
+  }
+
+pub ended_all : (ending : Ending) (i : ℕ) (old slots : List Slot) (was now : PageSet) → AreEndedTo ending i old slots was now → length old ≤ i → AreEndedAs ending old slots was now
+ended_all ending i old slots was now so_far end = record {
+  same_length = so_far.same_length;
+  each = λ k d below. so_far.done k d (omega arith) below;
+  same_total = so_far.same_total;
+  counted = so_far.counted;
+}
+
+-- ---- the slots that are left
+abbrev pub is_left : Slot → Bool
+is_left s = is_some s.committed
+
+abbrev AllEnded : Ending → List Slot → List Slot → Type 0
+AllEnded ending [] [] = Unit {0}
+AllEnded ending [] (n ∷ new) = ⊥
+AllEnded ending (s ∷ old) [] = ⊥
+AllEnded ending (s ∷ old) (n ∷ new) = HasEndedAs ending s n × AllEnded ending old new
+
+all_ended : (ending : Ending) (old new : List Slot) → length new ≡ length old → ((k : ℕ) (d : Slot) → k < length old → HasEndedAs ending (get_or old k d) (get_or new k d)) → AllEnded ending old new
+all_ended ending [] [] same each = tt
+all_ended ending [] (n ∷ new) same each = absurd (omega arith)
+all_ended ending (s ∷ old) [] same each = absurd (omega arith)
+all_ended ending (s ∷ old) (n ∷ new) same each = (each 0 s (omega arith), all_ended ending old new (omega arith) (λ k d below. each (suc k) d (omega arith)))
+
+ended_tiles : (ending : Ending) (old new : List Slot) → AllEnded ending old new → committed_tiles new ≡ filter_map (ended_tile ending) old
+ended_tiles ending [] [] ended = refl
+ended_tiles ending [] (n ∷ new) ended = absurd ended
+ended_tiles ending (s ∷ old) [] ended = absurd ended
+ended_tiles ending (s ∷ old) (n ∷ new) ended =
+    ap (λ (o : Option TileLocation). cons_option o (committed_tiles new)) ended.0.committed ∙ ap (λ (l : List TileLocation). cons_option (ended_tile ending s) l) (ended_tiles ending old new ended.1)
+
+ended_after : (ending : Ending) (c : Corner) (old new : List Slot) → AllEnded ending old new → AllAfter corner_of c old → AllAfter corner_of c new
+ended_after ending c [] [] ended h = tt
+ended_after ending c [] (n ∷ new) ended h = absurd ended
+ended_after ending c (s ∷ old) [] ended h = absurd ended
+ended_after ending c (s ∷ old) (n ∷ new) ended h = (subst (λ (d : Corner). IsTrue (is_before c d)) (sym ended.0.corner) h.0, ended_after ending c old new ended.1 h.1)
+
+ended_rising : (ending : Ending) (old new : List Slot) → AllEnded ending old new → Rising corner_of old → Rising corner_of new
+ended_rising ending [] [] ended h = tt
+ended_rising ending [] (n ∷ new) ended h = absurd ended
+ended_rising ending (s ∷ old) [] ended h = absurd ended
+ended_rising ending (s ∷ old) (n ∷ new) ended h =
+    (subst (λ (d : Corner). AllAfter corner_of d new) (sym ended.0.corner) (ended_after ending s.corner old new ended.1 h.0), ended_rising ending old new ended.1 h.1)
+
+-- one slot that has ended: its tiles are the same, and it has no fresh pages
+record IsSettledSlot (side : ℕ) (s : Slot) : Type 0 where
+  pub corner : IsTrue (is_corner s.corner)
+  pub staged : s.staged ≡ AsCommitted
+  pub whole : IfSome (committed_tile s) (IsWholeTile side)
+
+ended_settled : (side : ℕ) (ending : Ending) (old new : List Slot) → AllEnded ending old new → AllByRecursion (IsSound side) old → AllByRecursion (IsSettledSlot side) new
+ended_settled side ending [] [] ended sound = tt
+ended_settled side ending [] (n ∷ new) ended sound = absurd ended
+ended_settled side ending (s ∷ old) [] ended sound = absurd ended
+ended_settled side ending (s ∷ old) (n ∷ new) ended sound = (
+  record { corner = subst (λ (d : Corner). IsTrue (is_corner d)) (sym ended.0.corner) sound.0.corner; staged = ended.0.staged; whole = subst (λ (o : Option TileLocation). IfSome o (IsWholeTile side)) (sym ended.0.committed) (whole ending) },
+  ended_settled side ending old new ended.1 sound.1,
+)
+  where
+    whole : (e : Ending) → IfSome (ended_tile e s) (IsWholeTile side)
+    whole Committed = sound.0.staged
+    whole GivenUp = sound.0.committed
+
+staged_settled : (s : Slot) → s.staged ≡ AsCommitted → staged_tile s ≡ committed_tile s
+staged_settled s is = ap (staged_as s.corner s.committed) is
+
+left_committed : (slots : List Slot) → committed_tiles (filter is_left slots) ≡ committed_tiles slots
+left_committed [] = refl
+left_committed (s ∷ rest) = by s.corner s.committed s.staged (left_committed rest)
+  where
+    by : (c : Corner) (o : Option TilePlanes) (g : Staged) → committed_tiles (filter is_left rest) ≡ committed_tiles rest
+        → committed_tiles (cond (is_some o) (record { corner = c; committed = o; staged = g } ∷ filter is_left rest) (filter is_left rest)) ≡ cons_option (option_map (tile_at c) o) (committed_tiles rest)
+    by c None g same = same
+    by c (Some planes) g same = ap (λ (l : List TileLocation). tile_at c planes ∷ l) same
+
+left_staged : (side : ℕ) (slots : List Slot) → AllByRecursion (IsSettledSlot side) slots → staged_tiles (filter is_left slots) ≡ committed_tiles slots
+left_staged side [] all = refl
+left_staged side (s ∷ rest) all = by s.corner s.committed s.staged all.0.staged (left_staged side rest all.1)
+  where
+    by : (c : Corner) (o : Option TilePlanes) (g : Staged) → g ≡ AsCommitted → staged_tiles (filter is_left rest) ≡ committed_tiles rest
+        → staged_tiles (cond (is_some o) (record { corner = c; committed = o; staged = g } ∷ filter is_left rest) (filter is_left rest)) ≡ cons_option (option_map (tile_at c) o) (committed_tiles rest)
+    by c None g is same = same
+    by c (Some planes) g is same = ap (λ h. cons_option (staged_as c (Some planes) h) (staged_tiles (filter is_left rest))) is ∙ ap (λ (l : List TileLocation). tile_at c planes ∷ l) same
+
+no_fresh : (side p : ℕ) (slots : List Slot) → AllByRecursion (IsSettledSlot side) slots → times p (flat_map fresh_pages slots) ≡ 0
+no_fresh side p [] all = refl
+no_fresh side p (s ∷ rest) all =
+    let none = ap (λ g. times p (fresh_as s.committed g)) all.0.staged in
+    omega (arith, none, times-append p (fresh_pages s) (flat_map fresh_pages rest), no_fresh side p rest all.1)
+
+settled_filter : (side : ℕ) (slots : List Slot) → AllByRecursion (IsSettledSlot side) slots → AllByRecursion (IsSettledSlot side) (filter is_left slots)
+settled_filter side [] all = tt
+settled_filter side (s ∷ rest) all = elim (is_left s) as (λ b. AllByRecursion (IsSettledSlot side) (cond b (s ∷ filter is_left rest) (filter is_left rest))) [
+  | true ↦ (all.0, settled_filter side rest all.1)
+  | false ↦ settled_filter side rest all.1
+]
+
+sound_filter : (side : ℕ) (slots : List Slot) → AllByRecursion (IsSettledSlot side) slots → AllByRecursion (IsSound side) (filter is_left slots)
+sound_filter side [] all = tt
+sound_filter side (s ∷ rest) all = by (is_left s) refl (sound_filter side rest all.1)
+  where
+    by : (b : Bool) → is_left s ≡ b → AllByRecursion (IsSound side) (filter is_left rest) → AllByRecursion (IsSound side) (cond b (s ∷ filter is_left rest) (filter is_left rest))
+    by true here later = (
+      record {
+        corner = all.0.corner;
+        committed = all.0.whole;
+        staged = subst (λ (o : Option TileLocation). IfSome o (IsWholeTile side)) (sym (staged_settled s all.0.staged)) all.0.whole;
+        filled = ap (is_filled_as s.committed) all.0.staged ∙ here;
+      },
+      later,
+    )
+    by false here later = later
+
+module _ (side capacity : ℕ) (ending : Ending) (slots new : List Slot) (free now : PageSet) (is : IsKept side capacity slots free) (ended : AreEndedAs ending slots new free now) where
+  abbrev left : List Slot
+  left = filter is_left new
+
+  pairs : AllEnded ending slots new
+  pairs = all_ended ending slots new ended.same_length ended.each
+
+  settled : AllByRecursion (IsSettledSlot side) new
+  settled = ended_settled side ending slots new pairs is.sound
+
+  abbrev tiles : List TileLocation
+  tiles = filter_map (ended_tile ending) slots
+
+  now_committed : committed_tiles left ≡ tiles
+  now_committed = left_committed new ∙ ended_tiles ending slots new pairs
+
+  now_staged : staged_tiles left ≡ tiles
+  now_staged = left_staged side new settled ∙ ended_tiles ending slots new pairs
+
+  room : length tiles ≤ capacity
+  room = by ending
+    where
+      by : (e : Ending) → length (filter_map (ended_tile e) slots) ≤ capacity
+      by Committed = is.staged_room
+      by GivenUp = is.committed_room
+
+  pub kept_left : IsKept side capacity left now
+  kept_left = record {
+    size = rw ended.same_total is.size;
+    fits = rw ended.same_total is.fits;
+    few = is.few;
+    in_order = adjacent_from corner_of left (rising-filter corner_of is_left new (ended_rising ending slots new pairs (rising_from corner_of slots is.in_order)));
+    sound = sound_filter side new settled;
+    committed_room = rw now_committed room;
+    staged_room = rw now_staged room;
+    counted = λ p.
+        (let committed = ap (λ (l : List TileLocation). times p (reached l)) (left_committed new) in
+        omega (arith, committed, no_fresh side p new settled, no_fresh side p left (settled_filter side new settled), ended.counted p));
+  }
+
+  pub chart_left : chart_of side capacity left now ≡ ended_chart ending (chart_of side capacity slots free)
+  chart_left =
+      let chart : ℕ → List TileLocation → List TileLocation → ChartValue = λ n a b. record { sectors = n; side = side; capacity = capacity; committed = a; staged = b } in
+      ap (λ n. chart n (committed_tiles left) (staged_tiles left)) ended.same_total
+      ∙ (ap (λ a. chart free.total a (staged_tiles left)) now_committed
+      ∙ (ap (λ b. chart free.total tiles b) now_staged
+      ∙ by ending))
+    where
+      by : (e : Ending) → record { sectors = free.total; side = side; capacity = capacity; committed = filter_map (ended_tile e) slots; staged = filter_map (ended_tile e) slots } ≡ ended_chart e (chart_of side capacity slots free)
+      by Committed = refl
+      by GivenUp = refl

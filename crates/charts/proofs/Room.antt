@@ -1,0 +1,134 @@
+-- A free page is always left: the committed tiles and the fresh pages take fewer than the disk has.
+use Rattle.std.proofs.Common.{◌≡◌, ◌≢◌, ℕ, zero, suc, ◌+◌, ◌-◌, ◌*◌, ◌<◌, ◌≤◌, true, cond, inl, inr, List, [], ◌∷◌, ◌++◌, length, refl, sym, ap, ◌∙◌, arith}
+use Rattle.std.proofs.Math.Nat.{mul-add, mul-le-mul_left, mul_comm, mul_assoc, mul_left_comm}
+use Rattle.std.specs.Prelude.{Option, Some, None, IfSome, not, ◌&&◌}
+use Rattle.std.specs.List.{filter_map, flat_map, cons_option, AllByRecursion}
+use Rattle.std.specs.Ordering.{nat_cmp}
+use Rattle.std.specs.FinSet.{FinSet, empty, contains, remove, len, empty_of_len, contains-empty}
+use Rattle.std.proofs.lemmas.Bool.{false≢true, cases_eq, cases_Bool, cases_lt, ne_eqb}
+use Rattle.std.proofs.lemmas.List.{length-append}
+use Rattle.lattice.specs.Corners.{Corner}
+use Rattle.page_alloc.specs.Pages.{PageSet}
+use Rattle.page_codec.specs.Sizes.{pages_of}
+use Rattle.charts.specs.declared.locations.KeptLocations.{KeptLocations}
+use Rattle.charts.specs.declared.locations.TilePlanes.{TilePlanes}
+use Rattle.charts.specs.declared.slot.Slot.{Slot}
+use Rattle.charts.specs.declared.slot.Staged.{Staged}
+use Rattle.charts.specs.declared.slot.Staged.TheVariants.{AsCommitted, Heights, Removed}
+use Rattle.charts.specs.Locations.{times, pages_of_plane}
+use Rattle.charts.specs.FreePages.{page_times, heights_pages}
+use Rattle.charts.specs.TileLocations.{TileLocation, pages_of_tile, pages_of_kept, reached}
+use Rattle.charts.specs.Charts.{IsWholeTile, AreWholeKept}
+use Rattle.charts.specs.Slots.{committed_tile, staged_as, staged_tile, committed_tiles, staged_tiles, fresh_as, fresh_pages, pages_of_location, IsSound, IsKept}
+use Rattle.charts.proofs.Times.{one, one-other, times-append, length-differing}
+use Rattle.charts.proofs.FreeTimes.{contains-without, len-without, page_one}
+use Rattle.charts.proofs.SlotLists.{reached_all}
+
+-- ---- numbers that all stand in a list or a set are no more than these have
+-- the list without a number that stands in it
+pub left_out : (q : ℕ) (xs : List ℕ) → 1 ≤ times q xs → (ys : List ℕ) × ((length xs ≡ suc (length ys)) × ((p : ℕ) → p ≢ q → times p ys ≡ times p xs))
+left_out q [] some = absurd (omega arith)
+left_out q (x ∷ xs) some = elim (cases_eq q x) [
+  | inl same ↦ (xs, (refl, λ p other. (let none = one-other p x (λ e. other (e ∙ sym same)) in omega arith)))
+  | inr apart ↦
+      let none = one-other q x apart in
+      let rest = left_out q xs (omega arith) in
+      (x ∷ rest.0, (ap suc rest.1.0, λ p other. ap (λ n. one p x + n) (rest.1.1 p other)))
+]
+
+some_member : (s : FinSet nat_cmp) (q : ℕ) → contains s q ≡ true → 0 < len s
+some_member s q member =
+    elim (cases_lt 0 (len s)) [
+      | inl some ↦ some
+      | inr none ↦
+          let is_empty : s ≡ empty = empty_of_len s (omega arith) in
+          absurd (false≢true (sym (ap (λ t. contains t q) is_empty ∙ contains-empty nat_cmp q) ∙ member))
+    ]
+
+abbrev in_set : FinSet nat_cmp → ℕ → ℕ
+in_set s p = cond (contains s p) 1 0
+
+pub pages_le : (n : ℕ) (xs : List ℕ) (s : FinSet nat_cmp) → ((p : ℕ) → 4 ≤ p → p < 4 + n → 1 ≤ times p xs + in_set s p) → n ≤ length xs + len s
+pages_le zero xs s each = omega arith
+pages_le (suc n) xs s each = elim (cases_Bool (contains s (4 + n))) [
+  | inl member ↦
+      let q = 4 + n in
+      let some = some_member s q member in
+      let fewer = len-without s q member in
+      let rest = pages_le n xs (remove s q) (λ p low high. (
+      let other : p ≢ q = omega arith in
+      let same : contains (remove s q) p ≡ contains s p = contains-without s q p ∙ ap (λ b. not b && contains s p) (ne_eqb p q other) in
+      rw same (each p low (omega arith)))) in
+      omega arith
+  | inr absent ↦
+      let q = 4 + n in
+      let here : 1 ≤ times q xs + in_set s q = each q (omega arith) (omega arith) in
+      let none : in_set s q ≡ 0 = ap (λ b. cond b 1 0) absent in
+      let out = left_out q xs (omega arith) in
+      let rest = pages_le n out.0 s (λ p low high. (let other : p ≢ q = omega arith in omega (arith, each p low (omega arith), out.1.1 p other))) in
+      omega (arith, out.1.0)
+]
+
+-- ---- how many pages the slots use
+abbrev count : Option TileLocation → ℕ
+count None = 0
+count (Some t) = 1
+
+pages_few : (pages : Slot → List ℕ) (tile_of : Slot → Option TileLocation) (most : ℕ) (Q : Slot → Type 0) → ((s : Slot) → Q s → length (pages s) ≤ most * count (tile_of s))
+    → (slots : List Slot) → AllByRecursion Q slots → length (flat_map pages slots) ≤ most * length (filter_map tile_of slots)
+pages_few pages tile_of most Q each [] all = omega arith
+pages_few pages tile_of most Q each (s ∷ rest) all = by (tile_of s) (each s all.0) (pages_few pages tile_of most Q each rest all.1)
+  where
+    by : (o : Option TileLocation) → length (pages s) ≤ most * count o → length (flat_map pages rest) ≤ most * length (filter_map tile_of rest)
+        → length (pages s ++ flat_map pages rest) ≤ most * length (cons_option o (filter_map tile_of rest))
+    by None here later = omega (arith, length-append (pages s) (flat_map pages rest))
+    by (Some t) here later = omega (arith, length-append (pages s) (flat_map pages rest), mul-add most 1 (length (filter_map tile_of rest)))
+
+module _ (side : ℕ) where
+  abbrev plane_size : ℕ
+  plane_size = 1 + pages_of side
+
+  kept_few : (kept : Option KeptLocations) → IfSome kept (AreWholeKept side) → length (pages_of_kept kept) ≤ 2 * plane_size
+  kept_few None whole = omega arith
+  kept_few (Some k) whole = omega (arith, length-append (pages_of_plane k.levels) (pages_of_plane k.labels), whole.levels, whole.labels)
+
+  tile_few : (t : TileLocation) → IsWholeTile side t → length (pages_of_tile t) ≤ 3 * plane_size
+  tile_few t whole = omega (arith, length-append (pages_of_plane t.heights) (pages_of_kept t.kept), whole.heights, kept_few t.kept whole.kept)
+
+  committed_few : (s : Slot) → IsSound side s → length (pages_of_location (committed_tile s)) ≤ 3 * plane_size * count (committed_tile s)
+  committed_few s sound = by (committed_tile s) sound.committed
+    where
+      by : (o : Option TileLocation) → IfSome o (IsWholeTile side) → length (pages_of_location o) ≤ 3 * plane_size * count o
+      by None whole = omega arith
+      by (Some t) whole = omega (arith, tile_few t whole)
+
+  fresh_few : (s : Slot) → IsSound side s → length (fresh_pages s) ≤ plane_size * count (staged_tile s)
+  fresh_few s sound = by s.corner s.committed s.staged sound.staged
+    where
+      by : (c : Corner) (o : Option TilePlanes) (g : Staged) → IfSome (staged_as c o g) (IsWholeTile side) → length (fresh_as o g) ≤ plane_size * count (staged_as c o g)
+      by c o AsCommitted whole = omega arith
+      by c o (Heights location keeps) whole = omega (arith, length-differing location.pages (heights_pages o), whole.heights)
+      by c o Removed whole = omega arith
+
+left_over : (total used left m c nc ns lc lf : ℕ) → 4 + (4 * c + 2) * m ≤ total → total - 4 ≤ used + left → used ≡ lc + lf → lc ≤ 3 * m * nc → lf ≤ m * ns → m * nc ≤ m * c → m * ns ≤ m * c → 2 * m ≤ left
+left_over total used left m c nc ns lc lf size all joined committed fresh committed_most staged_most =
+    let needed : (4 * c + 2) * m ≡ 4 * (m * c) + m * 2 = mul_comm (4 * c + 2) m ∙ (mul-add m (4 * c) 2 ∙ ap (λ n. n + m * 2) (mul_left_comm m 4 c)) in
+    let three : 3 * m * nc ≡ 3 * (m * nc) = mul_assoc 3 m nc in
+    omega arith
+
+-- two planes more than the slots use, at the least
+pub room_left : (side capacity : ℕ) (slots : List Slot) (free : PageSet) → IsKept side capacity slots free → 2 * (1 + pages_of side) ≤ len free.free
+room_left side capacity slots free is =
+    let used = reached (committed_tiles slots) ++ flat_map fresh_pages slots in
+    let m = 1 + pages_of side in
+    let all : free.total - 4 ≤ length used + len free.free =
+    pages_le (free.total - 4) used free.free (λ p low high. (
+    let page : page_times free.total p ≡ 1 = page_one free.total p (low, omega (arith, is.size)) in
+    omega (arith, is.counted p, page, times-append p (reached (committed_tiles slots)) (flat_map fresh_pages slots)))) in
+    let committed : length (reached (committed_tiles slots)) ≤ 3 * m * length (committed_tiles slots) =
+    rw (reached_all committed_tile slots) (pages_few (λ s. pages_of_location (committed_tile s)) committed_tile (3 * m) (IsSound side) (committed_few side) slots is.sound) in
+    let fresh : length (flat_map fresh_pages slots) ≤ m * length (staged_tiles slots) = pages_few fresh_pages staged_tile m (IsSound side) (fresh_few side) slots is.sound in
+    let committed_most : m * length (committed_tiles slots) ≤ m * capacity = mul-le-mul_left m is.committed_room in
+    let staged_most : m * length (staged_tiles slots) ≤ m * capacity = mul-le-mul_left m is.staged_room in
+    let joined = length-append (reached (committed_tiles slots)) (flat_map fresh_pages slots) in
+    left_over free.total (length used) (len free.free) m capacity (length (committed_tiles slots)) (length (staged_tiles slots)) _ _ is.size all joined committed fresh committed_most staged_most

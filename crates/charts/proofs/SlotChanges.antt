@@ -1,0 +1,205 @@
+-- What a chart is once one slot has changed.
+use Rattle.std.proofs.Common.{◌≡◌, ℕ, suc, ◌+◌, ◌≤◌, true, false, cond, not, IsTrue, List, [], ◌∷◌, ◌++◌, length, map, refl, sym, ap, subst, ◌∙◌, arith}
+use Rattle.std.specs.Prelude.{Option, Some, None, IfSome, option_map}
+use Rattle.std.specs.List.{cons_option, AllByRecursion}
+use Rattle.std.proofs.lemmas.List.{length-set}
+use Rattle.std.proofs.lemmas.List.Elements.{filter_map-append}
+use Rattle.lattice.specs.Corners.{Corner, same_corner, is_corner}
+use Rattle.lattice.proofs.CornerOrder.{before_not_same, after_not_same, same_from}
+use Rattle.lattice.proofs.Rising.{AllAfter, Rising, rising_from, adjacent_from}
+use Rattle.page_alloc.specs.Pages.{PageSet}
+use Rattle.charts.specs.declared.locations.TilePlanes.{TilePlanes}
+use Rattle.charts.specs.declared.slot.Slot.{Slot}
+use Rattle.charts.specs.declared.slot.Staged.{Staged}
+use Rattle.charts.specs.declared.slot.Staged.TheVariants.{AsCommitted, Heights, Removed}
+use Rattle.charts.specs.Locations.{times}
+use Rattle.charts.specs.FreePages.{free_times}
+use Rattle.charts.specs.TileLocations.{TileLocation}
+use Rattle.charts.specs.Charts.{ChartValue, IsFresh, IsWholeTile, IsRewritten, is_at, tile_at, with_page_location_in, with_page_location, without_location}
+use Rattle.charts.specs.Slots.{committed_tile, staged_as, staged_tile, committed_tiles, staged_tiles, fresh_pages, pages_of_location, is_filled_as, IsSound, AreCounted, IsKept, chart_of, IsRestaged, IsPageRestaged}
+use Rattle.charts.proofs.Times.{times-append}
+use Rattle.charts.proofs.SlotLists.{times-split, counted_change, corner_of, rising_change, AllBefore, rising_before, rising_after, staged_own}
+use Rattle.charts.proofs.ChartRules.{fresh_page}
+
+-- ---- the invariant
+all_change : (P : Slot → Type 0) (before : List Slot) (s new : Slot) (after : List Slot) → P new → AllByRecursion P (before ++ s ∷ after) → AllByRecursion P (before ++ new ∷ after)
+all_change P [] s new after here all = (here, all.1)
+all_change P (b ∷ before) s new after here all = (all.0, all_change P before s new after here all.1)
+
+pub all_middle : (P : Slot → Type 0) (before : List Slot) (s : Slot) (after : List Slot) → AllByRecursion P (before ++ s ∷ after) → P s
+all_middle P [] s after all = all.0
+all_middle P (b ∷ before) s after all = all_middle P before s after all.1
+
+pub kept_change : (side capacity : ℕ) (before : List Slot) (s new : Slot) (after : List Slot) (free now : PageSet)
+    → IsKept side capacity (before ++ s ∷ after) free → new.corner ≡ s.corner → committed_tile new ≡ committed_tile s → IsSound side new
+    → length (staged_tiles (before ++ new ∷ after)) ≤ capacity → now.total ≡ free.total
+    → ((p : ℕ) → times p (fresh_pages new) + free_times now p ≡ times p (fresh_pages s) + free_times free p)
+    → IsKept side capacity (before ++ new ∷ after) now
+kept_change side capacity before s new after free now is same_corner same_committed sound room same_total each = record {
+  size = rw same_total is.size;
+  fits = rw same_total is.fits;
+  few = is.few;
+  in_order = adjacent_from corner_of (before ++ new ∷ after) (rising_change before s new after same_corner (rising_from corner_of (before ++ s ∷ after) is.in_order));
+  sound = all_change (IsSound side) before s new after sound is.sound;
+  committed_room =
+      (let same : committed_tiles (before ++ new ∷ after) ≡ committed_tiles (before ++ s ∷ after) =
+      filter_map-append committed_tile before (new ∷ after)
+      ∙ (ap (λ (o : Option TileLocation). committed_tiles before ++ cons_option o (committed_tiles after)) same_committed
+      ∙ sym (filter_map-append committed_tile before (s ∷ after))) in
+      rw same is.committed_room);
+  staged_room = room;
+  counted = counted_change before s after free is.counted new now same_total (λ p.
+      (let committed = ap (λ (o : Option TileLocation). times p (pages_of_location o)) same_committed in
+      omega (arith, committed, each p, times-append p (pages_of_location (committed_tile new)) (fresh_pages new), times-append p (pages_of_location (committed_tile s)) (fresh_pages s))));
+}
+
+pub same_committed : (s new : Slot) → new.corner ≡ s.corner → new.committed ≡ s.committed → committed_tile new ≡ committed_tile s
+same_committed s new corner committed = ap (λ (c : Corner). option_map (tile_at c) new.committed) corner ∙ ap (option_map (tile_at s.corner)) committed
+
+pub filled_from : (s : Slot) (t : TileLocation) → staged_tile s ≡ Some t → is_filled_as s.committed s.staged ≡ true
+filled_from s t is = by s.corner s.committed s.staged is
+  where
+    by : (c : Corner) (o : Option TilePlanes) (g : Staged) → staged_as c o g ≡ Some t → is_filled_as o g ≡ true
+    by c None AsCommitted is = cc
+    by c (Some planes) AsCommitted is = refl
+    by c o (Heights location keeps) is = refl
+    by c o Removed is = cc
+
+-- ---- the staged tiles
+abbrev pub AllOther : Corner → List TileLocation → Type 0
+AllOther c tiles = AllByRecursion (λ t. is_at c t ≡ false) tiles
+
+pub other_before : (c : Corner) (slots : List Slot) → AllBefore c slots → AllOther c (staged_tiles slots)
+other_before c [] h = tt
+other_before c (s ∷ rest) h = by (staged_tile s) (staged_own s) (other_before c rest h.1)
+  where
+    by : (o : Option TileLocation) → IfSome o (λ t. t.corner ≡ s.corner) → AllOther c (staged_tiles rest) → AllOther c (cons_option o (staged_tiles rest))
+    by None is later = later
+    by (Some t) is later = (subst (λ (d : Corner). same_corner d c ≡ false) (sym is) (before_not_same s.corner c h.0), later)
+
+pub other_after : (c : Corner) (slots : List Slot) → AllAfter corner_of c slots → AllOther c (staged_tiles slots)
+other_after c [] h = tt
+other_after c (s ∷ rest) h = by (staged_tile s) (staged_own s) (other_after c rest h.1)
+  where
+    by : (o : Option TileLocation) → IfSome o (λ t. t.corner ≡ s.corner) → AllOther c (staged_tiles rest) → AllOther c (cons_option o (staged_tiles rest))
+    by None is later = later
+    by (Some t) is later = (subst (λ (d : Corner). same_corner d c ≡ false) (sym is) (after_not_same c s.corner h.0), later)
+
+module _ (c : Corner) where
+  map_other : (f : TileLocation → TileLocation) → ((t : TileLocation) → is_at c t ≡ false → f t ≡ t) → (tiles : List TileLocation) → AllOther c tiles → map f tiles ≡ tiles
+  map_other f same [] other = refl
+  map_other f same (t ∷ rest) other = ap (λ u. u ∷ map f rest) (same t other.0) ∙ ap (λ l. t ∷ l) (map_other f same rest other.1)
+
+  map_at : (f : TileLocation → TileLocation) → ((t : TileLocation) → is_at c t ≡ false → f t ≡ t) → (xs : List TileLocation) (t : TileLocation) (ys : List TileLocation) → AllOther c xs → AllOther c ys
+      → map f (xs ++ t ∷ ys) ≡ xs ++ f t ∷ ys
+  map_at f same [] t ys earlier later = ap (λ l. f t ∷ l) (map_other f same ys later)
+  map_at f same (x ∷ xs) t ys earlier later = ap (λ u. u ∷ map f (xs ++ t ∷ ys)) (same x earlier.0) ∙ ap (λ l. x ∷ l) (map_at f same xs t ys earlier.1 later)
+
+  without_other : (tiles : List TileLocation) → AllOther c tiles → without_location c tiles ≡ tiles
+  without_other [] other = refl
+  without_other (t ∷ rest) other = ap (λ b. cond (not b) (t ∷ without_location c rest) (without_location c rest)) other.0 ∙ ap (λ l. t ∷ l) (without_other rest other.1)
+
+  without_at : (xs : List TileLocation) (t : TileLocation) (ys : List TileLocation) → AllOther c xs → is_at c t ≡ true → AllOther c ys → without_location c (xs ++ t ∷ ys) ≡ xs ++ ys
+  without_at [] t ys earlier here later = ap (λ b. cond (not b) (t ∷ without_location c ys) (without_location c ys)) here ∙ without_other ys later
+  without_at (x ∷ xs) t ys earlier here later =
+      ap (λ b. cond (not b) (x ∷ without_location c (xs ++ t ∷ ys)) (without_location c (xs ++ t ∷ ys))) earlier.0 ∙ ap (λ l. x ∷ l) (without_at xs t ys earlier.1 here later)
+
+-- the slot in the middle, with its neighbours
+module _ (before : List Slot) (s : Slot) (after : List Slot) (rising : Rising corner_of (before ++ s ∷ after)) (t : TileLocation) (had : staged_tile s ≡ Some t) where
+  abbrev location : Corner
+  location = s.corner
+
+  pub staged_corner : t.corner ≡ s.corner
+  staged_corner = let own : IfSome (Some t) (λ (u : TileLocation). u.corner ≡ s.corner) = subst (λ (o : Option TileLocation). IfSome o (λ u. u.corner ≡ s.corner)) had (staged_own s) in own
+
+  pub staged_at : is_at location t ≡ true
+  staged_at = same_from t.corner s.corner staged_corner
+
+  pub staged_split : staged_tiles (before ++ s ∷ after) ≡ staged_tiles before ++ t ∷ staged_tiles after
+  staged_split = filter_map-append staged_tile before (s ∷ after) ∙ ap (λ (o : Option TileLocation). staged_tiles before ++ cons_option o (staged_tiles after)) had
+
+  earlier_other : AllOther location (staged_tiles before)
+  earlier_other = other_before location before (rising_before before s after rising)
+
+  later_other : AllOther location (staged_tiles after)
+  later_other = other_after location after (rising_after before s after rising)
+
+  pub staged_mapped : (f : TileLocation → TileLocation) → ((u : TileLocation) → is_at location u ≡ false → f u ≡ u) → (new : Slot) → staged_tile new ≡ Some (f t) → staged_tiles (before ++ new ∷ after) ≡ map f (staged_tiles (before ++ s ∷ after))
+  staged_mapped f same new has =
+      filter_map-append staged_tile before (new ∷ after)
+      ∙ (ap (λ (o : Option TileLocation). staged_tiles before ++ cons_option o (staged_tiles after)) has
+      ∙ (sym (map_at location f same (staged_tiles before) t (staged_tiles after) earlier_other later_other)
+      ∙ ap (map f) (sym staged_split)))
+
+  pub staged_without : (new : Slot) → staged_tile new ≡ None → staged_tiles (before ++ new ∷ after) ≡ without_location location (staged_tiles (before ++ s ∷ after))
+  staged_without new has =
+      filter_map-append staged_tile before (new ∷ after)
+      ∙ (ap (λ (o : Option TileLocation). staged_tiles before ++ cons_option o (staged_tiles after)) has
+      ∙ (sym (without_at location (staged_tiles before) t (staged_tiles after) earlier_other staged_at later_other)
+      ∙ ap (without_location location) (sym staged_split)))
+
+length-map : (f : TileLocation → TileLocation) (tiles : List TileLocation) → length (map f tiles) ≡ length tiles
+length-map f [] = refl
+length-map f (t ∷ rest) = ap (λ n. suc n) (length-map f rest)
+
+-- a slot's fresh page is fresh in the chart
+pub slot_fresh : (side capacity : ℕ) (before : List Slot) (s : Slot) (after : List Slot) (free : PageSet) → AreCounted (before ++ s ∷ after) free → (p : ℕ) → 1 ≤ times p (fresh_pages s) → IsFresh (chart_of side capacity (before ++ s ∷ after) free) p
+slot_fresh side capacity before s after free counted p some = fresh_page side capacity (before ++ s ∷ after) free counted p (omega (arith, times-split fresh_pages p before s after))
+
+same_committed_tiles : (before : List Slot) (s new : Slot) (after : List Slot) → committed_tile new ≡ committed_tile s → committed_tiles (before ++ new ∷ after) ≡ committed_tiles (before ++ s ∷ after)
+same_committed_tiles before s new after same =
+    filter_map-append committed_tile before (new ∷ after)
+    ∙ (ap (λ (o : Option TileLocation). committed_tiles before ++ cons_option o (committed_tiles after)) same
+    ∙ sym (filter_map-append committed_tile before (s ∷ after)))
+
+-- the chart with other staged tiles
+pub chart_changed : (side capacity : ℕ) (before : List Slot) (s new : Slot) (after : List Slot) (free now : PageSet) → now.total ≡ free.total → committed_tile new ≡ committed_tile s
+    → (tiles : List TileLocation) → staged_tiles (before ++ new ∷ after) ≡ tiles
+    → chart_of side capacity (before ++ new ∷ after) now ≡ record (chart_of side capacity (before ++ s ∷ after) free) { staged = tiles }
+chart_changed side capacity before s new after free now total same tiles staged =
+    let chart : ℕ → List TileLocation → List TileLocation → ChartValue = λ n c t. record { sectors = n; side = side; capacity = capacity; committed = c; staged = t } in
+    ap (λ (n : ℕ). chart n (committed_tiles (before ++ new ∷ after)) (staged_tiles (before ++ new ∷ after))) total
+    ∙ (ap (λ (l : List TileLocation). chart free.total l (staged_tiles (before ++ new ∷ after))) (same_committed_tiles before s new after same)
+    ∙ ap (λ (l : List TileLocation). chart free.total (committed_tiles (before ++ s ∷ after)) l) staged)
+
+-- ---- a page that may be written
+module _ (side capacity : ℕ) (before : List Slot) (s new : Slot) (after : List Slot) (free now : PageSet) (is : IsKept side capacity (before ++ s ∷ after) free)
+    (i page : ℕ) (staged : IsPageRestaged i page s new) (restaged : IsRestaged s new free now) where
+  rising : Rising corner_of (before ++ s ∷ after)
+  rising = rising_from corner_of (before ++ s ∷ after) is.in_order
+
+  abbrev rewrite : TileLocation → TileLocation
+  rewrite = with_page_location_in s.corner i page staged.record_page
+
+  rewrite_other : (u : TileLocation) → is_at s.corner u ≡ false → rewrite u ≡ u
+  rewrite_other u other = rw other refl
+
+  rewrite_here : staged_tile new ≡ Some (rewrite staged.tile)
+  rewrite_here = staged.has ∙ ap Some (sym (rw (staged_at before s after rising staged.tile staged.had) refl))
+
+  pub rewritten_tiles : staged_tiles (before ++ new ∷ after) ≡ with_page_location s.corner i page staged.record_page (staged_tiles (before ++ s ∷ after))
+  rewritten_tiles = staged_mapped before s after rising staged.tile staged.had rewrite rewrite_other new rewrite_here
+
+  sound_now : IsSound side new
+  sound_now =
+      let was : IsSound side s = all_middle (IsSound side) before s after is.sound in
+      let whole : IsWholeTile side staged.tile = subst (λ (o : Option TileLocation). IfSome o (IsWholeTile side)) staged.had was.staged in
+      record {
+        corner = subst (λ (d : Corner). IsTrue (is_corner d)) (sym restaged.corner) was.corner;
+        committed = subst (λ (o : Option TileLocation). IfSome o (IsWholeTile side)) (sym (same_committed s new restaged.corner restaged.committed)) was.committed;
+        staged = subst (λ (o : Option TileLocation). IfSome o (IsWholeTile side)) (sym staged.has) (record { heights = length-set staged.tile.heights.pages i page ∙ whole.heights; kept = whole.kept });
+        filled = filled_from new _ staged.has;
+      }
+
+  pub rewritten_kept : IsKept side capacity (before ++ new ∷ after) now
+  rewritten_kept =
+      kept_change side capacity before s new after free now is restaged.corner (same_committed s new restaged.corner restaged.committed) sound_now
+      (rw rewritten_tiles (rw (length-map rewrite (staged_tiles (before ++ s ∷ after))) is.staged_room)) restaged.same_total restaged.each
+
+  pub rewritten : IsRewritten s.corner i page (chart_of side capacity (before ++ s ∷ after) free) (chart_of side capacity (before ++ new ∷ after) now)
+  rewritten = record {
+    record_page = staged.record_page;
+    fresh_record = slot_fresh side capacity before new after now rewritten_kept.counted staged.record_page staged.fresh_record;
+    fresh_page = slot_fresh side capacity before new after now rewritten_kept.counted page staged.fresh_page;
+    changed = chart_changed side capacity before s new after free now restaged.same_total (same_committed s new restaged.corner restaged.committed) _ rewritten_tiles;
+  }

@@ -1,0 +1,27 @@
+use Rattle.std.proofs.Common.{arith, ◌∙◌}
+use Rattle.std.proofs.lemmas.List.{length-set, with_items_is}
+use Rattle.charts.proofs.FreeTimes.{taken_none}
+use Rattle.charts.proofs.GivenSoFar.{taken_set, taken_plane}
+use Rattle.charts.proofs.pages.fresh_plane.Goals as goal
+
+pub loop-page-init : goal.loop-page-init
+loop-page-init c = (taken_none _, omega arith, c.deref_mut-page-items.ensures.len ∙ c.in_ok-pages.ensures.len)
+
+pub loop-page-preserved : goal.loop-page-preserved
+loop-page-preserved c = (
+  taken_set _ _ _ _ _ _ (omega (arith, c.loop-page.auto.page-items, c.loop-page-test.true)) c.loop-page.invariant.0 c.take_page.ensures.taken,
+  omega (arith, c.loop-page.invariant.1, c.take_page.ensures.left),
+  rw length-set c.loop-page.invariant.2,
+)
+
+pub take_page-requires : goal.take_page-requires
+take_page-requires c = omega (arith, c.requires, c.loop-page.invariant.1, c.loop-page.invariant.2, c.loop-page-test.true, c.loop-page.auto.page-items)
+
+pub take_page-requires-2 : goal.take_page-requires-2
+take_page-requires-2 c = omega (arith, c.requires, c.loop-page.invariant.1, c.loop-page.invariant.2, c.loop-page.auto.page-index-end, c.loop-page.auto.page-items)
+
+pub returns-clause-taken : goal.returns-clause-taken
+returns-clause-taken c =
+    let items = with_items_is c.in_ok-pages.pages c.loop-page.page-items (omega (arith, c.loop-page.auto.page-items, c.deref_mut-page-items.ensures.len)) in
+    rw (c.new.ensures, items)
+    (taken_plane _ _ _ _ _ _ (omega (arith, c.loop-page-test.false, c.loop-page.auto.page-items)) c.loop-page.invariant.0 c.take_page-2.ensures.taken)

@@ -1,0 +1,22 @@
+use Rattle.std.proofs.Common.{[], ◌∷◌}
+use Rattle.charts.specs.FreePages.{AreGiven}
+use Rattle.charts.proofs.Times.{differing-nil}
+use Rattle.charts.proofs.FreeTimes.{in_use-head, in_use-rest, given_one_page, given-append}
+use Rattle.charts.proofs.pages.give_plane.Goals as goal
+use Rattle.charts.proofs.pages.give_plane.Goals.{After-give}
+
+pub give-requires-clause-in_range : goal.give-requires-clause-in_range
+give-requires-clause-in_range c = rw c.record_page.ensures (in_use-head _ _ _ c.requires).0
+
+record_given : (c : After-give) → AreGiven (c.args.plane.now.record_page ∷ []) c.args.free.now c.give.new.self
+record_given c = given_one_page _ _ _ (in_use-head _ _ _ c.requires).1 (rw c.record_page.ensures at c.give.ensures)
+
+pub give_differing-requires : goal.give_differing-requires
+give_differing-requires c =
+    let rest = in_use-rest (c.args.plane.now.record_page ∷ []) c.args.plane.now.pages _ _ c.args.free.now c.requires (record_given (goal.at.give_differing-requires c).After-give) in
+    rw (c.pages.ensures, differing-nil c.args.plane.now.pages) rest
+
+pub returns : goal.returns
+returns c =
+    let rest : AreGiven c.args.plane.now.pages c.give.new.self c.give_differing.new.free = rw (c.pages.ensures, differing-nil c.args.plane.now.pages) at c.give_differing.ensures in
+    given-append (c.args.plane.now.record_page ∷ []) c.args.plane.now.pages _ _ _ (record_given (goal.at.returns c).After-give) rest

@@ -1,0 +1,139 @@
+-- Which pages hold which planes: as committed, and as the next commit will have it (this product's own profile).
+use Rattle.std.specs.Prelude.{◌≡◌, ◌⊎◌, ℕ, ◌≤◌, ◌<◌, ◌==◌, Bool, IsTrue, List, [], ◌∷◌, All, Contains, length, map, filter, not, Some, None, IsSome, IfSome, if◌then◌else◌, slice_set}
+use Rattle.std.specs.List.{AllAdjacentBelow, list_any}
+use Rattle.lattice.specs.Corners.{Corner, same_corner, is_before, is_corner}
+use Rattle.lattice.specs.Lattice.{IsBefore}
+use Rattle.page_codec.specs.Sizes.{pages_of, sectors_of}
+use Rattle.charts.specs.declared.locations.KeptLocations.{KeptLocations}
+use Rattle.charts.specs.declared.locations.TilePlanes.{TilePlanes}
+use Rattle.charts.specs.Locations.{PlaneLocation, pages_of_plane}
+use Rattle.charts.specs.TileLocations.{TileLocation, KeepsPageRule, reached}
+
+-- the disk's sectors, the side of the tiles and how many there is room for; the tiles as committed and as staged
+pub record ChartValue : Type 0 where
+  pub sectors : ℕ
+  pub side : ℕ
+  pub capacity : ℕ
+  pub committed : List TileLocation
+  pub staged : List TileLocation
+
+-- no tile, neither committed nor staged
+abbrev pub no_tiles_charted : (sectors side capacity : ℕ) → ChartValue
+no_tiles_charted sectors side capacity = record { sectors = sectors; side = side; capacity = capacity; committed = []; staged = [] }
+
+-- the corner's tile, with these planes
+abbrev pub tile_at : Corner → TilePlanes → TileLocation
+tile_at c planes = record { corner = c; heights = planes.heights; kept = planes.kept }
+
+abbrev pub corners_of_locations : List TileLocation → List Corner
+corners_of_locations tiles = map (λ t. t.corner) tiles
+
+-- some tile has this corner
+abbrev pub IsLocated : Corner → List TileLocation → Type 0
+IsLocated c tiles = Contains (corners_of_locations tiles) c
+
+-- the corner's tile has its heights there
+abbrev pub HasHeights : Corner → PlaneLocation → List TileLocation → Type 0
+HasHeights c location tiles = (t : TileLocation) × (Contains tiles t × (t.corner ≡ c) × (t.heights ≡ location))
+
+-- the corner's tile has these planes kept there
+abbrev pub HasKept : Corner → KeptLocations → List TileLocation → Type 0
+HasKept c kept tiles = (t : TileLocation) × (Contains tiles t × (t.corner ≡ c) × (t.kept ≡ Some kept))
+
+pub record AreWholeKept (side : ℕ) (k : KeptLocations) : Type 0 where
+  pub levels : length k.levels.pages ≡ pages_of side
+  pub labels : length k.labels.pages ≡ pages_of side
+
+-- each plane of the tile has all its pages
+pub record IsWholeTile (side : ℕ) (t : TileLocation) : Type 0 where
+  pub heights : length t.heights.pages ≡ pages_of side
+  pub kept : IfSome t.kept (AreWholeKept side)
+
+-- whole tiles of corners in order, no more than there is room for, by the page rule
+pub record AreCharted (sectors side capacity : ℕ) (tiles : List TileLocation) : Type 0 where
+  pub corners : All (λ t. IsTrue (is_corner t.corner)) tiles
+  pub in_order : AllAdjacentBelow (λ a b. IsBefore a.corner b.corner) tiles (length tiles)
+  pub room : length tiles ≤ capacity
+  pub whole : All (IsWholeTile side) tiles
+  pub page_rule : KeepsPageRule sectors tiles
+
+-- a page that the committed tiles don't reach
+pub record IsFresh (chart : ChartValue) (p : ℕ) : Type 0 where
+  pub low : 4 ≤ p
+  pub high : p < chart.sectors
+  pub unreached : ¬ Contains (reached chart.committed) p
+
+-- what a staged tile is: committed as it is, or with a fresh record of its heights, and any kept planes a committed tile's
+pub record IsStagedIn (chart : ChartValue) (t : TileLocation) : Type 0 where
+  pub settled : Contains chart.committed t ⊎ IsFresh chart t.heights.record_page
+  pub kept : IsSome t.kept → Contains (map (λ u. u.kept) chart.committed) t.kept
+
+pub record IsChart (chart : ChartValue) : Type 0 where
+  pub size : sectors_of chart.side chart.capacity ≤ chart.sectors
+  pub committed : AreCharted chart.sectors chart.side chart.capacity chart.committed
+  pub staged : AreCharted chart.sectors chart.side chart.capacity chart.staged
+  pub each : All (IsStagedIn chart) chart.staged
+
+-- nothing is staged
+abbrev pub IsClean : ChartValue → Type 0
+IsClean chart = chart.staged ≡ chart.committed
+
+-- the corner's heights are staged: their record isn't committed
+abbrev pub HasFreshHeights : Corner → ChartValue → Type 0
+HasFreshHeights c chart = (t : TileLocation) × (Contains chart.staged t × (t.corner ≡ c) × IsFresh chart t.heights.record_page)
+
+-- the same as a test of a staged tile
+abbrev pub is_changed : List TileLocation → TileLocation → Bool
+is_changed committed t = not (list_any (λ p. p == t.heights.record_page) (reached committed))
+
+-- the corners of the tiles whose heights are staged, in order
+abbrev pub fresh_corners : ChartValue → List Corner
+fresh_corners chart = corners_of_locations (filter (is_changed chart.committed) chart.staged)
+
+abbrev pub is_at : Corner → TileLocation → Bool
+is_at c t = same_corner t.corner c
+
+-- the tiles with one more, in order
+abbrev pub with_tile_location : TileLocation → List TileLocation → List TileLocation
+with_tile_location new [] = new ∷ []
+with_tile_location new (t ∷ rest) = if is_before new.corner t.corner then new ∷ (t ∷ rest) else t ∷ with_tile_location new rest
+
+-- the tiles without the corner's
+abbrev pub without_location : Corner → List TileLocation → List TileLocation
+without_location c tiles = filter (λ t. not (is_at c t)) tiles
+
+-- the tile with page i of its heights there, and their record too, if it is the corner's
+abbrev pub with_page_location_in : (c : Corner) (i page record_page : ℕ) → TileLocation → TileLocation
+with_page_location_in c i page record_page t =
+    if is_at c t then record t { heights = record { record_page = record_page; pages = slice_set t.heights.pages i page } } else t
+
+abbrev pub with_page_location : (c : Corner) (i page record_page : ℕ) → List TileLocation → List TileLocation
+with_page_location c i page record_page tiles = map (with_page_location_in c i page record_page) tiles
+
+-- the tile with the record of its heights there, if it is the corner's
+abbrev pub with_record_in : (c : Corner) (record_page : ℕ) → TileLocation → TileLocation
+with_record_in c record_page t = if is_at c t then record t { heights = record { record_page = record_page; pages = t.heights.pages } } else t
+
+abbrev pub with_record : (c : Corner) (record_page : ℕ) → List TileLocation → List TileLocation
+with_record c record_page tiles = map (with_record_in c record_page) tiles
+
+-- page i of the corner's heights may be written at this page: no committed tile has it or the record of the heights, and
+-- nothing else has changed
+pub record IsRewritten (c : Corner) (i page : ℕ) (old new : ChartValue) : Type 0 where
+  pub record_page : ℕ
+  pub fresh_record : IsFresh new record_page
+  pub fresh_page : IsFresh new page
+  pub changed : new ≡ record old { staged = with_page_location c i page record_page old.staged }
+
+-- the record of the corner's heights has a fresh page, and nothing else has changed
+pub record IsPrepared (c : Corner) (old new : ChartValue) : Type 0 where
+  pub record_page : ℕ
+  pub fresh_record : IsFresh new record_page
+  pub changed : new ≡ record old { staged = with_record c record_page old.staged }
+
+-- the corner's tile is new, with fresh pages for its heights
+pub record IsAdded (c : Corner) (old new : ChartValue) : Type 0 where
+  pub location : PlaneLocation
+  pub whole : length location.pages ≡ pages_of old.side
+  pub fresh : All (IsFresh new) (pages_of_plane location)
+  pub changed : new ≡ record old { staged = with_tile_location (record { corner = c; heights = location; kept = None }) old.staged }

@@ -1,0 +1,65 @@
+-- Pages taken out of the free ones, and given back.
+use Rattle.std.specs.Prelude.{◌≡◌, ℕ, ◌+◌, ◌≤◌, ◌&&◌, ◌==◌, nat_le, nat_lt, Bool, List, [], ◌∷◌, ◌++◌, Option, Some, None, if◌then◌else◌}
+use Rattle.std.specs.FinSet.{contains}
+use Rattle.page_alloc.specs.Pages.{PageSet}
+use Rattle.charts.specs.declared.locations.TilePlanes.{TilePlanes}
+use Rattle.charts.specs.declared.locations.KeptLocations.{KeptLocations}
+use Rattle.charts.specs.Locations.{PlaneLocation, pages_of_plane, times}
+use Rattle.charts.specs.TileLocations.{pages_of_kept}
+
+-- 1 for a page that is free, else 0
+abbrev pub free_times : PageSet → ℕ → ℕ
+free_times pages p = if contains pages.free p then 1 else 0
+
+-- 1 for the number of a page, else 0
+abbrev pub page_times : ℕ → ℕ → ℕ
+page_times sectors p = if nat_le 4 p && nat_lt p sectors then 1 else 0
+
+-- the listed pages were free, each of them once, and are free no longer
+pub record AreTaken (listed : List ℕ) (old new : PageSet) : Type 0 where
+  pub same_total : new.total ≡ old.total
+  pub each : (p : ℕ) → times p listed + free_times new p ≡ free_times old p
+
+-- the listed pages are free now
+pub record AreGiven (listed : List ℕ) (old new : PageSet) : Type 0 where
+  pub same_total : new.total ≡ old.total
+  pub each : (p : ℕ) → free_times new p ≡ times p listed + free_times old p
+
+-- the listed numbers are those of pages in use, each once
+abbrev pub AreInUse : List ℕ → PageSet → Type 0
+AreInUse listed pages = (p : ℕ) → times p listed + free_times pages p ≤ page_times pages.total p
+
+-- the pages of the first list that don't stand at the same index in the second
+abbrev pub differing : List ℕ → List ℕ → List ℕ
+differing [] others = []
+differing (p ∷ rest) [] = p ∷ rest
+differing (p ∷ rest) (q ∷ others) = if p == q then differing rest others else p ∷ differing rest others
+
+-- all pages of a tile's planes
+abbrev pub pages_of_planes : TilePlanes → List ℕ
+pages_of_planes planes = pages_of_plane planes.heights ++ pages_of_kept planes.kept
+
+abbrev pub all_pages : Option TilePlanes → List ℕ
+all_pages None = []
+all_pages (Some planes) = pages_of_planes planes
+
+abbrev pub kept_of : Option TilePlanes → Option KeptLocations
+kept_of None = None
+kept_of (Some planes) = planes.kept
+
+abbrev pub heights_pages : Option TilePlanes → List ℕ
+heights_pages None = []
+heights_pages (Some planes) = planes.heights.pages
+
+-- The pages that other heights of a tile do without: its record, its pages that they don't have, and its kept planes
+-- where they don't stay.
+abbrev pub replaced_pages : Option TilePlanes → PlaneLocation → Bool → List ℕ
+replaced_pages None location keeps = []
+replaced_pages (Some was) location keeps =
+    was.heights.record_page ∷ (differing was.heights.pages location.pages ++ (if keeps then [] else pages_of_kept was.kept))
+
+-- a page of a plane is this page now, which the committed plane doesn't have, and the free pages make up for it
+pub record IsOwned (committed : List ℕ) (page : ℕ) (old new : List ℕ) (was now : PageSet) : Type 0 where
+  pub fresh : 1 ≤ times page (differing new committed)
+  pub same_total : now.total ≡ was.total
+  pub each : (p : ℕ) → times p (differing new committed) + free_times now p ≡ times p (differing old committed) + free_times was p

@@ -1,0 +1,22 @@
+-- The planes of a tile by name.
+use Rattle.std.specs.Prelude.{◌≡◌, List, Contains, Some}
+use Rattle.lattice.specs.Corners.{Corner}
+use Rattle.charts.specs.declared.plane.Plane.{Plane}
+use Rattle.charts.specs.declared.plane.Plane.TheVariants.{Heights, Levels, Labels}
+use Rattle.charts.specs.declared.locations.KeptLocations.{KeptLocations}
+use Rattle.charts.specs.Locations.{PlaneLocation}
+use Rattle.charts.specs.TileLocations.{TileLocation}
+
+-- the tile has its plane there
+abbrev pub LiesAt : Plane → TileLocation → PlaneLocation → Type 0
+LiesAt Heights t location = t.heights ≡ location
+LiesAt Levels t location = (kept : KeptLocations) × ((t.kept ≡ Some kept) × (kept.levels ≡ location))
+LiesAt Labels t location = (kept : KeptLocations) × ((t.kept ≡ Some kept) × (kept.labels ≡ location))
+
+-- these tiles have a plane of this name for the corner
+abbrev pub HasPlane : List TileLocation → Corner → Plane → Type 0
+HasPlane tiles c plane = (t : TileLocation) × (Contains tiles t × ((t.corner ≡ c) × ((location : PlaneLocation) × LiesAt plane t location)))
+
+-- the corner's plane lies there
+abbrev pub HasPlaneAt : List TileLocation → Corner → Plane → PlaneLocation → Type 0
+HasPlaneAt tiles c plane location = (t : TileLocation) × (Contains tiles t × ((t.corner ≡ c) × LiesAt plane t location))

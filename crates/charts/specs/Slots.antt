@@ -1,0 +1,160 @@
+-- How a chart is kept: a slot for each corner that has a committed or a staged tile.
+use Rattle.std.specs.Prelude.{◌≡◌, ℕ, ◌+◌, ◌≤◌, ◌<◌, ◌^◌, true, false, Bool, IsTrue, List, [], ◌∷◌, ◌++◌, length, Option, Some, None, IfSome, is_some, if◌then◌else◌, slice_set, slice_index_or}
+use Rattle.std.specs.Option.{option_map}
+use Rattle.std.specs.List.{HoldsAt, AllWithin, filter_map, flat_map, AllByRecursion, AllAdjacentBelow}
+use Rattle.lattice.specs.Corners.{Corner, is_corner}
+use Rattle.lattice.specs.Lattice.{IsBefore}
+use Rattle.page_alloc.specs.Pages.{PageSet}
+use Rattle.page_codec.specs.Sizes.{sectors_of}
+use Rattle.charts.specs.declared.locations.TilePlanes.{TilePlanes}
+use Rattle.charts.specs.declared.slot.Slot.{Slot}
+use Rattle.charts.specs.declared.slot.Ending.{Ending}
+use Rattle.charts.specs.declared.slot.Ending.TheVariants.{Committed, GivenUp}
+use Rattle.charts.specs.declared.slot.Staged.{Staged}
+use Rattle.charts.specs.declared.slot.Staged.TheVariants.{AsCommitted, Heights, Removed}
+use Rattle.charts.specs.Locations.{times}
+use Rattle.charts.specs.FreePages.{free_times, page_times, differing, heights_pages, kept_of}
+use Rattle.charts.specs.TileLocations.{TileLocation, pages_of_tile, reached}
+use Rattle.charts.specs.Charts.{ChartValue, tile_at, IsWholeTile}
+
+-- the slot's tile as committed, and as staged
+abbrev pub committed_tile : Slot → Option TileLocation
+committed_tile s = option_map (tile_at s.corner) s.committed
+
+abbrev pub staged_as : Corner → Option TilePlanes → Staged → Option TileLocation
+staged_as c committed AsCommitted = option_map (tile_at c) committed
+staged_as c committed (Heights location keeps) = Some (record { corner = c; heights = location; kept = if keeps then kept_of committed else None })
+staged_as c committed Removed = None
+
+abbrev pub staged_tile : Slot → Option TileLocation
+staged_tile s = staged_as s.corner s.committed s.staged
+
+abbrev pub committed_tiles : List Slot → List TileLocation
+committed_tiles slots = filter_map committed_tile slots
+
+abbrev pub staged_tiles : List Slot → List TileLocation
+staged_tiles slots = filter_map staged_tile slots
+
+-- the slot's pages that only its staged tile reaches
+abbrev pub fresh_as : Option TilePlanes → Staged → List ℕ
+fresh_as committed AsCommitted = []
+fresh_as committed (Heights location keeps) = location.record_page ∷ differing location.pages (heights_pages committed)
+fresh_as committed Removed = []
+
+abbrev pub fresh_pages : Slot → List ℕ
+fresh_pages s = fresh_as s.committed s.staged
+
+abbrev pub pages_of_location : Option TileLocation → List ℕ
+pages_of_location None = []
+pages_of_location (Some t) = pages_of_tile t
+
+-- the pages of its committed and of its fresh ones
+abbrev pub used_pages : Slot → List ℕ
+used_pages s = pages_of_location (committed_tile s) ++ fresh_pages s
+
+-- its heights are staged
+abbrev pub stages_heights_as : Staged → Bool
+stages_heights_as AsCommitted = false
+stages_heights_as (Heights location keeps) = true
+stages_heights_as Removed = false
+
+abbrev pub stages_heights : Slot → Bool
+stages_heights s = stages_heights_as s.staged
+
+-- the slot has other fresh pages for its staged tile, and the free pages make up for them
+pub record IsRestaged (old new : Slot) (was now : PageSet) : Type 0 where
+  pub corner : new.corner ≡ old.corner
+  pub committed : new.committed ≡ old.committed
+  pub same_total : now.total ≡ was.total
+  pub each : (p : ℕ) → times p (fresh_pages new) + free_times now p ≡ times p (fresh_pages old) + free_times was p
+
+-- page i of the slot's heights is this fresh page, and their record is on a fresh page too; the tile is the same otherwise
+pub record IsPageRestaged (i page : ℕ) (old new : Slot) : Type 0 where
+  pub tile : TileLocation
+  pub record_page : ℕ
+  pub had : staged_tile old ≡ Some tile
+  pub has : staged_tile new ≡ Some (record tile { heights = record { record_page = record_page; pages = slice_set tile.heights.pages i page } })
+  pub fresh_record : 1 ≤ times record_page (fresh_pages new)
+  pub fresh_page : 1 ≤ times page (fresh_pages new)
+
+-- the record of the slot's heights is on a fresh page; the tile is the same otherwise
+pub record IsRecordRestaged (old new : Slot) : Type 0 where
+  pub tile : TileLocation
+  pub record_page : ℕ
+  pub had : staged_tile old ≡ Some tile
+  pub has : staged_tile new ≡ Some (record tile { heights = record { record_page = record_page; pages = tile.heights.pages } })
+  pub fresh_record : 1 ≤ times record_page (fresh_pages new)
+
+-- what is committed once what is staged has ended so
+abbrev pub ended_tile : Ending → Slot → Option TileLocation
+ended_tile Committed s = staged_tile s
+ended_tile GivenUp s = committed_tile s
+
+-- the slot has this tile as committed, and nothing staged
+pub record HasEndedAs (ending : Ending) (old new : Slot) : Type 0 where
+  pub corner : new.corner ≡ old.corner
+  pub committed : committed_tile new ≡ ended_tile ending old
+  pub staged : new.staged ≡ AsCommitted
+
+-- the slot has this tile as committed, with nothing staged, and its other pages are free
+pub record IsEndedAs (tile : Option TileLocation) (old new : Slot) (was now : PageSet) : Type 0 where
+  pub corner : new.corner ≡ old.corner
+  pub committed : committed_tile new ≡ tile
+  pub staged : new.staged ≡ AsCommitted
+  pub same_total : now.total ≡ was.total
+  pub each : (p : ℕ) → times p (pages_of_location tile) + free_times now p ≡ times p (used_pages old) + free_times was p
+
+-- the slot stands for a tile
+abbrev pub is_filled_as : Option TilePlanes → Staged → Bool
+is_filled_as committed AsCommitted = is_some committed
+is_filled_as committed (Heights location keeps) = true
+is_filled_as committed Removed = is_some committed
+
+-- it stands for a tile of a corner, whose planes have all their pages
+pub record IsSound (side : ℕ) (s : Slot) : Type 0 where
+  pub corner : IsTrue (is_corner s.corner)
+  pub committed : IfSome (committed_tile s) (IsWholeTile side)
+  pub staged : IfSome (staged_tile s) (IsWholeTile side)
+  pub filled : is_filled_as s.committed s.staged ≡ true
+
+-- every page of the disk is committed, or fresh, or free, and no page is two of them
+abbrev pub AreCounted : List Slot → PageSet → Type 0
+AreCounted slots free = (p : ℕ) → times p (reached (committed_tiles slots)) + times p (flat_map fresh_pages slots) + free_times free p ≡ page_times free.total p
+
+pub record IsKept (side capacity : ℕ) (slots : List Slot) (free : PageSet) : Type 0 where
+  pub size : sectors_of side capacity ≤ free.total
+  pub fits : free.total < 2 ^ 32
+  pub few : capacity ≤ 240
+  pub in_order : AllAdjacentBelow (λ a b. IsBefore a.corner b.corner) slots (length slots)
+  pub sound : AllByRecursion (IsSound side) slots
+  pub committed_room : length (committed_tiles slots) ≤ capacity
+  pub staged_room : length (staged_tiles slots) ≤ capacity
+  pub counted : AreCounted slots free
+
+-- what a chart of these slots is
+abbrev pub chart_of : (side capacity : ℕ) → List Slot → PageSet → ChartValue
+chart_of side capacity slots free =
+    record { sectors = free.total; side = side; capacity = capacity; committed = committed_tiles slots; staged = staged_tiles slots }
+
+-- the corner's slot stands at this index
+pub record IsSlotAt (c : Corner) (at : ℕ) (slots : List Slot) : Type 0 where
+  pub below : at < length slots
+  pub here : HoldsAt (λ s. s.corner ≡ c) slots at
+
+-- no slot is the corner's, and one at this index would be in order
+pub record IsRoomAt (c : Corner) (at : ℕ) (slots : List Slot) : Type 0 where
+  pub within : at ≤ length slots
+  pub before : AllWithin (λ s. IsBefore s.corner c) slots 0 at
+  pub after : AllWithin (λ s. IsBefore c s.corner) slots at (length slots)
+
+-- each slot has ended so, and pages that are no longer used are free
+pub record AreEndedAs (ending : Ending) (old new : List Slot) (was now : PageSet) : Type 0 where
+  pub same_length : length new ≡ length old
+  pub each : (k : ℕ) (d : Slot) → k < length old → HasEndedAs ending (slice_index_or old k d) (slice_index_or new k d)
+  pub same_total : now.total ≡ was.total
+  pub counted : AreCounted new now
+
+-- the chart once what is staged has ended so
+abbrev pub ended_chart : Ending → ChartValue → ChartValue
+ended_chart Committed chart = record chart { committed = chart.staged }
+ended_chart GivenUp chart = record chart { staged = chart.committed }

@@ -1,0 +1,346 @@
+//! Which pages hold which planes, as committed and as the next commit will have it.
+ghost use Rattle.std.specs.Prelude.{◌≡◌, ◌⊎◌, ◌≤◌, ◌<◌, ℕ, [], ◌∷◌, ◌++◌, All, length, map, Some, None, Contains, IsOk, IfOk, OnOk, OnErr, IfSome, IfNone, IsSome, IsTrue, ◌↔◌, IfErr};
+ghost use Rattle.lattice.specs.declared.refusal.Refusal.TheVariants.{Damaged, NoMemory};
+ghost use Rattle.page_codec.specs.Sizes.{pages_of, sectors_of};
+ghost use Rattle.std.specs.List.{AllAdjacentBelow};
+ghost use Rattle.lattice.specs.Corners.{is_before, is_corner};
+ghost use Rattle.lattice.specs.Lattice.{IsBefore};
+ghost use Rattle.charts.specs.Slots.{IsSlotAt, IsRoomAt, AreCounted, AreEndedAs};
+
+use crate::locations::{KeptLocations, PagedPlane, TilePlanes};
+use crate::pages::{fresh_plane, mark_planes};
+use crate::plane::Plane;
+use crate::slot::{Ending, Slot, Staged};
+use arrayvec::ArrayVec;
+use lattice::{Corner, Refusal, Side};
+use page_alloc::Pages;
+use page_codec::{Entry, ROOT_ENTRIES, pages_in_plane};
+use std::alloc::Global;
+use std::marker::Model;
+
+/// Where each plane of a store lies, as committed and as the next commit will have it.
+///
+/// Writing copies: the first write to a page of a committed plane takes a free page for it, and one for a record of the
+/// plane; a page that isn't committed is written in place. The pages that a commit does without are free only after it.
+#[derive(Drop)]
+pub struct Chart {
+    alloc: Global,
+    side: Side,
+    capacity: u32,
+    // In the order of their corners.
+    slots: Vec<Slot>,
+    free: Pages,
+}
+
+impl Model for Chart {
+    ghost use Rattle.charts.specs.Charts.{ChartValue};
+    ghost use Rattle.charts.specs.Slots.{IsKept, chart_of};
+
+    ghost Value = { ChartValue };
+
+    ghost view = { λ c. chart_of c.side c.capacity c.slots.items c.free };
+
+    ghost invariant = { λ c. IsKept c.side c.capacity c.slots.items c.free };
+}
+
+impl Chart {
+    ghost use Rattle.page_codec.specs.Entries.{IsEntry};
+    ghost use Rattle.page_codec.specs.Roots.{AreInOrder};
+    ghost use Rattle.charts.specs.TileLocations.{TileLocation, KeepsPageRule, entry_of};
+    ghost use Rattle.charts.specs.Charts.{no_tiles_charted, IsChart, IsClean, IsLocated, HasHeights, HasKept, HasFreshHeights, IsRewritten, IsPrepared, IsAdded, IsWholeTile, tile_at, without_location, fresh_corners};
+    ghost use Rattle.charts.specs.Slots.{ended_chart};
+    ghost use Rattle.charts.specs.Planes.{HasPlane, HasPlaneAt};
+
+    /// A chart of no tiles for a disk of so many sectors.
+    pub fn new(alloc: Global, sectors: u32, side: Side, capacity: u32) -> Result<Chart, Refusal>
+        requires size { sectors_of side capacity ≤ sectors }
+        requires capacity { capacity ≤ 240 }
+        ensures value { IfOk result (λ chart. chart ≡ no_tiles_charted sectors side capacity) }
+        ensures rules { IfOk result IsChart }
+        ensures refused { IfErr result (λ refusal. refusal ≡ NoMemory) }
+    {
+        let free = Pages::new(alloc, sectors).ok_or(Refusal::NoMemory)?;
+        Ok(Chart {
+            alloc,
+            side,
+            capacity,
+            slots: Vec::new(alloc),
+            free,
+        })
+    }
+
+    /// The chart with one more committed tile, behind the others. Damaged where its pages break the page rule.
+    pub fn load(self, corner: Corner, planes: TilePlanes) -> Result<Chart, Refusal>
+        requires clean { IsClean self }
+        requires after { All (λ t. IsBefore t.corner corner) self.committed }
+        requires room { length self.committed < self.capacity }
+        requires whole { IsWholeTile self.side (tile_at corner planes) }
+        ensures loaded { IfOk result (λ chart. chart ≡ record self { committed = self.committed ++ tile_at corner planes ∷ []; staged = self.committed ++ tile_at corner planes ∷ [] }) }
+        ensures rules { IfOk result IsChart }
+        ensures refused { IfErr result (λ refusal. (refusal ≡ NoMemory) ⊎ ((refusal ≡ Damaged) × ¬ KeepsPageRule self.sectors (self.committed ++ tile_at corner planes ∷ []))) }
+    {
+        know_degrees(corner);
+        let Chart {
+            alloc,
+            side,
+            capacity,
+            mut slots,
+            mut free,
+        } = self;
+        if !mark_planes(&mut free, &planes) {
+            return Err(Refusal::Damaged);
+        }
+        let slot = Slot {
+            corner,
+            committed: Some(planes),
+            staged: Staged::AsCommitted,
+        };
+        if slots.push(slot).is_err() {
+            return Err(Refusal::NoMemory);
+        }
+        Ok(Chart {
+            alloc,
+            side,
+            capacity,
+            slots,
+            free,
+        })
+    }
+
+    /// What is known of every chart.
+    pub fn rules(&self)
+        ensures { IsChart self.now }
+    {
+        let _ = &self.slots;
+    }
+
+    /// Whether the corner's tile is staged.
+    pub fn is_present(&self, c: Corner) -> bool
+        ensures { IsTrue result ↔ IsLocated c self.now.staged }
+    {
+        self.heights(c).is_some()
+    }
+
+    /// Where the heights of the corner's staged tile lie.
+    pub fn heights(&self, c: Corner) -> Option<&PagedPlane>
+        ensures found { IfSome result (λ plane. HasHeights c plane.now self.now.staged) }
+        ensures present { IsSome result ↔ IsLocated c self.now.staged }
+    {
+        match find(&self.slots, c) {
+            Ok(at) => self.slots[at].heights(),
+            Err(_) => None,
+        }
+    }
+
+    /// Where the kept planes of the corner's staged tile lie.
+    pub fn kept(&self, c: Corner) -> Option<&KeptLocations>
+        ensures found { IfSome result (λ kept. HasKept c kept.now self.now.staged) }
+        ensures none { IfNone result ((t : TileLocation) → Contains self.now.staged t → t.corner ≡ c → t.kept ≡ None) }
+    {
+        match find(&self.slots, c) {
+            Ok(at) => self.slots[at].kept(),
+            Err(_) => None,
+        }
+    }
+
+    /// Where a plane of the corner's staged tile lies.
+    pub fn plane(&self, c: Corner, plane: Plane) -> Option<&PagedPlane>
+        ensures found { IfSome result (λ location. HasPlaneAt self.now.staged c plane location.now) }
+        ensures none { IfNone result (¬ HasPlane self.now.staged c plane) }
+    {
+        match plane {
+            Plane::Heights => self.heights(c),
+            Plane::Levels => match self.kept(c) {
+                Some(kept) => Some(&kept.levels),
+                None => None,
+            },
+            Plane::Labels => match self.kept(c) {
+                Some(kept) => Some(&kept.labels),
+                None => None,
+            },
+        }
+    }
+
+    /// The page to which new content of page `i` of the corner's heights may be written. It is free to be written, as
+    /// the record of the heights is: no committed tile reaches either. Refused with NoMemory, never where the heights
+    /// have been staged before.
+    pub fn page_for_writing(&mut self, c: Corner, i: u32) -> Result<u32, Refusal>
+        requires present { IsLocated c self.old.staged }
+        requires index { i < pages_of self.old.side }
+        ensures written { IfOk result (λ page. IsRewritten c i page self.old self.new) }
+        ensures sure { HasFreshHeights c self.old → IsOk result }
+        ensures refused { IfErr result (λ refusal. refusal ≡ NoMemory) }
+        ensures unchanged { OnErr result (self.new ≡ self.old) }
+        ensures rules { IsChart self.new }
+    {
+        match find(&self.slots, c) {
+            Ok(at) => {
+                let slot = &mut self.slots[at];
+                slot.page_for_writing(self.alloc, i as usize, &mut self.free)
+            }
+            Err(_) => unreachable!(),
+        }
+    }
+
+    /// Stages the heights of the corner's tile as they are: their record is to be written, and a page for writing in them
+    /// is never refused from now on.
+    pub fn prepare(&mut self, c: Corner) -> Result<(), Refusal>
+        requires { IsLocated c self.old.staged }
+        ensures prepared { OnOk result (IsPrepared c self.old self.new) }
+        ensures refused { IfErr result (λ refusal. refusal ≡ NoMemory) }
+        ensures unchanged { OnErr result (self.new ≡ self.old) }
+        ensures rules { IsChart self.new }
+    {
+        match find(&self.slots, c) {
+            Ok(at) => {
+                let slot = &mut self.slots[at];
+                slot.prepare(self.alloc, &mut self.free)
+            }
+            Err(_) => unreachable!(),
+        }
+    }
+
+    /// Adds a tile with fresh pages for its heights.
+    pub fn tile_for_writing(&mut self, c: Corner) -> Result<(), Refusal>
+        requires absent { ¬ IsLocated c self.old.staged }
+        requires room { length self.old.staged < self.old.capacity }
+        ensures added { OnOk result (IsAdded c self.old self.new) }
+        ensures refused { IfErr result (λ refusal. refusal ≡ NoMemory) }
+        ensures unchanged { OnErr result (self.new ≡ self.old) }
+        ensures rules { IsChart self.new }
+    {
+        know_degrees(c);
+        self.slots.reserve(1)?;
+        let location = fresh_plane(self.alloc, &mut self.free, pages_in_plane(self.side))?;
+        let staged = Staged::Heights {
+            location,
+            keeps: false,
+        };
+        match find(&self.slots, c) {
+            Ok(at) => {
+                let slot = &mut self.slots[at];
+                slot.restage(staged);
+                Ok(())
+            }
+            Err(at) => {
+                let slot = Slot {
+                    corner: c,
+                    committed: None,
+                    staged,
+                };
+                if self.slots.insert(at, slot).is_err() {
+                    unreachable!();
+                }
+                Ok(())
+            }
+        }
+    }
+
+    /// Takes the corner's tile out. Its pages stay in use until the commit.
+    pub fn remove_tile(&mut self, c: Corner)
+        requires present { IsLocated c self.old.staged }
+        requires settled { ¬ HasFreshHeights c self.old }
+        ensures removed { self.new ≡ record (self.old) { staged = without_location c self.old.staged } }
+        ensures rules { IsChart self.new }
+    {
+        match find(&self.slots, c) {
+            Ok(at) => {
+                let slot = &mut self.slots[at];
+                slot.restage(Staged::Removed);
+            }
+            Err(_) => unreachable!(),
+        }
+    }
+
+    /// The entries of the staged tiles.
+    pub fn entries(&self) -> ArrayVec<Entry, ROOT_ENTRIES>
+        ensures value { result.items ≡ map entry_of self.now.staged }
+        ensures each { All IsEntry result.items }
+        ensures in_order { AreInOrder result.items }
+        ensures room { length result.items ≤ self.now.capacity }
+    {
+        let mut entries = ArrayVec::new();
+        for slot in &self.slots {
+            match slot.entry() {
+                Some(entry) => entries.push(entry),
+                None => (),
+            }
+        }
+        entries
+    }
+
+    /// The corners of the staged tiles whose heights aren't as committed, in order: their records are still to be written.
+    pub fn fresh(&self) -> ArrayVec<Corner, ROOT_ENTRIES>
+        ensures value { result.items ≡ fresh_corners self.now }
+        ensures room { length result.items ≤ self.now.capacity }
+    {
+        let mut corners = ArrayVec::new();
+        for slot in &self.slots {
+            if slot.stages_heights() {
+                corners.push(slot.corner);
+            }
+        }
+        corners
+    }
+
+    /// What is staged is committed. Takes no memory.
+    pub fn settle(&mut self)
+        ensures settled { self.new ≡ record (self.old) { committed = self.old.staged } }
+        ensures rules { IsChart self.new }
+    {
+        self.end(Ending::Committed);
+    }
+
+    /// What was staged is given up. Takes no memory.
+    pub fn undo(&mut self)
+        ensures undone { self.new ≡ record (self.old) { staged = self.old.committed } }
+        ensures rules { IsChart self.new }
+    {
+        self.end(Ending::GivenUp);
+    }
+
+    fn end(&mut self, ending: Ending)
+        ensures ended { self.new ≡ ended_chart ending self.old }
+        ensures rules { IsChart self.new }
+    {
+        end_all(&mut self.slots, ending, &mut self.free);
+        self.slots.retain(|slot| slot.committed.is_some());
+    }
+}
+
+/// Where the slot of a corner is, or where it belongs.
+fn find(slots: &[Slot], c: Corner) -> Result<usize, usize>
+    requires { AllAdjacentBelow (λ a b. IsBefore a.corner b.corner) slots.now (length slots.now) }
+    ensures found { IfOk result (λ at. IsSlotAt c at slots.now) }
+    ensures absent { IfErr result (λ at. IsRoomAt c at slots.now) }
+{
+    let at = slots.partition_point(|slot| precedes(slot.corner, c));
+    if at < slots.len() && slots[at].corner == c {
+        Ok(at)
+    } else {
+        Err(at)
+    }
+}
+
+// A corner's degrees are known to be in range once they were read.
+fn know_degrees(c: Corner)
+    ensures { IsTrue (is_corner c) }
+{
+    let _lat = c.lat;
+}
+
+fn precedes(a: Corner, b: Corner) -> bool
+    ensures { result ≡ is_before a b }
+{
+    a < b
+}
+
+/// Commits or gives up what is staged in each slot.
+fn end_all(slots: &mut [Slot], ending: Ending, free: &mut Pages)
+    requires { AreCounted slots.old free.old }
+    ensures { AreEndedAs ending slots.old slots.new free.old free.new }
+{
+    for slot in slots.iter_mut() {
+        slot.end(ending, free);
+    }
+}

@@ -1,0 +1,16 @@
+//! Which pages of a disk hold which planes of which tiles, as committed and as the next commit will have it.
+//!
+//! A [`Chart`] is held in memory and knows no disk. It gives out pages that no committed tile reaches, for new content and
+//! for the records of planes; what a commit does without is free only after it.
+//! `specs/TileLocations.antt` says which pages tiles reach, `specs/Charts.antt` what a chart knows of them.
+#![tactic(auto)]
+
+mod chart;
+mod locations;
+mod pages;
+mod plane;
+mod slot;
+
+pub use chart::Chart;
+pub use locations::{KeptLocations, PagedPlane, TilePlanes};
+pub use plane::Plane;

@@ -1,0 +1,105 @@
+//! Pages taken and given back, many at once.
+ghost use Rattle.std.specs.Prelude.{◌≡◌, ◌+◌, ◌<◌, ◌≤◌, ℕ, [], ◌∷◌, length, slice_index, IsTrue, ◌↔◌, IfOk, IfErr, OnErr};
+ghost use Rattle.std.specs.Bool.{OnTrue, OnFalse};
+ghost use Rattle.std.specs.FinSet as set;
+ghost use Rattle.lattice.specs.declared.refusal.Refusal.TheVariants.{NoMemory};
+ghost use Rattle.charts.specs.Locations.{times, pages_of_plane};
+ghost use Rattle.charts.specs.FreePages.{free_times, differing, pages_of_planes, AreTaken, AreGiven, AreInUse};
+
+use crate::locations::{PagedPlane, TilePlanes};
+use lattice::Refusal;
+use page_alloc::Pages;
+use std::alloc::Global;
+
+/// Takes a free page.
+pub(crate) fn take_page(free: &mut Pages) -> u32
+    requires { 0 < set.len free.old.free }
+    ensures taken { AreTaken (result ∷ []) free.old free.new }
+    ensures left { set.len free.new.free + 1 ≡ set.len free.old.free }
+{
+    free.take().unwrap()
+}
+
+/// A plane of so many free pages, and one for its record.
+pub(crate) fn fresh_plane(
+    alloc: Global,
+    free: &mut Pages,
+    count: u32,
+) -> Result<PagedPlane, Refusal>
+    requires { count + 1 ≤ set.len free.old.free }
+    ensures taken { IfOk result (λ plane. AreTaken (pages_of_plane plane) free.old free.new) }
+    ensures whole { IfOk result (λ plane. length plane.pages ≡ count) }
+    ensures refused { IfErr result (λ refusal. refusal ≡ NoMemory) }
+    ensures unchanged { OnErr result (free.new ≡ free.old) }
+{
+    let mut pages = vec![in alloc; 0; count as usize]?;
+    for page in pages.iter_mut() {
+        *page = take_page(free);
+    }
+    Ok(PagedPlane::new(take_page(free), pages))
+}
+
+/// Gives back the pages that don't stand at the same index among the others.
+pub(crate) fn give_differing(free: &mut Pages, pages: &[u32], others: &[u32])
+    requires { AreInUse (differing pages.now others.now) free.old }
+    ensures { AreGiven (differing pages.now others.now) free.old free.new }
+{
+    for (i, page) in pages.iter().enumerate() {
+        if !stands_at(*page, i, others) {
+            free.give(*page);
+        }
+    }
+}
+
+/// Whether the page stands at the index.
+pub(crate) fn stands_at(page: u32, i: usize, pages: &[u32]) -> bool
+    ensures { IsTrue result ↔ ((i < length pages.now) × (slice_index pages.now i ≡ page)) }
+{
+    i < pages.len() && pages[i] == page
+}
+
+/// Gives back all pages of a plane.
+pub(crate) fn give_plane(free: &mut Pages, plane: &PagedPlane)
+    requires { AreInUse (pages_of_plane plane.now) free.old }
+    ensures { AreGiven (pages_of_plane plane.now) free.old free.new }
+{
+    free.give(plane.record_page());
+    give_differing(free, plane.pages(), &[]);
+}
+
+/// Takes the pages of a plane out of the free ones. False where they aren't all free, or not all distinct.
+pub(crate) fn mark_plane(free: &mut Pages, plane: &PagedPlane) -> bool
+    ensures marked { OnTrue result (AreTaken (pages_of_plane plane.now) free.old free.new) }
+    ensures taken { OnFalse result ((p : ℕ) × (free_times free.old p < times p (pages_of_plane plane.now))) }
+    ensures total { free.new.total ≡ free.old.total }
+{
+    free.mark(plane.record_page()) && mark_all(free, plane.pages())
+}
+
+fn mark_all(free: &mut Pages, pages: &[u32]) -> bool
+    ensures marked { OnTrue result (AreTaken pages.now free.old free.new) }
+    ensures taken { OnFalse result ((p : ℕ) × (free_times free.old p < times p pages.now)) }
+    ensures total { free.new.total ≡ free.old.total }
+{
+    for page in pages {
+        if !free.mark(*page) {
+            return false;
+        }
+    }
+    true
+}
+
+/// The same for the planes of a tile.
+pub(crate) fn mark_planes(free: &mut Pages, planes: &TilePlanes) -> bool
+    ensures marked { OnTrue result (AreTaken (pages_of_planes planes.now) free.old free.new) }
+    ensures taken { OnFalse result ((p : ℕ) × (free_times free.old p < times p (pages_of_planes planes.now))) }
+    ensures total { free.new.total ≡ free.old.total }
+{
+    if !mark_plane(free, &planes.heights) {
+        return false;
+    }
+    match &planes.kept {
+        Some(kept) => mark_plane(free, &kept.levels) && mark_plane(free, &kept.labels),
+        None => true,
+    }
+}
