@@ -1,5 +1,5 @@
-//! Random sessions: whatever commands come, an engine's replies are those of the plain programs, which answer exactly
-//! what the definitions say.
+//! Tests alone. Random sessions: whatever commands come, an engine's replies are those of the plain programs, which answer
+//! exactly what the definitions say. Worked sessions: lines in and replies out, byte for byte.
 #![tactic(auto)]
 
 #[cfg(test)]
@@ -14,7 +14,5 @@ mod region;
 mod serving_tests;
 #[cfg(test)]
 mod session;
-#[cfg(test)]
-mod store_tests;
 #[cfg(test)]
 mod tests;

@@ -1,8 +1,6 @@
-//! Lines in and replies out, byte for byte: over a mosaic in memory, over a store on a disk that may fail, and by the
-//! program on files.
+//! Lines in and replies out, byte for byte: over a mosaic in memory, and over a store on a disk that may fail.
 
 mod basins;
-mod files;
 mod rows;
 mod sessions;
 mod stores;

@@ -1,6 +1,9 @@
 //! The program `mosaic`: it hands its words and its streams to the server.
 #![tactic(auto)]
 
+#[cfg(test)]
+mod tests;
+
 use std::process::ExitCode;
 use std::{env, io};
 

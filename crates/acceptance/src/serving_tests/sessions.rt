@@ -1,5 +1,4 @@
 use lattice::Side;
-use server::program;
 use serving::{ServeFault, serve};
 use std::alloc::Global;
 use std::io::{self, Read, Write};
@@ -255,40 +254,4 @@ fn a_write_for_each_reply(rt: HostRuntime) -> Result<(), Fail> {
     serve(rt.alloc(), &mut reader, &mut writer, &mut engine)?;
     assert_eq!(rt; writer.writes, 6);
     Ok(())
-}
-
-pub(crate) fn run(rt: &HostRuntime, words: &[&str], input: &[u8]) -> (u8, Vec<u8>) {
-    let mut reader = input;
-    let mut output = Vec::new(rt.alloc());
-    let status = program(rt, words, &mut reader, &mut output);
-    (status, output)
-}
-
-#[test]
-fn programs(rt: HostRuntime) {
-    let (status, output) = run(&rt, &["table", "3", "1"], b"count\n");
-    assert_eq!(rt; status, 0);
-    assert!(rt; output.as_slice() == b"OK 0\n".as_slice());
-    let (status, output) = run(&rt, &["table", "2", "0"], b"");
-    assert_eq!(rt; status, 1);
-    assert!(rt; output.as_slice() == b"ERR 32 BadSide\n".as_slice());
-    let (status, output) = run(&rt, &["table", "1201", "241"], b"");
-    assert_eq!(rt; status, 1);
-    assert!(rt; output.as_slice() == b"ERR 33 BadCapacity\n".as_slice());
-    for words in [
-        ["table", "3"].as_slice(),
-        &["help"],
-        &[],
-        &["table", "-h"],
-        &["serve"],
-        &["import", "m"],
-        &["import", "m", "--all"],
-        &["format", "m", "3"],
-        &["format", "m", "3", "x"],
-        &["check", "m", "m"],
-    ] {
-        let (status, output) = run(&rt, words, b"");
-        assert_eq!(rt; status, 2);
-        assert!(rt; output.as_slice() == b"mosaic: bad arguments\n".as_slice());
-    }
 }

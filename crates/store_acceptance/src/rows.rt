@@ -1,9 +1,8 @@
 //! What a store of tiles of side 3 answers, command by command and query by query.
-use super::counted_disk::CountedDisk;
 use super::fixtures::{
     A, B, EAST, H, HERE, V, at, burn, exports, import, lists, patch, store_of, wall,
 };
-use disk::MemDisk;
+use disk::{CountedDisk, MemDisk};
 use edits::Command;
 use lattice::{Corner, Height, Refusal};
 use std::alloc::Global;
@@ -119,7 +118,8 @@ fn writes_and_syncs_of_commands(rt: HostRuntime) -> Result<(), Fail> {
         assert_eq!(rt; store.apply(command), *answer);
         commits = store.commits();
         let counted = store.into_disk();
-        assert_eq!(rt; (counted.writes(), counted.syncs()), (*writes, *syncs));
+        let tally = counted.faults();
+        assert_eq!(rt; (tally.writes, tally.syncs), (*writes, *syncs));
         disk = counted.into_inner();
     }
     assert_eq!(rt; commits, 5);

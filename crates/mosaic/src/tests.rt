@@ -1,13 +1,23 @@
-//! The program on files of stores.
-use super::sessions::{TILE, run};
+//! The program's words, and what it does on files of stores.
+use server::program;
 use std::fs;
 use std::test::Fail;
+
+/// 9 9 9 / 9 1 9 / 9 9 5, rows from the north.
+const TILE: &[u8] = b"\x00\x09\x00\x09\x00\x09\x00\x09\x00\x01\x00\x09\x00\x09\x00\x09\x00\x05";
 
 /// 9 9 9 / 9 9 7 / 9 9 9.
 const G: &[u8] = b"\x00\x09\x00\x09\x00\x09\x00\x09\x00\x09\x00\x07\x00\x09\x00\x09\x00\x09";
 
 /// 9 9 9 / 8 9 9 / 9 9 9.
 const H: &[u8] = b"\x00\x09\x00\x09\x00\x09\x00\x08\x00\x09\x00\x09\x00\x09\x00\x09\x00\x09";
+
+fn run(rt: &HostRuntime, words: &[&str], input: &[u8]) -> (u8, Vec<u8>) {
+    let mut reader = input;
+    let mut output = Vec::new(rt.alloc());
+    let status = program(rt, words, &mut reader, &mut output);
+    (status, output)
+}
 
 /// Whether the program ends so with these words.
 fn ends(rt: &HostRuntime, words: &[&str], input: &[u8], status: u8, wanted: &[u8]) -> bool {
@@ -142,4 +152,33 @@ fn a_real_tile_comes_back(rt: HostRuntime) -> Result<(), Fail> {
     fs::remove_file(&rt, m)?;
     fs::remove_file(&rt, tile)?;
     Ok(())
+}
+
+#[test]
+fn programs(rt: HostRuntime) {
+    let (status, output) = run(&rt, &["table", "3", "1"], b"count\n");
+    assert_eq!(rt; status, 0);
+    assert!(rt; output.as_slice() == b"OK 0\n".as_slice());
+    let (status, output) = run(&rt, &["table", "2", "0"], b"");
+    assert_eq!(rt; status, 1);
+    assert!(rt; output.as_slice() == b"ERR 32 BadSide\n".as_slice());
+    let (status, output) = run(&rt, &["table", "1201", "241"], b"");
+    assert_eq!(rt; status, 1);
+    assert!(rt; output.as_slice() == b"ERR 33 BadCapacity\n".as_slice());
+    for words in [
+        ["table", "3"].as_slice(),
+        &["help"],
+        &[],
+        &["table", "-h"],
+        &["serve"],
+        &["import", "m"],
+        &["import", "m", "--all"],
+        &["format", "m", "3"],
+        &["format", "m", "3", "x"],
+        &["check", "m", "m"],
+    ] {
+        let (status, output) = run(&rt, words, b"");
+        assert_eq!(rt; status, 2);
+        assert!(rt; output.as_slice() == b"mosaic: bad arguments\n".as_slice());
+    }
 }

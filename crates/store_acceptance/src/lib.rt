@@ -1,0 +1,16 @@
+//! Tests alone, of a store on disks in memory: its answers row by row, whole runs, stops and faults at each call, tiles of
+//! real size.
+#![tactic(auto)]
+
+#[cfg(test)]
+mod basins;
+#[cfg(test)]
+mod fixtures;
+#[cfg(test)]
+mod real_tiles;
+#[cfg(test)]
+mod rows;
+#[cfg(test)]
+mod runs;
+#[cfg(test)]
+mod stops;
