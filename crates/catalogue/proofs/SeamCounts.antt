@@ -58,7 +58,7 @@ module _ (m : Mosaic) (valid : IsMosaic m) (lat lon : ℤ) where
       by true e = absurd (cc)
       by false e = add-zero (seams_before m lat lon)
 
--- the tile's count is what its place adds
+-- the tile's count is what its corner adds
 pub seams_ok : (m : Mosaic) (valid : IsMosaic m) (lat lon : ℤ) (c : Corner) (result : Result ℕ Refusal) → Some c ≡ named (corners_of m) (corners_rise m valid) lat lon
     → IfOk result (λ n. n ≡ seams_of m c) → IfOk result (λ n. seams_before m lat (lon +ℤ pos 1) ≡ seams_before m lat lon + n)
 seams_ok m valid lat lon c (Ok n) is counted = seams_some m valid lat lon c is ∙ ap (λ k. seams_before m lat lon + k) (sym counted)
@@ -122,21 +122,21 @@ module _ (own : Point → Bool) (at : ℕ → Point) (p : Point) (within : Bool)
 
   count-chosen : (k : ℕ) → ((e : ℕ) → e < k → p ≡ at e → (within ≡ true) × (i ≡ e)) → count_by (same_point p) (chosen own at k) ≡ tally (own p) within (nat_lt i k)
   unfolding chosen
-  count-chosen zero places = sym (ap (tally (own p) within) (le-ltb i 0 (omega arith)) ∙ tally-late (own p) within)
-  count-chosen (suc e) places =
+  count-chosen zero at_index = sym (ap (tally (own p) within) (le-ltb i 0 (omega arith)) ∙ tally-late (own p) within)
+  count-chosen (suc e) at_index =
       count-append (same_point p) (chosen own at e) (cond (own (at e)) (at e ∷ []) [])
-      ∙ by (same_point p (at e)) refl (count-chosen e (λ j below is. places j (omega arith) is))
+      ∙ by (same_point p (at e)) refl (count-chosen e (λ j below is. at_index j (omega arith) is))
     where
       by : (s : Bool) → same_point p (at e) ≡ s → count_by (same_point p) (chosen own at e) ≡ tally (own p) within (nat_lt i e)
           → count_by (same_point p) (chosen own at e) + count_by (same_point p) (cond (own (at e)) (at e ∷ []) []) ≡ tally (own p) within (nat_lt i (suc e))
       by true same rest =
           let is : p ≡ at e = same_point_says p (at e) same in
-          let place = places e (omega arith) is in
-          let none : count_by (same_point p) (chosen own at e) ≡ 0 = rest ∙ ap (tally (own p) within) (le-ltb i e (omega (arith, place.1))) ∙ tally-late (own p) within in
+          let this = at_index e (omega arith) is in
+          let none : count_by (same_point p) (chosen own at e) ≡ 0 = rest ∙ ap (tally (own p) within) (le-ltb i e (omega (arith, this.1))) ∙ tally-late (own p) within in
           let one : ◌≡◌ {A = ℕ} (count_by (same_point p) (cond (own (at e)) (at e ∷ []) [])) (cond (own p) 1 0) = count-one e (own (at e)) true same ∙ and_yes (own (at e)) ∙ ap (λ (q : Point). cond (own q) 1 0) (sym is) in
           ap₂ (λ (a b : ℕ). a + b) none one
           ∙ tally-here (own p)
-          ∙ sym (ap₂ (tally (own p)) place.0 (lt-ltb i (suc e) (omega (arith, place.1))))
+          ∙ sym (ap₂ (tally (own p)) this.0 (lt-ltb i (suc e) (omega (arith, this.1))))
         where
           and_yes : (o : Bool) → ◌≡◌ {A = ℕ} (cond (o && true) 1 0) (cond o 1 0)
           and_yes true = refl

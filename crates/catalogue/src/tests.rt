@@ -2,11 +2,9 @@
 ghost use Rattle.std.specs.Prelude.{◌≡◌, IfOk};
 
 use crate::{Samples, Table, adjacent, degree, height, outlet, sealed, seams, tiles};
-use lattice::{Corner, Height, Point, Side};
+use lattice::{Corner, Height, Point, Side, VOID};
 use std::alloc::Global;
 use std::test::Fail;
-
-const VOID: i16 = i16::MIN;
 
 const A: [i16; 9] = [9, 9, 9, 9, 1, 9, 9, 9, 5];
 

@@ -12,7 +12,7 @@ is_slash c e = rw e
 is_no_slash : (c : ℕ) → c ≢ 47 → not (nat_eq c 47) ≡ true
 is_no_slash c e = grind (arith, nat_tests)
 
--- from a place with a slash in front of it, and none behind it
+-- from an index with a slash in front of it, and none behind it
 pub base_name_from : (path : List ℕ) (n : ℕ) → n ≤ length path → (0 < n → get_or path (n - 1) 0 ≡ 47) → ((k : ℕ) → n ≤ k → k < length path → get_or path k 0 ≢ 47)
     → drop n path ≡ base_name path
 base_name_from path n within here later =

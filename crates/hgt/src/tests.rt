@@ -71,7 +71,7 @@ fn takes_sides(rt: HostRuntime) {
 
 #[test]
 fn reads_names(rt: HostRuntime) {
-    let places = [
+    let named = [
         (b"N00E000", 0, 0),
         (b"s00w000", 0, 0),
         (b"N37W105", 37, -105),
@@ -80,7 +80,7 @@ fn reads_names(rt: HostRuntime) {
         (b"S90W180", -90, -180),
         (b"N89E179", 89, 179),
     ];
-    for (text, lat, lon) in places {
+    for (text, lat, lon) in named {
         assert!(rt; name_of(text) == Ok(Corner { lat, lon }), "{lat} {lon}");
     }
     let bad = [

@@ -4,7 +4,7 @@ use Rattle.std.proofs.Common.{◌≡◌, ℕ, zero, suc, ◌+◌, ◌<◌, ◌�
 use Rattle.std.specs.Prelude.{int_le}
 use Rattle.std.specs.List.{list_any}
 use Rattle.std.proofs.lemmas.Int.{ints}
-use Rattle.std.proofs.lemmas.Bool.{cases_Bool, and_parts, and_from, or_cases, or_left, or_right}
+use Rattle.std.proofs.lemmas.Bool.{cases_Bool, and_parts, and_from, or_cases, or_left, or_right, not-true}
 use Rattle.lattice.specs.Terrain.{Terrain, crest, LeadsOut, IsFilledLevel, IsLawful}
 use Rattle.lattice.proofs.IntTests.{le_true, le_from}
 use Rattle.lattice.proofs.Levels.{le-max_left, le-max_right, max-le, ≤ℤ_trans, height-le_crest}
@@ -53,15 +53,11 @@ module _ {P : Type 0} (g f : P → Bool) (keeps : (x : P) → IsTrue (g x) → I
   no_fewer [] = omega arith
   no_fewer (x ∷ rest) = at_one (g x) (f x) (tally g rest) (tally f rest) (keeps x) (no_fewer rest)
 
-  not-true-false : (b : Bool) → not b ≡ true → b ≡ false
-  not-true-false true h = absurd (true≢false (sym h))
-  not-true-false false h = refl
-
   more : (xs : List P) → IsTrue (list_any (λ x. f x && not (g x)) xs) → tally g xs < tally f xs
   unfolding tally
   more [] h = absurd (true≢false (sym h))
   more (x ∷ rest) h = ⊎_elim
-      (λ here. let parts = and_parts (f x) (not (g x)) here in at_new (g x) (f x) (tally g rest) (tally f rest) (not-true-false (g x) parts.1) parts.0 (no_fewer rest))
+      (λ here. let parts = and_parts (f x) (not (g x)) here in at_new (g x) (f x) (tally g rest) (tally f rest) (not-true (g x) parts.1) parts.0 (no_fewer rest))
       (λ later. at_more (g x) (f x) (tally g rest) (tally f rest) (keeps x) (more rest later))
       (or_cases (f x && not (g x)) (list_any (λ x. f x && not (g x)) rest) h)
 

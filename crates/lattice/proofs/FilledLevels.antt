@@ -33,6 +33,9 @@ points_among : ℕ → List Tile → List Point
 points_among n [] = []
 points_among n (t ∷ rest) = rows (t.corner.lat *ℤ pos (n - 1)) (t.corner.lon *ℤ pos (n - 1)) n n ++ points_among n rest
 
+last : (a b : ℤ) → b ≤ℤ a → (b ≡ a) ⊎ (b <ℤ a)
+last a b le = elim (cases_Bool (int_le a b)) [ inl ge ↦ inl (let ge' = le_true a b ge in omega (arith, ints)) | inr lt ↦ inr (grind (arith, ints)) ]
+
 module _ (f : Point → Bool) (p : Point) (yes : IsTrue (f p)) where
   in_row : (west : ℤ) (k : ℕ) → west ≤ℤ p.x → p.x <ℤ (west +ℤ pos k) → IsTrue (list_any f (row p.y west k))
   unfolding row
@@ -41,9 +44,6 @@ module _ (f : Point → Bool) (p : Point) (yes : IsTrue (f p)) where
     | inl same ↦ or_left (f (record { y = p.y; x = west +ℤ pos k })) _ (subst (λ (v : ℤ). IsTrue (f (record { y = p.y; x = v }))) same yes)
     | inr before ↦ or_right (f (record { y = p.y; x = west +ℤ pos k })) _ (in_row west k low before)
   ]
-    where
-      last : (a b : ℤ) → b ≤ℤ a → (b ≡ a) ⊎ (b <ℤ a)
-      last a b le = elim (cases_Bool (int_le a b)) [ inl ge ↦ inl (let ge' = le_true a b ge in omega (arith, ints)) | inr lt ↦ inr (grind (arith, ints)) ]
 
   in_rows : (south west : ℤ) (n k : ℕ) → west ≤ℤ p.x → p.x <ℤ (west +ℤ pos n) → south ≤ℤ p.y → p.y <ℤ (south +ℤ pos k) → IsTrue (list_any f (rows south west n k))
   unfolding rows
@@ -52,9 +52,6 @@ module _ (f : Point → Bool) (p : Point) (yes : IsTrue (f p)) where
     | inl same ↦ any_in_both f (row (south +ℤ pos k) west n) (rows south west n k) (inl (subst (λ (v : ℤ). IsTrue (list_any f (row v west n))) same (in_row west n wl wh)))
     | inr before ↦ any_in_both f (row (south +ℤ pos k) west n) (rows south west n k) (inr (in_rows south west n k wl wh low before))
   ]
-    where
-      last : (a b : ℤ) → b ≤ℤ a → (b ≡ a) ⊎ (b <ℤ a)
-      last a b le = elim (cases_Bool (int_le a b)) [ inl ge ↦ inl (let ge' = le_true a b ge in omega (arith, ints)) | inr lt ↦ inr (grind (arith, ints)) ]
 
   among : (n : ℕ) → 1 ≤ n → (tiles : List Tile) → IsTrue (list_any (λ t. holds n t.corner p) tiles) → IsTrue (list_any f (points_among n tiles))
   unfolding points_among

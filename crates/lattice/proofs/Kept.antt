@@ -12,7 +12,7 @@ use Rattle.lattice.specs.LatticeLaws.{AreHolders}
 use Rattle.lattice.specs.Lattice.{Holds, IsBefore, is_along, holds}
 use Rattle.lattice.specs.declared.point.Point.{Point}
 use Rattle.lattice.specs.declared.holding.Degrees.{Degrees}
-use Rattle.lattice.specs.Degrees.{place}
+use Rattle.lattice.specs.Degrees.{corner_at}
 use Rattle.lattice.proofs.Along.{parts}
 use Rattle.lattice.proofs.Multiples.{product_plus, factor_less}
 use Rattle.lattice.proofs.Samples.{holds_is, along_of_holds}
@@ -42,27 +42,27 @@ crossing_is south north west east lat lon n e s w =
     ap₂ (λ (a b : ℤ). crossing a b west east) s n ∙ ap₂ (λ (a b : ℤ). crossing (lat -ℤ pos 1) lat a b) w e
 
 unfoldable pub kept : ℕ → Point → List Degrees → List Corner
-kept n p cs = filter (is_held n p) (map place cs)
+kept n p cs = filter (is_held n p) (map corner_at cs)
 
 turn : (cs : List Degrees) (i : ℕ) (d : Degrees) → i < length cs → drop i cs ≡ get_or cs i d ∷ drop (i + 1) cs
 turn cs i d small = rw (add-one, drop-cons cs i d) refl
 
 -- a turn of the loop
 pub taken : (n : ℕ) (p : Point) (cs : List Degrees) (i : ℕ) (d : Degrees) (found whole : List Corner) (c : Corner) → 3 ≤ n → i < length cs →
-    Holds n (place (get_or cs i d)) p × (c ≡ place (get_or cs i d)) → found ++ kept n p (drop i cs) ≡ whole →
+    Holds n (corner_at (get_or cs i d)) p × (c ≡ corner_at (get_or cs i d)) → found ++ kept n p (drop i cs) ≡ whole →
     (found ++ c ∷ []) ++ kept n p (drop (i + 1) cs) ≡ whole
 unfolding kept
 taken n p cs i d found whole c side small held so_far =
-    let here = place (get_or cs i d) in
+    let here = corner_at (get_or cs i d) in
     let rest = kept n p (drop (i + 1) cs) in
     let more : kept n p (drop i cs) ≡ here ∷ rest = ap (kept n p) (turn cs i d small) ∙ cond-true (is_held n p here) (here ∷ rest) rest ((held_is n p here side).1 held.0) in
     append_assoc found (c ∷ []) rest ∙ ap (λ (t : Corner). found ++ t ∷ rest) held.1 ∙ ap (λ (s : List Corner). found ++ s) (sym more) ∙ so_far
 
 pub passed : (n : ℕ) (p : Point) (cs : List Degrees) (i : ℕ) (d : Degrees) (found whole : List Corner) → 3 ≤ n → i < length cs →
-    (Holds n (place (get_or cs i d)) p → ⊥) → found ++ kept n p (drop i cs) ≡ whole → found ++ kept n p (drop (i + 1) cs) ≡ whole
+    (Holds n (corner_at (get_or cs i d)) p → ⊥) → found ++ kept n p (drop i cs) ≡ whole → found ++ kept n p (drop (i + 1) cs) ≡ whole
 unfolding kept
 passed n p cs i d found whole side small far so_far =
-    let here = place (get_or cs i d) in
+    let here = corner_at (get_or cs i d) in
     let rest = kept n p (drop (i + 1) cs) in
     let not_held = false_from_ne_true (is_held n p here) (λ h. far ((held_is n p here side).0 h)) in
     let more : kept n p (drop i cs) ≡ rest = ap (kept n p) (turn cs i d small) ∙ cond-false (is_held n p here) (here ∷ rest) rest not_held in
@@ -95,7 +95,7 @@ near m last corner v some from to along =
       | inr more ↦ inr (grind (arith, ints))
     ]
 
-pub among : (lat lon : ℤ) (c : Corner) → (c.lat ≡ lat -ℤ pos 1) ⊎ (c.lat ≡ lat) → (c.lon ≡ lon -ℤ pos 1) ⊎ (c.lon ≡ lon) → Contains (map place (around lat lon)) c
+pub among : (lat lon : ℤ) (c : Corner) → (c.lat ≡ lat -ℤ pos 1) ⊎ (c.lat ≡ lat) → (c.lon ≡ lon -ℤ pos 1) ⊎ (c.lon ≡ lon) → Contains (map corner_at (around lat lon)) c
 among lat lon c (inl south) (inl west) = (0, omega arith, ap₂ (λ (a b : ℤ). record { lat = a; lon = b }) (sym south) (sym west))
 among lat lon c (inl south) (inr east) = (1, omega arith, ap₂ (λ (a b : ℤ). record { lat = a; lon = b }) (sym south) (sym east))
 among lat lon c (inr north) (inl west) = (2, omega arith, ap₂ (λ (a b : ℤ). record { lat = a; lon = b }) (sym north) (sym west))
@@ -108,11 +108,11 @@ pub kept_exactly : (n : ℕ) (p : Point) (lat lon : ℤ) → 3 ≤ n →
     (c : Corner) → Contains (kept n p (around lat lon)) c ↔ Holds n c p
 unfolding kept
 kept_exactly n p lat lon side y_from y_to x_from x_to c = (
-  λ has. (held_is n p c side).0 (All-contains (λ a. is_held n p a ≡ true) (kept n p (around lat lon)) c (filter_passes (is_held n p) (map place (around lat lon))) has),
+  λ has. (held_is n p c side).0 (All-contains (λ a. is_held n p a ≡ true) (kept n p (around lat lon)) c (filter_passes (is_held n p) (map corner_at (around lat lon))) has),
   λ held.
       let along = along_of_holds n c p held in
       let here = among lat lon c (near (n - 1) lat c.lat p.y (omega arith) y_from y_to along.0) (near (n - 1) lon c.lon p.x (omega arith) x_from x_to along.1) in
-      stays (is_held n p) (map place (around lat lon)) here.0 c here.1 here.2 ((held_is n p c side).1 held),
+      stays (is_held n p) (map corner_at (around lat lon)) here.0 c here.1 here.2 ((held_is n p c side).1 held),
 )
 
 before_by_lat : (a b : Corner) → a.lat <ℤ b.lat → IsBefore a b
@@ -121,7 +121,7 @@ before_by_lat a b less = grind (arith, ints)
 before_by_lon : (lat west east : ℤ) → west <ℤ east → IsBefore (record { lat = lat; lon = west }) (record { lat = lat; lon = east })
 before_by_lon lat west east less = grind (arith, ints)
 
-around_rises : (lat lon : ℤ) → AllPairs IsBefore (map place (around lat lon))
+around_rises : (lat lon : ℤ) → AllPairs IsBefore (map corner_at (around lat lon))
 around_rises lat lon =
     let south_west : Corner = record { lat = lat -ℤ pos 1; lon = lon -ℤ pos 1 } in
     let south_east : Corner = record { lat = lat -ℤ pos 1; lon = lon } in
@@ -143,7 +143,7 @@ around_rises lat lon =
 pub kept_in_order : (n : ℕ) (p : Point) (lat lon : ℤ) → AllAdjacentBelow IsBefore (kept n p (around lat lon)) (length (kept n p (around lat lon)))
 unfolding kept
 kept_in_order n p lat lon =
-    let pairs : AllPairs IsBefore (kept n p (around lat lon)) = AllPairs-filter IsBefore (is_held n p) (map place (around lat lon)) (around_rises lat lon) in
+    let pairs : AllPairs IsBefore (kept n p (around lat lon)) = AllPairs-filter IsBefore (is_held n p) (map corner_at (around lat lon)) (around_rises lat lon) in
     λ k d small. pairs k (k + 1) d (omega arith) small
 
 pub all_kept : (n : ℕ) (p : Point) (cs : List Degrees) (found : List Corner) (i : ℕ) → length cs ≤ i → found ++ kept n p (drop i cs) ≡ kept n p cs → found ≡ kept n p cs
@@ -169,6 +169,6 @@ at_most_four n p side =
       kept n p (around lat.0 lon.0),
       (
         record { exactly = kept_exactly n p lat.0 lon.0 side lat.1 lat.2 lon.1 lon.2; in_order = kept_in_order n p lat.0 lon.0 },
-        no_longer (is_held n p) (map place (around lat.0 lon.0)),
+        no_longer (is_held n p) (map corner_at (around lat.0 lon.0)),
       ),
     )

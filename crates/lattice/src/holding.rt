@@ -79,11 +79,11 @@ pub fn point_at(side: Side, corner: Corner, index: u32) -> Point
     }
 }
 
-ghost use Rattle.lattice.specs.Degrees.{place};
+ghost use Rattle.lattice.specs.Degrees.{corner_at};
 
 // The corner at these degrees, where there is one and its tile holds the point.
 fn holder_at(side: Side, degrees: Degrees, point: Point) -> Option<Corner>
-    ensures { SomeIff result (Holds side (place degrees) point) (place degrees) }
+    ensures { SomeIff result (Holds side (corner_at degrees) point) (corner_at degrees) }
 {
     let corner = Corner::at(degrees.lat, degrees.lon)?;
     index_in(side, corner, point)?;

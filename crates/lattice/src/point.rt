@@ -1,6 +1,6 @@
-//! A place of the lattice.
+//! A point of the lattice.
 
-/// A sample's place, in samples: `y` grows northwards and `x` eastwards, from the south-west sample of the tile at
+/// Where a sample lies, in samples: `y` grows northwards and `x` eastwards, from the south-west sample of the tile at
 /// latitude 0 and longitude 0. Points are ordered by `y`, then `x`.
 #[derive(Clone, Copy, Debug, Default, PartialEq, Eq, PartialOrd, Ord)]
 pub struct Point {

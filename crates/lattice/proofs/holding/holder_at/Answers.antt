@@ -2,13 +2,13 @@ use Rattle.std.proofs.Common.{◌≡◌, ◌∙◌, ap₂, refl, sym, subst, Som
 use Rattle.std.proofs.lemmas.Bool.{false≢true}
 use Rattle.std.proofs.lemmas.Int.{to_z-of_z}
 use Rattle.lattice.specs.Corners.{Corner}
-use Rattle.lattice.specs.Degrees.{place}
+use Rattle.lattice.specs.Degrees.{corner_at}
 use Rattle.lattice.specs.Lattice.{Holds}
 use Rattle.lattice.proofs.holding.holder_at.Goals as goal
 
 pub returns-in_err-index_in : goal.returns-in_err-index_in
 returns-in_err-index_in c =
-    let here = place c.args.degrees in
+    let here = corner_at c.args.degrees in
     let lat : SFits w64 c.args.degrees.lat = search rules in
     let lon : SFits w64 c.args.degrees.lon = search rules in
     let is : ◌≡◌ {A = Corner} c.in_ok-corner.corner here =
@@ -19,7 +19,7 @@ returns-in_err-index_in c =
 
 pub returns : goal.returns
 returns c =
-    let here = place c.args.degrees in
+    let here = corner_at c.args.degrees in
     let lat : SFits w64 c.args.degrees.lat = search rules in
     let lon : SFits w64 c.args.degrees.lon = search rules in
     let is : ◌≡◌ {A = Corner} c.in_ok-corner.corner here =
