@@ -1,6 +1,7 @@
 pub mod Reading
 pub mod Entries
 pub mod Readers
+pub mod Asked
 pub mod Sealed
 pub mod SealingLaws
 pub mod SeamRule
