@@ -61,7 +61,7 @@ weakened R Q implies x (asked ∷ questions) (given ∷ answers) [] steps = absu
 weakened R Q implies x (asked ∷ questions) (given ∷ answers) (next ∷ through) (step, steps) = (implies x next asked given step, weakened R Q implies next questions answers through steps)
 
 -- the second state is named twice where two runs meet
-without_double : (s t : State) (states : List State) (x : State) → Contains (s ∷ t ∷ t ∷ states) x → Contains (s ∷ t ∷ states) x
+pub without_double : (s t : State) (states : List State) (x : State) → Contains (s ∷ t ∷ t ∷ states) x → Contains (s ∷ t ∷ states) x
 without_double s t states x h = by (Contains-append_cases (s ∷ t ∷ []) (t ∷ states) x h)
   where
     by : Contains (s ∷ t ∷ []) x ⊎ Contains (t ∷ states) x → Contains (s ∷ t ∷ states) x
@@ -76,7 +76,7 @@ more_failures before now [] le = le
 more_failures before now (reply.Refused Device ∷ answers) le = more_failures (counted before) (counted now) answers (omega (arith, le))
 more_failures before now (answer ∷ answers) le = more_failures before now answers le
 
-one_failure : (before now : ℕ) (answer : Reply) (answers : List Reply) → IsCounted before answer now → failures_after before (answer ∷ answers) ≤ failures_after now answers
+pub one_failure : (before now : ℕ) (answer : Reply) (answers : List Reply) → IsCounted before answer now → failures_after before (answer ∷ answers) ≤ failures_after now answers
 one_failure before now (reply.Refused Device) answers is = more_failures (counted before) now answers (is.device refl)
 one_failure before now answer answers is = more_failures before now answers is.later
 

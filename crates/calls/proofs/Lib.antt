@@ -2,3 +2,4 @@ pub mod Answered
 pub mod Applying
 pub mod Chains
 mod Decided
+pub mod Questions

@@ -1,5 +1,5 @@
 -- Calls of an engine, a store or a table, one after another (this product's own profile).
-use Rattle.std.specs.Prelude.{◌≡◌, ◌≤◌, ℕ, Bool, List, [], ◌∷◌, ◌++◌, Contains, Result, Ok, Err}
+use Rattle.std.specs.Prelude.{◌≡◌, ◌≤◌, ℕ, Bool, List, [], ◌∷◌, ◌++◌, Contains, Result, Ok, Err, Vec}
 use Rattle.lattice.specs.declared.refusal.Refusal.{Refusal}
 use Rattle.edits.specs.declared.command.Command.{Command}
 use Rattle.calls.specs.State.{State}
@@ -15,6 +15,11 @@ use Rattle.calls.specs.declared.event.Reply.TheVariants as reply
 abbrev pub answered : {T : Type 0} → (T → Reply) → Result T Refusal → Reply
 answered of_value (Ok value) = of_value value
 answered of_value (Err r) = reply.Refused r
+
+-- what a call answered, with a list for the vector that holds it
+abbrev pub items_in : {X A : Type 0} → Result (Vec X A) Refusal → Result (List X) Refusal
+items_in (Ok xs) = Ok xs.items
+items_in (Err r) = Err r
 
 -- what is seen of an engine
 pub record Members (E : Type 0) : Type 1 where

@@ -105,11 +105,12 @@ failures_after before (replied ∷ replies) = failures_after before replies
 abbrev pub writes_a_point : ℕ → ℕ
 writes_a_point version = if nat_eq version 1 then 8 else 12
 
--- at most so many writes, in this version of the format: a commit's other three are the root and its two gates
+-- At most so many writes, in this version of the format: a commit's other three are the root and its two gates. Of a
+-- command that may set any number of samples nothing is said.
 abbrev pub WritesFew : ℕ → Event → ℕ → ℕ → Type 0
 WritesFew version (ask.Do (Burn depth points)) before now = now ≤ before + (writes_a_point version * length points.items + 3)
 WritesFew version (ask.Do (Wall height points)) before now = now ≤ before + (writes_a_point version * length points.items + 3)
-WritesFew version (ask.Do command) before now = before ≤ now
+WritesFew version (ask.Do command) before now = Unit {0}
 WritesFew version asked before now = now ≡ before
 
 -- how many writes an event with this answer makes

@@ -25,7 +25,7 @@ module _ {S : Type 0} (g : Ghosts S) where
   pub reads_as : {T U : Type 0} (a b : S) (x : T) (y : U) → OnlyReads {T = T} g a b (Ok x) → OnlyReads {T = U} g a b (Ok y)
   reads_as a b x y h = record {
     refusal = tt;
-    only_device = λ _ _. tt;
+    only_device = λ _. tt;
     ready = h.ready;
     unready = tt;
     answers = λ _. refl;
@@ -59,7 +59,7 @@ module _ {S : Type 0} (g : Ghosts S) where
   pub reads_nothing : {T : Type 0} (keeps_itself : (s : S) → g.keeps s s) (s : S) (x : T) → OnlyReads {T = T} g s s (Ok x)
   reads_nothing keeps_itself s x = record {
     refusal = tt;
-    only_device = λ _ _. tt;
+    only_device = λ _. tt;
     ready = λ ready. ready;
     unready = tt;
     answers = λ _. refl;
@@ -76,7 +76,7 @@ module _ {S : Type 0} (g : Ghosts S) where
       → OnlyReads {T = T} g a b (Ok x) → OnlyReads g b c result → OnlyReads g a c result
   reads_on keeps_on a b c x result first second = record {
     refusal = refusal_before (g.failures a) (g.failures b) (g.failures c) result first.failures second.refusal;
-    only_device = λ honest ready. second.only_device honest (first.ready ready);
+    only_device = λ ready. second.only_device (first.ready ready);
     ready = λ ready. second.ready (first.ready ready);
     unready = second.unready;
     answers = λ never. second.answers (first.never_refuses never);

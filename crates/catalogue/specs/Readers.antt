@@ -16,8 +16,8 @@ reads_of _ = Ok tt
 pub record OnlyReads {S T : Type 0} (g : Ghosts S) (old new : S) (result : Result T Refusal) : Type 0 where
   -- on any disk a refusal is Device, and then the count of failures has risen, or Failed or Damaged
   pub refusal : IfErr result (MayRefuse (g.failures old) (g.failures new))
-  -- where it is ready and honest, only the disk refuses
-  pub only_device : g.is_honest new → g.is_ready old → IfErr result (λ r. r ≡ Device)
+  -- where it is ready, only the disk refuses
+  pub only_device : g.is_ready old → IfErr result (λ r. r ≡ Device)
   pub ready : g.is_ready old → OnOk result (g.is_ready new)
   -- after a refusal no further read is tried
   pub unready : OnErr result (¬ g.is_ready new)

@@ -60,8 +60,8 @@ pub trait Samples {
         // On any disk a refusal is Device, and then the count of failures has risen, or Failed or Damaged.
         ensures refusal { IfErr result (MayRefuse (failures self.old) (failures self.new)) }
 
-        // Where it is ready and honest, only the disk refuses.
-        ensures only_device { is_honest self.new → is_ready self.old → IfErr result (λ r. r ≡ Device) }
+        // Where it is ready, only the disk refuses.
+        ensures only_device { is_ready self.old → IfErr result (λ r. r ≡ Device) }
         ensures ready { is_ready self.old → OnOk result (is_ready self.new) }
 
         // After a refusal no further read is tried.
@@ -88,8 +88,8 @@ pub trait Samples {
         // On any disk a refusal is Device, and then the count of failures has risen, or Failed or Damaged.
         ensures refusal { IfErr result (MayRefuse (failures self.old) (failures self.new)) }
 
-        // Where it is ready and honest, only the disk refuses.
-        ensures only_device { is_honest self.new → is_ready self.old → IfErr result (λ r. r ≡ Device) }
+        // Where it is ready, only the disk refuses.
+        ensures only_device { is_ready self.old → IfErr result (λ r. r ≡ Device) }
         ensures ready { is_ready self.old → OnOk result (is_ready self.new) }
 
         // After a refusal no further read is tried.

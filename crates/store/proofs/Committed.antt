@@ -1,15 +1,19 @@
 -- A command by the trees that it goes through: what commits nothing, and the commit of what was staged.
 use Rattle.std.proofs.Common.{◌≡◌, ◌≢◌, ◌⊎◌, inl, inr, ⊎_elim, ℕ, ◌+◌, ◌≤◌, ◌<◌, ◌^◌, Bool, true, false, refl, sym, ap, ap₂, ◌∙◌, subst, arith}
-use Rattle.std.specs.Prelude.{Option, Result, Ok, Err, IfErr, IsErrOf}
+use Rattle.std.specs.Prelude.{Option, Some, Result, Ok, Err, IfErr, IsErrOf, IsTrue}
+use Rattle.std.proofs.lemmas.Bool.{or_right}
 use Rattle.disk.specs.Disk.{Image, HasRisen}
 use Rattle.disk.specs.Stops.{LeavesOnly, weaker, in_turn}
 use Rattle.disk.specs.declared.disk.Disk.{Ghosts}
 use Rattle.lattice.specs.declared.refusal.Refusal.{Refusal}
-use Rattle.lattice.specs.declared.refusal.Refusal.TheVariants.{Device, NoMemory}
+use Rattle.lattice.specs.declared.refusal.Refusal.TheVariants.{Device, NoMemory, Failed, Worn}
 use Rattle.page_codec.specs.Roots.{RootValue}
+use Rattle.catalogue.specs.Endings.{ends_any}
+use Rattle.edits.specs.Plans.{is_own, may_end}
 use Rattle.edits.specs.declared.command.Command.{Command}
 use Rattle.calls.specs.Outcomes.{AppliesNot}
 use Rattle.calls.specs.State.{Contents, State, made_by, in_doubt, failing, working}
+use Rattle.calls.specs.Told.{may_refuse_command}
 use Rattle.cow_tree.specs.Layout.{Stands}
 use Rattle.cow_tree.specs.Stored.{Stored, next_commit}
 use Rattle.cow_tree.specs.Trees.{disk_of, root_of, has_failed, staged_in, IsAt as IsTreeAt}
@@ -22,6 +26,15 @@ use Rattle.store.proofs.InMemory.{is_working}
 use Rattle.store.proofs.Opened.{in_state}
 use Rattle.calls.proofs.Applying.{fails, doubt_is, no_memory}
 use Rattle.store.proofs.States.{at_failure, one_made}
+
+-- what may end any command may end this one
+pub ends_command : (command : Command) (r : Refusal) → IsTrue (ends_any r) → IsTrue (may_refuse_command command r)
+ends_command command Worn ends = refl
+ends_command command r ends = or_right (is_own command r) (ends_any r) ends
+
+pub may_end_it : (command : Command) (r : Refusal) → IsTrue (may_end command r) → IsTrue (may_refuse_command command r)
+may_end_it command Worn may = refl
+may_end_it command r may = may
 
 module _ {D : Type 0} (g : Ghosts D) (old new : Tree D g) (command : Command) (works : has_failed old ≡ false) where
   abbrev OldHas : Contents → Image → Type 0
@@ -43,6 +56,8 @@ module _ {D : Type 0} (g : Ghosts D) (old new : Tree D g) (command : Command) (w
     device = λ _. risen;
     works = tt;
     fails = λ _. failed;
+    causes = ends_command command Device refl;
+    quiet = λ _ not_device. absurd (not_device refl);
     counted = tt;
     last_known = root;
     unwritten = λ not_device. absurd (not_device refl);
@@ -52,7 +67,7 @@ module _ {D : Type 0} (g : Ghosts D) (old new : Tree D g) (command : Command) (w
           fault,
           (
             subst (λ (r : RootValue). IsStateOf g (disk_of new) r (has_failed new) (λ (stored : Stored). IsTreeAt g new stored) (staged_in g new) fault) (sym root)
-                (at_failure g (disk_of new) (root_of old) (has_failed new) (λ (stored : Stored). IsTreeAt g new stored) (staged_in g new) fault failed refl at.count at.number
+                (at_failure g (disk_of new) (root_of old) (has_failed new) (λ (stored : Stored). IsTreeAt g new stored) (staged_in g new) fault failed refl at.side_is at.count at.number
                 (λ image may. subst (λ (n : ℕ). StandsForState n (root_of old).side (root_of old).capacity image fault) (sym size) ((run h s at).now image may))),
             fails (root_of old).capacity s command (is_working g old works s at),
           ),
@@ -78,7 +93,7 @@ module _ {D : Type 0} (g : Ghosts D) (old new : Tree D g) (command : Command) (w
     fails_before is = fails_so done.size done.later done.honest done.root (done.failed is) (done.device is) stays_or_makes
 
     -- it didn't
-    module _ (still : g.honest (disk_of new) → (s : State) → IsInState g old s → has_failed new ≡ false) (clean : g.honest (disk_of new) → (s : State) → IsInState g old s → staged_in g new ≡ staged_in g old) where
+    module _ (still : has_failed new ≡ false) (clean : g.honest (disk_of new) → (s : State) → IsInState g old s → staged_in g new ≡ staged_in g old) where
       in_same_state : g.honest (disk_of new) → (s : State) → IsInState g old s → IsInState g new s
       in_same_state honest s at =
           let sound = at.sound works in
@@ -86,21 +101,22 @@ module _ {D : Type 0} (g : Ghosts D) (old new : Tree D g) (command : Command) (w
           subst (λ (r : RootValue). IsStateOf g (disk_of new) r (has_failed new) (λ (stored : Stored). IsTreeAt g new stored) (staged_in g new) s) (sym done.root)
           (record {
             images = λ image may. subst (λ (n : ℕ). StandsForState n (root_of old).side (root_of old).capacity image s) (sym done.size) (inl (now.now image may));
+            side_is = at.side_is;
             count = at.count;
             number = at.number;
-            failed_is = still honest s at ∙ sym works ∙ at.failed_is;
+            failed_is = still ∙ sym works ∙ at.failed_is;
             sound = λ _. record {
               stored = sound.stored;
-              tree = done.at honest sound.stored sound.tree (still honest s at);
+              tree = done.at honest sound.stored sound.tree still;
               holds = sound.holds;
               nothing_staged = clean honest s at ∙ sound.nothing_staged;
               no_doubt = sound.no_doubt;
             };
           })
 
-      pub quiet : (r : Refusal) → r ≢ Device → g.writes (disk_of new) ≡ g.writes (disk_of old)
+      pub quiet : (r : Refusal) → r ≢ Device → r ≢ Failed → has_failed new ≡ false → IsTrue (may_refuse_command command r) → g.writes (disk_of new) ≡ g.writes (disk_of old)
           → (g.honest (disk_of new) → (s : State) → IsInState g old s → AppliesNot (root_of old).capacity s command r s) → IsApplied g command (Err r) old new
-      quiet r other unwritten refused = record {
+      quiet r other not_failed still_works cause unwritten refused = record {
         size = done.size;
         side = ap (λ (x : RootValue). x.side) done.root;
         capacity = ap (λ (x : RootValue). x.capacity) done.root;
@@ -108,6 +124,8 @@ module _ {D : Type 0} (g : Ghosts D) (old new : Tree D g) (command : Command) (w
         device = λ is. absurd (other (let e : ◌≡◌ {A = Result ℕ Refusal} (Err r) (Err Device) = is in cc));
         works = tt;
         fails = λ is. absurd (other (let e : ◌≡◌ {A = Result ℕ Refusal} (Err r) (Err Device) = is in cc));
+        causes = cause;
+        quiet = λ _ _. (not_failed, still_works);
         counted = tt;
         last_known = done.root;
         unwritten = λ _. unwritten;
@@ -128,8 +146,9 @@ gives_up g old new command works r done why clean =
     (λ device.
     subst (λ (x : Refusal). IsApplied g command (Err x) old new) (sym device) (fails_before g old new command works (Err r) done (ap (λ (x : Refusal). Err x) device)))
     (λ no_room.
-    quiet g old new command works (Err r) done (λ _ _ _. no_room.1) (λ honest s at. clean honest s at no_room.1 ∙ sym (at.sound works).nothing_staged) r
-    (λ device. let memory = no_room.0 in cc) no_room.2
+    quiet g old new command works (Err r) done no_room.1 (λ honest s at. clean honest s at no_room.1 ∙ sym (at.sound works).nothing_staged) r
+    (λ device. let memory = no_room.0 in cc) (λ failed. let memory = no_room.0 in cc) no_room.1
+    (subst (λ (x : Refusal). IsTrue (may_refuse_command command x)) (sym no_room.0) (ends_command command NoMemory refl)) no_room.2
     (λ honest s at. subst (λ (x : Refusal). AppliesNot (root_of old).capacity s command x s) (sym no_room.0) (no_memory (root_of old).capacity s command (is_working g old works s at))))
     why
 
@@ -191,6 +210,8 @@ module _ {D : Type 0} (g : Ghosts D) (old mid new : Tree D g) (command : Command
     device = λ is. absurd (let e : ◌≡◌ {A = Result ℕ Refusal} (Ok count) (Err Device) = is in cc);
     works = works;
     fails = λ is. absurd (let e : ◌≡◌ {A = Result ℕ Refusal} (Ok count) (Err Device) = is in cc);
+    causes = tt;
+    quiet = λ _. tt;
     counted = (
       counted ∙ ap (λ (r : RootValue). r.count + 1) staged.uncommitted.root,
       new_count,

@@ -1,3 +1,4 @@
+pub mod Answering
 pub mod Committed
 pub mod EditingHeld
 pub mod EditingPages
@@ -10,7 +11,6 @@ pub mod HeldTiles
 pub mod Holding
 pub mod Importing
 pub mod InMemory
-pub mod OneEvent
 pub mod Opened
 pub mod Openings
 pub mod Pages

@@ -1,8 +1,7 @@
 -- What a query leaves, by the tree before and after its reads.
-use Rattle.std.proofs.Common.{◌≡◌, ℕ, Bool, true, false, List, length, map, refl, sym, ap, ap₂, ◌∙◌, subst, arith, true≢false}
+use Rattle.std.proofs.Common.{◌≡◌, ◌≢◌, ℕ, Bool, true, false, List, length, map, refl, sym, ap, ap₂, ◌∙◌, subst, arith, true≢false}
 use Rattle.std.specs.Prelude.{None, Result, Ok, Err, IsErrOf, IfOk, IfErr, OnOk, OnErr}
 use Rattle.disk.specs.Disk.{Image, HasRisen}
-use Rattle.disk.specs.Stops.{nothing_done}
 use Rattle.disk.specs.declared.disk.Disk.{Ghosts}
 use Rattle.lattice.specs.Mosaic.{IsMosaic}
 use Rattle.lattice.specs.declared.refusal.Refusal.{Refusal}
@@ -53,23 +52,6 @@ module _ {D : Type 0} (g : Ghosts D) (tree : Tree D g) (fails : has_failed tree 
   pub stays_failed_at : (s : State) → IsInState g tree s → StaysFailed s s
   stays_failed_at s at = record { failed = sym at.failed_is ∙ fails; same = refl }
 
--- ---- no read
-
-module _ {D : Type 0} (g : Ghosts D) (only_now : (disk : D) (image : Image) → g.honest disk → g.since disk (g.moment disk) image → g.may disk image) (tree : Tree D g) where
-  pub unread : {T : Type 0} (result : Result T Refusal) → (IsErrOf result Device → ⊥) → OnOk result (has_failed tree ≡ false) → (has_failed tree ≡ true → result ≡ Err Failed) → IsQueried g tree tree result
-  unread result not_device works failed = record {
-    size = refl;
-    writes = refl;
-    root = refl;
-    later = omega arith;
-    device = λ is. absurd (not_device is);
-    works = works;
-    fails = λ is. absurd (not_device is);
-    still_failed = λ fails. fails;
-    failed = λ fails. (failed fails, refl);
-    nothing = λ honest. nothing_done g (disk_of tree) (only_now (disk_of tree)) honest;
-  }
-
 -- ---- reads
 
 pub true_where : (b : Bool) → ¬ (b ≡ false) → b ≡ true
@@ -78,8 +60,8 @@ true_where false none = absurd (none refl)
 
 module _ {D : Type 0} (g : Ghosts D) (old new : Tree D g) (works : has_failed old ≡ false) (keeps : HasOnlyRead g old new) where
   pub queried : {T : Type 0} (result : Result T Refusal) → (IsErrOf result Device → HasRisen (g.failures (disk_of old)) (g.failures (disk_of new))) → OnOk result (has_failed new ≡ false)
-      → (IsErrOf result Device → ¬ (has_failed new ≡ false)) → IsQueried g old new result
-  queried result device still fails = record {
+      → (IsErrOf result Device → ¬ (has_failed new ≡ false)) → IfErr result (λ r. r ≢ Device → (r ≢ Failed) × (has_failed new ≡ false)) → IsQueried g old new result
+  queried result device still fails quiet = record {
     size = keeps.size;
     writes = keeps.writes;
     root = keeps.root;
@@ -87,6 +69,7 @@ module _ {D : Type 0} (g : Ghosts D) (old new : Tree D g) (works : has_failed ol
     device = device;
     works = still;
     fails = λ is. true_where (has_failed new) (fails is);
+    quiet = λ _. quiet;
     still_failed = λ fails. absurd (true≢false (sym fails ∙ works));
     failed = λ fails. absurd (true≢false (sym fails ∙ works));
     nothing = keeps.nothing;

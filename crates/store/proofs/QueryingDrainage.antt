@@ -1,5 +1,5 @@
 -- What a query of drainage leaves, by the tree before and after its reads.
-use Rattle.std.proofs.Common.{◌≡◌, ◌↔◌, ℕ, ◌≤◌, false, List, length, map, refl, sym, ap, ◌∙◌, subst, arith}
+use Rattle.std.proofs.Common.{◌≡◌, ◌≢◌, ◌↔◌, ℕ, ◌≤◌, false, List, length, map, refl, sym, ap, ◌∙◌, subst, arith}
 use Rattle.std.proofs.lemmas.List.{length-map}
 use Rattle.std.specs.Prelude.{None, Result, Ok, Err, IsOk, IsErrOf, IfErr, OnOk, OnErr, MatchResult, Vec}
 use Rattle.disk.specs.Disk.{HasRisen}
@@ -19,7 +19,7 @@ use Rattle.cow_tree.specs.Reading.{mosaic_of, HasOnlyRead}
 use Rattle.cow_tree.specs.Trees.{disk_of, root_of, has_failed, corners_of as corners_under}
 use Rattle.cow_tree.specs.declared.tree.Tree.{Tree}
 use Rattle.drainage.specs.Asking.{IsHeldByNone}
-use Rattle.store.specs.Stores.{items_in}
+use Rattle.calls.specs.Engines.{items_in}
 use Rattle.store.specs.TreeStates.{IsInState}
 use Rattle.store.proofs.InMemory.{corners_are}
 use Rattle.store.proofs.Querying.{mosaic_at, true_where, still_at, failing_at}
@@ -43,6 +43,14 @@ works_read (Err r) P reads = tt
 
 pub fails_read : {T : Type 0} (result : Result T Refusal) (P : Type 0) → OnErr (reads_of result) P → IsErrOf result Device → P
 fails_read {T} result P reads is = let fails : OnErr (reads_of {T = T} (Err Device)) P = subst (λ (r : Result T Refusal). OnErr (reads_of r) P) is reads in fails
+
+-- another refusal is of no read, and leaves the tree working
+pub quiet_read : {T : Type 0} (result : Result T Refusal) (P : Type 0) → IfErr (reads_of result) (λ r. r ≡ Device) → OnOk (reads_of result) P → IfErr result (λ r. r ≢ Device → (r ≢ Failed) × P)
+quiet_read (Ok x) P only ready = tt
+quiet_read (Err Device) P only ready = λ other. absurd (other refl)
+quiet_read (Err Failed) P only ready = λ other. absurd (let e : Failed ≡ Device = only in cc)
+quiet_read (Err Damaged) P only ready = λ other. absurd (let e : Damaged ≡ Device = only in cc)
+quiet_read (Err r) P only ready = λ other. ((λ e. cc), ready)
 
 -- an answer with a list for the vector that holds it
 pub listed : {X A : Type 0} (Answers : Result (List X) Refusal → Type 0) (result : Result (Vec X A) Refusal) → MatchResult result (λ xs. Answers (Ok xs.items)) (λ r. Answers (Err r)) → Answers (items_in result)

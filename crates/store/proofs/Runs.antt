@@ -1,138 +1,140 @@
--- Runs of events, one after another.
-use Rattle.std.proofs.Common.{◌≡◌, ℕ, ◌≤◌, Bool, IsTrue, List, [], ◌∷◌, ◌++◌, length, refl, sym, ◌∙◌, subst, arith}
-use Rattle.std.specs.Prelude.{Contains}
-use Rattle.std.proofs.lemmas.List.{length-append}
-use Rattle.std.proofs.lemmas.List.Elements.{Contains-append_left, Contains-append_right, Contains-push}
-use Rattle.disk.specs.Disk.{Image, counted}
-use Rattle.disk.specs.Stops.{in_turn, weaker, nothing_done}
+-- Events that a store answered, one after another.
+use Rattle.std.proofs.Common.{◌≡◌, ◌≢◌, ◌⊎◌, inl, inr, ⊎_elim, ℕ, ◌≤◌, List, [], ◌∷◌, refl, sym, ◌∙◌, subst, arith}
+use Rattle.disk.specs.Disk.{Image}
 use Rattle.disk.specs.declared.disk.Disk.{Ghosts}
-use Rattle.lattice.specs.declared.refusal.Refusal.TheVariants.{Device}
+use Rattle.calls.specs.Engines.{IsCall, IsRunOf, Calls}
+use Rattle.calls.specs.Events.{Happens}
+use Rattle.calls.specs.Runs.{last_of, Through}
 use Rattle.calls.specs.State.{State}
-use Rattle.cow_tree.specs.Trees.{disk_of, root_of, has_failed}
-use Rattle.cow_tree.specs.declared.tree.Tree.{Tree}
-use Rattle.calls.specs.Events.{IsRun, end_of, fails_after, SaysFailedUntilOpen}
-use Rattle.store.specs.Events.{StandsForOneOf, GoesThrough, failures_after, HasRun}
-use Rattle.store.specs.States.{StandsForState}
-use Rattle.store.specs.TreeStates.{IsInState}
+use Rattle.calls.specs.Told.{IsCounted, failures_after}
 use Rattle.calls.specs.declared.event.Event.{Event}
 use Rattle.calls.specs.declared.event.Event.TheVariants as ask
 use Rattle.calls.specs.declared.event.Reply.{Reply}
-use Rattle.calls.specs.declared.event.Reply.TheVariants as reply
+use Rattle.calls.proofs.Chains.{one_failure, without_double}
+use Rattle.store.specs.Calls.{HasReopened, HasAnswered, Runs}
+use Rattle.store.specs.StoreRuns.{nothing_done, one_by_one, among_more}
+use Rattle.store.specs.StoreState.{IsStoreAt, LeavesStates, members}
+use Rattle.store.specs.Stores.{disk_of, capacity_of}
+use Rattle.store.specs.declared.store.Store.{Store}
 
--- ---- one run, and then another
+reopening_or_not : (event : Event) → (event ≡ ask.Reopen) ⊎ (event ≢ ask.Reopen)
+reopening_or_not ask.Reopen = inl refl
+reopening_or_not event = inr (λ e. cc)
 
-run_on : (capacity : ℕ) (s : State) (es : List Event) (rs : List Reply) (ts : List State) (fs : List Event) (qs : List Reply) (us : List State) → IsRun capacity s es rs ts → IsRun capacity (end_of s ts) fs qs us
-    → IsRun capacity s (es ++ fs) (rs ++ qs) (ts ++ us)
-run_on capacity s [] [] [] fs qs us first second = second
-run_on capacity s (e ∷ es) (r ∷ rs) (t ∷ ts) fs qs us first second = (first.0, run_on capacity t es rs ts fs qs us first.1 second)
-run_on capacity s es rs ts fs qs us first second = absurd first
+module _ {D : Type 0} (g : Ghosts D) where
+  -- any event but a reopening
+  pub answers : (old new : Store D g) (event asked : Event) (replied answer : Reply) → event ≡ asked → asked ≢ ask.Reopen → replied ≡ answer → g.size (disk_of new) ≡ g.size (disk_of old)
+      → IsCall (members g) old asked answer new → HasAnswered g old event replied new
+  answers old new event asked replied answer is other says size call =
+      subst (λ (e : Event). HasAnswered g old e replied new) (sym is)
+      (subst (λ (r : Reply). HasAnswered g old asked r new) (sym says) (record { size = size; call = λ _. call; reopening = λ reopens. absurd (other reopens) }))
 
-end_on : (s : State) (ts us : List State) → end_of s (ts ++ us) ≡ end_of (end_of s ts) us
-end_on s [] us = refl
-end_on s (t ∷ ts) us = end_on t ts us
+  pub answers_reopening : (old new : Store D g) (event : Event) (replied answer : Reply) → event ≡ ask.Reopen → replied ≡ answer → g.size (disk_of new) ≡ g.size (disk_of old) → HasReopened g old answer new
+      → HasAnswered g old event replied new
+  answers_reopening old new event replied answer is says size reopened =
+      record { size = size; call = λ other. absurd (other is); reopening = λ _. subst (λ (r : Reply). HasReopened g old r new) (sym says) reopened }
 
--- the states of the second run are among those of both
-among : (s : State) (ts us : List State) (u : State) → Contains (end_of s ts ∷ us) u → Contains (s ∷ (ts ++ us)) u
-among s [] us u is = is
-among s (t ∷ ts) us u is = Contains-append_right (s ∷ []) (t ∷ (ts ++ us)) u (among t ts us u is)
+  module _ (old new : Store D g) (event : Event) (answer : Reply) (step : HasAnswered g old event answer new) where
+    honest_before : g.honest (disk_of new) → g.honest (disk_of old)
+    honest_before honest = ⊎_elim (λ reopens. (step.reopening reopens).honest honest) (λ other. (step.call other).honest honest) (reopening_or_not event)
 
-length_on : {A B : Type 0} (xs ys : List A) (cs ds : List B) → length xs ≡ length cs → length ys ≡ length ds → length (xs ++ ys) ≡ length (cs ++ ds)
-length_on xs ys cs ds first second = grind (arith, length-append)
+    counted_once : IsCounted (g.failures (disk_of old)) answer (g.failures (disk_of new))
+    counted_once = ⊎_elim (λ reopens. (step.reopening reopens).failures) (λ other. (step.call other).failures) (reopening_or_not event)
 
--- more faults before are more faults after
-more_failures : (before now : ℕ) (rs : List Reply) → before ≤ now → failures_after before rs ≤ failures_after now rs
-more_failures before now [] le = le
-more_failures before now (reply.Refused Device ∷ rs) le = more_failures (counted before) (counted now) rs (omega (arith, le))
-more_failures before now (r ∷ rs) le = more_failures before now rs le
+    happens : g.honest (disk_of new) → (s : State) → IsStoreAt g old s → (t : State) × (IsStoreAt g new t × Happens (capacity_of old) s event answer t × LeavesStates g old new (s ∷ t ∷ []))
+    happens honest s at =
+        ⊎_elim
+        (λ reopens.
+        subst (λ (e : Event). (t : State) × (IsStoreAt g new t × Happens (capacity_of old) s e answer t × LeavesStates g old new (s ∷ t ∷ []))) (sym reopens) ((step.reopening reopens).happens honest s at))
+        (λ other. (step.call other).happens honest s at) (reopening_or_not event)
 
-failures_on : (before : ℕ) (rs qs : List Reply) → failures_after before (rs ++ qs) ≡ failures_after (failures_after before rs) qs
-failures_on before [] qs = refl
-failures_on before (reply.Refused Device ∷ rs) qs = failures_on (counted before) rs qs
-failures_on before (r ∷ rs) qs = failures_on before rs qs
+  honest_all : (old : Store D g) (events : List Event) (replies : List Reply) (stores : List (Store D g)) → Through (HasAnswered g) old events replies stores → g.honest (disk_of (last_of old stores)) → g.honest (disk_of old)
+  honest_all old [] [] [] chain honest = honest
+  honest_all old (event ∷ events) (answer ∷ replies) (next ∷ stores) (step, chain) honest = honest_before old next event answer step (honest_all next events replies stores chain honest)
+  honest_all old [] [] (next ∷ stores) chain honest = absurd chain
+  honest_all old [] (answer ∷ replies) stores chain honest = absurd chain
+  honest_all old (event ∷ events) [] stores chain honest = absurd chain
+  honest_all old (event ∷ events) (answer ∷ replies) [] chain honest = absurd chain
 
-blamed_on : (before mid now : ℕ) (rs qs : List Reply) → failures_after before rs ≤ mid → failures_after mid qs ≤ now → failures_after before (rs ++ qs) ≤ now
-blamed_on before mid now rs qs first second =
-    subst (λ (n : ℕ). n ≤ now) (sym (failures_on before rs qs)) (let le = more_failures (failures_after before rs) mid qs first in omega (arith, le, second))
+  counted_all : (old : Store D g) (events : List Event) (replies : List Reply) (stores : List (Store D g)) → Through (HasAnswered g) old events replies stores
+      → failures_after (g.failures (disk_of old)) replies ≤ g.failures (disk_of (last_of old stores))
+  counted_all old [] [] [] chain = omega arith
+  counted_all old (event ∷ events) (answer ∷ replies) (next ∷ stores) (step, chain) =
+      let one = one_failure (g.failures (disk_of old)) (g.failures (disk_of next)) answer replies (counted_once old next event answer step) in
+      let more = counted_all next events replies stores chain in
+      omega (arith, one, more)
+  counted_all old [] [] (next ∷ stores) chain = absurd chain
+  counted_all old [] (answer ∷ replies) stores chain = absurd chain
+  counted_all old (event ∷ events) [] stores chain = absurd chain
+  counted_all old (event ∷ events) (answer ∷ replies) [] chain = absurd chain
 
--- where it had failed for sure before, it had failed
-still_fails : (was is : Bool) → (IsTrue was → IsTrue is) → (e : Event) (r : Reply) → IsTrue (fails_after was e r) → IsTrue (fails_after is e r)
-still_fails was is so ask.Reopen (reply.Refused r) fails = fails
-still_fails was is so e (reply.Refused Device) fails = fails
-still_fails was is so e reply.Reopened fails = fails
-still_fails was is so e r fails = so fails
+  sized_all : (old : Store D g) (events : List Event) (replies : List Reply) (stores : List (Store D g)) → Through (HasAnswered g) old events replies stores
+      → g.size (disk_of (last_of old stores)) ≡ g.size (disk_of old)
+  sized_all old [] [] [] chain = refl
+  sized_all old (event ∷ events) (answer ∷ replies) (next ∷ stores) (step, chain) = sized_all next events replies stores chain ∙ step.size
+  sized_all old [] [] (next ∷ stores) chain = absurd chain
+  sized_all old [] (answer ∷ replies) stores chain = absurd chain
+  sized_all old (event ∷ events) [] stores chain = absurd chain
+  sized_all old (event ∷ events) (answer ∷ replies) [] chain = absurd chain
 
-fewer_failed : (was is : Bool) (es : List Event) (rs : List Reply) (ends : Bool) → (IsTrue was → IsTrue is) → SaysFailedUntilOpen is es rs ends → SaysFailedUntilOpen was es rs ends
-fewer_failed was is [] [] ends so says = λ fails. says (so fails)
-fewer_failed was is (e ∷ es) (r ∷ rs) ends so says =
-    (λ fails. says.0 (so fails), fewer_failed (fails_after was e r) (fails_after is e r) es rs ends (still_fails was is so e r) says.1)
-fewer_failed was is es rs ends so says = absurd says
+  later_all : (old : Store D g) (events : List Event) (replies : List Reply) (stores : List (Store D g)) → Through (HasAnswered g) old events replies stores
+      → g.failures (disk_of old) ≤ g.failures (disk_of (last_of old stores))
+  later_all old [] [] [] chain = omega arith
+  later_all old (event ∷ events) (answer ∷ replies) (next ∷ stores) (step, chain) =
+      let one = (counted_once old next event answer step).later in
+      let more = later_all next events replies stores chain in
+      omega (arith, one, more)
+  later_all old [] [] (next ∷ stores) chain = absurd chain
+  later_all old [] (answer ∷ replies) stores chain = absurd chain
+  later_all old (event ∷ events) [] stores chain = absurd chain
+  later_all old (event ∷ events) (answer ∷ replies) [] chain = absurd chain
 
-failing_on : (was mid ends : Bool) (es : List Event) (rs : List Reply) (fs : List Event) (qs : List Reply) → SaysFailedUntilOpen was es rs mid → SaysFailedUntilOpen mid fs qs ends
-    → SaysFailedUntilOpen was (es ++ fs) (rs ++ qs) ends
-failing_on was mid ends [] [] fs qs first second = fewer_failed was mid fs qs ends first second
-failing_on was mid ends (e ∷ es) (r ∷ rs) fs qs first second = (first.0, failing_on (fails_after was e r) mid ends es rs fs qs first.1 second)
-failing_on was mid ends es rs fs qs first second = absurd first
+  module _ (only_now : (disk : D) (image : Image) → g.honest disk → g.since disk (g.moment disk) image → g.may disk image) where
+    goes_through : (old : Store D g) (events : List Event) (replies : List Reply) (stores : List (Store D g)) → Through (HasAnswered g) old events replies stores → g.honest (disk_of (last_of old stores))
+        → (s : State) → IsStoreAt g old s → (states : List State) × IsRunOf (members g) old events replies stores s states
+    goes_through old [] [] [] chain honest s at = ([], record { at = (at, tt); run = tt; later = (nothing_done old s [] (λ image. only_now (disk_of old) image) honest at, tt) })
+    goes_through old (event ∷ events) (answer ∷ replies) (next ∷ stores) (step, chain) honest s at =
+        let one = happens old next event answer step (honest_all next events replies stores chain honest) s at in
+        let t = one.0 in
+        let leaves = one.1.2 in
+        let more = goes_through next events replies stores chain honest t one.1.0 in
+        let states = more.0 in
+        let rest = more.1 in (
+          t ∷ states,
+          record {
+            at = (at, rest.at);
+            run = (one.1.1, subst (λ (n : ℕ). Through (Happens n) t events replies states) leaves.capacity rest.run);
+            later = (among_more old (last_of next stores) (s ∷ t ∷ t ∷ states) (s ∷ t ∷ states) (without_double s t states) (one_by_one old next (last_of next stores) (s ∷ t ∷ []) (t ∷ states) leaves rest.later.0), rest.later);
+          },
+        )
+    goes_through old [] [] (next ∷ stores) chain honest s at = absurd chain
+    goes_through old [] (answer ∷ replies) stores chain honest s at = absurd chain
+    goes_through old (event ∷ events) [] stores chain honest s at = absurd chain
+    goes_through old (event ∷ events) (answer ∷ replies) [] chain honest s at = absurd chain
 
-module _ {D : Type 0} (g : Ghosts D) (old mid new : Tree D g) (es fs : List Event) (rs qs : List Reply) (first : HasRun g old mid es rs) (second : HasRun g mid new fs qs) where
-  module _ (s : State) (ts us : List State) (was : GoesThrough g old mid es rs s ts) (is : GoesThrough g mid new fs qs (end_of s ts) us) where
-    -- what stands for a state of the second run, by the sides and the capacity of the first
-    as_first : (image : Image) (u : State) → StandsForState (g.size (disk_of mid)) (root_of mid).side (root_of mid).capacity image u
-        → StandsForState (g.size (disk_of old)) (root_of old).side (root_of old).capacity image u
-    as_first image u stands =
-        subst (λ (n : ℕ). StandsForState n (root_of old).side (root_of old).capacity image u) first.size
-        (subst (λ (n : ℕ). StandsForState (g.size (disk_of mid)) n (root_of old).capacity image u) was.side
-        (subst (λ (n : ℕ). StandsForState (g.size (disk_of mid)) (root_of mid).side n image u) was.capacity stands))
+    pub ran : (old new : Store D g) (events : List Event) (replies : List Reply) → Calls (HasAnswered g) old events replies new → Runs g old new events replies
+    ran old new events replies (stores, (is, chain)) = (
+      stores,
+      (
+        is,
+        record {
+          answered = chain;
+          size = sized_all old events replies stores chain;
+          honest = honest_all old events replies stores chain;
+          later = later_all old events replies stores chain;
+          device = counted_all old events replies stores chain;
+          states = goes_through old events replies stores chain;
+        },
+      ),
+    )
 
-    both_through : GoesThrough g old new (es ++ fs) (rs ++ qs) s (ts ++ us)
-    both_through = record {
-      side = is.side ∙ was.side;
-      capacity = is.capacity ∙ was.capacity;
-      run = run_on (root_of old).capacity s es rs ts fs qs us was.run (subst (λ (n : ℕ). IsRun n (end_of s ts) fs qs us) was.capacity is.run);
-      end = subst (λ (u : State). IsInState g new u) (sym (end_on s ts us)) is.end;
-      any_moment = in_turn g (disk_of old) (disk_of mid) (disk_of new) All
-          (weaker g (disk_of old) (disk_of mid) (StandsForOneOf (g.size (disk_of old)) (root_of old).side (root_of old).capacity (s ∷ ts)) All
-          (λ image one. (one.0, Contains-append_left (s ∷ ts) us one.0 one.1, one.2)) was.any_moment)
-          (weaker g (disk_of mid) (disk_of new) (StandsForOneOf (g.size (disk_of mid)) (root_of mid).side (root_of mid).capacity (end_of s ts ∷ us)) All
-          (λ image one. (one.0, among s ts us one.0 one.1, as_first image one.0 one.2)) is.any_moment);
-    }
-      where
-        All : Image → Type 0
-        All = StandsForOneOf (g.size (disk_of old)) (root_of old).side (root_of old).capacity (s ∷ (ts ++ us))
+  -- at the last store
+  module _ (old new : Store D g) (events : List Event) (replies : List Reply) (runs : Runs g old new events replies) where
+    pub size_then : g.size (disk_of new) ≡ g.size (disk_of old)
+    size_then = subst (λ (store : Store D g). g.size (disk_of store) ≡ g.size (disk_of old)) runs.1.0 runs.1.1.size
 
-  pub one_then_other : HasRun g old new (es ++ fs) (rs ++ qs)
-  one_then_other = record {
-    one_each = length_on rs qs es fs first.one_each second.one_each;
-    size = second.size ∙ first.size;
-    later = omega (arith, first.later, second.later);
-    device = blamed_on (g.failures (disk_of old)) (g.failures (disk_of mid)) (g.failures (disk_of new)) rs qs first.device second.device;
-    failing = failing_on (has_failed old) (has_failed mid) (has_failed new) es rs fs qs first.failing second.failing;
-    honest = λ honest. first.honest (second.honest honest);
-    outcome = λ honest s at.
-        let was = first.outcome (second.honest honest) s at in
-        let is = second.outcome honest (end_of s was.0) was.1.end in
-        (was.0 ++ is.0, both_through s was.0 is.0 was.1 is.1);
-  }
+    pub later_then : g.failures (disk_of old) ≤ g.failures (disk_of new)
+    later_then = subst (λ (store : Store D g). g.failures (disk_of old) ≤ g.failures (disk_of store)) runs.1.0 runs.1.1.later
 
--- ---- no event
-
-module _ {D : Type 0} (g : Ghosts D) (only_now : (disk : D) (image : Image) → g.honest disk → g.since disk (g.moment disk) image → g.may disk image) (tree : Tree D g) where
-  pub none_yet : HasRun g tree tree [] []
-  none_yet = record {
-    one_each = refl;
-    size = refl;
-    later = omega arith;
-    device = omega arith;
-    failing = λ fails. fails;
-    honest = λ honest. honest;
-    outcome = λ honest s at. (
-      [],
-      record {
-        side = refl;
-        capacity = refl;
-        run = tt;
-        end = at;
-        any_moment = weaker g (disk_of tree) (disk_of tree) (g.may (disk_of tree)) (StandsForOneOf (g.size (disk_of tree)) (root_of tree).side (root_of tree).capacity (s ∷ []))
-            (λ image may. (s, Contains-push [] s, at.images image may)) (nothing_done g (disk_of tree) (only_now (disk_of tree)) honest).run;
-      },
-    );
-  }
+    pub honest_then : g.honest (disk_of new) → g.honest (disk_of old)
+    honest_then = subst (λ (store : Store D g). g.honest (disk_of store) → g.honest (disk_of old)) runs.1.0 runs.1.1.honest

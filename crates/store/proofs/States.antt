@@ -38,6 +38,7 @@ module _ {D : Type 0} (g : Ghosts D) (disk : D) (root : RootValue) (failed : Boo
       → IsTreeAt stored → staged ≡ stored.tiles → Holds root.side root.capacity stored c → IsStateOf g disk root failed IsTreeAt staged (working c)
   at_contents tiles stored c works each seen tree clean holds = record {
     images = λ image may. inl (stored, (root, tiles, each image may), holds);
+    side_is = holds.side_is;
     count = sym (root_count (g.size disk) root tiles stored (g.seen disk) (each (g.seen disk) seen)) ∙ holds.count;
     number = sym (root_number (g.size disk) root tiles stored (g.seen disk) (each (g.seen disk) seen)) ∙ holds.number;
     failed_is = works;
@@ -45,10 +46,11 @@ module _ {D : Type 0} (g : Ghosts D) (disk : D) (root : RootValue) (failed : Boo
   }
 
   -- one that failed
-  pub at_failure : (s : State) → failed ≡ true → s.failed ≡ true → root.count ≡ s.contents.count → root.number ≡ s.contents.number → EachStandsFor g disk root.side root.capacity s
+  pub at_failure : (s : State) → failed ≡ true → s.failed ≡ true → s.contents.mosaic.side ≡ root.side → root.count ≡ s.contents.count → root.number ≡ s.contents.number → EachStandsFor g disk root.side root.capacity s
       → IsStateOf g disk root failed IsTreeAt staged s
-  at_failure s fails is count number images = record {
+  at_failure s fails is side count number images = record {
     images = images;
+    side_is = side;
     count = count;
     number = number;
     failed_is = fails ∙ sym is;
@@ -96,6 +98,7 @@ module _ {D : Type 0} (g : Ghosts D) (old new : D) (size : g.size new ≡ g.size
   reads_keep same moves stays =
       by_root s (record {
         images = images_kept;
+        side_is = at.side_is;
         count = at.count;
         number = at.number;
         failed_is = same ∙ at.failed_is;
@@ -108,9 +111,9 @@ module _ {D : Type 0} (g : Ghosts D) (old new : D) (size : g.size new ≡ g.size
   pub reads_fail : (doubt : Option Contents) → fails ≡ true → s.failed ≡ false → IsStateOf g new now fails IsNew still (failing s doubt)
   reads_fail doubt fail working_before =
       let none : s.doubt ≡ None = (at.sound (at.failed_is ∙ working_before)).no_doubt in
-      by_root (failing s doubt) (at_failure g new was fails IsNew still (failing s doubt) fail refl at.count at.number
+      by_root (failing s doubt) (at_failure g new was fails IsNew still (failing s doubt) fail refl at.side_is at.count at.number
       (still_contents g new was.side was.capacity s doubt (λ image may. subst (λ (n : ℕ). StandsFor n was.side was.capacity image s.contents) (sym size) (leaves_contents g old was failed IsOld staged s at none image (none_new image may)))))
 
   -- where an opening is refused, the state stays but for the failure
   pub stays_failed : fails ≡ true → IsStateOf g new now fails IsNew still (record s { failed = true })
-  stays_failed fail = by_root (record s { failed = true }) (at_failure g new was fails IsNew still (record s { failed = true }) fail refl at.count at.number images_kept)
+  stays_failed fail = by_root (record s { failed = true }) (at_failure g new was fails IsNew still (record s { failed = true }) fail refl at.side_is at.count at.number images_kept)

@@ -1,23 +1,34 @@
 -- What the calls of a store leave.
 use Rattle.std.proofs.Common.{◌≡◌, ◌≢◌, ◌⊎◌, ⊎_elim, ℕ, Bool, true, false, List, [], ◌∷◌, Some, arith, refl, sym, ◌∙◌, ap, subst, inl, inr}
-use Rattle.std.specs.Prelude.{Result, Ok, Err, IfErr}
+use Rattle.std.specs.Prelude.{◌+◌, IsTrue, Result, Ok, Err, OnOk, OnErr, IfOk, IfErr, IsErrOf}
 use Rattle.std.proofs.lemmas.Bool.{both_ways}
 use Rattle.disk.specs.Disk.{Image}
 use Rattle.disk.specs.Stops.{LeavesOnly, weaker as weaker_on, nothing_done as nothing_done_on}
 use Rattle.disk.specs.declared.disk.Disk.{Ghosts}
 use Rattle.lattice.specs.declared.refusal.Refusal.{Refusal}
-use Rattle.lattice.specs.declared.refusal.Refusal.TheVariants.{Device, Failed}
+use Rattle.lattice.specs.declared.refusal.Refusal.TheVariants.{Device, NoMemory, Failed}
 use Rattle.page_codec.specs.Roots.{RootValue}
 use Rattle.edits.specs.declared.command.Command.{Command}
+use Rattle.edits.specs.declared.command.Command.TheVariants.{Import, Remove, Patch, Burn, Wall}
+use Rattle.calls.specs.Engines.{answered, IsCall}
+use Rattle.calls.specs.Events.{fails_after, Happens}
 use Rattle.calls.specs.Outcomes.{Applies, Accepts, Fails}
 use Rattle.calls.specs.State.{Contents, State, would_make, made_by, in_doubt}
+use Rattle.calls.specs.Told.{may_refuse, Knows, WritesFew as FewWrites}
+use Rattle.calls.specs.declared.event.Event.{Event}
+use Rattle.calls.specs.declared.event.Event.TheVariants as ask
+use Rattle.calls.specs.declared.event.Reply.{Reply}
+use Rattle.calls.specs.declared.event.Reply.TheVariants as reply
+use Rattle.calls.proofs.Questions.{IsAnswered, IsQuestion, answers_so, knows_as, right_as, few_as, told, counted_so, written_so}
+use Rattle.store.specs.Applied.{HasApplied}
+use Rattle.store.specs.Editing.{WritesFew}
 use Rattle.store.specs.Queried.{Queries}
 use Rattle.store.specs.Standing.{StandsFor}
 use Rattle.store.specs.States.{StandsForState, StandsForMade}
-use Rattle.store.specs.Stores.{disk_of, side_of, capacity_of, has_failed}
+use Rattle.store.specs.Stores.{IsAt, disk_of, root_of, side_of, capacity_of, has_failed}
 use Rattle.store.specs.declared.store.Store.{Store}
-use Rattle.store.specs.StoreRuns.{allowed}
-use Rattle.store.specs.StoreState.{IsStoreAt, StandsForOne, LeavesStates}
+use Rattle.store.specs.StoreRuns.{allowed, nothing_done}
+use Rattle.store.specs.StoreState.{IsStoreAt, StandsForOne, LeavesStates, known_by, members}
 
 module _ {D : Type 0} (g : Ghosts D) where
   -- a query leaves what the state before it allows
@@ -100,3 +111,122 @@ module _ {D : Type 0} (g : Ghosts D) (old new : Store D g) (s t : State) (c : Co
       by : (b : Bool) → s.failed ≡ b → LeavesOnly g (disk_of old) (disk_of new) Allowed
       by false works = applied r (any works) (refused works) applies
       by true gone = unmoved is (failed (is.at.failed_is ∙ gone)).1 (nothing_done_on g (disk_of old) only_now honest).run
+
+-- ---- calls, as of any engine
+
+module _ {D : Type 0} (g : Ghosts D) (old new : Store D g) {T : Type 0} (event : Event) (tell : T → Reply) (result : Result T Refusal) where
+  pub asked : (Answers : State → Result T Refusal → State → Type 0) → IsQuestion event tell Answers → IfErr result (λ r. IsTrue (may_refuse event r)) → Queries g old new result
+      → (g.honest (disk_of new) → (s : State) → IsAt g old s → (t : State) × (IsAt g new t × Answers s result t)) → IsCall (members g) old event (answered tell result) new
+  asked Answers is causes reads outcome =
+      let so = answers_so event tell Answers is in
+      let before : ℕ = g.writes (disk_of old) in
+      let now : ℕ = g.writes (disk_of new) in
+      record {
+        side = ap (λ (root : RootValue). root.side) reads.root;
+        capacity = ap (λ (root : RootValue). root.capacity) reads.root;
+        told = told event tell so (has_failed old) (has_failed new) result causes (λ had. ((reads.failed had).0, reads.still_failed had)) reads.works reads.fails reads.quiet;
+        failures = counted_so event tell so (g.failures (disk_of old)) (g.failures (disk_of new)) result reads.later reads.device;
+        writes = written_so event tell so 1 before now result (few_as event tell Answers is 1 before now reads.writes) (λ _. reads.writes);
+        known = knows_as event tell Answers is (known_by (root_of old)) (known_by (root_of new)) result (ap known_by reads.root);
+        honest = λ h. (reads.nothing h).honest;
+        happens = λ h s at.
+            let step = outcome h s at.at in (
+              step.0,
+              (record { at = step.1.0; same_side = step.1.0.side_is }, right_as event tell Answers is (capacity_of old) s step.0 result step.1.1, queried g old new result s (step.0 ∷ []) reads h at),
+            );
+      }
+
+-- nothing was read
+pub unread : {D : Type 0} (g : Ghosts D) → ((disk : D) (image : Image) → g.honest disk → g.since disk (g.moment disk) image → g.may disk image) → (store : Store D g) {T : Type 0} (result : Result T Refusal)
+    → (result ≡ Err Device → ⊥) → (has_failed store ≡ true → result ≡ Err Failed) → IfErr result (λ r. (r ≡ NoMemory) ⊎ ((r ≡ Failed) × (has_failed store ≡ true))) → Queries g store store result
+unread g only_now store {T} result no_device failed refused = record {
+  size = refl;
+  writes = refl;
+  root = refl;
+  later = omega arith;
+  device = λ is. absurd (no_device is);
+  works = works result refl failed;
+  fails = λ is. absurd (no_device is);
+  quiet = λ working. quiet working result refused;
+  failed = λ had. (failed had, refl);
+  still_failed = λ had. had;
+  nothing = λ honest. nothing_done_on g (disk_of store) (only_now (disk_of store)) honest;
+}
+  where
+    works : (r : Result T Refusal) → r ≡ result → (has_failed store ≡ true → result ≡ Err Failed) → OnOk r (has_failed store ≡ false)
+    works (Ok x) is says = elim (has_failed store) as (λ b. (b ≡ true → result ≡ Err Failed) → b ≡ false) [
+      | true ↦ λ gone. let e : ◌≡◌ {A = Result T Refusal} (Ok x) (Err Failed) = is ∙ gone refl in absurd (cc)
+      | false ↦ λ gone. refl
+    ] says
+    works (Err r) is says = tt
+
+    quiet : has_failed store ≡ false → (r : Result T Refusal) → IfErr r (λ why. (why ≡ NoMemory) ⊎ ((why ≡ Failed) × (has_failed store ≡ true))) → IfErr r (λ why. why ≢ Device → (why ≢ Failed) × (has_failed store ≡ false))
+    quiet working (Ok x) refused = tt
+    quiet working (Err r) (inl memory) = λ other. ((λ e. let no : NoMemory ≡ Failed = sym memory ∙ e in cc), working)
+    quiet working (Err r) (inr (failed, had)) = λ other. absurd (both_ways (has_failed store) working had)
+
+pub counts : {D : Type 0} (g : Ghosts D) → ((disk : D) (image : Image) → g.honest disk → g.since disk (g.moment disk) image → g.may disk image) → (store : Store D g) (k : ℕ) → k ≡ (root_of store).count
+    → ((s : State) → IsAt g store s → k ≡ s.contents.count) → IsCall (members g) store ask.Count (reply.Count k) store
+counts g only_now store k known state = record {
+  side = refl;
+  capacity = refl;
+  told = record { matches = tt; says = λ _. (k, refl); had_failed = λ e. cc; after_is = refl };
+  failures = record { later = omega arith; device = λ e. cc };
+  writes = record { few = refl; no_memory = λ _. refl };
+  known = (known, refl);
+  honest = λ h. h;
+  happens = λ h s at. (s, (at, (state s at.at, refl), nothing_done store s (s ∷ []) (λ image. only_now (disk_of store) image) h at));
+}
+
+-- a command
+
+known_done : (old new : RootValue) (c : Command) (result : Result ℕ Refusal) → IfOk result (λ k. (k ≡ old.count + 1) × (new.count ≡ k) × (new.number ≡ old.number + 1)) → OnErr result (new ≡ old)
+    → Knows (known_by old) (ask.Do c) (answered reply.Done result) (known_by new)
+known_done old new c (Ok k) counted last =
+    (counted.0, ap (λ (n : ℕ). record { version = 1; count = n; number = new.number }) counted.1 ∙ ap (λ (n : ℕ). record { version = 1; count = k; number = n }) counted.2)
+known_done old new c (Err r) counted last = ap known_by last
+
+writes_few : (c : Command) (before now : ℕ) → WritesFew c before now → FewWrites 1 (ask.Do c) before now
+writes_few (Import corner bytes) before now few = tt
+writes_few (Remove corner) before now few = tt
+writes_few (Patch from to h) before now few = tt
+writes_few (Burn depth points) before now few = few
+writes_few (Wall h points) before now few = few
+
+right_command : (capacity : ℕ) (s t : State) (c : Command) (result : Result ℕ Refusal) → Applies capacity s c result t → Happens capacity s (ask.Do c) (answered reply.Done result) t
+right_command capacity s t c (Ok k) is = is
+right_command capacity s t c (Err r) is = is
+
+no_memory_written : {X : Type 0} (result : Result ℕ Refusal) → IfErr result (λ r. r ≢ Device → X) → IsErrOf result NoMemory → X
+no_memory_written (Ok k) quiet is = absurd (let e : ◌≡◌ {A = Result ℕ Refusal} (Ok k) (Err NoMemory) = is in cc)
+no_memory_written (Err r) quiet is = quiet (λ device. let e : ◌≡◌ {A = Result ℕ Refusal} (Err r) (Err NoMemory) = is in let no : NoMemory ≡ Device = cc in cc)
+
+pub is_command : (c : Command) → IsAnswered (ask.Do c) reply.Done
+is_command c = record { matches = λ k. tt; says = refl; goes_on = λ b k. refl; blames = λ b. refl; passes = λ b r other. passes_on b r other; no_refusal = λ k r e. cc }
+  where
+    passes_on : (b : Bool) (r : Refusal) → r ≢ Device → fails_after b (ask.Do c) (reply.Refused r) ≡ b
+    passes_on b Device other = absurd (other refl)
+    passes_on b r other = refl
+
+pub commands : {D : Type 0} (g : Ghosts D) → ((disk : D) (image : Image) → g.honest disk → g.since disk (g.moment disk) image → g.may disk image) → (old new : Store D g) (c : Command) (result : Result ℕ Refusal)
+    → HasApplied g old new c result → WritesFew c (g.writes (disk_of old)) (g.writes (disk_of new)) → (has_failed old ≡ true → (result ≡ Err Failed) × (disk_of new ≡ disk_of old)) → (has_failed old ≡ true → has_failed new ≡ true)
+    → IsCall (members g) old (ask.Do c) (answered reply.Done result) new
+commands g only_now old new c result is few failed still_failed = record {
+  side = is.side;
+  capacity = is.capacity;
+  told = told (ask.Do c) reply.Done (is_command c) (has_failed old) (has_failed new) result is.causes (λ had. ((failed had).0, still_failed had)) is.works is.fails is.quiet;
+  failures = counted_so (ask.Do c) reply.Done (is_command c) (g.failures (disk_of old)) (g.failures (disk_of new)) result is.later is.device;
+  writes = written_so (ask.Do c) reply.Done (is_command c) 1 (g.writes (disk_of old)) (g.writes (disk_of new)) result (writes_few c (g.writes (disk_of old)) (g.writes (disk_of new)) few) (no_memory_written result is.unwritten);
+  known = known_done (root_of old) (root_of new) c result is.counted is.last_known;
+  honest = is.honest;
+  happens = λ h s at.
+      let step = is.outcome h s at.at in
+      let t : State = step.0 in (
+        t,
+        (
+          record { at = step.1.0; same_side = step.1.0.side_is },
+          right_command (capacity_of old) s t c result step.1.1,
+          commanded g old new s t c result is.size is.side is.capacity (only_now (disk_of old)) (is.honest h) (is.any_moment h s at.at) (is.refused_any_moment h s at.at) failed at step.1.1,
+        ),
+      );
+}

@@ -1,19 +1,21 @@
 -- What doing a command leaves, by the store's tree.
-use Rattle.std.specs.Prelude.{◌≡◌, ◌≢◌, ◌≤◌, ◌+◌, ◌⊎◌, ℕ, false, true, Result, OnOk, OnErr, IfOk, IfErr, IsErrOf}
+use Rattle.std.specs.Prelude.{◌≡◌, ◌≢◌, ◌≤◌, ◌+◌, ◌⊎◌, ℕ, false, true, IsTrue, Result, OnOk, OnErr, IfOk, IfErr, IsErrOf}
 use Rattle.disk.specs.Disk.{Image, HasRisen}
 use Rattle.disk.specs.Stops.{LeavesOnly}
 use Rattle.disk.specs.declared.disk.Disk.{Ghosts}
 use Rattle.lattice.specs.declared.refusal.Refusal.{Refusal}
-use Rattle.lattice.specs.declared.refusal.Refusal.TheVariants.{Device}
+use Rattle.lattice.specs.declared.refusal.Refusal.TheVariants.{Device, Failed}
 use Rattle.edits.specs.declared.command.Command.{Command}
 use Rattle.edits.specs.declared.command.Command.TheVariants.{Import, Remove}
 use Rattle.calls.specs.Outcomes.{Applies}
 use Rattle.calls.specs.State.{Contents, State}
+use Rattle.calls.specs.Told.{may_refuse_command}
 use Rattle.cow_tree.specs.Trees.{disk_of, root_of, has_failed}
 use Rattle.cow_tree.specs.declared.tree.Tree.{Tree}
 use Rattle.store.specs.Standing.{StandsFor}
 use Rattle.store.specs.States.{StandsForMade}
 use Rattle.store.specs.TreeStates.{IsInState}
+use Rattle.store.specs.declared.store.Store.{Store}
 
 module _ {D : Type 0} (g : Ghosts D) (tree : Tree D g) where
   -- an image of the tree's disk stands for these contents, with the tree's side and capacity
@@ -40,6 +42,9 @@ pub record IsApplied {D : Type 0} (g : Ghosts D) (command : Command) (result : R
   pub device : IsErrOf result Device → HasRisen (g.failures (disk_of old)) (g.failures (disk_of new))
   pub works : OnOk result (has_failed new ≡ false)
   pub fails : IsErrOf result Device → has_failed new ≡ true
+  pub causes : IfErr result (λ r. IsTrue (may_refuse_command command r))
+  -- it fails where it blames the disk, and says that it had failed only where it had
+  pub quiet : has_failed old ≡ false → IfErr result (λ r. r ≢ Device → (r ≢ Failed) × (has_failed new ≡ false))
   -- the root that is known then, on any disk
   pub counted : IfOk result (λ k. (k ≡ (root_of old).count + 1) × ((root_of new).count ≡ k) × ((root_of new).number ≡ (root_of old).number + 1))
   pub last_known : OnErr result (root_of new ≡ root_of old)
@@ -53,3 +58,7 @@ pub record IsApplied {D : Type 0} (g : Ghosts D) (command : Command) (result : R
   -- .. and where it is refused for another reason than the disk, as they were
   pub refused_any_moment : g.honest (disk_of new) → (s : State) → IsInState g old s → s.failed ≡ false
       → IfErr result (λ r. r ≢ Device → LeavesOnly g (disk_of old) (disk_of new) (HasContents g old s.contents))
+
+-- .. by the store
+abbrev pub HasApplied : {D : Type 0} (g : Ghosts D) → Store D g → Store D g → Command → Result ℕ Refusal → Type 0
+HasApplied g old new command result = IsApplied g command result old.tree new.tree

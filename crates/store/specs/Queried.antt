@@ -1,5 +1,5 @@
 -- What a query does to a store: it reads, and changes nothing but the count of failures and whether the store failed.
-use Rattle.std.specs.Prelude.{◌≡◌, ◌≤◌, ℕ, true, false, List, Contains, Result, Ok, Err, OnOk, IsErrOf}
+use Rattle.std.specs.Prelude.{◌≡◌, ◌≢◌, ◌≤◌, ℕ, true, false, List, Contains, Result, Ok, Err, OnOk, IfErr, IsErrOf}
 use Rattle.disk.specs.Disk.{HasRisen}
 use Rattle.disk.specs.Stops.{AddsNothing}
 use Rattle.disk.specs.declared.disk.Disk.{Ghosts}
@@ -24,6 +24,8 @@ pub record IsQueried {D T : Type 0} (g : Ghosts D) (old new : Tree D g) (result 
   pub device : IsErrOf result Device → HasRisen (g.failures (disk_of old)) (g.failures (disk_of new))
   pub works : OnOk result (has_failed new ≡ false)
   pub fails : IsErrOf result Device → has_failed new ≡ true
+  -- it fails where it blames the disk, and says that it had failed only where it had
+  pub quiet : has_failed old ≡ false → IfErr result (λ r. r ≢ Device → (r ≢ Failed) × (has_failed new ≡ false))
   -- a store that failed makes no call of the disk, and stays failed
   pub failed : has_failed old ≡ true → (result ≡ Err Failed) × (disk_of new ≡ disk_of old)
   pub still_failed : has_failed old ≡ true → has_failed new ≡ true

@@ -37,6 +37,7 @@ pub record IsSound (side capacity : ℕ) (IsTreeAt : Stored → Type 0) (staged 
 -- the tiles as the next commit will have them.
 pub record IsStateOf {D : Type 0} (g : Ghosts D) (disk : D) (root : RootValue) (failed : Bool) (IsTreeAt : Stored → Type 0) (staged : List StoredTile) (s : State) : Type 0 where
   pub images : EachStandsFor g disk root.side root.capacity s
+  pub side_is : s.contents.mosaic.side ≡ root.side
   pub count : root.count ≡ s.contents.count
   pub number : root.number ≡ s.contents.number
   pub failed_is : failed ≡ s.failed

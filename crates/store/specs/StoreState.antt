@@ -1,11 +1,15 @@
--- The state that an engine on a disk is in, and what a stop leaves of it (this product's own profile).
+-- A store on a disk as an engine: the state that it is in, what a stop leaves of it, and what is seen of it (this product's
+-- own profile).
 use Rattle.std.specs.Prelude.{◌≡◌, ℕ, List, Contains}
 use Rattle.disk.specs.Disk.{Image}
 use Rattle.disk.specs.Stops.{LeavesOnly}
 use Rattle.disk.specs.declared.disk.Disk.{Ghosts}
+use Rattle.page_codec.specs.Roots.{RootValue}
+use Rattle.calls.specs.Engines.{Members}
 use Rattle.calls.specs.State.{State}
+use Rattle.calls.specs.Told.{Known}
 use Rattle.store.specs.States.{StandsForState}
-use Rattle.store.specs.Stores.{IsAt, disk_of, side_of, capacity_of}
+use Rattle.store.specs.Stores.{IsAt, disk_of, root_of, side_of, capacity_of, has_failed}
 use Rattle.store.specs.declared.store.Store.{Store}
 
 -- the store is in this state, whose tiles have its side
@@ -24,3 +28,21 @@ pub record LeavesStates {D : Type 0} (g : Ghosts D) (old new : Store D g) (state
   pub side : side_of new ≡ side_of old
   pub capacity : capacity_of new ≡ capacity_of old
   pub run : LeavesOnly g (disk_of old) (disk_of new) (StandsForOne (g.size (disk_of old)) (side_of old) (capacity_of old) states)
+
+-- what is known of a store without a disk, by its root
+abbrev pub known_by : RootValue → Known
+known_by root = record { version = 1; count = root.count; number = root.number }
+
+-- what is seen of a store
+abbrev pub members : {D : Type 0} (g : Ghosts D) → Members (Store D g)
+members g = record {
+  is_honest = λ store. g.honest (disk_of store);
+  is_at = λ store s. IsStoreAt g store s;
+  leaves_only = λ first last states. LeavesStates g first last states;
+  side_of = λ store. side_of store;
+  capacity_of = λ store. capacity_of store;
+  has_failed = λ store. has_failed store;
+  failures = λ store. g.failures (disk_of store);
+  writes = λ store. g.writes (disk_of store);
+  known = λ store. known_by (root_of store);
+}

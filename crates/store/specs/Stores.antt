@@ -1,5 +1,5 @@
 -- What contracts see of a store (this product's own profile).
-use Rattle.std.specs.Prelude.{ℕ, Bool, List, Vec, Result, Ok, Err}
+use Rattle.std.specs.Prelude.{ℕ, Bool, Result, Ok, Err}
 use Rattle.disk.specs.declared.disk.Disk.{Ghosts}
 use Rattle.lattice.specs.declared.refusal.Refusal.{Refusal}
 use Rattle.page_codec.specs.Roots.{RootValue}
@@ -35,8 +35,3 @@ module _ {D : Type 0} {g : Ghosts D} where
 -- the store is in this state
 abbrev pub IsAt : {D : Type 0} (g : Ghosts D) → Store D g → State → Type 0
 IsAt g store s = IsInState g store.tree s
-
--- what a call answered, with a list for the vector that holds it
-abbrev pub items_in : {X A : Type 0} → Result (Vec X A) Refusal → Result (List X) Refusal
-items_in (Ok xs) = Ok xs.items
-items_in (Err r) = Err r

@@ -1,5 +1,5 @@
 //! The commands of a store.
-ghost use Rattle.std.specs.Prelude.{◌≡◌, ◌≢◌, ◌≤◌, ◌<◌, ◌+◌, ◌*◌, ◌^◌, ◌⊎◌, false, true, length, All, Contains, IsTrue, IsFalse, Ok, Err, OnOk, IfErr, IsErrOf};
+ghost use Rattle.std.specs.Prelude.{◌≡◌, ◌≢◌, ◌≤◌, ◌<◌, ◌+◌, ◌*◌, ◌^◌, ◌⊎◌, false, true, length, All, Contains, IsTrue, IsFalse, Ok, Err, OnOk, OnErr, IfOk, IfErr, IsErrOf};
 ghost use Rattle.disk.specs.Disk.{HasRisen};
 ghost use Rattle.disk.specs.Stops.{LeavesOnly};
 ghost use Rattle.lattice.specs.Corners.{is_corner};
@@ -9,10 +9,11 @@ ghost use Rattle.edits.specs.declared.command.Command.TheVariants.{Import, Remov
 ghost use Rattle.edits.specs.Effect.{effect};
 ghost use Rattle.calls.specs.Outcomes.{Applies, AppliesNot};
 ghost use Rattle.calls.specs.State.{State};
+ghost use Rattle.calls.specs.Told.{may_refuse_command};
 ghost use Rattle.cow_tree.specs.Trees.{corners_of};
 ghost use Rattle.store.specs.Standing.{StandsFor};
 ghost use Rattle.store.specs.States.{StandsForMade};
-ghost use Rattle.store.specs.Applied.{SetsSamples, IsApplied};
+ghost use Rattle.store.specs.Applied.{SetsSamples, IsApplied, HasApplied};
 ghost use Rattle.store.specs.Editing.{WritesFew};
 ghost use Rattle.store.specs.Stores.{disk_of, root_of, side_of, capacity_of, has_failed, IsAt};
 
@@ -28,29 +29,7 @@ impl<D: Disk> Store<D> {
     /// Does a command, and answers how many were accepted with it. Refused with Failed, by the command's own tests, with
     /// Worn where the commit number can't grow, or for the disk or for memory.
     pub fn apply(&mut self, command: &Command) -> Result<u64, Refusal>
-        ensures size { D.size (disk_of self.new) ≡ D.size (disk_of self.old) }
-        ensures side { side_of self.new ≡ side_of self.old }
-        ensures capacity { capacity_of self.new ≡ capacity_of self.old }
-        ensures later { D.failures (disk_of self.old) ≤ D.failures (disk_of self.new) }
-        ensures device { IsErrOf result Device → HasRisen (D.failures (disk_of self.old)) (D.failures (disk_of self.new)) }
-        ensures works { OnOk result (has_failed self.new ≡ false) }
-        ensures fails { IsErrOf result Device → has_failed self.new ≡ true }
-        ensures honest { D.honest (disk_of self.new) → D.honest (disk_of self.old) }
-
-        // The answer, and the state that it leaves.
-        ensures outcome { D.honest (disk_of self.new) → (s : State) → IsAt D.Disk self.old s
-            → (t : State) × (IsAt D.Disk self.new t × Applies (capacity_of self.old) s command.now result t) }
-
-        // A stop at any moment leaves the contents as they were, or as the command makes them.
-        ensures any_moment { D.honest (disk_of self.new) → (s : State) → IsAt D.Disk self.old s → s.failed ≡ false
-            → LeavesOnly D.Disk (disk_of self.old) (disk_of self.new)
-            (λ image. StandsFor (D.size (disk_of self.old)) (side_of self.old) (capacity_of self.old) image s.contents
-            ⊎ StandsForMade (D.size (disk_of self.old)) (side_of self.old) (capacity_of self.old) image s.contents command.now) }
-
-        // Where it is refused for another reason than the disk, it leaves nothing else than the contents as they were.
-        ensures refused_any_moment { D.honest (disk_of self.new) → (s : State) → IsAt D.Disk self.old s → s.failed ≡ false
-            → IfErr result (λ r. r ≢ Device → LeavesOnly D.Disk (disk_of self.old) (disk_of self.new)
-            (λ image. StandsFor (D.size (disk_of self.old)) (side_of self.old) (capacity_of self.old) image s.contents)) }
+        ensures applied { HasApplied D.Disk self.old self.new command.now result }
 
         // A burn or a wall of q points makes at most 8 q + 3 writes, on any disk.
         ensures writes { WritesFew command.now (D.writes (disk_of self.old)) (D.writes (disk_of self.new)) }
@@ -119,7 +98,8 @@ impl<D: Disk> Store<D> {
         ensures room { OnOk result (length (corners_of self.now.tree) < capacity_of self.now) }
         ensures number { OnOk result ((root_of self.now).number + 1 < 2 ^ 64) }
         ensures refused { (s : State) → IsAt D.Disk self.now s → IfErr result (λ r. AppliesNot (capacity_of self.now) s (Import corner bytes.now) r s) }
-        ensures not_device { IfErr result (λ r. r ≢ Device) }
+        ensures own { IfErr result (λ r. (r ≢ Device) × (r ≢ Failed)) }
+        ensures causes { IfErr result (λ r. IsTrue (may_refuse_command (Import corner bytes.now) r)) }
     {
         // That it is a corner is told by its fields.
         let _lat = corner.lat;
@@ -156,7 +136,8 @@ impl<D: Disk> Store<D> {
         ensures present { OnOk result (Contains (corners_of self.now.tree) corner) }
         ensures number { OnOk result ((root_of self.now).number + 1 < 2 ^ 64) }
         ensures refused { (s : State) → IsAt D.Disk self.now s → IfErr result (λ r. AppliesNot (capacity_of self.now) s (Remove corner) r s) }
-        ensures not_device { IfErr result (λ r. r ≢ Device) }
+        ensures own { IfErr result (λ r. (r ≢ Device) × (r ≢ Failed)) }
+        ensures causes { IfErr result (λ r. IsTrue (may_refuse_command (Remove corner) r)) }
     {
         if !self.tree.present(corner) {
             return Err(Refusal::NoTile);

@@ -1,15 +1,15 @@
 //! What a command that sets samples of present tiles stages: a patch, a burn or a wall.
-ghost use Rattle.std.specs.Prelude.{◌≡◌, ◌≢◌, ◌≤◌, ◌<◌, ◌+◌, ◌/◌, ◌⊎◌, ℕ, ℤ, List, length, get_or, take, false, All, Contains, IfSome, IfNone, IfOk, IfErr, OnOk, vec_len};
+ghost use Rattle.std.specs.Prelude.{◌≡◌, ◌≢◌, ◌≤◌, ◌<◌, ◌+◌, ◌/◌, ◌⊎◌, ℕ, ℤ, List, length, get_or, take, false, All, Contains, IsTrue, IfSome, IfNone, IfOk, IfErr, OnOk, vec_len};
 ghost use Rattle.lattice.specs.Corners.{Corner};
 ghost use Rattle.lattice.specs.Mosaic.{Mosaic};
-ghost use Rattle.lattice.specs.declared.refusal.Refusal.TheVariants.{Device, NoMemory};
+ghost use Rattle.lattice.specs.declared.refusal.Refusal.TheVariants.{Device, NoMemory, Failed};
 ghost use Rattle.page_codec.specs.Sizes.{pages_of};
 ghost use Rattle.edits.specs.declared.change.Change.TheVariants.{Set};
 ghost use Rattle.edits.specs.Changes.{CanBeSet, all_changed};
 ghost use Rattle.edits.specs.Effect.{effect};
 ghost use Rattle.edits.specs.LeftStale.{tile_of};
 ghost use Rattle.calls.specs.Outcomes.{AppliesNot};
-ghost use Rattle.edits.specs.Plans.{IsFew};
+ghost use Rattle.edits.specs.Plans.{IsFew, may_end};
 ghost use Rattle.calls.specs.State.{State};
 ghost use Rattle.cow_tree.specs.Stored.{StoredTile, Stored, with_page};
 ghost use Rattle.cow_tree.specs.Trees.{disk_of, root_of, has_failed, has_begun, corners_of, records_due, HasStaged, staged_in, IsAt};
@@ -40,12 +40,14 @@ pub(crate) fn plan_changes<D: Disk>(
     ensures clean { has_failed tree.new ≡ false → IsClean tree.old → IsClean tree.new }
     ensures staged { D.honest (disk_of tree.new) → staged_in D.Disk tree.new ≡ staged_in D.Disk tree.old }
     ensures writes { D.writes (disk_of tree.new) ≡ D.writes (disk_of tree.old) }
+    ensures causes { IfErr result (λ r. IsTrue (may_end command.now r)) }
+    ensures quiet { IfErr result (λ r. r ≢ Device → (r ≢ Failed) × (has_failed tree.new ≡ false)) }
     ensures few { IfOk result (λ changes. IsFew command.now (vec_len changes)) }
     ensures sets { IfOk result (λ changes. All (CanBeSet (root_of tree.old).side (corners_of tree.old)) changes.items) }
     ensures changes { D.honest (disk_of tree.new) → (s : State) → IsInState D.Disk tree.old s
         → IfOk result (λ changes. effect (root_of tree.old).capacity s.contents.mosaic command.now ≡ Ok (all_changed changes.items s.contents.mosaic)) }
     ensures refused { D.honest (disk_of tree.new) → (s : State) → IsInState D.Disk tree.old s
-        → IfErr result (λ r. r ≢ Device → (has_failed tree.new ≡ false) × AppliesNot (root_of tree.old).capacity s command.now r s) }
+        → IfErr result (λ r. r ≢ Device → AppliesNot (root_of tree.old).capacity s command.now r s) }
 {
     let capacity = tree.current().capacity();
     match plan(alloc, tree, capacity, command) {

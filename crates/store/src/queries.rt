@@ -1,13 +1,16 @@
 //! The queries of a store: they only read.
-ghost use Rattle.std.specs.Prelude.{◌≡◌, ◌≢◌, ◌≤◌, ◌*◌, Contains, length, false, true, Err, OnOk, IfErr, vec_len, vec_capacity};
+ghost use Rattle.std.specs.Prelude.{◌≡◌, ◌≢◌, ◌≤◌, ◌*◌, ◌⊎◌, Contains, IsTrue, length, false, true, Err, OnOk, IfErr, vec_len, vec_capacity};
 ghost use Rattle.lattice.specs.declared.refusal.Refusal.TheVariants.{Device, NoMemory, Failed};
 ghost use Rattle.calls.specs.State.{State};
+ghost use Rattle.calls.specs.Told.{may_refuse};
+ghost use Rattle.calls.specs.declared.event.Event.TheVariants as ask;
 ghost use Rattle.calls.specs.Outcomes.{Elevates, Exports, Lists, Fills, Directs, Traces, Sheds};
 ghost use Rattle.cow_tree.specs.Reading.{Reads};
 ghost use Rattle.cow_tree.specs.Stored.{StoredTile, plane_bytes};
 ghost use Rattle.cow_tree.specs.Trees.{disk_of as disk_under, root_of as root_under, corners_of, has_failed as have_failed, staged_in};
 ghost use Rattle.store.specs.Queried.{Queries, IsTileOf, CountsSeams};
-ghost use Rattle.store.specs.Stores.{disk_of, has_failed, items_in, IsAt};
+ghost use Rattle.calls.specs.Engines.{items_in};
+ghost use Rattle.store.specs.Stores.{disk_of, has_failed, IsAt};
 
 use crate::Store;
 use cow_tree::{Plane, Tree};
@@ -20,6 +23,7 @@ impl<D: Disk> Store<D> {
     /// The height of a point, in metres where it is ground. Refused with Failed or Device.
     pub fn elevation(&mut self, point: Point) -> Result<Height, Refusal>
         ensures reads { Queries D.Disk self.old self.new result }
+        ensures causes { IfErr result (λ r. IsTrue (may_refuse (ask.Elevation point) r)) }
         ensures memory { result ≢ Err NoMemory }
         ensures outcome { D.honest (disk_of self.new) → (s : State) → IsAt D.Disk self.old s
             → (t : State) × (IsAt D.Disk self.new t × Elevates s point result t) }
@@ -44,6 +48,7 @@ impl<D: Disk> Store<D> {
     /// Refused with Failed, Outside, Void, NoMemory or Device.
     pub fn fill(&mut self, point: Point) -> Result<i16, Refusal>
         ensures reads { Queries D.Disk self.old self.new result }
+        ensures causes { IfErr result (λ r. IsTrue (may_refuse (ask.Fill point) r)) }
         ensures outcome { D.honest (disk_of self.new) → (s : State) → IsAt D.Disk self.old s
             → (t : State) × (IsAt D.Disk self.new t × Fills s point result t) }
     {
@@ -55,6 +60,7 @@ impl<D: Disk> Store<D> {
     /// where it leaves the mosaic. Refused as `fill` is.
     pub fn direction(&mut self, point: Point) -> Result<u8, Refusal>
         ensures reads { Queries D.Disk self.old self.new result }
+        ensures causes { IfErr result (λ r. IsTrue (may_refuse (ask.Direction point) r)) }
         ensures outcome { D.honest (disk_of self.new) → (s : State) → IsAt D.Disk self.old s
             → (t : State) × (IsAt D.Disk self.new t × Directs s point result t) }
     {
@@ -66,6 +72,7 @@ impl<D: Disk> Store<D> {
     /// the mosaic. Refused as `fill` is.
     pub fn trace(&mut self, point: Point) -> Result<Vec<Point>, Refusal>
         ensures reads { Queries D.Disk self.old self.new result }
+        ensures causes { IfErr result (λ r. IsTrue (may_refuse (ask.Trace point) r)) }
         ensures outcome { D.honest (disk_of self.new) → (s : State) → IsAt D.Disk self.old s
             → (t : State) × (IsAt D.Disk self.new t × Traces s point (items_in result) t) }
     {
@@ -77,6 +84,7 @@ impl<D: Disk> Store<D> {
     /// Refused as `fill` is.
     pub fn watershed(&mut self, point: Point) -> Result<Vec<Run>, Refusal>
         ensures reads { Queries D.Disk self.old self.new result }
+        ensures causes { IfErr result (λ r. IsTrue (may_refuse (ask.Watershed point) r)) }
         ensures outcome { D.honest (disk_of self.new) → (s : State) → IsAt D.Disk self.old s
             → (t : State) × (IsAt D.Disk self.new t × Sheds s point (items_in result) t) }
     {
@@ -88,6 +96,7 @@ impl<D: Disk> Store<D> {
     /// Device.
     pub fn export(&mut self, corner: Corner) -> Result<Vec<u8>, Refusal>
         ensures reads { Queries D.Disk self.old self.new result }
+        ensures causes { IfErr result (λ r. IsTrue (may_refuse (ask.Export corner) r)) }
         ensures outcome { D.honest (disk_of self.new) → (s : State) → IsAt D.Disk self.old s
             → (t : State) × (IsAt D.Disk self.new t × Exports s corner (items_in result) t) }
     {
@@ -106,6 +115,8 @@ impl<D: Disk> Store<D> {
     /// The corners of the present tiles, in order. They are held in memory, so that no disk refuses.
     pub fn tiles(&self) -> Result<Vec<Corner>, Refusal>
         ensures memory { result ≢ Err Device }
+        ensures causes { IfErr result (λ r. IsTrue (may_refuse ask.Tiles r)) }
+        ensures refused { IfErr result (λ r. (r ≡ NoMemory) ⊎ ((r ≡ Failed) × (has_failed self.now ≡ true))) }
         ensures failed { has_failed self.now ≡ true → result ≡ Err Failed }
         ensures outcome { D.honest (disk_of self.now) → (s : State) → IsAt D.Disk self.now s → Lists s (items_in result) s }
     {

@@ -1,7 +1,7 @@
 //! Whole runs of events.
-ghost use Rattle.std.specs.Prelude.{◌≡◌, ◌≤◌, ◌++◌, ◌∷◌, [], List, IfErr, OnErr, OnOk};
+ghost use Rattle.std.specs.Prelude.{◌≡◌, ◌≤◌, ◌++◌, List, IfErr, OnErr, OnOk};
 ghost use Rattle.lattice.specs.declared.refusal.Refusal.TheVariants.{NoMemory};
-ghost use Rattle.store.specs.Events.{Runs};
+ghost use Rattle.store.specs.Calls.{HasAnswered, Runs};
 ghost use Rattle.store.specs.Stores.{disk_of};
 ghost use Rattle.calls.specs.declared.event.Reply.{Reply};
 
@@ -40,7 +40,7 @@ impl<D: Disk> Store<D> {
 
     // What the call that the event asks for answers.
     fn answer(&mut self, event: &Event) -> Reply
-        ensures { Runs D.Disk self.old self.new (event.now ∷ []) (result ∷ []) }
+        ensures { HasAnswered D.Disk self.old event.now result self.new }
     {
         match event {
             Event::Do(command) => self.apply(command).map_or_else(Reply::Refused, Reply::Done),

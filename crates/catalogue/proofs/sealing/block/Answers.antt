@@ -30,7 +30,7 @@ returns-in_err-seal_rim-clause-reads g c =
     let told = c.in_ok-read_samples.ensures in
     let read : OnlyReads {T = Unit {0}} g.S.Samples c.args.samples.now c.read_samples.new.self (Ok tt) = record {
       refusal = tt;
-      only_device = λ _ _. tt;
+      only_device = λ _. tt;
       ready = told.ready;
       unready = tt;
       answers = λ _. refl;

@@ -11,6 +11,7 @@ use Rattle.store.proofs.EditingSteps.{refusal_is}
 use Rattle.store.proofs.InMemory.{is_working}
 use Rattle.calls.proofs.Applying.{plan_refused}
 use Rattle.store.proofs.Querying.{still_clean}
+use Rattle.store.proofs.QueryingDrainage.{quiet_read}
 use Rattle.store.proofs.editing.plan_changes.Goals as goal
 
 pub returns-in-Ok-clause-clean : goal.returns-in-Ok-clause-clean
@@ -45,11 +46,12 @@ returns-in_default-clause-refused g c honest s at other =
     let command = c.args.command.now in
     let r : Refusal = c.in-Err.refusal in
     let reads = readable d old new keeps c.requires.works s at honest in
-    let none = none_refused r other (c.in-Err.ensures.reads.only_device reads c.requires.works) in
-    let capacity : c.capacity-capacity.result ≡ (root_of old).capacity = c.capacity-capacity.ensures.value ∙ ap (λ (r : RootValue). r.capacity) c.current.ensures in (
-      subst (λ (x : Result (Unit {0}) Refusal). OnOk x (has_failed new ≡ false)) none (c.in-Err.ensures.reads.ready c.requires.works),
-      plan_refused (root_of old).capacity s command r (is_working d old c.requires.works s at) c.in-Err.ensures.causes none
-          (λ own.
-          subst (λ (n : ℕ). effect n s.contents.mosaic command ≡ Err r) capacity
-          (subst (λ (m : Mosaic). effect c.capacity-capacity.result m command ≡ Err r) (mosaic_is d old new keeps c.requires.works s at) (c.in-Err.ensures.refused reads own))),
-    )
+    let none = none_refused r other (c.in-Err.ensures.reads.only_device c.requires.works) in
+    let capacity : c.capacity-capacity.result ≡ (root_of old).capacity = c.capacity-capacity.ensures.value ∙ ap (λ (r : RootValue). r.capacity) c.current.ensures in
+    plan_refused (root_of old).capacity s command r (is_working d old c.requires.works s at) c.in-Err.ensures.causes none
+    (λ own.
+    subst (λ (n : ℕ). effect n s.contents.mosaic command ≡ Err r) capacity
+    (subst (λ (m : Mosaic). effect c.capacity-capacity.result m command ≡ Err r) (mosaic_is d old new keeps c.requires.works s at) (c.in-Err.ensures.refused reads own)))
+
+pub returns-in_default-clause-quiet : goal.returns-in_default-clause-quiet
+returns-in_default-clause-quiet g c = quiet_read {T = List Change} (Err c.in-Err.refusal) _ (c.in-Err.ensures.reads.only_device c.requires.works) (c.in-Err.ensures.reads.ready c.requires.works)

@@ -14,7 +14,7 @@ use Rattle.calls.specs.Outcomes.{Directs}
 use Rattle.calls.proofs.Answered.{directs}
 use Rattle.drainage.proofs.Answered.{told_of_levels}
 use Rattle.store.proofs.Querying.{valid_at, stays_at, still_clean, still_readable, queried, fails_so}
-use Rattle.store.proofs.QueryingDrainage.{of_here, held_here, risen_read, works_read, fails_read, read_answered}
+use Rattle.store.proofs.QueryingDrainage.{of_here, held_here, risen_read, works_read, fails_read, quiet_read, read_answered}
 use Rattle.store.proofs.store.Store.direction.Goals as goal
 
 pub invariant_of-self : goal.invariant_of-self
@@ -30,6 +30,7 @@ returns-clause-reads g c =
     let works = c.in_ok-check_working.ensures.works in
     let reads = c.direction.ensures.reads in
     queried g.D.Disk old c.direction.new.samples works reads.keeps c.direction.result (risen_read c.direction.result _ _ reads.refusal) (works_read c.direction.result _ (reads.ready works)) (fails_read c.direction.result _ reads.unready)
+    (quiet_read c.direction.result _ (reads.only_device works) (reads.ready works))
 
 pub returns-clause-outcome : goal.returns-clause-outcome
 returns-clause-outcome g c honest s at =
@@ -42,7 +43,7 @@ returns-clause-outcome g c honest s at =
     let result : Result ℕ Refusal = c.direction.result in
     let readable = still_readable d old new works keeps honest s at in
     read_answered d old new works keeps honest s at (λ (s : State) (r : Result ℕ Refusal) (t : State). Directs s c.args.point (r) t) result (ensures.reads.ready works) ensures.reads.unready
-    (ensures.reads.only_device readable works) (fails_so d old new works keeps honest s at)
+    (ensures.reads.only_device works) (fails_so d old new works keeps honest s at)
     (λ unread. directs s s (stays_at d old works s at) c.args.point result (told_of_levels s.contents.mosaic (valid_at d old works s at) c.args.point (λ code level. DrainsBy (terrain s.contents.mosaic) level c.args.point code) result unread
     (of_here d old new works keeps honest s at (λ (m : Mosaic). IfOk result (λ code. (level : Point → ℤ) → AreFilledLevels (terrain m) level → DrainsBy (terrain m) level c.args.point code)) (ensures.direction readable))
     (of_here d old new works keeps honest s at (λ (m : Mosaic). IsOk result → IsTrue (is_ground m c.args.point)) (ensures.on_ground readable))

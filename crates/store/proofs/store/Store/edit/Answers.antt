@@ -11,7 +11,7 @@ use Rattle.cow_tree.specs.Trees.{root_of, has_begun, records_due, staged_in}
 use Rattle.cow_tree.proofs.Steps.{on_ok}
 use Rattle.store.specs.Applied.{IsApplied}
 use Rattle.store.specs.Editing.{HoldsMosaic}
-use Rattle.store.proofs.Committed.{fails_before, quiet}
+use Rattle.store.proofs.Committed.{fails_before, quiet, may_end_it}
 use Rattle.store.proofs.EditingHeld.{holds_contents, edit_holds}
 use Rattle.store.proofs.EditingReads.{device_or_not}
 use Rattle.store.proofs.EditingSteps.{uncommitted_on, refused_as}
@@ -38,8 +38,9 @@ returns-in_err-changes-clause-applied g c =
     (λ device.
     subst (λ (x : Refusal). IsApplied d command (Err x) old new) (sym device) (fails_before d old new command c.requires.not_failed (Err r) is.reads (ap (λ (x : Refusal). Err x) device)))
     (λ other.
-    quiet d old new command c.requires.not_failed (Err r) is.reads (λ honest s at. (is.refused honest s at other).0)
-    (λ honest s at. is.staged honest) r other is.writes (λ honest s at. (is.refused honest s at other).1))
+    let goes_on = is.quiet other in
+    quiet d old new command c.requires.not_failed (Err r) is.reads goes_on.1 (λ honest s at. is.staged honest) r other goes_on.0 goes_on.1 (may_end_it command r is.causes) is.writes
+    (λ honest s at. is.refused honest s at other))
     (device_or_not r))
 
 pub returns-then-number-clause-applied : goal.returns-then-number-clause-applied
@@ -50,7 +51,7 @@ returns-then-number-clause-applied g c =
     let command = c.args.command.now in
     let changes = c.in_ok-changes.changes in
     let is = c.in_ok-changes.ensures in
-    quiet d old new command c.requires.not_failed (Ok changes) is.reads (λ _ _ _. is.reads.works) (λ honest s at. is.staged honest) Worn (λ e. cc) is.writes
+    quiet d old new command c.requires.not_failed (Ok changes) is.reads is.reads.works (λ honest s at. is.staged honest) Worn (λ e. cc) (λ e. cc) is.reads.works refl is.writes
     (λ honest s at. worn_at d old c.requires.not_failed s at command (all_changed changes.items s.contents.mosaic) (is.changes honest s at)
     (sym (ap (λ (r : RootValue). r.number) (c.current.ensures ∙ is.reads.root)) ∙ sym c.number.ensures ∙ c.if-number.true))
 

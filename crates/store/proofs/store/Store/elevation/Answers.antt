@@ -24,5 +24,5 @@ returns-clause-outcome g c honest s at =
     let works = c.in_ok-check_working.ensures.works in
     let reads = c.height.ensures.reads in
     let readable = still_readable d old new works reads.keeps honest s at in
-    answered d old new works reads.keeps honest s at (λ (s : State) (r : Result Height Refusal) (t : State). Elevates s c.args.point r t) c.height.result (reads.ready works) reads.unready (reads.only_device readable works)
+    answered d old new works reads.keeps honest s at (λ (s : State) (r : Result Height Refusal) (t : State). Elevates s c.args.point r t) c.height.result (reads.ready works) reads.unready (reads.only_device works)
     (fails_so d old new works reads.keeps honest s at) (IfOk-weaker c.height.result _ _ (λ h is. (stays_at d old works s at, is ∙ ap (λ (m : Mosaic). height_of m c.args.point) (mosaic_at d old works s at))) (c.height.ensures.value readable))

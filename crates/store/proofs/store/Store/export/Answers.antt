@@ -5,7 +5,7 @@ use Rattle.std.proofs.lemmas.Bool.{both_ways}
 use Rattle.lattice.specs.declared.refusal.Refusal.{Refusal}
 use Rattle.calls.specs.Outcomes.{Exports}
 use Rattle.calls.specs.State.{failing}
-use Rattle.store.specs.Stores.{items_in}
+use Rattle.calls.specs.Engines.{items_in}
 use Rattle.store.proofs.EditingSteps.{refused_as}
 use Rattle.store.proofs.Querying.{stays_at, still_clean, still_at, failing_at, fails_so}
 use Rattle.store.proofs.QueryingPages.{no_tile_of, tile, tile_of, exported}

@@ -12,7 +12,7 @@ use Rattle.calls.specs.Outcomes.{Fills}
 use Rattle.calls.proofs.Answered.{fills}
 use Rattle.drainage.proofs.Answered.{told}
 use Rattle.store.proofs.Querying.{valid_at, stays_at, still_clean, still_readable, queried, fails_so}
-use Rattle.store.proofs.QueryingDrainage.{of_here, held_here, risen_read, works_read, fails_read, read_answered}
+use Rattle.store.proofs.QueryingDrainage.{of_here, held_here, risen_read, works_read, fails_read, quiet_read, read_answered}
 use Rattle.store.proofs.store.Store.fill.Goals as goal
 
 pub invariant_of-self : goal.invariant_of-self
@@ -28,6 +28,7 @@ returns-clause-reads g c =
     let works = c.in_ok-check_working.ensures.works in
     let reads = c.fill.ensures.reads in
     queried g.D.Disk old c.fill.new.samples works reads.keeps c.fill.result (risen_read c.fill.result _ _ reads.refusal) (works_read c.fill.result _ (reads.ready works)) (fails_read c.fill.result _ reads.unready)
+    (quiet_read c.fill.result _ (reads.only_device works) (reads.ready works))
 
 pub returns-clause-outcome : goal.returns-clause-outcome
 returns-clause-outcome g c honest s at =
@@ -40,7 +41,7 @@ returns-clause-outcome g c honest s at =
     let result : Result ℤ Refusal = c.fill.result in
     let readable = still_readable d old new works keeps honest s at in
     read_answered d old new works keeps honest s at (λ (s : State) (r : Result ℤ Refusal) (t : State). Fills s c.args.point (r) t) result (ensures.reads.ready works) ensures.reads.unready
-    (ensures.reads.only_device readable works) (fails_so d old new works keeps honest s at)
+    (ensures.reads.only_device works) (fails_so d old new works keeps honest s at)
     (λ unread. fills s s (stays_at d old works s at) c.args.point result (told s.contents.mosaic (valid_at d old works s at) c.args.point (IsFilledLevel (terrain s.contents.mosaic) c.args.point) result unread
     (of_here d old new works keeps honest s at (λ (m : Mosaic). IfOk result (λ level. IsFilledLevel (terrain m) c.args.point level)) (ensures.level readable))
     (held_here d old new works keeps honest s at (IsErrOf result Outside) c.args.point ensures.outside)

@@ -1,10 +1,15 @@
-use Rattle.std.proofs.Common.{rules, ◌≡◌, ◌≤◌, ◌<◌, ◌+◌, ◌++◌, ◌∷◌, [], List, length, true, sym, ap, ◌∙◌, subst, arith, take, vec_len, vec_capacity}
-use Rattle.std.proofs.lemmas.List.{append-nil, append_assoc, take_more}
+use Rattle.std.proofs.Common.{rules, ◌≡◌, ◌≤◌, ◌<◌, ◌+◌, ◌++◌, ◌∷◌, [], ℕ, List, length, true, refl, sym, ap, ◌∙◌, subst, arith, take, take_all, vec_len, vec_capacity}
+use Rattle.std.proofs.lemmas.List.{append-nil, append_assoc}
 use Rattle.std.specs.Result.{is_ok}
-use Rattle.store.specs.Events.{HasRun}
+use Rattle.disk.specs.Disk.{Image}
+use Rattle.disk.specs.declared.disk.Disk.{Ghosts}
+use Rattle.calls.specs.Engines.{Calls}
 use Rattle.calls.specs.declared.event.Event.{Event}
 use Rattle.calls.specs.declared.event.Reply.{Reply}
-use Rattle.store.proofs.Runs.{none_yet, one_then_other}
+use Rattle.calls.proofs.Chains.{asked_more, last_more, step_more}
+use Rattle.store.specs.Calls.{HasAnswered, Runs}
+use Rattle.store.specs.declared.store.Store.{Store}
+use Rattle.store.proofs.Runs.{ran, size_then, later_then, honest_then}
 use Rattle.store.proofs.store.Store.run.Goals as goal
 
 with_none : (xs ys : List Reply) → xs ≡ ys → xs ≡ ys ++ []
@@ -15,7 +20,7 @@ loop-event-init g c =
     let out = c.try_reserve.new.self in
     let events = c.args.events.now in
     let room : vec_len out + length events ≤ vec_capacity out + 0 = search rules in
-    (room, ([], with_none out.items c.args.out.now.items c.try_reserve.ensures.items, none_yet g.D.Disk g.met.D.Disk.only_now c.args.self.now.tree))
+    (room, ([], (with_none out.items c.args.out.now.items c.try_reserve.ensures.items, ([], (refl, tt)))))
 
 pub loop-event-preserved : goal.loop-event-preserved
 loop-event-preserved g c =
@@ -23,7 +28,8 @@ loop-event-preserved g c =
     let i = l.event-index in
     let events = c.args.events.now in
     let room = l.invariant.0 in
-    let so_far = l.invariant.1 in
+    let replies = l.invariant.1.0 in
+    let so_far = l.invariant.1.1 in
     let below = c.loop-event-test.true in
     let spare : vec_len l.out < vec_capacity l.out = omega (arith, room, below) in
     let pushed : is_ok c.push.result ≡ true = c.push.ensures.succeeds spare in
@@ -32,12 +38,46 @@ loop-event-preserved g c =
     let items : out.items ≡ l.out.items ++ c.answer-reply.result ∷ [] = grind (arith, pushed, c.push.ensures.items) in
     let capacity = c.push.ensures.capacity in
     let event = c.event-item.result in
-    let taken : take (i + 1) events ≡ take i events ++ event ∷ [] = take_more events i event below ∙ ap (λ (e : Event). take i events ++ e ∷ []) (sym c.event-item.is) in
-    let both = one_then_other g.D.Disk c.args.self.now.tree l.self.tree c.answer-reply.new.self.tree (take i events) (event ∷ []) so_far.0 (c.answer-reply.result ∷ []) so_far.2 c.answer-reply.ensures in (
+    let old = c.args.self.now in
+    let new = c.answer-reply.new.self in
+    let stores = so_far.1.0 in
+    let steps = step_more (HasAnswered g.D.Disk) l.self new event c.answer-reply.result old (take i events) replies stores so_far.1.1.0 so_far.1.1.1 c.answer-reply.ensures in (
       omega (arith, room, len, capacity),
       (
-        so_far.0 ++ c.answer-reply.result ∷ [],
-        items ∙ ap (λ (rs : List Reply). rs ++ c.answer-reply.result ∷ []) so_far.1 ∙ append_assoc c.args.out.now.items so_far.0 (c.answer-reply.result ∷ []),
-        subst (λ (es : List Event). HasRun g.D.Disk c.args.self.now.tree c.answer-reply.new.self.tree es (so_far.0 ++ c.answer-reply.result ∷ [])) (sym taken) both,
+        replies ++ c.answer-reply.result ∷ [],
+        (
+          items ∙ ap (λ (rs : List Reply). rs ++ c.answer-reply.result ∷ []) so_far.0 ∙ append_assoc c.args.out.now.items replies (c.answer-reply.result ∷ []),
+          subst (λ (es : List Event). Calls (HasAnswered g.D.Disk) old es (replies ++ c.answer-reply.result ∷ []) new) (sym (asked_more events i event below c.event-item.is))
+              (stores ++ new ∷ [], (last_more (HasAnswered g.D.Disk) l.self new event c.answer-reply.result old stores, steps)),
+        ),
       ),
     )
+
+-- at the end all were answered
+all_run : {D : Type 0} (g : Ghosts D) → ((disk : D) (image : Image) → g.honest disk → g.since disk (g.moment disk) image → g.may disk image) → (old new : Store D g) (events : List Event) (i : ℕ) (replies : List Reply)
+    → length events ≤ i → Calls (HasAnswered g) old (take i events) replies new → Runs g old new events replies
+all_run g only_now old new events i replies ended calls = ran g only_now old new events replies (subst (λ (es : List Event). Calls (HasAnswered g) old es replies new) (take_all i events ended) calls)
+
+pub returns-clause-ran : goal.returns-clause-ran
+returns-clause-ran g c =
+    let l = c.loop-event in
+    let so_far = l.invariant.1 in
+    (so_far.0, so_far.1.0, all_run g.D.Disk g.met.D.Disk.only_now c.args.self.now l.self c.args.events.now l.event-index so_far.0 c.loop-event-test.false so_far.1.1)
+
+pub returns-clause-size : goal.returns-clause-size
+returns-clause-size g c =
+    let l = c.loop-event in
+    let so_far = l.invariant.1 in
+    size_then g.D.Disk c.args.self.now l.self c.args.events.now so_far.0 (all_run g.D.Disk g.met.D.Disk.only_now c.args.self.now l.self c.args.events.now l.event-index so_far.0 c.loop-event-test.false so_far.1.1)
+
+pub returns-clause-later : goal.returns-clause-later
+returns-clause-later g c =
+    let l = c.loop-event in
+    let so_far = l.invariant.1 in
+    later_then g.D.Disk c.args.self.now l.self c.args.events.now so_far.0 (all_run g.D.Disk g.met.D.Disk.only_now c.args.self.now l.self c.args.events.now l.event-index so_far.0 c.loop-event-test.false so_far.1.1)
+
+pub returns-clause-honest : goal.returns-clause-honest
+returns-clause-honest g c =
+    let l = c.loop-event in
+    let so_far = l.invariant.1 in
+    honest_then g.D.Disk c.args.self.now l.self c.args.events.now so_far.0 (all_run g.D.Disk g.met.D.Disk.only_now c.args.self.now l.self c.args.events.now l.event-index so_far.0 c.loop-event-test.false so_far.1.1)

@@ -23,5 +23,5 @@ returns-clause-outcome g c honest s at =
     let works = c.in_ok-check_working.ensures.works in
     let reads = c.seams.ensures.reads in
     let readable = still_readable d old new works reads.keeps honest s at in
-    answered d old new works reads.keeps honest s at (λ (s : State) (r : Result ℕ Refusal) (t : State). CountsSeams s r t) c.seams.result (reads.ready works) reads.unready (reads.only_device readable works)
+    answered d old new works reads.keeps honest s at (λ (s : State) (r : Result ℕ Refusal) (t : State). CountsSeams s r t) c.seams.result (reads.ready works) reads.unready (reads.only_device works)
     (fails_so d old new works reads.keeps honest s at) (IfOk-weaker c.seams.result _ _ (λ count is. (stays_at d old works s at, subst (λ (m : Mosaic). IsSeamCount m count) (mosaic_at d old works s at) is)) (c.seams.ensures.value readable))

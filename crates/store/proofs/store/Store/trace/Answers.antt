@@ -14,9 +14,10 @@ use Rattle.flow_d8.specs.FlowPath.{IsFlowPath}
 use Rattle.calls.specs.Outcomes.{Traces}
 use Rattle.calls.proofs.Answered.{traces}
 use Rattle.drainage.proofs.Answered.{told_of_levels}
-use Rattle.store.specs.Stores.{items_in}
+use Rattle.cow_tree.specs.Trees.{has_failed}
+use Rattle.calls.specs.Engines.{items_in}
 use Rattle.store.proofs.Querying.{valid_at, stays_at, still_clean, still_readable, queried, fails_so}
-use Rattle.store.proofs.QueryingDrainage.{listed, of_here, held_here, risen_read, works_read, fails_read, read_answered}
+use Rattle.store.proofs.QueryingDrainage.{listed, of_here, held_here, risen_read, works_read, fails_read, quiet_read, read_answered}
 use Rattle.store.proofs.store.Store.trace.Goals as goal
 
 pub invariant_of-self : goal.invariant_of-self
@@ -32,6 +33,7 @@ returns-clause-reads g c =
     let works = c.in_ok-check_working.ensures.works in
     let reads = c.trace.ensures.reads in
     queried g.D.Disk old c.trace.new.samples works reads.keeps c.trace.result (risen_read c.trace.result _ _ reads.refusal) (works_read c.trace.result _ (reads.ready works)) (fails_read c.trace.result _ reads.unready)
+    (quiet_read c.trace.result _ (reads.only_device works) (reads.ready works))
 
 pub returns-clause-outcome : goal.returns-clause-outcome
 returns-clause-outcome g c honest s at =
@@ -44,7 +46,7 @@ returns-clause-outcome g c honest s at =
     let result : Result (Vec Point) Refusal = c.trace.result in
     let readable = still_readable d old new works keeps honest s at in
     read_answered d old new works keeps honest s at (λ (s : State) (r : Result (Vec Point) Refusal) (t : State). Traces s c.args.point (items_in r) t) result (ensures.reads.ready works) ensures.reads.unready
-    (ensures.reads.only_device readable works) (fails_so d old new works keeps honest s at)
+    (ensures.reads.only_device works) (fails_so d old new works keeps honest s at)
     (λ unread. listed (λ r. Traces s c.args.point r s) result (traces s s (stays_at d old works s at) c.args.point result (told_of_levels s.contents.mosaic (valid_at d old works s at) c.args.point (λ path level. IsFlowPath (terrain s.contents.mosaic) level c.args.point path.items) result unread
     (of_here d old new works keeps honest s at (λ (m : Mosaic). IfOk result (λ path. (level : Point → ℤ) → AreFilledLevels (terrain m) level → IsFlowPath (terrain m) level c.args.point path.items)) (ensures.path readable))
     (of_here d old new works keeps honest s at (λ (m : Mosaic). IsOk result → IsTrue (is_ground m c.args.point)) (ensures.on_ground readable))

@@ -16,9 +16,10 @@ use Rattle.watershed.specs.declared.runs.Run.{Run}
 use Rattle.calls.specs.Outcomes.{Sheds}
 use Rattle.calls.proofs.Answered.{sheds}
 use Rattle.drainage.proofs.Answered.{told_of_levels}
-use Rattle.store.specs.Stores.{items_in}
+use Rattle.cow_tree.specs.Trees.{has_failed}
+use Rattle.calls.specs.Engines.{items_in}
 use Rattle.store.proofs.Querying.{valid_at, stays_at, still_clean, still_readable, queried, fails_so}
-use Rattle.store.proofs.QueryingDrainage.{listed, of_here, held_here, risen_read, works_read, fails_read, read_answered}
+use Rattle.store.proofs.QueryingDrainage.{listed, of_here, held_here, risen_read, works_read, fails_read, quiet_read, read_answered}
 use Rattle.store.proofs.store.Store.watershed.Goals as goal
 
 pub invariant_of-self : goal.invariant_of-self
@@ -34,6 +35,7 @@ returns-clause-reads g c =
     let works = c.in_ok-check_working.ensures.works in
     let reads = c.watershed.ensures.reads in
     queried g.D.Disk old c.watershed.new.samples works reads.keeps c.watershed.result (risen_read c.watershed.result _ _ reads.refusal) (works_read c.watershed.result _ (reads.ready works)) (fails_read c.watershed.result _ reads.unready)
+    (quiet_read c.watershed.result _ (reads.only_device works) (reads.ready works))
 
 pub returns-clause-outcome : goal.returns-clause-outcome
 returns-clause-outcome g c honest s at =
@@ -46,7 +48,7 @@ returns-clause-outcome g c honest s at =
     let result : Result (Vec Run) Refusal = c.watershed.result in
     let readable = still_readable d old new works keeps honest s at in
     read_answered d old new works keeps honest s at (λ (s : State) (r : Result (Vec Run) Refusal) (t : State). Sheds s c.args.point (items_in r) t) result (ensures.reads.ready works) ensures.reads.unready
-    (ensures.reads.only_device readable works) (fails_so d old new works keeps honest s at)
+    (ensures.reads.only_device works) (fails_so d old new works keeps honest s at)
     (λ unread. listed (λ r. Sheds s c.args.point r s) result (sheds s s (stays_at d old works s at) c.args.point result (told_of_levels s.contents.mosaic (valid_at d old works s at) c.args.point (λ runs level. AreRuns (IsInWatershed (terrain s.contents.mosaic) level c.args.point) runs.items) result unread
     (of_here d old new works keeps honest s at (λ (m : Mosaic). IfOk result (λ runs. (level : Point → ℤ) → AreFilledLevels (terrain m) level → AreRuns (IsInWatershed (terrain m) level c.args.point) runs.items)) (ensures.runs readable))
     (of_here d old new works keeps honest s at (λ (m : Mosaic). IsOk result → IsTrue (is_ground m c.args.point)) (ensures.on_ground readable))
