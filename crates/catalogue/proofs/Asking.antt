@@ -19,7 +19,7 @@ module _ {S : Type 0} (g : Ghosts S) where
     reads = reads_refused g a b r reads;
     passed = refl;
     own = λ is_ok. absurd (cc);
-    sound = λ honest ready. device_is_other r (reads.only_device honest ready);
+    sound = λ honest ready. device_is_other r (reads.only_device ready);
   }
 
   -- reads that were answered, and an answer or a refusal of the question's own
