@@ -2,7 +2,6 @@ pub mod Standing
 pub mod OneStored
 pub mod Planes
 pub mod Staging
-pub mod Begun
 pub mod WrittenPages
 pub mod Tiles
 pub mod Recording

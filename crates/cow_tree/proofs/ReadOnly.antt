@@ -5,8 +5,9 @@ use Rattle.disk.specs.Stops.{nothing_done, nothing_twice}
 use Rattle.disk.specs.declared.disk.Disk.{Ghosts}
 use Rattle.lattice.specs.declared.refusal.Refusal.{Refusal}
 use Rattle.lattice.specs.declared.refusal.Refusal.TheVariants.{Device}
-use Rattle.cow_tree.specs.Pagers.{OnlyReads, IsRefusedFor, disk_of, has_failed}
-use Rattle.cow_tree.specs.declared.pager.Pager.{Pager}
+use Rattle.roots.specs.Roots.{disk_of, has_failed}
+use Rattle.cow_tree.specs.OverRoots.{OnlyReads, IsRefusedFor}
+use Rattle.roots.specs.declared.roots.Roots.{Roots}
 
 pub refused_for : (A B : Type 0) (why : Refusal) → (A → B) → IsRefusedFor A why → IsRefusedFor B why
 refused_for A B why implies refused = ⊎_elim (λ h. inl h) (λ rest. inr (⊎_elim (λ h. inl h) (λ h. inr (h.0, implies h.1)) rest)) refused
@@ -16,13 +17,13 @@ pub handed_on : {T E : Type 0} (P : E → Type 0) (r : Result T E) (e : E) → r
 handed_on {T} {E} P r e same p = subst (λ (x : Result T E). IfErr x P) (sym same) p
 
 -- reads so far, none of them refused
-abbrev pub HasRead : {D : Type 0} (g : Ghosts D) → Pager D g → Pager D g → Type 0
+abbrev pub HasRead : {D : Type 0} (g : Ghosts D) → Roots D g → Roots D g → Type 0
 HasRead g old new = OnlyReads {T = Unit {0}} g old new (Ok tt)
 
 module _ {D : Type 0} (g : Ghosts D) where
   -- nothing was read
-  pub none_read : (pager : Pager D g) → ((c : Image) → g.honest (disk_of pager) → g.since (disk_of pager) (g.moment (disk_of pager)) c → g.may (disk_of pager) c) → has_failed pager ≡ false → HasRead g pager pager
-  none_read pager only_now works = record {
+  pub none_read : (roots : Roots D g) → ((c : Image) → g.honest (disk_of roots) → g.since (disk_of roots) (g.moment (disk_of roots)) c → g.may (disk_of roots) c) → has_failed roots ≡ false → HasRead g roots roots
+  none_read roots only_now works = record {
     size = refl;
     writes = refl;
     later = omega arith;
@@ -32,12 +33,12 @@ module _ {D : Type 0} (g : Ghosts D) where
     works = inl works;
     honest = λ h. h;
     seen = λ _. refl;
-    nothing = λ h. nothing_done g (disk_of pager) only_now h;
+    nothing = λ h. nothing_done g (disk_of roots) only_now h;
     ready = λ _ r _. r;
   }
 
   -- more was read
-  pub read_on : {T : Type 0} (old mid new : Pager D g) (result : Result T Refusal) → HasRead g old mid → has_failed mid ≡ false → OnlyReads g mid new result → OnlyReads g old new result
+  pub read_on : {T : Type 0} (old mid new : Roots D g) (result : Result T Refusal) → HasRead g old mid → has_failed mid ≡ false → OnlyReads g mid new result → OnlyReads g old new result
   read_on old mid new result first works second = record {
     size = second.size ∙ first.size;
     writes = second.writes ∙ first.writes;
@@ -53,7 +54,7 @@ module _ {D : Type 0} (g : Ghosts D) where
   }
 
   -- the same with another answer, where the disk refused nothing
-  pub read_as : {T U : Type 0} (old new : Pager D g) (was : Result T Refusal) (now : Result U Refusal) → OnlyReads g old new was → has_failed new ≡ false → (IsErrOf now Device → IsErrOf was Device) → OnlyReads g old new now
+  pub read_as : {T U : Type 0} (old new : Roots D g) (was : Result T Refusal) (now : Result U Refusal) → OnlyReads g old new was → has_failed new ≡ false → (IsErrOf now Device → IsErrOf was Device) → OnlyReads g old new now
   read_as old new was now reads works same = record {
     size = reads.size;
     writes = reads.writes;

@@ -1,8 +1,8 @@
 pub mod Found
 pub mod Layout
-pub mod Pagers
-pub mod Reading
+pub mod OverRoots
 pub mod Planes
+pub mod Reading
 pub mod Staged
 pub mod Stored
 pub mod Trees

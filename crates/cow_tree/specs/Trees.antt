@@ -12,27 +12,32 @@ use Rattle.charts.specs.declared.plane.Plane.{Plane}
 use Rattle.cow_tree.specs.Stored.{StoredTile, Stored}
 use Rattle.charts.specs.TileLocations.{TileLocation}
 use Rattle.cow_tree.specs.Layout.{tile_in, IsLaidOut}
-use Rattle.charts.specs.Charts.{corners_of_locations, fresh_corners, HasFreshHeights}
+use Rattle.charts.specs.Charts.{ChartValue, corners_of_locations, fresh_corners, HasFreshHeights}
 use Rattle.charts.specs.Planes.{HasPlane}
 use Rattle.cow_tree.specs.Staged.{AreStaged}
-use Rattle.cow_tree.specs.Pagers.{EachStores, IsReady, disk_of as disk_under, has_begun as have_begun, has_failed as have_failed}
+use Rattle.roots.specs.Roots.{IsReady, disk_of as disk_under, has_begun as have_begun, has_failed as have_failed}
+use Rattle.cow_tree.specs.OverRoots.{EachStores}
 use Rattle.cow_tree.specs.declared.tree.Tree.{Tree}
 
 module _ {D : Type 0} {g : Ghosts D} where
   abbrev pub disk_of : Tree D g → D
-  disk_of tree = disk_under tree.pager
+  disk_of tree = disk_under tree.roots
 
   -- the current root, as it was last known
   abbrev pub root_of : Tree D g → RootValue
   root_of tree = tree.root
 
+  -- which pages hold which planes, as committed and as staged
+  abbrev pub chart_of : Tree D g → ChartValue
+  chart_of tree = tree.chart
+
   -- a call was refused by the disk, or a reopening was refused, and no opening succeeded since
   abbrev pub has_failed : Tree D g → Bool
-  has_failed tree = have_failed tree.pager
+  has_failed tree = have_failed tree.roots
 
   -- a page was written since the last commit or opening
   abbrev pub has_begun : Tree D g → Bool
-  has_begun tree = have_begun tree.pager
+  has_begun tree = have_begun tree.roots
 
   -- the corners of the staged tiles, in order. They are held in memory, and so known whatever a disk does.
   abbrev pub corners_of : Tree D g → List Corner
@@ -52,7 +57,7 @@ module _ {D : Type 0} {g : Ghosts D} where
 
   -- the disk, opened or handed back
   abbrev pub disk_after : Result (Tree D g) (NotOpened D) → D
-  disk_after (Ok tree) = disk_under tree.pager
+  disk_after (Ok tree) = disk_under tree.roots
   disk_after (Err e) = e.disk
 
 -- the tiles as the next commit will have them
@@ -62,8 +67,8 @@ staged_in g tree = map (tile_in (g.seen (disk_of tree))) tree.chart.staged
 -- The tree stands for this: it hasn't failed, each image that a stop may leave stands for it in the locations of the chart,
 -- and what the chart has staged is on the disk but for the records that a commit writes.
 pub record IsAt {D : Type 0} (g : Ghosts D) (tree : Tree D g) (s : Stored) : Type 0 where
-  pub ready : IsReady g tree.pager
-  pub each : EachStores g tree.pager tree.chart.committed s
+  pub ready : IsReady g tree.roots
+  pub each : EachStores g tree.roots tree.chart.committed s
   pub staged : AreStaged tree.root.side tree.chart.committed tree.chart.staged (g.seen (disk_of tree))
 
 -- an image is refused so by opening where no call fails and memory is had: as roots refuse it, or Damaged where the tiles

@@ -9,7 +9,6 @@
 
 mod laws;
 mod opening;
-mod pager;
 mod samples;
 #[cfg(test)]
 mod tests;

@@ -11,12 +11,12 @@ ghost use Rattle.page_codec.specs.Sizes.{pages_of, sectors_of};
 ghost use Rattle.charts.specs.declared.plane.Plane.TheVariants.{Heights};
 ghost use Rattle.charts.specs.TileLocations.{entry_of};
 ghost use Rattle.cow_tree.specs.Layout.{Stands};
-ghost use Rattle.cow_tree.specs.Pagers.{disk_of as disk_under, root_of as root_under, has_failed as have_failed};
+ghost use Rattle.roots.specs.Roots.{disk_of as disk_under, root_of as root_under, has_failed as have_failed};
+ghost use Rattle.cow_tree.specs.OverRoots.{IsRefusalOfTree};
 ghost use Rattle.cow_tree.specs.Planes.{HasPage};
 ghost use Rattle.cow_tree.specs.Stored.{Stored, no_tiles, next_commit, pages_of_bytes, stale_tile, with_corner, with_page, with_plane, with_tile, without_tile};
 
 use crate::opening::read_chart;
-use crate::pager::Pager;
 use crate::writing::{write_plane, write_records};
 use charts::{Chart, Plane};
 use disk::Disk;
@@ -32,31 +32,20 @@ use std::alloc::Global;
 #[derive(Drop)]
 pub struct Tree<D: Disk> {
     alloc: Global,
-    pager: Pager<D>,
+    roots: Roots<D>,
     chart: Chart,
     root: Root,
-    ghost sectors: { chart.sectors ≡ D.Disk.size (disk_under pager) },
+    ghost sectors: { chart.sectors ≡ D.Disk.size (disk_under roots) },
     ghost fits: { chart.sectors < 2 ^ 32 },
     ghost side: { chart.side ≡ root.side },
     ghost capacity: { chart.capacity ≡ root.capacity },
     ghost entries: { map entry_of chart.committed ≡ root.entries },
-    ghost known: { have_failed pager ≡ false → root_under pager ≡ root },
-}
-
-fn copy_of(root: &Root) -> Root
-    ensures { result ≡ root.now }
-{
-    // That it keeps the rules of a root is told by its entries.
-    let _entries = root.entries();
-    match Root::read(&root.write()) {
-        Ok(copy) => copy,
-        Err(_) => unreachable!(),
-    }
+    ghost known: { have_failed roots ≡ false → root_under roots ≡ root },
 }
 
 impl<D: Disk> Tree<D> {
     ghost use Rattle.cow_tree.specs.Reading.{Reads};
-    ghost use Rattle.cow_tree.specs.Trees.{disk_of, root_of, has_failed, has_begun, corners_of, Holds, HasStaged, records_due, disk_after, staged_in, IsAt, MayRefuse};
+    ghost use Rattle.cow_tree.specs.Trees.{disk_of, root_of, chart_of, has_failed, has_begun, corners_of, Holds, HasStaged, records_due, disk_after, staged_in, IsAt, MayRefuse};
 
     /// Makes an empty store of this side and capacity (in tiles) on a disk. A fault before the Ok may leave anything.
     pub fn format(disk: &mut D, side: Side, capacity: u32) -> Result<(), Refusal>
@@ -83,6 +72,7 @@ impl<D: Disk> Tree<D> {
         ensures size { D.size (disk_after result) ≡ D.size disk }
         ensures writes { D.writes (disk_after result) ≡ D.writes disk }
         ensures later { D.failures disk ≤ D.failures (disk_after result) }
+        ensures refusals { IfErr result (λ e. IsRefusalOfTree e.refusal) }
         ensures device { IfErr result (λ e. e.refusal ≡ Device → HasRisen (D.failures disk) (D.failures e.disk)) }
         ensures nothing { D.honest (disk_after result) → AddsNothing D.Disk disk (disk_after result) }
         ensures at { IfOk result (λ tree. D.honest (disk_of tree)
@@ -99,18 +89,17 @@ impl<D: Disk> Tree<D> {
         ensures none_due { IfOk result (λ tree. records_due tree ≡ 0) }
         ensures corners { IfOk result (λ tree. corners_of tree ≡ map (λ e. e.corner) (root_of tree).entries) }
     {
-        let roots = Roots::open(disk)?;
-        let root = copy_of(roots.current());
-        let mut pager = Pager::new(roots);
-        match read_chart(alloc, &mut pager, &root) {
+        let mut roots = Roots::open(disk)?;
+        let root = roots.current().copy();
+        match read_chart(alloc, &mut roots, &root) {
             Ok(chart) => Ok(Tree {
                 alloc,
-                pager,
+                roots,
                 chart,
                 root,
             }),
             Err(refusal) => Err(NotOpened {
-                disk: pager.into_disk(),
+                disk: roots.into_disk(),
                 refusal,
             }),
         }
@@ -122,6 +111,7 @@ impl<D: Disk> Tree<D> {
         ensures size { D.size (disk_of self.new) ≡ D.size (disk_of self.old) }
         ensures writes { D.writes (disk_of self.new) ≡ D.writes (disk_of self.old) }
         ensures later { D.failures (disk_of self.old) ≤ D.failures (disk_of self.new) }
+        ensures refusals { IfErr result IsRefusalOfTree }
         ensures device { IsErrOf result Device → HasRisen (D.failures (disk_of self.old)) (D.failures (disk_of self.new)) }
         ensures nothing { D.honest (disk_of self.new) → AddsNothing D.Disk (disk_of self.old) (disk_of self.new) }
         ensures at { D.honest (disk_of self.new)
@@ -140,16 +130,16 @@ impl<D: Disk> Tree<D> {
         ensures none_due { OnOk result (records_due self.new ≡ 0) }
         ensures corners { OnOk result (corners_of self.new ≡ map (λ e. e.corner) (root_of self.new).entries) }
     {
-        self.pager.reopen()?;
-        let root = copy_of(self.pager.current());
-        match read_chart(self.alloc, &mut self.pager, &root) {
+        self.roots.reopen()?;
+        let root = self.roots.current().copy();
+        match read_chart(self.alloc, &mut self.roots, &root) {
             Ok(chart) => {
                 self.chart = chart;
                 self.root = root;
                 Ok(())
             }
             Err(refusal) => {
-                self.pager.fail();
+                self.roots.fail();
                 Err(refusal)
             }
         }
@@ -166,7 +156,7 @@ impl<D: Disk> Tree<D> {
     pub fn has_failed(&self) -> bool
         ensures { result ≡ has_failed self.now }
     {
-        self.pager.has_failed()
+        self.roots.has_failed()
     }
 
     /// Only reopening helps from here on, as after a refused read. No call of the disk is made.
@@ -177,7 +167,7 @@ impl<D: Disk> Tree<D> {
         ensures staged { staged_in D.Disk self.new ≡ staged_in D.Disk self.old }
         ensures failed { has_failed self.new ≡ true }
     {
-        self.pager.fail();
+        self.roots.fail();
     }
 
     /// Whether the corner has a tile, as the next commit will have it.
@@ -195,15 +185,15 @@ impl<D: Disk> Tree<D> {
         ensures value { result ≡ D.size (disk_of self.now) }
         ensures large { 4 ≤ result }
     {
-        self.pager.sectors()
+        self.roots.sectors()
     }
 
     /// The disk as it is.
     pub fn into_disk(self) -> D
         ensures { result ≡ disk_of self }
     {
-        let Tree { pager, .. } = self;
-        pager.into_disk()
+        let Tree { roots, .. } = self;
+        roots.into_disk()
     }
 
     /// Reads page `i` of a plane, as the next commit will have it. Nothing is written. Refused with Device, or with Failed
@@ -221,14 +211,14 @@ impl<D: Disk> Tree<D> {
         ensures page { D.honest (disk_of self.new) → OnOk result (HasPage (staged_in D.Disk self.old) c plane i into.new) }
         ensures failed { has_failed self.old ≡ true → (result ≡ Err Failed) × (disk_of self.new ≡ disk_of self.old) }
     {
-        if self.pager.has_failed() {
+        if self.roots.has_failed() {
             return Err(Refusal::Failed);
         }
         self.chart.rules();
         match self.chart.plane(c, plane) {
             Some(location) => {
                 let number = location.pages()[i as usize];
-                self.pager.read(number, into)
+                self.roots.read(number, into)
             }
             None => unreachable!(),
         }
@@ -282,7 +272,7 @@ impl<D: Disk> Tree<D> {
         prove!(plane == Plane::Heights);
         self.chart.rules();
         let number = self.chart.page_for_writing(c, i)?;
-        self.pager.write(number, page)
+        self.roots.write(number, page)
     }
 
     /// Stages the heights of the corner's tile as they are, so that staging pages of them asks for no memory until the
@@ -291,6 +281,7 @@ impl<D: Disk> Tree<D> {
     pub fn prepare(&mut self, c: Corner) -> Result<(), Refusal>
         requires present { Contains (corners_of self.old) c }
         ensures refused { IfErr result (λ refusal. refusal ≡ NoMemory) }
+        ensures unchanged { OnErr result (chart_of self.new ≡ chart_of self.old) }
         ensures disk { disk_of self.new ≡ disk_of self.old }
         ensures root { root_of self.new ≡ root_of self.old }
         ensures corners { corners_of self.new ≡ corners_of self.old }
@@ -347,7 +338,7 @@ impl<D: Disk> Tree<D> {
         prove!(plane == Plane::Heights);
         self.chart.tile_for_writing(c)?;
         match self.chart.heights(c) {
-            Some(plane) => write_plane(&mut self.pager, plane.pages(), bytes),
+            Some(plane) => write_plane(&mut self.roots, plane.pages(), bytes),
             None => unreachable!(),
         }
     }
@@ -389,8 +380,8 @@ impl<D: Disk> Tree<D> {
         self.chart.rules();
         let entries = self.chart.entries();
         let root = self.root.next(count, entries);
-        write_records(&mut self.pager, &self.chart)?;
-        self.pager.commit(&root)?;
+        write_records(&mut self.roots, &self.chart)?;
+        self.roots.commit(&root)?;
         self.root = root;
         self.chart.settle();
         Ok(())

@@ -11,14 +11,15 @@ ghost use Rattle.charts.specs.TileLocations.{TileLocation, reached};
 ghost use Rattle.cow_tree.specs.Layout.{StoresAt};
 ghost use Rattle.charts.specs.Locations.{times};
 ghost use Rattle.cow_tree.specs.Stored.{Stored, pages_of_bytes};
-ghost use Rattle.cow_tree.specs.Pagers.{disk_of, root_of, has_begun, has_failed, IsReady, EachStores};
+ghost use Rattle.roots.specs.Roots.{disk_of, root_of, has_begun, has_failed, IsReady};
+ghost use Rattle.cow_tree.specs.OverRoots.{EachStores};
 
-use crate::pager::Pager;
 use arrayvec::ArrayVec;
 use charts::{Chart, PagedPlane};
 use disk::Disk;
 use lattice::Refusal;
 use page_codec::{PAGE_BYTES, RECORD_PAGES, Record};
+use roots::Roots;
 
 // A page that begins with these bytes, and zeros behind them.
 #[tactic(auto, unfolding(page_codec::specs::Numbers::zeros))]
@@ -54,78 +55,78 @@ fn record_of(plane: &PagedPlane) -> [u8; 4096]
 
 /// Writes the bytes of a plane to its pages, which are all distinct. What the last page has past them is zero.
 pub(crate) fn write_plane<D: Disk>(
-    pager: &mut Pager<D>,
+    roots: &mut Roots<D>,
     pages: &[u32],
     bytes: &[u8],
 ) -> Result<(), Refusal>
-    requires not_failed { has_failed pager.old ≡ false }
+    requires not_failed { has_failed roots.old ≡ false }
     requires low { All (λ p. 4 ≤ p) pages.now }
-    requires high { All (λ p. p < D.size (disk_of pager.old)) pages.now }
+    requires high { All (λ p. p < D.size (disk_of roots.old)) pages.now }
     requires distinct { (p : ℕ) → times p pages.now ≤ 1 }
-    ensures size { D.size (disk_of pager.new) ≡ D.size (disk_of pager.old) }
-    ensures cause { HasCause (D.failures (disk_of pager.old)) (D.failures (disk_of pager.new)) result }
+    ensures size { D.size (disk_of roots.new) ≡ D.size (disk_of roots.old) }
+    ensures cause { HasCause (D.failures (disk_of roots.old)) (D.failures (disk_of roots.new)) result }
     ensures refused { IfErr result (λ refusal. refusal ≡ Device) }
-    ensures writes { D.writes (disk_of pager.new) ≤ D.writes (disk_of pager.old) + length pages.now + (if has_begun pager.old then 0 else 1) }
-    ensures begun { OnOk result (D.writes (disk_of pager.new) + (if has_begun pager.new then 0 else 1)
-        ≤ D.writes (disk_of pager.old) + length pages.now + (if has_begun pager.old then 0 else 1)) }
-    ensures honest { D.honest (disk_of pager.new) → D.honest (disk_of pager.old) }
-    ensures root { root_of pager.new ≡ root_of pager.old }
-    ensures not_failed { OnOk result (has_failed pager.new ≡ false) }
-    ensures failed { OnErr result (has_failed pager.new ≡ true) }
-    ensures ready { D.honest (disk_of pager.new) → IsReady D.Disk pager.old → OnOk result (IsReady D.Disk pager.new) }
-    ensures written { D.honest (disk_of pager.new) → IsReady D.Disk pager.old
-        → OnOk result (map (D.seen (disk_of pager.new)) pages.now ≡ pages_of_bytes (length pages.now) bytes.now) }
-    ensures others { D.honest (disk_of pager.new) → IsReady D.Disk pager.old
-        → OnOk result ((p : ℕ) → 4 ≤ p → ¬ Contains pages.now p → D.seen (disk_of pager.old) p ≡ D.seen (disk_of pager.new) p) }
+    ensures writes { D.writes (disk_of roots.new) ≤ D.writes (disk_of roots.old) + length pages.now + (if has_begun roots.old then 0 else 1) }
+    ensures begun { OnOk result (D.writes (disk_of roots.new) + (if has_begun roots.new then 0 else 1)
+        ≤ D.writes (disk_of roots.old) + length pages.now + (if has_begun roots.old then 0 else 1)) }
+    ensures honest { D.honest (disk_of roots.new) → D.honest (disk_of roots.old) }
+    ensures root { root_of roots.new ≡ root_of roots.old }
+    ensures not_failed { OnOk result (has_failed roots.new ≡ false) }
+    ensures failed { OnErr result (has_failed roots.new ≡ true) }
+    ensures ready { D.honest (disk_of roots.new) → IsReady D.Disk roots.old → OnOk result (IsReady D.Disk roots.new) }
+    ensures written { D.honest (disk_of roots.new)
+        → OnOk result (map (D.seen (disk_of roots.new)) pages.now ≡ pages_of_bytes (length pages.now) bytes.now) }
+    ensures others { D.honest (disk_of roots.new)
+        → OnOk result ((p : ℕ) → 4 ≤ p → ¬ Contains pages.now p → D.seen (disk_of roots.old) p ≡ D.seen (disk_of roots.new) p) }
 
     // Where no stored tile reaches the pages, a stop at any moment leaves what is stored.
-    ensures any_moment { D.honest (disk_of pager.new) → IsReady D.Disk pager.old
-        → (tiles : List TileLocation) (s : Stored) → EachStores D.Disk pager.old tiles s
+    ensures any_moment { D.honest (disk_of roots.new) → IsReady D.Disk roots.old
+        → (tiles : List TileLocation) (s : Stored) → EachStores D.Disk roots.old tiles s
         → All (λ p. ¬ Contains (reached tiles) p) pages.now
-        → LeavesOnly D.Disk (disk_of pager.old) (disk_of pager.new) (StoresAt (D.size (disk_of pager.old)) (root_of pager.old) tiles s) }
+        → LeavesOnly D.Disk (disk_of roots.old) (disk_of roots.new) (StoresAt (D.size (disk_of roots.old)) (root_of roots.old) tiles s) }
 {
     let mut rest = bytes;
     for page in pages {
         let (front, behind) = split_page(rest);
-        pager.write(*page, &page_of(front))?;
+        roots.write(*page, &page_of(front))?;
         rest = behind;
     }
     Ok(())
 }
 
 /// Writes the records of the staged tiles whose heights are staged.
-pub(crate) fn write_records<D: Disk>(pager: &mut Pager<D>, chart: &Chart) -> Result<(), Refusal>
-    requires not_failed { has_failed pager.old ≡ false }
-    requires sectors { chart.now.sectors ≡ D.size (disk_of pager.old) }
+pub(crate) fn write_records<D: Disk>(roots: &mut Roots<D>, chart: &Chart) -> Result<(), Refusal>
+    requires not_failed { has_failed roots.old ≡ false }
+    requires sectors { chart.now.sectors ≡ D.size (disk_of roots.old) }
     requires side { pages_of chart.now.side ≤ RECORD_PAGES }
-    ensures size { D.size (disk_of pager.new) ≡ D.size (disk_of pager.old) }
-    ensures cause { HasCause (D.failures (disk_of pager.old)) (D.failures (disk_of pager.new)) result }
+    ensures size { D.size (disk_of roots.new) ≡ D.size (disk_of roots.old) }
+    ensures cause { HasCause (D.failures (disk_of roots.old)) (D.failures (disk_of roots.new)) result }
     ensures refused { IfErr result (λ refusal. refusal ≡ Device) }
-    ensures writes { OnOk result (D.writes (disk_of pager.new) + (if has_begun pager.new then 0 else 1)
-        ≤ D.writes (disk_of pager.old) + length (fresh_corners chart.now) + (if has_begun pager.old then 0 else 1)) }
-    ensures few { OnErr result (D.writes (disk_of pager.new) ≤ D.writes (disk_of pager.old) + length (fresh_corners chart.now) + (if has_begun pager.old then 0 else 1)) }
-    ensures honest { D.honest (disk_of pager.new) → D.honest (disk_of pager.old) }
-    ensures root { root_of pager.new ≡ root_of pager.old }
-    ensures not_failed { OnOk result (has_failed pager.new ≡ false) }
-    ensures failed { OnErr result (has_failed pager.new ≡ true) }
-    ensures ready { D.honest (disk_of pager.new) → IsReady D.Disk pager.old → OnOk result (IsReady D.Disk pager.new) }
-    ensures recorded { D.honest (disk_of pager.new) → IsReady D.Disk pager.old
+    ensures writes { OnOk result (D.writes (disk_of roots.new) + (if has_begun roots.new then 0 else 1)
+        ≤ D.writes (disk_of roots.old) + length (fresh_corners chart.now) + (if has_begun roots.old then 0 else 1)) }
+    ensures few { OnErr result (D.writes (disk_of roots.new) ≤ D.writes (disk_of roots.old) + length (fresh_corners chart.now) + (if has_begun roots.old then 0 else 1)) }
+    ensures honest { D.honest (disk_of roots.new) → D.honest (disk_of roots.old) }
+    ensures root { root_of roots.new ≡ root_of roots.old }
+    ensures not_failed { OnOk result (has_failed roots.new ≡ false) }
+    ensures failed { OnErr result (has_failed roots.new ≡ true) }
+    ensures ready { D.honest (disk_of roots.new) → IsReady D.Disk roots.old → OnOk result (IsReady D.Disk roots.new) }
+    ensures recorded { D.honest (disk_of roots.new)
         → OnOk result (All (λ t. is_changed chart.now.committed t ≡ true
-        → D.seen (disk_of pager.new) t.heights.record_page ≡ record_bytes t.heights.pages) chart.now.staged) }
-    ensures others { D.honest (disk_of pager.new) → IsReady D.Disk pager.old
+        → D.seen (disk_of roots.new) t.heights.record_page ≡ record_bytes t.heights.pages) chart.now.staged) }
+    ensures others { D.honest (disk_of roots.new)
         → OnOk result ((p : ℕ) → 4 ≤ p → times p (record_pages (changed_tiles chart.now)) ≡ 0
-        → D.seen (disk_of pager.old) p ≡ D.seen (disk_of pager.new) p) }
+        → D.seen (disk_of roots.old) p ≡ D.seen (disk_of roots.new) p) }
 
     // A stop at any moment leaves what is stored.
-    ensures any_moment { D.honest (disk_of pager.new) → IsReady D.Disk pager.old
-        → (s : Stored) → EachStores D.Disk pager.old chart.now.committed s
-        → LeavesOnly D.Disk (disk_of pager.old) (disk_of pager.new) (StoresAt (D.size (disk_of pager.old)) (root_of pager.old) chart.now.committed s) }
+    ensures any_moment { D.honest (disk_of roots.new) → IsReady D.Disk roots.old
+        → (s : Stored) → EachStores D.Disk roots.old chart.now.committed s
+        → LeavesOnly D.Disk (disk_of roots.old) (disk_of roots.new) (StoresAt (D.size (disk_of roots.old)) (root_of roots.old) chart.now.committed s) }
 {
     chart.rules();
     let corners = chart.fresh();
     for corner in corners.as_slice() {
         match chart.heights(*corner) {
-            Some(plane) => pager.write(plane.record_page(), &record_of(plane))?,
+            Some(plane) => roots.write(plane.record_page(), &record_of(plane))?,
             None => unreachable!(),
         }
     }

@@ -1,5 +1,5 @@
 -- What an answer that was Ok tells.
-use Rattle.std.proofs.Common.{◌≡◌, Result, Ok, Err, MatchResult, OnOk, IfOk, subst}
+use Rattle.std.proofs.Common.{◌≡◌, Bool, true, false, Result, Ok, Err, MatchResult, OnOk, IfOk, sym, ◌∙◌, subst}
 use Rattle.lattice.specs.declared.refusal.Refusal.{Refusal}
 use Rattle.lattice.specs.declared.refusal.Refusal.TheVariants.{Device}
 
@@ -23,6 +23,10 @@ if_ok_map (Err e) P Q f h = tt
 pub noted_ok : {T E : Type 0} (answer : Result T E) (v : Unit {0}) (X Y P : Type 0) → MatchResult answer (λ _. X) (λ _. (let r : Result (Unit {0}) Refusal = Ok v in r ≡ Err Device) × Y) → OnOk answer P → P
 noted_ok (Ok x) v X Y P came h = h
 noted_ok (Err e) v X Y P came h = absurd (cc came.0)
+
+pub noted_works : {T E : Type 0} (answer : Result T E) (r : Result (Unit {0}) Refusal) (was now : Bool) (P : Type 0) → MatchResult answer (λ _. (r ≡ Ok tt) × (now ≡ was)) (λ _. (r ≡ Err Device) × (now ≡ true)) → was ≡ false → (now ≡ false → P) → OnOk r P
+noted_works (Ok x) r was now P noted works f = subst (λ (q : Result (Unit {0}) Refusal). OnOk q P) (sym noted.0) (f (noted.1 ∙ works))
+noted_works (Err e) r was now P noted works f = subst (λ (q : Result (Unit {0}) Refusal). OnOk q P) (sym noted.0) tt
 
 pub on_ok_map : {T E : Type 0} (answer : Result T E) (P Q R S : Type 0) → (P → Q → R → S) → OnOk answer P → OnOk answer Q → OnOk answer R → OnOk answer S
 on_ok_map (Ok x) P Q R S f p q r = f p q r

@@ -8,6 +8,7 @@ use Rattle.roots.specs.declared.slot.Slot.{Slot}
 use Rattle.roots.specs.declared.slot.Slot.TheVariants.{A}
 use Rattle.roots.specs.Found.{Filling}
 use Rattle.roots.specs.Slots.{is_open, gate, root_sector, other, IsSpelledBy, IsAt, SamePages, KeepsAll, HasMoved}
+use Rattle.roots.proofs.Begun.{then_committed}
 use Rattle.roots.proofs.Turns.{taken, beside_slot, gate_torn, root_torn, closed_not_open, turned, pages_root, pages_gate}
 
 -- where nothing was done, or only read
@@ -37,6 +38,15 @@ pub moving : {D : Type 0} (g : Ghosts D) (s : Slot) (root next : RootValue) (old
 moving g s root next old new each less here run =
     weaker g old new (Filling (other s) next (g.may old) (g.seen old)) (λ c. KeepsAll root (g.may old) c ⊎ HasMoved next (g.seen old) c)
     (λ c filling. moved s root next (g.may old) (g.seen old) c each less here filling) run
+
+-- .. where the commit was begun first
+pub committing : {D : Type 0} (g : Ghosts D) (s t : Slot) (root now next : RootValue) (old mid new : D) → now ≡ root → t ≡ other s → LeavesOnly g old mid (KeepsAll root (g.may old)) → SamePages (g.seen old) (g.seen mid)
+    → ((d : Image) → g.may mid d → IsAt s false now d) → root.number < next.number → g.may mid (g.seen mid)
+    → LeavesOnly g mid new (Filling t next (g.may mid) (g.seen mid)) → LeavesOnly g old new (λ c. KeepsAll root (g.may old) c ⊎ HasMoved next (g.seen old) c)
+committing g s t root now next old mid new same t_is first pages each less here run =
+    then_committed g old mid root first new next pages
+    (moving g s root next mid new (subst (λ (r : RootValue). (d : Image) → g.may mid d → IsAt s false r d) same each) less here
+    (subst (λ (u : Slot). LeavesOnly g mid new (Filling u next (g.may mid) (g.seen mid))) t_is run))
 
 -- .. and at its end
 pub committed : (s t : Slot) (root next kept : RootValue) (d i : Image) → t ≡ other s → kept ≡ next → IsAt s false root d → root.number < next.number

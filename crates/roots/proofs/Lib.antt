@@ -4,3 +4,4 @@ pub mod Filled
 pub mod OneAnswer
 pub mod Scanned
 pub mod Turns
+pub mod Begun

@@ -57,6 +57,11 @@ OpensAs sectors image answer =
     ((sectors < 4) × (answer ≡ Err refusal.NotAStore))
     ⊎ ((4 ≤ sectors) × ((a b : Option (Result RootValue Damaged)) × Holds A image a × Holds B image b × (answer ≡ fitting sectors (chosen a b))))
 
+-- what opening may answer in place of a root, on any disk
+abbrev pub IsRefusalOfOpening : Refusal → Type 0
+IsRefusalOfOpening why =
+    (why ≡ refusal.Device) ⊎ ((why ≡ refusal.NotAStore) ⊎ ((why ≡ refusal.Version) ⊎ ((why ≡ refusal.Damaged) ⊎ (why ≡ refusal.TooSmall))))
+
 -- the image has this current root, and sectors enough for it
 abbrev pub HoldsStore : ℕ → Image → RootValue → Type 0
 HoldsStore sectors image root = IsCurrent root image × (sectors_of root.side root.capacity ≤ sectors)

@@ -1,24 +1,12 @@
 -- What contracts see of opened roots.
-use Rattle.std.specs.Prelude.{◌≡◌, Bool, true, false, Result, Ok, Err}
+use Rattle.std.specs.Prelude.{◌≡◌, Bool, false, Result, Ok, Err}
 use Rattle.disk.specs.Disk.{Image}
 use Rattle.disk.specs.declared.disk.Disk.{Ghosts}
 use Rattle.lattice.specs.declared.refusal.Refusal.{Refusal}
 use Rattle.page_codec.specs.Roots.{RootValue}
 use Rattle.roots.specs.Slots.{IsCurrent, IsAt}
-use Rattle.roots.specs.declared.phase.Phase.{Phase}
-use Rattle.roots.specs.declared.phase.Phase.TheVariants.{Settled, Begun, Failed}
 use Rattle.roots.specs.declared.roots.NotOpened.{NotOpened}
 use Rattle.roots.specs.declared.roots.Roots.{Roots}
-
-abbrev pub is_begun : Phase → Bool
-is_begun Settled = false
-is_begun Begun = true
-is_begun Failed = false
-
-abbrev pub is_failed : Phase → Bool
-is_failed Settled = false
-is_failed Begun = false
-is_failed Failed = true
 
 -- what a second opening answered that left this root
 abbrev pub reopened_as : Result (Unit {0}) Refusal → RootValue → Result RootValue Refusal
@@ -33,13 +21,13 @@ module _ {D : Type 0} {g : Ghosts D} where
   abbrev pub root_of : Roots D g → RootValue
   root_of roots = roots.root
 
-  -- `begin` answered Ok, and no commit or opening came since
+  -- a commit has begun, and neither was it done nor came an opening since
   abbrev pub has_begun : Roots D g → Bool
-  has_begun roots = is_begun roots.phase
+  has_begun roots = roots.begun
 
   -- a call was refused, and no opening succeeded since
   abbrev pub has_failed : Roots D g → Bool
-  has_failed roots = is_failed roots.phase
+  has_failed roots = roots.failed
 
   -- the disk, opened or handed back
   abbrev pub disk_after : Result (Roots D g) (NotOpened D) → D
@@ -51,10 +39,10 @@ module _ {D : Type 0} {g : Ghosts D} where
   opened_as (Ok roots) = Ok roots.root
   opened_as (Err e) = Err e.refusal
 
--- the known root is the current one of each image that a stop may leave, and a commit that has begun finds its gate closed
+-- it hasn't failed, and the known root is the current one of each image that a stop may leave
 pub record IsReady {D : Type 0} (g : Ghosts D) (roots : Roots D g) : Type 0 where
+  pub works : has_failed roots ≡ false
   pub each : (image : Image) → g.may roots.disk image → IsAt roots.slot roots.other_open roots.root image
-  pub closed : has_begun roots ≡ true → roots.other_open ≡ false
 
 pub ready_current : {D : Type 0} (g : Ghosts D) (roots : Roots D g) (image : Image) → IsReady g roots → g.may roots.disk image → IsCurrent (root_of roots) image
 ready_current g roots image ready may = (roots.slot, (ready.each image may).current)

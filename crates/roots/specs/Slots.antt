@@ -1,6 +1,7 @@
 -- Two roots behind gates, and which of them is current (this product's own profile).
-use Rattle.std.specs.Prelude.{◌≡◌, ◌≢◌, ℕ, ◌≤◌, ◌<◌, List, Bool, true, false, ◌==◌, slice_index}
+use Rattle.std.specs.Prelude.{◌≡◌, ◌≢◌, ℕ, ◌≤◌, ◌<◌, List, [], ◌∷◌, Bool, true, false, ◌==◌, slice_index}
 use Rattle.disk.specs.Disk.{Image}
+use Rattle.page_codec.specs.Numbers.{padded}
 use Rattle.page_codec.specs.Roots.{RootValue, IsRoot, root_bytes}
 use Rattle.roots.specs.declared.slot.Slot.{Slot}
 use Rattle.roots.specs.declared.slot.Slot.TheVariants.{A, B}
@@ -8,6 +9,13 @@ use Rattle.roots.specs.declared.slot.Slot.TheVariants.{A, B}
 -- a gate is open exactly where its first byte is 0xA7
 unfoldable pub is_open : List ℕ → Bool
 is_open bytes = slice_index bytes 0 == 167
+
+-- a gate as it is written
+abbrev pub closed_gate : List ℕ
+closed_gate = padded 4096 []
+
+abbrev pub open_gate : List ℕ
+open_gate = padded 4096 (167 ∷ [])
 
 -- the sector of a slot's gate
 abbrev pub gate : Slot → ℕ

@@ -6,9 +6,9 @@
 //! `specs/Slots.antt` says which root of an image is current, `specs/Opening.antt` what opening answers on it.
 #![tactic(auto)]
 
+mod faults;
 mod laws;
 mod opening;
-mod phase;
 mod roots;
 mod slot;
 #[cfg(test)]

@@ -5,11 +5,11 @@ ghost use Rattle.disk.specs.Stops.{AddsNothing, HasCause};
 ghost use Rattle.lattice.specs.declared.refusal.Refusal.TheVariants.{Device};
 ghost use Rattle.page_codec.specs.Sizes.{sectors_of};
 ghost use Rattle.roots.specs.Slots.{is_open, gate, root_sector, IsAt};
-ghost use Rattle.roots.specs.Opening.{ReadsAs, Holds, refusal_of, later, chosen, fitting, OpensAs};
+ghost use Rattle.roots.specs.Opening.{ReadsAs, Holds, refusal_of, later, chosen, fitting, OpensAs, IsRefusalOfOpening};
 ghost use Rattle.roots.specs.declared.slot.Slot.TheVariants.{A, B};
 ghost use Rattle.roots.specs.Found.{OnlyReads, HoldsBehind, FoundIn, found_as};
 
-use crate::phase::device;
+use crate::faults::device;
 use crate::slot::{Slot, is_open_gate};
 use disk::{Disk, Fault};
 use lattice::Refusal;
@@ -27,7 +27,8 @@ pub(crate) struct Found {
 }
 
 fn refusal_of(damaged: Damaged) -> Refusal
-    ensures { result ≡ refusal_of damaged }
+    ensures value { result ≡ refusal_of damaged }
+    ensures refusal { IsRefusalOfOpening result }
 {
     match damaged {
         Damaged::Magic => Refusal::NotAStore,
@@ -87,6 +88,7 @@ fn read_slots<D: Disk>(
 // The current one of two roots.
 fn later(a: Root, b: Root) -> Result<Found, Refusal>
     ensures answer { found_as result ≡ later a b }
+    ensures refused { IfErr result IsRefusalOfOpening }
     ensures found { IfOk result (λ found. FoundIn found.slot found.other_open found.root (Some (Ok a)) (Some (Ok b))) }
 {
     if a.number() < b.number() {
@@ -112,6 +114,7 @@ fn choose(
     second: Option<Result<Root, Damaged>>,
 ) -> Result<Found, Refusal>
     ensures answer { found_as result ≡ chosen first second }
+    ensures refused { IfErr result IsRefusalOfOpening }
     ensures found { IfOk result (λ found. FoundIn found.slot found.other_open found.root first second) }
 {
     match (first, second) {
@@ -139,6 +142,7 @@ fn judge(
     sectors: u32,
 ) -> Result<Found, Refusal>
     ensures answer { found_as result ≡ fitting sectors (chosen first second) }
+    ensures refused { IfErr result IsRefusalOfOpening }
     ensures found { IfOk result (λ found. FoundIn found.slot found.other_open found.root first second) }
 {
     let found = choose(first, second)?;
@@ -161,6 +165,7 @@ pub(crate) fn scan<D: Disk>(disk: &mut D) -> Result<Found, Refusal>
     ensures writes { D.writes disk.new ≡ D.writes disk.old }
     ensures later { D.failures disk.old ≤ D.failures disk.new }
     ensures device { IsErrOf result Device → HasRisen (D.failures disk.old) (D.failures disk.new) }
+    ensures refused { IfErr result IsRefusalOfOpening }
     ensures nothing { D.honest disk.new → AddsNothing D.Disk disk.old disk.new }
     ensures seen { D.honest disk.new → OnOk result (D.seen disk.new ≡ D.seen disk.old) }
     ensures durable { D.honest disk.new → OnOk result (Only (D.seen disk.new) (D.may disk.new)) }

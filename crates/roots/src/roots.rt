@@ -1,14 +1,14 @@
 //! The roots of a disk.
-ghost use Rattle.std.specs.Prelude.{◌≡◌, ◌≢◌, ◌≤◌, ◌<◌, ◌+◌, ◌⊎◌, true, false, Ok, Err, OnOk, OnErr, IfOk, IfErr, IsErrOf};
+ghost use Rattle.std.specs.Prelude.{◌≡◌, ◌≢◌, ◌≤◌, ◌<◌, ◌+◌, ◌⊎◌, true, false, Ok, Err, IsOk, OnOk, OnErr, IfOk, IfErr, IsErrOf, if◌then◌else◌};
 ghost use Rattle.disk.specs.Disk.{Image, SameBut, Only, counted, HasRisen};
 ghost use Rattle.disk.specs.Stops.{LeavesOnly, AddsNothing, HasCause};
 ghost use Rattle.lattice.specs.declared.refusal.Refusal.TheVariants.{Device};
-ghost use Rattle.roots.specs.Slots.{SamePages, KeepsAll, KeepsBut, HasMoved, IsCurrent};
+ghost use Rattle.roots.specs.Slots.{SamePages, SamePagesBut, KeepsAll, KeepsBut, HasMoved, IsCurrent};
 ghost use Rattle.page_codec.specs.Roots.{RootValue};
-ghost use Rattle.roots.specs.Opening.{OpensAs, HoldsStore};
+ghost use Rattle.roots.specs.Opening.{OpensAs, HoldsStore, IsRefusalOfOpening};
 
+use crate::faults::{device, noted};
 use crate::opening::{Found, scan};
-use crate::phase::{Phase, device, noted};
 use crate::slot::{Slot, closed_gate};
 use crate::writing::{fill_slot, write_only};
 use disk::{Disk, settle};
@@ -17,8 +17,8 @@ use page_codec::Root;
 
 /// A disk with its current root, as opening found it or the last commit left it.
 ///
-/// Commits go to the two slots in turn. A call that the disk fails answers Device; from then on, and after a refused
-/// reopening, only reopening helps.
+/// Commits go to the two slots in turn. The first page that is written begins a commit. A call that the disk fails answers
+/// Device; from then on, and after a refused reopening, only reopening helps.
 #[derive(Drop)]
 pub struct Roots<D: Disk> {
     disk: D,
@@ -26,7 +26,10 @@ pub struct Roots<D: Disk> {
     slot: Slot,
     // Whether the gate of the other slot reads open. If not, it is closed and settled.
     other_open: bool,
-    phase: Phase,
+    // Whether pages of the next commit may be written.
+    begun: bool,
+    failed: bool,
+    ghost shut: { begun ≡ true → other_open ≡ false },
     ghost large: { 4 ≤ D.Disk.size disk },
 }
 
@@ -65,6 +68,7 @@ impl<D: Disk> Roots<D> {
         ensures size { D.size (disk_after result) ≡ D.size disk }
         ensures writes { D.writes (disk_after result) ≡ D.writes disk }
         ensures later { D.failures disk ≤ D.failures (disk_after result) }
+        ensures refused { IfErr result (λ e. IsRefusalOfOpening e.refusal) }
         ensures device { opened_as result ≡ Err Device → HasRisen (D.failures disk) (D.failures (disk_after result)) }
         ensures nothing { D.honest (disk_after result) → AddsNothing D.Disk disk (disk_after result) }
 
@@ -93,7 +97,8 @@ impl<D: Disk> Roots<D> {
                 root,
                 slot,
                 other_open,
-                phase: Phase::Settled,
+                begun: false,
+                failed: false,
             }),
             Err(refusal) => Err(NotOpened { disk, refusal }),
         }
@@ -105,6 +110,7 @@ impl<D: Disk> Roots<D> {
         ensures size { D.size (disk_of self.new) ≡ D.size (disk_of self.old) }
         ensures writes { D.writes (disk_of self.new) ≡ D.writes (disk_of self.old) }
         ensures later { D.failures (disk_of self.old) ≤ D.failures (disk_of self.new) }
+        ensures refused { IfErr result IsRefusalOfOpening }
         ensures device { IsErrOf result Device → HasRisen (D.failures (disk_of self.old)) (D.failures (disk_of self.new)) }
         ensures nothing { D.honest (disk_of self.new) → AddsNothing D.Disk (disk_of self.old) (disk_of self.new) }
         ensures opens { D.honest (disk_of self.new) → IsErrOf result Device
@@ -121,6 +127,7 @@ impl<D: Disk> Roots<D> {
         ensures failed { OnErr result (has_failed self.new ≡ true) }
         ensures last_known { OnErr result (root_of self.new ≡ root_of self.old) }
     {
+        self.begun = false;
         match scan(&mut self.disk) {
             Ok(
                 Found {
@@ -132,11 +139,11 @@ impl<D: Disk> Roots<D> {
                 self.root = root;
                 self.slot = slot;
                 self.other_open = other_open;
-                self.phase = Phase::Settled;
+                self.failed = false;
                 Ok(())
             }
             Err(refusal) => {
-                self.phase = Phase::Failed;
+                self.failed = true;
                 Err(refusal)
             }
         }
@@ -155,6 +162,23 @@ impl<D: Disk> Roots<D> {
         ensures large { 4 ≤ result }
     {
         self.disk.sectors()
+    }
+
+    /// Whether a call was refused, and no opening succeeded since.
+    pub fn has_failed(&self) -> bool
+        ensures { result ≡ has_failed self.now }
+    {
+        self.failed
+    }
+
+    /// Only reopening helps from here on, as after a fault. No call of the disk is made.
+    pub fn fail(&mut self)
+        ensures disk { disk_of self.new ≡ disk_of self.old }
+        ensures root { root_of self.new ≡ root_of self.old }
+        ensures begun { has_begun self.new ≡ has_begun self.old }
+        ensures failed { has_failed self.new ≡ true }
+    {
+        self.failed = true;
     }
 
     /// The disk as it is.
@@ -179,24 +203,25 @@ impl<D: Disk> Roots<D> {
         ensures nothing { D.honest (disk_of self.new) → AddsNothing D.Disk (disk_of self.old) (disk_of self.new) }
         ensures ready { D.honest (disk_of self.new) → IsReady D.Disk self.old → OnOk result (IsReady D.Disk self.new) }
         ensures not_failed { OnOk result (has_failed self.new ≡ false) }
-        ensures begun { OnOk result (has_begun self.new ≡ has_begun self.old) }
+        ensures begun { has_begun self.new ≡ has_begun self.old }
         ensures failed { OnErr result (has_failed self.new ≡ true) }
     {
         let answer = self.disk.read(p, into);
-        noted(&mut self.phase, answer)
+        noted(&mut self.failed, answer)
     }
 
-    /// Begins a commit: the gate of the slot that isn't current is closed and settled, if it may be open.
+    /// Begins a commit, if none has begun: the gate of the slot that isn't current is closed and settled, if it may be
+    /// open.
     pub fn begin(&mut self) -> Result<(), Refusal>
         requires { has_failed self.old ≡ false }
         ensures size { D.size (disk_of self.new) ≡ D.size (disk_of self.old) }
         ensures cause { HasCause (D.failures (disk_of self.old)) (D.failures (disk_of self.new)) result }
         ensures refused { IfErr result (λ refusal. refusal ≡ Device) }
-        ensures writes { D.writes (disk_of self.new) ≤ D.writes (disk_of self.old) + 1 }
+        ensures writes { D.writes (disk_of self.new) ≤ D.writes (disk_of self.old) + (if has_begun self.old then 0 else 1) }
         ensures honest { D.honest (disk_of self.new) → D.honest (disk_of self.old) }
         ensures root { root_of self.new ≡ root_of self.old }
         ensures ready { D.honest (disk_of self.new) → IsReady D.Disk self.old → OnOk result (IsReady D.Disk self.new) }
-        ensures pages { D.honest (disk_of self.new) → IsReady D.Disk self.old
+        ensures pages { D.honest (disk_of self.new)
             → OnOk result (SamePages (D.seen (disk_of self.old)) (D.seen (disk_of self.new))) }
 
         // A stop at any moment leaves the current root with its pages.
@@ -204,33 +229,38 @@ impl<D: Disk> Roots<D> {
             → LeavesOnly D.Disk (disk_of self.old) (disk_of self.new) (KeepsAll (root_of self.old) (D.may (disk_of self.old))) }
         ensures not_failed { OnOk result (has_failed self.new ≡ false) }
         ensures begun { OnOk result (has_begun self.new ≡ true) }
+        ensures begun_before { has_begun self.old ≡ true → IsOk result × (disk_of self.new ≡ disk_of self.old) }
         ensures failed { OnErr result (has_failed self.new ≡ true) }
     {
         if !self.other_open {
-            self.phase = Phase::Begun;
+            self.begun = true;
             return Ok(());
         }
         let answer = settle(&mut self.disk, self.slot.other().gate(), &closed_gate());
-        noted(&mut self.phase, answer)?;
+        noted(&mut self.failed, answer)?;
         self.other_open = false;
-        self.phase = Phase::Begun;
+        self.begun = true;
         Ok(())
     }
 
-    /// Writes a page. It isn't settled before the commit.
+    /// Writes a page, and begins a commit if none has begun. The page isn't settled before the commit.
     pub fn write(&mut self, p: u32, from: &[u8; 4096]) -> Result<(), Refusal>
+        requires not_failed { has_failed self.old ≡ false }
         requires page { 4 ≤ p }
         requires in_range { p < D.size (disk_of self.old) }
-        requires begun { has_begun self.old ≡ true }
         ensures size { D.size (disk_of self.new) ≡ D.size (disk_of self.old) }
         ensures cause { HasCause (D.failures (disk_of self.old)) (D.failures (disk_of self.new)) result }
         ensures refused { IfErr result (λ refusal. refusal ≡ Device) }
-        ensures writes { D.writes (disk_of self.new) ≡ counted (D.writes (disk_of self.old)) }
+        ensures writes { D.writes (disk_of self.new) ≤ D.writes (disk_of self.old) + (if has_begun self.old then 1 else 2) }
+        ensures one_write { has_begun self.old ≡ true → D.writes (disk_of self.new) ≡ counted (D.writes (disk_of self.old)) }
         ensures honest { D.honest (disk_of self.new) → D.honest (disk_of self.old) }
         ensures root { root_of self.new ≡ root_of self.old }
         ensures ready { D.honest (disk_of self.new) → IsReady D.Disk self.old → OnOk result (IsReady D.Disk self.new) }
         ensures written { D.honest (disk_of self.new) → OnOk result (D.seen (disk_of self.new) p ≡ from.now) }
-        ensures others { D.honest (disk_of self.new) → SameBut p (D.seen (disk_of self.old)) (D.seen (disk_of self.new)) }
+        ensures others { D.honest (disk_of self.new)
+            → OnOk result (SamePagesBut p (D.seen (disk_of self.old)) (D.seen (disk_of self.new))) }
+        ensures one_sector { D.honest (disk_of self.new) → has_begun self.old ≡ true
+            → SameBut p (D.seen (disk_of self.old)) (D.seen (disk_of self.new)) }
 
         // A stop at any moment leaves the current root, and every other page as it might have been before.
         ensures any_moment { D.honest (disk_of self.new) → IsReady D.Disk self.old
@@ -239,19 +269,21 @@ impl<D: Disk> Roots<D> {
         ensures begun { OnOk result (has_begun self.new ≡ true) }
         ensures failed { OnErr result (has_failed self.new ≡ true) }
     {
+        self.begin()?;
         let answer = self.disk.write(p, from);
-        noted(&mut self.phase, answer)
+        noted(&mut self.failed, answer)
     }
 
-    /// Makes this root the current one, with all pages as they are written: settles them and the root in the slot that
-    /// isn't current, and then opens its gate. After Ok a stop leaves nothing else.
+    /// Makes this root the current one, with all pages as they are written: begins a commit if none has begun, settles
+    /// the pages and the root in the slot that isn't current, and then opens its gate. After Ok a stop leaves nothing
+    /// else.
     pub fn commit(&mut self, root: &Root) -> Result<(), Refusal>
-        requires begun { has_begun self.old ≡ true }
+        requires not_failed { has_failed self.old ≡ false }
         requires next { root.now.number ≡ (root_of self.old).number + 1 }
         ensures size { D.size (disk_of self.new) ≡ D.size (disk_of self.old) }
         ensures cause { HasCause (D.failures (disk_of self.old)) (D.failures (disk_of self.new)) result }
         ensures refused { IfErr result (λ refusal. refusal ≡ Device) }
-        ensures writes { D.writes (disk_of self.new) ≤ D.writes (disk_of self.old) + 2 }
+        ensures writes { D.writes (disk_of self.new) ≤ D.writes (disk_of self.old) + (if has_begun self.old then 2 else 3) }
         ensures honest { D.honest (disk_of self.new) → D.honest (disk_of self.old) }
         ensures root { OnOk result (root_of self.new ≡ root.now) }
         ensures last_known { OnErr result (root_of self.new ≡ root_of self.old) }
@@ -269,13 +301,14 @@ impl<D: Disk> Roots<D> {
         ensures not_begun { OnOk result (has_begun self.new ≡ false) }
         ensures failed { OnErr result (has_failed self.new ≡ true) }
     {
+        self.begin()?;
         let slot = self.slot.other();
         let answer = fill_slot(&mut self.disk, slot, root);
-        noted(&mut self.phase, answer)?;
+        noted(&mut self.failed, answer)?;
         self.slot = slot;
         self.root = root.copy();
         self.other_open = true;
-        self.phase = Phase::Settled;
+        self.begun = false;
         Ok(())
     }
 }

@@ -1,6 +1,6 @@
 //! The two slots, each a root behind a gate.
 ghost use Rattle.std.specs.Prelude.{◌≡◌, true, false};
-ghost use Rattle.roots.specs.Slots.{is_open, gate, root_sector, other};
+ghost use Rattle.roots.specs.Slots.{is_open, closed_gate, open_gate, gate, root_sector, other};
 
 // Slot A is sectors 0 and 1, slot B is sectors 2 and 3.
 #[derive(Clone, Copy, Debug, PartialEq, Eq)]
@@ -41,16 +41,18 @@ impl Slot {
 // The first byte of an open gate, and of no other.
 const OPEN: u8 = 0xa7;
 
-#[tactic(auto, unfolding(crate::specs::Slots::is_open))]
+#[tactic(auto, unfolding(crate::specs::Slots::is_open, page_codec::specs::Numbers::zeros))]
 pub(crate) fn closed_gate() -> [u8; 4096]
-    ensures { is_open result ≡ false }
+    ensures shut { is_open result ≡ false }
+    ensures whole { result ≡ closed_gate }
 {
     [0; 4096]
 }
 
-#[tactic(auto, unfolding(crate::specs::Slots::is_open))]
+#[tactic(auto, unfolding(crate::specs::Slots::is_open, page_codec::specs::Numbers::zeros))]
 pub(crate) fn open_gate() -> [u8; 4096]
-    ensures { is_open result ≡ true }
+    ensures opened { is_open result ≡ true }
+    ensures whole { result ≡ open_gate }
 {
     let mut gate = [0; 4096];
     gate[0] = OPEN;

@@ -44,7 +44,6 @@ fn commit_next<D: Disk>(roots: &mut Roots<D>) -> Result<(), Refusal>
     if number == u64::MAX || next.number() != number + 1 {
         return Err(Refusal::Worn);
     }
-    roots.begin()?;
     roots.commit(&next)
 }
 

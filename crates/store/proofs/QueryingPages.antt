@@ -122,10 +122,10 @@ module _ {D : Type 0} (g : Ghosts D) (tree : Tree D g) (works : has_failed tree 
     placed = located_tile c tree.chart.staged present
 
     abbrev pub tile : StoredTile
-    tile = tile_in (g.seen tree.pager.roots.disk) placed.0
+    tile = tile_in (g.seen tree.roots.disk) placed.0
 
     tile_there : Contains (staged_in g tree) tile
-    tile_there = contains-map (tile_in (g.seen tree.pager.roots.disk)) tree.chart.staged placed.0 placed.1.0
+    tile_there = contains-map (tile_in (g.seen tree.roots.disk)) tree.chart.staged placed.0 placed.1.0
 
     pub tile_of : IsTileOf (staged_in g tree) c tile
     tile_of = record {

@@ -2,19 +2,19 @@ use Rattle.std.proofs.Common.{◌≡◌, All, map, take, false}
 use Rattle.charts.specs.Charts.{IsChart, IsClean}
 use Rattle.charts.specs.TileLocations.{entry_of}
 use Rattle.cow_tree.specs.Layout.{HasRecords}
-use Rattle.cow_tree.specs.Pagers.{disk_of, has_failed}
+use Rattle.roots.specs.Roots.{disk_of, has_failed}
 use Rattle.cow_tree.proofs.ReadOnly.{HasRead}
 use Rattle.cow_tree.proofs.opening.read_chart.Given as goal
 
 abbrev pub invariant-loop-entry : goal.invariant-loop-entry
 invariant-loop-entry g l = record {
-  works : has_failed l.pager ≡ false;
-  reads : HasRead g.D.Disk l.fn.pager l.pager;
+  works : has_failed l.roots ≡ false;
+  reads : HasRead g.D.Disk l.fn.roots l.roots;
   rules : IsChart l.chart;
-  sectors : l.chart.sectors ≡ g.D.Disk.size (disk_of l.fn.pager);
+  sectors : l.chart.sectors ≡ g.D.Disk.size (disk_of l.fn.roots);
   side : l.chart.side ≡ l.fn.root.side;
   capacity : l.chart.capacity ≡ l.fn.root.capacity;
   clean : IsClean l.chart;
   entries : map entry_of l.chart.committed ≡ take l.entry-index l.fn.root.entries;
-  records : g.D.Disk.honest (disk_of l.pager) → All (HasRecords l.fn.root.side (g.D.Disk.seen (disk_of l.fn.pager))) l.chart.committed;
+  records : g.D.Disk.honest (disk_of l.roots) → All (HasRecords l.fn.root.side (g.D.Disk.seen (disk_of l.fn.roots))) l.chart.committed;
 }

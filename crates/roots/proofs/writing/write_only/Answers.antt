@@ -13,7 +13,7 @@ returns-clause-formatted g c honest =
     let closed = d.seen c.write-2.new.self in
     let same : d.seen mid ≡ closed = c.in_ok-sync.ensures.durable still (d.seen mid) (g.met.D.Disk.seen_may mid still) in
     let bytes : closed 2 ≡ c.closed_gate-2.result = subst (λ (k : ℕ). closed k ≡ c.closed_gate-2.result) c.gate-2.ensures (c.in_ok-write-2.ensures.written (c.in_ok-sync.ensures.honest still)) in
-    let shut : is_open (closed 2) ≡ false = ap is_open bytes ∙ c.closed_gate-2.ensures in
+    let shut : is_open (closed 2) ≡ false = ap is_open bytes ∙ c.closed_gate-2.ensures.shut in
     on_ok_map c.fill_slot.result _ _ _ _
     (λ opened spelled others. formatted_at c.args.root.now closed (d.seen mid) (d.seen c.fill_slot.new.disk) shut same others spelled opened)
     (c.fill_slot.ensures.opened honest) (c.fill_slot.ensures.root honest) (c.fill_slot.ensures.others honest)

@@ -46,6 +46,6 @@ returns-clause-command g c old command staged =
     commits_it d old mid new command done (c.count-count.result + 1)
     (ap (λ (k : ℕ). k + 1) (c.count-count.ensures.value ∙ ap (λ (r : RootValue). r.count) c.current.ensures))
     c.commit.ensures.size c.commit.ensures.cause.later c.commit.ensures.honest c.commit.ensures.any_moment c.in_ok-commit.ensures.not_failed c.commit.ensures.side c.commit.ensures.capacity
-    c.in_ok-commit.ensures.count c.in_ok-commit.ensures.number (g.met.D.Disk.seen_may new.pager.roots.disk)
+    c.in_ok-commit.ensures.count c.in_ok-commit.ensures.number (g.met.D.Disk.seen_may new.roots.disk)
     (subst (λ (answer : Result (Unit {0}) Refusal). OnOk answer ((root_of mid).number + 1 < 2 ^ 64)) c.in_default.is c.requires.number)
     c.in_ok-commit.ensures.at c.in_ok-commit.ensures.staged

@@ -53,7 +53,7 @@ pub returns-clause-samples : goal.returns-clause-samples
 returns-clause-samples g c readable =
     let old = c.args.self.now in
     let was = was_readable g.D.Disk old c.loop-done.self c.loop-done.invariant.reads readable in
-    let seen = g.D.Disk.seen old.pager.roots.disk in
+    let seen = g.D.Disk.seen old.roots.disk in
     let found = located_tile c.args.c old.chart.staged c.requires.present in
     let among = contains-map (tile_in seen) old.chart.staged found.0 found.1.0 in
     let t : StoredTile = tile_in seen found.0 in

@@ -16,7 +16,7 @@ returns-clause-corners g c =
 
 pub returns-clause-staged : goal.returns-clause-staged
 returns-clause-staged g c =
-    let seen = g.D.Disk.seen c.args.self.now.pager.roots.disk in
+    let seen = g.D.Disk.seen c.args.self.now.roots.disk in
     ap (λ (x : ChartValue). map (tile_in seen) x.staged) c.remove_tile.ensures.removed
     ∙ filter-map (λ (t : StoredTile). not (same_corner t.corner c.args.c)) (tile_in seen) c.args.self.now.chart.staged
 
@@ -26,9 +26,9 @@ returns-clause-at g c s is =
     let removed = c.remove_tile.ensures.removed in
     record {
       ready = is.ready;
-      each = λ image may. subst (λ (tiles : List TileLocation). StoresAt (g.D.Disk.size old.pager.roots.disk) old.pager.roots.root tiles s image) (sym (ap (λ (x : ChartValue). x.committed) removed)) (is.each image may);
-      staged = subst (λ (x : ChartValue). AreStaged old.root.side x.committed x.staged (g.D.Disk.seen old.pager.roots.disk)) (sym removed)
-          (staged_without old.root.side old.chart.committed old.chart.staged c.args.c (g.D.Disk.seen old.pager.roots.disk) is.staged);
+      each = λ image may. subst (λ (tiles : List TileLocation). StoresAt (g.D.Disk.size old.roots.disk) old.roots.root tiles s image) (sym (ap (λ (x : ChartValue). x.committed) removed)) (is.each image may);
+      staged = subst (λ (x : ChartValue). AreStaged old.root.side x.committed x.staged (g.D.Disk.seen old.roots.disk)) (sym removed)
+          (staged_without old.root.side old.chart.committed old.chart.staged c.args.c (g.D.Disk.seen old.roots.disk) is.staged);
     }
 
 pub returns-clause-due : goal.returns-clause-due

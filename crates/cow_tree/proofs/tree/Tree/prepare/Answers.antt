@@ -19,7 +19,7 @@ returns-clause-corners g c =
 pub returns-clause-staged : goal.returns-clause-staged
 returns-clause-staged g c =
     let old = c.args.self.now.chart in
-    let seen = g.D.Disk.seen c.args.self.now.pager.roots.disk in
+    let seen = g.D.Disk.seen c.args.self.now.roots.disk in
     let tiles = λ (x : ChartValue). map (tile_in seen) x.staged in
     either_way c.prepare.result c.prepare.ensures.prepared c.prepare.ensures.unchanged
     (λ prepared. ap tiles prepared.changed ∙ prepared_tiles c.args.c prepared.record_page seen old.staged)
@@ -53,12 +53,12 @@ returns-clause-still_staged g c other had =
 pub returns-clause-at : goal.returns-clause-at
 returns-clause-at g c s is =
     let old = c.args.self.now in
-    let seen = g.D.Disk.seen old.pager.roots.disk in
+    let seen = g.D.Disk.seen old.roots.disk in
     let committed : c.prepare.new.self.committed ≡ old.chart.committed =
     either_way c.prepare.result c.prepare.ensures.prepared c.prepare.ensures.unchanged (λ prepared. ap (λ (x : ChartValue). x.committed) prepared.changed) (λ same. ap (λ (x : ChartValue). x.committed) same) in
     record {
       ready = is.ready;
-      each = λ image may. subst (λ (tiles : List TileLocation). StoresAt (g.D.Disk.size old.pager.roots.disk) old.pager.roots.root tiles s image) (sym committed) (is.each image may);
+      each = λ image may. subst (λ (tiles : List TileLocation). StoresAt (g.D.Disk.size old.roots.disk) old.roots.root tiles s image) (sym committed) (is.each image may);
       staged = either_way c.prepare.result c.prepare.ensures.prepared c.prepare.ensures.unchanged
           (λ prepared. still_prepared old.root.side old.chart c.prepare.new.self c.args.c seen prepared is.staged)
           (λ same. subst (λ (x : ChartValue). AreStaged old.root.side x.committed x.staged seen) (sym same) is.staged);

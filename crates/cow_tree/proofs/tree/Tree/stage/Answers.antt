@@ -18,8 +18,8 @@ returns-clause-staged g c honest s is =
     let rw = c.in_ok-number.ensures.written in
     let index : c.args.i < pages_of old.chart.side = subst (λ (n : ℕ). c.args.i < pages_of n) (sym old.side) c.requires.index in
     on_ok_both c.write.result
-    (stage_pages old.chart c.page_for_writing.new.self c.args.c c.args.i c.in_ok-number.number c.args.page.now (d.seen old.pager.roots.disk) (d.seen c.write.new.self.roots.disk) c.rules.ensures c.in_ok-number.ensures.rules rw c.requires.present index)
-    (c.write.ensures.others honest is.ready) (c.write.ensures.written honest)
+    (stage_pages old.chart c.page_for_writing.new.self c.args.c c.args.i c.in_ok-number.number c.args.page.now (d.seen old.roots.disk) (d.seen c.write.new.self.disk) c.rules.ensures c.in_ok-number.ensures.rules rw c.requires.present index)
+    (c.write.ensures.others honest) (c.write.ensures.written honest)
 
 pub returns-clause-at : goal.returns-clause-at
 returns-clause-at g c honest s is works =
@@ -31,15 +31,15 @@ returns-clause-at g c honest s is works =
     let failed = c.write.ensures.failed in
     record {
       ready = ok_where_works c.write.result c.write.new.self.failed failed works (c.write.ensures.ready honest is.ready);
-      each = λ image may. stores_along (d.size old.pager.roots.disk) (d.size c.write.new.self.roots.disk) old.pager.roots.root c.write.new.self.roots.root old.chart.committed new_chart.committed s image
+      each = λ image may. stores_along (d.size old.roots.disk) (d.size c.write.new.self.disk) old.roots.root c.write.new.self.root old.chart.committed new_chart.committed s image
           c.write.ensures.size c.write.ensures.root (ap (λ (chart : ChartValue). chart.committed) rw.changed)
-          (each_still d old.pager.roots.disk c.write.new.self.roots.disk c.in_ok-number.number (d.size old.pager.roots.disk) old.pager.roots.root old.chart.committed s is.each
-          (page_unreached old.chart new_chart c.args.c c.args.i c.in_ok-number.number c.args.page.now (d.seen old.pager.roots.disk) (d.seen c.write.new.self.roots.disk) c.rules.ensures c.in_ok-number.ensures.rules rw)
+          (each_still d old.roots.disk c.write.new.self.disk c.in_ok-number.number (d.size old.roots.disk) old.roots.root old.chart.committed s is.each
+          (page_unreached old.chart new_chart c.args.c c.args.i c.in_ok-number.number c.args.page.now (d.seen old.roots.disk) (d.seen c.write.new.self.disk) c.rules.ensures c.in_ok-number.ensures.rules rw)
           (c.write.ensures.any_moment honest is.ready) image may);
       staged = ok_where_works c.write.result c.write.new.self.failed failed works
           (on_ok_both c.write.result
-          (λ same written. stage_stays old.chart new_chart c.args.c c.args.i c.in_ok-number.number c.args.page.now (d.seen old.pager.roots.disk) (d.seen c.write.new.self.roots.disk) c.rules.ensures c.in_ok-number.ensures.rules rw old.root.side c.requires.present index same written is.staged)
-          (c.write.ensures.others honest is.ready) (c.write.ensures.written honest));
+          (λ same written. stage_stays old.chart new_chart c.args.c c.args.i c.in_ok-number.number c.args.page.now (d.seen old.roots.disk) (d.seen c.write.new.self.disk) c.rules.ensures c.in_ok-number.ensures.rules rw old.root.side c.requires.present index same written is.staged)
+          (c.write.ensures.others honest) (c.write.ensures.written honest));
     }
 
 pub returns-clause-any_moment : goal.returns-clause-any_moment
@@ -47,8 +47,8 @@ returns-clause-any_moment g c honest s is =
     let d = g.D.Disk in
     let old = c.args.self.now in
     let rw = c.in_ok-number.ensures.written in
-    still_stands d old.pager.roots.disk c.write.new.self.roots.disk c.in_ok-number.number (d.size old.pager.roots.disk) old.pager.roots.root old.chart.committed s is.each
-    (page_unreached old.chart c.page_for_writing.new.self c.args.c c.args.i c.in_ok-number.number c.args.page.now (d.seen old.pager.roots.disk) (d.seen c.write.new.self.roots.disk) c.rules.ensures c.in_ok-number.ensures.rules rw)
+    still_stands d old.roots.disk c.write.new.self.disk c.in_ok-number.number (d.size old.roots.disk) old.roots.root old.chart.committed s is.each
+    (page_unreached old.chart c.page_for_writing.new.self c.args.c c.args.i c.in_ok-number.number c.args.page.now (d.seen old.roots.disk) (d.seen c.write.new.self.disk) c.rules.ensures c.in_ok-number.ensures.rules rw)
     (c.write.ensures.any_moment honest is.ready)
 
 pub returns-in_err-number-clause-sure : goal.returns-in_err-number-clause-sure

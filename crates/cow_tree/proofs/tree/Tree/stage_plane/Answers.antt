@@ -1,6 +1,7 @@
 use Rattle.std.proofs.Common.{◌≡◌, ℕ, ◌≤◌, ◌<◌, List, All, Contains, length, map, sym, ap, ◌∙◌, subst}
+use Rattle.disk.specs.Disk.{Image}
 use Rattle.disk.specs.Stops.{weaker}
-use Rattle.charts.specs.Charts.{ChartValue}
+use Rattle.charts.specs.Charts.{ChartValue, IsAdded}
 use Rattle.charts.specs.TileLocations.{reached}
 use Rattle.cow_tree.specs.Layout.{StoresAt, Stands}
 use Rattle.charts.specs.Locations.{times}
@@ -9,97 +10,90 @@ use Rattle.cow_tree.proofs.Adding.{added_located, pages_low, pages_high, pages_u
 use Rattle.cow_tree.proofs.Due.{added_corners, added_due, added_here}
 use Rattle.cow_tree.proofs.Steps.{stands, stores_along, ok_where_works, on_ok, on_ok_both, ok_where, failed_where}
 use Rattle.cow_tree.proofs.tree.Tree.stage_plane.Goals as goal
+use Rattle.cow_tree.proofs.tree.Tree.stage_plane.Goals.{After-pages}
+
+-- the pages of the new tile's heights
+module _ (g : _) (c : After-pages g) where
+  abbrev old : ChartValue
+  old = c.args.self.now.chart
+
+  abbrev new : ChartValue
+  new = c.tile_for_writing.new.self
+
+  added : IsAdded c.args.c old new
+  added = c.in_ok-tile_for_writing.ensures.added
+
+  low : All (λ p. 4 ≤ p) c.pages.result.now
+  low = subst (All (λ p. 4 ≤ p)) (sym c.pages.ensures) (pages_low old new c.args.c c.in_ok-tile_for_writing.ensures.rules added c.in-Some.plane.now c.in-Some.ensures.found)
+
+  high : All (λ p. p < g.D.Disk.size c.args.self.now.roots.disk) c.pages.result.now
+  high =
+      subst (λ (n : ℕ). All (λ p. p < n) c.pages.result.now) (ap (λ (x : ChartValue). x.sectors) added.changed ∙ c.args.self.now.sectors)
+      (subst (All (λ p. p < new.sectors)) (sym c.pages.ensures) (pages_high old new c.args.c c.in_ok-tile_for_writing.ensures.rules added c.in-Some.plane.now c.in-Some.ensures.found))
+
+  once : (p : ℕ) → times p c.pages.result.now ≤ 1
+  once = subst (λ (pages : List ℕ). (p : ℕ) → times p pages ≤ 1) (sym c.pages.ensures) (pages_once old new c.args.c c.in_ok-tile_for_writing.ensures.rules added c.in-Some.plane.now c.in-Some.ensures.found)
+
+  unreached : All (λ p. ¬ Contains (reached old.committed) p) c.pages.result.now
+  unreached = subst (All (λ p. ¬ Contains (reached old.committed) p)) (sym c.pages.ensures) (pages_unreached old new c.args.c c.in_ok-tile_for_writing.ensures.rules added c.in-Some.plane.now c.in-Some.ensures.found)
 
 pub write_plane-requires-clause-low : goal.write_plane-requires-clause-low
-write_plane-requires-clause-low g c =
-    let old = c.args.self.now in
-    let added = c.in_ok-tile_for_writing.ensures.added in
-    let rules = c.in_ok-tile_for_writing.ensures.rules in
-    let chart = c.tile_for_writing.new.self in
-    let plane = c.in-Some.plane.now in
-    let had = c.in-Some.ensures.found in
-    subst (All (λ p. 4 ≤ p)) (sym c.pages.ensures) (pages_low old.chart chart c.args.c rules added plane had)
+write_plane-requires-clause-low g c = low g (goal.at.write_plane-requires-clause-low g c).After-pages
 
 pub write_plane-requires-clause-high : goal.write_plane-requires-clause-high
-write_plane-requires-clause-high g c =
-    let old = c.args.self.now in
-    let added = c.in_ok-tile_for_writing.ensures.added in
-    let rules = c.in_ok-tile_for_writing.ensures.rules in
-    let chart = c.tile_for_writing.new.self in
-    let plane = c.in-Some.plane.now in
-    let had = c.in-Some.ensures.found in
-    subst (λ (n : ℕ). All (λ p. p < n) c.pages.result.now) (ap (λ (x : ChartValue). x.sectors) added.changed ∙ old.sectors)
-    (subst (All (λ p. p < chart.sectors)) (sym c.pages.ensures) (pages_high old.chart chart c.args.c rules added plane had))
+write_plane-requires-clause-high g c = high g (goal.at.write_plane-requires-clause-high g c).After-pages
 
 pub write_plane-requires-clause-distinct : goal.write_plane-requires-clause-distinct
-write_plane-requires-clause-distinct g c =
-    let old = c.args.self.now in
-    let added = c.in_ok-tile_for_writing.ensures.added in
-    let rules = c.in_ok-tile_for_writing.ensures.rules in
-    let chart = c.tile_for_writing.new.self in
-    let plane = c.in-Some.plane.now in
-    let had = c.in-Some.ensures.found in
-    subst (λ (pages : List ℕ). (p : ℕ) → times p pages ≤ 1) (sym c.pages.ensures) (pages_once old.chart chart c.args.c rules added plane had)
+write_plane-requires-clause-distinct g c = once g (goal.at.write_plane-requires-clause-distinct g c).After-pages
 
 pub unreachable-requires : goal.unreachable-requires
 unreachable-requires g c =
     let none = c.in-None.ensures.present.1 (added_located c.args.self.now.chart c.tile_for_writing.new.self c.args.c c.in_ok-tile_for_writing.ensures.rules c.in_ok-tile_for_writing.ensures.added) in
     cc
 
+-- what the disk holds once they are written
+abbrev SameElsewhere : List ℕ → Image → Image → Type 0
+SameElsewhere pages a b = (p : ℕ) → 4 ≤ p → ¬ Contains pages p → a p ≡ b p
+
 pub returns-clause-staged : goal.returns-clause-staged
 returns-clause-staged g c honest s is =
-    let old = c.args.self.now in
-    let added = c.in_ok-tile_for_writing.ensures.added in
-    let rules = c.in_ok-tile_for_writing.ensures.rules in
-    let chart = c.tile_for_writing.new.self in
-    let plane = c.in-Some.plane.now in
-    let had = c.in-Some.ensures.found in
-    let d = g.D.Disk in
-    let pages_is = c.pages.ensures in
+    let here = (goal.at.returns-clause-staged g c).After-pages in
+    let before = c.args.self.now in
+    let a = g.D.Disk.seen before.roots.disk in
+    let b = g.D.Disk.seen c.write_plane.new.roots.disk in
     on_ok_both c.write_plane.result
-    (λ wrote others. plane_staged old.chart chart c.args.c rules added plane had (d.seen old.pager.roots.disk) (d.seen c.write_plane.new.pager.roots.disk) c.args.bytes.now
-    (subst (λ (pages : List ℕ). (p : ℕ) → 4 ≤ p → ¬ Contains pages p → d.seen old.pager.roots.disk p ≡ d.seen c.write_plane.new.pager.roots.disk p) pages_is others) old.root.side old.side
-    (subst (λ (pages : List ℕ). map (d.seen c.write_plane.new.pager.roots.disk) pages ≡ pages_of_bytes (length pages) c.args.bytes.now) pages_is wrote))
-    (c.write_plane.ensures.written honest is.ready) (c.write_plane.ensures.others honest is.ready)
+    (λ wrote others. plane_staged (old g here) (new g here) c.args.c c.in_ok-tile_for_writing.ensures.rules (added g here) c.in-Some.plane.now c.in-Some.ensures.found a b c.args.bytes.now
+    (subst (λ (pages : List ℕ). SameElsewhere pages a b) c.pages.ensures others) before.root.side before.side
+    (subst (λ (pages : List ℕ). map b pages ≡ pages_of_bytes (length pages) c.args.bytes.now) c.pages.ensures wrote))
+    (c.write_plane.ensures.written honest) (c.write_plane.ensures.others honest)
 
 pub returns-clause-at : goal.returns-clause-at
 returns-clause-at g c honest s is works =
-    let old = c.args.self.now in
-    let added = c.in_ok-tile_for_writing.ensures.added in
-    let rules = c.in_ok-tile_for_writing.ensures.rules in
-    let chart = c.tile_for_writing.new.self in
-    let plane = c.in-Some.plane.now in
-    let had = c.in-Some.ensures.found in
+    let here = (goal.at.returns-clause-at g c).After-pages in
     let d = g.D.Disk in
-    let new = c.write_plane.new.pager in
-    let failed = c.write_plane.ensures.failed in
-    let none = subst (All (λ p. ¬ Contains (reached old.chart.committed) p)) (sym c.pages.ensures) (pages_unreached old.chart chart c.args.c rules added plane had) in
+    let before = c.args.self.now in
+    let roots = c.write_plane.new.roots in
+    let written = c.write_plane.ensures in
     record {
-      ready = ok_where_works c.write_plane.result new.failed failed works (c.write_plane.ensures.ready honest is.ready);
-      each = λ image may. stores_along (d.size old.pager.roots.disk) (d.size new.roots.disk) old.pager.roots.root new.roots.root old.chart.committed chart.committed s image
-          c.write_plane.ensures.size c.write_plane.ensures.root (ap (λ (x : ChartValue). x.committed) added.changed)
-          ((c.write_plane.ensures.any_moment honest is.ready old.chart.committed s is.each none).now image may);
-      staged = ok_where_works c.write_plane.result new.failed failed works
+      ready = ok_where_works c.write_plane.result roots.failed written.failed works (written.ready honest is.ready);
+      each = λ image may. stores_along (d.size before.roots.disk) (d.size roots.disk) before.roots.root roots.root before.chart.committed (new g here).committed s image
+          written.size written.root (ap (λ (x : ChartValue). x.committed) (added g here).changed)
+          ((written.any_moment honest is.ready before.chart.committed s is.each (unreached g here)).now image may);
+      staged = ok_where_works c.write_plane.result roots.failed written.failed works
           (on_ok c.write_plane.result
-          (λ others. plane_stays old.chart chart c.args.c rules added plane had (d.seen old.pager.roots.disk) (d.seen new.roots.disk) c.args.bytes.now
-          (subst (λ (pages : List ℕ). (p : ℕ) → 4 ≤ p → ¬ Contains pages p → d.seen old.pager.roots.disk p ≡ d.seen new.roots.disk p) c.pages.ensures others) old.root.side is.staged)
-          (c.write_plane.ensures.others honest is.ready));
+          (λ others. plane_stays (old g here) (new g here) c.args.c c.in_ok-tile_for_writing.ensures.rules (added g here) c.in-Some.plane.now c.in-Some.ensures.found (d.seen before.roots.disk) (d.seen roots.disk) c.args.bytes.now
+          (subst (λ (pages : List ℕ). SameElsewhere pages (d.seen before.roots.disk) (d.seen roots.disk)) c.pages.ensures others) before.root.side is.staged)
+          (written.others honest));
     }
 
 pub returns-clause-any_moment : goal.returns-clause-any_moment
 returns-clause-any_moment g c honest s is =
-    let old = c.args.self.now in
-    let added = c.in_ok-tile_for_writing.ensures.added in
-    let rules = c.in_ok-tile_for_writing.ensures.rules in
-    let chart = c.tile_for_writing.new.self in
-    let plane = c.in-Some.plane.now in
-    let had = c.in-Some.ensures.found in
     let d = g.D.Disk in
-    let size = d.size old.pager.roots.disk in
-    let none = subst (All (λ p. ¬ Contains (reached old.chart.committed) p)) (sym c.pages.ensures) (pages_unreached old.chart chart c.args.c rules added plane had) in
-    weaker d old.pager.roots.disk c.write_plane.new.pager.roots.disk (StoresAt size old.pager.roots.root old.chart.committed s) (λ image. Stands size image s)
-    (λ image stores. stands size old.pager.roots.root old.chart.committed s image stores)
-    (c.write_plane.ensures.any_moment honest is.ready old.chart.committed s is.each none)
+    let before = c.args.self.now in
+    let size = d.size before.roots.disk in
+    weaker d before.roots.disk c.write_plane.new.roots.disk (StoresAt size before.roots.root before.chart.committed s) (λ image. Stands size image s)
+    (λ image stores. stands size before.roots.root before.chart.committed s image stores)
+    (c.write_plane.ensures.any_moment honest is.ready before.chart.committed s is.each (unreached g (goal.at.returns-clause-any_moment g c).After-pages))
 
 pub returns-clause-device : goal.returns-clause-device
 returns-clause-device g c = failed_where c.write_plane.result _ c.write_plane.ensures.failed

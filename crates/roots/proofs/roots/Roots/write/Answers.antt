@@ -1,20 +1,42 @@
-use Rattle.std.proofs.Common.{refl}
+use Rattle.std.proofs.Common.{refl, subst}
 use Rattle.disk.specs.Disk.{Image, TornAt}
-use Rattle.disk.specs.Stops.{by_call}
+use Rattle.disk.specs.Stops.{LeavesOnly, by_call}
+use Rattle.page_codec.specs.Roots.{RootValue}
 use Rattle.roots.specs.Slots.{KeepsBut}
-use Rattle.roots.proofs.Turns.{page_torn}
+use Rattle.roots.proofs.Begun.{begun_for_page, then_written}
+use Rattle.roots.proofs.Answered.{noted_works}
+use Rattle.roots.proofs.Turns.{page_torn, page_kept}
 use Rattle.roots.proofs.roots.Roots.write.Goals as goal
+
+pub returns-in_err-begin-clause-any_moment : goal.returns-in_err-begin-clause-any_moment
+returns-in_err-begin-clause-any_moment g c honest ready =
+    begun_for_page g.D.Disk c.args.self.now.disk c.begin.new.self.disk c.args.self.now.root (c.begin.ensures.any_moment honest ready) c.args.p
 
 pub returns-clause-any_moment : goal.returns-clause-any_moment
 returns-clause-any_moment g c honest ready =
     let d = g.D.Disk in
-    let roots = c.args.self.now in
-    let old = roots.disk in
-    let P : Image → Type 0 = KeepsBut c.args.p roots.root (d.may old) in
-    let torn_leaves : (i : Image) → TornAt c.args.p (d.may old) i → P i = λ i torn.
-    ((roots.slot, page_torn roots.slot roots.root c.args.p torn.0 i c.requires.page torn.2 (ready.each torn.0 torn.1).current), (torn.0, torn.1, λ k le other. torn.2 k other)) in
-    by_call d old c.write-answer.new.self P (TornAt c.args.p (d.may old))
-    (λ i left. let may = g.met.D.Disk.only_now old i (c.write-answer.ensures.honest honest) left in ((roots.slot, (ready.each i may).current), (i, may, λ k le other. refl)))
+    let p = c.args.p in
+    let mid = c.begin.new.self in
+    let mid_honest = c.write-answer.ensures.honest honest in
+    let begun = c.in_ok-begin.ensures.ready mid_honest ready in
+    let P : Image → Type 0 = KeepsBut p mid.root (d.may mid.disk) in
+    let torn_leaves : (i : Image) → TornAt p (d.may mid.disk) i → P i = λ i torn.
+    ((mid.slot, page_torn mid.slot mid.root p torn.0 i c.requires.page torn.2 (begun.each torn.0 torn.1).current), (torn.0, torn.1, λ k le other. torn.2 k other)) in
+    let second : LeavesOnly d mid.disk c.write-answer.new.self P = by_call d mid.disk c.write-answer.new.self P (TornAt p (d.may mid.disk))
+    (λ i left. let may = g.met.D.Disk.only_now mid.disk i mid_honest left in ((mid.slot, (begun.each i may).current), (i, may, λ k le other. refl)))
     torn_leaves
     (λ i may. torn_leaves i (c.write-answer.ensures.may honest i may))
-    (c.write-answer.ensures.time honest)
+    (c.write-answer.ensures.time honest) in
+    then_written d c.args.self.now.disk mid.disk c.args.self.now.root (c.begin.ensures.any_moment mid_honest ready) c.write-answer.new.self p
+    (subst (λ (root : RootValue). LeavesOnly d mid.disk c.write-answer.new.self (KeepsBut p root (d.may mid.disk))) c.begin.ensures.root second)
+
+pub returns-clause-ready : goal.returns-clause-ready
+returns-clause-ready g c honest ready =
+    let d = g.D.Disk in
+    let mid = c.begin.new.self in
+    let begun = c.in_ok-begin.ensures.ready (c.write-answer.ensures.honest honest) ready in
+    noted_works c.write-answer.result c.noted.result mid.failed c.noted.new.failed _ c.noted.ensures begun.works
+    (λ works. record {
+      works = works;
+      each = λ i may. let torn = c.write-answer.ensures.may honest i may in page_kept mid.slot mid.other_open mid.root c.args.p torn.0 i c.requires.page torn.2 (begun.each torn.0 torn.1);
+    })

@@ -95,10 +95,10 @@ returns-clause-writes g c =
     let mid = c.stage_changes-staged.new.tree in
     let none = c.in_ok-changes.ensures.clean c.in_ok-changes.ensures.reads.works (c.args.self.now.clean c.requires.not_failed) in
     let stages = c.stage_changes-staged.ensures in
-    staged_written c.stage_changes-staged.result c.args.command.now (vec_len c.in_ok-changes.changes) (records_due mid) (d.writes old.pager.roots.disk) (d.writes mid.pager.roots.disk)
-    (d.writes c.commit_staged.new.tree.pager.roots.disk) (has_begun planned) (has_begun mid) c.in_ok-changes.ensures.few
-    (subst (λ (n : ℕ). d.writes mid.pager.roots.disk ≤ n + (if has_begun planned then 0 else 1) + vec_len c.in_ok-changes.changes) c.in_ok-changes.ensures.writes
-    (subst (λ (k : ℕ). d.writes mid.pager.roots.disk ≤ d.writes planned.pager.roots.disk + (if has_begun planned then 0 else 1) + k) c.deref.ensures.len stages.writes))
+    staged_written c.stage_changes-staged.result c.args.command.now (vec_len c.in_ok-changes.changes) (records_due mid) (d.writes old.roots.disk) (d.writes mid.roots.disk)
+    (d.writes c.commit_staged.new.tree.roots.disk) (has_begun planned) (has_begun mid) c.in_ok-changes.ensures.few
+    (subst (λ (n : ℕ). d.writes mid.roots.disk ≤ n + (if has_begun planned then 0 else 1) + vec_len c.in_ok-changes.changes) c.in_ok-changes.ensures.writes
+    (subst (λ (k : ℕ). d.writes mid.roots.disk ≤ d.writes planned.roots.disk + (if has_begun planned then 0 else 1) + k) c.deref.ensures.len stages.writes))
     (on_ok c.stage_changes-staged.result (λ few. let same = c.in_ok-changes.ensures.writes in let len = c.deref.ensures.len in omega (arith, few, same, len)) stages.pages)
     (on_ok c.stage_changes-staged.result (λ few. let clean = none.none_due in let len = c.deref.ensures.len in omega (arith, few, clean, len)) stages.due)
     c.commit_staged.ensures.writes c.commit_staged.ensures.unwritten

@@ -20,22 +20,22 @@ returns-clause-at g c honest s at =
     let d = g.D.Disk in
     let old = c.args.self.now.tree in
     let new = c.reopen.new.self in
-    let seen = d.seen old.pager.roots.disk in
+    let seen = d.seen old.roots.disk in
     let was_honest = (c.reopen.ensures.nothing honest).honest in
     on_ok_weaker c.reopen.result
-    (λ is. in_known d new is.0 is.1.1.0 is.1.1.1 (g.met.D.Disk.seen_may new.pager.roots.disk honest) old.root.side old.root.capacity (d.size old.pager.roots.disk) seen s is.1.0
-    (at.images seen (g.met.D.Disk.seen_may old.pager.roots.disk was_honest)))
+    (λ is. in_known d new is.0 is.1.1.0 is.1.1.1 (g.met.D.Disk.seen_may new.roots.disk honest) old.root.side old.root.capacity (d.size old.roots.disk) seen s is.1.0
+    (at.images seen (g.met.D.Disk.seen_may old.roots.disk was_honest)))
     (c.reopen.ensures.at honest)
 
 pub returns-clause-sure : goal.returns-clause-sure
 returns-clause-sure g c honest s at =
     let d = g.D.Disk in
     let old = c.args.self.now.tree in
-    let seen = d.seen old.pager.roots.disk in
-    let n = d.size old.pager.roots.disk in
+    let seen = d.seen old.roots.disk in
+    let n = d.size old.roots.disk in
     let was_honest = (c.reopen.ensures.nothing honest).honest in
     IfErr-weaker c.reopen.result _ _
-    (λ why refused. ⊎_elim (λ is. refused_for n seen is.0 why is.1 refused) (λ is. refused_for n seen is.2.0 why is.2.1 refused) (at.images seen (g.met.D.Disk.seen_may old.pager.roots.disk was_honest)))
+    (λ why refused. ⊎_elim (λ is. refused_for n seen is.0 why is.1 refused) (λ is. refused_for n seen is.2.0 why is.2.1 refused) (at.images seen (g.met.D.Disk.seen_may old.roots.disk was_honest)))
     (c.reopen.ensures.refused honest)
 
 pub returns-clause-side : goal.returns-clause-side
@@ -43,19 +43,19 @@ returns-clause-side g c honest s at =
     let d = g.D.Disk in
     let old = c.args.self.now.tree in
     let new = c.reopen.new.self in
-    let seen = d.seen old.pager.roots.disk in
+    let seen = d.seen old.roots.disk in
     let was_honest = (c.reopen.ensures.nothing honest).honest in
     either_way c.reopen.result (c.reopen.ensures.at honest) c.reopen.ensures.last_known
-    (λ is. (sized_as_known d new is.0 is.1.1.0 is.1.1.1 (g.met.D.Disk.seen_may new.pager.roots.disk honest) old.root.side old.root.capacity (d.size old.pager.roots.disk) seen s is.1.0
-    (at.images seen (g.met.D.Disk.seen_may old.pager.roots.disk was_honest))).0) (ap (λ (r : RootValue). r.side))
+    (λ is. (sized_as_known d new is.0 is.1.1.0 is.1.1.1 (g.met.D.Disk.seen_may new.roots.disk honest) old.root.side old.root.capacity (d.size old.roots.disk) seen s is.1.0
+    (at.images seen (g.met.D.Disk.seen_may old.roots.disk was_honest))).0) (ap (λ (r : RootValue). r.side))
 
 pub returns-clause-capacity : goal.returns-clause-capacity
 returns-clause-capacity g c honest s at =
     let d = g.D.Disk in
     let old = c.args.self.now.tree in
     let new = c.reopen.new.self in
-    let seen = d.seen old.pager.roots.disk in
+    let seen = d.seen old.roots.disk in
     let was_honest = (c.reopen.ensures.nothing honest).honest in
     either_way c.reopen.result (c.reopen.ensures.at honest) c.reopen.ensures.last_known
-    (λ is. (sized_as_known d new is.0 is.1.1.0 is.1.1.1 (g.met.D.Disk.seen_may new.pager.roots.disk honest) old.root.side old.root.capacity (d.size old.pager.roots.disk) seen s is.1.0
-    (at.images seen (g.met.D.Disk.seen_may old.pager.roots.disk was_honest))).1) (ap (λ (r : RootValue). r.capacity))
+    (λ is. (sized_as_known d new is.0 is.1.1.0 is.1.1.1 (g.met.D.Disk.seen_may new.roots.disk honest) old.root.side old.root.capacity (d.size old.roots.disk) seen s is.1.0
+    (at.images seen (g.met.D.Disk.seen_may old.roots.disk was_honest))).1) (ap (λ (r : RootValue). r.capacity))
