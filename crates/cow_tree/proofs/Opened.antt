@@ -19,6 +19,8 @@ use Rattle.cow_tree.specs.Layout.{stored_in, tile_in, HasRecords, IsLaidOut, Sto
 use Rattle.cow_tree.specs.OverRoots.{IsRefusedFor}
 use Rattle.cow_tree.specs.Staged.{AreStaged}
 use Rattle.cow_tree.specs.Stored.{Stored, no_tiles}
+use Rattle.page_codec.specs.Formats.{IsFormat, format_1}
+use Rattle.page_codec.specs.Sinks.{IsSink}
 use Rattle.roots.proofs.OneAnswer.{one_is_current, stores_open, only_root}
 use Rattle.cow_tree.specs.Trees.{IsAt, staged_in, MayRefuse}
 use Rattle.cow_tree.specs.declared.tree.Tree.{Tree}
@@ -122,12 +124,13 @@ formatted side capacity _ = []
 pub no_tiles_stand : NoTilesStand
 unfolding is_open
 no_tiles_stand sectors side capacity side_low side_high capacity_low capacity_high room =
-    let numbers : AreNumbers side capacity 0 1 0 = record { side_low = side_low; side_high = side_high; capacity_low = capacity_low; capacity_high = capacity_high; room = omega arith; fits = lit< tt; before = omega arith } in
+    let format : IsFormat (format_1 side capacity) = record { side_low = side_low; side_high = side_high; capacity_low = capacity_low; capacity_high = capacity_high } in
+    let numbers : AreNumbers (format_1 side capacity) 0 1 0 0 = record { format = format; known = omega arith; room = omega arith; fits = lit< tt; before = omega arith; few = omega arith } in
     let current : IsCurrent (empty_root side capacity) (formatted side capacity) = (
       A,
       record {
         opened = refl;
-        here = record { rules = record { numbers = numbers; entries = All-nil IsEntry; in_order = λ k d below. absurd (omega arith) }; spelled = refl };
+        here = record { rules = record { numbers = numbers; entries = All-nil IsEntry; in_order = λ k d below. absurd (omega arith); sinks = All-nil (IsSink side); sinks_in_order = λ k d below. absurd (omega arith) }; spelled = refl };
         greatest = λ opened. absurd (false≢true opened);
       },
     ) in

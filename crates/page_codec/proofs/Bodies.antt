@@ -1,17 +1,23 @@
 -- A root behind its version: what the parts of its bytes spell, and that bytes spell one root only.
-use Rattle.std.proofs.Common.{◌≡◌, ℕ, ◌-◌, ◌*◌, ◌^◌, ◌<◌, true, List, ◌++◌, length, refl, sym, ap, ◌∙◌, arith}
+use Rattle.std.proofs.Common.{◌≡◌, ℕ, ◌+◌, ◌^◌, ◌<◌, ◌≤◌, true, List, ◌++◌, length, take, drop, refl, sym, ap, subst, ◌∙◌, arith}
 use Rattle.std.specs.Prelude.{All}
 use Rattle.std.specs.List.{flat_map}
-use Rattle.std.proofs.lemmas.List.{length-append}
+use Rattle.std.proofs.lemmas.List.{length-append, length-take, take-append-drop}
+use Rattle.lattice.specs.declared.point.Point.{Point}
+use Rattle.page_codec.specs.declared.version.Version.{Version}
+use Rattle.page_codec.specs.declared.version.Version.TheVariants.{One, Two}
 use Rattle.page_codec.specs.Numbers.{zeros, padded, is_all_zero}
+use Rattle.page_codec.specs.Formats.{Format, IsFormat, largest_side_of}
 use Rattle.page_codec.specs.Entries.{EntryValue, IsEntry, entry_bytes}
-use Rattle.page_codec.specs.Roots.{RootValue, AreNumbers, AreInOrder, IsRoot}
+use Rattle.page_codec.specs.Sinks.{IsSink, AreSinksInOrder, sink_bytes}
+use Rattle.page_codec.specs.Roots.{RootValue, format_of, AreNumbers, AreInOrder, IsRoot}
 use Rattle.page_codec.specs.declared.header.Header.{Header}
 use Rattle.page_codec.specs.Headers.{number_bytes, body_bytes}
 use Rattle.page_codec.proofs.Fields.{same_u32, same_u64, same_fronts, length-u32_bytes, length-u64_bytes, length-zeros, zeros_from_all, all_from_zeros}
-use Rattle.page_codec.proofs.EntryFields.{length-entry_bytes}
-use Rattle.page_codec.proofs.Items.{same_items, length_items}
-use Rattle.page_codec.proofs.EntryList.{one_entry}
+use Rattle.page_codec.proofs.Padding.{length-padded}
+use Rattle.page_codec.proofs.Ordered.{same_padded}
+use Rattle.page_codec.proofs.EntryBytes.{one_entry, length_entries}
+use Rattle.page_codec.proofs.SinkBytes.{one_sink, length_sinks}
 
 -- numbers fit their bytes
 pub record HasRoom (h : Header) : Type 0 where
@@ -20,25 +26,51 @@ pub record HasRoom (h : Header) : Type 0 where
   pub tiles_fit : h.tiles < 2 ^ 32
   pub number_fits : h.number < 2 ^ 64
   pub count_fits : h.count < 2 ^ 64
+  pub sinks_fit : h.sinks < 2 ^ 32
 
 abbrev pub header_of : RootValue → Header
-header_of r = record { side = r.side; capacity = r.capacity; tiles = length r.entries; number = r.number; count = r.count }
+header_of r = record { side = r.side; capacity = r.capacity; tiles = length r.entries; number = r.number; count = r.count; sinks = length r.sinks }
 
 abbrev pub numbers_of : Header → List ℕ
-numbers_of h = number_bytes h.side h.capacity h.tiles h.number h.count
+numbers_of h = number_bytes h.side h.capacity h.tiles h.number h.count h.sinks
+
+abbrev pub format_in : Version → Header → Format
+format_in version h = record { version = version; side = h.side; capacity = h.capacity }
+
+no_larger : (version : Version) → largest_side_of version ≤ 3601
+no_larger One = omega arith
+no_larger Two = omega arith
+
+pub side_small : (f : Format) → IsFormat f → f.side ≤ 3601
+side_small f is = omega (arith, is.side_high, no_larger f.version)
 
 pub has_room : (r : RootValue) → IsRoot r → HasRoom (header_of r)
 has_room r rules =
     let n = rules.numbers in
     record {
-      side_fits = omega (arith, n.side_high);
-      capacity_fits = omega (arith, n.capacity_high);
-      tiles_fit = omega (arith, n.room, n.capacity_high);
+      side_fits = omega (arith, side_small (format_of r) n.format);
+      capacity_fits = omega (arith, n.format.capacity_high);
+      tiles_fit = omega (arith, n.room, n.format.capacity_high);
       number_fits = n.fits;
       count_fits = omega (arith, n.before, n.fits);
+      sinks_fit = omega (arith, n.few);
     }
 
-length-numbers : (h : Header) → length (numbers_of h) ≡ 28
+-- the rules hold of the root of the next commit
+pub next_rules : (r : RootValue) → IsRoot r → (count : ℕ) (points : List Point) (entries : List EntryValue)
+    → r.number + 1 < 2 ^ 64 → count ≤ r.number → All (IsSink r.side) points → AreSinksInOrder points → length points ≤ 16
+    → length entries ≤ r.capacity → All IsEntry entries → AreInOrder entries
+    → IsRoot (record r { number = r.number + 1; count = count; sinks = points; entries = entries })
+next_rules r rules count points entries number before held rising few room each order =
+    record {
+      numbers = record { format = rules.numbers.format; known = rules.numbers.known; room = room; fits = number; before = omega arith; few = few };
+      entries = each;
+      in_order = order;
+      sinks = held;
+      sinks_in_order = rising;
+    }
+
+length-numbers : (h : Header) → length (numbers_of h) ≡ 32
 unfolding number_bytes
 length-numbers h = simp (length-append, length-u32_bytes, length-u64_bytes) refl
 
@@ -48,6 +80,7 @@ pub record SameNumbers (g h : Header) : Type 0 where
   pub tiles_are : g.tiles ≡ h.tiles
   pub number_is : g.number ≡ h.number
   pub count_is : g.count ≡ h.count
+  pub sinks_are : g.sinks ≡ h.sinks
 
 same_numbers : (g h : Header) → HasRoom g → HasRoom h → numbers_of g ≡ numbers_of h → SameNumbers g h
 unfolding number_bytes
@@ -57,89 +90,116 @@ same_numbers g h p q same =
     let c = same_u32 g.tiles h.tiles _ _ p.tiles_fit q.tiles_fit b.1 in
     let d = same_u64 g.number h.number _ _ p.number_fits q.number_fits c.1 in
     let e = same_u64 g.count h.count _ _ p.count_fits q.count_fits d.1 in
-    record { side_is = a.0; capacity_is = b.0; tiles_are = c.0; number_is = d.0; count_is = e.0 }
+    let f = same_u32 g.sinks h.sinks _ _ p.sinks_fit q.sinks_fit e.1 in
+    record { side_is = a.0; capacity_is = b.0; tiles_are = c.0; number_is = d.0; count_is = e.0; sinks_are = f.0 }
 
--- these are the root's numbers, free bytes, and what stands behind them
-pub record IsBodyOf (h : Header) (free rest : List ℕ) (r : RootValue) : Type 0 where
-  pub numbers : SameNumbers h (header_of r)
+-- the parts behind the version
+pub record Splits (body tail free rest entries sinks : List ℕ) (h : Header) : Type 0 where
+  pub whole : length body ≡ 4084
+  pub numbers : body ≡ numbers_of h ++ tail
+  pub free_bytes : tail ≡ free ++ rest
+  pub free_len : length free ≡ 20
+  pub rooms : rest ≡ entries ++ sinks
+  pub entries_len : length entries ≡ 3840
+
+pub parts_at : (h : Header) (body tail free rest : List ℕ) → length body ≡ 4084 → body ≡ numbers_of h ++ tail → tail ≡ free ++ rest → length free ≡ 20 → Splits body tail free rest (take 3840 rest) (drop 3840 rest) h
+parts_at h body tail free rest whole numbers free_bytes free_len =
+    let len : length rest ≡ 4032 = omega (arith, ap length numbers, length-append (numbers_of h) tail, length-numbers h, ap length free_bytes, length-append free rest) in
+    record { whole = whole; numbers = numbers; free_bytes = free_bytes; free_len = free_len; rooms = sym (take-append-drop 3840 rest); entries_len = omega (arith, length-take 3840 rest) }
+
+-- these are the parts of the root's bytes
+pub record IsBodyOf (h : Header) (free entries sinks : List ℕ) (r : RootValue) : Type 0 where
+  pub same : SameNumbers h (header_of r)
   pub zero : is_all_zero free ≡ true
-  pub behind : rest ≡ padded 4032 (flat_map entry_bytes r.entries)
+  pub entries_are : entries ≡ padded 3840 (flat_map entry_bytes r.entries)
+  pub sinks_are : sinks ≡ padded 192 (flat_map sink_bytes r.sinks)
 
-pub body_is : (h : Header) (body tail free rest : List ℕ) (r : RootValue) → HasRoom h → body ≡ numbers_of h ++ tail → tail ≡ free ++ rest → length free ≡ 24 → IsRoot r → body ≡ body_bytes r → IsBodyOf h free rest r
+length_room : (r : RootValue) → IsRoot r → length (padded 3840 (flat_map entry_bytes r.entries)) ≡ 3840
+length_room r rules = length-padded 3840 (flat_map entry_bytes r.entries) (omega (arith, length_entries r.entries, rules.numbers.room, rules.numbers.format.capacity_high))
+
+pub body_is : (h : Header) (body tail free rest entries sinks : List ℕ) (r : RootValue) → HasRoom h → Splits body tail free rest entries sinks h → IsRoot r → body ≡ body_bytes r → IsBodyOf h free entries sinks r
 unfolding body_bytes
-body_is h body tail free rest r room front back len rules spelled =
-    let s = same_fronts (numbers_of h) (numbers_of (header_of r)) tail (zeros 24 ++ padded 4032 (flat_map entry_bytes r.entries)) (length-numbers h ∙ sym (length-numbers (header_of r))) (sym front ∙ spelled) in
-    let t = same_fronts free (zeros 24) rest (padded 4032 (flat_map entry_bytes r.entries)) (len ∙ sym (length-zeros 24)) (sym back ∙ s.1) in
-    record { numbers = same_numbers h (header_of r) room (has_room r rules) s.0; zero = ap is_all_zero t.0 ∙ all_from_zeros 24; behind = t.1 }
+body_is h body tail free rest entries sinks r room parts rules spelled =
+    let e = padded 3840 (flat_map entry_bytes r.entries) in
+    let k = padded 192 (flat_map sink_bytes r.sinks) in
+    let s = same_fronts (numbers_of h) (numbers_of (header_of r)) tail (zeros 20 ++ (e ++ k)) (length-numbers h ∙ sym (length-numbers (header_of r))) (sym parts.numbers ∙ spelled) in
+    let t = same_fronts free (zeros 20) rest (e ++ k) (parts.free_len ∙ sym (length-zeros 20)) (sym parts.free_bytes ∙ s.1) in
+    let u = same_fronts entries e sinks k (parts.entries_len ∙ sym (length_room r rules)) (sym parts.rooms ∙ t.1) in
+    record { same = same_numbers h (header_of r) room (has_room r rules) s.0; zero = ap is_all_zero t.0 ∙ all_from_zeros 20; entries_are = u.0; sinks_are = u.1 }
 
 -- the rules of the root hold of these numbers
-pub numbers_from : (h : Header) (r : RootValue) → SameNumbers h (header_of r) → IsRoot r → AreNumbers h.side h.capacity h.tiles h.number h.count
+pub numbers_from : (h : Header) (r : RootValue) → SameNumbers h (header_of r) → IsRoot r → AreNumbers (format_in r.version h) h.tiles h.number h.count h.sinks
 numbers_from h r same rules =
     let n = rules.numbers in
     record {
-      side_low = omega (arith, same.side_is, n.side_low);
-      side_high = omega (arith, same.side_is, n.side_high);
-      capacity_low = omega (arith, same.capacity_is, n.capacity_low);
-      capacity_high = omega (arith, same.capacity_is, n.capacity_high);
+      format = record {
+        side_low = omega (arith, same.side_is, n.format.side_low);
+        side_high = omega (arith, same.side_is, n.format.side_high);
+        capacity_low = omega (arith, same.capacity_is, n.format.capacity_low);
+        capacity_high = omega (arith, same.capacity_is, n.format.capacity_high);
+      };
+      known = n.known;
       room = omega (arith, same.tiles_are, same.capacity_is, n.room);
       fits = omega (arith, same.number_is, n.fits);
       before = omega (arith, same.number_is, same.count_is, n.before);
+      few = omega (arith, same.sinks_are, n.few);
     }
 
-pub length_entries : (entries : List EntryValue) → length (flat_map entry_bytes entries) ≡ 16 * length entries
-length_entries entries = length_items entry_bytes 16 length-entry_bytes entries
+-- what these parts spell
+abbrev pub root_from : Version → Header → List Point → List EntryValue → RootValue
+root_from version h sinks entries = record { version = version; side = h.side; capacity = h.capacity; number = h.number; count = h.count; sinks = sinks; entries = entries }
 
--- behind the free bytes stand the entries, and zeros
-pub entries_are : (h : Header) (free rest front back : List ℕ) (r : RootValue) → IsBodyOf h free rest r → rest ≡ front ++ back → length front ≡ 16 * h.tiles → (front ≡ flat_map entry_bytes r.entries) × (is_all_zero back ≡ true)
-entries_are h free rest front back r is split len =
-    let entries = flat_map entry_bytes r.entries in
-    let same : length front ≡ length entries = omega (arith, len, is.numbers.tiles_are, length_entries r.entries) in
-    let s = same_fronts front entries back (zeros (4032 - length entries)) same (sym split ∙ is.behind) in
-    (s.0, ap is_all_zero s.1 ∙ all_from_zeros (4032 - length entries))
-
--- the root that these parts spell
-pub body_from_parts : (h : Header) (side : ℕ) (entries : List EntryValue) (body tail free rest front back : List ℕ)
-    → AreNumbers h.side h.capacity h.tiles h.number h.count → side ≡ h.side → length entries ≡ h.tiles → All IsEntry entries → AreInOrder entries
-    → length body ≡ 4084 → body ≡ numbers_of h ++ tail → tail ≡ free ++ rest → length free ≡ 24 → is_all_zero free ≡ true
-    → rest ≡ front ++ back → front ≡ flat_map entry_bytes entries → is_all_zero back ≡ true
-    → (r : RootValue) → r ≡ record { side = side; capacity = h.capacity; number = h.number; count = h.count; entries = entries } → IsRoot r × (body ≡ body_bytes r)
+pub body_from_parts : (version : Version) (h : Header) (body tail free rest front back : List ℕ) (points : List Point) (entries : List EntryValue)
+    → AreNumbers (format_in version h) h.tiles h.number h.count h.sinks → Splits body tail free rest front back h → is_all_zero free ≡ true
+    → length entries ≡ h.tiles → All IsEntry entries → AreInOrder entries → front ≡ padded 3840 (flat_map entry_bytes entries)
+    → length points ≡ h.sinks → All (IsSink h.side) points → AreSinksInOrder points → back ≡ padded 192 (flat_map sink_bytes points)
+    → (r : RootValue) → r ≡ root_from version h points entries → IsRoot r × (r.version ≡ version) × (body ≡ body_bytes r)
 unfolding body_bytes
-body_from_parts h side entries body tail free rest front back n side_is tiles each order len numbers tail_is free_len free_zero rest_is front_is back_zero r is =
-    let text = flat_map entry_bytes entries in
-    let back_len : length back ≡ 4032 - length text =
-    omega (arith, len, ap length numbers, length-append (numbers_of h) tail, length-numbers h, ap length tail_is, length-append free rest, free_len, ap length rest_is, length-append front back, ap length front_is) in
-    let free_is : free ≡ zeros 24 = zeros_from_all free free_zero ∙ ap zeros free_len in
-    let back_is : back ≡ zeros (4032 - length text) = zeros_from_all back back_zero ∙ ap zeros back_len in
-    let behind : rest ≡ padded 4032 text = rest_is ∙ ap (λ (l : List ℕ). l ++ back) front_is ∙ ap (λ (l : List ℕ). text ++ l) back_is in
-    let whole : body ≡ numbers_of h ++ (zeros 24 ++ padded 4032 text) =
-    numbers ∙ ap (λ (l : List ℕ). numbers_of h ++ l) (tail_is ∙ ap (λ (l : List ℕ). l ++ rest) free_is ∙ ap (λ (l : List ℕ). zeros 24 ++ l) behind) in
-    let spelled : body ≡ number_bytes side h.capacity (length entries) h.number h.count ++ (zeros 24 ++ padded 4032 text) =
-    whole ∙ ap (λ (s : ℕ). number_bytes s h.capacity h.tiles h.number h.count ++ (zeros 24 ++ padded 4032 text)) (sym side_is)
-    ∙ ap (λ (t : ℕ). number_bytes side h.capacity t h.number h.count ++ (zeros 24 ++ padded 4032 text)) (sym tiles) in
-    let rules : AreNumbers side h.capacity (length entries) h.number h.count = record {
-      side_low = omega (arith, side_is, n.side_low);
-      side_high = omega (arith, side_is, n.side_high);
-      capacity_low = n.capacity_low;
-      capacity_high = n.capacity_high;
+body_from_parts version h body tail free rest front back points entries n parts zero tiles each order front_is count held rising back_is r is =
+    let e = padded 3840 (flat_map entry_bytes entries) in
+    let k = padded 192 (flat_map sink_bytes points) in
+    let free_is : free ≡ zeros 20 = zeros_from_all free zero ∙ ap zeros parts.free_len in
+    let rest_is : rest ≡ e ++ k = parts.rooms ∙ ap (λ (l : List ℕ). l ++ back) front_is ∙ ap (λ (l : List ℕ). e ++ l) back_is in
+    let tail_is : tail ≡ zeros 20 ++ (e ++ k) = parts.free_bytes ∙ ap (λ (l : List ℕ). l ++ rest) free_is ∙ ap (λ (l : List ℕ). zeros 20 ++ l) rest_is in
+    let spelled : body ≡ number_bytes h.side h.capacity (length entries) h.number h.count (length points) ++ (zeros 20 ++ (e ++ k)) =
+    parts.numbers ∙ ap (λ (l : List ℕ). numbers_of h ++ l) tail_is
+    ∙ ap (λ (t : ℕ). number_bytes h.side h.capacity t h.number h.count h.sinks ++ (zeros 20 ++ (e ++ k))) (sym tiles)
+    ∙ ap (λ (t : ℕ). number_bytes h.side h.capacity (length entries) h.number h.count t ++ (zeros 20 ++ (e ++ k))) (sym count) in
+    let rules : AreNumbers (format_in version h) (length entries) h.number h.count (length points) = record {
+      format = n.format;
+      known = n.known;
       room = omega (arith, tiles, n.room);
       fits = n.fits;
       before = n.before;
+      few = omega (arith, count, n.few);
     } in
-    rw is (record { numbers = rules; entries = each; in_order = order }, spelled)
+    rw is (record { numbers = rules; entries = each; in_order = order; sinks = held; sinks_in_order = rising }, refl, spelled)
 
-same_values : (a b : RootValue) → SameNumbers (header_of a) (header_of b) → a.entries ≡ b.entries → a ≡ b
-same_values a b same entries =
-    ap (λ (x : ℕ). let r : RootValue = record { side = x; capacity = a.capacity; number = a.number; count = a.count; entries = a.entries } in r) same.side_is
-    ∙ ap (λ (x : ℕ). let r : RootValue = record { side = b.side; capacity = x; number = a.number; count = a.count; entries = a.entries } in r) same.capacity_is
-    ∙ ap (λ (x : ℕ). let r : RootValue = record { side = b.side; capacity = b.capacity; number = x; count = a.count; entries = a.entries } in r) same.number_is
-    ∙ ap (λ (x : ℕ). let r : RootValue = record { side = b.side; capacity = b.capacity; number = b.number; count = x; entries = a.entries } in r) same.count_is
-    ∙ ap (λ (x : List EntryValue). let r : RootValue = record { side = b.side; capacity = b.capacity; number = b.number; count = b.count; entries = x } in r) entries
+same_values : (a b : RootValue) → a.version ≡ b.version → SameNumbers (header_of a) (header_of b) → a.sinks ≡ b.sinks → a.entries ≡ b.entries → a ≡ b
+same_values a b version same sinks entries =
+    ap (λ (x : Version). let r : RootValue = record { version = x; side = a.side; capacity = a.capacity; number = a.number; count = a.count; sinks = a.sinks; entries = a.entries } in r) version
+    ∙ ap (λ (x : ℕ). let r : RootValue = record { version = b.version; side = x; capacity = a.capacity; number = a.number; count = a.count; sinks = a.sinks; entries = a.entries } in r) same.side_is
+    ∙ ap (λ (x : ℕ). let r : RootValue = record { version = b.version; side = b.side; capacity = x; number = a.number; count = a.count; sinks = a.sinks; entries = a.entries } in r) same.capacity_is
+    ∙ ap (λ (x : ℕ). let r : RootValue = record { version = b.version; side = b.side; capacity = b.capacity; number = x; count = a.count; sinks = a.sinks; entries = a.entries } in r) same.number_is
+    ∙ ap (λ (x : ℕ). let r : RootValue = record { version = b.version; side = b.side; capacity = b.capacity; number = b.number; count = x; sinks = a.sinks; entries = a.entries } in r) same.count_is
+    ∙ ap (λ (x : List Point). let r : RootValue = record { version = b.version; side = b.side; capacity = b.capacity; number = b.number; count = b.count; sinks = x; entries = a.entries } in r) sinks
+    ∙ ap (λ (x : List EntryValue). let r : RootValue = record { version = b.version; side = b.side; capacity = b.capacity; number = b.number; count = b.count; sinks = b.sinks; entries = x } in r) entries
 
--- bytes spell one root only
-pub same_bodies : (a b : RootValue) → IsRoot a → IsRoot b → body_bytes a ≡ body_bytes b → a ≡ b
+-- bytes spell one root of a version only
+pub same_bodies : (a b : RootValue) → IsRoot a → IsRoot b → a.version ≡ b.version → body_bytes a ≡ body_bytes b → a ≡ b
 unfolding body_bytes
-same_bodies a b p q same =
-    let text = flat_map entry_bytes a.entries in
-    let is = body_is (header_of a) (body_bytes a) (zeros 24 ++ padded 4032 text) (zeros 24) (padded 4032 text) b (has_room a p) refl refl (length-zeros 24) q same in
-    let s = same_items entry_bytes IsEntry one_entry a.entries b.entries (zeros (4032 - length text)) (zeros (4032 - length (flat_map entry_bytes b.entries))) p.entries q.entries is.numbers.tiles_are is.behind in
-    same_values a b is.numbers s.0
+same_bodies a b p q version same =
+    let e = padded 3840 (flat_map entry_bytes a.entries) in
+    let k = padded 192 (flat_map sink_bytes a.sinks) in
+    let tail = zeros 20 ++ (e ++ k) in
+    let body = numbers_of (header_of a) ++ tail in
+    let len : length body ≡ 4084 = omega (arith, length-append (numbers_of (header_of a)) tail, length-numbers (header_of a), length-append (zeros 20) (e ++ k), length-zeros 20, length-append e k, length_room a p, length-padded 192 (flat_map sink_bytes a.sinks) (omega (arith, length_sinks a.sinks, p.numbers.few))) in
+    let parts : Splits body tail (zeros 20) (e ++ k) e k (header_of a) = record { whole = len; numbers = refl; free_bytes = refl; free_len = length-zeros 20; rooms = refl; entries_len = length_room a p } in
+    let is = body_is (header_of a) body tail (zeros 20) (e ++ k) e k b (has_room a p) parts q same in
+    let entries = same_padded entry_bytes IsEntry one_entry 3840 a.entries b.entries p.entries q.entries is.same.tiles_are is.entries_are in
+    let held : All (IsSink b.side) a.sinks = subst (λ (n : ℕ). All (IsSink n) a.sinks) is.same.side_is p.sinks in
+    let sinks = same_padded sink_bytes (IsSink b.side) (one_sink b.side (side_small (format_of b) q.numbers.format)) 192 a.sinks b.sinks held q.sinks is.same.sinks_are is.sinks_are in
+    same_values a b version is.same sinks entries
+
+pub length_rooms : (r : RootValue) → IsRoot r → length (padded 3840 (flat_map entry_bytes r.entries) ++ padded 192 (flat_map sink_bytes r.sinks)) ≡ 4032
+length_rooms r rules = omega (arith, length-append (padded 3840 (flat_map entry_bytes r.entries)) (padded 192 (flat_map sink_bytes r.sinks)), length_room r rules, length-padded 192 (flat_map sink_bytes r.sinks) (omega (arith, length_sinks r.sinks, rules.numbers.few)))

@@ -1,7 +1,7 @@
 -- Fields of fixed length: how long they are, and that bytes begin with one number only.
 use Rattle.std.proofs.Common.{◌≡◌, ℕ, zero, suc, ◌^◌, ◌<◌, ℤ, true, eqb, List, [], ◌∷◌, ◌++◌, length, take, drop, refl, sym, ap, ◌∙◌}
 use Rattle.std.specs.List.{list_all}
-use Rattle.std.specs.Int.{w16, cast_unsigned, cast_signed}
+use Rattle.std.specs.Int.{w16, w32, cast_unsigned, cast_signed}
 use Rattle.std.specs.Int.RustNames.{FitsSigned}
 use Rattle.std.proofs.lemmas.Bool.{and_parts, eqb-true}
 use Rattle.std.proofs.lemmas.Int.{to_z-of_z}
@@ -10,11 +10,15 @@ use Rattle.std.proofs.Math.Seq.{take-append_seam, drop-append_seam}
 use Rattle.std.proofs.Math.ListN.{length-replicate}
 use Rattle.byteorder.specs.Endian.{little_number}
 use Rattle.byteorder.specs.Numbers.{little_number-reads_back}
-use Rattle.page_codec.specs.Numbers.{i16_bytes, u32_bytes, u64_bytes, zeros}
+use Rattle.page_codec.specs.Numbers.{i16_bytes, i32_bytes, u32_bytes, u64_bytes, zeros}
 
 pub length-i16_bytes : (z : ℤ) → length (i16_bytes z) ≡ 2
 unfolding i16_bytes
 length-i16_bytes z = refl
+
+pub length-i32_bytes : (z : ℤ) → length (i32_bytes z) ≡ 4
+unfolding i32_bytes
+length-i32_bytes z = refl
 
 pub length-u32_bytes : (n : ℕ) → length (u32_bytes n) ≡ 4
 unfolding u32_bytes
@@ -53,6 +57,13 @@ same_i16 a b x y fits_a fits_b e =
     let bits : cast_unsigned w16 a ≡ cast_unsigned w16 b = sym (little_number-reads_back 2 (cast_unsigned w16 a) x (Fits-of_z fits_a).fits) ∙ ap (λ (l : List ℕ). little_number 2 l) e ∙ little_number-reads_back 2 (cast_unsigned w16 b) y (Fits-of_z fits_b).fits in
     let number : a ≡ b = sym (to_z-of_z w16 a fits_a) ∙ ap (cast_signed w16) bits ∙ to_z-of_z w16 b fits_b in
     (number, (same_fronts (i16_bytes a) (i16_bytes b) x y refl e).1)
+
+pub same_i32 : (a b : ℤ) (x y : List ℕ) → FitsSigned w32 a → FitsSigned w32 b → i32_bytes a ++ x ≡ i32_bytes b ++ y → (a ≡ b) × (x ≡ y)
+unfolding i32_bytes
+same_i32 a b x y fits_a fits_b e =
+    let bits : cast_unsigned w32 a ≡ cast_unsigned w32 b = sym (little_number-reads_back 4 (cast_unsigned w32 a) x (Fits-of_z fits_a).fits) ∙ ap (λ (l : List ℕ). little_number 4 l) e ∙ little_number-reads_back 4 (cast_unsigned w32 b) y (Fits-of_z fits_b).fits in
+    let number : a ≡ b = sym (to_z-of_z w32 a fits_a) ∙ ap (cast_signed w32) bits ∙ to_z-of_z w32 b fits_b in
+    (number, (same_fronts (i32_bytes a) (i32_bytes b) x y refl e).1)
 
 pub zeros_from_all : (bytes : List ℕ) → list_all (λ b. eqb b 0) bytes ≡ true → bytes ≡ zeros (length bytes)
 unfolding zeros

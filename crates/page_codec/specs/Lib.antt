@@ -1,7 +1,9 @@
 pub mod Numbers
+pub mod Formats
 pub mod Sizes
 pub mod Entries
 pub mod Fields
 pub mod Records
+pub mod Sinks
 pub mod Roots
 pub mod Headers

@@ -1,11 +1,14 @@
 -- Numbers in sectors (this product's own profile): the least significant byte first, signed ones in two's complement.
 use Rattle.std.specs.Prelude.{ℕ, ◌-◌, ◌==◌, ℤ, Bool, List, ◌++◌, length, replicate}
 use Rattle.std.specs.List.{list_all}
-use Rattle.std.specs.Int.{w16, cast_unsigned}
+use Rattle.std.specs.Int.{w16, w32, cast_unsigned}
 use Rattle.byteorder.specs.Endian.{little_bytes}
 
 unfoldable pub i16_bytes : ℤ → List ℕ
 i16_bytes z = little_bytes 2 (cast_unsigned w16 z)
+
+unfoldable pub i32_bytes : ℤ → List ℕ
+i32_bytes z = little_bytes 4 (cast_unsigned w32 z)
 
 unfoldable pub u32_bytes : ℕ → List ℕ
 u32_bytes n = little_bytes 4 n

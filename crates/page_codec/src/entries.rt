@@ -1,24 +1,31 @@
 //! The entries of a root.
-ghost use Rattle.std.specs.Prelude.{◌≡◌, ℕ, ◌*◌, ◌≤◌, ◌↔◌, List, length, All, IsTrue, IfSome, IfNone};
+ghost use Rattle.std.specs.Prelude.{◌≡◌, ℕ, ◌≤◌, ◌↔◌, List, length, All, IsTrue, IfSome, IfNone};
 ghost use Rattle.std.specs.List.{flat_map};
 ghost use Rattle.lattice.specs.Corners.{is_before};
+ghost use Rattle.page_codec.specs.Numbers.{padded};
 ghost use Rattle.page_codec.specs.Entries.{EntryValue, IsEntry, entry_bytes};
-ghost use Rattle.page_codec.specs.Roots.{AreInOrder};
+ghost use Rattle.page_codec.specs.Roots.{EntryIsBefore, AreInOrder};
 ghost use Rattle.page_codec.specs.Headers.{Follows};
 
+use crate::numbers::is_zero;
+use crate::writer::Writer;
 use crate::{ENTRY_BYTES, Entry, ROOT_ENTRIES};
 use arrayvec::ArrayVec;
 use lattice::Corner;
 
-/// The entries that these bytes spell, one after another, where they are in their order.
+/// Bytes of the room for entries.
+pub(crate) const ENTRIES_BYTES: usize = ENTRY_BYTES * ROOT_ENTRIES;
+
+/// The entries that these bytes spell, one after another and zeros behind them, where they are in their order.
 pub(crate) fn read_entries(bytes: &[u8], tiles: u32) -> Option<ArrayVec<Entry, ROOT_ENTRIES>>
     requires tiles { tiles ≤ ROOT_ENTRIES }
-    requires bytes { length bytes.now ≡ ENTRY_BYTES * tiles }
+    requires bytes { length bytes.now ≡ ENTRIES_BYTES }
     ensures len { IfSome result (λ found. length found.items ≡ tiles) }
     ensures each { IfSome result (λ found. All IsEntry found.items) }
     ensures in_order { IfSome result (λ found. AreInOrder found.items) }
-    ensures spelled { IfSome result (λ found. bytes.now ≡ flat_map entry_bytes found.items) }
-    ensures none { IfNone result ((entries : List EntryValue) → length entries ≡ tiles → All IsEntry entries → AreInOrder entries → bytes.now ≡ flat_map entry_bytes entries → ⊥) }
+    ensures spelled { IfSome result (λ found. bytes.now ≡ padded ENTRIES_BYTES (flat_map entry_bytes found.items)) }
+    ensures none { IfNone result ((entries : List EntryValue) → length entries ≡ tiles → All IsEntry entries → AreInOrder entries
+        → bytes.now ≡ padded ENTRIES_BYTES (flat_map entry_bytes entries) → ⊥) }
 {
     let mut entries = ArrayVec::new();
     let mut rest = bytes;
@@ -28,30 +35,30 @@ pub(crate) fn read_entries(bytes: &[u8], tiles: u32) -> Option<ArrayVec<Entry, R
         entries.push(entry);
         rest = behind;
     }
-    Some(entries)
+    if is_zero(rest) { Some(entries) } else { None }
 }
 
 // The entry that these bytes spell, where it may follow the others.
 fn next_entry(bytes: &[u8], entries: &[Entry]) -> Option<Entry>
     requires { length bytes.now ≡ ENTRY_BYTES }
     ensures entry { IfSome result IsEntry }
-    ensures follows { IfSome result (λ found. Follows entries.now found.corner) }
+    ensures follows { IfSome result (λ found. Follows EntryIsBefore entries.now found) }
     ensures spelled { IfSome result (λ found. bytes.now ≡ entry_bytes found) }
-    ensures none { IfNone result ((entry : EntryValue) → IsEntry entry → Follows entries.now entry.corner → bytes.now ≡ entry_bytes entry → ⊥) }
+    ensures none { IfNone result ((entry : EntryValue) → IsEntry entry → Follows EntryIsBefore entries.now entry → bytes.now ≡ entry_bytes entry → ⊥) }
 {
     let entry = Entry::parse(bytes)?;
-    if !follows(entries, entry.corner) {
+    if !follows(entries, &entry) {
         return None;
     }
     Some(entry)
 }
 
-// Whether a tile at this corner may come next.
-fn follows(entries: &[Entry], corner: Corner) -> bool
-    ensures { IsTrue result ↔ Follows entries.now corner }
+// Whether this entry may come next.
+fn follows(entries: &[Entry], entry: &Entry) -> bool
+    ensures { IsTrue result ↔ Follows EntryIsBefore entries.now entry.now }
 {
     match entries.last() {
-        Some(last) => is_before(last.corner, corner),
+        Some(last) => is_before(last.corner, entry.corner),
         None => true,
     }
 }
@@ -60,4 +67,16 @@ fn is_before(first: Corner, second: Corner) -> bool
     ensures { result ≡ is_before first second }
 {
     first < second
+}
+
+/// The entries one after another, and zeros behind them.
+pub(crate) fn write_entries(entries: &[Entry]) -> [u8; ENTRIES_BYTES]
+    requires { length entries.now ≤ ROOT_ENTRIES }
+    ensures { result ≡ padded ENTRIES_BYTES (flat_map entry_bytes entries.now) }
+{
+    let mut writer = Writer::new();
+    for entry in entries {
+        writer.put(&entry.write());
+    }
+    writer.finish()
 }

@@ -1,11 +1,11 @@
 //! The numbers of a root.
 ghost use Rattle.std.specs.Prelude.{◌≡◌, ◌+◌, ◌≤◌, ◌++◌, length, SomeIff};
+ghost use Rattle.page_codec.specs.Formats.{IsKnown};
 ghost use Rattle.page_codec.specs.Roots.{AreNumbers};
 ghost use Rattle.page_codec.specs.Headers.{number_bytes};
 
 use crate::numbers::{split_u32, split_u64};
-use crate::{MAX_CAPACITY, MAX_SIDE};
-use lattice::Side;
+use crate::{Format, ROOT_SINKS, Version};
 
 /// The numbers of a root as they stand in its bytes, behind the version.
 #[derive(Clone, Copy)]
@@ -15,17 +15,18 @@ pub(crate) struct Header {
     pub(crate) tiles: u32,
     pub(crate) number: u64,
     pub(crate) count: u64,
+    pub(crate) sinks: u32,
 }
 
 /// Bytes of a header's numbers.
-pub(crate) const HEADER_BYTES: usize = 28;
+pub(crate) const HEADER_BYTES: usize = 32;
 
 impl Header {
     /// The numbers at the front, and the bytes behind them.
     #[tactic(auto, unfolding(crate::specs::Headers::number_bytes))]
     pub(crate) fn split(bytes: &[u8]) -> (Header, &[u8])
         requires { HEADER_BYTES ≤ length bytes.now }
-        ensures parts { bytes.now ≡ number_bytes result.0.side result.0.capacity result.0.tiles result.0.number result.0.count ++ result.1.now }
+        ensures parts { bytes.now ≡ number_bytes result.0.side result.0.capacity result.0.tiles result.0.number result.0.count result.0.sinks ++ result.1.now }
         ensures rest { length result.1.now + HEADER_BYTES ≡ length bytes.now }
     {
         let (side, rest) = split_u32(bytes);
@@ -33,26 +34,29 @@ impl Header {
         let (tiles, rest) = split_u32(rest);
         let (number, rest) = split_u64(rest);
         let (count, rest) = split_u64(rest);
+        let (sinks, rest) = split_u32(rest);
         let header = Header {
             side,
             capacity,
             tiles,
             number,
             count,
+            sinks,
         };
         (header, rest)
     }
 
-    /// The side, where the numbers keep the rules of a root.
-    pub(crate) fn tested_side(&self) -> Option<Side>
-        ensures { SomeIff result (AreNumbers self.now.side self.now.capacity self.now.tiles self.now.number self.now.count) self.now.side }
+    /// The format, where the numbers keep the rules of a root of this version.
+    pub(crate) fn format(&self, version: Version) -> Option<Format>
+        requires { IsKnown version }
+        ensures { SomeIff result
+            (AreNumbers (record { version = version; side = self.now.side; capacity = self.now.capacity }) self.now.tiles self.now.number self.now.count self.now.sinks)
+            (record { version = version; side = self.now.side; capacity = self.now.capacity }) }
     {
-        let side = Side::new(self.side)?;
-        let is_valid = self.side <= MAX_SIDE
-            && 1 <= self.capacity
-            && self.capacity <= MAX_CAPACITY
-            && self.tiles <= self.capacity
-            && self.count < self.number;
-        if is_valid { Some(side) } else { None }
+        let format = Format::new(version, self.side, self.capacity).ok()?;
+        let is_valid = self.tiles <= self.capacity
+            && self.count < self.number
+            && self.sinks <= ROOT_SINKS as u32;
+        if is_valid { Some(format) } else { None }
     }
 }

@@ -1,4 +1,4 @@
-//! The record of a plane.
+//! The record of a plane, and its index pages.
 ghost use Rattle.std.specs.Prelude.{◌≡◌, ℕ, ◌+◌, ◌*◌, ◌≤◌, ◌++◌, List, length, IfOk, IfErr, IsOkAnd};
 ghost use Rattle.std.specs.List.{flat_map};
 ghost use Rattle.page_codec.specs.declared.damaged.Damaged.TheVariants.{Rule};
@@ -10,41 +10,88 @@ use crate::writer::Writer;
 use crate::{Damaged, PAGE_BYTES};
 use arrayvec::ArrayVec;
 
-/// How many page numbers a record has room for.
+/// How many page numbers a record or an index page has room for.
 pub const RECORD_PAGES: usize = 1024;
 
-/// The numbers of a plane's pages, in the order of the plane.
+/// What a plane's record lists, in the order of the plane: its pages, or by the second version its index pages.
 #[derive(Debug, Drop)]
 pub struct Record {
     pub pages: ArrayVec<u32, RECORD_PAGES>,
 }
 
+/// What an index page lists: pages of a plane, in the order of the plane. All index pages of a plane but its last are
+/// full.
+#[derive(Debug, Drop)]
+pub struct IndexPage {
+    pub pages: ArrayVec<u32, RECORD_PAGES>,
+}
+
 impl Record {
-    /// The record of so many pages that these bytes spell. How many they are isn't in the bytes: it follows from the
-    /// side of the tiles.
+    /// The record of so many page numbers that these bytes spell. How many they are isn't in the bytes: it follows from
+    /// the store's format.
     pub fn read(bytes: &[u8; PAGE_BYTES], count: u32) -> Result<Record, Damaged>
         requires { count ≤ RECORD_PAGES }
         ensures found { IfOk result (λ read. IsRecord count read.pages.items × (bytes.now ≡ record_bytes read.pages.items)) }
         ensures only { (pages : List ℕ) → IsRecord count pages → bytes.now ≡ record_bytes pages → IsOkAnd result (λ read. read.pages.items ≡ pages) }
         ensures rule { IfErr result (λ damaged. damaged ≡ Rule) }
     {
-        let (pages, rest) = split_pages(bytes, count);
-        if !is_zero(rest) {
-            return Err(Damaged::Rule);
-        }
-        Ok(Record { pages })
+        Ok(Record {
+            pages: read_pages(bytes, count)?,
+        })
     }
 
     /// The one spelling of the record.
     pub fn write(&self) -> [u8; PAGE_BYTES]
         ensures { result ≡ record_bytes self.now.pages.items }
     {
-        let mut writer = Writer::new();
-        for page in self.pages.as_slice() {
-            writer.put_u32(*page);
-        }
-        writer.finish()
+        write_pages(self.pages.as_slice())
     }
+}
+
+impl IndexPage {
+    /// The index page of so many page numbers that these bytes spell. How many they are isn't in the bytes.
+    pub fn read(bytes: &[u8; PAGE_BYTES], count: u32) -> Result<IndexPage, Damaged>
+        requires { count ≤ RECORD_PAGES }
+        ensures found { IfOk result (λ read. IsRecord count read.pages.items × (bytes.now ≡ record_bytes read.pages.items)) }
+        ensures only { (pages : List ℕ) → IsRecord count pages → bytes.now ≡ record_bytes pages → IsOkAnd result (λ read. read.pages.items ≡ pages) }
+        ensures rule { IfErr result (λ damaged. damaged ≡ Rule) }
+    {
+        Ok(IndexPage {
+            pages: read_pages(bytes, count)?,
+        })
+    }
+
+    /// The one spelling of the index page.
+    pub fn write(&self) -> [u8; PAGE_BYTES]
+        ensures { result ≡ record_bytes self.now.pages.items }
+    {
+        write_pages(self.pages.as_slice())
+    }
+}
+
+// Page numbers, and zeros behind them.
+fn read_pages(bytes: &[u8; PAGE_BYTES], count: u32) -> Result<ArrayVec<u32, RECORD_PAGES>, Damaged>
+    requires { count ≤ RECORD_PAGES }
+    ensures found { IfOk result (λ pages. IsRecord count pages.items × (bytes.now ≡ record_bytes pages.items)) }
+    ensures only { (pages : List ℕ) → IsRecord count pages → bytes.now ≡ record_bytes pages → IsOkAnd result (λ read. read.items ≡ pages) }
+    ensures rule { IfErr result (λ damaged. damaged ≡ Rule) }
+{
+    let (pages, rest) = split_pages(bytes, count);
+    if !is_zero(rest) {
+        return Err(Damaged::Rule);
+    }
+    Ok(pages)
+}
+
+fn write_pages(pages: &[u32]) -> [u8; PAGE_BYTES]
+    requires { length pages.now ≤ RECORD_PAGES }
+    ensures { result ≡ record_bytes pages.now }
+{
+    let mut writer = Writer::new();
+    for page in pages {
+        writer.put_u32(*page);
+    }
+    writer.finish()
 }
 
 // The numbers at the front, and the bytes behind them.

@@ -1,40 +1,44 @@
 //! The root of a store.
-ghost use Rattle.std.specs.Prelude.{◌≡◌, ◌≢◌, ◌+◌, ◌<◌, ◌≤◌, ◌^◌, ◌↔◌, [], ◌++◌, length, All, IsTrue, IfOk, IfSome, IfNone, IsErrOf, Ok};
+ghost use Rattle.std.specs.Prelude.{◌≡◌, ◌≢◌, ◌+◌, ◌<◌, ◌≤◌, ◌^◌, ◌↔◌, [], ◌++◌, length, take, All, IsTrue, IfOk, IfErr, IfSome, IfNone, IsErrOf, Ok};
 ghost use Rattle.std.specs.List.{flat_map};
-ghost use Rattle.page_codec.specs.declared.damaged.Damaged.TheVariants.{Magic, Version, Rule};
-ghost use Rattle.page_codec.specs.Entries.{IsEntry, entry_bytes};
-ghost use Rattle.page_codec.specs.Roots.{RootValue, AreInOrder, IsRoot, empty_root, magic, header_bytes, root_bytes, HasMagic, HasVersion};
+ghost use Rattle.page_codec.specs.declared.damaged.Damaged.TheVariants as reason;
+ghost use Rattle.page_codec.specs.declared.version.Version.{Version};
+ghost use Rattle.page_codec.specs.Numbers.{u32_bytes};
+ghost use Rattle.page_codec.specs.Formats.{IsKnown, number_of};
+ghost use Rattle.page_codec.specs.Entries.{IsEntry};
+ghost use Rattle.page_codec.specs.Sinks.{IsSink, AreSinksInOrder};
+ghost use Rattle.page_codec.specs.Roots.{RootValue, AreInOrder, IsRoot, empty_root, format_of, magic, header_bytes, root_bytes, HasMagic, HasKnownVersion};
 ghost use Rattle.page_codec.specs.Headers.{body_bytes};
 
-use crate::entries::read_entries;
+use crate::entries::{ENTRIES_BYTES, read_entries, write_entries};
 use crate::header::Header;
 use crate::numbers::{is_zero, split_u32};
+use crate::sinks::{read_sinks, write_sinks};
 use crate::writer::Writer;
-use crate::{Damaged, ENTRY_BYTES, Entry, MAX_CAPACITY, MAX_SIDE, PAGE_BYTES, ROOT_ENTRIES};
+use crate::{
+    Damaged, Entry, Format, MAX_CAPACITY, MAX_SIDE, PAGE_BYTES, ROOT_ENTRIES, ROOT_SINKS, Version,
+};
 use arrayvec::ArrayVec;
-use lattice::Side;
+use lattice::{Point, Side};
 use std::marker::Model;
 
 /// What the bytes of a root begin with.
 const ROOT_MAGIC: [u8; 8] = *b"MOSAICST";
 
-/// The version of the layout.
-const ROOT_VERSION: u32 = 1;
-
 /// Bytes that are kept free behind the numbers.
-const FREE_BYTES: usize = 24;
+const FREE_BYTES: usize = 20;
 
 /// Bytes behind the magic and the version, which take 8 and 4.
 const BODY_BYTES: usize = PAGE_BYTES - 12;
 
-/// What a store has in it at one commit: its side and capacity, the commit number, how many commands were accepted, and
+/// What a store has in it at one commit: its format, the commit number, how many commands were accepted, its sinks, and
 /// where the planes of its tiles lie.
 #[derive(Debug, Drop)]
 pub struct Root {
-    side: Side,
-    capacity: u32,
+    format: Format,
     number: u64,
     count: u64,
+    sinks: ArrayVec<Point, ROOT_SINKS>,
     entries: ArrayVec<Entry, ROOT_ENTRIES>,
 }
 
@@ -43,13 +47,13 @@ impl Model for Root {
 
     ghost Value = { RootValue };
 
-    ghost view = { λ r. record { side = r.side; capacity = r.capacity; number = r.number; count = r.count; entries = r.entries.items } };
+    ghost view = { λ r. record { version = r.format.version; side = r.format.side; capacity = r.format.capacity; number = r.number; count = r.count; sinks = r.sinks.items; entries = r.entries.items } };
 
-    ghost invariant = { λ r. IsRoot (record { side = r.side; capacity = r.capacity; number = r.number; count = r.count; entries = r.entries.items }) };
+    ghost invariant = { λ r. IsRoot (record { version = r.format.version; side = r.format.side; capacity = r.format.capacity; number = r.number; count = r.count; sinks = r.sinks.items; entries = r.entries.items }) };
 }
 
 impl Root {
-    /// The root of a store with no tiles: its first commit, before any command.
+    /// The root of a store with no tiles and no sinks, by the first version: its first commit, before any command.
     pub fn empty(side: Side, capacity: u32) -> Root
         requires side { side ≤ MAX_SIDE }
         requires capacity_low { 1 ≤ capacity }
@@ -57,10 +61,10 @@ impl Root {
         ensures { result ≡ empty_root side capacity }
     {
         Root {
-            side,
-            capacity,
+            format: Format::first(side, capacity),
             number: 1,
             count: 0,
+            sinks: ArrayVec::new(),
             entries: ArrayVec::new(),
         }
     }
@@ -74,12 +78,30 @@ impl Root {
         requires in_order { AreInOrder entries.items }
         ensures { result ≡ record (self.now) { number = self.now.number + 1; count = count; entries = entries.items } }
     {
+        let root = self.copy();
         Root {
-            side: self.side,
-            capacity: self.capacity,
-            number: self.number + 1,
+            number: root.number + 1,
             count,
             entries,
+            ..root
+        }
+    }
+
+    /// The root of the next commit, at this count of commands and with these sinks, in their order.
+    pub fn with_sinks(&self, count: u64, sinks: ArrayVec<Point, ROOT_SINKS>) -> Root
+        requires number { self.now.number + 1 < 2 ^ 64 }
+        requires count { count ≤ self.now.number }
+        requires held { All (IsSink self.now.side) sinks.items }
+        requires few { length sinks.items ≤ ROOT_SINKS }
+        requires in_order { AreSinksInOrder sinks.items }
+        ensures { result ≡ record (self.now) { number = self.now.number + 1; count = count; sinks = sinks.items } }
+    {
+        let root = self.copy();
+        Root {
+            number: root.number + 1,
+            count,
+            sinks,
+            ..root
         }
     }
 
@@ -87,17 +109,30 @@ impl Root {
     pub fn copy(&self) -> Root
         ensures { result ≡ self.now }
     {
-        let Ok(entries) = ArrayVec::try_from(self.entries.as_slice()) else {
+        let (Ok(sinks), Ok(entries)) = (
+            ArrayVec::try_from(self.sinks.as_slice()),
+            ArrayVec::try_from(self.entries.as_slice()),
+        ) else {
             unreachable!()
         };
-        Root { entries, ..*self }
+        Root {
+            sinks,
+            entries,
+            ..*self
+        }
+    }
+
+    pub fn format(&self) -> Format
+        ensures { result ≡ format_of self.now }
+    {
+        self.format
     }
 
     pub fn side(&self) -> Side
         ensures value { result ≡ self.now.side }
         ensures high { result ≤ MAX_SIDE }
     {
-        self.side
+        self.format.side()
     }
 
     /// How many tiles the store has room for.
@@ -106,7 +141,7 @@ impl Root {
         ensures low { 1 ≤ result }
         ensures high { result ≤ MAX_CAPACITY }
     {
-        self.capacity
+        self.format.capacity()
     }
 
     /// The commit number.
@@ -124,6 +159,14 @@ impl Root {
         self.count
     }
 
+    /// The sinks, in their order.
+    pub fn sinks(&self) -> &[Point]
+        ensures value { result.now ≡ self.now.sinks }
+        ensures rules { IsRoot self.now }
+    {
+        self.sinks.as_slice()
+    }
+
     /// The entries of the tiles, in the order of tiles.
     pub fn entries(&self) -> &[Entry]
         ensures value { result.now ≡ self.now.entries }
@@ -136,55 +179,37 @@ impl Root {
     pub fn read(bytes: &[u8; PAGE_BYTES]) -> Result<Root, Damaged>
         ensures found { IfOk result (λ root. IsRoot root × (bytes.now ≡ root_bytes root)) }
         ensures only { (root : RootValue) → IsRoot root → bytes.now ≡ root_bytes root → result ≡ Ok root }
-        ensures magic { IsErrOf result Magic ↔ ¬ HasMagic bytes.now }
-        ensures version { IsErrOf result Version ↔ (HasMagic bytes.now × ¬ HasVersion 1 bytes.now) }
-        ensures rule { IsErrOf result Rule ↔ (HasMagic bytes.now × HasVersion 1 bytes.now × ((root : RootValue) → IsRoot root → bytes.now ≢ root_bytes root)) }
+        ensures magic { IsErrOf result reason.Magic ↔ ¬ HasMagic bytes.now }
+        ensures version { IsErrOf result reason.Version ↔ (HasMagic bytes.now × ¬ HasKnownVersion bytes.now) }
+        ensures rule { IsErrOf result reason.Rule
+            ↔ (HasMagic bytes.now × HasKnownVersion bytes.now × ((root : RootValue) → IsRoot root → bytes.now ≢ root_bytes root)) }
     {
-        Root::read_slice(bytes)
+        let rest = behind_magic(bytes)?;
+        let (version, body) = behind_version(rest)?;
+        Root::parse(version, body).ok_or(Damaged::Rule)
     }
 
-    // The same for a slice.
-    fn read_slice(bytes: &[u8]) -> Result<Root, Damaged>
-        requires { length bytes.now ≡ PAGE_BYTES }
-        ensures found { IfOk result (λ root. IsRoot root × (bytes.now ≡ root_bytes root)) }
-        ensures only { (root : RootValue) → IsRoot root → bytes.now ≡ root_bytes root → result ≡ Ok root }
-        ensures magic { IsErrOf result Magic ↔ ¬ HasMagic bytes.now }
-        ensures version { IsErrOf result Version ↔ (HasMagic bytes.now × ¬ HasVersion 1 bytes.now) }
-        ensures rule { IsErrOf result Rule ↔ (HasMagic bytes.now × HasVersion 1 bytes.now × ((root : RootValue) → IsRoot root → bytes.now ≢ root_bytes root)) }
-    {
-        let (magic, rest) = bytes.split_at(ROOT_MAGIC.len());
-        if !is_magic(magic) {
-            return Err(Damaged::Magic);
-        }
-        let (version, body) = split_u32(rest);
-        if version != ROOT_VERSION {
-            return Err(Damaged::Version);
-        }
-        Root::parse(body).ok_or(Damaged::Rule)
-    }
-
-    // The root that these bytes spell, behind the version.
-    fn parse(body: &[u8]) -> Option<Root>
-        requires { length body.now ≡ BODY_BYTES }
-        ensures found { IfSome result (λ root. IsRoot root × (body.now ≡ body_bytes root)) }
-        ensures none { IfNone result ((root : RootValue) → IsRoot root → body.now ≡ body_bytes root → ⊥) }
+    // The root of this version that these bytes spell, behind the version.
+    fn parse(version: Version, body: &[u8]) -> Option<Root>
+        requires known { IsKnown version }
+        requires body { length body.now ≡ BODY_BYTES }
+        ensures found { IfSome result (λ root. IsRoot root × (root.version ≡ version) × (body.now ≡ body_bytes root)) }
+        ensures none { IfNone result ((root : RootValue) → IsRoot root → root.version ≡ version → body.now ≡ body_bytes root → ⊥) }
     {
         let (header, rest) = Header::split(body);
         let (free, rest) = rest.split_at(FREE_BYTES);
         if !is_zero(free) {
             return None;
         }
-        let side = header.tested_side()?;
-        let (front, rest) = rest.split_at(ENTRY_BYTES * header.tiles as usize);
-        let entries = read_entries(front, header.tiles)?;
-        if !is_zero(rest) {
-            return None;
-        }
+        let format = header.format(version)?;
+        let (entries, sinks) = rest.split_at(ENTRIES_BYTES);
+        let entries = read_entries(entries, header.tiles)?;
+        let sinks = read_sinks(sinks, format.side(), header.sinks)?;
         Some(Root {
-            side,
-            capacity: header.capacity,
+            format,
             number: header.number,
             count: header.count,
+            sinks,
             entries,
         })
     }
@@ -194,34 +219,59 @@ impl Root {
         ensures { result ≡ root_bytes self.now }
     {
         let mut writer = self.write_header();
-        for entry in self.entries.as_slice() {
-            writer.put(&entry.write());
-        }
+        writer.put(&write_entries(self.entries.as_slice()));
+        writer.put(&write_sinks(self.sinks.as_slice()));
         writer.finish()
     }
 
     #[tactic(auto, unfolding(crate::specs::Roots::header_bytes, crate::specs::Roots::magic, crate::specs::Numbers::zeros))]
     fn write_header(&self) -> Writer<PAGE_BYTES>
-        ensures bytes { result ≡ header_bytes self.now.side self.now.capacity (length self.now.entries) self.now.number self.now.count }
+        ensures bytes { result ≡ header_bytes (format_of self.now) (length self.now.entries) self.now.number self.now.count (length self.now.sinks) }
         ensures len { length result ≡ 64 }
         ensures rules { IsRoot self.now }
     {
         let mut writer = Writer::new();
         writer.put(&ROOT_MAGIC);
-        writer.put_u32(ROOT_VERSION);
-        writer.put_u32(self.side.samples());
-        writer.put_u32(self.capacity);
+        writer.put_u32(self.format.version().number());
+        writer.put_u32(self.format.side().samples());
+        writer.put_u32(self.format.capacity());
         writer.put_u32(self.entries.len() as u32);
         writer.put_u64(self.number);
         writer.put_u64(self.count);
+        writer.put_u32(self.sinks.len() as u32);
         writer.put(&[0; FREE_BYTES]);
         writer
     }
 }
 
+// What stands behind the magic.
 #[tactic(auto, unfolding(crate::specs::Roots::magic))]
-fn is_magic(bytes: &[u8]) -> bool
-    ensures { IsTrue result ↔ (bytes.now ≡ magic) }
+fn behind_magic(bytes: &[u8]) -> Result<&[u8], Damaged>
+    requires { length bytes.now ≡ PAGE_BYTES }
+    ensures found { IfOk result (λ rest. bytes.now ≡ magic ++ rest.now) }
+    ensures len { IfOk result (λ rest. length rest.now + 8 ≡ length bytes.now) }
+    ensures none { IfErr result (λ damaged. (damaged ≡ reason.Magic) × (¬ HasMagic bytes.now)) }
 {
-    bytes == ROOT_MAGIC.as_slice()
+    let (front, rest) = bytes.split_at(ROOT_MAGIC.len());
+    if front == ROOT_MAGIC.as_slice() {
+        Ok(rest)
+    } else {
+        Err(Damaged::Magic)
+    }
+}
+
+// The version, and what stands behind it.
+fn behind_version(rest: &[u8]) -> Result<(Version, &[u8]), Damaged>
+    requires { 4 ≤ length rest.now }
+    ensures known { IfOk result (λ found. IsKnown found.0) }
+    ensures found { IfOk result (λ found. rest.now ≡ u32_bytes (number_of found.0) ++ found.1.now) }
+    ensures len { IfOk result (λ found. length found.1.now + 4 ≡ length rest.now) }
+    ensures none { IfErr result (λ damaged. (damaged ≡ reason.Version)
+        × ((version : Version) → IsKnown version → take 4 rest.now ≢ u32_bytes (number_of version))) }
+{
+    let (number, body) = split_u32(rest);
+    let Some(version) = Version::of(number) else {
+        return Err(Damaged::Version);
+    };
+    Ok((version, body))
 }

@@ -9,7 +9,7 @@ use lattice::Side;
 const POINT_BYTES: u32 = 2;
 
 // Sectors of the gates and the roots.
-const FIXED_SECTORS: u32 = 4;
+pub(crate) const FIXED_SECTORS: u32 = 4;
 
 /// How many pages the plane of a tile fills, at two bytes a point.
 pub fn pages_in_plane(side: Side) -> u32
@@ -19,7 +19,7 @@ pub fn pages_in_plane(side: Side) -> u32
     (POINT_BYTES * side.area()).div_ceil(PAGE_BYTES as u32)
 }
 
-/// How many sectors a store of this side and capacity (in tiles) needs. There is always a free page then: the two roots
+/// How many sectors a store of this side and capacity (in tiles) needs by the first version. There is always a free page then: the two roots
 /// reach the planes of two mosaics, and a change writes at most one plane a tile, or two planes.
 pub fn sectors_needed(side: Side, capacity: u32) -> u32
     requires { capacity ≤ 240 }

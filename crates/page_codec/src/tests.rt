@@ -1,7 +1,11 @@
 use crate::*;
 use arrayvec::ArrayVec;
-use lattice::{Corner, Side};
+use lattice::{Corner, Point, Refusal, Side};
 use std::test::Fail;
+
+fn format_1(side: u32, capacity: u32) -> Result<Format, Refusal> {
+    Format::new(Version::One, side, capacity)
+}
 
 fn page_of(front: &[u8]) -> [u8; PAGE_BYTES] {
     let mut page = [0; PAGE_BYTES];
@@ -30,15 +34,13 @@ const ONE_TILE: [u8; 80] = [
 
 #[test]
 fn a_new_store(rt: HostRuntime) -> Result<(), Fail> {
-    let side = Side::new(3).ok_or("no side")?;
-    assert_eq!(rt; side.samples(), 3);
-    let root = Root::empty(side, 1);
+    let root = Root::empty(Side::new(3).ok_or("no side")?, 1);
     assert!(rt; root.write() == page_of(&FORMATTED));
-    let read = Root::read(&page_of(&FORMATTED)).ok().ok_or("not read")?;
-    assert_eq!(rt; read.side(), side);
-    assert_eq!(rt; read.capacity(), 1);
+    let read = Root::read(&page_of(&FORMATTED))?;
+    assert_eq!(rt; read.format(), format_1(3, 1)?);
     assert_eq!(rt; read.number(), 1);
     assert_eq!(rt; read.count(), 0);
+    assert!(rt; read.sinks().is_empty());
     assert!(rt; read.entries().is_empty());
     Ok(())
 }
@@ -76,19 +78,17 @@ fn a_tile_with_kept_planes(rt: HostRuntime) -> Result<(), Fail> {
 
 #[test]
 fn the_next_root(rt: HostRuntime) -> Result<(), Fail> {
-    let side = Side::new(3).ok_or("no side")?;
     let corner = Corner::new(0, 0).ok_or("no corner")?;
     let entry = Entry {
         corner,
         heights: 5,
         kept: None,
     };
-    assert_eq!(rt; side.samples(), 3);
     let mut entries = ArrayVec::new();
     entries.push(entry);
-    let root = Root::empty(side, 1).next(1, entries);
+    let root = Root::empty(Side::new(3).ok_or("no side")?, 1).next(1, entries);
     assert!(rt; root.write() == page_of(&ONE_TILE));
-    let read = Root::read(&page_of(&ONE_TILE)).ok().ok_or("not read")?;
+    let read = Root::read(&page_of(&ONE_TILE))?;
     assert_eq!(rt; read.number(), 2);
     assert_eq!(rt; read.count(), 1);
     assert_eq!(rt; read.entries(), [entry].as_slice());
@@ -96,8 +96,9 @@ fn the_next_root(rt: HostRuntime) -> Result<(), Fail> {
 }
 
 // What two bytes of that root are changed to, and what is said of it then.
-const CHANGES: [(u8, [u8; 2], Option<Damaged>); 21] = [
+const CHANGES: [(u8, [u8; 2], Option<Damaged>); 23] = [
     (0, [0x4e, 0x4f], Some(Damaged::Magic)),
+    (8, [2, 0], Some(Damaged::Version)),
     (8, [9, 0], Some(Damaged::Version)),
     (12, [2, 0], Some(Damaged::Rule)),
     (12, [0xb2, 4], Some(Damaged::Rule)),
@@ -109,6 +110,7 @@ const CHANGES: [(u8, [u8; 2], Option<Damaged>); 21] = [
     (24, [0, 0], Some(Damaged::Rule)),
     (24, [1, 0], Some(Damaged::Rule)),
     (32, [2, 0], Some(Damaged::Rule)),
+    (40, [17, 0], Some(Damaged::Rule)),
     (44, [1, 0], Some(Damaged::Rule)),
     (64, [90, 0], Some(Damaged::Rule)),
     (66, [180, 0], Some(Damaged::Rule)),
@@ -151,7 +153,7 @@ fn a_worn_root(rt: HostRuntime) -> Result<(), Fail> {
     for byte in &mut page[24..32] {
         *byte = 0xff;
     }
-    let root = Root::read(&page).ok().ok_or("not read")?;
+    let root = Root::read(&page)?;
     assert_eq!(rt; root.number(), u64::MAX);
     assert_eq!(rt; root.count(), 1);
     assert!(rt; root.write() == page);
@@ -196,22 +198,85 @@ fn records(rt: HostRuntime) -> Result<(), Fail> {
     Ok(())
 }
 
-// Side, capacity, pages of a plane, sectors of a store.
-const SIZES: [(u32, u32, u32, u32); 5] = [
-    (3, 1, 1, 16),
-    (3, 2, 1, 24),
-    (3, 240, 1, 1928),
-    (1201, 1, 705, 4240),
-    (1201, 240, 705, 679_176),
+#[test]
+fn index_pages(rt: HostRuntime) -> Result<(), Fail> {
+    let mut page = page_of(&[7, 0, 0, 0, 4, 3, 2, 1]);
+    let index = IndexPage::read(&page, 2)?;
+    assert_eq!(rt; index.pages.as_slice(), [7, 0x0102_0304].as_slice());
+    assert!(rt; index.write() == page);
+    page[8] = 1;
+    assert_eq!(rt; IndexPage::read(&page, 2).err(), Some(Damaged::Rule));
+    Ok(())
+}
+
+// The new store of before with two sinks, at y = -1, x = 258 and at y = 1, x = 1, after one command.
+fn two_sinks() -> [u8; PAGE_BYTES] {
+    let mut page = page_of(&FORMATTED);
+    page[24] = 2;
+    page[32] = 1;
+    page[40] = 2;
+    let sinks = [0xff, 0xff, 0xff, 0xff, 2, 1, 0, 0, 1, 0, 0, 0, 1, 0, 0, 0];
+    for (byte, given) in page.iter_mut().skip(3904).zip(&sinks) {
+        *byte = *given;
+    }
+    page
+}
+
+#[test]
+fn sinks(rt: HostRuntime) -> Result<(), Fail> {
+    let first = Point { y: -1, x: 258 };
+    let second = Point { y: 1, x: 1 };
+    let root = Root::read(&two_sinks())?;
+    assert_eq!(rt; root.sinks(), [first, second].as_slice());
+    assert!(rt; root.write() == two_sinks());
+    // An older y, the same point twice, a point that no corner's tile holds, a third sink where two are counted, and a
+    // byte behind them.
+    for (at, byte) in [(3912, 0xfe), (3907, 0), (3904, 1), (3920, 1), (4095, 1)] {
+        let mut page = two_sinks();
+        page[at] = byte;
+        let read = Root::read(&page).err();
+        assert_eq!(rt; read, Some(Damaged::Rule), "{byte} at {at}");
+    }
+    Ok(())
+}
+
+#[test]
+fn formats(rt: HostRuntime) {
+    for (version, side, capacity, refusal) in [
+        (Version::One, 2, 0, Some(Refusal::BadSide)),
+        (Version::One, 1202, 1, Some(Refusal::BadSide)),
+        (Version::One, 1201, 241, Some(Refusal::BadCapacity)),
+        (Version::One, 1201, 240, None),
+        (Version::Two, 3602, 1, Some(Refusal::BadSide)),
+        (Version::Two, 3601, 0, Some(Refusal::BadCapacity)),
+        (Version::Two, 1202, 1, None),
+    ] {
+        let made = Format::new(version, side, capacity);
+        assert_eq!(rt; made.err(), refusal, "{side} and {capacity} by {version:?}");
+    }
+}
+
+// Version, side, capacity, index pages and pages of a plane, sectors of a store.
+const SIZES: [(Version, u32, u32, u32, u32, u32); 10] = [
+    (Version::One, 3, 1, 0, 1, 16),
+    (Version::One, 3, 2, 0, 1, 24),
+    (Version::One, 3, 240, 0, 1, 1928),
+    (Version::One, 1201, 1, 0, 705, 4240),
+    (Version::One, 1201, 240, 0, 705, 679_176),
+    (Version::Two, 3, 1, 1, 1, 22),
+    (Version::Two, 3, 2, 1, 1, 34),
+    (Version::Two, 1201, 1, 1, 705, 4246),
+    (Version::Two, 3601, 1, 7, 6332, 38_044),
+    (Version::Two, 3601, 240, 7, 6332, 6_099_084),
 ];
 
 #[test]
 fn sizes(rt: HostRuntime) -> Result<(), Fail> {
-    for (side, capacity, pages, sectors) in SIZES {
-        let side = Side::new(side).ok_or("no side")?;
-        assert!(rt; capacity <= MAX_CAPACITY);
-        assert_eq!(rt; pages_in_plane(side), pages);
-        assert_eq!(rt; sectors_needed(side, capacity), sectors);
+    for (version, side, capacity, index, data, sectors) in SIZES {
+        let format = Format::new(version, side, capacity)?;
+        assert_eq!(rt; format.index_pages(), index, "{side} by {version:?}");
+        assert_eq!(rt; format.data_pages(), data, "{side} by {version:?}");
+        assert_eq!(rt; format.sectors(), sectors, "{side} by {version:?}");
     }
     Ok(())
 }

@@ -1,6 +1,6 @@
 //! Bytes as they are written from the front on.
 ghost use Rattle.std.specs.Prelude.{◌≡◌, ◌+◌, ◌≤◌, [], ◌++◌, length};
-ghost use Rattle.page_codec.specs.Numbers.{i16_bytes, u32_bytes, u64_bytes, padded};
+ghost use Rattle.page_codec.specs.Numbers.{i16_bytes, i32_bytes, u32_bytes, u64_bytes, padded};
 
 use byteorder::{ByteOrder, LittleEndian};
 use std::marker::Model;
@@ -54,6 +54,17 @@ impl<const N: usize> Writer<N> {
     {
         let mut field = [0; 2];
         LittleEndian::write_i16(&mut field, number);
+        self.put(&field);
+    }
+
+    #[tactic(auto, unfolding(crate::specs::Numbers::i32_bytes))]
+    pub(crate) fn put_i32(&mut self, number: i32)
+        requires { length self.old + 4 ≤ N }
+        ensures bytes { self.new ≡ self.old ++ i32_bytes number }
+        ensures len { length self.new ≡ length self.old + 4 }
+    {
+        let mut field = [0; 4];
+        LittleEndian::write_i32(&mut field, number);
         self.put(&field);
     }
 

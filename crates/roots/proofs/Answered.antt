@@ -31,3 +31,7 @@ noted_works (Err e) r was now P noted works f = subst (λ (q : Result (Unit {0})
 pub on_ok_map : {T E : Type 0} (answer : Result T E) (P Q R S : Type 0) → (P → Q → R → S) → OnOk answer P → OnOk answer Q → OnOk answer R → OnOk answer S
 on_ok_map (Ok x) P Q R S f p q r = f p q r
 on_ok_map (Err e) P Q R S f p q r = tt
+
+pub on_any : {T E : Type 0} (answer : Result T E) (P : Type 0) → P → OnOk answer P
+on_any (Ok x) P p = p
+on_any (Err e) P p = tt

@@ -8,7 +8,7 @@ use Rattle.page_codec.specs.Roots.{RootValue}
 use Rattle.page_codec.specs.Sizes.{sectors_of}
 use Rattle.page_codec.specs.declared.damaged.Damaged.{Damaged}
 use Rattle.page_codec.specs.declared.damaged.Damaged.TheVariants.{Magic, Version, Rule}
-use Rattle.page_codec.proofs.RootBytes.{same_roots, has_magic, has_version}
+use Rattle.page_codec.proofs.RootBytes.{same_roots, root_has_magic, root_has_version}
 use Rattle.roots.specs.declared.opening.Found.{Found}
 use Rattle.roots.specs.declared.slot.Slot.{Slot}
 use Rattle.roots.specs.declared.slot.Slot.TheVariants.{A, B}
@@ -48,8 +48,8 @@ fails_once bytes Rule Version h k = absurd (k.1 h.1)
 fails_once bytes Rule Rule h k = refl
 
 never_both : (bytes : List ℕ) (root : RootValue) (why : Damaged) → IsSpelledBy root bytes → FailsAs bytes why → ⊥
-never_both bytes root Magic h k = k (has_magic bytes root h.spelled)
-never_both bytes root Version h k = k.1 (has_version bytes root h.spelled)
+never_both bytes root Magic h k = k (root_has_magic bytes root h.spelled)
+never_both bytes root Version h k = k.1 (root_has_version bytes root h.rules h.spelled)
 never_both bytes root Rule h k = k.2 root h
 
 reads_once : (bytes : List ℕ) (x y : Result RootValue Damaged) → ReadsAs bytes x → ReadsAs bytes y → x ≡ y

@@ -3,7 +3,7 @@ use Rattle.std.specs.Prelude.{◌≡◌, ◌⊎◌, ◌↔◌, ℕ, ◌≤◌, �
 use Rattle.disk.specs.Disk.{Image}
 use Rattle.lattice.specs.declared.refusal.Refusal.{Refusal}
 use Rattle.lattice.specs.declared.refusal.Refusal.TheVariants as refusal
-use Rattle.page_codec.specs.Roots.{RootValue, HasMagic, HasVersion}
+use Rattle.page_codec.specs.Roots.{RootValue, HasMagic, HasKnownVersion}
 use Rattle.page_codec.specs.Sizes.{sectors_of}
 use Rattle.page_codec.specs.declared.damaged.Damaged.{Damaged}
 use Rattle.page_codec.specs.declared.damaged.Damaged.TheVariants.{Magic, Version, Rule}
@@ -14,8 +14,8 @@ use Rattle.roots.specs.Slots.{is_open, gate, root_sector, IsSpelledBy, IsCurrent
 -- the first test of a root's bytes that fails
 abbrev pub FailsAs : List ℕ → Damaged → Type 0
 FailsAs bytes Magic = ¬ HasMagic bytes
-FailsAs bytes Version = HasMagic bytes × (¬ HasVersion 1 bytes)
-FailsAs bytes Rule = HasMagic bytes × HasVersion 1 bytes × ((root : RootValue) → ¬ IsSpelledBy root bytes)
+FailsAs bytes Version = HasMagic bytes × (¬ HasKnownVersion bytes)
+FailsAs bytes Rule = HasMagic bytes × HasKnownVersion bytes × ((root : RootValue) → ¬ IsSpelledBy root bytes)
 
 -- the bytes are read as this root, or refused so
 abbrev pub ReadsAs : List ℕ → Result RootValue Damaged → Type 0

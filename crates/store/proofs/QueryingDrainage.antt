@@ -62,7 +62,7 @@ pub few_tiles : (cs : List Corner) (root : RootValue) → cs ≡ map (λ e. e.co
 few_tiles cs root same rules =
     let count : length cs ≡ length root.entries = ap length same ∙ length-map root.entries (λ (e : EntryValue). e.corner) in
     let room = rules.numbers.room in
-    let high = rules.numbers.capacity_high in
+    let high = rules.numbers.format.capacity_high in
     omega (arith, count, room, high)
 
 module _ {D : Type 0} (g : Ghosts D) (old new : Tree D g) (works : has_failed old ≡ false) (keeps : HasOnlyRead g old new) (honest : g.honest (disk_of new)) (s : State) (at : IsInState g old s) where

@@ -1,11 +1,11 @@
-use Rattle.std.proofs.Common.{◌≡◌, true, sym, subst}
-use Rattle.page_codec.specs.Entries.{EntryValue}
+use Rattle.std.proofs.Common.{◌≡◌, true}
+use Rattle.page_codec.specs.Roots.{EntryIsBefore}
 use Rattle.page_codec.specs.Headers.{Follows}
-use Rattle.page_codec.proofs.EntryList.{not_this}
+use Rattle.page_codec.proofs.EntryBytes.{not_this}
 use Rattle.page_codec.proofs.entries.next_entry.Goals as goal
 
 pub returns-then-not-follows-clause-none : goal.returns-then-not-follows-clause-none
 returns-then-not-follows-clause-none c =
     let found = c.in_ok-entry.ensures.found in
-    let never : Follows c.args.entries.now c.in_ok-entry.entry.corner → ⊥ = λ f. let yes : c.follows.result ≡ true = c.follows.ensures.1 (subst (λ (e : EntryValue). Follows c.args.entries.now e.corner) (sym c.entry.view_is) f) in cc in
+    let never : Follows EntryIsBefore c.args.entries.now c.in_ok-entry.entry → ⊥ = λ f. let yes : c.follows.result ≡ true = c.follows.ensures.1 f in cc in
     λ entry rules follows spelled. not_this c.in_ok-entry.entry entry c.args.entries.now c.args.bytes.now found.0 found.1 never rules follows spelled

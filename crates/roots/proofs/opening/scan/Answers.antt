@@ -5,7 +5,7 @@ use Rattle.roots.specs.declared.slot.Slot.TheVariants.{A, B}
 use Rattle.roots.specs.Found.{found_as}
 use Rattle.roots.specs.Opening.{Holds, chosen, fitting}
 use Rattle.roots.specs.Slots.{IsAt}
-use Rattle.roots.proofs.Answered.{on_ok, if_ok, if_ok_map}
+use Rattle.roots.proofs.Answered.{on_ok, on_any, if_ok, if_ok_map}
 use Rattle.roots.proofs.Choice.{found_at}
 use Rattle.roots.proofs.Scanned.{seen_old}
 use Rattle.roots.proofs.opening.scan.Goals as goal
@@ -44,3 +44,22 @@ returns-clause-opens g c honest =
         subst (λ (n : ℕ). found_as c.judge.result ≡ fitting n (chosen c.in_ok-first.first c.in_ok-first.second)) size c.judge.ensures.answer,
       ),
     ))
+
+pub returns-clause-seen : goal.returns-clause-seen
+returns-clause-seen g c honest =
+    let d = g.D.Disk in
+    let mid = c.sync.new.self in
+    let reads = c.read_slots.ensures.only_reads in
+    let still = (reads.nothing honest).honest in
+    let only = on_ok c.sync.result _ _ c.in_ok-device.ensures (c.sync.ensures.durable still) in
+    on_any c.judge.result _ (reads.seen honest ∙ seen_old d c.args.disk.now mid only (g.met.D.Disk.seen_may mid still))
+
+pub returns-clause-durable : goal.returns-clause-durable
+returns-clause-durable g c honest =
+    let d = g.D.Disk in
+    let mid = c.sync.new.self in
+    let reads = c.read_slots.ensures.only_reads in
+    let added = reads.nothing honest in
+    let only = on_ok c.sync.result _ _ c.in_ok-device.ensures (c.sync.ensures.durable added.honest) in
+    let was = seen_old d c.args.disk.now mid only (g.met.D.Disk.seen_may mid added.honest) in
+    on_any c.judge.result _ (λ image may. only image (added.run.now image may) ∙ sym was ∙ sym (reads.seen honest))

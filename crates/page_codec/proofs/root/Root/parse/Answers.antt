@@ -1,45 +1,73 @@
-use Rattle.std.proofs.Common.{◌≡◌, true, sym, arith, refl}
+use Rattle.std.proofs.Common.{◌≡◌, ◌∙◌, ℕ, true, sym, ap, subst, arith}
+use Rattle.std.specs.Prelude.{All}
+use Rattle.page_codec.specs.declared.version.Version.{Version}
 use Rattle.page_codec.specs.Numbers.{is_all_zero}
-use Rattle.page_codec.proofs.Bodies.{HasRoom, body_is, numbers_from, entries_are, body_from_parts}
+use Rattle.page_codec.specs.Formats.{Format}
+use Rattle.page_codec.specs.Sinks.{IsSink}
+use Rattle.page_codec.specs.Roots.{RootValue, AreNumbers}
+use Rattle.page_codec.proofs.Bodies.{HasRoom, Splits, side_small, parts_at, body_is, numbers_from, format_in, body_from_parts}
 use Rattle.page_codec.proofs.root.Root.parse.Goals as goal
 
 pub returns-then-not-is_zero-clause-none : goal.returns-then-not-is_zero-clause-none
-returns-then-not-is_zero-clause-none c = λ r rules spelled.
+returns-then-not-is_zero-clause-none c = λ r rules version spelled.
     let h = c.split.result.0 in
-    let room : HasRoom h = record { side_fits = omega arith; capacity_fits = omega arith; tiles_fit = omega arith; number_fits = omega arith; count_fits = omega arith } in
-    let is = body_is h c.args.body.now c.split.result.1.now c.split_at.result.0.now c.split_at.result.1.now r room c.split.ensures.parts c.split_at.ensures.by_index.0 c.split_at.ensures.front_len rules spelled in
-    let zero : is_all_zero c.split_at.result.0.now ≡ true = is.zero in
+    let room : HasRoom h = record { side_fits = omega arith; capacity_fits = omega arith; tiles_fit = omega arith; number_fits = omega arith; count_fits = omega arith; sinks_fit = omega arith } in
+    let parts = parts_at h _ _ _ _ c.requires.body c.split.ensures.parts c.split_at.ensures.by_index.0 c.split_at.ensures.front_len in
+    let zero : is_all_zero c.split_at.result.0.now ≡ true = (body_is h _ _ _ _ _ _ r room parts rules spelled).zero in
     cc
 
-pub returns-in_err-side-clause-none : goal.returns-in_err-side-clause-none
-returns-in_err-side-clause-none c = rw c.from_residual.ensures (λ r rules spelled.
+pub returns-in_err-format-clause-none : goal.returns-in_err-format-clause-none
+returns-in_err-format-clause-none c = rw c.from_residual.ensures (λ r rules version spelled.
     let h = c.split.result.0 in
-    let room : HasRoom h = record { side_fits = omega arith; capacity_fits = omega arith; tiles_fit = omega arith; number_fits = omega arith; count_fits = omega arith } in
-    let is = body_is h c.args.body.now c.split.result.1.now c.split_at.result.0.now c.split_at.result.1.now r room c.split.ensures.parts c.split_at.ensures.by_index.0 c.split_at.ensures.front_len rules spelled in
-    c.in_err-side.ensures (numbers_from h r is.numbers rules))
+    let room : HasRoom h = record { side_fits = omega arith; capacity_fits = omega arith; tiles_fit = omega arith; number_fits = omega arith; count_fits = omega arith; sinks_fit = omega arith } in
+    let parts = parts_at h _ _ _ _ c.requires.body c.split.ensures.parts c.split_at.ensures.by_index.0 c.split_at.ensures.front_len in
+    let is = body_is h _ _ _ _ _ _ r room parts rules spelled in
+    c.in_err-format.ensures (subst (λ (v : Version). AreNumbers (format_in v h) h.tiles h.number h.count h.sinks) version (numbers_from h r is.same rules)))
 
 pub returns-in_err-entries-clause-none : goal.returns-in_err-entries-clause-none
-returns-in_err-entries-clause-none c = rw c.from_residual-in_err-entries.ensures (λ r rules spelled.
+returns-in_err-entries-clause-none c = rw c.from_residual-in_err-entries.ensures (λ r rules version spelled.
     let h = c.split.result.0 in
-    let room : HasRoom h = record { side_fits = omega arith; capacity_fits = omega arith; tiles_fit = omega arith; number_fits = omega arith; count_fits = omega arith } in
-    let is = body_is h c.args.body.now c.split.result.1.now c.split_at.result.0.now c.split_at.result.1.now r room c.split.ensures.parts c.split_at.ensures.by_index.0 c.split_at.ensures.front_len rules spelled in
-    let entries = entries_are h c.split_at.result.0.now c.split_at.result.1.now c.split_at-2.result.0.now c.split_at-2.result.1.now r is c.split_at-2.ensures.by_index.0 c.split_at-2.ensures.front_len in
-    c.in_err-entries.ensures.none r.entries (sym is.numbers.tiles_are) rules.entries rules.in_order entries.0)
+    let room : HasRoom h = record { side_fits = omega arith; capacity_fits = omega arith; tiles_fit = omega arith; number_fits = omega arith; count_fits = omega arith; sinks_fit = omega arith } in
+    let parts : Splits _ _ _ _ c.split_at-2.result.0.now c.split_at-2.result.1.now h = record { whole = c.requires.body; numbers = c.split.ensures.parts; free_bytes = c.split_at.ensures.by_index.0; free_len = c.split_at.ensures.front_len; rooms = c.split_at-2.ensures.by_index.0; entries_len = c.split_at-2.ensures.front_len } in
+    let is = body_is h _ _ _ _ _ _ r room parts rules spelled in
+    c.in_err-entries.ensures.none r.entries (sym is.same.tiles_are) rules.entries rules.in_order is.entries_are)
 
-pub returns-then-not-is_zero-2-clause-none : goal.returns-then-not-is_zero-2-clause-none
-returns-then-not-is_zero-2-clause-none c = λ r rules spelled.
+pub read_sinks-requires : goal.read_sinks-requires
+read_sinks-requires c = record {
+  side = omega (arith, c.side.ensures.value, side_small c.in_ok-format.format c.side.ensures.rules);
+  count = c.in_ok-format.ensures.0.few;
+  bytes = omega arith;
+}
+
+pub returns-in_err-sinks-clause-none : goal.returns-in_err-sinks-clause-none
+returns-in_err-sinks-clause-none c = rw c.from_residual-in_err-sinks.ensures (λ r rules version spelled.
     let h = c.split.result.0 in
-    let room : HasRoom h = record { side_fits = omega arith; capacity_fits = omega arith; tiles_fit = omega arith; number_fits = omega arith; count_fits = omega arith } in
-    let is = body_is h c.args.body.now c.split.result.1.now c.split_at.result.0.now c.split_at.result.1.now r room c.split.ensures.parts c.split_at.ensures.by_index.0 c.split_at.ensures.front_len rules spelled in
-    let entries = entries_are h c.split_at.result.0.now c.split_at.result.1.now c.split_at-2.result.0.now c.split_at-2.result.1.now r is c.split_at-2.ensures.by_index.0 c.split_at-2.ensures.front_len in
-    let zero : is_all_zero c.split_at-2.result.1.now ≡ true = entries.1 in
-    cc
+    let room : HasRoom h = record { side_fits = omega arith; capacity_fits = omega arith; tiles_fit = omega arith; number_fits = omega arith; count_fits = omega arith; sinks_fit = omega arith } in
+    let parts : Splits _ _ _ _ c.split_at-2.result.0.now c.split_at-2.result.1.now h = record { whole = c.requires.body; numbers = c.split.ensures.parts; free_bytes = c.split_at.ensures.by_index.0; free_len = c.split_at.ensures.front_len; rooms = c.split_at-2.ensures.by_index.0; entries_len = c.split_at-2.ensures.front_len } in
+    let is = body_is h _ _ _ _ _ _ r room parts rules spelled in
+    let side : r.side ≡ c.side.result = sym (c.side.ensures.value ∙ ap (λ (f : Format). f.side) c.in_ok-format.ensures.1 ∙ is.same.side_is) in
+    c.in_err-sinks.ensures.none r.sinks (sym is.same.sinks_are) (subst (λ (n : ℕ). All (IsSink n) r.sinks) side rules.sinks) rules.sinks_in_order is.sinks_are)
+
+pub invariant_of-result : goal.invariant_of-result
+invariant_of-result c =
+    let h = c.split.result.0 in
+    let free : is_all_zero c.split_at.result.0.now ≡ true = cc in
+    let entries = c.in_ok-entries.ensures in
+    let sinks = c.in_ok-sinks.ensures in
+    let parts : Splits _ _ _ _ c.split_at-2.result.0.now c.split_at-2.result.1.now h = record { whole = c.requires.body; numbers = c.split.ensures.parts; free_bytes = c.split_at.ensures.by_index.0; free_len = c.split_at.ensures.front_len; rooms = c.split_at-2.ensures.by_index.0; entries_len = c.split_at-2.ensures.front_len } in
+    let side : c.side.result ≡ h.side = c.side.ensures.value ∙ ap (λ (f : Format). f.side) c.in_ok-format.ensures.1 in
+    let held = subst (λ (n : ℕ). All (IsSink n) c.in_ok-sinks.sinks.items) side sinks.each in
+    let made = ap (λ (f : Format). let r : RootValue = record { version = f.version; side = f.side; capacity = f.capacity; number = h.number; count = h.count; sinks = c.in_ok-sinks.sinks.items; entries = c.in_ok-entries.entries.items } in r) c.in_ok-format.ensures.1 in
+    (body_from_parts c.args.version h _ _ _ _ _ _ _ _ c.in_ok-format.ensures.0 parts free entries.len entries.each entries.in_order entries.spelled sinks.len held sinks.in_order sinks.spelled _ made).0
 
 pub returns-clause-found : goal.returns-clause-found
 returns-clause-found c =
+    let h = c.split.result.0 in
     let free : is_all_zero c.split_at.result.0.now ≡ true = cc in
-    let zero : is_all_zero c.split_at-2.result.1.now ≡ true = cc in
-    let found = c.in_ok-entries.ensures in
-    body_from_parts c.split.result.0 c.in_ok-side.side c.in_ok-entries.entries.items c.args.body.now c.split.result.1.now c.split_at.result.0.now c.split_at.result.1.now c.split_at-2.result.0.now c.split_at-2.result.1.now
-    c.in_ok-side.ensures.0 c.in_ok-side.ensures.1 found.len found.each found.in_order c.requires c.split.ensures.parts c.split_at.ensures.by_index.0 c.split_at.ensures.front_len free
-    c.split_at-2.ensures.by_index.0 found.spelled zero _ refl
+    let entries = c.in_ok-entries.ensures in
+    let sinks = c.in_ok-sinks.ensures in
+    let parts : Splits _ _ _ _ c.split_at-2.result.0.now c.split_at-2.result.1.now h = record { whole = c.requires.body; numbers = c.split.ensures.parts; free_bytes = c.split_at.ensures.by_index.0; free_len = c.split_at.ensures.front_len; rooms = c.split_at-2.ensures.by_index.0; entries_len = c.split_at-2.ensures.front_len } in
+    let side : c.side.result ≡ h.side = c.side.ensures.value ∙ ap (λ (f : Format). f.side) c.in_ok-format.ensures.1 in
+    let held = subst (λ (n : ℕ). All (IsSink n) c.in_ok-sinks.sinks.items) side sinks.each in
+    let made = ap (λ (f : Format). let r : RootValue = record { version = f.version; side = f.side; capacity = f.capacity; number = h.number; count = h.count; sinks = c.in_ok-sinks.sinks.items; entries = c.in_ok-entries.entries.items } in r) c.in_ok-format.ensures.1 in
+    body_from_parts c.args.version h _ _ _ _ _ _ _ _ c.in_ok-format.ensures.0 parts free entries.len entries.each entries.in_order entries.spelled sinks.len held sinks.in_order sinks.spelled _ made

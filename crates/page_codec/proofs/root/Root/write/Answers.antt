@@ -1,16 +1,16 @@
-use Rattle.std.proofs.Common.{◌≡◌, ◌++◌, List, ℕ, take, ap, ◌∙◌}
+use Rattle.std.proofs.Common.{◌++◌, List, ℕ, ap, ◌∙◌}
 use Rattle.std.specs.List.{flat_map}
-use Rattle.std.proofs.lemmas.List.{take_all}
 use Rattle.page_codec.specs.Numbers.{padded}
 use Rattle.page_codec.specs.Entries.{EntryValue, entry_bytes}
-use Rattle.page_codec.specs.Roots.{RootValue, root_bytes}
+use Rattle.page_codec.specs.Sinks.{sink_bytes}
+use Rattle.page_codec.specs.Roots.{RootValue}
+use Rattle.page_codec.proofs.RootBytes.{root_from_puts}
+use Rattle.lattice.specs.declared.point.Point.{Point}
 use Rattle.page_codec.proofs.root.Root.write.Goals as goal
 
 pub returns : goal.returns
-unfolding root_bytes
 returns c =
-    let all = take_all c.loop-entry.entry-index c.as_slice-entry-items.result.now c.loop-entry-test.false in
-    let entries : take c.loop-entry.entry-index c.as_slice-entry-items.result.now ≡ c.args.self.now.entries = all ∙ c.as_slice-entry-items.ensures.value ∙ ap (λ (r : RootValue). r.entries) c.self.view_is in
-    c.finish.ensures
-    ∙ ap (padded 4096) (c.loop-entry.invariant.written ∙ ap (λ (l : List EntryValue). c.write_header-writer.result ++ flat_map entry_bytes l) entries)
-    ∙ ap (λ (l : List ℕ). padded 4096 (l ++ flat_map entry_bytes c.args.self.now.entries)) c.write_header-writer.ensures.bytes
+    let entries = c.write_entries.ensures ∙ ap (λ (l : List EntryValue). padded 3840 (flat_map entry_bytes l)) (c.as_slice.ensures.value ∙ ap (λ (r : RootValue). r.entries) c.self.view_is) in
+    let sinks = c.write_sinks.ensures ∙ ap (λ (l : List Point). padded 192 (flat_map sink_bytes l)) (c.as_slice-2.ensures.value ∙ ap (λ (r : RootValue). r.sinks) c.self.view_is) in
+    c.finish.ensures ∙ root_from_puts c.args.self.now _ _ _ c.write_header-writer.ensures.rules c.write_header-writer.ensures.bytes
+    (c.put.ensures.bytes ∙ ap (λ (l : List ℕ). c.write_header-writer.result ++ l) entries) (c.put-2.ensures.bytes ∙ ap (λ (l : List ℕ). c.put.new.self ++ l) sinks)

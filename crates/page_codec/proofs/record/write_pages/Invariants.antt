@@ -1,10 +1,10 @@
 use Rattle.std.proofs.Common.{◌≡◌, ◌*◌, length, take}
 use Rattle.std.specs.List.{flat_map}
 use Rattle.page_codec.specs.Numbers.{u32_bytes}
-use Rattle.page_codec.proofs.record.Record.write.Given as goal
+use Rattle.page_codec.proofs.record.write_pages.Given as goal
 
 abbrev pub invariant-loop-page : goal.invariant-loop-page
 invariant-loop-page l = record {
-  written : l.writer ≡ flat_map u32_bytes (take l.page-index l.page-items);
+  written : l.writer ≡ flat_map u32_bytes (take l.page-index l.pages);
   len : length l.writer ≡ 4 * l.page-index;
 }

@@ -1,0 +1,124 @@
+//! The sinks of a root.
+ghost use Rattle.std.specs.Prelude.{◌≡◌, ℕ, ◌+◌, ◌≤◌, ◌↔◌, ◌++◌, List, length, All, IsTrue, IfSome, IfNone};
+ghost use Rattle.std.specs.List.{flat_map};
+ghost use Rattle.lattice.specs.declared.point.Point.{Point};
+ghost use Rattle.page_codec.specs.Numbers.{padded};
+ghost use Rattle.page_codec.specs.Sinks.{IsSink, SinkIsBefore, AreSinksInOrder, sink_bytes, is_sink_before};
+ghost use Rattle.page_codec.specs.Headers.{Follows};
+
+use crate::numbers::{is_zero, split_i32};
+use crate::writer::Writer;
+use arrayvec::ArrayVec;
+use lattice::{Point, Side, holders};
+
+/// How many sinks a root has room for.
+pub const ROOT_SINKS: usize = 16;
+
+// Bytes of a sink.
+const SINK_BYTES: usize = 8;
+
+/// Bytes of the room for sinks, which goes on to the end of the root.
+pub(crate) const SINKS_BYTES: usize = 192;
+
+/// The sinks that these bytes spell, one after another and zeros behind them, where they are in their order.
+pub(crate) fn read_sinks(
+    bytes: &[u8],
+    side: Side,
+    count: u32,
+) -> Option<ArrayVec<Point, ROOT_SINKS>>
+    requires side { side ≤ 3601 }
+    requires count { count ≤ ROOT_SINKS }
+    requires bytes { length bytes.now ≡ SINKS_BYTES }
+    ensures len { IfSome result (λ found. length found.items ≡ count) }
+    ensures each { IfSome result (λ found. All (IsSink side) found.items) }
+    ensures in_order { IfSome result (λ found. AreSinksInOrder found.items) }
+    ensures spelled { IfSome result (λ found. bytes.now ≡ padded SINKS_BYTES (flat_map sink_bytes found.items)) }
+    ensures none { IfNone result ((sinks : List Point) → length sinks ≡ count → All (IsSink side) sinks → AreSinksInOrder sinks
+        → bytes.now ≡ padded SINKS_BYTES (flat_map sink_bytes sinks) → ⊥) }
+{
+    let mut sinks = ArrayVec::new();
+    let mut rest = bytes;
+    for _ in 0..count {
+        let (front, behind) = rest.split_at(SINK_BYTES);
+        let sink = next_sink(front, side, sinks.as_slice())?;
+        sinks.push(sink);
+        rest = behind;
+    }
+    if is_zero(rest) { Some(sinks) } else { None }
+}
+
+// The sink that these bytes spell, where it may follow the others.
+fn next_sink(bytes: &[u8], side: Side, sinks: &[Point]) -> Option<Point>
+    requires side { side ≤ 3601 }
+    requires bytes { length bytes.now ≡ SINK_BYTES }
+    ensures sink { IfSome result (IsSink side) }
+    ensures follows { IfSome result (λ found. Follows SinkIsBefore sinks.now found) }
+    ensures spelled { IfSome result (λ found. bytes.now ≡ sink_bytes found) }
+    ensures none { IfNone result ((sink : Point) → IsSink side sink → Follows SinkIsBefore sinks.now sink → bytes.now ≡ sink_bytes sink → ⊥) }
+{
+    let sink = read_point(bytes);
+    if !may_follow(side, sinks, sink) {
+        return None;
+    }
+    Some(sink)
+}
+
+fn may_follow(side: Side, sinks: &[Point], sink: Point) -> bool
+    ensures { IsTrue result ↔ (IsSink side sink × Follows SinkIsBefore sinks.now sink) }
+{
+    is_sink(side, sink) && follows(sinks, sink)
+}
+
+#[tactic(auto, unfolding(crate::specs::Sinks::sink_bytes))]
+fn read_point(bytes: &[u8]) -> Point
+    requires { length bytes.now ≡ SINK_BYTES }
+    ensures { bytes.now ≡ sink_bytes result }
+{
+    let (y, rest) = split_i32(bytes);
+    let (x, _) = split_i32(rest);
+    Point { y, x }
+}
+
+fn is_sink(side: Side, point: Point) -> bool
+    ensures { IsTrue result ↔ IsSink side point }
+{
+    !holders(side, point).is_empty()
+}
+
+// Whether this point is after the others.
+fn follows(sinks: &[Point], sink: Point) -> bool
+    ensures { IsTrue result ↔ Follows SinkIsBefore sinks.now sink }
+{
+    match sinks.last() {
+        Some(last) => is_before(*last, sink),
+        None => true,
+    }
+}
+
+fn is_before(first: Point, second: Point) -> bool
+    ensures { result ≡ is_sink_before first second }
+{
+    first < second
+}
+
+/// The sinks one after another, and zeros behind them.
+pub(crate) fn write_sinks(sinks: &[Point]) -> [u8; SINKS_BYTES]
+    requires { length sinks.now ≤ ROOT_SINKS }
+    ensures { result ≡ padded SINKS_BYTES (flat_map sink_bytes sinks.now) }
+{
+    let mut writer = Writer::new();
+    for sink in sinks {
+        put_sink(&mut writer, *sink);
+    }
+    writer.finish()
+}
+
+#[tactic(auto, unfolding(crate::specs::Sinks::sink_bytes))]
+fn put_sink(writer: &mut Writer<SINKS_BYTES>, sink: Point)
+    requires { length writer.old + SINK_BYTES ≤ SINKS_BYTES }
+    ensures bytes { writer.new ≡ writer.old ++ sink_bytes sink }
+    ensures len { length writer.new ≡ length writer.old + SINK_BYTES }
+{
+    writer.put_i32(sink.y);
+    writer.put_i32(sink.x);
+}
