@@ -9,8 +9,6 @@ mod linking;
 mod rising;
 mod sharing;
 mod summary;
-#[cfg(test)]
-mod tests;
 mod waiting;
 
 pub use joining::join;

@@ -12,8 +12,6 @@ mod sealing_laws;
 mod seam_rule;
 mod seams_between;
 mod table;
-#[cfg(test)]
-mod tests;
 
 pub use adjacency::{adjacent, degree, outlet};
 pub use listing::tiles;

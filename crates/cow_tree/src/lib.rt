@@ -10,8 +10,6 @@
 mod laws;
 mod opening;
 mod samples;
-#[cfg(test)]
-mod tests;
 mod tree;
 mod writing;
 

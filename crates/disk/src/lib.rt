@@ -17,8 +17,6 @@ mod recorded_file;
 mod sector;
 mod settled;
 mod tally;
-#[cfg(test)]
-mod tests;
 mod torn;
 mod transcript;
 mod world;

@@ -12,8 +12,6 @@ mod flooding;
 mod growth;
 mod laws;
 mod summing;
-#[cfg(test)]
-mod tests;
 
 pub use draining::{direction, trace, watershed};
 pub use filling::fill;

@@ -13,8 +13,6 @@ mod named;
 mod patching;
 mod planning;
 mod room;
-#[cfg(test)]
-mod tests;
 mod tiles;
 
 pub use carrying::carry_out;

@@ -12,8 +12,6 @@ mod finding;
 mod flats;
 mod laws;
 mod numbering;
-#[cfg(test)]
-mod tests;
 
 pub use directions::Directions;
 pub use filled::Filled;

@@ -8,8 +8,6 @@ mod bytes;
 mod laws;
 mod name;
 mod side;
-#[cfg(test)]
-mod tests;
 
 pub use bytes::{bytes_of, put_sample, read_samples, sample, samples, write_samples};
 pub use laws::{

@@ -17,8 +17,6 @@ mod point;
 mod refusal;
 mod rim;
 mod side;
-#[cfg(test)]
-mod tests;
 
 pub use corner::Corner;
 pub use direction::{DIRECTIONS, Dir, Step, neighbour, steeper, steps};

@@ -9,6 +9,3 @@ mod allocator;
 mod bits;
 
 pub use allocator::{FIRST_PAGE, Pages};
-
-#[cfg(test)]
-mod tests;

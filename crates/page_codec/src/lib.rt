@@ -44,6 +44,3 @@ pub const MAX_CAPACITY: u32 = 240;
 
 /// How many entries a root has room for.
 pub const ROOT_ENTRIES: usize = MAX_CAPACITY as usize;
-
-#[cfg(test)]
-mod tests;

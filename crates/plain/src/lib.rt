@@ -30,6 +30,3 @@ pub use rows::{
 };
 pub use runs::watershed;
 pub use seam::{disagrees, height};
-
-#[cfg(test)]
-mod tests;

@@ -11,8 +11,6 @@ mod laws;
 mod opening;
 mod roots;
 mod slot;
-#[cfg(test)]
-mod tests;
 mod writing;
 
 pub use laws::{one_root_is_current, stores_open};

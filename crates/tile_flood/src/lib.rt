@@ -12,8 +12,6 @@ mod outlets;
 mod passing;
 mod queue;
 mod raising;
-#[cfg(test)]
-mod tests;
 mod values;
 
 pub use block::Block;

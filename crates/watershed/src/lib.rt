@@ -6,8 +6,6 @@
 mod laws;
 mod runs;
 mod search;
-#[cfg(test)]
-mod tests;
 
 pub use laws::runs_are_unique;
 pub use runs::Run;

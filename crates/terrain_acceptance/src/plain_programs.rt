@@ -1,11 +1,11 @@
 //! Worked rows: tiles of three by three samples, written as rows from the north.
-use crate::{
-    Plain, direction, disagrees, effect, filled_levels, flat_distance, flow_path, height,
-    is_adjacent, is_ground, is_outlet, watershed,
-};
 use arrayvec::ArrayVec;
 use edits::{Bytes, Command};
 use lattice::{Corner, Height, Point, Refusal, Side};
+use plain::{
+    Plain, direction, disagrees, effect, filled_levels, flat_distance, flow_path, height,
+    is_adjacent, is_ground, is_outlet, watershed,
+};
 use std::alloc::{AllocError, Global};
 use std::test::Fail;
 use watershed::Run;

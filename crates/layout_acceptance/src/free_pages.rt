@@ -1,4 +1,4 @@
-use crate::{FIRST_PAGE, Pages};
+use page_alloc::{FIRST_PAGE, Pages};
 use std::test::Fail;
 
 // The least disk of a store: 16 sectors, of which 4 hold the roots and their gates.

@@ -1,7 +1,7 @@
 //! Rows worked by hand, with tiles of side 3, written as three rows from the north.
 ghost use Rattle.std.specs.Prelude.{◌≡◌, IfOk};
 
-use crate::{Samples, Table, adjacent, degree, height, outlet, sealed, seams, tiles};
+use catalogue::{Samples, Table, adjacent, degree, height, outlet, sealed, seams, tiles};
 use lattice::{Corner, Height, Point, Side, VOID};
 use std::alloc::Global;
 use std::test::Fail;

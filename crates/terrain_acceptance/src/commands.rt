@@ -1,9 +1,9 @@
 //! Rows worked by hand, with tiles of side 3, written as three rows from the north.
 ghost use Rattle.std.specs.Prelude.{◌≡◌, IfOk};
 
-use crate::{Bytes, Command, carry_out, plan};
 use arrayvec::ArrayVec;
 use catalogue::{Samples, Table, height};
+use edits::{Bytes, Command, carry_out, plan};
 use lattice::{Corner, Height, Point, Refusal, Side, VOID};
 use std::alloc::Global;
 use std::test::Fail;

@@ -1,4 +1,4 @@
-use crate::{Directions, Filled};
+use flow_d8::{Directions, Filled};
 use lattice::{Corner, Dir, Point, Refusal, Side};
 use std::alloc::Global;
 

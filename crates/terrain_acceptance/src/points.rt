@@ -1,4 +1,4 @@
-use crate::{
+use lattice::{
     Corner, DIRECTIONS, Dir, Point, Refusal, Side, holders, index_in, point_at, steeper, steps,
 };
 

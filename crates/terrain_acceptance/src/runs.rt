@@ -1,7 +1,7 @@
-use crate::{Run, watershed};
 use flow_d8::Filled;
 use lattice::{Corner, Point, Side};
 use std::alloc::Global;
+use watershed::{Run, watershed};
 
 const VOID: i16 = i16::MIN;
 

@@ -2,8 +2,8 @@
 ghost use Rattle.std.specs.Prelude.{◌≤◌, OnOk, length};
 ghost use Rattle.catalogue.specs.Tiles.{corners_of};
 
-use crate::{direction, fill, trace, watershed};
 use catalogue::{Samples, Table};
+use drainage::{direction, fill, trace, watershed};
 use lattice::{Corner, Point, Refusal, Side};
 use std::alloc::Global;
 use std::test::Fail;

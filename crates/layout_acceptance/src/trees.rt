@@ -2,8 +2,8 @@ ghost use Rattle.std.specs.Prelude.{◌≡◌, map, OnOk, IfOk};
 ghost use Rattle.disk.specs.MemDisk.{sectors_of};
 ghost use Rattle.cow_tree.specs.Trees.{corners_of, root_of};
 
-use crate::{Plane, Tree};
 use catalogue::Samples;
+use cow_tree::{Plane, Tree};
 use disk::{Disk, FaultOnceDisk, FuseDisk, MemDisk, Torn};
 use lattice::{Corner, Refusal, Side};
 use std::alloc::Global;

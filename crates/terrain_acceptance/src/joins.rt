@@ -1,4 +1,4 @@
-use crate::{RimPoint, Summary, join};
+use border_graph::{RimPoint, Summary, join};
 use lattice::{Corner, Side};
 use std::alloc::Global;
 use tile_flood::{Block, Flood, spills};

@@ -2,10 +2,10 @@ ghost use Rattle.std.specs.Prelude.{◌≡◌, ◌≤◌, ◌<◌, IfOk, OnOk, f
 ghost use Rattle.disk.specs.MemDisk.{sectors_of};
 ghost use Rattle.roots.specs.Roots.{has_failed, disk_of};
 
-use crate::Roots;
 use disk::{Disk, FuseDisk, MemDisk, Torn};
 use lattice::{Refusal, Side};
 use page_codec::Root;
+use roots::Roots;
 use std::alloc::Global;
 use std::test::Fail;
 

@@ -1,4 +1,4 @@
-use crate::{Disk, Fault, FaultOnceDisk, FileDisk, FuseDisk, MemDisk, Torn, settle};
+use disk::{Disk, Fault, FaultOnceDisk, FileDisk, FuseDisk, MemDisk, Torn, settle};
 use std::alloc::Global;
 use std::fs;
 use std::io::ErrorKind;

@@ -1,4 +1,4 @@
-use super::*;
+use hgt::*;
 use lattice::{Corner, Refusal, Side};
 use std::test::Fail;
 

@@ -1,6 +1,6 @@
-use crate::{Block, Flood, Labelled, NO_LABEL, OUT, Spill, raise, spills};
 use lattice::{Refusal, Side};
 use std::alloc::Global;
+use tile_flood::{Block, Flood, Labelled, NO_LABEL, OUT, Spill, raise, spills};
 
 const VOID: i16 = i16::MIN;
 

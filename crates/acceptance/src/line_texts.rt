@@ -1,8 +1,7 @@
-use crate::grammar::request_of;
-use crate::reply::Reply;
-use crate::request::Request;
-use crate::source::{Ahead, Extent, Line, read_line, read_payload, skip_payload};
 use lattice::{Point, Refusal};
+use lines::{
+    Ahead, Extent, Line, Reply, Request, read_line, read_payload, request_of, skip_payload,
+};
 use std::io::{self, Read};
 use std::test::Fail;
 use watershed::Run;

@@ -1,6 +1,6 @@
-use crate::*;
 use arrayvec::ArrayVec;
 use lattice::{Corner, Point, Refusal, Side};
+use page_codec::*;
 use std::test::Fail;
 
 fn format_1(side: u32, capacity: u32) -> Result<Format, Refusal> {
