@@ -1,21 +1,23 @@
 -- What clap makes of the program's words.
-use Rattle.std.proofs.Common.{◌≡◌, ℕ, get_or, Bool, true, false, zero, suc, List, [], ◌∷◌, ◌++◌, Option, Some, None, refl, sym, ap, ◌∙◌, subst, arith, map, append_assoc, eqb-true, ap₂, codes, true≢false, inl, inr}
-use Rattle.std.specs.Prelude.{if◌then◌else◌, ◌==◌, fold, All, Any, MatchOption, IfOk, Err, ◌⊎◌, unwrap_or}
+use Rattle.std.proofs.Common.{◌≡◌, ℕ, get_or, Bool, true, false, zero, suc, List, [], ◌∷◌, Option, Some, None, refl, sym, ap, ◌∙◌, subst, arith, map, eqb-true, ap₂, codes, true≢false}
+use Rattle.std.specs.Prelude.{if◌then◌else◌, ◌==◌, ◌&&◌, ◌||◌, fold, find, All, Any, MatchOption, IfOk, IfSome, Err, unwrap_or, cond, option_map}
+use Rattle.std.specs.List.{list_all, list_any}
 use Rattle.std.specs.Option.{ok_or}
 use Rattle.std.specs.Str.{bytes_eq}
 use Rattle.std.proofs.lemmas.Slice.Eq.{bytes_eq-Decides}
-use Rattle.std.proofs.lemmas.List.{append-nil}
 use Rattle.std.proofs.lemmas.List.Elements.{All-cons, All-head, All-nil, All-tail}
 use Rattle.clap.specs.Lexer.{strip_byte}
 use Rattle.clap.specs.Kinds.{Kinds, or_else}
-use Rattle.clap.specs.Faults.{entered_fault, fault_of, is_simple_and_free, turn_fault, walk_fault}
-use Rattle.clap.specs.Simple.{App, Shape, built, is_simple, names_of, subcommand_of}
+use Rattle.clap.specs.Faults.{entered_fault, fault_of, is_simple_and_free, walk_fault}
+use Rattle.clap.specs.Simple.{App, Shape, built, entered, is_simple, label_of, names_of, rows_at, subcommand_of}
 use Rattle.clap.specs.Takes.{takes}
-use Rattle.clap.specs.Walk.{Names, Rule, Text, Walk, nothing_held, is_empty, walk_from, walked, walked_from}
+use Rattle.clap.specs.Walk.{Names, Rule, Text, answers_to, idle, is_empty, nothing_held, subcommand_met, subcommand_or_other, after_step, walk, walk_from, walked}
+use Rattle.clap.proofs.FaultLemmas.{past}
 use Rattle.clap.proofs.OnLiterals.{clap_on_literals}
-use Rattle.clap.specs.declared.error.ErrorKind.{ErrorKind}
-use Rattle.clap.specs.declared.error.ErrorKind.TheVariants.{UnknownArgument}
-use Rattle.server.specs.CommandLine.{AskedBy, AskedIn, AskNothing, IsOption, Reads, SpellsOut, Texts, program_app, texts_of}
+use Rattle.clap.proofs.SimpleLemmas.{is_nil, label_first}
+use Rattle.clap.proofs.WalkLemmas.{both, walk_stopped}
+use Rattle.server.specs.CommandLine.{AskedBy, AskedIn, AskNothing, IsOption, SpellsOut, Texts, program_app, texts_in, texts_of}
+use Rattle.server.specs.CommandLine.{check_app, format_app, import_app, serve_app, table_app}
 use Rattle.server.specs.declared.arguments.ArgumentFault.TheVariants.{Bad}
 use Rattle.server.specs.declared.arguments.Arguments.{Arguments}
 use Rattle.server.specs.declared.arguments.Arguments.TheVariants.{Format, Import, Serve, Table, Check}
@@ -28,488 +30,241 @@ pub free_app : is_simple_and_free program_app ≡ true
 unfolding clap_on_literals
 free_app = refl
 
--- no hyphen stands first
-record IsPlain (word : Text) : Type 0 where
+-- ---- words that are no options
+
+abbrev NoOption : Text → Type 0
+NoOption word = IsOption word → ⊥
+
+-- such a word, as clap tests it
+record Plain : Type 0 where
+  word : Text
   strips : strip_byte 45 word ≡ None
   other : bytes_eq word (45 ∷ 45 ∷ []) ≡ false
 
-no_strip : (word : Text) → (IsOption word → ⊥) → strip_byte 45 word ≡ None
-no_strip [] none = refl
-no_strip (b ∷ bs) none = by (b == 45) refl
+tests : (word : Text) → NoOption word → (strip_byte 45 word ≡ None) × (bytes_eq word (45 ∷ 45 ∷ []) ≡ false)
+tests [] none = (refl, refl)
+tests (b ∷ bs) none = by (b == 45) refl
   where
-    by : (t : Bool) → (b == 45) ≡ t → (if t then Some bs else None) ≡ None
+    by : (t : Bool) → (b == 45) ≡ t → ((if t then Some bs else None) ≡ None) × ((t && bytes_eq bs (45 ∷ [])) ≡ false)
     by true e = absurd (none (bs, ap (λ (c : ℕ). c ∷ bs) (eqb-true b 45 e)))
-    by false e = refl
+    by false e = (refl, refl)
 
-other_text : (word text : Text) → (word ≡ text → ⊥) → bytes_eq word text ≡ false
-other_text word text not_it = by (bytes_eq word text) refl
-  where
-    by : (t : Bool) → bytes_eq word text ≡ t → t ≡ false
-    by true e = absurd (not_it ((bytes_eq-Decides word text).0 e))
-    by false e = refl
+abbrev plain_word : (word : Text) → NoOption word → Plain
+plain_word word none = record { word = word; strips = (tests word none).0; other = (tests word none).1 }
 
-plain_word : (word : Text) → (IsOption word → ⊥) → IsPlain word
-plain_word word none = record { strips = no_strip word none; other = other_text word (45 ∷ 45 ∷ []) (λ e. none (45 ∷ [], e)) }
+abbrev words_of : List Plain → List Text
+words_of = map (λ (q : Plain). q.word)
 
-abbrev texts_by : List Text → Option Texts
-texts_by ws = texts_of (subcommand_of program_app ws)
+plain_words : (ts : List Text) → All NoOption ts → (qs : List Plain) × (words_of qs ≡ ts)
+plain_words [] none = ([], refl)
+plain_words (t ∷ ts) none =
+    let rest = plain_words ts (All-tail NoOption t ts none) in
+    (plain_word t (All-head NoOption t ts none) ∷ rest.0, ap (λ (l : List Text). t ∷ l) rest.1)
 
--- the words of each subcommand are taken, and give its texts
-
-abbrev format_texts : Text → Text → Text → Texts
-format_texts p s c = record { name = codes "format"; path = Some p; tile = None; side = Some s; capacity = Some c }
-
-taken_format : (p s c : Text) → IsPlain p → IsPlain s → IsPlain c → takes program_app (codes "format" ∷ p ∷ s ∷ c ∷ []) ≡ true
-unfolding clap_on_literals
-taken_format p s c qp qs qc = rw (qp.other, qp.strips, qp.strips, qs.other, qs.strips, qs.strips, qc.other, qc.strips, qc.strips) refl
-
-given_format : (p s c : Text) → IsPlain p → IsPlain s → IsPlain c → texts_by (codes "format" ∷ p ∷ s ∷ c ∷ []) ≡ Some (format_texts p s c)
-unfolding clap_on_literals
-given_format p s c qp qs qc = rw (qp.other, qp.strips, qp.strips, qs.other, qs.strips, qs.strips, qc.other, qc.strips, qc.strips) refl
-
-abbrev import_texts : Text → Text → Texts
-import_texts p f = record { name = codes "import"; path = Some p; tile = Some f; side = None; capacity = None }
-
-taken_import : (p f : Text) → IsPlain p → IsPlain f → takes program_app (codes "import" ∷ p ∷ f ∷ []) ≡ true
-unfolding clap_on_literals
-taken_import p f qp qf = rw (qp.other, qp.strips, qp.strips, qf.other, qf.strips, qf.strips) refl
-
-given_import : (p f : Text) → IsPlain p → IsPlain f → texts_by (codes "import" ∷ p ∷ f ∷ []) ≡ Some (import_texts p f)
-unfolding clap_on_literals
-given_import p f qp qf = rw (qp.other, qp.strips, qp.strips, qf.other, qf.strips, qf.strips) refl
-
-abbrev serve_texts : Text → Texts
-serve_texts p = record { name = codes "serve"; path = Some p; tile = None; side = None; capacity = None }
-
-taken_serve : (p : Text) → IsPlain p → takes program_app (codes "serve" ∷ p ∷ []) ≡ true
-unfolding clap_on_literals
-taken_serve p qp = rw (qp.other, qp.strips, qp.strips) refl
-
-given_serve : (p : Text) → IsPlain p → texts_by (codes "serve" ∷ p ∷ []) ≡ Some (serve_texts p)
-unfolding clap_on_literals
-given_serve p qp = rw (qp.other, qp.strips, qp.strips) refl
-
-abbrev table_texts : Text → Text → Texts
-table_texts s c = record { name = codes "table"; path = None; tile = None; side = Some s; capacity = Some c }
-
-taken_table : (s c : Text) → IsPlain s → IsPlain c → takes program_app (codes "table" ∷ s ∷ c ∷ []) ≡ true
-unfolding clap_on_literals
-taken_table s c qs qc = rw (qs.other, qs.strips, qs.strips, qc.other, qc.strips, qc.strips) refl
-
-given_table : (s c : Text) → IsPlain s → IsPlain c → texts_by (codes "table" ∷ s ∷ c ∷ []) ≡ Some (table_texts s c)
-unfolding clap_on_literals
-given_table s c qs qc = rw (qs.other, qs.strips, qs.strips, qc.other, qc.strips, qc.strips) refl
-
-abbrev check_texts : Text → Texts
-check_texts p = record { name = codes "check"; path = Some p; tile = None; side = None; capacity = None }
-
-taken_check : (p : Text) → IsPlain p → takes program_app (codes "check" ∷ p ∷ []) ≡ true
-unfolding clap_on_literals
-taken_check p qp = rw (qp.other, qp.strips, qp.strips) refl
-
-given_check : (p : Text) → IsPlain p → texts_by (codes "check" ∷ p ∷ []) ≡ Some (check_texts p)
-unfolding clap_on_literals
-given_check p qp = rw (qp.other, qp.strips, qp.strips) refl
-
--- a walk that has stopped keeps the words that are left, and finds no fault in them
-
-stopped_after : (rules : List Rule) (names : Names) (w : Walk) (name : Text) (xs rest : List Text) → w.stopped ≡ Some (name, xs)
-    → (fold (walked rules names) w rest).stopped ≡ Some (name, xs ++ rest)
-unfolding walked
-stopped_after rules names w name xs [] e = e ∙ ap (λ l. Some (name, l)) (sym (append-nil xs))
-stopped_after rules names w name xs (x ∷ rest) e =
-    stopped_after rules names (walked rules names w x) name (xs ++ x ∷ []) rest (ap (λ o. (walked_from rules names o w x).stopped) e)
-    ∙ ap (λ l. Some (name, l)) (append_assoc xs (x ∷ []) rest)
-
-no_fault_after : (s : Shape) (names : Names) (w : Walk) (name : Text) (xs rest : List Text) → w.stopped ≡ Some (name, xs) → walk_fault s names w rest ≡ []
-unfolding walked walk_fault
-no_fault_after s names w name xs [] e = refl
-no_fault_after s names w name xs (x ∷ rest) e =
-    let turn : turn_fault s names w x ≡ [] = rw e refl in
-    ap (λ (k : Kinds). or_else k (walk_fault s names (walked s.rules names w x) rest)) turn
-    ∙ no_fault_after s names (walked s.rules names w x) name (xs ++ x ∷ []) rest (ap (λ o. (walked_from s.rules names o w x).stopped) e)
-
-second_fault : (a b c : Kinds) (k : ErrorKind) → a ≡ [] → b ≡ k ∷ [] → or_else a (or_else b c) ≡ [] → ⊥
-second_fault a b c k e f none = let bad : or_else [] (or_else (k ∷ []) c) ≡ [] = rw (e, f) at none in cc
+-- ---- what clap makes of the words behind a subcommand's name
 
 -- the program's words, built as clap builds them
 abbrev program : App
 program = built program_app
 
-below_format : (p s c d : Text) (rest : List Text) → IsPlain p → IsPlain s → IsPlain c → IsPlain d → entered_fault program (Some (codes "format", p ∷ s ∷ c ∷ d ∷ rest)) ≡ UnknownArgument ∷ []
+abbrev texts_by : List Text → Option Texts
+texts_by ws = texts_of (subcommand_of program_app ws)
+
+-- a text for each that is required, and no further one
+abbrev is_full : List Rule → List Text → Bool
+is_full [] [] = true
+is_full [] (t ∷ ts) = false
+is_full (r ∷ rs) [] = false
+is_full (r ∷ rs) (t ∷ ts) = is_full rs ts
+
+abbrev text_at : Text → List Rule → List Text → Option Text
+text_at id [] ts = None
+text_at id (r ∷ rs) [] = None
+text_at id (r ∷ rs) (t ∷ ts) = if bytes_eq r.id id then Some t else text_at id rs ts
+
+abbrev texts_given : Shape → List Text → Texts
+texts_given s ts = record {
+  name = s.name;
+  path = text_at (codes "PATH") s.rules ts;
+  tile = text_at (codes "FILE") s.rules ts;
+  side = text_at (codes "SIDE") s.rules ts;
+  capacity = text_at (codes "CAPACITY") s.rules ts;
+}
+
+-- whether clap takes a subcommand's words, and the texts that it reads of them, where they are full or aren't
+abbrev outcome : Bool → Shape → List Text → Bool × Option Texts
+outcome true s ts = (takes program_app (s.name ∷ ts), texts_by (s.name ∷ ts))
+outcome false s ts = (is_empty (entered_fault program (Some (s.name, ts))), None)
+
+abbrev expected : Bool → Shape → List Text → Bool × Option Texts
+expected true s ts = (true, Some (texts_given s ts))
+expected false s ts = (false, None)
+
+abbrev outcome_at : List Text → Shape → Bool × Option Texts
+outcome_at ts s = outcome (is_full s.rules ts) s ts
+
+abbrev expected_at : List Text → Shape → Bool × Option Texts
+expected_at ts s = expected (is_full s.rules ts) s ts
+
+-- by computation at all subcommands, of which none has more than three texts
+as_expected : (qs : List Plain) → map (outcome_at (words_of qs)) program_app.subs ≡ map (expected_at (words_of qs)) program_app.subs
 unfolding clap_on_literals
-below_format p s c d rest qp qs qc qd = rw (qp.other, qp.strips, qp.strips, qs.other, qs.strips, qs.strips, qc.other, qc.strips, qc.strips, qd.other, qd.strips, qd.strips) refl
+as_expected [] = refl
+as_expected (p ∷ []) = rw (p.other, p.strips, p.strips) refl
+as_expected (p ∷ q ∷ []) = rw (p.other, p.strips, p.strips, q.other, q.strips, q.strips) refl
+as_expected (p ∷ q ∷ r ∷ []) = rw (p.other, p.strips, p.strips, q.other, q.strips, q.strips) (rw (r.other, r.strips, r.strips) refl)
+as_expected (p ∷ q ∷ r ∷ s ∷ rest) =
+    rw (p.other, p.strips, p.strips) (rw (q.other, q.strips, q.strips) (rw (r.other, r.strips, r.strips) (rw (s.other, s.strips, s.strips) refl)))
 
-abbrev at_format : Walk
-at_format = walked program.top.rules (names_of program) (walk_from nothing_held) (codes "format")
+-- ---- the program's subcommands: each has a line in the lemmas of this part
 
-stops_format : at_format.stopped ≡ Some (codes "format", [])
-unfolding clap_on_literals
-stops_format = refl
+abbrev subcommand : Arguments → Shape
+subcommand (Format path side capacity) = format_app.top
+subcommand (Import path tile) = import_app.top
+subcommand (Serve path) = serve_app.top
+subcommand (Table side capacity) = table_app.top
+subcommand (Check path) = check_app.top
 
-too_many_format : (p s c d : Text) (rest : List Text) → IsPlain p → IsPlain s → IsPlain c → IsPlain d → fault_of program_app (codes "format" ∷ p ∷ s ∷ c ∷ d ∷ rest) ≡ [] → ⊥
-unfolding clap_on_literals
-too_many_format p s c d rest qp qs qc qd e =
-    second_fault (walk_fault program.top (names_of program) (walk_from nothing_held) (codes "format" ∷ p ∷ s ∷ c ∷ d ∷ rest)) _ _ UnknownArgument
-    (no_fault_after program.top (names_of program) at_format (codes "format") [] (p ∷ s ∷ c ∷ d ∷ rest) stops_format)
-    (ap (entered_fault program) (stopped_after program.top.rules (names_of program) at_format (codes "format") [] (p ∷ s ∷ c ∷ d ∷ rest) stops_format) ∙ below_format p s c d rest qp qs qc qd)
-    e
-
-below_import : (p f d : Text) (rest : List Text) → IsPlain p → IsPlain f → IsPlain d → entered_fault program (Some (codes "import", p ∷ f ∷ d ∷ rest)) ≡ UnknownArgument ∷ []
-unfolding clap_on_literals
-below_import p f d rest qp qf qd = rw (qp.other, qp.strips, qp.strips, qf.other, qf.strips, qf.strips, qd.other, qd.strips, qd.strips) refl
-
-abbrev at_import : Walk
-at_import = walked program.top.rules (names_of program) (walk_from nothing_held) (codes "import")
-
-stops_import : at_import.stopped ≡ Some (codes "import", [])
-unfolding clap_on_literals
-stops_import = refl
-
-too_many_import : (p f d : Text) (rest : List Text) → IsPlain p → IsPlain f → IsPlain d → fault_of program_app (codes "import" ∷ p ∷ f ∷ d ∷ rest) ≡ [] → ⊥
-unfolding clap_on_literals
-too_many_import p f d rest qp qf qd e =
-    second_fault (walk_fault program.top (names_of program) (walk_from nothing_held) (codes "import" ∷ p ∷ f ∷ d ∷ rest)) _ _ UnknownArgument
-    (no_fault_after program.top (names_of program) at_import (codes "import") [] (p ∷ f ∷ d ∷ rest) stops_import)
-    (ap (entered_fault program) (stopped_after program.top.rules (names_of program) at_import (codes "import") [] (p ∷ f ∷ d ∷ rest) stops_import) ∙ below_import p f d rest qp qf qd)
-    e
-
-below_serve : (p d : Text) (rest : List Text) → IsPlain p → IsPlain d → entered_fault program (Some (codes "serve", p ∷ d ∷ rest)) ≡ UnknownArgument ∷ []
-unfolding clap_on_literals
-below_serve p d rest qp qd = rw (qp.other, qp.strips, qp.strips, qd.other, qd.strips, qd.strips) refl
-
-abbrev at_serve : Walk
-at_serve = walked program.top.rules (names_of program) (walk_from nothing_held) (codes "serve")
-
-stops_serve : at_serve.stopped ≡ Some (codes "serve", [])
-unfolding clap_on_literals
-stops_serve = refl
-
-too_many_serve : (p d : Text) (rest : List Text) → IsPlain p → IsPlain d → fault_of program_app (codes "serve" ∷ p ∷ d ∷ rest) ≡ [] → ⊥
-unfolding clap_on_literals
-too_many_serve p d rest qp qd e =
-    second_fault (walk_fault program.top (names_of program) (walk_from nothing_held) (codes "serve" ∷ p ∷ d ∷ rest)) _ _ UnknownArgument
-    (no_fault_after program.top (names_of program) at_serve (codes "serve") [] (p ∷ d ∷ rest) stops_serve)
-    (ap (entered_fault program) (stopped_after program.top.rules (names_of program) at_serve (codes "serve") [] (p ∷ d ∷ rest) stops_serve) ∙ below_serve p d rest qp qd)
-    e
-
-below_table : (s c d : Text) (rest : List Text) → IsPlain s → IsPlain c → IsPlain d → entered_fault program (Some (codes "table", s ∷ c ∷ d ∷ rest)) ≡ UnknownArgument ∷ []
-unfolding clap_on_literals
-below_table s c d rest qs qc qd = rw (qs.other, qs.strips, qs.strips, qc.other, qc.strips, qc.strips, qd.other, qd.strips, qd.strips) refl
-
-abbrev at_table : Walk
-at_table = walked program.top.rules (names_of program) (walk_from nothing_held) (codes "table")
-
-stops_table : at_table.stopped ≡ Some (codes "table", [])
-unfolding clap_on_literals
-stops_table = refl
-
-too_many_table : (s c d : Text) (rest : List Text) → IsPlain s → IsPlain c → IsPlain d → fault_of program_app (codes "table" ∷ s ∷ c ∷ d ∷ rest) ≡ [] → ⊥
-unfolding clap_on_literals
-too_many_table s c d rest qs qc qd e =
-    second_fault (walk_fault program.top (names_of program) (walk_from nothing_held) (codes "table" ∷ s ∷ c ∷ d ∷ rest)) _ _ UnknownArgument
-    (no_fault_after program.top (names_of program) at_table (codes "table") [] (s ∷ c ∷ d ∷ rest) stops_table)
-    (ap (entered_fault program) (stopped_after program.top.rules (names_of program) at_table (codes "table") [] (s ∷ c ∷ d ∷ rest) stops_table) ∙ below_table s c d rest qs qc qd)
-    e
-
-below_check : (p d : Text) (rest : List Text) → IsPlain p → IsPlain d → entered_fault program (Some (codes "check", p ∷ d ∷ rest)) ≡ UnknownArgument ∷ []
-unfolding clap_on_literals
-below_check p d rest qp qd = rw (qp.other, qp.strips, qp.strips, qd.other, qd.strips, qd.strips) refl
-
-abbrev at_check : Walk
-at_check = walked program.top.rules (names_of program) (walk_from nothing_held) (codes "check")
-
-stops_check : at_check.stopped ≡ Some (codes "check", [])
-unfolding clap_on_literals
-stops_check = refl
-
-too_many_check : (p d : Text) (rest : List Text) → IsPlain p → IsPlain d → fault_of program_app (codes "check" ∷ p ∷ d ∷ rest) ≡ [] → ⊥
-unfolding clap_on_literals
-too_many_check p d rest qp qd e =
-    second_fault (walk_fault program.top (names_of program) (walk_from nothing_held) (codes "check" ∷ p ∷ d ∷ rest)) _ _ UnknownArgument
-    (no_fault_after program.top (names_of program) at_check (codes "check") [] (p ∷ d ∷ rest) stops_check)
-    (ap (entered_fault program) (stopped_after program.top.rules (names_of program) at_check (codes "check") [] (p ∷ d ∷ rest) stops_check) ∙ below_check p d rest qp qd)
-    e
-
--- faults that are met at once
-
-missing_format_0 : is_empty (fault_of program_app (codes "format" ∷ [])) ≡ false
-unfolding clap_on_literals
-missing_format_0 = refl
-
-missing_format_1 : (p : Text) → IsPlain p → is_empty (fault_of program_app (codes "format" ∷ p ∷ [])) ≡ false
-unfolding clap_on_literals
-missing_format_1 p qp = rw (qp.other, qp.strips, qp.strips) refl
-
-missing_format_2 : (p s : Text) → IsPlain p → IsPlain s → is_empty (fault_of program_app (codes "format" ∷ p ∷ s ∷ [])) ≡ false
-unfolding clap_on_literals
-missing_format_2 p s qp qs = rw (qp.other, qp.strips, qp.strips, qs.other, qs.strips, qs.strips) refl
-
-missing_import_0 : is_empty (fault_of program_app (codes "import" ∷ [])) ≡ false
-unfolding clap_on_literals
-missing_import_0 = refl
-
-missing_import_1 : (p : Text) → IsPlain p → is_empty (fault_of program_app (codes "import" ∷ p ∷ [])) ≡ false
-unfolding clap_on_literals
-missing_import_1 p qp = rw (qp.other, qp.strips, qp.strips) refl
-
-missing_serve_0 : is_empty (fault_of program_app (codes "serve" ∷ [])) ≡ false
-unfolding clap_on_literals
-missing_serve_0 = refl
-
-missing_table_0 : is_empty (fault_of program_app (codes "table" ∷ [])) ≡ false
-unfolding clap_on_literals
-missing_table_0 = refl
-
-missing_table_1 : (s : Text) → IsPlain s → is_empty (fault_of program_app (codes "table" ∷ s ∷ [])) ≡ false
-unfolding clap_on_literals
-missing_table_1 s qs = rw (qs.other, qs.strips, qs.strips) refl
-
-missing_check_0 : is_empty (fault_of program_app (codes "check" ∷ [])) ≡ false
-unfolding clap_on_literals
-missing_check_0 = refl
-
-no_words : is_empty (fault_of program_app []) ≡ false
-unfolding clap_on_literals
-no_words = refl
-
-asks_help : (ws : List Text) → is_empty (fault_of program_app (codes "help" ∷ ws)) ≡ false
-unfolding clap_on_literals
-asks_help ws = refl
-
-stray : (w : Text) (ws : List Text) → IsPlain w → bytes_eq (codes "format") w ≡ false → bytes_eq (codes "import") w ≡ false → bytes_eq (codes "serve") w ≡ false → bytes_eq (codes "table") w ≡ false → bytes_eq (codes "check") w ≡ false → bytes_eq (codes "help") w ≡ false →
-    is_empty (fault_of program_app (w ∷ ws)) ≡ false
-unfolding clap_on_literals
-stray w ws q eformat eimport eserve etable echeck ehelp = rw (eformat, eimport, eserve, etable, echeck, ehelp, q.other, q.strips, q.strips) refl
-
-clash : (k : Kinds) → is_empty k ≡ false → k ≡ [] → ⊥
-clash k some none = true≢false (sym (ap is_empty none) ∙ some)
-
-abbrev NoOption : Text → Type 0
-NoOption word = IsOption word → ⊥
-
-abbrev IsFormat : List Text → Type 0
-IsFormat ws = (p s c : Text) × (ws ≡ codes "format" ∷ p ∷ s ∷ c ∷ [])
-
-abbrev IsImport : List Text → Type 0
-IsImport ws = (p f : Text) × (ws ≡ codes "import" ∷ p ∷ f ∷ [])
-
-abbrev IsServe : List Text → Type 0
-IsServe ws = (p : Text) × (ws ≡ codes "serve" ∷ p ∷ [])
-
-abbrev IsTable : List Text → Type 0
-IsTable ws = (s c : Text) × (ws ≡ codes "table" ∷ s ∷ c ∷ [])
-
-abbrev IsCheck : List Text → Type 0
-IsCheck ws = (p : Text) × (ws ≡ codes "check" ∷ p ∷ [])
-
-texts_format : (ws : List Text) → All NoOption ws → fault_of program_app (codes "format" ∷ ws) ≡ [] → IsFormat (codes "format" ∷ ws)
-texts_format [] plain e = absurd (clash _ missing_format_0 e)
-texts_format (p ∷ []) plain e = absurd (clash _ (missing_format_1 p (plain_word p (All-head NoOption p ([]) plain))) e)
-texts_format (p ∷ s ∷ []) plain e = absurd (clash _ (missing_format_2 p s (plain_word p (All-head NoOption p (s ∷ []) plain)) (plain_word s (All-head NoOption s ([]) (All-tail NoOption p (s ∷ []) plain)))) e)
-texts_format (p ∷ s ∷ c ∷ []) plain e = (p, s, c, refl)
-texts_format (p ∷ s ∷ c ∷ d ∷ rest) plain e =
-    absurd (too_many_format p s c d rest
-    (plain_word p (All-head NoOption p (s ∷ c ∷ d ∷ rest) plain))
-    (plain_word s (All-head NoOption s (c ∷ d ∷ rest) (All-tail NoOption p (s ∷ c ∷ d ∷ rest) plain)))
-    (plain_word c (All-head NoOption c (d ∷ rest) (All-tail NoOption s (c ∷ d ∷ rest) (All-tail NoOption p (s ∷ c ∷ d ∷ rest) plain))))
-    (plain_word d (All-head NoOption d (rest) (All-tail NoOption c (d ∷ rest) (All-tail NoOption s (c ∷ d ∷ rest) (All-tail NoOption p (s ∷ c ∷ d ∷ rest) plain)))))
-    e)
-
-texts_import : (ws : List Text) → All NoOption ws → fault_of program_app (codes "import" ∷ ws) ≡ [] → IsImport (codes "import" ∷ ws)
-texts_import [] plain e = absurd (clash _ missing_import_0 e)
-texts_import (p ∷ []) plain e = absurd (clash _ (missing_import_1 p (plain_word p (All-head NoOption p ([]) plain))) e)
-texts_import (p ∷ f ∷ []) plain e = (p, f, refl)
-texts_import (p ∷ f ∷ d ∷ rest) plain e =
-    absurd (too_many_import p f d rest
-    (plain_word p (All-head NoOption p (f ∷ d ∷ rest) plain))
-    (plain_word f (All-head NoOption f (d ∷ rest) (All-tail NoOption p (f ∷ d ∷ rest) plain)))
-    (plain_word d (All-head NoOption d (rest) (All-tail NoOption f (d ∷ rest) (All-tail NoOption p (f ∷ d ∷ rest) plain))))
-    e)
-
-texts_serve : (ws : List Text) → All NoOption ws → fault_of program_app (codes "serve" ∷ ws) ≡ [] → IsServe (codes "serve" ∷ ws)
-texts_serve [] plain e = absurd (clash _ missing_serve_0 e)
-texts_serve (p ∷ []) plain e = (p, refl)
-texts_serve (p ∷ d ∷ rest) plain e =
-    absurd (too_many_serve p d rest
-    (plain_word p (All-head NoOption p (d ∷ rest) plain))
-    (plain_word d (All-head NoOption d (rest) (All-tail NoOption p (d ∷ rest) plain)))
-    e)
-
-texts_table : (ws : List Text) → All NoOption ws → fault_of program_app (codes "table" ∷ ws) ≡ [] → IsTable (codes "table" ∷ ws)
-texts_table [] plain e = absurd (clash _ missing_table_0 e)
-texts_table (s ∷ []) plain e = absurd (clash _ (missing_table_1 s (plain_word s (All-head NoOption s ([]) plain))) e)
-texts_table (s ∷ c ∷ []) plain e = (s, c, refl)
-texts_table (s ∷ c ∷ d ∷ rest) plain e =
-    absurd (too_many_table s c d rest
-    (plain_word s (All-head NoOption s (c ∷ d ∷ rest) plain))
-    (plain_word c (All-head NoOption c (d ∷ rest) (All-tail NoOption s (c ∷ d ∷ rest) plain)))
-    (plain_word d (All-head NoOption d (rest) (All-tail NoOption c (d ∷ rest) (All-tail NoOption s (c ∷ d ∷ rest) plain))))
-    e)
-
-texts_check : (ws : List Text) → All NoOption ws → fault_of program_app (codes "check" ∷ ws) ≡ [] → IsCheck (codes "check" ∷ ws)
-texts_check [] plain e = absurd (clash _ missing_check_0 e)
-texts_check (p ∷ []) plain e = (p, refl)
-texts_check (p ∷ d ∷ rest) plain e =
-    absurd (too_many_check p d rest
-    (plain_word p (All-head NoOption p (d ∷ rest) plain))
-    (plain_word d (All-head NoOption d (rest) (All-tail NoOption p (d ∷ rest) plain)))
-    e)
-
--- what the words are
-abbrev Asks : List Text → Type 0
-Asks ws = IsFormat ws ⊎ IsImport ws ⊎ IsServe ws ⊎ IsTable ws ⊎ IsCheck ws
-
-asks : (ws : List Text) → All NoOption ws → fault_of program_app ws ≡ [] → Asks ws
-asks [] plain e = absurd (clash _ no_words e)
-asks (w ∷ ws) plain e = by_format (bytes_eq (codes "format") w) refl
+subcommand_expected : (a : Arguments) (ts : List Text) → All NoOption ts → outcome_at ts (subcommand a) ≡ expected_at ts (subcommand a)
+subcommand_expected a ts none = let q = plain_words ts none in subst (λ v. outcome_at v (subcommand a) ≡ expected_at v (subcommand a)) q.1 (by a (words_of q.0) (as_expected q.0))
   where
-    rest : All NoOption ws
-    rest = All-tail NoOption w ws plain
+    by : (a : Arguments) (ws : List Text) → map (outcome_at ws) program_app.subs ≡ map (expected_at ws) program_app.subs → outcome_at ws (subcommand a) ≡ expected_at ws (subcommand a)
+    by (Format path side capacity) ws e = ap (λ l. get_or l 0 (false, None)) e
+    by (Import path tile) ws e = ap (λ l. get_or l 1 (false, None)) e
+    by (Serve path) ws e = ap (λ l. get_or l 2 (false, None)) e
+    by (Table side capacity) ws e = ap (λ l. get_or l 3 (false, None)) e
+    by (Check path) ws e = ap (λ l. get_or l 4 (false, None)) e
 
-    word_is : (v : Text) → bytes_eq v w ≡ true → w ≡ v
-    word_is v t = sym ((bytes_eq-Decides v w).0 t)
+names_it : (t : Texts) (a : Arguments) → AskedIn (Some t) a → t.name ≡ (subcommand a).name
+names_it t (Format path side capacity) h = h.0
+names_it t (Import path tile) h = h.0
+names_it t (Serve path) h = h.0
+names_it t (Table side capacity) h = h.0
+names_it t (Check path) h = h.0
 
-    as_word : (v : Text) → bytes_eq v w ≡ true → fault_of program_app (v ∷ ws) ≡ []
-    as_word v t = subst (λ (u : Text). fault_of program_app (u ∷ ws) ≡ []) (word_is v t) e
+-- what holds of any texts, as many as are required
+abbrev EachText : List Rule → (List Text → Type 0) → Type 0
+EachText [] P = P []
+EachText (r ∷ rs) P = (t : Text) → EachText rs (λ ts. P (t ∷ ts))
 
-    by_help : (t : Bool) → bytes_eq (codes "help") w ≡ t → bytes_eq (codes "format") w ≡ false → bytes_eq (codes "import") w ≡ false → bytes_eq (codes "serve") w ≡ false → bytes_eq (codes "table") w ≡ false → bytes_eq (codes "check") w ≡ false → Asks (w ∷ ws)
-    by_help true t eformat eimport eserve etable echeck = absurd (clash _ (asks_help ws) (as_word (codes "help") t))
-    by_help false t eformat eimport eserve etable echeck = absurd (clash _ (stray w ws (plain_word w (All-head NoOption w ws plain)) eformat eimport eserve etable echeck t) e)
-
-    by_check : (t : Bool) → bytes_eq (codes "check") w ≡ t → bytes_eq (codes "format") w ≡ false → bytes_eq (codes "import") w ≡ false → bytes_eq (codes "serve") w ≡ false → bytes_eq (codes "table") w ≡ false → Asks (w ∷ ws)
-    by_check true t eformat eimport eserve etable = subst (λ (v : Text). Asks (v ∷ ws)) (sym (word_is (codes "check") t)) (inr (inr (inr (inr (texts_check ws rest (as_word (codes "check") t))))))
-    by_check false t eformat eimport eserve etable = by_help (bytes_eq (codes "help") w) refl eformat eimport eserve etable t
-
-    by_table : (t : Bool) → bytes_eq (codes "table") w ≡ t → bytes_eq (codes "format") w ≡ false → bytes_eq (codes "import") w ≡ false → bytes_eq (codes "serve") w ≡ false → Asks (w ∷ ws)
-    by_table true t eformat eimport eserve = subst (λ (v : Text). Asks (v ∷ ws)) (sym (word_is (codes "table") t)) (inr (inr (inr (inl (texts_table ws rest (as_word (codes "table") t))))))
-    by_table false t eformat eimport eserve = by_check (bytes_eq (codes "check") w) refl eformat eimport eserve t
-
-    by_serve : (t : Bool) → bytes_eq (codes "serve") w ≡ t → bytes_eq (codes "format") w ≡ false → bytes_eq (codes "import") w ≡ false → Asks (w ∷ ws)
-    by_serve true t eformat eimport = subst (λ (v : Text). Asks (v ∷ ws)) (sym (word_is (codes "serve") t)) (inr (inr (inl (texts_serve ws rest (as_word (codes "serve") t)))))
-    by_serve false t eformat eimport = by_table (bytes_eq (codes "table") w) refl eformat eimport t
-
-    by_import : (t : Bool) → bytes_eq (codes "import") w ≡ t → bytes_eq (codes "format") w ≡ false → Asks (w ∷ ws)
-    by_import true t eformat = subst (λ (v : Text). Asks (v ∷ ws)) (sym (word_is (codes "import") t)) (inr (inl (texts_import ws rest (as_word (codes "import") t))))
-    by_import false t eformat = by_serve (bytes_eq (codes "serve") w) refl eformat t
-
-    by_format : (t : Bool) → bytes_eq (codes "format") w ≡ t → Asks (w ∷ ws)
-    by_format true t = subst (λ (v : Text). Asks (v ∷ ws)) (sym (word_is (codes "format") t)) (inl (texts_format ws rest (as_word (codes "format") t)))
-    by_format false t = by_import (bytes_eq (codes "import") w) refl t
-
--- what the words ask for, and what clap makes of them
+each_text : (rs : List Rule) (ts : List Text) → is_full rs ts ≡ true → (P : List Text → Type 0) → EachText rs P → P ts
+each_text [] [] full P h = h
+each_text [] (t ∷ ts) full P h = absurd (true≢false (sym full))
+each_text (r ∷ rs) [] full P h = absurd (true≢false (sym full))
+each_text (r ∷ rs) (t ∷ ts) full P h = each_text rs ts full (λ us. P (t ∷ us)) (h t)
 
 same_text : (a b : Text) → Some a ≡ Some b → a ≡ b
 same_text a b e = ap (λ (o : Option Text). unwrap_or o []) e
 
-format_spelled : (ws : List Text) (p s c : Text) → ws ≡ codes "format" ∷ p ∷ s ∷ c ∷ [] → (a : Arguments) → AskedIn (Some (format_texts p s c)) a → SpellsOut ws a
-format_spelled ws p s c is (Format path side capacity) (n, path_is, side_is, capacity_is) = (s, c, is ∙ ap (λ (v : Text). codes "format" ∷ v ∷ s ∷ c ∷ []) (same_text p path.now path_is), side_is, capacity_is)
-format_spelled ws p s c is (Import path tile) (n, path_is, tile_is) =
-    let first : ◌≡◌ {A = ℕ} 102 105 = ap (λ (l : List ℕ). get_or l 0 0) n in absurd (omega (arith, first))
-format_spelled ws p s c is (Serve path) (n, path_is) =
-    let first : ◌≡◌ {A = ℕ} 102 115 = ap (λ (l : List ℕ). get_or l 0 0) n in absurd (omega (arith, first))
-format_spelled ws p s c is (Table side capacity) (n, side_is, capacity_is) =
-    let first : ◌≡◌ {A = ℕ} 102 116 = ap (λ (l : List ℕ). get_or l 0 0) n in absurd (omega (arith, first))
-format_spelled ws p s c is (Check path) (n, path_is) =
-    let first : ◌≡◌ {A = ℕ} 102 99 = ap (λ (l : List ℕ). get_or l 0 0) n in absurd (omega (arith, first))
+spells : (a : Arguments) → EachText (subcommand a).rules (λ ts. AskedIn (Some (texts_given (subcommand a) ts)) a → SpellsOut ((subcommand a).name ∷ ts) a)
+spells (Format path side capacity) = λ p s c h. (s, c, ap (λ (v : Text). codes "format" ∷ v ∷ s ∷ c ∷ []) (same_text p path.now h.1), h.2, h.3)
+spells (Import path tile) = λ p f h. ap₂ (λ (v u : Text). codes "import" ∷ v ∷ u ∷ []) (same_text p path.now h.1) (same_text f tile.now h.2)
+spells (Serve path) = λ p h. ap (λ (v : Text). codes "serve" ∷ v ∷ []) (same_text p path.now h.1)
+spells (Table side capacity) = λ s c h. (s, c, refl, h.1, h.2)
+spells (Check path) = λ p h. ap (λ (v : Text). codes "check" ∷ v ∷ []) (same_text p path.now h.1)
 
-import_spelled : (ws : List Text) (p f : Text) → ws ≡ codes "import" ∷ p ∷ f ∷ [] → (a : Arguments) → AskedIn (Some (import_texts p f)) a → SpellsOut ws a
-import_spelled ws p f is (Format path side capacity) (n, path_is, side_is, capacity_is) =
-    let first : ◌≡◌ {A = ℕ} 105 102 = ap (λ (l : List ℕ). get_or l 0 0) n in absurd (omega (arith, first))
-import_spelled ws p f is (Import path tile) (n, path_is, tile_is) = is ∙ ap₂ (λ (v u : Text). codes "import" ∷ v ∷ u ∷ []) (same_text p path.now path_is) (same_text f tile.now tile_is)
-import_spelled ws p f is (Serve path) (n, path_is) =
-    let first : ◌≡◌ {A = ℕ} 105 115 = ap (λ (l : List ℕ). get_or l 0 0) n in absurd (omega (arith, first))
-import_spelled ws p f is (Table side capacity) (n, side_is, capacity_is) =
-    let first : ◌≡◌ {A = ℕ} 105 116 = ap (λ (l : List ℕ). get_or l 0 0) n in absurd (omega (arith, first))
-import_spelled ws p f is (Check path) (n, path_is) =
-    let first : ◌≡◌ {A = ℕ} 105 99 = ap (λ (l : List ℕ). get_or l 0 0) n in absurd (omega (arith, first))
+abbrev Spelt : List Text → Arguments → Type 0
+Spelt ws a = (ts : List Text) × (ws ≡ (subcommand a).name ∷ ts) × (is_full (subcommand a).rules ts ≡ true) × AskedIn (Some (texts_given (subcommand a) ts)) a
 
-serve_spelled : (ws : List Text) (p : Text) → ws ≡ codes "serve" ∷ p ∷ [] → (a : Arguments) → AskedIn (Some (serve_texts p)) a → SpellsOut ws a
-serve_spelled ws p is (Format path side capacity) (n, path_is, side_is, capacity_is) =
-    let first : ◌≡◌ {A = ℕ} 115 102 = ap (λ (l : List ℕ). get_or l 0 0) n in absurd (omega (arith, first))
-serve_spelled ws p is (Import path tile) (n, path_is, tile_is) =
-    let first : ◌≡◌ {A = ℕ} 115 105 = ap (λ (l : List ℕ). get_or l 0 0) n in absurd (omega (arith, first))
-serve_spelled ws p is (Serve path) (n, path_is) = is ∙ ap (λ (v : Text). codes "serve" ∷ v ∷ []) (same_text p path.now path_is)
-serve_spelled ws p is (Table side capacity) (n, side_is, capacity_is) =
-    let first : ◌≡◌ {A = ℕ} 115 116 = ap (λ (l : List ℕ). get_or l 0 0) n in absurd (omega (arith, first))
-serve_spelled ws p is (Check path) (n, path_is) =
-    let first : ◌≡◌ {A = ℕ} 115 99 = ap (λ (l : List ℕ). get_or l 0 0) n in absurd (omega (arith, first))
+spelt : (ws : List Text) (a : Arguments) → SpellsOut ws a → Spelt ws a
+spelt ws (Format path side capacity) (s, c, is, side_is, capacity_is) = (path.now ∷ s ∷ c ∷ [], is, refl, (refl, refl, side_is, capacity_is))
+spelt ws (Import path tile) is = (path.now ∷ tile.now ∷ [], is, refl, (refl, refl, refl))
+spelt ws (Serve path) is = (path.now ∷ [], is, refl, (refl, refl))
+spelt ws (Table side capacity) (s, c, is, side_is, capacity_is) = (s ∷ c ∷ [], is, refl, (refl, side_is, capacity_is))
+spelt ws (Check path) is = (path.now ∷ [], is, refl, (refl, refl))
 
-table_spelled : (ws : List Text) (s c : Text) → ws ≡ codes "table" ∷ s ∷ c ∷ [] → (a : Arguments) → AskedIn (Some (table_texts s c)) a → SpellsOut ws a
-table_spelled ws s c is (Format path side capacity) (n, path_is, side_is, capacity_is) =
-    let first : ◌≡◌ {A = ℕ} 116 102 = ap (λ (l : List ℕ). get_or l 0 0) n in absurd (omega (arith, first))
-table_spelled ws s c is (Import path tile) (n, path_is, tile_is) =
-    let first : ◌≡◌ {A = ℕ} 116 105 = ap (λ (l : List ℕ). get_or l 0 0) n in absurd (omega (arith, first))
-table_spelled ws s c is (Serve path) (n, path_is) =
-    let first : ◌≡◌ {A = ℕ} 116 115 = ap (λ (l : List ℕ). get_or l 0 0) n in absurd (omega (arith, first))
-table_spelled ws s c is (Table side capacity) (n, side_is, capacity_is) = (s, c, is, side_is, capacity_is)
-table_spelled ws s c is (Check path) (n, path_is) =
-    let first : ◌≡◌ {A = ℕ} 116 99 = ap (λ (l : List ℕ). get_or l 0 0) n in absurd (omega (arith, first))
+-- ---- the first word: clap refuses it where it names no subcommand, and else leaves the further words to that
 
-check_spelled : (ws : List Text) (p : Text) → ws ≡ codes "check" ∷ p ∷ [] → (a : Arguments) → AskedIn (Some (check_texts p)) a → SpellsOut ws a
-check_spelled ws p is (Format path side capacity) (n, path_is, side_is, capacity_is) =
-    let first : ◌≡◌ {A = ℕ} 99 102 = ap (λ (l : List ℕ). get_or l 0 0) n in absurd (omega (arith, first))
-check_spelled ws p is (Import path tile) (n, path_is, tile_is) =
-    let first : ◌≡◌ {A = ℕ} 99 105 = ap (λ (l : List ℕ). get_or l 0 0) n in absurd (omega (arith, first))
-check_spelled ws p is (Serve path) (n, path_is) =
-    let first : ◌≡◌ {A = ℕ} 99 115 = ap (λ (l : List ℕ). get_or l 0 0) n in absurd (omega (arith, first))
-check_spelled ws p is (Table side capacity) (n, side_is, capacity_is) =
-    let first : ◌≡◌ {A = ℕ} 99 116 = ap (λ (l : List ℕ). get_or l 0 0) n in absurd (omega (arith, first))
-check_spelled ws p is (Check path) (n, path_is) = is ∙ ap (λ (v : Text). codes "check" ∷ v ∷ []) (same_text p path.now path_is)
+clash : (k : Kinds) → is_empty k ≡ false → k ≡ [] → ⊥
+clash k some none = true≢false (sym (ap is_empty none) ∙ some)
+
+no_first : (a b : Kinds) → or_else a b ≡ [] → a ≡ []
+no_first [] b e = refl
+no_first (k ∷ ks) b e = e
+
+no_second : (a b : Kinds) → or_else a b ≡ [] → b ≡ []
+no_second a b e = sym (past a b (no_first a b e)) ∙ e
+
+stray : (names : Names) (q : Plain) (ts : List Text) → subcommand_met names idle q.word ≡ None → is_empty (walk_fault program.top names (walk_from nothing_held) (q.word ∷ ts)) ≡ false
+unfolding clap_on_literals
+stray names q ts e = rw (e, q.other, q.strips, q.strips) refl
+
+stops : (rules : List Rule) (names : Names) (w : Text) (ts : List Text) → subcommand_met names idle w ≡ Some w → (walk rules names nothing_held (w ∷ ts)).stopped ≡ Some (w, ts)
+unfolding walked
+stops rules names w ts met =
+    ap (λ o. let m = subcommand_or_other rules o idle 1 w nothing_held in (fold (walked rules names) (after_step rules w (walk_from nothing_held) m.0 m.1) ts).stopped) met
+    ∙ ap (λ k. k.stopped) (sym (walk_stopped rules names (walk_from nothing_held) w [] ts))
+
+-- with no alias a word that names a subcommand is its name
+found : (w : Text) (subs : List Shape) → list_all (λ s. is_empty s.aliases) subs ≡ true → IfSome (find (λ s. answers_to w (label_of s)) subs) (λ s. s.name ≡ w)
+found w [] plain = tt
+found w (s ∷ subs) plain = let none = both (is_empty s.aliases) _ plain in by (bytes_eq s.name w) refl (is_nil s.aliases none.0) (found w subs none.1)
+  where
+    by : (t : Bool) → bytes_eq s.name w ≡ t → s.aliases ≡ [] → IfSome (find (λ s. answers_to w (label_of s)) subs) (λ s. s.name ≡ w)
+        → IfSome (cond (t || list_any (λ alias. bytes_eq alias w) s.aliases) (Some s) (find (λ s. answers_to w (label_of s)) subs)) (λ s. s.name ≡ w)
+    by true e none rest = (bytes_eq-Decides s.name w).0 e
+    by false e none rest = rw none rest
+
+-- the words name a subcommand, and the rest of them go to it
+record Enters (w : Text) (ts : List Text) : Type 0 where
+  shape : Shape
+  named : shape.name ≡ w
+  texts : texts_by (w ∷ ts) ≡ Some (texts_in (rows_at shape ts))
+  faultless : entered_fault program (Some (w, ts)) ≡ []
+
+enters : (w : Text) (ts : List Text) → NoOption w → fault_of program_app (w ∷ ts) ≡ [] → Enters w ts
+enters w ts none e = by (find (λ s. answers_to w (label_of s)) program.subs) refl
+  where
+    by : (o : Option Shape) → find (λ s. answers_to w (label_of s)) program.subs ≡ o → Enters w ts
+    by None f = absurd (clash _ (stray (names_of program) (plain_word w none) ts (sym (label_first w program.subs) ∙ ap (option_map (λ (s : Shape). s.name)) f)) (no_first _ _ e))
+    by (Some s) f =
+        let named : s.name ≡ w = subst (λ (o : Option Shape). IfSome o (λ s. s.name ≡ w)) f (found w program.subs refl) in
+        let met : subcommand_met (names_of program) idle w ≡ Some w = sym (label_first w program.subs) ∙ ap (option_map (λ (s : Shape). s.name)) f ∙ ap (λ (v : Text). Some v) named in
+        let stop = stops program.top.rules (names_of program) w ts met in
+        record {
+          shape = s;
+          named = named;
+          texts = ap (λ o. texts_of (entered program o)) stop ∙ ap (λ o. texts_of (option_map (λ s. rows_at s ts) o)) f;
+          faultless = ap (entered_fault program) (sym stop) ∙ no_first _ _ (no_second _ _ e);
+        }
+
+-- ---- what the words ask for, and what clap makes of them
+
+if_full : (a : Arguments) (ts : List Text) → All NoOption ts → is_full (subcommand a).rules ts ≡ true → outcome true (subcommand a) ts ≡ expected true (subcommand a) ts
+if_full a ts none full = subst (λ t. outcome t (subcommand a) ts ≡ expected t (subcommand a) ts) full (subcommand_expected a ts none)
+
+full_if : (a : Arguments) (ts : List Text) → All NoOption ts → entered_fault program (Some ((subcommand a).name, ts)) ≡ [] → is_full (subcommand a).rules ts ≡ true
+full_if a ts none e = by (is_full (subcommand a).rules ts) (subcommand_expected a ts none)
+  where
+    by : (t : Bool) → outcome t (subcommand a) ts ≡ expected t (subcommand a) ts → t ≡ true
+    by true is = refl
+    by false is = absurd (clash _ (ap (λ p. p.0) is) e)
+
+spelt_read : (ws : List Text) (a : Arguments) → All NoOption ws → Spelt ws a → (takes program_app ws ≡ true) × AskedIn (texts_by ws) a
+spelt_read ws a plain (ts, is, full, given) =
+    let read = if_full a ts (All-tail NoOption (subcommand a).name ts (subst (All NoOption) is plain)) full in
+    (ap (takes program_app) is ∙ ap (λ p. p.0) read, subst (λ o. AskedIn o a) (sym (ap texts_by is ∙ ap (λ p. p.1) read)) given)
 
 pub takes_asked : (ws : List Text) (a : Arguments) → AskedBy ws a → takes program_app ws ≡ true
-takes_asked ws (Format path side capacity) (plain, (s, c, is, side_is, capacity_is)) =
-    let all = subst (All NoOption) is plain in
-    ap (takes program_app) is ∙ taken_format path.now s c (plain_word path.now (All-head NoOption path.now (s ∷ c ∷ []) (All-tail NoOption (codes "format") (path.now ∷ s ∷ c ∷ []) all))) (plain_word s (All-head NoOption s (c ∷ []) (All-tail NoOption path.now (s ∷ c ∷ []) (All-tail NoOption (codes "format") (path.now ∷ s ∷ c ∷ []) all)))) (plain_word c (All-head NoOption c ([]) (All-tail NoOption s (c ∷ []) (All-tail NoOption path.now (s ∷ c ∷ []) (All-tail NoOption (codes "format") (path.now ∷ s ∷ c ∷ []) all)))))
-takes_asked ws (Import path tile) (plain, is) =
-    let all = subst (All NoOption) is plain in
-    ap (takes program_app) is ∙ taken_import path.now tile.now (plain_word path.now (All-head NoOption path.now (tile.now ∷ []) (All-tail NoOption (codes "import") (path.now ∷ tile.now ∷ []) all))) (plain_word tile.now (All-head NoOption tile.now ([]) (All-tail NoOption path.now (tile.now ∷ []) (All-tail NoOption (codes "import") (path.now ∷ tile.now ∷ []) all))))
-takes_asked ws (Serve path) (plain, is) =
-    let all = subst (All NoOption) is plain in
-    ap (takes program_app) is ∙ taken_serve path.now (plain_word path.now (All-head NoOption path.now ([]) (All-tail NoOption (codes "serve") (path.now ∷ []) all)))
-takes_asked ws (Table side capacity) (plain, (s, c, is, side_is, capacity_is)) =
-    let all = subst (All NoOption) is plain in
-    ap (takes program_app) is ∙ taken_table s c (plain_word s (All-head NoOption s (c ∷ []) (All-tail NoOption (codes "table") (s ∷ c ∷ []) all))) (plain_word c (All-head NoOption c ([]) (All-tail NoOption s (c ∷ []) (All-tail NoOption (codes "table") (s ∷ c ∷ []) all))))
-takes_asked ws (Check path) (plain, is) =
-    let all = subst (All NoOption) is plain in
-    ap (takes program_app) is ∙ taken_check path.now (plain_word path.now (All-head NoOption path.now ([]) (All-tail NoOption (codes "check") (path.now ∷ []) all)))
+takes_asked ws a asked = (spelt_read ws a asked.0 (spelt ws a asked.1)).0
 
 pub asked_in : (ws : List Text) (a : Arguments) → AskedBy ws a → AskedIn (texts_by ws) a
-asked_in ws (Format path side capacity) (plain, (s, c, is, side_is, capacity_is)) =
-    let all = subst (All NoOption) is plain in
-    subst (λ o. AskedIn o (Format path side capacity)) (sym (ap texts_by is ∙ given_format path.now s c (plain_word path.now (All-head NoOption path.now (s ∷ c ∷ []) (All-tail NoOption (codes "format") (path.now ∷ s ∷ c ∷ []) all))) (plain_word s (All-head NoOption s (c ∷ []) (All-tail NoOption path.now (s ∷ c ∷ []) (All-tail NoOption (codes "format") (path.now ∷ s ∷ c ∷ []) all)))) (plain_word c (All-head NoOption c ([]) (All-tail NoOption s (c ∷ []) (All-tail NoOption path.now (s ∷ c ∷ []) (All-tail NoOption (codes "format") (path.now ∷ s ∷ c ∷ []) all))))))) (refl, refl, side_is, capacity_is)
-asked_in ws (Import path tile) (plain, is) =
-    let all = subst (All NoOption) is plain in
-    subst (λ o. AskedIn o (Import path tile)) (sym (ap texts_by is ∙ given_import path.now tile.now (plain_word path.now (All-head NoOption path.now (tile.now ∷ []) (All-tail NoOption (codes "import") (path.now ∷ tile.now ∷ []) all))) (plain_word tile.now (All-head NoOption tile.now ([]) (All-tail NoOption path.now (tile.now ∷ []) (All-tail NoOption (codes "import") (path.now ∷ tile.now ∷ []) all)))))) (refl, refl, refl)
-asked_in ws (Serve path) (plain, is) =
-    let all = subst (All NoOption) is plain in
-    subst (λ o. AskedIn o (Serve path)) (sym (ap texts_by is ∙ given_serve path.now (plain_word path.now (All-head NoOption path.now ([]) (All-tail NoOption (codes "serve") (path.now ∷ []) all))))) (refl, refl)
-asked_in ws (Table side capacity) (plain, (s, c, is, side_is, capacity_is)) =
-    let all = subst (All NoOption) is plain in
-    subst (λ o. AskedIn o (Table side capacity)) (sym (ap texts_by is ∙ given_table s c (plain_word s (All-head NoOption s (c ∷ []) (All-tail NoOption (codes "table") (s ∷ c ∷ []) all))) (plain_word c (All-head NoOption c ([]) (All-tail NoOption s (c ∷ []) (All-tail NoOption (codes "table") (s ∷ c ∷ []) all)))))) (refl, side_is, capacity_is)
-asked_in ws (Check path) (plain, is) =
-    let all = subst (All NoOption) is plain in
-    subst (λ o. AskedIn o (Check path)) (sym (ap texts_by is ∙ given_check path.now (plain_word path.now (All-head NoOption path.now ([]) (All-tail NoOption (codes "check") (path.now ∷ []) all))))) (refl, refl)
+asked_in ws a asked = (spelt_read ws a asked.0 (spelt ws a asked.1)).1
 
 pub asked_by : (ws : List Text) → All NoOption ws → fault_of program_app ws ≡ [] → (a : Arguments) → AskedIn (texts_by ws) a → AskedBy ws a
-asked_by ws plain e a asked = (plain, by (asks ws plain e))
-  where
-    by : Asks ws → SpellsOut ws a
-    by (inl (p, s, c, is)) =
-        let all = subst (All NoOption) is plain in
-        format_spelled ws p s c is a (subst (λ o. AskedIn o a) (ap texts_by is ∙ given_format p s c (plain_word p (All-head NoOption p (s ∷ c ∷ []) (All-tail NoOption (codes "format") (p ∷ s ∷ c ∷ []) all))) (plain_word s (All-head NoOption s (c ∷ []) (All-tail NoOption p (s ∷ c ∷ []) (All-tail NoOption (codes "format") (p ∷ s ∷ c ∷ []) all)))) (plain_word c (All-head NoOption c ([]) (All-tail NoOption s (c ∷ []) (All-tail NoOption p (s ∷ c ∷ []) (All-tail NoOption (codes "format") (p ∷ s ∷ c ∷ []) all)))))) asked)
-    by (inr (inl (p, f, is))) =
-        let all = subst (All NoOption) is plain in
-        import_spelled ws p f is a (subst (λ o. AskedIn o a) (ap texts_by is ∙ given_import p f (plain_word p (All-head NoOption p (f ∷ []) (All-tail NoOption (codes "import") (p ∷ f ∷ []) all))) (plain_word f (All-head NoOption f ([]) (All-tail NoOption p (f ∷ []) (All-tail NoOption (codes "import") (p ∷ f ∷ []) all))))) asked)
-    by (inr (inr (inl (p, is)))) =
-        let all = subst (All NoOption) is plain in
-        serve_spelled ws p is a (subst (λ o. AskedIn o a) (ap texts_by is ∙ given_serve p (plain_word p (All-head NoOption p ([]) (All-tail NoOption (codes "serve") (p ∷ []) all)))) asked)
-    by (inr (inr (inr (inl (s, c, is))))) =
-        let all = subst (All NoOption) is plain in
-        table_spelled ws s c is a (subst (λ o. AskedIn o a) (ap texts_by is ∙ given_table s c (plain_word s (All-head NoOption s (c ∷ []) (All-tail NoOption (codes "table") (s ∷ c ∷ []) all))) (plain_word c (All-head NoOption c ([]) (All-tail NoOption s (c ∷ []) (All-tail NoOption (codes "table") (s ∷ c ∷ []) all))))) asked)
-    by (inr (inr (inr (inr (p, is))))) =
-        let all = subst (All NoOption) is plain in
-        check_spelled ws p is a (subst (λ o. AskedIn o a) (ap texts_by is ∙ given_check p (plain_word p (All-head NoOption p ([]) (All-tail NoOption (codes "check") (p ∷ []) all)))) asked)
+unfolding clap_on_literals
+asked_by [] plain e a asked = absurd asked
+asked_by (w ∷ ts) plain e a asked =
+    let here = enters w ts (All-head NoOption w ts plain) e in
+    let rest = All-tail NoOption w ts plain in
+    let name : (subcommand a).name ≡ w = sym (names_it (texts_in (rows_at here.shape ts)) a (subst (λ o. AskedIn o a) here.texts asked)) ∙ here.named in
+    let full = full_if a ts rest (ap (λ (v : Text). entered_fault program (Some (v, ts))) name ∙ here.faultless) in
+    let given = ap (λ (v : Text). texts_by (v ∷ ts)) (sym name) ∙ ap (λ p. p.1) (if_full a ts rest full) in (
+      plain,
+      subst (λ (v : Text). SpellsOut (v ∷ ts) a) name
+          (each_text (subcommand a).rules ts full (λ us. AskedIn (Some (texts_given (subcommand a) us)) a → SpellsOut ((subcommand a).name ∷ us) a) (spells a)
+          (subst (λ o. AskedIn o a) given asked)),
+    )
 
 -- words behind any texts
 

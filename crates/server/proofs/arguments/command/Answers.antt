@@ -2,7 +2,7 @@ use Rattle.std.proofs.Common.{◌≡◌, ◌∙◌, ◌&&◌, not, ap, ap₂, sy
 use Rattle.std.proofs.lemmas.Result.{IfOk-weaker}
 use Rattle.clap.specs.Simple.{Shape, app_of_fields, on_top}
 use Rattle.clap.specs.Words.{App, app_of, with_subcommand}
-use Rattle.server.specs.CommandLine.{empty_app, format_app, import_app, serve_app, table_app, check_app}
+use Rattle.server.specs.CommandLine.{empty_app, format_app, import_app, serve_app, table_app}
 use Rattle.server.proofs.arguments.command.Goals as goal
 
 abbrev shape : App → Shape
