@@ -41,10 +41,3 @@ staged_written (Ok x) command changes due before mid now begun begins few most p
 staged_written (Err r) command changes due before mid now begun begins few most pages records commits none =
     let first = begun_written begun before in
     few_written command changes before now few (omega (arith, first, most, none))
-
-pub none_written : (command : Command) (before now : ℕ) → now ≤ before → WritesFew command before now
-none_written (Import c bytes) before now most = tt
-none_written (Remove c) before now most = tt
-none_written (Patch from to h) before now most = tt
-none_written (Burn depth points) before now most = omega (arith, most)
-none_written (Wall h points) before now most = omega (arith, most)

@@ -67,11 +67,3 @@ module _ (n : ℕ) (changes : List Change) (m : Mosaic) (tiles : List StoredTile
   all_set k most are =
       let whole : take k changes ≡ changes = take_all k changes most in
       (subst (λ (l : List Change). IsMosaic (all_changed l m)) whole are.valid, subst (λ (l : List Change). AreTilesOf n tiles (all_changed l m)) whole are.tiles_are)
-
--- what is stored then, once it is committed
-pub holds_set : (side capacity : ℕ) (stored : Stored) (c : Contents) (command : Command) (changes : List Change) (k : ℕ) (tiles : List StoredTile) → Holds side capacity stored c
-    → effect capacity c.mosaic command ≡ Ok (all_changed changes c.mosaic) → length changes ≤ k → AreSet side changes k c.mosaic tiles
-    → Holds side capacity (next_commit stored tiles (c.count + 1)) (made_by c command (all_changed changes c.mosaic))
-holds_set side capacity stored c command changes k tiles holds makes most are =
-    let set = all_set side changes c.mosaic tiles k most are in
-    holds_next side capacity stored c command (all_changed changes c.mosaic) tiles holds makes set.0 set.1

@@ -14,7 +14,7 @@ use Rattle.cow_tree.specs.Stored.{StoredTile, Stored, no_tiles, next_commit, mos
 use Rattle.cow_tree.proofs.OneStored.{one_stored}
 use Rattle.store.specs.Standing.{HoldsTile, Holds, AreSame, StandsForOneContents}
 use Rattle.store.proofs.HeldTiles.{AreTilesOf, tiles_held, tiles_filled, filled_hold, none_kept_filled, no_tiles_of}
-use Rattle.store.proofs.Stale.{all_stale}
+use Rattle.edits.proofs.AllStale.{all_stale}
 
 -- the mosaic is that of the stored tiles
 pub held : (side capacity : ℕ) (stored : Stored) (c : Contents) → Holds side capacity stored c → AreTilesOf side stored.tiles c.mosaic
@@ -40,17 +40,6 @@ holds_from side capacity stored c stored_side stored_capacity number count valid
   none_kept = none_kept_filled side stored.tiles are.filled;
   stale = stale;
 }
-
--- as formatted
-pub holds_fresh : (side capacity : ℕ) → 3 ≤ side → side ≤ 3601 → Holds side capacity (no_tiles side capacity) (fresh side)
-holds_fresh side capacity low high =
-    holds_from side capacity (no_tiles side capacity) (fresh side) refl refl refl refl
-    (record {
-      side_low = low;
-      side_high = high;
-      tiles = All-nil (IsTile side);
-      in_order = λ k d below. absurd (omega (arith, below));
-    }) (no_tiles_of side) refl
 
 -- the next commit, by a command that isn't refused
 pub holds_next : (side capacity : ℕ) (stored : Stored) (c : Contents) (command : Command) (new : Mosaic) (tiles : List StoredTile) → Holds side capacity stored c

@@ -1,5 +1,6 @@
 pub mod Answering
 pub mod Committed
+pub mod Cuts
 pub mod EditingHeld
 pub mod EditingPages
 pub mod EditingReads
@@ -19,7 +20,6 @@ pub mod QueryingDrainage
 pub mod QueryingPages
 pub mod Runs
 pub mod Sets
-pub mod Stale
 pub mod States
 pub mod StoreLemmas
 pub mod StoredCommands

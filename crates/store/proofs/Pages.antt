@@ -143,10 +143,3 @@ joined_more pages i page read =
     ap concat (take_more pages i [] (slice_get_within pages i page read))
     ∙ concat-append (take i pages) (get_or pages i [] ∷ [])
     ∙ ap (λ (l : List ℕ). concat (take i pages) ++ l) (append-nil (get_or pages i []) ∙ get_or_from_slice_get pages i page [] read)
-
--- and one of the plane's pages
-pub page_of_plane : (n i j e : ℕ) → e ≡ 2048 * i + j → e < n * n → i < pages_of n
-page_of_plane n i j e here inside = omega (arith, here, inside)
-
-pub joined_all : (pages : PlanePages) (count : ℕ) → length pages ≤ count → concat (take count pages) ≡ concat pages
-joined_all pages count most = ap concat (take_all count pages most)

@@ -71,11 +71,6 @@ pub still_contents : {D : Type 0} (g : Ghosts D) (disk : D) (side capacity : ℕ
     → ((image : Image) → g.may disk image → StandsFor (g.size disk) side capacity image s.contents) → EachStandsFor g disk side capacity (failing s doubt)
 still_contents g disk side capacity s doubt each = λ image may. inl (each image may)
 
-pub one_of_two : {D : Type 0} (g : Ghosts D) (disk : D) (side capacity : ℕ) (s : State) (stored next : Stored) (made : Contents) → Holds side capacity stored s.contents → Holds side capacity next made
-    → ((image : Image) → g.may disk image → Stands (g.size disk) image stored ⊎ Stands (g.size disk) image next) → EachStandsFor g disk side capacity (failing s (Some made))
-one_of_two g disk side capacity s stored next made was will each =
-    λ image may. ⊎_elim (λ stands. inl (stored, stands, was)) (λ stands. inr (made, refl, (next, stands, will))) (each image may)
-
 -- and of one image at any moment of a commit
 pub one_made : (sectors side capacity : ℕ) (c made : Contents) (command : Command) (stored next : Stored) (image : Image) → in_doubt capacity c command ≡ Some made
     → Holds side capacity stored c → Holds side capacity next made → Stands sectors image stored ⊎ Stands sectors image next

@@ -1,6 +1,7 @@
 pub mod Applied
 pub mod Calls
 pub mod Editing
+pub mod PowerCuts
 pub mod Queried
 pub mod Staging
 pub mod Standing

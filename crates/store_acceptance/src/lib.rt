@@ -5,6 +5,8 @@
 #[cfg(test)]
 mod basins;
 #[cfg(test)]
+mod cuts;
+#[cfg(test)]
 mod fixtures;
 #[cfg(test)]
 mod real_tiles;
