@@ -17,6 +17,9 @@ use std::path::Path;
 /// A call of the file that fails or is cut short is a fault. No contract sees a file's bytes. So this disk keeps a record
 /// of its calls with their answers, which takes no bytes, and `W` stands for the images that reads give. It is honest
 /// where each answer in the record is right for these images; that a real file is, is assumed.
+///
+/// The file is locked while the disk lives, so that no other `FileDisk` opens it. The lock is advisory: a program that
+/// doesn't ask for it isn't kept away.
 #[derive(Drop)]
 pub struct FileDisk<W> {
     file: RecordedFile,
@@ -44,21 +47,36 @@ impl<W: World> FileDisk<W> {
             .write(true)
             .create_new(true)
             .open(rt, path)?;
+        file.try_lock()?;
         file.set_len(u64::from(sectors) * SECTOR_BYTES)?;
         sync_folder(rt, path)?;
         FileDisk::over(file, sectors)
     }
 
     /// Opens a file, and syncs it. Its sectors are its length divided by 4096, rounded down, at most 4,294,967,295; the
-    /// bytes after the last of them are neither read nor written.
+    /// bytes after the last of them are neither read nor written. A file that is open as a disk already is refused as
+    /// `ErrorKind::WouldBlock`.
     pub fn open(rt: &HostRuntime, path: &str) -> io::Result<FileDisk<W>>
         ensures calls { IfOk result (λ disk. calls_of disk ≡ []) }
         ensures failures { IfOk result (λ disk. failures_of disk ≡ 0) }
         ensures writes { IfOk result (λ disk. writes_of disk ≡ 0) }
     {
-        let file = OpenOptions::new().read(true).write(true).open(rt, path)?;
+        let file = open_locked(rt, path)?;
         let sectors = whole_sectors(file.metadata()?.len());
         FileDisk::over(file, sectors)
+    }
+
+    /// Appends sectors of zeros to a file that has fewer than so many, and syncs it. A file that has as many stays as it
+    /// is. Bytes after its last whole sector give way to the new ones. A file that is open as a disk is refused as
+    /// `ErrorKind::WouldBlock`.
+    pub fn grow(rt: &HostRuntime, path: &str, sectors: u32) -> io::Result<()> {
+        let file = open_locked(rt, path)?;
+        let had = whole_sectors(file.metadata()?.len());
+        if had < sectors {
+            file.set_len(u64::from(had) * SECTOR_BYTES)?;
+            file.set_len(u64::from(sectors) * SECTOR_BYTES)?;
+        }
+        file.sync_all()
     }
 
     fn over(file: File, sectors: u32) -> io::Result<FileDisk<W>>
@@ -90,6 +108,13 @@ impl<W: World> FileDisk<W> {
         }
         Ok(())
     }
+}
+
+// Opens a file and takes its lock, which is held until the file is closed.
+fn open_locked(rt: &HostRuntime, path: &str) -> io::Result<File> {
+    let file = OpenOptions::new().read(true).write(true).open(rt, path)?;
+    file.try_lock()?;
+    Ok(file)
 }
 
 // Syncs the folder that holds a path, so that a new name in it outlasts a stop.

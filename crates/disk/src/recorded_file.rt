@@ -17,7 +17,8 @@ pub(crate) struct RecordedFile {
 }
 
 impl RecordedFile {
-    // Syncs the file, so that what reads give at first is settled.
+    // Syncs the file, so that what reads give at first is settled. This sync comes before the record begins: that it does
+    // what it says is trusted.
     pub(crate) fn settled(file: File) -> io::Result<RecordedFile>
         ensures { IfOk result (λ settled. recorded settled ≡ []) }
     {

@@ -213,3 +213,42 @@ fn a_file_is_made_once_and_opened_where_it_is(rt: HostRuntime) -> Result<(), Fai
     fs::remove_file(&rt, path)?;
     Ok(())
 }
+
+#[test]
+fn a_file_is_one_disk_at_a_time(rt: HostRuntime) -> Result<(), Fail> {
+    let path = "disk_test_lock";
+    let _ = fs::remove_file(&rt, path);
+    let made = FileDisk::<Brand>::create(&rt, path, 2)?;
+    let second = FileDisk::<Brand>::open(&rt, path).err().map(|e| e.kind());
+    assert_eq!(rt; second, Some(ErrorKind::WouldBlock));
+    let grown = FileDisk::<Brand>::grow(&rt, path, 3)
+        .err()
+        .map(|e| e.kind());
+    assert_eq!(rt; grown, Some(ErrorKind::WouldBlock));
+    drop(made);
+    let opened = FileDisk::<Brand>::open(&rt, path)?;
+    assert_eq!(rt; opened.sectors(), 2);
+    let third = FileDisk::<Brand>::open(&rt, path).err().map(|e| e.kind());
+    assert_eq!(rt; third, Some(ErrorKind::WouldBlock));
+    drop(opened);
+    fs::remove_file(&rt, path)?;
+    Ok(())
+}
+
+#[test]
+fn a_file_grows_by_sectors_of_zeros(rt: HostRuntime) -> Result<(), Fail> {
+    let path = "disk_test_grow";
+    fs::write(&rt, path, [5; 4097].as_slice())?;
+    FileDisk::<Brand>::grow(&rt, path, 3)?;
+    let bytes = fs::read(&rt, path)?;
+    assert_eq!(rt; bytes.len(), 12_288);
+    assert_eq!(rt; bytes.get(..4096), Some([5; 4096].as_slice()));
+    assert_eq!(rt; bytes.get(4096..), Some([0; 8192].as_slice()));
+    fs::write(&rt, path, [5; 8195].as_slice())?;
+    FileDisk::<Brand>::grow(&rt, path, 2)?;
+    assert_eq!(rt; fs::metadata(&rt, path)?.len(), 8195);
+    let missing = FileDisk::<Brand>::grow(&rt, "disk_test_none", 2);
+    assert_eq!(rt; missing.err().map(|e| e.kind()), Some(ErrorKind::NotFound));
+    fs::remove_file(&rt, path)?;
+    Ok(())
+}
