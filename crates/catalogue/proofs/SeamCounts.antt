@@ -1,25 +1,29 @@
 -- How many points disagree: counted tile by tile, each at the first present tile that holds it.
-use Rattle.std.proofs.Common.{◌≡◌, ℕ, zero, suc, ◌+◌, ◌*◌, ◌<◌, ℤ, pos, negsuc, ◌+ℤ◌, Bool, true, false, cond, ◌&&◌, ◌||◌, IsTrue, List, [], ◌∷◌, ◌++◌, length, map, refl, sym, ◌∙◌, ap, ap₂, subst, arith, add-one, add-zero, zero-add, inl, inr}
+use Rattle.std.proofs.Common.{◌≡◌, ℕ, zero, suc, ◌+◌, ◌-◌, ◌*◌, ◌<◌, ℤ, pos, negsuc, ◌+ℤ◌, Bool, true, false, cond, ◌&&◌, ◌||◌, IsTrue, List, [], ◌∷◌, ◌++◌, length, map, refl, sym, ◌∙◌, ap, ap₂, subst, arith, add-one, add-zero, zero-add, inl, inr}
 use Rattle.std.specs.Prelude.{Some, None, Result, Ok, Err, IfOk, sum_by, count_by, All, nat_lt}
 use Rattle.std.specs.Ordering.{int_eq}
 use Rattle.std.specs.List.{filter}
 use Rattle.std.proofs.lemmas.List.{length-append}
 use Rattle.std.proofs.lemmas.List.Sums.{sum_by-append}
 use Rattle.std.proofs.lemmas.List.Elements.{All-head, All-tail}
-use Rattle.std.proofs.lemmas.Bool.{and_parts, and_from, or_left, cases_lt, false≢true, lt-ltb, le-ltb}
+use Rattle.std.proofs.lemmas.Bool.{and_parts, and_from, and_right, or_left, cases_lt, false≢true, lt-ltb, le-ltb}
 use Rattle.std.proofs.lemmas.Bool.Decides.{Decides-int_eq}
 use Rattle.lattice.specs.Corners.{Corner, is_corner, same_corner}
 use Rattle.lattice.specs.Lattice.{Holds, holds, index_of, point_of}
 use Rattle.lattice.specs.Mosaic.{Tile, Mosaic, IsMosaic}
 use Rattle.lattice.specs.Height.{sample_at, differ, disagrees}
 use Rattle.lattice.specs.Ground.{same_point}
+use Rattle.lattice.specs.Block.{is_rim, rim_number}
+use Rattle.lattice.specs.RimPoints.{rim_index}
 use Rattle.lattice.specs.declared.point.Point.{Point}
 use Rattle.lattice.specs.declared.refusal.Refusal.{Refusal}
-use Rattle.lattice.proofs.Samples.{holds_is, index_of_point_is, point_of_held, point_of_index, index_of_below}
+use Rattle.lattice.proofs.RimNumbers.{rim_index_is, rim_index_of_number, number_below}
+use Rattle.lattice.proofs.Samples.{holds_is, index_of_point_is, point_of_held, point_of_index, index_of_below, index_of_held}
 use Rattle.catalogue.specs.Tiles.{corners_of, corners_before, is_listed}
 use Rattle.catalogue.specs.Seams.{IsSeamCount, is_first, present_holders, is_own_seam, own_seams_below, seams_of, seams_before}
 use Rattle.lattice.proofs.CornerOrder.{same_says, same_from, same_comm}
 use Rattle.lattice.proofs.Rising.{AllAfter, Rising}
+use Rattle.catalogue.proofs.InnerPoints.{inner_agrees}
 use Rattle.catalogue.proofs.Mosaics.{corner_of}
 use Rattle.catalogue.proofs.Presence.{corners_rise}
 use Rattle.catalogue.proofs.OneTile.{corners_are}
@@ -27,8 +31,12 @@ use Rattle.catalogue.proofs.Holders.{itself, not_listed}
 use Rattle.catalogue.proofs.PresentHolders.{holders_filtered, listed-filter}
 use Rattle.catalogue.proofs.Rows.{corner_at, named, before-step, before-first, before-row, before-last}
 
+-- the rim point of the corner's tile with a number
+abbrev rim_point : Mosaic → Corner → ℕ → Point
+rim_point m c k = point_of m.side c (rim_index m.side k)
+
 -- ---- the loops' steps
-pub tile_step : (m : Mosaic) (c : Corner) (e count new : ℕ) (answer : Bool) → count ≡ own_seams_below m c e → answer ≡ is_own_seam m c (point_of m.side c e)
+pub tile_step : (m : Mosaic) (c : Corner) (e count new : ℕ) (answer : Bool) → count ≡ own_seams_below m c e → answer ≡ is_own_seam m c (rim_point m c e)
     → new ≡ count + cond answer 1 0 → new ≡ own_seams_below m c (e + 1)
 unfolding own_seams_below
 tile_step m c e count new answer so_far told is =
@@ -85,14 +93,14 @@ chosen : (Point → Bool) → (ℕ → Point) → ℕ → List Point
 chosen own at zero = []
 chosen own at (suc e) = chosen own at e ++ cond (own (at e)) (at e ∷ []) []
 
-length-chosen : (m : Mosaic) (c : Corner) (k : ℕ) → length (chosen (is_own_seam m c) (point_of m.side c) k) ≡ own_seams_below m c k
+length-chosen : (m : Mosaic) (c : Corner) (k : ℕ) → length (chosen (is_own_seam m c) (rim_point m c) k) ≡ own_seams_below m c k
 unfolding chosen own_seams_below
 length-chosen m c zero = refl
 length-chosen m c (suc e) =
-    length-append (chosen (is_own_seam m c) (point_of m.side c) e) (cond (is_own_seam m c (point_of m.side c e)) (point_of m.side c e ∷ []) [])
-    ∙ ap₂ (λ (a b : ℕ). a + b) (length-chosen m c e) (one (is_own_seam m c (point_of m.side c e)))
+    length-append (chosen (is_own_seam m c) (rim_point m c) e) (cond (is_own_seam m c (rim_point m c e)) (rim_point m c e ∷ []) [])
+    ∙ ap₂ (λ (a b : ℕ). a + b) (length-chosen m c e) (one (is_own_seam m c (rim_point m c e)))
   where
-    one : (b : Bool) → length (cond b (point_of m.side c e ∷ []) []) ≡ cond b 1 0
+    one : (b : Bool) → length (cond b (rim_point m c e ∷ []) []) ≡ cond b 1 0
     one true = refl
     one false = refl
 
@@ -161,43 +169,64 @@ module _ (own : Point → Bool) (at : ℕ → Point) (p : Point) (within : Bool)
 -- ---- the points of all tiles
 all_chosen : Mosaic → List Corner → List Point
 all_chosen m [] = []
-all_chosen m (c ∷ cs) = chosen (is_own_seam m c) (point_of m.side c) (m.side * m.side) ++ all_chosen m cs
+all_chosen m (c ∷ cs) = chosen (is_own_seam m c) (rim_point m c) (4 * (m.side - 1)) ++ all_chosen m cs
 
 length-all_chosen : (m : Mosaic) (cs : List Corner) → length (all_chosen m cs) ≡ sum_by (seams_of m) cs
 unfolding all_chosen
 length-all_chosen m [] = refl
 length-all_chosen m (c ∷ cs) =
-    length-append (chosen (is_own_seam m c) (point_of m.side c) (m.side * m.side)) (all_chosen m cs)
-    ∙ ap₂ (λ (a b : ℕ). a + b) (length-chosen m c (m.side * m.side)) (length-all_chosen m cs)
+    length-append (chosen (is_own_seam m c) (rim_point m c) (4 * (m.side - 1))) (all_chosen m cs)
+    ∙ ap₂ (λ (a b : ℕ). a + b) (length-chosen m c (4 * (m.side - 1))) (length-all_chosen m cs)
     ∙ sym (sum_by-cons (seams_of m) c cs)
 
 module _ (m : Mosaic) (valid : IsMosaic m) (p : Point) where
-  count-tile : (c : Corner) → IsTrue (is_corner c) → count_by (same_point p) (chosen (is_own_seam m c) (point_of m.side c) (m.side * m.side)) ≡ cond (is_own_seam m c p && holds m.side c p) 1 0
+  count-tile : (c : Corner) → IsTrue (is_corner c) → count_by (same_point p) (chosen (is_own_seam m c) (rim_point m c) (4 * (m.side - 1))) ≡ cond (is_own_seam m c p && holds m.side c p) 1 0
   count-tile c corner =
-      count-chosen (is_own_seam m c) (point_of m.side c) p (holds m.side c p) (index_of m.side c p)
-      (λ held. point_of_index m.side c p (of_test held)) (m.side * m.side)
-      (λ e below is. (
-        subst (λ (q : Point). holds m.side c q ≡ true) (sym is) ((holds_is m.side c (point_of m.side c e) valid.side_low corner).1 (point_of_held m.side c e some corner below)),
-        ap (index_of m.side c) is ∙ index_of_point_is m.side c e some corner below,
-      ))
-      ∙ settle (is_own_seam m c p) (holds m.side c p) refl
+      count-chosen (is_own_seam m c) (rim_point m c) p (holds m.side c p && is_rim m.side e) (rim_number m.side e) there (4 * (m.side - 1)) back
+      ∙ settle (is_own_seam m c p) refl (holds m.side c p) (is_rim m.side e) refl refl
     where
-      some : 0 < m.side
-      some = omega (arith, valid.side_low)
+      e : ℕ
+      e = index_of m.side c p
 
       of_test : holds m.side c p ≡ true → Holds m.side c p
       of_test held = (holds_is m.side c p valid.side_low corner).0 held
 
-      settle : (own w : Bool) → holds m.side c p ≡ w → tally own w (nat_lt (index_of m.side c p) (m.side * m.side)) ≡ cond (own && w) 1 0
-      settle true true held = rw (lt-ltb (index_of m.side c p) (m.side * m.side) (index_of_below m.side c p (of_test held))) refl
-      settle true false out = refl
-      settle false w is = refl
+      there : (holds m.side c p && is_rim m.side e) ≡ true → rim_point m c (rim_number m.side e) ≡ p
+      there both =
+          let parts = and_parts (holds m.side c p) (is_rim m.side e) both in
+          let held = of_test parts.0 in
+          ap (point_of m.side c) (rim_index_of_number m.side e valid.side_low (index_of_below m.side c p held) parts.1) ∙ point_of_index m.side c p held
+
+      back : (k : ℕ) → k < 4 * (m.side - 1) → p ≡ rim_point m c k → ((holds m.side c p && is_rim m.side e) ≡ true) × (rim_number m.side e ≡ k)
+      back k below is =
+          let at = rim_index_is m.side k valid.side_low below in
+          let some : 0 < m.side = omega (arith, valid.side_low) in
+          let index : e ≡ rim_index m.side k = ap (index_of m.side c) is ∙ index_of_point_is m.side c (rim_index m.side k) some corner at.small in
+          let held = (holds_is m.side c (rim_point m c k) valid.side_low corner).1 (point_of_held m.side c (rim_index m.side k) some corner at.small) in (
+            and_from (holds m.side c p) (is_rim m.side e) (subst (λ (q : Point). holds m.side c q ≡ true) (sym is) held) (subst (λ i. is_rim m.side i ≡ true) (sym index) at.rim),
+            ap (rim_number m.side) index ∙ at.number,
+          )
+
+      number : holds m.side c p ≡ true → is_rim m.side e ≡ true → rim_number m.side e < 4 * (m.side - 1)
+      number held rim = number_below m.side (rim_number m.side e) e valid.side_low (record { small = index_of_below m.side c p (of_test held); rim = rim; number = refl })
+
+      not_own : holds m.side c p ≡ true → is_rim m.side e ≡ false → is_own_seam m c p ≡ false
+      not_own held off =
+          and_right (is_first c (present_holders m p)) (disagrees m p)
+          (inner_agrees m c e p valid (index_of_held m.side c p (of_test held)) off)
+
+      settle : (own : Bool) → is_own_seam m c p ≡ own → (w r : Bool) → holds m.side c p ≡ w → is_rim m.side e ≡ r
+          → tally own (w && r) (nat_lt (rim_number m.side e) (4 * (m.side - 1))) ≡ cond (own && w) 1 0
+      settle true is true true held rim = rw (lt-ltb (rim_number m.side e) (4 * (m.side - 1)) (number held rim)) refl
+      settle true is true false held off = absurd (false≢true (sym (not_own held off) ∙ is))
+      settle true is false r out rim = refl
+      settle false is w r held rim = refl
 
   count-all : (cs : List Corner) → All (λ c. IsTrue (is_corner c)) cs → count_by (same_point p) (all_chosen m cs) ≡ sum_by (λ c. cond (is_own_seam m c p && holds m.side c p) 1 0) cs
   unfolding all_chosen
   count-all [] corners = refl
   count-all (c ∷ cs) corners =
-      count-append (same_point p) (chosen (is_own_seam m c) (point_of m.side c) (m.side * m.side)) (all_chosen m cs)
+      count-append (same_point p) (chosen (is_own_seam m c) (rim_point m c) (4 * (m.side - 1))) (all_chosen m cs)
       ∙ ap₂ (λ (a b : ℕ). a + b) (count-tile c (All-head (λ d. IsTrue (is_corner d)) c cs corners)) (count-all cs (All-tail (λ d. IsTrue (is_corner d)) c cs corners))
       ∙ sym (sum_by-cons (λ (d : Corner). cond (is_own_seam m d p && holds m.side d p) 1 0) c cs)
 

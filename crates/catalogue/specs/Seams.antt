@@ -1,8 +1,9 @@
 -- How many points tiles disagree on (this product's own profile).
-use Rattle.std.specs.Prelude.{◌≡◌, ℕ, ◌+◌, ◌*◌, ℤ, Bool, false, ◌&&◌, if◌then◌else◌, List, [], ◌∷◌, length, map, filter, count_by, sum_by, zero, suc}
+use Rattle.std.specs.Prelude.{◌≡◌, ℕ, ◌+◌, ◌-◌, ◌*◌, ℤ, Bool, false, ◌&&◌, if◌then◌else◌, List, [], ◌∷◌, length, map, filter, count_by, sum_by, zero, suc}
 use Rattle.lattice.specs.Corners.{Corner, same_corner}
 use Rattle.lattice.specs.Lattice.{holds, point_of}
 use Rattle.lattice.specs.Mosaic.{Mosaic}
+use Rattle.lattice.specs.RimPoints.{rim_index}
 use Rattle.lattice.specs.Height.{disagrees}
 use Rattle.lattice.specs.Ground.{same_point}
 use Rattle.lattice.specs.declared.point.Point.{Point}
@@ -26,13 +27,13 @@ is_first c (d ∷ rest) = same_corner d c
 abbrev pub is_own_seam : Mosaic → Corner → Point → Bool
 is_own_seam m c p = is_first c (present_holders m p) && disagrees m p
 
--- how many of the first so many samples of the corner's tile lie at such points
+-- how many of the first so many rim points of the corner's tile are such points: no other tile holds a point off the rim
 unfoldable pub own_seams_below : Mosaic → Corner → ℕ → ℕ
 own_seams_below m c zero = 0
-own_seams_below m c (suc e) = own_seams_below m c e + (if is_own_seam m c (point_of m.side c e) then 1 else 0)
+own_seams_below m c (suc e) = own_seams_below m c e + (if is_own_seam m c (point_of m.side c (rim_index m.side e)) then 1 else 0)
 
 abbrev pub seams_of : Mosaic → Corner → ℕ
-seams_of m c = own_seams_below m c (m.side * m.side)
+seams_of m c = own_seams_below m c (4 * (m.side - 1))
 
 -- those of the tiles whose corners stand before this latitude and longitude
 abbrev pub seams_before : Mosaic → ℤ → ℤ → ℕ

@@ -8,7 +8,7 @@ ghost use Rattle.catalogue.specs.Seams.{IsSeamCount, is_first, present_holders, 
 use crate::Samples;
 use crate::listing::present_at;
 use crate::seam_rule::sample_at;
-use lattice::{Corner, Point, Refusal, holders, is_rim, point_at};
+use lattice::{Corner, Point, Refusal, holders, point_at, rim_index};
 
 /// How many points disagree: two present tiles hold the point with different samples. A void counts as a sample, and
 /// each point counts once.
@@ -28,7 +28,7 @@ fn seams_in_row<S: Samples>(samples: &mut S, lat: i16) -> Result<u64, Refusal>
     ensures value { S.is_honest samples.new
         → IfOk result (λ count. seams_before (S.mosaic samples.old) (lat +ℤ pos 1) (negsuc 179)
         ≡ seams_before (S.mosaic samples.old) lat (negsuc 179) + count) }
-    ensures few { IfOk result (λ count. count ≤ 4668192360) }
+    ensures few { IfOk result (λ count. count ≤ 5184000) }
     ensures reads { OnlyReads S.Samples samples.old samples.new result }
 {
     let mut count = 0;
@@ -43,7 +43,7 @@ fn seams_at<S: Samples>(samples: &mut S, lat: i16, lon: i16) -> Result<u64, Refu
     ensures value { S.is_honest samples.new
         → IfOk result (λ count. seams_before (S.mosaic samples.old) lat (lon +ℤ pos 1)
         ≡ seams_before (S.mosaic samples.old) lat lon + count) }
-    ensures few { IfOk result (λ count. count ≤ 12967201) }
+    ensures few { IfOk result (λ count. count ≤ 14400) }
     ensures reads { OnlyReads S.Samples samples.old samples.new result }
 {
     match present_at(samples, lat, lon) {
@@ -55,12 +55,14 @@ fn seams_at<S: Samples>(samples: &mut S, lat: i16, lon: i16) -> Result<u64, Refu
 // How many disagreeing points have the corner's tile as their first present one.
 fn seams_in_tile<S: Samples>(samples: &mut S, corner: Corner) -> Result<u64, Refusal>
     ensures value { S.is_honest samples.new → IfOk result (λ count. count ≡ seams_of (S.mosaic samples.old) corner) }
-    ensures few { IfOk result (λ count. count ≤ 12967201) }
+    ensures few { IfOk result (λ count. count ≤ 14400) }
     ensures reads { OnlyReads S.Samples samples.old samples.new result }
 {
     let mut count = 0;
-    for index in 0..samples.side().area() {
-        if is_own_seam(samples, corner, index)? {
+    let side = samples.side();
+    // No other tile holds a point off the rim.
+    for number in 0..side.rim() {
+        if is_own_seam(samples, corner, rim_index(side, number))? {
             count += 1;
         }
     }
@@ -74,12 +76,7 @@ fn is_own_seam<S: Samples>(samples: &mut S, corner: Corner, index: u32) -> Resul
         → IfOk result (λ answer. answer ≡ own_seam (S.mosaic samples.old) corner (point_of (S.side_of samples.old) corner index)) }
     ensures reads { OnlyReads S.Samples samples.old samples.new result }
 {
-    let side = samples.side();
-    let point = point_at(side, corner, index);
-    // No other tile holds a point inside.
-    if !is_rim(side, index) {
-        return Ok(false);
-    }
+    let point = point_at(samples.side(), corner, index);
     if !is_first_holder(samples, corner, point) {
         return Ok(false);
     }

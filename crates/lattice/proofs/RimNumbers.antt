@@ -1,8 +1,8 @@
 -- Rim points and their numbers: each number below four times the side less one is that of one rim point.
-use Rattle.std.proofs.Common.{◌≡◌, ◌≢◌, ℕ, ◌+◌, ◌*◌, ◌-◌, ◌/◌, ◌%◌, ◌<◌, ◌≤◌, inl, inr, cond, IsTrue, ◌||◌, refl, sym, ap, ap₂, ◌∙◌, subst, arith, nat_eq}
-use Rattle.std.proofs.lemmas.Bool.{cond-true, cond-false, eqb-true, ne_eqb, eq-eqb, or_cases, or_left, or_right, cases_lt, cases_eq}
+use Rattle.std.proofs.Common.{◌≡◌, ◌≢◌, ℕ, ◌+◌, ◌*◌, ◌-◌, ◌/◌, ◌%◌, ◌<◌, ◌≤◌, inl, inr, cond, IsTrue, ◌||◌, refl, sym, ap, ap₂, ◌∙◌, subst, arith, nat_eq, nat_lt}
+use Rattle.std.proofs.lemmas.Bool.{cond-true, cond-false, eqb-true, ne_eqb, eq-eqb, or_cases, or_left, or_right, cases_lt, cases_eq, lt-ltb, le-ltb}
 use Rattle.lattice.specs.Block.{is_rim, rim_number}
-use Rattle.lattice.specs.RimPoints.{IsRimPoint}
+use Rattle.lattice.specs.RimPoints.{IsRimPoint, rim_index}
 use Rattle.std.proofs.lemmas.Nat.{div-mul-add, mod-mul-add, mul-add-lt}
 use Rattle.lattice.proofs.Samples.{row_below}
 
@@ -121,17 +121,26 @@ at_cell n i j k e side row column at there =
       number = east_number n e (λ h. a (sym in_row ∙ h)) (λ h. absurd (omega arith)) (λ h. absurd (omega arith)) ∙ omega arith;
     }
 
-pub rim_point_of : (n k : ℕ) → 3 ≤ n → k < 4 * (n - 1) → (e : ℕ) × IsRimPoint n k e
-rim_point_of n k side small = elim (cases_lt k n) [
-  | inl top ↦ (0 * n + k, at_cell n 0 k k (0 * n + k) side (omega arith) top refl (Top refl refl))
-  | inr below ↦ elim (cases_lt k (n + 2 * (n - 2))) [
-    | inl sides ↦ elim (cases_eq ((k - n) % 2) 0) [
-      | inl west ↦ (((k - n) / 2 + 1) * n + 0, at_cell n ((k - n) / 2 + 1) 0 k (((k - n) / 2 + 1) * n + 0) side (omega arith) (omega arith) refl (West (omega arith) (omega arith) refl (omega arith)))
-      | inr east ↦ (((k - n) / 2 + 1) * n + (n - 1), at_cell n ((k - n) / 2 + 1) (n - 1) k (((k - n) / 2 + 1) * n + (n - 1)) side (omega arith) (omega arith) refl (East (omega arith) (omega arith) (omega arith) (omega arith)))
-    ]
-    | inr bottom ↦ ((n - 1) * n + (k - (n + 2 * (n - 2))), at_cell n (n - 1) (k - (n + 2 * (n - 2))) k ((n - 1) * n + (k - (n + 2 * (n - 2)))) side (omega arith) (omega arith) refl (Bottom (omega arith) (omega arith) (omega arith)))
-  ]
+pub rim_index_is : (n k : ℕ) → 3 ≤ n → k < 4 * (n - 1) → IsRimPoint n k (rim_index n k)
+rim_index_is n k side small = elim (cases_lt k n) [
+  | inl top ↦ subst (IsRimPoint n k) (sym (cond-true (nat_lt k n) k _ (lt-ltb k n top))) (at_cell n 0 k k k side (omega arith) top (omega arith) (Top refl refl))
+  | inr below ↦ subst (IsRimPoint n k) (sym (cond-false (nat_lt k n) k _ (le-ltb k n below))) (elim (cases_lt k (n + 2 * (n - 2))) [
+    | inl sides ↦ subst (IsRimPoint n k) (sym (cond-true (nat_lt k (n + 2 * (n - 2))) _ _ (lt-ltb k (n + 2 * (n - 2)) sides))) (elim (cases_eq ((k - n) % 2) 0) [
+      | inl west ↦
+          subst (λ j. IsRimPoint n k (((k - n) / 2 + 1) * n + j)) (sym (cond-true (nat_eq ((k - n) % 2) 0) 0 (n - 1) (eq-eqb ((k - n) % 2) 0 west)))
+          (at_cell n ((k - n) / 2 + 1) 0 k (((k - n) / 2 + 1) * n + 0) side (omega arith) (omega arith) refl (West (omega arith) (omega arith) refl (omega arith)))
+      | inr east ↦
+          subst (λ j. IsRimPoint n k (((k - n) / 2 + 1) * n + j)) (sym (cond-false (nat_eq ((k - n) % 2) 0) 0 (n - 1) (ne_eqb ((k - n) % 2) 0 east)))
+          (at_cell n ((k - n) / 2 + 1) (n - 1) k (((k - n) / 2 + 1) * n + (n - 1)) side (omega arith) (omega arith) refl (East (omega arith) (omega arith) (omega arith) (omega arith)))
+    ])
+    | inr bottom ↦
+        subst (IsRimPoint n k) (sym (cond-false (nat_lt k (n + 2 * (n - 2))) _ _ (le-ltb k (n + 2 * (n - 2)) bottom)))
+        (at_cell n (n - 1) (k - (n + 2 * (n - 2))) k ((n - 1) * n + (k - (n + 2 * (n - 2)))) side (omega arith) (omega arith) refl (Bottom (omega arith) (omega arith) (omega arith)))
+  ])
 ]
+
+pub rim_point_of : (n k : ℕ) → 3 ≤ n → k < 4 * (n - 1) → (e : ℕ) × IsRimPoint n k e
+rim_point_of n k side small = (rim_index n k, rim_index_is n k side small)
 
 -- a rim point's number
 pub number_below : (n k e : ℕ) → 3 ≤ n → IsRimPoint n k e → k < 4 * (n - 1)
@@ -151,3 +160,9 @@ number_below n k e side is = below (subst (Lies n (e / n) (e % n)) is.number (li
 
 pub one_index : (n k e f : ℕ) → 3 ≤ n → IsRimPoint n k e → IsRimPoint n k f → e ≡ f
 one_index n k e f side here there = one_rim_point n e f side here.small there.small here.rim there.rim (here.number ∙ sym there.number)
+
+-- there and back
+pub rim_index_of_number : (n e : ℕ) → 3 ≤ n → e < n * n → IsTrue (is_rim n e) → rim_index n (rim_number n e) ≡ e
+rim_index_of_number n e side small rim =
+    let here : IsRimPoint n (rim_number n e) e = record { small = small; rim = rim; number = refl } in
+    one_index n (rim_number n e) (rim_index n (rim_number n e)) e side (rim_index_is n (rim_number n e) side (number_below n (rim_number n e) e side here)) here

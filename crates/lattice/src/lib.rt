@@ -33,5 +33,5 @@ pub use laws::{
 pub use limits::{LARGEST_SIDE, MOST_TILES};
 pub use point::Point;
 pub use refusal::Refusal;
-pub use rim::{is_rim, rim_index, rim_number};
+pub use rim::{rim_index, rim_number};
 pub use side::Side;

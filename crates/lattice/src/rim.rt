@@ -1,18 +1,9 @@
 //! The rim of a tile: the samples of its first and last rows and columns.
 ghost use Rattle.std.specs.Prelude.{◌≡◌, ◌*◌, ◌-◌, ◌<◌};
-ghost use Rattle.lattice.specs.Block.{is_rim as on_rim, rim_number as number_of};
+ghost use Rattle.lattice.specs.Block.{rim_number as number_of};
 ghost use Rattle.lattice.specs.RimPoints.{IsRimPoint};
 
 use crate::Side;
-
-/// Whether the sample with this index lies on the rim of its tile.
-pub fn is_rim(side: Side, index: u32) -> bool
-    ensures { result ≡ on_rim side index }
-{
-    let row = index / side.samples();
-    let column = index % side.samples();
-    row == 0 || row == side.edge() || column == 0 || column == side.edge()
-}
 
 /// The number of the rim sample with this index: rim samples are numbered row by row from the north-west, from 0.
 pub fn rim_number(side: Side, index: u32) -> u32

@@ -7,7 +7,7 @@ abbrev pub invariant-loop-lon : goal.invariant-loop-lon
 invariant-loop-lon g l = record {
   reads : OnlyReads {T = ℕ} g.S.Samples l.fn.samples l.samples (Ok l.count);
   high : l.lon ≤ℤ pos 180;
-  few : pos l.count ≤ℤ (pos 12967201 *ℤ (l.lon +ℤ pos 180));
+  few : pos l.count ≤ℤ (pos 14400 *ℤ (l.lon +ℤ pos 180));
   count : g.S.Samples.is_honest l.samples
       → seams_before (g.S.Samples.mosaic l.fn.samples) l.lat l.lon ≡ seams_before (g.S.Samples.mosaic l.fn.samples) l.lat (negsuc 179) + l.count;
 }
