@@ -7,8 +7,6 @@ mod answers;
 #[cfg(test)]
 mod commands;
 #[cfg(test)]
-mod line_texts;
-#[cfg(test)]
 mod random;
 #[cfg(test)]
 mod region;

@@ -11,6 +11,8 @@ mod number;
 mod reply;
 mod request;
 mod source;
+#[cfg(test)]
+mod tests;
 mod words;
 
 pub use grammar::request_of;

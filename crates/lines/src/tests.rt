@@ -1,7 +1,7 @@
-use lattice::{Point, Refusal};
-use lines::{
+use crate::{
     Ahead, Extent, Line, Reply, Request, read_line, read_payload, request_of, skip_payload,
 };
+use lattice::{Point, Refusal};
 use std::io::{self, Read};
 use std::test::Fail;
 use watershed::Run;
