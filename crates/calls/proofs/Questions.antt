@@ -6,7 +6,7 @@ use Rattle.lattice.specs.Corners.{Corner}
 use Rattle.lattice.specs.declared.height.Height.{Height}
 use Rattle.lattice.specs.declared.point.Point.{Point}
 use Rattle.lattice.specs.declared.refusal.Refusal.{Refusal}
-use Rattle.lattice.specs.declared.refusal.Refusal.TheVariants.{Device, NoMemory, Failed}
+use Rattle.lattice.specs.declared.refusal.Refusal.TheVariants.{Device, Failed}
 use Rattle.catalogue.specs.Reading.{HasRisen}
 use Rattle.watershed.specs.declared.runs.Run.{Run}
 use Rattle.calls.specs.Engines.{answered, items_in}
@@ -143,9 +143,13 @@ module _ {T : Type 0} (event : Event) (tell : T → Reply) where
   pub counted_so : IsAnswered event tell → (before now : ℕ) (result : Result T Refusal) → before ≤ now → (IsErrOf result Device → HasRisen before now) → IsCounted before (answered tell result) now
   counted_so is before now result later device = record { later = later; device = λ e. device (refused_as is result Device e) }
 
-  pub written_so : IsAnswered event tell → (version before now : ℕ) (result : Result T Refusal) → WritesFew version event before now → (IsErrOf result NoMemory → now ≡ before)
+  unwritten_as : {X : Type 0} → IsAnswered event tell → (result : Result T Refusal) → IfErr result (λ r. r ≢ Device → X) → (r : Refusal) → answered tell result ≡ reply.Refused r → r ≢ Device → X
+  unwritten_as is (Ok x) none r e other = absurd (is.no_refusal x r e)
+  unwritten_as is (Err why) none r e other = none (λ device. other (let same : why ≡ r = cc in sym same ∙ device))
+
+  pub written_so : IsAnswered event tell → (version before now : ℕ) (result : Result T Refusal) → WritesFew version event before now → IfErr result (λ r. r ≢ Device → now ≡ before)
       → IsWritten version event (answered tell result) before now
-  written_so is version before now result few none = record { few = few; no_memory = λ e. none (refused_as is result NoMemory e) }
+  written_so is version before now result few none = record { few = few; refused = unwritten_as is result none }
 
 -- ---- the questions
 

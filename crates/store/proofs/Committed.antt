@@ -1,6 +1,6 @@
 -- A command by the trees that it goes through: what commits nothing, and the commit of what was staged.
 use Rattle.std.proofs.Common.{◌≡◌, ◌≢◌, ◌⊎◌, inl, inr, ⊎_elim, ℕ, ◌+◌, ◌≤◌, ◌<◌, ◌^◌, Bool, true, false, refl, sym, ap, ap₂, ◌∙◌, subst, arith}
-use Rattle.std.specs.Prelude.{Option, Some, Result, Ok, Err, IfErr, IsErrOf, IsTrue}
+use Rattle.std.specs.Prelude.{Option, Result, Ok, Err, IfErr, IsErrOf, IsTrue}
 use Rattle.std.proofs.lemmas.Bool.{or_right}
 use Rattle.disk.specs.Disk.{Image, HasRisen}
 use Rattle.disk.specs.Stops.{LeavesOnly, weaker, in_turn}

@@ -114,6 +114,10 @@ module _ {D : Type 0} (g : Ghosts D) (old new : Store D g) (s t : State) (c : Co
 
 -- ---- calls, as of any engine
 
+always_err : {T X : Type 0} (result : Result T Refusal) → ((r : Refusal) → X) → IfErr result (λ r. r ≢ Device → X)
+always_err (Ok x) says = tt
+always_err (Err r) says = λ _. says r
+
 module _ {D : Type 0} (g : Ghosts D) (old new : Store D g) {T : Type 0} (event : Event) (tell : T → Reply) (result : Result T Refusal) where
   pub asked : (Answers : State → Result T Refusal → State → Type 0) → IsQuestion event tell Answers → IfErr result (λ r. IsTrue (may_refuse event r)) → Queries g old new result
       → (g.honest (disk_of new) → (s : State) → IsAt g old s → (t : State) × (IsAt g new t × Answers s result t)) → IsCall (members g) old event (answered tell result) new
@@ -126,7 +130,7 @@ module _ {D : Type 0} (g : Ghosts D) (old new : Store D g) {T : Type 0} (event :
         capacity = ap (λ (root : RootValue). root.capacity) reads.root;
         told = told event tell so (has_failed old) (has_failed new) result causes (λ had. ((reads.failed had).0, reads.still_failed had)) reads.works reads.fails reads.quiet;
         failures = counted_so event tell so (g.failures (disk_of old)) (g.failures (disk_of new)) result reads.later reads.device;
-        writes = written_so event tell so 1 before now result (few_as event tell Answers is 1 before now reads.writes) (λ _. reads.writes);
+        writes = written_so event tell so 1 before now result (few_as event tell Answers is 1 before now reads.writes) (always_err result (λ _. reads.writes));
         known = knows_as event tell Answers is (known_by (root_of old)) (known_by (root_of new)) result (ap known_by reads.root);
         honest = λ h. (reads.nothing h).honest;
         happens = λ h s at.
@@ -172,7 +176,7 @@ counts g only_now store k known state = record {
   capacity = refl;
   told = record { matches = tt; says = λ _. (k, refl); had_failed = λ e. cc; after_is = refl };
   failures = record { later = omega arith; device = λ e. cc };
-  writes = record { few = refl; no_memory = λ _. refl };
+  writes = record { few = refl; refused = λ r is other. refl };
   known = (known, refl);
   honest = λ h. h;
   happens = λ h s at. (s, (at, (state s at.at, refl), nothing_done store s (s ∷ []) (λ image. only_now (disk_of store) image) h at));
@@ -197,10 +201,6 @@ right_command : (capacity : ℕ) (s t : State) (c : Command) (result : Result �
 right_command capacity s t c (Ok k) is = is
 right_command capacity s t c (Err r) is = is
 
-no_memory_written : {X : Type 0} (result : Result ℕ Refusal) → IfErr result (λ r. r ≢ Device → X) → IsErrOf result NoMemory → X
-no_memory_written (Ok k) quiet is = absurd (let e : ◌≡◌ {A = Result ℕ Refusal} (Ok k) (Err NoMemory) = is in cc)
-no_memory_written (Err r) quiet is = quiet (λ device. let e : ◌≡◌ {A = Result ℕ Refusal} (Err r) (Err NoMemory) = is in let no : NoMemory ≡ Device = cc in cc)
-
 pub is_command : (c : Command) → IsAnswered (ask.Do c) reply.Done
 is_command c = record { matches = λ k. tt; says = refl; goes_on = λ b k. refl; blames = λ b. refl; passes = λ b r other. passes_on b r other; no_refusal = λ k r e. cc }
   where
@@ -216,7 +216,7 @@ commands g only_now old new c result is few failed still_failed = record {
   capacity = is.capacity;
   told = told (ask.Do c) reply.Done (is_command c) (has_failed old) (has_failed new) result is.causes (λ had. ((failed had).0, still_failed had)) is.works is.fails is.quiet;
   failures = counted_so (ask.Do c) reply.Done (is_command c) (g.failures (disk_of old)) (g.failures (disk_of new)) result is.later is.device;
-  writes = written_so (ask.Do c) reply.Done (is_command c) 1 (g.writes (disk_of old)) (g.writes (disk_of new)) result (writes_few c (g.writes (disk_of old)) (g.writes (disk_of new)) few) (no_memory_written result is.unwritten);
+  writes = written_so (ask.Do c) reply.Done (is_command c) 1 (g.writes (disk_of old)) (g.writes (disk_of new)) result (writes_few c (g.writes (disk_of old)) (g.writes (disk_of new)) few) is.unwritten;
   known = known_done (root_of old) (root_of new) c result is.counted is.last_known;
   honest = is.honest;
   happens = λ h s at.
