@@ -1,6 +1,7 @@
 -- The states of a store, by what is seen of its tree.
 use Rattle.std.proofs.Common.{◌≡◌, ◌⊎◌, inl, inr, ⊎_elim, ℕ, Bool, true, false, List, refl, sym, ap, ◌∙◌, subst, true≢false}
 use Rattle.std.specs.Prelude.{Option, Some, None}
+use Rattle.std.proofs.lemmas.Option.{none-some}
 use Rattle.disk.specs.Disk.{Image}
 use Rattle.disk.specs.declared.disk.Disk.{Ghosts}
 use Rattle.page_codec.specs.Roots.{RootValue}
@@ -63,7 +64,7 @@ module _ {D : Type 0} (g : Ghosts D) (disk : D) (root : RootValue) (failed : Boo
     where
       by : StandsForState (g.size disk) root.side root.capacity image s → StandsFor (g.size disk) root.side root.capacity image s.contents
       by (inl is) = is
-      by (inr (made, some, is)) = let no : ◌≡◌ {A = Option Contents} None (Some made) = sym none ∙ some in cc
+      by (inr (made, some, is)) = absurd (none-some made (sym none ∙ some))
 
 -- what becomes of the images in a call that failed: the contents stay, and the commit that the call made is in doubt
 
