@@ -1,10 +1,12 @@
 //! What lines need of a store.
-ghost use Rattle.std.specs.Prelude.{◌≡◌, ◌≢◌, ◌≤◌, ℕ, List, [], ◌∷◌, ◌++◌, Contains, Bool, Err};
-ghost use Rattle.lattice.specs.declared.refusal.Refusal.TheVariants.{Device};
-ghost use Rattle.catalogue.specs.Reading.{HasRisen};
+ghost use Rattle.std.specs.Prelude.{◌≡◌, ℕ, List, [], ◌∷◌, ◌++◌, Contains, Bool};
+ghost use Rattle.calls.specs.Engines.{IsCall, answered};
 ghost use Rattle.calls.specs.State.{State};
-ghost use Rattle.calls.specs.Outcomes.{Applies, Elevates, Exports, Lists, Directs, Fills, Sheds, Traces};
-ghost use Rattle.engine.specs.Asked.{IsAsked, items_in};
+ghost use Rattle.calls.specs.Told.{Known};
+ghost use Rattle.calls.specs.declared.event.Event.{Event};
+ghost use Rattle.calls.specs.declared.event.Event.TheVariants as ask;
+ghost use Rattle.calls.specs.declared.event.Reply.{Reply};
+ghost use Rattle.calls.specs.declared.event.Reply.TheVariants as reply;
 
 use edits::Command;
 use lattice::{Corner, Height, Point, Refusal, Side};
@@ -12,11 +14,15 @@ use watershed::Run;
 
 /// A store, as far as lines need it.
 ///
-/// What a call answers, and the state that it leaves, is said by the states that a store may be in: for each that it was
-/// in there is one that it is in now. A store on a disk promises so much only where the disk was honest.
+/// A call is said by one relation, which only the calls make known; what follows from it is said by the laws. What an
+/// answer means is said by the states that a store may be in: for each that it was in there is one that it is in now. A
+/// store on a disk promises so much only where the disk was honest.
 pub trait Engine {
-    /// All of its calls so far met an honest disk. No call makes a dishonest one honest, so a clause that holds where
-    /// it is honest at the end of a call speaks of one that was honest all along.
+    /// It was asked this, answered this, and then was that engine.
+    ghost called: { Self → Event → Reply → Self → Type 0 };
+
+    /// All of its calls so far met an honest disk. No call makes a dishonest one honest, so a law that holds where it is
+    /// honest after a call speaks of one that was honest all along.
     ghost is_honest: { Self → Type 0 };
 
     /// That it is in this state.
@@ -35,9 +41,14 @@ pub trait Engine {
     /// A call failed on its disk, and none has opened it since.
     ghost has_failed: { Self → Bool };
 
-    /// How many calls of the disk have failed. The count stays at the largest 64-bit number, where each further failure
-    /// counts as a rise.
+    /// How many calls of the disk have failed, up to the largest 64-bit number.
     ghost failures: { Self → ℕ };
+
+    /// How many writes of the disk were made.
+    ghost writes: { Self → ℕ };
+
+    /// What it knows without a disk: the version of its format, its accepted commands and its commits.
+    ghost known: { Self → Known };
 
     /// The side of its tiles.
     fn side(&self) -> Side
@@ -45,94 +56,57 @@ pub trait Engine {
 
     /// Does a command, and answers how many were accepted with it.
     fn apply(&mut self, command: &Command) -> Result<u64, Refusal>
-        ensures side { side_of self.new ≡ side_of self.old }
-        ensures capacity { capacity_of self.new ≡ capacity_of self.old }
-        ensures failures { failures self.old ≤ failures self.new }
-        ensures device { result ≡ Err Device → HasRisen (failures self.old) (failures self.new) }
-        ensures honest { is_honest self.new → is_honest self.old }
-        ensures asked { IsAsked (has_failed self.old) result (has_failed self.new) }
-        ensures outcome { is_honest self.new → (s : State) → is_at self.old s
-            → (t : State) × is_at self.new t × leaves_only self.old self.new (s ∷ t ∷ [])
-            × Applies (capacity_of self.old) s command.now result t };
+        ensures { called self.old (ask.Do command.now) (answered reply.Done result) self.new };
 
     /// The height of a point.
     fn elevation(&mut self, point: Point) -> Result<Height, Refusal>
-        ensures side { side_of self.new ≡ side_of self.old }
-        ensures capacity { capacity_of self.new ≡ capacity_of self.old }
-        ensures failures { failures self.old ≤ failures self.new }
-        ensures device { result ≡ Err Device → HasRisen (failures self.old) (failures self.new) }
-        ensures honest { is_honest self.new → is_honest self.old }
-        ensures asked { IsAsked (has_failed self.old) result (has_failed self.new) }
-        ensures outcome { is_honest self.new → (s : State) → is_at self.old s
-            → (t : State) × is_at self.new t × leaves_only self.old self.new (s ∷ t ∷ []) × Elevates s point result t };
+        ensures { called self.old (ask.Elevation point) (answered reply.Elevation result) self.new };
 
     /// The filled level of a point, in metres.
     fn fill(&mut self, point: Point) -> Result<i16, Refusal>
-        ensures side { side_of self.new ≡ side_of self.old }
-        ensures capacity { capacity_of self.new ≡ capacity_of self.old }
-        ensures failures { failures self.old ≤ failures self.new }
-        ensures device { result ≡ Err Device → HasRisen (failures self.old) (failures self.new) }
-        ensures honest { is_honest self.new → is_honest self.old }
-        ensures asked { IsAsked (has_failed self.old) result (has_failed self.new) }
-        ensures outcome { is_honest self.new → (s : State) → is_at self.old s
-            → (t : State) × is_at self.new t × leaves_only self.old self.new (s ∷ t ∷ []) × Fills s point result t };
+        ensures { called self.old (ask.Fill point) (answered reply.Fill result) self.new };
 
     /// The code of a point's direction, 0 where water leaves the mosaic.
     fn direction(&mut self, point: Point) -> Result<u8, Refusal>
-        ensures side { side_of self.new ≡ side_of self.old }
-        ensures capacity { capacity_of self.new ≡ capacity_of self.old }
-        ensures failures { failures self.old ≤ failures self.new }
-        ensures device { result ≡ Err Device → HasRisen (failures self.old) (failures self.new) }
-        ensures honest { is_honest self.new → is_honest self.old }
-        ensures asked { IsAsked (has_failed self.old) result (has_failed self.new) }
-        ensures outcome { is_honest self.new → (s : State) → is_at self.old s
-            → (t : State) × is_at self.new t × leaves_only self.old self.new (s ∷ t ∷ []) × Directs s point result t };
+        ensures { called self.old (ask.Direction point) (answered reply.Direction result) self.new };
 
     /// The flow path of a point.
     fn trace(&mut self, point: Point) -> Result<Vec<Point>, Refusal>
-        ensures side { side_of self.new ≡ side_of self.old }
-        ensures capacity { capacity_of self.new ≡ capacity_of self.old }
-        ensures failures { failures self.old ≤ failures self.new }
-        ensures device { result ≡ Err Device → HasRisen (failures self.old) (failures self.new) }
-        ensures honest { is_honest self.new → is_honest self.old }
-        ensures asked { IsAsked (has_failed self.old) (items_in result) (has_failed self.new) }
-        ensures outcome { is_honest self.new → (s : State) → is_at self.old s
-            → (t : State) × is_at self.new t × leaves_only self.old self.new (s ∷ t ∷ []) × Traces s point (items_in result) t };
+        ensures { called self.old (ask.Trace point) (answered reply.Trace result) self.new };
 
     /// The watershed of a point, as runs.
     fn watershed(&mut self, point: Point) -> Result<Vec<Run>, Refusal>
-        ensures side { side_of self.new ≡ side_of self.old }
-        ensures capacity { capacity_of self.new ≡ capacity_of self.old }
-        ensures failures { failures self.old ≤ failures self.new }
-        ensures device { result ≡ Err Device → HasRisen (failures self.old) (failures self.new) }
-        ensures honest { is_honest self.new → is_honest self.old }
-        ensures asked { IsAsked (has_failed self.old) (items_in result) (has_failed self.new) }
-        ensures outcome { is_honest self.new → (s : State) → is_at self.old s
-            → (t : State) × is_at self.new t × leaves_only self.old self.new (s ∷ t ∷ []) × Sheds s point (items_in result) t };
+        ensures { called self.old (ask.Watershed point) (answered reply.Watershed result) self.new };
 
     /// The HGT bytes of a tile's own samples.
     fn export(&mut self, corner: Corner) -> Result<Vec<u8>, Refusal>
-        ensures side { side_of self.new ≡ side_of self.old }
-        ensures capacity { capacity_of self.new ≡ capacity_of self.old }
-        ensures failures { failures self.old ≤ failures self.new }
-        ensures device { result ≡ Err Device → HasRisen (failures self.old) (failures self.new) }
-        ensures honest { is_honest self.new → is_honest self.old }
-        ensures asked { IsAsked (has_failed self.old) (items_in result) (has_failed self.new) }
-        ensures outcome { is_honest self.new → (s : State) → is_at self.old s
-            → (t : State) × is_at self.new t × leaves_only self.old self.new (s ∷ t ∷ []) × Exports s corner (items_in result) t };
+        ensures { called self.old (ask.Export corner) (answered reply.Export result) self.new };
 
     /// The corners of the present tiles, in order. They are held in memory, so that no disk refuses.
     fn tiles(&self) -> Result<Vec<Corner>, Refusal>
-        ensures memory { result ≢ Err Device }
-        ensures asked { IsAsked (has_failed self.now) (items_in result) (has_failed self.now) }
-        ensures outcome { is_honest self.now → (s : State) → is_at self.now s → Lists s (items_in result) s };
+        ensures { called self.now ask.Tiles (answered reply.Tiles result) self.now };
 
     /// How many commands were accepted, as last known.
     fn count(&self) -> u64
-        ensures { (s : State) → is_at self.now s → result ≡ s.contents.count };
+        ensures { called self.now ask.Count (reply.Count result) self.now };
+
+    /// What is known of a call: on any disk what its answer tells of failures, writes and counts, and on an honest one
+    /// the answer, the state that it leaves, and what a stop leaves.
+    ghost is_call: { (old new : Self) (event : Event) (answer : Reply) → called old event answer new
+        → IsCall (record {
+          is_honest = is_honest;
+          is_at = is_at;
+          leaves_only = leaves_only;
+          side_of = side_of;
+          capacity_of = capacity_of;
+          has_failed = has_failed;
+          failures = failures;
+          writes = writes;
+          known = known;
+        }) old event answer new };
 
     /// Where nothing was done a stop leaves what the state that it is in allows.
-    ghost stays: { (e : Self) (s : State) (others : List State) → is_honest e → is_at e s → leaves_only e e (s ∷ others) };
+    ghost stays: { (e : Self) (s : State) → is_honest e → is_at e s → leaves_only e e (s ∷ []) };
 
     /// One run, and then another.
     ghost in_turn: { (first mid last : Self) (states more : List State)
@@ -142,6 +116,6 @@ pub trait Engine {
     ghost weaker: { (first last : Self) (states more : List State)
         → ((s : State) → Contains states s → Contains more s) → leaves_only first last states → leaves_only first last more };
 
-    /// A state's tiles have the store's side.
+    /// A state's tiles have the engine's side.
     ghost same_side: { (e : Self) (s : State) → is_at e s → s.contents.mosaic.side ≡ side_of e };
 }

@@ -6,13 +6,14 @@ use Rattle.lattice.specs.Corners.{Corner}
 use Rattle.lattice.specs.declared.refusal.Refusal.{Refusal}
 use Rattle.lattice.specs.declared.refusal.Refusal.TheVariants.{NoMemory, BadName, BadSide, BadCapacity}
 use Rattle.hgt.specs.Names.{IsFileName}
-use Rattle.calls.specs.State.{State, fresh}
+use Rattle.calls.specs.Events.{Happens}
+use Rattle.calls.specs.State.{State, fresh, working}
 use Rattle.lines.specs.Grammar.{IsNat}
 use Rattle.lines.specs.Replies.{line_of, ok_line, refusal_text}
 use Rattle.serving.specs.Answers.{Replied}
 use Rattle.server.specs.Report.{IsReportText}
 use Rattle.serving.specs.Served.{Outcome}
-use Rattle.table_engine.specs.TableState.{working}
+use Rattle.serving.specs.Promises.{side_in}
 use Rattle.server.specs.declared.arguments.Arguments.{Arguments}
 use Rattle.server.specs.declared.arguments.Arguments.TheVariants.{Format, Import, Serve, Table, Check}
 use Rattle.serving.specs.declared.session.ServeFault.{ServeFault}
@@ -124,10 +125,10 @@ EndsFlushing written new status =
 -- line tells which.
 abbrev pub EndsServing : ℕ → ℕ → Option (List ℕ) → Option (List ℕ) → Option (List ℕ) → Option (List ℕ) → ℕ → Type 0
 EndsServing side capacity before after written new status =
-    ((states : List State) × Outcome (Replied capacity) before after written new (working (fresh side)) states (Ok tt) × (status ≡ 0))
-    ⊎ ((states : List State) × (mid : Option (List ℕ)) × Outcome (Replied capacity) before after written mid (working (fresh side)) states (Ok tt)
+    ((states : List State) × Outcome (Replied (Happens capacity) side_in) before after written new (working (fresh side)) states (Ok tt) × (status ≡ 0))
+    ⊎ ((states : List State) × (mid : Option (List ℕ)) × Outcome (Replied (Happens capacity) side_in) before after written mid (working (fresh side)) states (Ok tt)
     × Begins mid new (fault_line Output) × (status ≡ 1))
-    ⊎ ((states : List State) × (mid : Option (List ℕ)) × (fault : ServeFault) × Outcome (Replied capacity) before after written mid (working (fresh side)) states (Err fault)
+    ⊎ ((states : List State) × (mid : Option (List ℕ)) × (fault : ServeFault) × Outcome (Replied (Happens capacity) side_in) before after written mid (working (fresh side)) states (Err fault)
     × Begins mid new (fault_line fault) × (status ≡ 1))
 
 -- the side is tested first, then the capacity

@@ -2,7 +2,8 @@
 ghost use Rattle.std.specs.Prelude.{◌≡◌, ◌++◌, IfOk, OnOk, decimal, flat_map};
 ghost use Rattle.calls.specs.State.{State};
 ghost use Rattle.store.specs.Queried.{Queries};
-ghost use Rattle.store.specs.Stores.{disk_of, items_in, IsAt};
+ghost use Rattle.calls.specs.Engines.{items_in};
+ghost use Rattle.store.specs.Stores.{disk_of, IsAt};
 ghost use Rattle.server.specs.Report.{IsReportText, Reports, report_text, tile_line};
 
 use disk::Disk;

@@ -1,2 +1,4 @@
+pub mod Runs
 pub mod SessionLemmas
-pub mod ToldLemmas
+pub mod Texts
+pub mod Turns

@@ -1,5 +1,5 @@
 -- Items that are heard one after another, and what is written for them.
-use Rattle.std.proofs.Common.{◌≡◌, ◌≢◌, ℕ, List, [], ◌∷◌, ◌++◌, length, Option, Some, None, refl, sym, ap, ◌∙◌, subst, append_assoc, arith, inl, inr, ◌⊎◌}
+use Rattle.std.proofs.Common.{◌≡◌, ◌≢◌, ℕ, List, [], ◌∷◌, ◌++◌, length, Option, Some, None, refl, sym, ap, ◌∙◌, subst, append_assoc, arith, inl, inr, ◌⊎◌, ◌<◌}
 use Rattle.std.specs.Prelude.{IfSome, flat_map, All, Contains, Result, Ok, Err, Vec, option_map, nat_le, if◌then◌else◌, Bool, true, false}
 use Rattle.std.specs.declared.alloc.Global.{Global}
 use Rattle.std.specs.Io.KnownBytes.{Appends, Consumes, IsAtEnd, prepend_known}
@@ -17,8 +17,9 @@ use Rattle.lines.specs.declared.source.Extent.TheVariants.{Whole, Cut}
 use Rattle.lines.specs.Grammar.{Asked, AskQuit}
 use Rattle.lines.specs.Lines.{IsLine, line_feed, kept, Reaches}
 use Rattle.lines.specs.Requests.{asked, IsRequestOf}
-use Rattle.serving.specs.Items.{Heard, spelled, AsksFor, payload_len, IsItem, GoesOn}
-use Rattle.serving.specs.Served.{last_of, Replies, Ends, AreItemsOf, Outcome}
+use Rattle.serving.specs.Items.{Item, spelled, AsksFor, payload_len, Came, IsItem, GoesOn}
+use Rattle.calls.specs.Runs.{last_of}
+use Rattle.serving.specs.Served.{Replies, Ends, AreItemsOf, Outcome}
 use Rattle.serving.specs.Session.{Stored, Holds, Steps, SoFar}
 use Rattle.lines.proofs.WriteLemmas.{Appends-second}
 
@@ -48,11 +49,22 @@ pub holds_cut : (text : List ℕ) (q : Option Request) → IsLine text → text 
 holds_cut text q line some right =
     record { asked = refl; payload = tt; item = record { line = line; some = (λ _. some); asked = right; came = (refl, refl) } }
 
+-- an item's payload came whole, or was cut short
+pub came_whole : (fed extent : Extent) (count len : ℕ) → Came fed extent count len → extent ≡ Whole → count ≡ len
+came_whole Whole Whole count len came is = came
+came_whole Whole Cut count len came is = absurd (cc)
+came_whole Cut extent count len came is = absurd (let cut = came.0 in cc)
+
+pub came_cut : (fed extent : Extent) (count len : ℕ) → Came fed extent count len → extent ≡ Cut → (count < len) ⊎ (count ≡ 0)
+came_cut Whole Whole count len came is = absurd (cc)
+came_cut Whole Cut count len came is = inl came
+came_cut Cut extent count len came is = inr came.1
+
 pub nothing_taken : (ahead : List ℕ) (r : Option (List ℕ)) → Consumes (prepend_known ahead r) (prepend_known ahead r) []
 nothing_taken ahead r = Consumes-nil (prepend_known ahead r)
 
 -- a line, and then its payload
-pub item_taken : (a b c : Option (List ℕ)) (i : Heard) (text : List ℕ) (fed : Extent) → i.line ≡ text → i.fed ≡ fed
+pub item_taken : (a b c : Option (List ℕ)) (i : Item) (text : List ℕ) (fed : Extent) → i.line ≡ text → i.fed ≡ fed
     → Consumes a b (text ++ line_feed fed) → Consumes b c i.payload → Consumes a c (spelled i)
 item_taken a b c i text fed e f x y =
     subst (Consumes a c) (append_assoc i.line (line_feed i.fed) i.payload)
@@ -63,13 +75,13 @@ pub begun_taken : (a b c : Option (List ℕ)) (text bytes : List ℕ) → Consum
 begun_taken a b c text bytes x y =
     subst (Consumes a c) (append_assoc text (10 ∷ []) bytes) (Consumes-trans a b c (text ++ (10 ∷ [])) bytes x y)
 
-module _ {X : Type 0} (IsRight : X → Heard → List ℕ → X → Type 0) where
+module _ {X : Type 0} (IsRight : X → Item → List ℕ → X → Type 0) where
   -- one item and its reply
-  pub one_reply : (s : X) (i : Heard) (reply : List ℕ) (t : X) → IsRight s i reply t → Replies IsRight s (i ∷ []) reply (t ∷ [])
+  pub one_reply : (s : X) (i : Item) (reply : List ℕ) (t : X) → IsRight s i reply t → Replies IsRight s (i ∷ []) reply (t ∷ [])
   one_reply s i reply t q = (reply, [], sym (append-nil reply), q, refl)
 
   -- some items and their replies, and then more
-  replies_append : (s : X) (items more : List Heard) (text reply : List ℕ) (us vs : List X) → Replies IsRight s items text us → Replies IsRight (last_of s us) more reply vs
+  replies_append : (s : X) (items more : List Item) (text reply : List ℕ) (us vs : List X) → Replies IsRight s items text us → Replies IsRight (last_of s us) more reply vs
       → Replies IsRight s (items ++ more) (text ++ reply) (us ++ vs)
   replies_append s [] more text reply [] vs e q = rw e q
   replies_append s [] more text reply (t ∷ us) vs h q = absurd h
@@ -84,7 +96,7 @@ ends_none ahead None (Some xs) c e end = absurd c
 ends_none ahead (Some ys) (Some xs) c e end = c ∙ rw (e, end) refl
 
 -- the last item, which the end of the input cuts short
-ends_cut : (old : Option (List ℕ)) (ahead : List ℕ) (r : Option (List ℕ)) (i : Heard) → Consumes old (prepend_known ahead r) (spelled i)
+ends_cut : (old : Option (List ℕ)) (ahead : List ℕ) (r : Option (List ℕ)) (i : Item) → Consumes old (prepend_known ahead r) (spelled i)
     → ahead ≡ [] → IsAtEnd r → IsItem Cut i → IfSome old (λ input. Ends input (i ∷ []))
 ends_cut None ahead r i c e end item = tt
 ends_cut (Some xs) ahead None i c e end item = absurd c
@@ -93,30 +105,30 @@ ends_cut (Some xs) ahead (Some ys) i c e end item =
     inl (item, c ∙ ap (λ l. spelled i ++ l) nothing ∙ append-nil (spelled i))
 
 -- quit, and whatever follows it
-ends_quit : (before after : Option (List ℕ)) (i : Heard) → Consumes before after (spelled i) → IsItem Whole i → i.asked ≡ Some AskQuit → IfSome before (λ input. Ends input (i ∷ []))
+ends_quit : (before after : Option (List ℕ)) (i : Item) → Consumes before after (spelled i) → IsItem Whole i → i.asked ≡ Some AskQuit → IfSome before (λ input. Ends input (i ∷ []))
 ends_quit None after i c item e = tt
 ends_quit (Some xs) None i c item e = absurd c
 ends_quit (Some xs) (Some ys) i c item e = inr (ys, item, e, c)
 
 -- the last item: the end of the input cuts it short, or it is quit
-pub ends_last : (old : Option (List ℕ)) (ahead : List ℕ) (r : Option (List ℕ)) (i : Heard) (e : Extent) (o : Option Asked) → Consumes old (prepend_known ahead r) (spelled i)
+pub ends_last : (old : Option (List ℕ)) (ahead : List ℕ) (r : Option (List ℕ)) (i : Item) (e : Extent) (o : Option Asked) → Consumes old (prepend_known ahead r) (spelled i)
     → o ≡ i.asked → IsItem e i → (e ≡ Cut → (ahead ≡ []) × IsAtEnd r) → (e ≡ Cut) ⊎ (o ≡ Some AskQuit) → IfSome old (λ input. Ends input (i ∷ []))
 ends_last old ahead r i Cut o c same item end last = let none = end refl in ends_cut old ahead r i c none.0 none.1 item
 ends_last old ahead r i Whole o c same item end (inl cut) = absurd (cc)
 ends_last old ahead r i Whole o c same item end (inr quit) = ends_quit old (prepend_known ahead r) i c item (sym same ∙ quit)
 
-pub goes_on : (i : Heard) (e : Extent) (o : Option Asked) → o ≡ i.asked → IsItem e i → ((e ≡ Cut) ⊎ (o ≡ Some AskQuit) → ⊥) → GoesOn i
+pub goes_on : (i : Item) (e : Extent) (o : Option Asked) → o ≡ i.asked → IsItem e i → ((e ≡ Cut) ⊎ (o ≡ Some AskQuit) → ⊥) → GoesOn i
 goes_on i Cut o same item not_last = absurd (not_last (inl refl))
 goes_on i Whole o same item not_last = record { whole = item; on = (λ quit. not_last (inr (same ∙ quit))) }
 
 -- the items so far, and then the end
-items_end : (before after : Option (List ℕ)) (items last : List Heard) → All GoesOn items → Consumes before after (flat_map spelled items)
+items_end : (before after : Option (List ℕ)) (items last : List Item) → All GoesOn items → Consumes before after (flat_map spelled items)
     → IfSome after (λ input. Ends input last) → IfSome before (λ input. AreItemsOf input (items ++ last))
 items_end None after items last each c e = tt
 items_end (Some xs) None items last each c e = absurd c
 items_end (Some xs) (Some ys) items last each c e = (items, last, ys, each, e, refl, c)
 
-one_spelled : (items : List Heard) (i : Heard) → flat_map spelled (items ++ i ∷ []) ≡ flat_map spelled items ++ spelled i
+one_spelled : (items : List Item) (i : Item) → flat_map spelled (items ++ i ∷ []) ≡ flat_map spelled items ++ spelled i
 one_spelled items i = flat_map-append spelled items (i ∷ []) ∙ ap (λ l. flat_map spelled items ++ l) (append-nil (spelled i))
 
 -- to come is what the reader has, where nothing is ahead
@@ -127,42 +139,34 @@ none_ahead ahead (Some xs) e = rw e refl
 abbrev fault_of : ServeFault → Result Next ServeFault
 fault_of e = Err e
 
--- Where a reply is right is judged by something that stays: a step's is the same as the one at the start. A step begins in
--- the state that the ones before it end in.
-module _ {K X : Type 0} (IsRight : K → X → Heard → List ℕ → X → Type 0) where
-  from_start : (l n : K) (s x : X) (items : List Heard) (text : List ℕ) (states : List X) → l ≡ n → s ≡ x → Replies (IsRight l) x items text states → Replies (IsRight n) s items text states
-  from_start l n s x items text states same is r =
-      subst (λ (k : K). Replies (IsRight k) s items text states) same (subst (λ (y : X). Replies (IsRight l) y items text states) (sym is) r)
+-- A step begins where the ones before it end.
+module _ {X : Type 0} (IsRight : X → Item → List ℕ → X → Type 0) where
+  then_on : (s x : X) (items more : List Item) (text reply : List ℕ) (us vs : List X) → last_of s us ≡ x → Replies IsRight s items text us → Replies IsRight x more reply vs
+      → Replies IsRight s (items ++ more) (text ++ reply) (us ++ vs)
+  then_on s x items more text reply us vs is r p = replies_append IsRight s items more text reply us vs r (subst (λ (y : X). Replies IsRight y more reply vs) (sym is) p)
 
-  pub so_far_none : (n : K) (ahead : List ℕ) (r w : Option (List ℕ)) (s : X) → ahead ≡ [] → SoFar (IsRight n) r (prepend_known ahead r) w w s []
-  so_far_none n ahead r w s e =
+  pub so_far_none : (ahead : List ℕ) (r w : Option (List ℕ)) (s : X) → ahead ≡ [] → SoFar IsRight r (prepend_known ahead r) w w s []
+  so_far_none ahead r w s e =
       ([], [], All-nil GoesOn, subst (λ l. Consumes r l []) (sym (none_ahead ahead r e)) (Consumes-nil r), Appends-nil w, refl)
 
-  pub so_far_more : (l n : K) (b a c w m v : Option (List ℕ)) (s x : X) (us vs : List X) → l ≡ n → last_of s us ≡ x → SoFar (IsRight n) b a w m s us
-      → Steps (IsRight l) a c m v x vs (Ok More) → SoFar (IsRight n) b c w v s (us ++ vs)
-  so_far_more l n b a c w m v s x us vs same is (items, text, each, k, y, r) (i, reply, on, k2, y2, p) = (
+  pub so_far_more : (b a c w m v : Option (List ℕ)) (s x : X) (us vs : List X) → last_of s us ≡ x → SoFar IsRight b a w m s us → Steps IsRight a c m v x vs (Ok More) → SoFar IsRight b c w v s (us ++ vs)
+  so_far_more b a c w m v s x us vs is (items, text, each, k, y, r) (i, reply, on, k2, y2, p) = (
     items ++ i ∷ [],
     text ++ reply,
     All-push GoesOn items i each on,
     subst (Consumes b c) (sym (one_spelled items i)) (Consumes-trans b a c _ _ k k2),
     Appends-trans w m v _ _ y y2,
-    replies_append (IsRight n) s items (i ∷ []) text reply us vs r (from_start l n (last_of s us) x (i ∷ []) reply vs same is p),
+    then_on s x items (i ∷ []) text reply us vs is r p,
   )
 
-  pub so_far_end : (l n : K) (b a c d w m v : Option (List ℕ)) (s x : X) (us vs : List X) → l ≡ n → last_of s us ≡ x → SoFar (IsRight n) b a w m s us
-      → Steps (IsRight l) a c m v x vs (Ok End) → Outcome (IsRight n) b d w v s (us ++ vs) (Ok tt)
-  so_far_end l n b a c d w m v s x us vs same is (items, text, each, k, y, r) (last, reply, e, y2, p) = (
-    items ++ last,
-    text ++ reply,
-    items_end b a items last each k e,
-    Appends-trans w m v text reply y y2,
-    replies_append (IsRight n) s items last text reply us vs r (from_start l n (last_of s us) x last reply vs same is p),
-  )
+  pub so_far_end : (b a c d w m v : Option (List ℕ)) (s x : X) (us vs : List X) → last_of s us ≡ x → SoFar IsRight b a w m s us → Steps IsRight a c m v x vs (Ok End)
+      → Outcome IsRight b d w v s (us ++ vs) (Ok tt)
+  so_far_end b a c d w m v s x us vs is (items, text, each, k, y, r) (last, reply, e, y2, p) =
+      (items ++ last, text ++ reply, items_end b a items last each k e, Appends-trans w m v text reply y y2, then_on s x items last text reply us vs is r p)
 
-  pub so_far_fault : (l n : K) (b a w m v : Option (List ℕ)) (ahead : List ℕ) (d : Option (List ℕ)) (s x : X) (us vs : List X) (e : ServeFault) → l ≡ n → last_of s us ≡ x
-      → SoFar (IsRight n) b a w m s us → (fault_of e ≡ fault_of Input → ahead ≡ []) → Steps (IsRight l) a (prepend_known ahead d) m v x vs (Err e)
-      → Outcome (IsRight n) b d w v s (us ++ vs) (Err e)
-  so_far_fault l n b a w m v ahead d s x us vs Input same is (items, text, each, k, y, r) none (rest, begun, k2, y2, e) = (
+  pub so_far_fault : (b a w m v : Option (List ℕ)) (ahead : List ℕ) (d : Option (List ℕ)) (s x : X) (us vs : List X) (e : ServeFault) → last_of s us ≡ x
+      → SoFar IsRight b a w m s us → (fault_of e ≡ fault_of Input → ahead ≡ []) → Steps IsRight a (prepend_known ahead d) m v x vs (Err e) → Outcome IsRight b d w v s (us ++ vs) (Err e)
+  so_far_fault b a w m v ahead d s x us vs Input is (items, text, each, k, y, r) none (rest, begun, k2, y2, e) = (
     items,
     rest,
     text,
@@ -170,9 +174,9 @@ module _ {K X : Type 0} (IsRight : K → X → Heard → List ℕ → X → Type
     begun,
     subst (λ l. Consumes b l (flat_map spelled items ++ rest)) (none_ahead ahead d (none refl)) (Consumes-trans b a (prepend_known ahead d) _ _ k k2),
     subst (Appends w v) (append-nil text) (Appends-trans w m v text [] y y2),
-    subst (λ (states : List X). Replies (IsRight n) s items text states) (sym (ap (λ l. us ++ l) e ∙ append-nil us)) r,
+    subst (λ (states : List X). Replies IsRight s items text states) (sym (ap (λ l. us ++ l) e ∙ append-nil us)) r,
   )
-  so_far_fault l n b a w m v ahead d s x us vs Output same is (items, text, each, k, y, r) none (i, extent, reply, j, item, k2, y2, p) =
+  so_far_fault b a w m v ahead d s x us vs Output is (items, text, each, k, y, r) none (i, extent, reply, j, item, k2, y2, p) =
       let more = Appends-second w m v text reply j y y2 in (
         items,
         i,
@@ -183,7 +187,7 @@ module _ {K X : Type 0} (IsRight : K → X → Heard → List ℕ → X → Type
         each,
         item,
         Consumes-trans b a (prepend_known ahead d) _ _ k k2,
-        replies_append (IsRight n) s items (i ∷ []) text reply us vs r (from_start l n (last_of s us) x (i ∷ []) reply vs same is p),
+        then_on s x items (i ∷ []) text reply us vs is r p,
         more.1,
       )
 

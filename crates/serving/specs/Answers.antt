@@ -1,140 +1,103 @@
--- What is replied to one item over a store in a state (this product's own profile).
--- Each relation reads: in the state s the text may be replied and the state t left.
-use Rattle.std.specs.Prelude.{◌≡◌, ◌≢◌, ◌⊎◌, ℕ, ◌*◌, ◌<◌, List, ◌++◌, length, ℤ, Option, Some, None, Result, Ok, Err, codes, decimal}
+-- What is replied to an item (this product's own profile).
+use Rattle.std.specs.Prelude.{◌≡◌, ◌≢◌, ◌⊎◌, ℕ, ◌*◌, ◌<◌, Bool, true, false, IsTrue, List, ◌++◌, length, Option, Some, None, codes, decimal}
 use Rattle.std.specs.Fmt.{signed_decimal}
 use Rattle.lattice.specs.Corners.{Corner}
-use Rattle.lattice.specs.declared.point.Point.{Point}
-use Rattle.lattice.specs.declared.height.Height.{Height}
 use Rattle.lattice.specs.declared.height.Height.TheVariants as height
 use Rattle.lattice.specs.declared.refusal.Refusal.{Refusal}
 use Rattle.lattice.specs.declared.refusal.Refusal.TheVariants.{BadLine, BadName, BadLength, NoMemory}
 use Rattle.lattice.specs.declared.refusal.Refusal.TheVariants as refusal
 use Rattle.hgt.specs.Names.{IsName}
-use Rattle.edits.specs.declared.command.Command.{Command}
 use Rattle.edits.specs.declared.command.Command.TheVariants.{Import, Remove, Patch, Burn, Wall}
-use Rattle.calls.specs.Outcomes.{Applies, Elevates, Exports, Lists, Fills, Directs, Traces, Sheds}
-use Rattle.calls.specs.State.{State}
-use Rattle.watershed.specs.declared.runs.Run.{Run}
+use Rattle.calls.specs.declared.event.Event.{Event}
+use Rattle.calls.specs.declared.event.Event.TheVariants as ask
+use Rattle.calls.specs.declared.event.Reply.{Reply}
+use Rattle.calls.specs.declared.event.Reply.TheVariants as reply
 use Rattle.lines.specs.Grammar.{Asked, AskImport, AskRemove, AskPatch, AskBurn, AskWall, AskElevation, AskFill, AskDirection, AskTrace, AskWatershed, AskExport, AskTiles, AskStep, AskCount, AskQuit}
-use Rattle.serving.specs.Items.{Heard}
 use Rattle.lines.specs.Replies.{ok_line, done_text, names_line, path_text, runs_text, refusal_text}
+use Rattle.serving.specs.Items.{Item}
 
--- a command's number, or its refusal
-abbrev pub command_text : Result ℕ Refusal → List ℕ
-command_text (Ok k) = ok_line (decimal k)
-command_text (Err r) = refusal_text r
+-- what is written for an answer: metres or `void` for a height, which outside is a refusal
+abbrev pub text_of : Reply → List ℕ
+text_of (reply.Done count) = ok_line (decimal count)
+text_of (reply.Elevation height.Outside) = refusal_text refusal.Outside
+text_of (reply.Elevation height.Void) = ok_line (codes "void")
+text_of (reply.Elevation (height.At metres)) = ok_line (signed_decimal metres)
+text_of (reply.Fill level) = ok_line (signed_decimal level)
+text_of (reply.Direction code) = ok_line (decimal code)
+text_of (reply.Trace path) = path_text path.items
+text_of (reply.Watershed runs) = runs_text runs.items
+text_of (reply.Export bytes) = ok_line (decimal (length bytes.items)) ++ bytes.items
+text_of (reply.Tiles corners) = names_line corners.items
+text_of (reply.Count count) = ok_line (decimal count)
+text_of reply.Reopened = done_text
+text_of (reply.Refused r) = refusal_text r
 
--- a height in metres, or `void`; outside is a refusal
-abbrev pub height_text : Result Height Refusal → List ℕ
-height_text (Ok height.Outside) = refusal_text refusal.Outside
-height_text (Ok height.Void) = ok_line (codes "void")
-height_text (Ok (height.At metres)) = ok_line (signed_decimal metres)
-height_text (Err r) = refusal_text r
+-- whether the text of an answer takes memory
+abbrev pub takes_memory : Reply → Bool
+takes_memory (reply.Trace path) = true
+takes_memory (reply.Watershed runs) = true
+takes_memory (reply.Export bytes) = true
+takes_memory (reply.Tiles corners) = true
+takes_memory answer = false
 
--- a number of bytes and the bytes, or a refusal
-abbrev pub bytes_text : Result (List ℕ) Refusal → List ℕ
-bytes_text (Ok bytes) = ok_line (decimal (length bytes)) ++ bytes
-bytes_text (Err r) = refusal_text r
+-- an answer is told by its text, or by want of memory for that
+abbrev pub Tells : Reply → List ℕ → Type 0
+Tells answer text = (text ≡ text_of answer) ⊎ (IsTrue (takes_memory answer) × (text ≡ refusal_text NoMemory))
 
--- the corners' names, or a refusal
-abbrev pub names_text : Result (List Corner) Refusal → List ℕ
-names_text (Ok corners) = names_line corners
-names_text (Err r) = refusal_text r
-
--- a filled level in metres, or a refusal
-abbrev pub level_text : Result ℤ Refusal → List ℕ
-level_text (Ok level) = ok_line (signed_decimal level)
-level_text (Err r) = refusal_text r
-
--- a direction's code, or a refusal
-abbrev pub code_text : Result ℕ Refusal → List ℕ
-code_text (Ok code) = ok_line (decimal code)
-code_text (Err r) = refusal_text r
-
--- a flow path, or a refusal
-abbrev pub trace_text : Result (List Point) Refusal → List ℕ
-trace_text (Ok path) = path_text path
-trace_text (Err r) = refusal_text r
-
--- a watershed, or a refusal
-abbrev pub watershed_text : Result (List Run) Refusal → List ℕ
-watershed_text (Ok runs) = runs_text runs
-watershed_text (Err r) = refusal_text r
-
--- the server itself refuses, and nothing changes
-abbrev pub Refused : Refusal → State → List ℕ → State → Type 0
-Refused r s text t = (text ≡ refusal_text r) × (t ≡ s)
+-- What an item comes to: an event that is asked of the engine, a refusal without asking, or the end.
+pub data Turn : Type 0 where
+  Ask : (event : Event) → Turn
+  Refuse : (refusal : Refusal) → Turn
+  End : Turn
 
 -- the name is no tile's
 abbrev pub NamesNone : List ℕ → Type 0
 NamesNone name = (c : Corner) → IsName name c → ⊥
 
--- the store answered to the command
-abbrev pub Commanded : ℕ → State → Command → List ℕ → State → Type 0
-Commanded capacity s c text t = (r : Result ℕ Refusal) × (Applies capacity s c r t × (text ≡ command_text r))
+-- a name, and what is asked about the tile of that name
+abbrev pub NameComesTo : (Corner → Event) → List ℕ → Turn → Type 0
+NameComesTo event name turn = (NamesNone name × (turn ≡ Refuse BadName)) ⊎ ((c : Corner) × IsName name c × (turn ≡ Ask (event c)))
 
--- an import with a payload of the right length: there was no room for it, or the store answered
-abbrev pub Imported : ℕ → State → Corner → List ℕ → List ℕ → State → Type 0
-Imported capacity s c payload text t = Refused NoMemory s text t ⊎ Commanded capacity s (Import c payload) text t
+-- an import of a payload of the right length: there may be no room for it
+abbrev pub PayloadComesTo : Corner → List ℕ → Turn → Type 0
+PayloadComesTo c payload turn = (turn ≡ Refuse NoMemory) ⊎ (turn ≡ Ask (ask.Do (Import c payload)))
 
--- the name is judged first, then the length, then the rest
-abbrev pub AnswersImport : ℕ → State → List ℕ → ℕ → List ℕ → List ℕ → State → Type 0
-AnswersImport capacity s name len payload text t =
-    (NamesNone name × Refused BadName s text t)
-    ⊎ ((c : Corner) × (IsName name c × (
-    (((len ≢ 2 * (s.contents.mosaic.side * s.contents.mosaic.side)) ⊎ (length payload < len)) × Refused BadLength s text t)
-    ⊎ ((len ≡ 2 * (s.contents.mosaic.side * s.contents.mosaic.side)) × (length payload ≡ len) × Imported capacity s c payload text t))))
+-- an import: the name is judged first, then the length, then the rest
+abbrev pub ImportComesTo : ℕ → List ℕ → ℕ → List ℕ → Turn → Type 0
+ImportComesTo side name len payload turn =
+    (NamesNone name × (turn ≡ Refuse BadName))
+    ⊎ ((c : Corner) × IsName name c × (
+    (((len ≢ 2 * (side * side)) ⊎ (length payload < len)) × (turn ≡ Refuse BadLength))
+    ⊎ ((len ≡ 2 * (side * side)) × (length payload ≡ len) × PayloadComesTo c payload turn)))
 
-abbrev pub AnswersRemove : ℕ → State → List ℕ → List ℕ → State → Type 0
-AnswersRemove capacity s name text t =
-    (NamesNone name × Refused BadName s text t)
-    ⊎ ((c : Corner) × (IsName name c × Commanded capacity s (Remove c) text t))
+-- what is asked with this payload, over tiles of this side; what isn't in the grammar is BadLine, and `step` isn't served
+-- yet
+abbrev pub ComesTo : ℕ → Option Asked → List ℕ → Turn → Type 0
+ComesTo side None payload turn = turn ≡ Refuse BadLine
+ComesTo side (Some (AskImport name len)) payload turn = ImportComesTo side name len payload turn
+ComesTo side (Some (AskRemove name)) payload turn = NameComesTo (λ c. ask.Do (Remove c)) name turn
+ComesTo side (Some (AskPatch from to height)) payload turn = turn ≡ Ask (ask.Do (Patch from to height))
+ComesTo side (Some (AskBurn depth points)) payload turn = turn ≡ Ask (ask.Do (Burn depth (record { items = points })))
+ComesTo side (Some (AskWall height points)) payload turn = turn ≡ Ask (ask.Do (Wall height (record { items = points })))
+ComesTo side (Some (AskElevation p)) payload turn = turn ≡ Ask (ask.Elevation p)
+ComesTo side (Some (AskFill p)) payload turn = turn ≡ Ask (ask.Fill p)
+ComesTo side (Some (AskDirection p)) payload turn = turn ≡ Ask (ask.Direction p)
+ComesTo side (Some (AskTrace p)) payload turn = turn ≡ Ask (ask.Trace p)
+ComesTo side (Some (AskWatershed p)) payload turn = turn ≡ Ask (ask.Watershed p)
+ComesTo side (Some (AskExport name)) payload turn = NameComesTo (λ c. ask.Export c) name turn
+ComesTo side (Some AskTiles) payload turn = turn ≡ Ask ask.Tiles
+ComesTo side (Some AskCount) payload turn = turn ≡ Ask ask.Count
+ComesTo side (Some AskQuit) payload turn = turn ≡ End
+ComesTo side (Some AskStep) payload turn = turn ≡ Refuse BadLine
 
-abbrev pub AnswersExport : State → List ℕ → List ℕ → State → Type 0
-AnswersExport s name text t =
-    (NamesNone name × Refused BadName s text t)
-    ⊎ ((c : Corner) × (IsName name c × ((r : Result (List ℕ) Refusal) × (Exports s c r t × (text ≡ bytes_text r)))))
+-- over engines, states or whatever an event leads from and to, as the relation says
+module _ {X : Type 0} (Asks : X → Event → Reply → X → Type 0) where
+  -- the text that a turn is replied with
+  abbrev pub Turns : Turn → X → List ℕ → X → Type 0
+  Turns (Ask event) x text y = (answer : Reply) × Asks x event answer y × Tells answer text
+  Turns (Refuse r) x text y = (text ≡ refusal_text r) × (y ≡ x)
+  Turns End x text y = (text ≡ done_text) × (y ≡ x)
 
-abbrev pub AnswersElevation : State → Point → List ℕ → State → Type 0
-AnswersElevation s p text t = (r : Result Height Refusal) × (Elevates s p r t × (text ≡ height_text r))
-
-abbrev pub AnswersFill : State → Point → List ℕ → State → Type 0
-AnswersFill s p text t = (r : Result ℤ Refusal) × (Fills s p r t × (text ≡ level_text r))
-
-abbrev pub AnswersDirection : State → Point → List ℕ → State → Type 0
-AnswersDirection s p text t = (r : Result ℕ Refusal) × (Directs s p r t × (text ≡ code_text r))
-
-abbrev pub AnswersTrace : State → Point → List ℕ → State → Type 0
-AnswersTrace s p text t = (r : Result (List Point) Refusal) × (Traces s p r t × (text ≡ trace_text r))
-
-abbrev pub AnswersWatershed : State → Point → List ℕ → State → Type 0
-AnswersWatershed s p text t = (r : Result (List Run) Refusal) × (Sheds s p r t × (text ≡ watershed_text r))
-
-abbrev pub AnswersTiles : State → List ℕ → State → Type 0
-AnswersTiles s text t = (r : Result (List Corner) Refusal) × (Lists s r t × (text ≡ names_text r))
-
--- what is asked with this payload; `step` isn't served yet
-abbrev pub Answers : ℕ → State → Asked → List ℕ → List ℕ → State → Type 0
-Answers capacity s (AskImport name len) payload text t = AnswersImport capacity s name len payload text t
-Answers capacity s (AskRemove name) payload text t = AnswersRemove capacity s name text t
-Answers capacity s (AskPatch from to height) payload text t = Commanded capacity s (Patch from to height) text t
-Answers capacity s (AskBurn depth points) payload text t = Commanded capacity s (Burn depth (record { items = points })) text t
-Answers capacity s (AskWall height points) payload text t = Commanded capacity s (Wall height (record { items = points })) text t
-Answers capacity s (AskElevation p) payload text t = AnswersElevation s p text t
-Answers capacity s (AskFill p) payload text t = AnswersFill s p text t
-Answers capacity s (AskDirection p) payload text t = AnswersDirection s p text t
-Answers capacity s (AskTrace p) payload text t = AnswersTrace s p text t
-Answers capacity s (AskWatershed p) payload text t = AnswersWatershed s p text t
-Answers capacity s (AskExport name) payload text t = AnswersExport s name text t
-Answers capacity s AskTiles payload text t = AnswersTiles s text t
-Answers capacity s AskCount payload text t = (text ≡ ok_line (decimal s.contents.count)) × (t ≡ s)
-Answers capacity s AskQuit payload text t = (text ≡ done_text) × (t ≡ s)
-Answers capacity s AskStep payload text t = Refused BadLine s text t
-
--- a line that isn't in the grammar is BadLine
-abbrev pub Replied : ℕ → State → Heard → List ℕ → State → Type 0
-Replied capacity s i text t = ReplyTo i.asked
-  where
-    ReplyTo : Option Asked → Type 0
-    ReplyTo None = Refused BadLine s text t
-    ReplyTo (Some a) = Answers capacity s a i.payload text t
+  -- .. and an item, where tiles have this side
+  abbrev pub Replied : (X → ℕ) → X → Item → List ℕ → X → Type 0
+  Replied side_of x i text y = (turn : Turn) × ComesTo (side_of x) i.asked i.payload turn × Turns turn x text y

@@ -6,13 +6,13 @@ use Rattle.lines.specs.declared.source.Extent.{Extent}
 use Rattle.lines.specs.declared.source.Extent.TheVariants.{Whole, Cut}
 
 -- a line, whether an LF ended it, what it asks for, and the bytes of its payload that came
-pub record Heard : Type 0 where
+pub record Item : Type 0 where
   pub line : List ℕ
   pub fed : Extent
   pub asked : Option Asked
   pub payload : List ℕ
 
-abbrev pub spelled : Heard → List ℕ
+abbrev pub spelled : Item → List ℕ
 spelled i = i.line ++ (line_feed i.fed ++ i.payload)
 
 -- the line asks for this, or it isn't in the grammar
@@ -31,14 +31,14 @@ Came Whole extent count len = Reaches extent count len
 Came Cut extent count len = (extent ≡ Cut) × (count ≡ 0)
 
 -- the item is whole, or the end of the input cuts it short
-pub record IsItem (extent : Extent) (i : Heard) : Type 0 where
+pub record IsItem (extent : Extent) (i : Item) : Type 0 where
   pub line : IsLine i.line
   pub some : i.fed ≡ Cut → i.line ≢ []
   pub asked : AsksFor i.line i.asked
   pub came : Came i.fed extent (length i.payload) (payload_len i.asked)
 
 -- a whole item that isn't quit
-pub record GoesOn (i : Heard) : Type 0 where
+pub record GoesOn (i : Item) : Type 0 where
   pub whole : IsItem Whole i
   pub on : i.asked ≢ Some AskQuit
 

@@ -1,5 +1,5 @@
 pub mod Answers
 pub mod Items
+pub mod Promises
 pub mod Served
 pub mod Session
-pub mod Told

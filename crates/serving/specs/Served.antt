@@ -2,43 +2,38 @@
 use Rattle.std.specs.Prelude.{◌≡◌, ◌⊎◌, ℕ, List, [], ◌∷◌, ◌++◌, take, flat_map, All, Option, Some, IfSome, Result, Ok, Err}
 use Rattle.std.specs.Io.KnownBytes.{Consumes, Appends}
 use Rattle.lines.specs.Grammar.{AskQuit}
-use Rattle.serving.specs.Items.{Heard, spelled, IsItem, GoesOn, IsBegun}
+use Rattle.serving.specs.Items.{Item, spelled, IsItem, GoesOn, IsBegun}
 use Rattle.lines.specs.declared.source.Extent.{Extent}
 use Rattle.lines.specs.declared.source.Extent.TheVariants.{Whole, Cut}
 use Rattle.serving.specs.declared.session.ServeFault.{ServeFault}
 use Rattle.serving.specs.declared.session.ServeFault.TheVariants.{Input, Output}
 
--- the state that a run from s through these states ends in
-abbrev pub last_of : {X : Type 0} → X → List X → X
-last_of s [] = s
-last_of s (t ∷ states) = last_of t states
-
 -- the replies to the items in order, as one text, and the states that they leave, one after each: each reply is right, as
 -- the given relation says of the state before it, the item, the reply and the state after it
-abbrev pub Replies : {X : Type 0} → (X → Heard → List ℕ → X → Type 0) → X → List Heard → List ℕ → List X → Type 0
+abbrev pub Replies : {X : Type 0} → (X → Item → List ℕ → X → Type 0) → X → List Item → List ℕ → List X → Type 0
 Replies IsRight s [] text [] = text ≡ []
 Replies IsRight s (i ∷ is) text (t ∷ states) = (reply more : List ℕ) × (text ≡ reply ++ more) × IsRight s i reply t × Replies IsRight t is more states
 Replies IsRight s _ text _ = ⊥
 
 -- how an input ends: with nothing more, with an item that its end cuts short, or with quit and anything
-abbrev pub Ends : List ℕ → List Heard → Type 0
+abbrev pub Ends : List ℕ → List Item → Type 0
 Ends end [] = end ≡ []
 Ends end (i ∷ []) = (IsItem Cut i × (end ≡ spelled i)) ⊎ ((rest : List ℕ) × IsItem Whole i × (i.asked ≡ Some AskQuit) × (end ≡ spelled i ++ rest))
 Ends end _ = ⊥
 
 -- the items of an input
-abbrev pub AreItemsOf : List ℕ → List Heard → Type 0
-AreItemsOf input items = (first last : List Heard) × (end : List ℕ) × All GoesOn first × Ends end last × (items ≡ first ++ last) × (input ≡ flat_map spelled first ++ end)
+abbrev pub AreItemsOf : List ℕ → List Item → Type 0
+AreItemsOf input items = (first last : List Item) × (end : List ℕ) × All GoesOn first × Ends end last × (items ≡ first ++ last) × (input ≡ flat_map spelled first ++ end)
 
 -- what serve answers for what the reader and the writer had before and have after, and the states from s that it leads
 -- through, one after each item
-abbrev pub Outcome : {X : Type 0} → (X → Heard → List ℕ → X → Type 0) → Option (List ℕ) → Option (List ℕ) → Option (List ℕ) → Option (List ℕ) → X → List X → Result (Unit {0}) ServeFault → Type 0
+abbrev pub Outcome : {X : Type 0} → (X → Item → List ℕ → X → Type 0) → Option (List ℕ) → Option (List ℕ) → Option (List ℕ) → Option (List ℕ) → X → List X → Result (Unit {0}) ServeFault → Type 0
 -- the replies to the items of the input
-Outcome IsRight before after written new s states (Ok u) = (items : List Heard) × (text : List ℕ)
+Outcome IsRight before after written new s states (Ok u) = (items : List Item) × (text : List ℕ)
     × IfSome before (λ input. AreItemsOf input items) × Appends written new text × Replies IsRight s items text states
 -- the replies to all items that were read whole; of the next a beginning was read, and nothing else
-Outcome IsRight before after written new s states (Err Input) = (items : List Heard) × (rest text : List ℕ) × All GoesOn items × IsBegun rest
+Outcome IsRight before after written new s states (Err Input) = (items : List Item) × (rest text : List ℕ) × All GoesOn items × IsBegun rest
     × Consumes before after (flat_map spelled items ++ rest) × Appends written new text × Replies IsRight s items text states
 -- a beginning of the replies to the items that were read
-Outcome IsRight before after written new s states (Err Output) = (items : List Heard) × (i : Heard) × (extent : Extent) × (text : List ℕ) × (n : ℕ) × (left : Option (List ℕ))
+Outcome IsRight before after written new s states (Err Output) = (items : List Item) × (i : Item) × (extent : Extent) × (text : List ℕ) × (n : ℕ) × (left : Option (List ℕ))
     × All GoesOn items × IsItem extent i × Consumes before left (flat_map spelled items ++ spelled i) × Replies IsRight s (items ++ i ∷ []) text states × Appends written new (take n text)

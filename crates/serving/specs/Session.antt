@@ -1,11 +1,11 @@
 -- An item as the server keeps it, and one step of a session.
 use Rattle.std.specs.Prelude.{◌≡◌, ℕ, List, [], ◌∷◌, take, flat_map, All, Option, Some, None, option_map, IfSome, Result, Ok, Err, Vec}
 use Rattle.std.specs.Io.KnownBytes.{Consumes, Appends}
-use Rattle.serving.specs.Items.{Heard, spelled, IsItem, GoesOn, IsBegun}
+use Rattle.serving.specs.Items.{Item, spelled, IsItem, GoesOn, IsBegun}
 use Rattle.lines.specs.Requests.{asked}
 use Rattle.serving.specs.Served.{Replies, Ends}
 use Rattle.lines.specs.declared.source.Extent.{Extent}
-use Rattle.serving.specs.declared.hearing.Item.{Item}
+use Rattle.serving.specs.declared.hearing.KeptItem.{KeptItem}
 use Rattle.serving.specs.declared.session.Next.{Next}
 use Rattle.serving.specs.declared.session.Next.TheVariants.{More, End}
 use Rattle.serving.specs.declared.session.ServeFault.{ServeFault}
@@ -17,24 +17,24 @@ Stored None bytes = Unit {0}
 Stored (Some v) bytes = v.items ≡ bytes
 
 -- the item that is kept is this one that was heard
-pub record Holds (kept : Item) (i : Heard) : Type 0 where
+pub record Holds (kept : KeptItem) (i : Item) : Type 0 where
   pub asked : option_map asked kept.request ≡ i.asked
   pub payload : Stored kept.payload i.payload
   pub item : IsItem kept.extent i
 
 -- one step, from what was to come and what was written before it to both after it
-abbrev pub Steps : {X : Type 0} → (X → Heard → List ℕ → X → Type 0) → Option (List ℕ) → Option (List ℕ) → Option (List ℕ) → Option (List ℕ) → X → List X → Result Next ServeFault → Type 0
+abbrev pub Steps : {X : Type 0} → (X → Item → List ℕ → X → Type 0) → Option (List ℕ) → Option (List ℕ) → Option (List ℕ) → Option (List ℕ) → X → List X → Result Next ServeFault → Type 0
 Steps IsRight before after written new s states (Ok More) =
-    (i : Heard) × (text : List ℕ) × GoesOn i × Consumes before after (spelled i) × Appends written new text × Replies IsRight s (i ∷ []) text states
+    (i : Item) × (text : List ℕ) × GoesOn i × Consumes before after (spelled i) × Appends written new text × Replies IsRight s (i ∷ []) text states
 Steps IsRight before after written new s states (Ok End) =
-    (last : List Heard) × (text : List ℕ) × IfSome before (λ input. Ends input last) × Appends written new text × Replies IsRight s last text states
+    (last : List Item) × (text : List ℕ) × IfSome before (λ input. Ends input last) × Appends written new text × Replies IsRight s last text states
 Steps IsRight before after written new s states (Err Input) =
     (rest : List ℕ) × IsBegun rest × Consumes before after rest × Appends written new [] × (states ≡ [])
 Steps IsRight before after written new s states (Err Output) =
-    (i : Heard) × (extent : Extent) × (text : List ℕ) × (n : ℕ) × IsItem extent i × Consumes before after (spelled i) × Appends written new (take n text)
+    (i : Item) × (extent : Extent) × (text : List ℕ) × (n : ℕ) × IsItem extent i × Consumes before after (spelled i) × Appends written new (take n text)
     × Replies IsRight s (i ∷ []) text states
 
 -- the items so far with their replies
-abbrev pub SoFar : {X : Type 0} → (X → Heard → List ℕ → X → Type 0) → Option (List ℕ) → Option (List ℕ) → Option (List ℕ) → Option (List ℕ) → X → List X → Type 0
-SoFar IsRight before after written new s states = (items : List Heard) × (text : List ℕ) × All GoesOn items
+abbrev pub SoFar : {X : Type 0} → (X → Item → List ℕ → X → Type 0) → Option (List ℕ) → Option (List ℕ) → Option (List ℕ) → Option (List ℕ) → X → List X → Type 0
+SoFar IsRight before after written new s states = (items : List Item) × (text : List ℕ) × All GoesOn items
     × Consumes before after (flat_map spelled items) × Appends written new text × Replies IsRight s items text states

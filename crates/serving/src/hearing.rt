@@ -3,7 +3,7 @@ ghost use Rattle.std.specs.Prelude.{◌≡◌, ◌≢◌, ◌≤◌, ◌<◌, �
 ghost use Rattle.std.specs.Io.KnownBytes.{IsAtEnd};
 ghost use Rattle.lines.specs.Ahead.{Taken, weight};
 ghost use Rattle.lines.specs.Grammar.{Asked, AskQuit};
-ghost use Rattle.serving.specs.Items.{Heard, AsksFor, payload_len};
+ghost use Rattle.serving.specs.Items.{Item, AsksFor, payload_len};
 ghost use Rattle.lines.specs.Lines.{IsLine, kept, Reaches};
 ghost use Rattle.lines.specs.Requests.{asked};
 ghost use Rattle.serving.specs.Session.{Stored, Holds};
@@ -15,7 +15,7 @@ use std::io::Read;
 /// A line and its payload, as far as they came. A payload isn't kept where a tile's has another length, or room for it
 /// was refused.
 #[derive(Drop)]
-pub struct Item<'a> {
+pub struct KeptItem<'a> {
     pub request: Option<Request<'a>>,
     pub payload: Option<Vec<u8>>,
     pub extent: Extent,
@@ -72,10 +72,10 @@ pub fn hear<'a, R: Read>(
     line: &'a Line,
     ahead: &mut Ahead,
     reader: &mut R,
-) -> Result<Item<'a>, ReadFault>
+) -> Result<KeptItem<'a>, ReadFault>
     requires { fed ≡ Extent.Cut → (ahead.old.bytes ≡ []) × IsAtEnd (R.remaining reader.old) }
     ensures ok { IfOk result (λ item. (text : List ℕ) → line.now ≡ kept text → IsLine text → (fed ≡ Extent.Cut → text ≢ [])
-        → (i : Heard) × Holds item i × (i.line ≡ text) × (i.fed ≡ fed)
+        → (i : Item) × Holds item i × (i.line ≡ text) × (i.fed ≡ fed)
         × Taken ahead.old (R.remaining reader.old) ahead.new (R.remaining reader.new) i.payload) }
     ensures cut { IfOk result (λ item. item.extent ≡ Extent.Cut → (ahead.new.bytes ≡ []) × IsAtEnd (R.remaining reader.new)) }
     ensures spent { OnOk result (weight ahead.new ≤ weight ahead.old) }
@@ -89,7 +89,7 @@ pub fn hear<'a, R: Read>(
         Extent::Whole => hear_payload(alloc, tile_len, payload_len(&request), ahead, reader)?,
         Extent::Cut => (None, Extent::Cut),
     };
-    Ok(Item {
+    Ok(KeptItem {
         request,
         payload,
         extent,
@@ -104,7 +104,7 @@ pub fn is_over(fed: Extent, line: &Line) -> bool
 }
 
 /// Whether no further item is heard after this one.
-pub fn is_last(item: &Item<'_>) -> bool
+pub fn is_last(item: &KeptItem<'_>) -> bool
     ensures { IsTrue result ↔ ((item.now.extent ≡ Extent.Cut) ⊎ (option_map asked item.now.request ≡ Some AskQuit)) }
 {
     item.extent == Extent::Cut || matches!(item.request, Some(Request::Quit))

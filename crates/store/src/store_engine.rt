@@ -1,9 +1,10 @@
 //! A store on a disk, as an engine.
 //!
-//! So `serve` over a store promises through power cuts: each image that a stop may have left at any moment since its start,
-//! inside a call of the disk or between two, stands for the contents that the store had at the start or after one of the
-//! items, or for those of the commit then in doubt. What the next opening makes of such an image is the contract of `Store`.
-ghost use Rattle.std.specs.Prelude.{◌≡◌};
+//! So `serve` over a store promises through power cuts: each image that a stop may have left at any moment since the reply
+//! to an item, inside a call of the disk or between two, stands for the contents that the store had after that item or a
+//! later one, or for those of the commit then in doubt. What the next opening makes of such an image is the contract of
+//! `Store`.
+ghost use Rattle.std.specs.Prelude.{◌≡◌, []};
 
 use crate::store::Store;
 use disk::Disk;
@@ -13,10 +14,12 @@ use lattice::{Corner, Height, Point, Refusal, Side};
 use watershed::Run;
 
 impl<D: Disk> Engine for Store<D> {
-    ghost use Rattle.std.specs.Prelude.{◌≡◌, ◌≤◌, List, [], ◌∷◌, Err};
-    ghost use Rattle.store.specs.Stores.{disk_of, side_of, capacity_of, has_failed};
-    ghost use Rattle.store.specs.StoreState.{IsStoreAt, LeavesStates};
+    ghost use Rattle.calls.specs.Engines.{IsCall};
+    ghost use Rattle.store.specs.Stores.{disk_of, side_of, capacity_of, root_of, has_failed};
+    ghost use Rattle.store.specs.StoreState.{IsStoreAt, LeavesStates, known_by, members};
     ghost use Rattle.store.specs.StoreRuns.{nothing_done, one_by_one, among_more};
+
+    ghost called = { IsCall (members D.Disk) };
 
     ghost is_honest = { λ e. D.honest (disk_of e) };
 
@@ -34,7 +37,13 @@ impl<D: Disk> Engine for Store<D> {
 
     ghost failures = { λ e. D.failures (disk_of e) };
 
-    ghost stays = { λ e s others honest at. nothing_done e s others (λ image. D.only_now (disk_of e) image) honest at };
+    ghost writes = { λ e. D.writes (disk_of e) };
+
+    ghost known = { λ e. known_by (root_of e) };
+
+    ghost is_call = { λ old new event answer call. call };
+
+    ghost stays = { λ e s honest at. nothing_done e s [] (λ image. D.only_now (disk_of e) image) honest at };
 
     ghost in_turn = { λ first mid last states more before after. one_by_one first mid last states more before after };
 

@@ -1,8 +1,9 @@
 -- The state that an engine in memory is in (this product's own profile).
-use Rattle.std.specs.Prelude.{ℕ, ◌<◌, ◌≤◌, false, None, length}
+use Rattle.std.specs.Prelude.{◌≡◌, ℕ, ◌<◌, ◌≤◌, false, length, ⊤}
 use Rattle.lattice.specs.Mosaic.{Mosaic, IsMosaic}
 use Rattle.catalogue.specs.Tiles.{corners_of}
-use Rattle.calls.specs.State.{Contents, State}
+use Rattle.calls.specs.Engines.{Members}
+use Rattle.calls.specs.State.{Contents, working}
 
 -- how many tiles it takes, and what it holds
 pub record Held : Type 0 where
@@ -16,9 +17,19 @@ contents_of m k g = record { mosaic = m; count = k; number = g; stale = corners_
 abbrev pub held_of : ℕ → Mosaic → ℕ → ℕ → Held
 held_of capacity m k g = record { capacity = capacity; contents = contents_of m k g }
 
--- it never fails
-abbrev pub working : Contents → State
-working contents = record { contents = contents; failed = false; doubt = None }
+-- It has no disk: it never fails, and a stop leaves nothing.
+abbrev pub table : Members Held
+table = record {
+  is_honest = (λ _. ⊤);
+  is_at = (λ held s. s ≡ working held.contents);
+  leaves_only = (λ first last states. ⊤);
+  side_of = (λ held. held.contents.mosaic.side);
+  capacity_of = (λ held. held.capacity);
+  has_failed = (λ _. false);
+  failures = (λ _. 0);
+  writes = (λ _. 0);
+  known = (λ held. record { version = 1; count = held.contents.count; number = held.contents.number });
+}
 
 -- a mosaic of no more tiles than it takes, of which directions can be found; commits come to one more than commands
 pub record IsKept (capacity : ℕ) (m : Mosaic) (k g : ℕ) : Type 0 where

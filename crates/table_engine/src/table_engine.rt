@@ -48,27 +48,34 @@ impl TableEngine {
 }
 
 impl Engine for TableEngine {
-    ghost use Rattle.std.specs.Prelude.{◌≡◌, List, [], ◌∷◌, false, refl, ⊤};
     ghost use Rattle.std.proofs.Common.{ap};
+    ghost use Rattle.calls.specs.Engines.{IsCall};
     ghost use Rattle.calls.specs.State.{State};
-    ghost use Rattle.table_engine.specs.TableState.{working};
+    ghost use Rattle.table_engine.specs.TableState.{table};
 
-    ghost is_honest = { λ _. ⊤ };
+    ghost called = { IsCall table };
 
-    ghost is_at = { λ e s. s ≡ working e.contents };
+    ghost is_honest = { table.is_honest };
 
-    // It has no disk, so that a stop leaves nothing.
-    ghost leaves_only = { λ first last states. ⊤ };
+    ghost is_at = { table.is_at };
 
-    ghost side_of = { λ e. e.contents.mosaic.side };
+    ghost leaves_only = { table.leaves_only };
 
-    ghost capacity_of = { λ e. e.capacity };
+    ghost side_of = { table.side_of };
 
-    ghost has_failed = { λ _. false };
+    ghost capacity_of = { table.capacity_of };
 
-    ghost failures = { λ _. 0 };
+    ghost has_failed = { table.has_failed };
 
-    ghost stays = { λ e s others honest at. tt };
+    ghost failures = { table.failures };
+
+    ghost writes = { table.writes };
+
+    ghost known = { table.known };
+
+    ghost is_call = { λ old new event answer call. call };
+
+    ghost stays = { λ e s honest at. tt };
 
     ghost in_turn = { λ first mid last states more before after. tt };
 

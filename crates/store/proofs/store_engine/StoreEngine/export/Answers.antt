@@ -1,10 +1,18 @@
-use Rattle.std.proofs.Common.{rules, ◌≡◌, [], ◌∷◌}
-use Rattle.store.specs.Stores.{side_of}
-use Rattle.store.proofs.StoreLemmas.{queried}
+use Rattle.std.proofs.Common.{ℕ}
+use Rattle.std.specs.Global.{Vec}
+use Rattle.calls.specs.Engines.{items_in}
+use Rattle.std.specs.Prelude.{Result}
+use Rattle.lattice.specs.declared.refusal.Refusal.{Refusal}
+use Rattle.calls.specs.Outcomes.{Exports}
+use Rattle.calls.specs.State.{State}
+use Rattle.calls.specs.declared.event.Event.TheVariants as ask
+use Rattle.calls.specs.declared.event.Reply.TheVariants as reply
+use Rattle.calls.proofs.Questions.{export_asked}
+use Rattle.store.proofs.StoreLemmas.{asked}
 use Rattle.store.proofs.store_engine.StoreEngine.export.Goals as goal
 
-pub returns-clause-outcome : goal.returns-clause-outcome
-returns-clause-outcome g c = λ honest s at.
-    let found = c.export.ensures.outcome honest s at.at in
-    let side : found.0.contents.mosaic.side ≡ side_of c.export.new.self = search rules in
-    (found.0, record { at = found.1.0; same_side = side }, queried g.D.Disk c.args.self.now c.export.new.self c.export.result s (found.0 ∷ []) c.export.ensures.reads honest at, found.1.1)
+pub returns : goal.returns
+returns g c =
+    let is = c.export.ensures in
+    asked g.D.Disk c.args.self.now c.export.new.self (ask.Export c.args.corner) reply.Export c.export.result (λ (s : State) (r : Result (Vec ℕ) Refusal) (t : State). Exports s c.args.corner (items_in r) t)
+    (export_asked c.args.corner) is.causes is.reads is.outcome

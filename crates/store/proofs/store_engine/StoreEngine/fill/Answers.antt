@@ -1,10 +1,16 @@
-use Rattle.std.proofs.Common.{rules, ◌≡◌, [], ◌∷◌}
-use Rattle.store.specs.Stores.{side_of}
-use Rattle.store.proofs.StoreLemmas.{queried}
+use Rattle.std.proofs.Common.{ℤ}
+use Rattle.std.specs.Prelude.{Result}
+use Rattle.lattice.specs.declared.refusal.Refusal.{Refusal}
+use Rattle.calls.specs.Outcomes.{Fills}
+use Rattle.calls.specs.State.{State}
+use Rattle.calls.specs.declared.event.Event.TheVariants as ask
+use Rattle.calls.specs.declared.event.Reply.TheVariants as reply
+use Rattle.calls.proofs.Questions.{fill_asked}
+use Rattle.store.proofs.StoreLemmas.{asked}
 use Rattle.store.proofs.store_engine.StoreEngine.fill.Goals as goal
 
-pub returns-clause-outcome : goal.returns-clause-outcome
-returns-clause-outcome g c = λ honest s at.
-    let found = c.fill.ensures.outcome honest s at.at in
-    let side : found.0.contents.mosaic.side ≡ side_of c.fill.new.self = search rules in
-    (found.0, record { at = found.1.0; same_side = side }, queried g.D.Disk c.args.self.now c.fill.new.self c.fill.result s (found.0 ∷ []) c.fill.ensures.reads honest at, found.1.1)
+pub returns : goal.returns
+returns g c =
+    let is = c.fill.ensures in
+    asked g.D.Disk c.args.self.now c.fill.new.self (ask.Fill c.args.point) reply.Fill c.fill.result (λ (s : State) (r : Result ℤ Refusal) (t : State). Fills s c.args.point r t)
+    (fill_asked c.args.point) is.causes is.reads is.outcome

@@ -1,10 +1,18 @@
-use Rattle.std.proofs.Common.{rules, ◌≡◌, [], ◌∷◌}
-use Rattle.store.specs.Stores.{side_of}
-use Rattle.store.proofs.StoreLemmas.{queried}
+use Rattle.std.specs.Global.{Vec}
+use Rattle.watershed.specs.declared.runs.Run.{Run}
+use Rattle.calls.specs.Engines.{items_in}
+use Rattle.std.specs.Prelude.{Result}
+use Rattle.lattice.specs.declared.refusal.Refusal.{Refusal}
+use Rattle.calls.specs.Outcomes.{Sheds}
+use Rattle.calls.specs.State.{State}
+use Rattle.calls.specs.declared.event.Event.TheVariants as ask
+use Rattle.calls.specs.declared.event.Reply.TheVariants as reply
+use Rattle.calls.proofs.Questions.{watershed_asked}
+use Rattle.store.proofs.StoreLemmas.{asked}
 use Rattle.store.proofs.store_engine.StoreEngine.watershed.Goals as goal
 
-pub returns-clause-outcome : goal.returns-clause-outcome
-returns-clause-outcome g c = λ honest s at.
-    let found = c.watershed.ensures.outcome honest s at.at in
-    let side : found.0.contents.mosaic.side ≡ side_of c.watershed.new.self = search rules in
-    (found.0, record { at = found.1.0; same_side = side }, queried g.D.Disk c.args.self.now c.watershed.new.self c.watershed.result s (found.0 ∷ []) c.watershed.ensures.reads honest at, found.1.1)
+pub returns : goal.returns
+returns g c =
+    let is = c.watershed.ensures in
+    asked g.D.Disk c.args.self.now c.watershed.new.self (ask.Watershed c.args.point) reply.Watershed c.watershed.result (λ (s : State) (r : Result (Vec Run) Refusal) (t : State). Sheds s c.args.point (items_in r) t)
+    (watershed_asked c.args.point) is.causes is.reads is.outcome

@@ -1,24 +1,17 @@
-use Rattle.calls.proofs.Answered.{directs}
-use Rattle.lattice.specs.Ground.{terrain}
 use Rattle.watershed.specs.Questions.{DrainsBy}
+use Rattle.lattice.specs.Ground.{terrain}
 use Rattle.drainage.proofs.Answered.{told_of_levels}
-use Rattle.table_engine.specs.TableState.{contents_of, working}
-use Rattle.table_engine.proofs.TableLemmas.{directed, stands, stays_this}
+use Rattle.calls.specs.declared.event.Event.TheVariants as ask
+use Rattle.table_engine.proofs.TableCalls.{called_same, directed, old}
 use Rattle.table_engine.proofs.table_engine.TableEngineEngine.direction.Goals as goal
 
-pub returns-clause-outcome : goal.returns-clause-outcome
-returns-clause-outcome c = λ honest s at.
+pub returns : goal.returns
+returns c =
     let e = c.self.inside in
-    let held = c.args.self.now in
-    let view = c.self.view_is in
+    let p = c.args.point in
     let valid = c.self.invariant.valid in
-    let says = c.direction.ensures in
-    let new_valid = says.reads.never_refuses valid in
-    let this = working (contents_of e.table e.count e.number) in (
-      s,
-      stands held e.table e.capacity e.count e.number view s at c.direction.new.samples says.reads.keeps,
-      tt,
-      directed held e.table e.capacity e.count e.number view s at valid c.args.point c.direction.result
-          (directs this this (stays_this held e.table e.capacity e.count e.number view s at) c.args.point c.direction.result (told_of_levels this.contents.mosaic valid c.args.point (λ code level. DrainsBy (terrain this.contents.mosaic) level c.args.point code) c.direction.result (says.reads.answers valid) (says.direction new_valid) (says.on_ground new_valid)
-          says.outside (says.void new_valid) says.causes)),
-    )
+    let found = c.direction.ensures in
+    let new_valid = found.reads.never_refuses valid in
+    called_same e.table e.capacity e.count e.number c.args.self.now c.self.view_is (ask.Direction p) _ c.direction.new.samples found.reads.keeps
+    (directed (old e.table e.capacity e.count e.number) p c.direction.result
+    (told_of_levels e.table valid p (λ code level. DrainsBy (terrain e.table) level p code) c.direction.result (found.reads.answers valid) (found.direction new_valid) (found.on_ground new_valid) found.outside (found.void new_valid) found.causes))

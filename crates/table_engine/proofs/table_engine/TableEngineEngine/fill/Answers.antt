@@ -1,24 +1,17 @@
-use Rattle.calls.proofs.Answered.{fills}
-use Rattle.lattice.specs.Ground.{terrain}
 use Rattle.lattice.specs.Terrain.{IsFilledLevel}
+use Rattle.lattice.specs.Ground.{terrain}
 use Rattle.drainage.proofs.Answered.{told}
-use Rattle.table_engine.specs.TableState.{contents_of, working}
-use Rattle.table_engine.proofs.TableLemmas.{filled, stands, stays_this}
+use Rattle.calls.specs.declared.event.Event.TheVariants as ask
+use Rattle.table_engine.proofs.TableCalls.{called_same, filled, old}
 use Rattle.table_engine.proofs.table_engine.TableEngineEngine.fill.Goals as goal
 
-pub returns-clause-outcome : goal.returns-clause-outcome
-returns-clause-outcome c = λ honest s at.
+pub returns : goal.returns
+returns c =
     let e = c.self.inside in
-    let held = c.args.self.now in
-    let view = c.self.view_is in
+    let p = c.args.point in
     let valid = c.self.invariant.valid in
-    let says = c.fill.ensures in
-    let new_valid = says.reads.never_refuses valid in
-    let this = working (contents_of e.table e.count e.number) in (
-      s,
-      stands held e.table e.capacity e.count e.number view s at c.fill.new.samples says.reads.keeps,
-      tt,
-      filled held e.table e.capacity e.count e.number view s at valid c.args.point c.fill.result
-          (fills this this (stays_this held e.table e.capacity e.count e.number view s at) c.args.point c.fill.result (told this.contents.mosaic valid c.args.point (IsFilledLevel (terrain this.contents.mosaic) c.args.point) c.fill.result (says.reads.answers valid) (says.level new_valid)
-          says.outside (says.void new_valid) says.causes)),
-    )
+    let found = c.fill.ensures in
+    let new_valid = found.reads.never_refuses valid in
+    called_same e.table e.capacity e.count e.number c.args.self.now c.self.view_is (ask.Fill p) _ c.fill.new.samples found.reads.keeps
+    (filled (old e.table e.capacity e.count e.number) p c.fill.result
+    (told e.table valid p (IsFilledLevel (terrain e.table) p) c.fill.result (found.reads.answers valid) (found.level new_valid) found.outside (found.void new_valid) found.causes))

@@ -1,24 +1,17 @@
-use Rattle.calls.proofs.Answered.{traces}
-use Rattle.lattice.specs.Ground.{terrain}
 use Rattle.flow_d8.specs.FlowPath.{IsFlowPath}
+use Rattle.lattice.specs.Ground.{terrain}
 use Rattle.drainage.proofs.Answered.{told_of_levels}
-use Rattle.table_engine.specs.TableState.{contents_of, working}
-use Rattle.table_engine.proofs.TableLemmas.{traced, stands, stays_this}
+use Rattle.calls.specs.declared.event.Event.TheVariants as ask
+use Rattle.table_engine.proofs.TableCalls.{called_same, traced, old}
 use Rattle.table_engine.proofs.table_engine.TableEngineEngine.trace.Goals as goal
 
-pub returns-clause-outcome : goal.returns-clause-outcome
-returns-clause-outcome c = λ honest s at.
+pub returns : goal.returns
+returns c =
     let e = c.self.inside in
-    let held = c.args.self.now in
-    let view = c.self.view_is in
+    let p = c.args.point in
     let valid = c.self.invariant.valid in
-    let says = c.trace.ensures in
-    let new_valid = says.reads.never_refuses valid in
-    let this = working (contents_of e.table e.count e.number) in (
-      s,
-      stands held e.table e.capacity e.count e.number view s at c.trace.new.samples says.reads.keeps,
-      tt,
-      traced held e.table e.capacity e.count e.number view s at valid c.args.point c.trace.result
-          (traces this this (stays_this held e.table e.capacity e.count e.number view s at) c.args.point c.trace.result (told_of_levels this.contents.mosaic valid c.args.point (λ path level. IsFlowPath (terrain this.contents.mosaic) level c.args.point path.items) c.trace.result (says.reads.answers valid) (says.path new_valid) (says.on_ground new_valid)
-          says.outside (says.void new_valid) says.causes)),
-    )
+    let found = c.trace.ensures in
+    let new_valid = found.reads.never_refuses valid in
+    called_same e.table e.capacity e.count e.number c.args.self.now c.self.view_is (ask.Trace p) _ c.trace.new.samples found.reads.keeps
+    (traced (old e.table e.capacity e.count e.number) p c.trace.result
+    (told_of_levels e.table valid p (λ path level. IsFlowPath (terrain e.table) level p path.items) c.trace.result (found.reads.answers valid) (found.path new_valid) (found.on_ground new_valid) found.outside (found.void new_valid) found.causes))

@@ -1,0 +1,58 @@
+-- What the text of a reply tells of the answer.
+use Rattle.std.proofs.Common.{◌≡◌, ℕ, get_or, Bool, true, false, true≢false, IsTrue, List, refl, sym, ap, ◌∙◌, arith, inl, inr}
+use Rattle.std.specs.Fmt.{digits}
+use Rattle.std.specs.Prelude.{◌==◌, ◌&&◌, Some, ◌⊎◌, Result, Ok, Err, MatchResult}
+use Rattle.lattice.specs.declared.height.Height.TheVariants as height
+use Rattle.lattice.specs.declared.refusal.Refusal.{Refusal}
+use Rattle.lattice.specs.declared.refusal.Refusal.TheVariants.{Device, NoMemory}
+use Rattle.calls.specs.declared.event.Reply.{Reply}
+use Rattle.calls.specs.declared.event.Reply.TheVariants as reply
+use Rattle.lines.specs.Replies.{done_text, refusal_text}
+use Rattle.serving.specs.Answers.{Tells, text_of, takes_memory}
+use Rattle.serving.specs.Promises.{IsOkText}
+
+pub not_ok : (r : Refusal) (text : List ℕ) → text ≡ refusal_text r → IsOkText text → ⊥
+not_ok r text is (rest, ok) = let first : ◌≡◌ {A = ℕ} 69 79 = ap (λ (l : List ℕ). get_or l 0 0) (sym is ∙ ok) in omega (arith, first)
+
+-- `ERR 20`
+abbrev is_fault : List ℕ → Bool
+is_fault text = (get_or text 0 0 == 69) && ((get_or text 4 0 == 50) && (get_or text 5 0 == 48))
+
+fault_is : (r : Refusal) → is_fault (refusal_text r) ≡ true → r ≡ Device
+unfolding digits
+fault_is Device e = refl
+fault_is r e = absurd (true≢false (sym e))
+
+fault_text : is_fault (refusal_text Device) ≡ true
+unfolding digits
+fault_text = refl
+
+pub only_device : (r : Refusal) → refusal_text r ≡ refusal_text Device → r ≡ Device
+only_device r e = fault_is r (ap is_fault e ∙ fault_text)
+
+another : (text other : List ℕ) → text ≡ other → is_fault other ≡ false → text ≡ refusal_text Device → ⊥
+another text other is differs e = true≢false (sym fault_text ∙ ap is_fault (sym e ∙ is) ∙ differs)
+
+pub done_is_no_fault : (text : List ℕ) → text ≡ done_text → text ≡ refusal_text Device → ⊥
+done_is_no_fault text is e = another text done_text is refl e
+
+-- only a fault of the disk is told as one
+pub blames : (answer : Reply) (text : List ℕ) → Tells answer text → text ≡ refusal_text Device → answer ≡ reply.Refused Device
+unfolding digits
+blames answer text (inr (memory, is)) e = absurd (another text _ is refl e)
+blames (reply.Refused r) text (inl is) e = ap (λ (q : Refusal). reply.Refused q) (only_device r (sym is ∙ e))
+blames (reply.Elevation height.Outside) text (inl is) e = absurd (another text _ is refl e)
+blames (reply.Elevation height.Void) text (inl is) e = absurd (another text _ is refl e)
+blames (reply.Elevation (height.At metres)) text (inl is) e = absurd (another text _ is refl e)
+blames answer text (inl is) e = absurd (another text _ is refl e)
+
+-- a refusal is told as it is
+pub refusal_told : (r : Refusal) (text : List ℕ) → Tells (reply.Refused r) text → text ≡ refusal_text r
+refusal_told r text (inl is) = is
+refusal_told r text (inr (memory, is)) = absurd (true≢false (sym memory))
+
+-- a text, or want of memory for it
+pub told : {E : Type 0} (answer : Reply) (r : Result (List ℕ) E) (text : List ℕ) → takes_memory answer ≡ true → MatchResult r (λ made. made ≡ text_of answer) (λ _. Unit {0})
+    → MatchResult r (λ made. text ≡ made) (λ _. text ≡ refusal_text NoMemory) → Tells answer text
+told answer (Ok made) text memory is given = inl (given ∙ is)
+told answer (Err e) text memory is given = inr (memory, given)

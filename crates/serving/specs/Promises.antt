@@ -1,0 +1,72 @@
+-- What is known of a session: the calls that it makes, and what follows from them (this product's own profile).
+use Rattle.std.specs.Prelude.{◌≡◌, ◌≤◌, ℕ, Bool, true, false, IsTrue, List, ◌∷◌, ◌++◌, map, codes, decimal, Option, Some, Result}
+use Rattle.lattice.specs.declared.refusal.Refusal.TheVariants.{Device}
+use Rattle.catalogue.specs.Reading.{HasRisen}
+use Rattle.edits.specs.declared.command.Command.{Command}
+use Rattle.calls.specs.declared.event.Event.TheVariants as ask
+use Rattle.calls.specs.declared.event.Reply.TheVariants as reply
+use Rattle.calls.specs.Engines.{AreAt, LeaveLater}
+use Rattle.calls.specs.Events.{Happens}
+use Rattle.calls.specs.Runs.{last_of}
+use Rattle.calls.specs.State.{State}
+use Rattle.calls.specs.Told.{IsTold}
+use Rattle.engine.specs.Members.{members}
+use Rattle.engine.specs.declared.engine.Engine.{Ghosts}
+use Rattle.lines.specs.Grammar.{Asked, AskImport, AskRemove, AskPatch, AskBurn, AskWall}
+use Rattle.lines.specs.Replies.{ok_line, refusal_text}
+use Rattle.serving.specs.Answers.{Replied}
+use Rattle.serving.specs.Items.{Item}
+use Rattle.serving.specs.Served.{Outcome}
+use Rattle.serving.specs.declared.session.ServeFault.{ServeFault}
+
+abbrev pub asks_command : Option Asked → Bool
+asks_command (Some (AskImport name len)) = true
+asks_command (Some (AskRemove name)) = true
+asks_command (Some (AskPatch from to height)) = true
+asks_command (Some (AskBurn depth points)) = true
+asks_command (Some (AskWall height points)) = true
+asks_command _ = false
+
+-- a reply that isn't a refusal
+abbrev pub IsOkText : List ℕ → Type 0
+IsOkText text = (rest : List ℕ) × (text ≡ codes "OK" ++ rest)
+
+-- the side of a state's tiles
+abbrev pub side_in : State → ℕ
+side_in s = s.contents.mosaic.side
+
+module _ {E : Type 0} (g : Ghosts E) where
+  -- a command was applied, and answered with the number that the text tells
+  abbrev pub IsDone : E → List ℕ → E → Type 0
+  IsDone old text new = (c : Command) × (k : ℕ) × g.called old (ask.Do c) (reply.Done k) new × (text ≡ ok_line (decimal k))
+
+  -- the reply to an item, on any disk
+  pub record Answers (old : E) (i : Item) (text : List ℕ) (new : E) : Type 0 where
+    -- the event that it came to was asked, if it came to one, and the text tells what was answered
+    pub replied : Replied g.called g.side_of old i text new
+    -- a command is told as done only where it was applied, and answered so
+    pub done : IsTrue (asks_command i.asked) → IsOkText text → IsDone old text new
+    -- a fault of the disk is told as such, and nothing else is
+    pub fault : g.has_failed old ≡ false → g.has_failed new ≡ true → text ≡ refusal_text Device
+    pub failures : g.failures old ≤ g.failures new
+    pub blamed : text ≡ refusal_text Device → HasRisen (g.failures old) (g.failures new)
+
+  -- the states that the engines are in, one after each item
+  pub record GoesThrough (before after written new : Option (List ℕ)) (old : E) (engines : List E) (result : Result (Unit {0}) ServeFault) (s : State) (states : List State) : Type 0 where
+    pub outcome : Outcome (Replied (Happens (g.capacity_of old)) side_in) before after written new s states result
+    pub at : AreAt (members g) (old ∷ engines) (s ∷ states)
+    -- since the engine after an item a stop leaves the state after it or a later one
+    pub later : LeaveLater (members g) (old ∷ engines) (last_of old engines) (s ∷ states)
+
+  -- All that is known of what serve makes of an engine, one engine after each item.
+  pub record Serves (before after written new : Option (List ℕ)) (old : E) (engines : List E) (result : Result (Unit {0}) ServeFault) : Type 0 where
+    -- the calls, and what the replies tell of them
+    pub answers : Outcome Answers before after written new old engines result
+    -- on an honest disk: the run of states
+    pub states : g.is_honest (last_of old engines) → (s : State) → g.is_at old s → (states : List State) × GoesThrough before after written new old engines result s states
+    -- on any disk, honest or not: what the replies tell of whether the engine has failed
+    pub told : Outcome (Replied IsTold (λ _. g.side_of old)) before after written new (g.has_failed old) (map g.has_failed engines) result
+    pub side : g.side_of (last_of old engines) ≡ g.side_of old
+    pub capacity : g.capacity_of (last_of old engines) ≡ g.capacity_of old
+    pub honest : g.is_honest (last_of old engines) → g.is_honest old
+    pub failures : g.failures old ≤ g.failures (last_of old engines)

@@ -1,0 +1,185 @@
+-- What is known of a call of the mosaic in memory, which never fails.
+use Rattle.std.proofs.Common.{◌≡◌, ℕ, ℤ, ◌<◌, ◌+◌, Bool, true, false, true≢false, IsTrue, IsFalse, List, refl, sym, ap, ◌∙◌, subst, arith}
+use Rattle.std.specs.Prelude.{Result, Ok, Err, IsOk, IfOk, IfErr, MatchResult, Some, None, ⊤}
+use Rattle.std.specs.Global.{Vec}
+use Rattle.lattice.specs.Corners.{Corner}
+use Rattle.lattice.specs.Height.{height_of}
+use Rattle.lattice.specs.Ground.{terrain}
+use Rattle.lattice.specs.Terrain.{IsFilledLevel}
+use Rattle.lattice.specs.Mosaic.{Mosaic, samples_of}
+use Rattle.lattice.specs.declared.height.Height.{Height}
+use Rattle.lattice.specs.declared.point.Point.{Point}
+use Rattle.lattice.specs.declared.refusal.Refusal.{Refusal}
+use Rattle.lattice.specs.declared.refusal.Refusal.TheVariants.{Outside, Void, NoTile, Device, NoMemory, Failed, Worn}
+use Rattle.hgt.specs.Bytes.{hgt_bytes}
+use Rattle.catalogue.specs.Readers.{reads_of}
+use Rattle.catalogue.specs.Tiles.{corners_of}
+use Rattle.edits.specs.declared.command.Command.{Command}
+use Rattle.edits.specs.declared.command.Command.TheVariants.{Import, Remove, Patch, Burn, Wall}
+use Rattle.edits.specs.Effect.{effect}
+use Rattle.edits.specs.Plans.{is_own, may_end}
+use Rattle.edits.proofs.AllStale.{all_changed_side, all_stale}
+use Rattle.flow_d8.specs.FlowPath.{IsFlowPath, IsInWatershed}
+use Rattle.watershed.specs.declared.runs.Run.{Run}
+use Rattle.watershed.specs.Runs.{AreRuns}
+use Rattle.watershed.specs.Questions.{DrainsBy, IsAnswered, IsUnanswered}
+use Rattle.calls.specs.declared.event.Event.{Event}
+use Rattle.calls.specs.declared.event.Event.TheVariants as ask
+use Rattle.calls.specs.declared.event.Reply.{Reply}
+use Rattle.calls.specs.declared.event.Reply.TheVariants as reply
+use Rattle.calls.specs.Engines.{IsCall, answered}
+use Rattle.calls.specs.Events.{Happens, fails_after}
+use Rattle.calls.specs.Outcomes.{Stays, AnswersNot, Accepts, Applies, AppliesNot, IsWorn, last_number}
+use Rattle.calls.specs.State.{Contents, State, made_by, working}
+use Rattle.calls.specs.Told.{Matches, Knows, WritesFew, may_refuse, may_refuse_question}
+use Rattle.calls.proofs.Applying.{plan_refused}
+use Rattle.table_engine.specs.TableState.{Held, held_of, contents_of, table}
+
+few_writes : (c : Command) → WritesFew 1 (ask.Do c) 0 0
+few_writes (Import c bytes) = tt
+few_writes (Remove c) = tt
+few_writes (Patch from to height) = tt
+few_writes (Burn depth points) = omega arith
+few_writes (Wall height points) = omega arith
+
+module _ (held : Held) where
+  abbrev now : State
+  now = working held.contents
+
+  abbrev here : Mosaic
+  here = held.contents.mosaic
+
+  stays : Stays now now
+  stays = record { working = refl; same = refl }
+
+  -- a call after which it holds the same
+  abbrev Same : Event → Reply → Type 0
+  Same event answer = IsCall table held event answer held
+
+  same : (event : Event) (answer : Reply) → Matches event answer → (answer ≡ reply.Refused Failed → ⊥) → (answer ≡ reply.Refused Device → ⊥) → false ≡ fails_after false event answer
+      → WritesFew 1 event 0 0 → Knows (table.known held) event answer (table.known held) → Happens held.capacity now event answer now → Same event answer
+  same event answer matches not_failed not_device after few knows happens = record {
+    side = refl;
+    capacity = refl;
+    told = record { matches = matches; says = λ failed. absurd (true≢false (sym failed)); had_failed = λ is. absurd (not_failed is); after_is = after };
+    failures = record { later = omega arith; device = λ is. absurd (not_device is) };
+    writes = record { few = few; refused = λ r is other. refl };
+    known = knows;
+    honest = λ h. h;
+    happens = λ honest s at. (s, (at, subst (λ (z : State). Happens held.capacity z event answer z) (sym at) happens, tt));
+  }
+
+  -- a question about the water at a point
+  module _ (p : Point) (event : Event) (may : (r : Refusal) → IsTrue (may_refuse_question r) → IsTrue (may_refuse event r)) (after : (r : Refusal) → (r ≡ Device → ⊥) → false ≡ fails_after false event (reply.Refused r))
+      (few : WritesFew 1 event 0 0) (knows : (r : Refusal) → Knows (table.known held) event (reply.Refused r) (table.known held))
+      (happens : (r : Refusal) → AnswersNot now p r now → Happens held.capacity now event (reply.Refused r) now) where
+    unanswered : (r : Refusal) → IsUnanswered here p r → Same event (reply.Refused r)
+    unanswered Outside is = same event (reply.Refused Outside) (may Outside refl) (λ e. absurd (cc)) (λ e. absurd (cc)) (after Outside (λ e. absurd (cc))) few (knows Outside) (happens Outside (stays, is))
+    unanswered Void is = same event (reply.Refused Void) (may Void refl) (λ e. absurd (cc)) (λ e. absurd (cc)) (after Void (λ e. absurd (cc))) few (knows Void) (happens Void (stays, is))
+    unanswered NoMemory is = same event (reply.Refused NoMemory) (may NoMemory refl) (λ e. absurd (cc)) (λ e. absurd (cc)) (after NoMemory (λ e. absurd (cc))) few (knows NoMemory) (happens NoMemory stays)
+    unanswered r is = absurd is
+
+  not_failing : (event : Event) → (event ≡ ask.Reopen → ⊥) → (r : Refusal) → (r ≡ Device → ⊥) → false ≡ fails_after false event (reply.Refused r)
+  not_failing ask.Reopen other r not_device = absurd (other refl)
+  not_failing event other Device not_device = absurd (not_device refl)
+  not_failing event other r not_device = refl
+
+  pub filled : (p : Point) (result : Result ℤ Refusal) → MatchResult result (IsFilledLevel (terrain here) p) (IsUnanswered here p) → Same (ask.Fill p) (answered reply.Fill result)
+  filled p (Ok level) is = same (ask.Fill p) (reply.Fill level) tt (λ e. absurd (cc)) (λ e. absurd (cc)) refl refl refl (stays, is)
+  filled p (Err r) is = unanswered p (ask.Fill p) (λ r may. may) (not_failing (ask.Fill p) (λ e. absurd (cc))) refl (λ r. refl) (λ r is. is) r is
+
+  pub directed : (p : Point) (result : Result ℕ Refusal) → MatchResult result (λ code. IsAnswered here p (λ level. DrainsBy (terrain here) level p code)) (IsUnanswered here p)
+      → Same (ask.Direction p) (answered reply.Direction result)
+  directed p (Ok code) is = same (ask.Direction p) (reply.Direction code) tt (λ e. absurd (cc)) (λ e. absurd (cc)) refl refl refl (stays, is)
+  directed p (Err r) is = unanswered p (ask.Direction p) (λ r may. may) (not_failing (ask.Direction p) (λ e. absurd (cc))) refl (λ r. refl) (λ r is. is) r is
+
+  pub traced : (p : Point) (result : Result (Vec Point) Refusal) → MatchResult result (λ path. IsAnswered here p (λ level. IsFlowPath (terrain here) level p path.items)) (IsUnanswered here p)
+      → Same (ask.Trace p) (answered reply.Trace result)
+  traced p (Ok path) is = same (ask.Trace p) (reply.Trace path) tt (λ e. absurd (cc)) (λ e. absurd (cc)) refl refl refl (stays, is)
+  traced p (Err r) is = unanswered p (ask.Trace p) (λ r may. may) (not_failing (ask.Trace p) (λ e. absurd (cc))) refl (λ r. refl) (λ r is. is) r is
+
+  pub shed : (p : Point) (result : Result (Vec Run) Refusal) → MatchResult result (λ runs. IsAnswered here p (λ level. AreRuns (IsInWatershed (terrain here) level p) runs.items)) (IsUnanswered here p)
+      → Same (ask.Watershed p) (answered reply.Watershed result)
+  shed p (Ok runs) is = same (ask.Watershed p) (reply.Watershed runs) tt (λ e. absurd (cc)) (λ e. absurd (cc)) refl refl refl (stays, is)
+  shed p (Err r) is = unanswered p (ask.Watershed p) (λ r may. may) (not_failing (ask.Watershed p) (λ e. absurd (cc))) refl (λ r. refl) (λ r is. is) r is
+
+  pub elevated : (p : Point) (result : Result Height Refusal) → IsOk result → IfOk result (λ h. h ≡ height_of here p) → Same (ask.Elevation p) (answered reply.Elevation result)
+  elevated p (Ok h) ok is = same (ask.Elevation p) (reply.Elevation h) tt (λ e. absurd (cc)) (λ e. absurd (cc)) refl refl refl (stays, is)
+  elevated p (Err r) ok is = absurd (true≢false (sym ok))
+
+  pub exported : (c : Corner) (bytes : Vec ℕ) (samples : List ℤ) → samples_of here c ≡ Some samples → bytes.items ≡ hgt_bytes samples → Same (ask.Export c) (reply.Export bytes)
+  exported c bytes samples there is = same (ask.Export c) (reply.Export bytes) tt (λ e. absurd (cc)) (λ e. absurd (cc)) refl refl refl (stays, (samples, (there, is)))
+
+  pub no_tile : (c : Corner) → samples_of here c ≡ None → Same (ask.Export c) (reply.Refused NoTile)
+  no_tile c none = same (ask.Export c) (reply.Refused NoTile) refl (λ e. absurd (cc)) (λ e. absurd (cc)) refl refl refl (stays, none)
+
+  pub no_room_to_export : (c : Corner) → Same (ask.Export c) (reply.Refused NoMemory)
+  no_room_to_export c = same (ask.Export c) (reply.Refused NoMemory) refl (λ e. absurd (cc)) (λ e. absurd (cc)) refl refl refl stays
+
+  pub listed : (result : Result (Vec Corner) Refusal) → IfOk result (λ corners. corners.items ≡ corners_of here) → IfErr result (λ r. r ≡ NoMemory) → Same ask.Tiles (answered reply.Tiles result)
+  listed (Ok corners) is memory = same ask.Tiles (reply.Tiles corners) tt (λ e. absurd (cc)) (λ e. absurd (cc)) refl refl refl (stays, is)
+  listed (Err r) is memory = subst (λ (r : Refusal). Same ask.Tiles (reply.Refused r)) (sym memory) (same ask.Tiles (reply.Refused NoMemory) refl (λ e. absurd (cc)) (λ e. absurd (cc)) refl refl refl stays)
+
+  pub told_count : (k : ℕ) → k ≡ held.contents.count → Same ask.Count (reply.Count k)
+  told_count k is = same ask.Count (reply.Count k) tt (λ e. absurd (cc)) (λ e. absurd (cc)) refl refl (is, refl) (is, refl)
+
+  module _ (c : Command) where
+    not_done : (r : Refusal) → IsTrue (may_refuse (ask.Do c) r) → (r ≡ Failed → ⊥) → (r ≡ Device → ⊥) → AppliesNot held.capacity now c r now → Same (ask.Do c) (reply.Refused r)
+    not_done r may not_failed not_device is =
+        same (ask.Do c) (reply.Refused r) may (λ e. not_failed (refusal_is e)) (λ e. not_device (refusal_is e)) (not_failing (ask.Do c) (λ e. absurd (cc)) r not_device) (few_writes c) refl is
+      where
+        refusal_is : {q : Refusal} → reply.Refused r ≡ reply.Refused q → r ≡ q
+        refusal_is e = cc
+
+    pub refused : (r : Refusal) → IsTrue (may_end c r) → reads_of {T = Unit {0}} (Err r) ≡ Ok tt → (IsTrue (is_own c r) → effect held.capacity here c ≡ Err r) → Same (ask.Do c) (reply.Refused r)
+    refused Worn may read own = not_done Worn refl (λ e. absurd (cc)) (λ e. absurd (cc)) (plan_refused held.capacity now c Worn refl may read own)
+    refused Device may read own = absurd (cc)
+    refused Failed may read own = absurd (cc)
+    refused r may read own = not_done r may (λ e. absurd (cc)) (λ e. absurd (cc)) (plan_refused held.capacity now c r refl may read own)
+
+    pub worn : (new : Mosaic) → effect held.capacity here c ≡ Ok new → held.contents.number ≡ last_number → Same (ask.Do c) (reply.Refused Worn)
+    worn new makes full = not_done Worn refl (λ e. absurd (cc)) (λ e. absurd (cc)) (record { stays = stays; accepted = (new, makes); worn = full })
+
+    pub no_room : Same (ask.Do c) (reply.Refused NoMemory)
+    no_room = not_done NoMemory (may_be_memory c) (λ e. absurd (cc)) (λ e. absurd (cc)) stays
+      where
+        may_be_memory : (c : Command) → IsTrue (may_refuse (ask.Do c) NoMemory)
+        may_be_memory (Import c bytes) = refl
+        may_be_memory (Remove c) = refl
+        may_be_memory (Patch from to height) = refl
+        may_be_memory (Burn depth points) = refl
+        may_be_memory (Wall height points) = refl
+
+module _ (m : Mosaic) (capacity k g : ℕ) where
+  abbrev pub old : Held
+  old = held_of capacity m k g
+
+  -- a command that is done
+  pub done : (c : Command) (new : Mosaic) → effect capacity m c ≡ Ok new → new.side ≡ m.side → g < last_number → IsCall table old (ask.Do c) (reply.Done (k + 1)) (held_of capacity new (k + 1) (g + 1))
+  done c new makes side below = record {
+    side = side;
+    capacity = refl;
+    told = record { matches = tt; says = λ failed. absurd (true≢false (sym failed)); had_failed = λ e. absurd (cc); after_is = refl };
+    failures = record { later = omega arith; device = λ e. absurd (cc) };
+    writes = record { few = few_writes c; refused = λ r is other. refl };
+    known = (refl, refl);
+    honest = λ h. h;
+    happens = λ honest s at. (working (contents_of new (k + 1) (g + 1)), (refl, subst (λ (z : State). Applies capacity z c (Ok (k + 1)) (working (contents_of new (k + 1) (g + 1)))) (sym at) accepted, tt));
+  }
+    where
+      accepted : Accepts capacity (working old.contents) c (k + 1) (working (contents_of new (k + 1) (g + 1)))
+      accepted = record {
+        working = refl;
+        effect_is = (new, (makes, ap (λ (l : List Corner). working (record { mosaic = new; count = k + 1; number = g + 1; stale = l })) (sym (all_stale capacity m new c makes))));
+        counted = refl;
+        room = below;
+      }
+
+  -- a call of a table that holds this
+  module _ (held : Held) (view : old ≡ held) (event : Event) (answer : Reply) where
+    pub called : (next : Held) → IsCall table old event answer next → IsCall table held event answer next
+    called next call = subst (λ (h : Held). IsCall table h event answer next) view call
+
+    -- .. and then holds an equal mosaic
+    pub called_same : (new : Mosaic) → new ≡ m → IsCall table old event answer old → IsCall table held event answer (held_of capacity new k g)
+    called_same new is call = called (held_of capacity new k g) (subst (λ (x : Mosaic). IsCall table old event answer (held_of capacity x k g)) (sym is) call)
