@@ -209,13 +209,13 @@ fn a_page_lasts_from_its_commit_on(rt: HostRuntime) -> Result<(), Fail> {
 
 #[test]
 fn images_that_are_no_stores(rt: HostRuntime) -> Result<(), Fail> {
-    // The magic of root A, and of root B its version, its commit number and its capacity.
+    // The magic of root A, and of root B its version, its commit number, its capacity and a byte that has to be zero.
     let table = [
         (1, 0, 0, Refusal::NotAStore),
         (3, 8, 9, Refusal::Version),
         (3, 24, 1, Refusal::Damaged),
         (3, 16, 2, Refusal::TooSmall),
-        (3, 40, 1, Refusal::Damaged),
+        (3, 44, 1, Refusal::Damaged),
     ];
     for (sector, at, byte, refusal) in table {
         let mut disk = committed_once(rt.alloc())?;
