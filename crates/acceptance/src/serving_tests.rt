@@ -3,4 +3,5 @@
 mod basins;
 mod rows;
 mod sessions;
+mod sinks;
 mod stores;

@@ -4,10 +4,11 @@ ghost use Rattle.std.specs.Prelude.{◌≤◌};
 use crate::session::Session;
 use disk::MemDisk;
 use lattice::{Refusal, Side};
+use memory_store::store_in_memory;
 use std::alloc::Global;
 use std::process::Abort;
 use std::test::Fail;
-use store::{Store, store_in_memory};
+use store::Store;
 use table_engine::TableEngine;
 
 /// Room for a store of four tiles of any side here.

@@ -13,7 +13,7 @@ use Rattle.lattice.specs.Lattice.{IsBefore, point_of, holds, index_of}
 use Rattle.lattice.specs.Terrain.{IsPath, end_of, crest, LeadsOut, IsFilledLevel}
 use Rattle.lattice.specs.Mosaic.{Mosaic, Tile, IsMosaic, is_present, void}
 use Rattle.lattice.specs.Ground.{is_ground, is_outlet, is_adjacent, same_point, is_near, share_tile, terrain}
-use Rattle.lattice.specs.Block.{block, is_solid, is_linked, is_rim, rim_number, is_inner_outlet}
+use Rattle.lattice.specs.Block.{block_terrain, is_solid, is_linked, is_rim, rim_number, is_inner_outlet}
 use Rattle.lattice.proofs.Levels.{≤ℤ_trans, le-max_left, le-max_right, max-le, height-le_level, height-le_crest, level_is_unique, level_of_outlet}
 use Rattle.lattice.proofs.Lawful.{terrain_is_lawful, block_is_lawful, five_parts}
 use Rattle.lattice.proofs.Samples.{index_of_point, holds_is, point_of_index, index_of_below, index_of_point_is, point_of_held}
@@ -36,6 +36,7 @@ use Rattle.std.proofs.Math.ListN.{get_or-map}
 use Rattle.std.specs.List.{list_any}
 use Rattle.std.proofs.lemmas.List.Folds.{list_any_at}
 use Rattle.lattice.proofs.Rising.{rising_from, one_index}
+use Rattle.tile_flood.specs.Blocks.{block_of, bare_block}
 use Rattle.lattice.proofs.Interior.{inner_only}
 
 index_of_any : {X : Type 0} (f : X → Bool) (xs : List X) → IsTrue (list_any f xs) → (k : ℕ) × ((k < length xs) × ((d : X) → IsTrue (f (get_or xs k d))))
@@ -93,41 +94,41 @@ module _ (m : Mosaic) (is : IsMosaic m) (summaries : List Summary) (all : AreSum
     pub of : IsSummaryOf m (summary_at summaries t)
     of = all.each t (record { corner = record { lat = pos 0; lon = pos 0 }; rim = []; spills = [] }) small
 
-    part : IsPart (block m.side of.heights) (terrain m) (λ e. point_of m.side (summary_at summaries t).corner e) (is_rim m.side)
-    part = block_is_part m is (summary_at summaries t).corner (present t small) of.heights of.block
+    part : IsPart (block_terrain (block_of m.side of.heights of.sinks)) (terrain m) (λ e. point_of m.side (summary_at summaries t).corner e) (is_rim m.side)
+    part = block_is_part m is (summary_at summaries t).corner (present t small) of.heights of.sinks of.block
 
-    pub ground_at : (e : ℕ) → IsTrue (is_solid m.side of.heights e) → IsTrue (is_ground m (point_of m.side (summary_at summaries t).corner e))
+    pub ground_at : (e : ℕ) → IsTrue (is_solid (bare_block m.side of.heights) e) → IsTrue (is_ground m (point_of m.side (summary_at summaries t).corner e))
     ground_at e solid = part.solid e solid
 
-    pub solid_at : (e : ℕ) → e < m.side * m.side → IsTrue (is_ground m (point_of m.side (summary_at summaries t).corner e)) → IsTrue (is_solid m.side of.heights e)
-    solid_at e inside on = ground_is m is (summary_at summaries t).corner (present t small) of.heights of.block e inside ∙ on
+    pub solid_at : (e : ℕ) → e < m.side * m.side → IsTrue (is_ground m (point_of m.side (summary_at summaries t).corner e)) → IsTrue (is_solid (bare_block m.side of.heights) e)
+    solid_at e inside on = ground_is m is (summary_at summaries t).corner (present t small) of.heights of.sinks of.block e inside ∙ on
 
-    pub height-le_level_at : (e : ℕ) → IsTrue (is_solid m.side of.heights e) → slice_index_or of.heights e void ≤ℤ slice_index_or of.levels e void
-    height-le_level_at e solid = height-le_level (block m.side of.heights) e (slice_index_or of.levels e void) (of.labelling.level e solid)
+    pub height-le_level_at : (e : ℕ) → IsTrue (is_solid (bare_block m.side of.heights) e) → slice_index_or of.heights e void ≤ℤ slice_index_or of.levels e void
+    height-le_level_at e solid = height-le_level (block_terrain (block_of m.side of.heights of.sinks)) e (slice_index_or of.levels e void) (of.labelling.level e solid)
 
-    rim_level : (e : ℕ) → IsTrue (is_solid m.side of.heights e) → IsTrue (is_rim m.side e) → slice_index_or of.levels e void ≡ slice_index_or of.heights e void
-    rim_level e solid rim = level_is_unique (block m.side of.heights) e (slice_index_or of.levels e void) (slice_index_or of.heights e void) (of.labelling.level e solid)
-        (level_of_outlet (block m.side of.heights) (block_is_lawful m.side of.heights) e (rim_is_exit m.side of.heights e solid rim))
+    rim_level : (e : ℕ) → IsTrue (is_solid (bare_block m.side of.heights) e) → IsTrue (is_rim m.side e) → slice_index_or of.levels e void ≡ slice_index_or of.heights e void
+    rim_level e solid rim = level_is_unique (block_terrain (block_of m.side of.heights of.sinks)) e (slice_index_or of.levels e void) (slice_index_or of.heights e void) (of.labelling.level e solid)
+        (level_of_outlet (block_terrain (block_of m.side of.heights of.sinks)) (block_is_lawful (block_of m.side of.heights of.sinks)) e (rim_is_exit m.side of.heights of.sinks e solid rim))
 
     -- the rim point that a label names, reached at the level
     record Named (e : ℕ) : Type 0 where
       r : ℕ
-      solid : IsTrue (is_solid m.side of.heights r)
+      solid : IsTrue (is_solid (bare_block m.side of.heights) r)
       rim : IsTrue (is_rim m.side r)
       number : rim_number m.side r ≡ slice_index of.labels e
       rest : List ℕ
-      path : IsPath (block m.side of.heights) e rest
-      crest_is : crest (block m.side of.heights) e rest ≡ slice_index_or of.levels e void
-      ends : end_of (block m.side of.heights) e rest ≡ r
+      path : IsPath (block_terrain (block_of m.side of.heights of.sinks)) e rest
+      crest_is : crest (block_terrain (block_of m.side of.heights of.sinks)) e rest ≡ slice_index_or of.levels e void
+      ends : end_of (block_terrain (block_of m.side of.heights of.sinks)) e rest ≡ r
 
-    named : (e : ℕ) → IsTrue (is_solid m.side of.heights e) → slice_index of.labels e ≢ OUT → Named e
+    named : (e : ℕ) → IsTrue (is_solid (bare_block m.side of.heights) e) → slice_index of.labels e ≢ OUT → Named e
     named e solid some =
         let label = of.labelling.label e solid in
-        let last = end_of (block m.side of.heights) e label.way.0 in
+        let last = end_of (block_terrain (block_of m.side of.heights of.sinks)) e label.way.0 in
         elim label.way.1.1.1.1 [
           | inl by_rim ↦ record {
             r = last;
-            solid = (block_is_lawful m.side of.heights).outlet_ground last label.way.1.1.1.0;
+            solid = (block_is_lawful (block_of m.side of.heights of.sinks)).outlet_ground last label.way.1.1.1.0;
             rim = by_rim.0;
             number = sym by_rim.1;
             rest = label.way.0;
@@ -138,7 +139,7 @@ module _ (m : Mosaic) (is : IsMosaic m) (summaries : List Summary) (all : AreSum
           | inr out ↦ absurd (some out.1)
         ]
 
-    number_small : (e : ℕ) → IsTrue (is_solid m.side of.heights e) → rim_number m.side e < 4 * (m.side - 1)
+    number_small : (e : ℕ) → IsTrue (is_solid (bare_block m.side of.heights) e) → rim_number m.side e < 4 * (m.side - 1)
     number_small e solid = rim_number_below m.side e is.side_low (solid_below m.side of.heights e solid)
 
     number_is_not_out : (k : ℕ) → k < 4 * (m.side - 1) → k ≢ OUT
@@ -150,12 +151,12 @@ module _ (m : Mosaic) (is : IsMosaic m) (summaries : List Summary) (all : AreSum
       pub inside : e < m.side * m.side
       pub rim : IsTrue (is_rim m.side e)
       pub number : rim_number m.side e ≡ k
-      pub solid : IsTrue (is_solid m.side of.heights e)
+      pub solid : IsTrue (is_solid (bare_block m.side of.heights) e)
       pub height : (rim_point (summary_at summaries t) k).height ≡ slice_index_or of.heights e void
       pub label : (rim_point (summary_at summaries t) k).label ≡ slice_index of.labels e
       pub outlet : (rim_point (summary_at summaries t) k).outlet ≡ is_outlet m (point_of m.side (summary_at summaries t).corner e)
 
-    rim_at : (e : ℕ) → e < m.side * m.side → IsTrue (is_rim m.side e) → IsTrue (is_solid m.side of.heights e) → At (rim_number m.side e)
+    rim_at : (e : ℕ) → e < m.side * m.side → IsTrue (is_rim m.side e) → IsTrue (is_solid (bare_block m.side of.heights) e) → At (rim_number m.side e)
     rim_at e inside rim solid = record {
       e = e;
       inside = inside;
@@ -174,7 +175,7 @@ module _ (m : Mosaic) (is : IsMosaic m) (summaries : List Summary) (all : AreSum
         subst (λ j. (rim_point (summary_at summaries t) j).height ≡ slice_index_or of.heights found.0 void) found.1.number (of.rim.height found.0 found.1.small found.1.rim) in
         subst At found.1.number (rim_at found.0 found.1.small found.1.rim (solid_if m.side of.heights found.0 found.1.small (not_void (slice_index_or of.heights found.0 void) (λ gap. there.solid (height ∙ gap)))))
 
-    pub there_at : (e : ℕ) → e < m.side * m.side → IsTrue (is_rim m.side e) → IsTrue (is_solid m.side of.heights e) → IsThere m.side summaries t (rim_number m.side e)
+    pub there_at : (e : ℕ) → e < m.side * m.side → IsTrue (is_rim m.side e) → IsTrue (is_solid (bare_block m.side of.heights) e) → IsThere m.side summaries t (rim_number m.side e)
     there_at e inside rim solid = record {
       tile = small;
       number = number_small e solid;
@@ -188,21 +189,21 @@ module _ (m : Mosaic) (is : IsMosaic m) (summaries : List Summary) (all : AreSum
     named_is e k n a label = one_rim_point m.side n.r a.e is.side_low (solid_below m.side of.heights n.r n.solid) a.inside n.rim a.rim (n.number ∙ (label ∙ sym a.number))
 
     module _ (level : ℤ) where
-      forth : (e : ℕ) (rest : List ℕ) → IsPath (block m.side of.heights) e rest → crest (block m.side of.heights) e rest ≤ℤ level →
-          WayOut (terrain m) level (point_of m.side (summary_at summaries t).corner (end_of (block m.side of.heights) e rest)) → WayOut (terrain m) level (point_of m.side (summary_at summaries t).corner e)
+      forth : (e : ℕ) (rest : List ℕ) → IsPath (block_terrain (block_of m.side of.heights of.sinks)) e rest → crest (block_terrain (block_of m.side of.heights of.sinks)) e rest ≤ℤ level →
+          WayOut (terrain m) level (point_of m.side (summary_at summaries t).corner (end_of (block_terrain (block_of m.side of.heights of.sinks)) e rest)) → WayOut (terrain m) level (point_of m.side (summary_at summaries t).corner e)
       forth e rest path low way =
           let at : ℕ → Point = λ e. point_of m.side (summary_at summaries t).corner e in
-          along (terrain m) level (at e) (map at rest) (path_onto (block m.side of.heights) (terrain m) at (is_rim m.side) part (block_is_lawful m.side of.heights) e rest path)
-          (subst (λ v. v ≤ℤ level) (sym (crest_onto (block m.side of.heights) (terrain m) at (is_rim m.side) part (block_is_lawful m.side of.heights) e rest path)) low)
-          (subst (λ p. WayOut (terrain m) level p) (sym (end_onto (block m.side of.heights) (terrain m) at (is_rim m.side) part (block_is_lawful m.side of.heights) e rest)) way)
+          along (terrain m) level (at e) (map at rest) (path_onto (block_terrain (block_of m.side of.heights of.sinks)) (terrain m) at (is_rim m.side) part (block_is_lawful (block_of m.side of.heights of.sinks)) e rest path)
+          (subst (λ v. v ≤ℤ level) (sym (crest_onto (block_terrain (block_of m.side of.heights of.sinks)) (terrain m) at (is_rim m.side) part (block_is_lawful (block_of m.side of.heights of.sinks)) e rest path)) low)
+          (subst (λ p. WayOut (terrain m) level p) (sym (end_onto (block_terrain (block_of m.side of.heights of.sinks)) (terrain m) at (is_rim m.side) part (block_is_lawful (block_of m.side of.heights of.sinks)) e rest)) way)
 
-      home : (e : ℕ) (rest : List ℕ) → IsPath (block m.side of.heights) e rest → crest (block m.side of.heights) e rest ≤ℤ level →
-          WayOut (terrain m) level (point_of m.side (summary_at summaries t).corner e) → WayOut (terrain m) level (point_of m.side (summary_at summaries t).corner (end_of (block m.side of.heights) e rest))
+      home : (e : ℕ) (rest : List ℕ) → IsPath (block_terrain (block_of m.side of.heights of.sinks)) e rest → crest (block_terrain (block_of m.side of.heights of.sinks)) e rest ≤ℤ level →
+          WayOut (terrain m) level (point_of m.side (summary_at summaries t).corner e) → WayOut (terrain m) level (point_of m.side (summary_at summaries t).corner (end_of (block_terrain (block_of m.side of.heights of.sinks)) e rest))
       home e rest path low way =
           let at : ℕ → Point = λ e. point_of m.side (summary_at summaries t).corner e in
-          subst (λ p. WayOut (terrain m) level p) (end_onto (block m.side of.heights) (terrain m) at (is_rim m.side) part (block_is_lawful m.side of.heights) e rest)
-          (back (terrain m) (terrain_is_lawful m) level (at e) (map at rest) (path_onto (block m.side of.heights) (terrain m) at (is_rim m.side) part (block_is_lawful m.side of.heights) e rest path)
-          (subst (λ v. v ≤ℤ level) (sym (crest_onto (block m.side of.heights) (terrain m) at (is_rim m.side) part (block_is_lawful m.side of.heights) e rest path)) low) way)
+          subst (λ p. WayOut (terrain m) level p) (end_onto (block_terrain (block_of m.side of.heights of.sinks)) (terrain m) at (is_rim m.side) part (block_is_lawful (block_of m.side of.heights of.sinks)) e rest)
+          (back (terrain m) (terrain_is_lawful m) level (at e) (map at rest) (path_onto (block_terrain (block_of m.side of.heights of.sinks)) (terrain m) at (is_rim m.side) part (block_is_lawful (block_of m.side of.heights of.sinks)) e rest path)
+          (subst (λ v. v ≤ℤ level) (sym (crest_onto (block_terrain (block_of m.side of.heights of.sinks)) (terrain m) at (is_rim m.side) part (block_is_lawful (block_of m.side of.heights of.sinks)) e rest path)) low) way)
 
       to_named : (e : ℕ) (n : Named e) → slice_index_or of.levels e void ≤ℤ level →
           WayOut (terrain m) level (point_of m.side (summary_at summaries t).corner n.r) → WayOut (terrain m) level (point_of m.side (summary_at summaries t).corner e)
@@ -213,27 +214,27 @@ module _ (m : Mosaic) (is : IsMosaic m) (summaries : List Summary) (all : AreSum
       from_named e n low way = subst (λ r. WayOut (terrain m) level (point_of m.side (summary_at summaries t).corner r)) n.ends (home e n.rest n.path (subst (λ v. v ≤ℤ level) (sym n.crest_is) low) way)
 
       -- an inner outlet that is reached
-      out_below : (e : ℕ) → IsTrue (is_solid m.side of.heights e) → slice_index of.labels e ≡ OUT → slice_index_or of.levels e void ≤ℤ level →
+      out_below : (e : ℕ) → IsTrue (is_solid (bare_block m.side of.heights) e) → slice_index of.labels e ≡ OUT → slice_index_or of.levels e void ≤ℤ level →
           WayOut (terrain m) level (point_of m.side (summary_at summaries t).corner e)
       out_below e solid out low =
           let at : ℕ → Point = λ e. point_of m.side (summary_at summaries t).corner e in
           let label = of.labelling.label e solid in
           let rest = label.way.0 in
-          let last = end_of (block m.side of.heights) e rest in
+          let last = end_of (block_terrain (block_of m.side of.heights of.sinks)) e rest in
           let path = label.way.1.0 in
-          let solid_last : IsTrue (is_solid m.side of.heights last) = (block_is_lawful m.side of.heights).outlet_ground last label.way.1.1.1.0 in
-          let crest_low : crest (block m.side of.heights) e rest ≤ℤ level = subst (λ v. v ≤ℤ level) (sym label.way.1.1.0) low in
+          let solid_last : IsTrue (is_solid (bare_block m.side of.heights) last) = (block_is_lawful (block_of m.side of.heights of.sinks)).outlet_ground last label.way.1.1.1.0 in
+          let crest_low : crest (block_terrain (block_of m.side of.heights of.sinks)) e rest ≤ℤ level = subst (λ v. v ≤ℤ level) (sym label.way.1.1.0) low in
           elim label.way.1.1.1.1 [
             | inl by_rim ↦ absurd (number_is_not_out (rim_number m.side last) (number_small last solid_last) (sym by_rim.1 ∙ out))
             | inr inner ↦ forth e rest path crest_low (record {
               rest = [];
-              out = record { path = ground_at last solid_last; outlet = inner_outlet_is_outlet m is (summary_at summaries t).corner (present t small) of.heights of.block last inner.0 };
-              below = subst (λ v. v ≤ℤ level) (part.heights last solid_last) (≤ℤ_trans (slice_index_or of.heights last void) (crest (block m.side of.heights) e rest) level (end-le_crest (block m.side of.heights) e rest) crest_low);
+              out = record { path = ground_at last solid_last; outlet = inner_outlet_is_outlet m is (summary_at summaries t).corner (present t small) of.heights of.sinks of.block last inner.0 };
+              below = subst (λ v. v ≤ℤ level) (part.heights last solid_last) (≤ℤ_trans (slice_index_or of.heights last void) (crest (block_terrain (block_of m.side of.heights of.sinks)) e rest) level (end-le_crest (block_terrain (block_of m.side of.heights of.sinks)) e rest) crest_low);
             })
           ]
 
       -- over two adjacent points
-      over : (e f : ℕ) → IsTrue (is_linked m.side of.heights e f) → slice_index_or of.levels e void ≤ℤ level → slice_index_or of.levels f void ≤ℤ level →
+      over : (e f : ℕ) → IsTrue (is_linked (bare_block m.side of.heights) e f) → slice_index_or of.levels e void ≤ℤ level → slice_index_or of.levels f void ≤ℤ level →
           WayOut (terrain m) level (point_of m.side (summary_at summaries t).corner f) → WayOut (terrain m) level (point_of m.side (summary_at summaries t).corner e)
       over e f link low_e low_f way =
           let both = linked_parts m.side of.heights e f link in
@@ -242,13 +243,13 @@ module _ (m : Mosaic) (is : IsMosaic m) (summaries : List Summary) (all : AreSum
           (≤ℤ_trans (slice_index_or of.heights f void) (slice_index_or of.levels f void) level (height-le_level_at f both.to) low_f)) way
 
       -- to a point with the label of a rim point, and back
-      to_rim : (k : ℕ) (a : At k) (e : ℕ) → IsTrue (is_solid m.side of.heights e) → slice_index of.labels e ≡ k → slice_index_or of.levels e void ≤ℤ level →
+      to_rim : (k : ℕ) (a : At k) (e : ℕ) → IsTrue (is_solid (bare_block m.side of.heights) e) → slice_index of.labels e ≡ k → slice_index_or of.levels e void ≤ℤ level →
           WayOut (terrain m) level (point_of m.side (summary_at summaries t).corner a.e) → WayOut (terrain m) level (point_of m.side (summary_at summaries t).corner e)
       to_rim k a e solid label low way =
           let n = named e solid (λ out. number_is_not_out k (subst (λ j. j < 4 * (m.side - 1)) a.number (number_small a.e a.solid)) (sym label ∙ out)) in
           to_named e n low (subst (λ r. WayOut (terrain m) level (point_of m.side (summary_at summaries t).corner r)) (sym (named_is e k n a label)) way)
 
-      from_rim : (k : ℕ) (a : At k) (e : ℕ) → IsTrue (is_solid m.side of.heights e) → slice_index of.labels e ≡ k → slice_index_or of.levels e void ≤ℤ level →
+      from_rim : (k : ℕ) (a : At k) (e : ℕ) → IsTrue (is_solid (bare_block m.side of.heights) e) → slice_index of.labels e ≡ k → slice_index_or of.levels e void ≤ℤ level →
           WayOut (terrain m) level (point_of m.side (summary_at summaries t).corner e) → WayOut (terrain m) level (point_of m.side (summary_at summaries t).corner a.e)
       from_rim k a e solid label low way =
           let n = named e solid (λ out. number_is_not_out k (subst (λ j. j < 4 * (m.side - 1)) a.number (number_small a.e a.solid)) (sym label ∙ out)) in
@@ -299,7 +300,7 @@ module _ (m : Mosaic) (is : IsMosaic m) (summaries : List Summary) (all : AreSum
           meets.points.1,
           meets.points.0,
           (
-            (block_is_lawful m.side of.heights).both_ways meets.points.0 meets.points.1 meets.points.2.0,
+            (block_is_lawful (block_of m.side of.heights of.sinks)).both_ways meets.points.0 meets.points.1 meets.points.2.0,
             (meets.points.2.1.1.0, (meets.points.2.1.0, max-swap (slice_index_or of.levels meets.points.1 void) (slice_index_or of.levels meets.points.0 void) ∙ meets.points.2.1.1.1)),
           ),
         );
@@ -362,7 +363,7 @@ module _ (m : Mosaic) (is : IsMosaic m) (summaries : List Summary) (all : AreSum
 
   module _ (level : ℤ) (t : ℕ) (small : t < length summaries) where
     -- from a rim point to what its label names, and back
-    of_node : (e : ℕ) → e < m.side * m.side → IsTrue (is_rim m.side e) → IsTrue (is_solid m.side (of t small).heights e) → slice_index_or (of t small).heights e void ≤ℤ level →
+    of_node : (e : ℕ) → e < m.side * m.side → IsTrue (is_rim m.side e) → IsTrue (is_solid (bare_block m.side (of t small).heights) e) → slice_index_or (of t small).heights e void ≤ℤ level →
         (slice_index (of t small).labels e ≡ OUT) ⊎ WayBelow level (Rim t (slice_index (of t small).labels e)) → WayBelow level (Rim t (rim_number m.side e))
     of_node e inside rim solid low drains = elim (cases_eq (slice_index (of t small).labels e) OUT) [
       | inl out ↦ step_to level (Rim t (rim_number m.side e)) Outlet
@@ -378,7 +379,7 @@ module _ (m : Mosaic) (is : IsMosaic m) (summaries : List Summary) (all : AreSum
       ]
     ]
 
-    to_label : (e : ℕ) → e < m.side * m.side → IsTrue (is_rim m.side e) → IsTrue (is_solid m.side (of t small).heights e) → slice_index_or (of t small).heights e void ≤ℤ level →
+    to_label : (e : ℕ) → e < m.side * m.side → IsTrue (is_rim m.side e) → IsTrue (is_solid (bare_block m.side (of t small).heights) e) → slice_index_or (of t small).heights e void ≤ℤ level →
         WayBelow level (Rim t (rim_number m.side e)) → (slice_index (of t small).labels e ≡ OUT) ⊎ WayBelow level (Rim t (slice_index (of t small).labels e))
     to_label e inside rim solid low way = elim (cases_eq (slice_index (of t small).labels e) OUT) [
       | inl out ↦ inl out
@@ -399,8 +400,8 @@ module _ (m : Mosaic) (is : IsMosaic m) (summaries : List Summary) (all : AreSum
         elim (cases_Bool (is_rim m.side e)) [
           | inl rim ↦ to_label e inside rim solid low (step_to level (Rim t (rim_number m.side e)) Outlet
               (slice_index_or (of t small).heights e void, ((there_at t small e inside rim solid, inl (record { outlet = (of t small).rim.outlet e inside rim on ∙ out; height = (of t small).rim.height e inside rim })), low)) (at_outlet level))
-          | inr off ↦ elim (or_cases (is_solid m.side (of t small).heights e && is_rim m.side e) (is_inner_outlet m.side (of t small).heights e) ((part t small).outlets e solid out)) [
-            | inl rim ↦ absurd (true≢false (sym (and_parts (is_solid m.side (of t small).heights e) (is_rim m.side e) rim).1 ∙ off))
+          | inr off ↦ elim (or_cases (is_solid (bare_block m.side (of t small).heights) e && is_rim m.side e) (is_inner_outlet (block_of m.side (of t small).heights (of t small).sinks) e) ((part t small).outlets e solid out)) [
+            | inl rim ↦ absurd (true≢false (sym (and_parts (is_solid (bare_block m.side (of t small).heights) e) (is_rim m.side e) rim).1 ∙ off))
             | inr inner ↦ inl (((of t small).labelling.label e solid).inner_outlet inner)
           ]
         ]
@@ -419,7 +420,7 @@ module _ (m : Mosaic) (is : IsMosaic m) (summaries : List Summary) (all : AreSum
           ),
         )
 
-    over_drains : (e f : ℕ) → IsTrue (is_linked m.side (of t small).heights e f) → slice_index_or (of t small).levels e void ≤ℤ level → slice_index_or (of t small).levels f void ≤ℤ level →
+    over_drains : (e f : ℕ) → IsTrue (is_linked (bare_block m.side (of t small).heights) e f) → slice_index_or (of t small).levels e void ≤ℤ level → slice_index_or (of t small).levels f void ≤ℤ level →
         (slice_index (of t small).labels f ≡ OUT) ⊎ WayBelow level (Rim t (slice_index (of t small).labels f)) → (slice_index (of t small).labels e ≡ OUT) ⊎ WayBelow level (Rim t (slice_index (of t small).labels e))
     over_drains e f link low_e low_f drains =
         let labels = (of t small).labels in
@@ -466,12 +467,12 @@ module _ (m : Mosaic) (is : IsMosaic m) (summaries : List Summary) (all : AreSum
         other_way a b other more = omega arith
 
   -- a point's level inside the tile is no more than the crest of a way out
-  low_level : (t : ℕ) (small : t < length summaries) (e : ℕ) (p : Point) (rest : List Point) → IsTrue (is_solid m.side (of t small).heights e) → point_of m.side (summary_at summaries t).corner e ≡ p → LeadsOut (terrain m) p rest →
+  low_level : (t : ℕ) (small : t < length summaries) (e : ℕ) (p : Point) (rest : List Point) → IsTrue (is_solid (bare_block m.side (of t small).heights) e) → point_of m.side (summary_at summaries t).corner e ≡ p → LeadsOut (terrain m) p rest →
       {level : ℤ} → crest (terrain m) p rest ≤ℤ level → slice_index_or (of t small).levels e void ≤ℤ level
   low_level t small e p rest solid at out {level} low =
-      let inside = way_in_part (block m.side (of t small).heights) (terrain m) (λ e. point_of m.side (summary_at summaries t).corner e) (is_rim m.side) (part t small) (block_is_lawful m.side (of t small).heights) e p rest solid at out in
-      ≤ℤ_trans (slice_index_or (of t small).levels e void) (crest (block m.side (of t small).heights) e inside.0) level (((of t small).labelling.level e solid).least inside.0 inside.1.0)
-      (≤ℤ_trans (crest (block m.side (of t small).heights) e inside.0) (crest (terrain m) p rest) level inside.1.1 low)
+      let inside = way_in_part (block_terrain (block_of m.side (of t small).heights (of t small).sinks)) (terrain m) (λ e. point_of m.side (summary_at summaries t).corner e) (is_rim m.side) (part t small) (block_is_lawful (block_of m.side (of t small).heights (of t small).sinks)) e p rest solid at out in
+      ≤ℤ_trans (slice_index_or (of t small).levels e void) (crest (block_terrain (block_of m.side (of t small).heights (of t small).sinks)) e inside.0) level (((of t small).labelling.level e solid).least inside.0 inside.1.0)
+      (≤ℤ_trans (crest (block_terrain (block_of m.side (of t small).heights (of t small).sinks)) e inside.0) (crest (terrain m) p rest) level inside.1.1 low)
 
   -- no other tile holds a point off the rim of one
   inner_held : (t u : ℕ) → t < length summaries → u < length summaries → (e : ℕ) → e < m.side * m.side → is_rim m.side e ≡ false →
@@ -565,7 +566,7 @@ module _ (m : Mosaic) (is : IsMosaic m) (summaries : List Summary) (all : AreSum
       let at_j : point_of m.side c j ≡ q = point_of_index m.side c q held_q in
       let solid_i = solid_at u h.small i in_i (subst (λ v. IsTrue (is_ground m v)) (sym at_i) five.first) in
       let solid_j = solid_at u h.small j in_j (subst (λ v. IsTrue (is_ground m v)) (sym at_j) five.second) in
-      let link : IsTrue (is_linked m.side (of u h.small).heights i j) = adjacent_in_tile m is c (present u h.small) (of u h.small).heights (of u h.small).block i j in_i in_j
+      let link : IsTrue (is_linked (bare_block m.side (of u h.small).heights) i j) = adjacent_in_tile m is c (present u h.small) (of u h.small).heights (of u h.small).sinks (of u h.small).block i j in_i in_j
       (subst (λ v. IsTrue (is_adjacent m v (point_of m.side c j))) (sym at_i) (subst (λ v. IsTrue (is_adjacent m p v)) (sym at_j) beside)) in
       moved level p t u small h.small e i inside in_i at at_i five.first low_p
       (over_drains level u h.small i j link (low_level u h.small i p (q ∷ rest) solid_i at_i out low) (low_level u h.small j q rest solid_j at_j on low_q)

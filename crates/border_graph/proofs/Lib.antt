@@ -9,3 +9,6 @@ pub mod Rims
 pub mod Shared
 pub mod Surge
 pub mod Ways
+pub mod Tabulated
+pub mod SpillsExist
+pub mod SummariesExist

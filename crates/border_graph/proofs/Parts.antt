@@ -31,7 +31,7 @@ module _ (m : Mosaic) (is : IsMosaic m) (summaries : List Summary) (all : AreSum
       same n k low side h = omega arith
 
   pub some_side : HaveNoSide summaries → ⊥
-  some_side none = none m.side is.side_low is.side_high have_side
+  some_side none = none m.side (is.side_low, is.side_high) have_side
 
   -- the parts are the filled levels of the rims
   pub parts_are_joined : (n : ℕ) (links : List (List Link)) (levels : List ℤ) (rims : List (List ℤ)) → n ≡ m.side → (AreInOrder summaries → AreLinked n summaries links) →

@@ -39,8 +39,8 @@ module _ (m : Mosaic) (is : IsMosaic m) (summaries : List Summary) (all : AreSum
       let e = meets.points.0 in
       let f = meets.points.1 in
       let both = linked_parts m.side o.heights e f meets.points.2.0 in
-      let least = lowest_height m is (summary_at summaries t).corner o.heights o.block in
-      let full : slice_index_or o.levels f void ≢ void = solid_has_level m.side o.heights o.levels o.labels least o.labelling f both.to in
+      let least = lowest_height m is (summary_at summaries t).corner o.heights o.block.heights in
+      let full : slice_index_or o.levels f void ≢ void = solid_has_level m.side o.heights o.sinks o.levels o.labels least o.labelling f both.to in
       let low : void ≤ℤ slice_index_or o.levels f void = ≤ℤ_trans void (slice_index_or o.heights f void) (slice_index_or o.levels f void) (least f) (height-le_level_at m is summaries all t small f both.to) in
       λ same. (max_not_void (slice_index_or o.levels e void) (slice_index_or o.levels f void) (low, full)).1 (meets.points.2.1.1.1 ∙ same)
 

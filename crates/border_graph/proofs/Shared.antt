@@ -50,7 +50,7 @@ module _ (summaries : List Summary) (order : AreInOrder summaries) (low : ℕ) (
       itself h = before_apart (summary_at summaries u).corner c h is
 
 -- a point on the rim of a tile is on the rim of each that holds it
-rim_of_other : (n : ℕ) (c other : Corner) (p : Point) (k e : ℕ) → 3 ≤ n → IsOfRim n c k p → IsIndexOf n other p e → IsTrue (is_rim n e)
+pub rim_of_other : (n : ℕ) (c other : Corner) (p : Point) (k e : ℕ) → 3 ≤ n → IsOfRim n c k p → IsIndexOf n other p e → IsTrue (is_rim n e)
 rim_of_other n c other p k e side here there = elim (cases_Bool (is_rim n e)) [
   | inl on ↦ on
   | inr off ↦
@@ -59,16 +59,16 @@ rim_of_other n c other p k e side here there = elim (cases_Bool (is_rim n e)) [
       subst (λ i. IsTrue (is_rim n i)) index here.rim
 ]
 
-rim_number_is : (n : ℕ) (c : Corner) (k : ℕ) (p : Point) → IsOfRim n c k p → IsRimNumberOf n c k p
+pub rim_number_is : (n : ℕ) (c : Corner) (k : ℕ) (p : Point) → IsOfRim n c k p → IsRimNumberOf n c k p
 rim_number_is n c k p h = record { index = h.index; small = index_below n c p h.index h.at; rim = h.rim; number = h.number; point = point_at_index n c p h.index h.at }
 
-one_point : (n : ℕ) (c : Corner) (k : ℕ) (p q : Point) → 3 ≤ n → IsRimNumberOf n c k p → IsRimNumberOf n c k q → p ≡ q
+pub one_point : (n : ℕ) (c : Corner) (k : ℕ) (p q : Point) → 3 ≤ n → IsRimNumberOf n c k p → IsRimNumberOf n c k q → p ≡ q
 one_point n c k p q side a b =
     let same : a.index ≡ b.index = one_rim_point n a.index b.index side a.small b.small a.rim b.rim (a.number ∙ sym b.number) in
     sym a.point ∙ (ap (λ e. point_of n c e) same ∙ b.point)
 
 -- the index of a shared point
-index_in_other : (n : ℕ) (c other : Corner) (k l : ℕ) (p q : Point) → 3 ≤ n → IsTrue (is_corner other) → IsOfRim n c k p → IsRimNumberOf n c k q → (there : IsRimNumberOf n other l q) → IsIndexOf n other p there.index
+pub index_in_other : (n : ℕ) (c other : Corner) (k l : ℕ) (p q : Point) → 3 ≤ n → IsTrue (is_corner other) → IsOfRim n c k p → IsRimNumberOf n c k q → (there : IsRimNumberOf n other l q) → IsIndexOf n other p there.index
 index_in_other n c other k l p q side corner here same there =
     let point : point_of n other there.index ≡ p = there.point ∙ sym (one_point n c k p q side (rim_number_is n c k p here) same) in
     subst (λ r. IsIndexOf n other r there.index) point (index_of_point n other there.index (omega arith) corner there.small)

@@ -7,6 +7,7 @@ use Rattle.lattice.specs.Lattice.{point_of}
 use Rattle.lattice.specs.Mosaic.{Mosaic, void}
 use Rattle.lattice.specs.Ground.{is_ground, is_outlet}
 use Rattle.lattice.specs.Block.{IsBlockOf, is_rim, rim_number}
+use Rattle.tile_flood.specs.Blocks.{block_of}
 use Rattle.tile_flood.specs.Labelling.{IsLabelling, OUT, NO_LABEL}
 use Rattle.tile_flood.specs.Spills.{AreSpills}
 use Rattle.border_graph.specs.declared.summary.RimPoint.{RimPoint}
@@ -32,10 +33,11 @@ pub record IsRimOf (m : Mosaic) (c : Corner) (heights : List ℤ) (labels : List
 -- the summary of a valid labelling of the tile's block
 pub record IsSummaryOf (m : Mosaic) (b : Summary) : Type 0 where
   pub heights : List ℤ
+  pub sinks : List ℕ
   pub levels : List ℤ
   pub labels : List ℕ
-  pub block : IsBlockOf m b.corner heights
-  pub labelling : IsLabelling m.side heights levels labels
+  pub block : IsBlockOf m b.corner (block_of m.side heights sinks)
+  pub labelling : IsLabelling (block_of m.side heights sinks) levels labels
   pub spills : AreSpills m.side heights levels labels b.spills
   pub rim : IsRimOf m b.corner heights labels b
 

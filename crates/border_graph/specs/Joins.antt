@@ -1,5 +1,6 @@
 -- What joining gives.
-use Rattle.std.specs.Prelude.{◌≡◌, ◌≢◌, ◌⊎◌, ℕ, ◌+◌, ◌-◌, ◌*◌, ◌<◌, ◌≤◌, ℤ, List, [], length, slice_index_or}
+use Rattle.std.specs.Prelude.{◌≡◌, ◌≢◌, ◌⊎◌, ℕ, ◌+◌, ◌-◌, ◌*◌, ◌<◌, ℤ, List, [], length, slice_index_or}
+use Rattle.lattice.specs.Limits.{IsSide}
 use Rattle.lattice.specs.Mosaic.{Mosaic, void}
 use Rattle.tile_flood.specs.Raising.{AreRimLevels}
 use Rattle.border_graph.specs.Summaries.{Summary}
@@ -14,7 +15,7 @@ IsSideOf n summaries = (t : ℕ) → t < length summaries → length (summary_at
 
 -- no side is that of all tiles
 abbrev pub HaveNoSide : List Summary → Type 0
-HaveNoSide summaries = (n : ℕ) → 3 ≤ n → n ≤ 3601 → IsSideOf n summaries → ⊥
+HaveNoSide summaries = (n : ℕ) → IsSide n → IsSideOf n summaries → ⊥
 
 -- the filled levels of the rim of each tile, in the order of tiles
 pub record AreJoined (m : Mosaic) (summaries : List Summary) (joined : List (List ℤ)) : Type 0 where

@@ -29,6 +29,12 @@ pub record IsAddedTo (old new : List (List Link)) (to : ℕ) (link : Link) : Typ
   pub others : AreListedStill old new
   pub only : (x y : ℕ) (level : ℤ) → IsListed new x y level → ((x ≡ link.from) × (y ≡ to) × (level ≡ link.level)) ⊎ IsListed old x y level
 
+-- the links between the two nodes are listed from now on, one each way
+pub record AreAddedBetween (old new : List (List Link)) (a b : ℕ) (level : ℤ) : Type 0 where
+  pub half : List (List Link)
+  pub there : IsAddedTo old half b (record { level = level; from = a })
+  pub back : IsAddedTo half new a (record { level = level; from = b })
+
 -- what is listed so far are links
 pub record AreSoFar (n : ℕ) (summaries : List Summary) (links : List (List Link)) : Type 0 where
   pub whole : length links ≡ 1 + length summaries * (4 * (n - 1))

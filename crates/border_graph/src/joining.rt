@@ -1,5 +1,6 @@
 //! From the summaries of all tiles to the filled levels on their rims.
 ghost use Rattle.std.specs.Prelude.{ℕ, IsTrue, IsFalse, ◌↔◌, ◌≡◌, ◌+◌, ◌*◌, ◌-◌, ◌<◌, ◌≤◌, ◌⊎◌, IfOk, IfErr, IfSome, IfNone, length, map};
+ghost use Rattle.lattice.specs.Limits.{IsSide};
 ghost use Rattle.lattice.specs.Mosaic.{Mosaic, IsMosaic};
 ghost use Rattle.lattice.specs.declared.refusal.Refusal.TheVariants.{NoMemory, Damaged};
 ghost use Rattle.border_graph.specs.Joining.{AreSummaries, summary_at};
@@ -40,7 +41,7 @@ pub fn join(alloc: Global, summaries: &[Summary]) -> Result<Vec<Vec<i16>>, Refus
 
 // Whether each ground rim point has a level.
 fn are_levelled(n: usize, summaries: &[Summary], levels: &[i16]) -> bool
-    requires side { (3 ≤ n) × (n ≤ 3601) }
+    requires side { IsSide n }
     requires room { length levels.now ≡ 1 + length summaries.now * (4 * (n - 1)) }
     ensures all { IsTrue result → (t k : ℕ) → IsUnlevelled n summaries.now levels.now t k → ⊥ }
     ensures some { IsFalse result → (t : ℕ) × (k : ℕ) × IsUnlevelled n summaries.now levels.now t k }
@@ -55,7 +56,7 @@ fn are_levelled(n: usize, summaries: &[Summary], levels: &[i16]) -> bool
 
 // Whether each ground rim point of a tile has a level.
 fn is_levelled(n: usize, summaries: &[Summary], levels: &[i16], t: usize) -> bool
-    requires side { (3 ≤ n) × (n ≤ 3601) }
+    requires side { IsSide n }
     requires room { length levels.now ≡ 1 + length summaries.now * (4 * (n - 1)) }
     requires t { t < length summaries.now }
     ensures all { IsTrue result → (k : ℕ) → IsUnlevelled n summaries.now levels.now t k → ⊥ }
@@ -71,7 +72,7 @@ fn is_levelled(n: usize, summaries: &[Summary], levels: &[i16], t: usize) -> boo
 
 // Whether this is a ground rim point without a level.
 fn is_unlevelled(n: usize, summaries: &[Summary], levels: &[i16], t: usize, k: usize) -> bool
-    requires side { (3 ≤ n) × (n ≤ 3601) }
+    requires side { IsSide n }
     requires room { length levels.now ≡ 1 + length summaries.now * (4 * (n - 1)) }
     requires t { t < length summaries.now }
     requires k { k < 4 * (n - 1) }

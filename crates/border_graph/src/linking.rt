@@ -1,9 +1,10 @@
 //! The links between the rim points of all tiles.
 ghost use Rattle.std.specs.Prelude.{◌≡◌, Contains, ◌+◌, ◌*◌, ◌-◌, ◌<◌, ◌≤◌, ℕ, [], IfSome, IfNone, IfOk, IfErr, OnOk, length, map, vec_len, slice_index_or};
+ghost use Rattle.lattice.specs.Limits.{IsSide};
 ghost use Rattle.border_graph.specs.Joining.{IsThere, IsThereAt, Rim, summary_at};
 ghost use Rattle.lattice.specs.declared.refusal.Refusal.TheVariants.{NoMemory};
 ghost use Rattle.border_graph.specs.Sharing.{AreInOrder, IsPointListed, IsTileListed};
-ghost use Rattle.border_graph.specs.Linking.{AreLinked, IsAddedTo, AreSoFar, AreSpillsListed, IsSpillListed, AreListedStill, AreOutletsListed, AreLabelsListed, node_number};
+ghost use Rattle.border_graph.specs.Linking.{AreLinked, IsAddedTo, AreAddedBetween, AreSoFar, AreSpillsListed, IsSpillListed, AreListedStill, AreOutletsListed, AreLabelsListed, node_number};
 
 use crate::sharing::link_shared;
 use crate::summary::{RimPoint, Summary};
@@ -19,7 +20,7 @@ pub(crate) fn ground_rim_point(
     t: usize,
     k: usize,
 ) -> Option<RimPoint>
-    requires side { (3 ≤ n) × (n ≤ 3601) }
+    requires side { IsSide n }
     requires t { t < length summaries.now }
     ensures none { IfNone result (IsThere n summaries.now t k → ⊥) }
     ensures some { IfSome result (λ point. IsThereAt n summaries.now t k point) }
@@ -44,9 +45,19 @@ pub(crate) fn add(links: &mut Vec<Vec<Link>>, to: usize, link: Link) -> Result<(
     Ok(())
 }
 
+// Lists the links between the two nodes, one each way.
+fn add_between(links: &mut Vec<Vec<Link>>, a: usize, b: usize, level: i16) -> Result<(), AllocError>
+    requires { (a < vec_len links.old) × (b < vec_len links.old) }
+    ensures { OnOk result (AreAddedBetween (map (λ v. v.items) links.old.items) (map (λ v. v.items) links.new.items) a b level) }
+{
+    add(links, b, Link { level, from: a })?;
+    add(links, a, Link { level, from: b })?;
+    Ok(())
+}
+
 // The number of a rim point in the list of all nodes.
 pub(crate) fn node_number(n: usize, nodes: usize, t: usize, k: usize) -> usize
-    requires side { (3 ≤ n) × (n ≤ 3601) }
+    requires side { IsSide n }
     requires room { 1 + t * (4 * (n - 1)) + k < nodes }
     ensures { result ≡ node_number n (Rim t k) }
 {
@@ -61,7 +72,7 @@ fn link_outlet(
     k: usize,
     links: &mut Vec<Vec<Link>>,
 ) -> Result<(), AllocError>
-    requires side { (3 ≤ n) × (n ≤ 3601) }
+    requires side { IsSide n }
     requires t { t < length summaries.now }
     requires so_far { AreSoFar n summaries.now (map (λ v. v.items) links.old.items) }
     ensures so_far { OnOk result (AreSoFar n summaries.now (map (λ v. v.items) links.new.items)) }
@@ -76,14 +87,8 @@ fn link_outlet(
     }
     let nodes = links.len();
     let from = node_number(n, nodes, t, k);
-    add(
-        links,
-        0,
-        Link {
-            level: point.height,
-            from,
-        },
-    )?;
+    let level = point.height;
+    add(links, 0, Link { level, from })?;
     Ok(())
 }
 
@@ -95,7 +100,7 @@ fn link_label(
     k: usize,
     links: &mut Vec<Vec<Link>>,
 ) -> Result<(), AllocError>
-    requires side { (3 ≤ n) × (n ≤ 3601) }
+    requires side { IsSide n }
     requires t { t < length summaries.now }
     requires so_far { AreSoFar n summaries.now (map (λ v. v.items) links.old.items) }
     ensures so_far { OnOk result (AreSoFar n summaries.now (map (λ v. v.items) links.new.items)) }
@@ -112,22 +117,7 @@ fn link_label(
     let nodes = links.len();
     let here = node_number(n, nodes, t, k);
     let there = node_number(n, nodes, t, named);
-    add(
-        links,
-        there,
-        Link {
-            level: point.height,
-            from: here,
-        },
-    )?;
-    add(
-        links,
-        here,
-        Link {
-            level: point.height,
-            from: there,
-        },
-    )?;
+    add_between(links, here, there, point.height)?;
     Ok(())
 }
 
@@ -139,7 +129,7 @@ fn link_spill(
     spill: Spill,
     links: &mut Vec<Vec<Link>>,
 ) -> Result<(), AllocError>
-    requires side { (3 ≤ n) × (n ≤ 3601) }
+    requires side { IsSide n }
     requires t { t < length summaries.now }
     requires spill { Contains (summary_at summaries.now t).spills spill }
     requires so_far { AreSoFar n summaries.now (map (λ v. v.items) links.old.items) }
@@ -157,37 +147,16 @@ fn link_spill(
     }
     let nodes = links.len();
     let first = node_number(n, nodes, t, a);
+    let level = spill.level;
     if spill.b == OUT {
-        add(
-            links,
-            0,
-            Link {
-                level: spill.level,
-                from: first,
-            },
-        )?;
+        add(links, 0, Link { level, from: first })?;
         return Ok(());
     }
     let Some(_) = ground_rim_point(n, summaries, t, b) else {
         return Ok(());
     };
     let second = node_number(n, nodes, t, b);
-    add(
-        links,
-        second,
-        Link {
-            level: spill.level,
-            from: first,
-        },
-    )?;
-    add(
-        links,
-        first,
-        Link {
-            level: spill.level,
-            from: second,
-        },
-    )?;
+    add_between(links, first, second, level)?;
     Ok(())
 }
 
@@ -198,7 +167,7 @@ fn link_spills(
     t: usize,
     links: &mut Vec<Vec<Link>>,
 ) -> Result<(), AllocError>
-    requires side { (3 ≤ n) × (n ≤ 3601) }
+    requires side { IsSide n }
     requires t { t < length summaries.now }
     requires so_far { AreSoFar n summaries.now (map (λ v. v.items) links.old.items) }
     ensures so_far { OnOk result (AreSoFar n summaries.now (map (λ v. v.items) links.new.items)) }
@@ -275,7 +244,8 @@ fn no_links(alloc: Global, nodes: usize) -> Result<Vec<Vec<Link>>, AllocError>
 }
 
 /// The links, by the node that they lead to: first the outlet node, then the rim points, tile by tile and by rim number.
-pub(crate) fn links_between(
+/// All of them where the summaries are in the order of tiles. NoMemory is the only refusal.
+pub fn links_between(
     alloc: Global,
     side: Side,
     summaries: &[Summary],

@@ -90,14 +90,8 @@ fn link_to_tile(
     let nodes = links.len();
     let from = node_number(n, nodes, t, k);
     let to = node_number(n, nodes, u, l);
-    add(
-        links,
-        to,
-        Link {
-            level: here.height,
-            from,
-        },
-    )?;
+    let level = here.height;
+    add(links, to, Link { level, from })?;
     Ok(())
 }
 

@@ -9,9 +9,9 @@ use std::marker::Model;
 
 /// From which node a link leads, and at which level, in metres.
 #[derive(Clone, Copy, Debug, PartialEq, Eq, PartialOrd, Ord)]
-pub(crate) struct Link {
-    pub(crate) level: i16,
-    pub(crate) from: usize,
+pub struct Link {
+    pub level: i16,
+    pub from: usize,
 }
 
 /// The links that wait.

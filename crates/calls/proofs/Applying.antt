@@ -1,18 +1,18 @@
 -- What a command may answer in a state.
-use Rattle.std.proofs.Common.{◌≡◌, ◌⊎◌, inl, inr, ℕ, ◌+◌, ◌<◌, true, false, IsTrue, IsFalse, refl, ap}
-use Rattle.std.specs.Prelude.{Ok, Err, Some}
-use Rattle.std.proofs.lemmas.Bool.{or_cases, both_ways}
+use Rattle.std.proofs.Common.{◌≡◌, ◌⊎◌, inl, inr, ℕ, ◌+◌, ◌<◌, Bool, true, false, IsTrue, IsFalse, refl, ap, ◌∙◌}
+use Rattle.std.specs.Prelude.{Ok, Err, Option, Some, None, if◌then◌else◌}
+use Rattle.std.proofs.lemmas.Bool.{or_cases, both_ways, lt-ltb}
 use Rattle.lattice.specs.Mosaic.{Mosaic}
 use Rattle.lattice.specs.declared.refusal.Refusal.{Refusal}
 use Rattle.lattice.specs.declared.refusal.Refusal.TheVariants.{Device, NoMemory, Failed, Damaged, Worn}
 use Rattle.edits.specs.declared.command.Command.{Command}
-use Rattle.edits.specs.declared.command.Command.TheVariants.{Import, Remove, Patch, Burn, Wall}
+use Rattle.edits.specs.declared.command.Command.TheVariants.{Import, Remove, Patch, Burn, Wall, Sink, Unsink}
 use Rattle.edits.specs.Effect.{effect}
 use Rattle.catalogue.specs.Readers.{reads_of}
 use Rattle.catalogue.specs.Endings.{ends_any}
 use Rattle.edits.specs.Plans.{is_own, may_end}
-use Rattle.calls.specs.State.{Contents, State, made_by, would_make, in_doubt, failing}
-use Rattle.calls.specs.Outcomes.{Accepts, IsWorn, AppliesNot, last_number}
+use Rattle.calls.specs.State.{Contents, State, last_number, made_by, would_make, in_doubt, failing}
+use Rattle.calls.specs.Outcomes.{Accepts, IsWorn, AppliesNot}
 
 not_worn : (c : Command) → IsTrue (may_end c Worn) → ⊥
 not_worn (Import c bytes) e = both_ways false refl e
@@ -20,6 +20,8 @@ not_worn (Remove c) e = both_ways false refl e
 not_worn (Patch from to h) e = both_ways false refl e
 not_worn (Burn depth points) e = both_ways false refl e
 not_worn (Wall h points) e = both_ways false refl e
+not_worn (Sink p) e = both_ways false refl e
+not_worn (Unsink p) e = both_ways false refl e
 
 own_from : (c : Command) (r : Refusal) → ends_any r ≡ false → IsTrue (may_end c r) → IsTrue (is_own c r)
 own_from c r other e = by (or_cases (is_own c r) (ends_any r) e)
@@ -54,5 +56,5 @@ module _ (capacity : ℕ) (s : State) (c : Command) (working : IsFalse s.failed)
   fails = record { working = working; fails = refl }
 
 -- the commit in doubt is the one that the command makes
-pub doubt_is : (capacity : ℕ) (was : Contents) (c : Command) (new : Mosaic) → effect capacity was.mosaic c ≡ Ok new → in_doubt capacity was c ≡ Some (made_by was c new)
-doubt_is capacity was c new makes = ap (would_make was c) makes
+pub doubt_is : (capacity : ℕ) (was : Contents) (c : Command) (new : Mosaic) → was.number < last_number → effect capacity was.mosaic c ≡ Ok new → in_doubt capacity was c ≡ Some (made_by was c new)
+doubt_is capacity was c new room makes = ap (λ (b : Bool). if b then would_make was c (effect capacity was.mosaic c) else None) (lt-ltb was.number last_number room) ∙ ap (would_make was c) makes

@@ -1,15 +1,14 @@
 -- What the laws of an engine say of a chain of its calls.
-use Rattle.std.proofs.Common.{◌≡◌, ℕ, ◌≤◌, ◌<◌, ◌+◌, ◌⊎◌, inl, inr, List, [], ◌∷◌, ◌++◌, length, take, get_or, refl, sym, ap, ◌∙◌, subst, append_assoc, arith}
-use Rattle.std.specs.Prelude.{Contains, map}
+use Rattle.std.proofs.Common.{◌≡◌, ℕ, ◌≤◌, ◌<◌, ◌+◌, ◌⊎◌, inl, inr, List, [], ◌∷◌, ◌++◌, length, take, get_or, refl, sym, ap, ◌∙◌, subst, arith}
+use Rattle.std.specs.Prelude.{Contains}
 use Rattle.std.proofs.lemmas.List.{take_more}
 use Rattle.std.proofs.lemmas.List.Elements.{Contains-append_left, Contains-append_right, Contains-append_cases}
 use Rattle.lattice.specs.declared.refusal.Refusal.TheVariants.{Device}
-use Rattle.edits.specs.declared.command.Command.{Command}
 use Rattle.calls.specs.State.{State}
 use Rattle.calls.specs.Events.{Happens}
 use Rattle.calls.specs.Runs.{last_of, Through}
-use Rattle.calls.specs.Told.{Matches, IsTold, IsCounted, counted, failures_after, Known, Knows}
-use Rattle.calls.specs.Engines.{Members, IsCall, Laws, IsRunOf, Keeps, Chain, IsDoneByCall}
+use Rattle.calls.specs.Told.{Matches, IsCounted, counted, failures_after}
+use Rattle.calls.specs.Engines.{Members, IsCall, Laws, IsRunOf, Keeps, Chain}
 use Rattle.calls.specs.declared.event.Event.{Event}
 use Rattle.calls.specs.declared.event.Event.TheVariants as ask
 use Rattle.calls.specs.declared.event.Reply.{Reply}
@@ -20,10 +19,6 @@ use Rattle.calls.specs.declared.event.Reply.TheVariants as reply
 -- one element more was asked
 pub asked_more : {A : Type 0} (questions : List A) (i : ℕ) (asked : A) → i < length questions → asked ≡ get_or questions i asked → take (i + 1) questions ≡ take i questions ++ asked ∷ []
 asked_more {A} questions i asked below is = take_more questions i asked below ∙ ap (λ (a : A). take i questions ++ a ∷ []) (sym is)
-
--- one element more was pushed
-pub one_pushed : {A : Type 0} (first so_far now new : List A) (x : A) → new ≡ now ++ x ∷ [] → now ≡ first ++ so_far → new ≡ first ++ (so_far ++ x ∷ [])
-one_pushed {A} first so_far now new x pushed is = pushed ∙ ap (λ (l : List A). l ++ x ∷ []) is ∙ append_assoc first so_far (x ∷ [])
 
 module _ {X A B : Type 0} (Step : X → A → B → X → Type 0) (mid new : X) (asked : A) (given : B) where
   pub last_more : (x : X) (through : List X) → last_of x (through ++ new ∷ []) ≡ new
@@ -39,26 +34,6 @@ module _ {X A B : Type 0} (Step : X → A → B → X → Type 0) (mid new : X) 
   step_more x [] (b ∷ answers) through is steps step = absurd steps
   step_more x (a ∷ questions) [] through is steps step = absurd steps
   step_more x (a ∷ questions) (b ∷ answers) [] is steps step = absurd steps
-
--- what holds of each step, seen through a function
-pub mapped : {X Y A B : Type 0} (f : X → Y) (R : X → A → B → X → Type 0) (Q : Y → A → B → Y → Type 0) → ((x next : X) (asked : A) (given : B) → R x asked given next → Q (f x) asked given (f next))
-    → (x : X) (questions : List A) (answers : List B) (through : List X) → Through R x questions answers through → Through Q (f x) questions answers (map f through)
-mapped f R Q implies x [] [] [] steps = tt
-mapped f R Q implies x [] [] (next ∷ through) steps = absurd steps
-mapped f R Q implies x [] (given ∷ answers) through steps = absurd steps
-mapped f R Q implies x (asked ∷ questions) [] through steps = absurd steps
-mapped f R Q implies x (asked ∷ questions) (given ∷ answers) [] steps = absurd steps
-mapped f R Q implies x (asked ∷ questions) (given ∷ answers) (next ∷ through) (step, steps) = (implies x next asked given step, mapped f R Q implies next questions answers through steps)
-
--- each step is one of another kind
-pub weakened : {X A B : Type 0} (R Q : X → A → B → X → Type 0) → ((x next : X) (asked : A) (given : B) → R x asked given next → Q x asked given next)
-    → (x : X) (questions : List A) (answers : List B) (through : List X) → Through R x questions answers through → Through Q x questions answers through
-weakened R Q implies x [] [] [] steps = tt
-weakened R Q implies x [] [] (next ∷ through) steps = absurd steps
-weakened R Q implies x [] (given ∷ answers) through steps = absurd steps
-weakened R Q implies x (asked ∷ questions) [] through steps = absurd steps
-weakened R Q implies x (asked ∷ questions) (given ∷ answers) [] steps = absurd steps
-weakened R Q implies x (asked ∷ questions) (given ∷ answers) (next ∷ through) (step, steps) = (implies x next asked given step, weakened R Q implies next questions answers through steps)
 
 -- the second state is named twice where two runs meet
 pub without_double : (s t : State) (states : List State) (x : State) → Contains (s ∷ t ∷ t ∷ states) x → Contains (s ∷ t ∷ states) x
@@ -80,14 +55,17 @@ pub one_failure : (before now : ℕ) (answer : Reply) (answers : List Reply) →
 one_failure before now (reply.Refused Device) answers is = more_failures (counted before) now answers (is.device refl)
 one_failure before now answer answers is = more_failures before now answers is.later
 
--- an answer Done k is to a command
-done_to_command : (event : Event) (k : ℕ) → Matches event (reply.Done k) → (command : Command) × (event ≡ ask.Do command)
-done_to_command (ask.Do command) k matches = (command, refl)
-done_to_command event k matches = absurd matches
+-- only what asks for it opens the disk again
+pub not_reopened : (event : Event) (answer : Reply) → (event ≡ ask.Reopen → ⊥) → Matches event answer → answer ≡ reply.Reopened → ⊥
+not_reopened event answer other matches is = opened event other (subst (λ (a : Reply). Matches event a) is matches)
+  where
+    opened : (event : Event) → (event ≡ ask.Reopen → ⊥) → Matches event reply.Reopened → ⊥
+    opened ask.Reopen other matches = other refl
+    opened event other matches = matches
 
 module _ {E : Type 0} (of : Members E) (called : E → Event → Reply → E → Type 0) (laws : Laws of called) where
   pub keeps : (old : E) (events : List Event) (answers : List Reply) (engines : List E) → Chain called old events answers engines → Keeps of old answers (last_of old engines)
-  keeps old [] [] [] chain = record { side = refl; capacity = refl; honest = λ h. h; later = omega arith; device = omega arith }
+  keeps old [] [] [] chain = record { honest = λ h. h; later = omega arith; device = omega arith }
   keeps old [] [] (next ∷ engines) chain = absurd chain
   keeps old [] (answer ∷ answers) engines chain = absurd chain
   keeps old (event ∷ events) [] engines chain = absurd chain
@@ -100,28 +78,10 @@ module _ {E : Type 0} (of : Members E) (called : E → Event → Reply → E →
       let one = one_failure (of.failures old) (of.failures next) answer answers first.failures in
       let more = rest.device in
       record {
-        side = rest.side ∙ first.side;
-        capacity = rest.capacity ∙ first.capacity;
         honest = λ h. first.honest (rest.honest h);
         later = omega (arith, fewer, later);
         device = omega (arith, one, more);
       }
-
-  pub tells : (old : E) (events : List Event) (answers : List Reply) (engines : List E) → Chain called old events answers engines
-      → Through IsTold (of.has_failed old) events answers (map of.has_failed engines)
-  tells = mapped of.has_failed called IsTold (λ old next event answer call. (laws.is_call old next event answer call).told)
-
-  pub knows : (old : E) (events : List Event) (answers : List Reply) (engines : List E) → Chain called old events answers engines
-      → Through Knows (of.known old) events answers (map of.known engines)
-  knows = mapped of.known called Knows (λ old next event answer call. (laws.is_call old next event answer call).known)
-
-  pub done : (old : E) (events : List Event) (answers : List Reply) (engines : List E) → Chain called old events answers engines → Through (IsDoneByCall called) old events answers engines
-  done = weakened called (IsDoneByCall called) one
-    where
-      one : (old next : E) (event : Event) (answer : Reply) → called old event answer next → IsDoneByCall called old event answer next
-      one old next event answer call = λ k is.
-          let to = done_to_command event k (subst (λ (a : Reply). Matches event a) is (laws.is_call old next event answer call).told.matches) in
-          (to.0, (to.1, subst (λ (a : Reply). called old (ask.Do to.0) a next) is (subst (λ (e : Event). called old e answer next) to.1 call)))
 
   pub runs : (old : E) (events : List Event) (answers : List Reply) (engines : List E) → Chain called old events answers engines
       → of.is_honest (last_of old engines) → (s : State) → of.is_at old s → (states : List State) × IsRunOf of old events answers engines s states
@@ -132,7 +92,8 @@ module _ {E : Type 0} (of : Members E) (called : E → Event → Reply → E →
   runs old (event ∷ events) (answer ∷ answers) [] chain honest s at = absurd chain
   runs old (event ∷ events) (answer ∷ answers) (next ∷ engines) (call, chain) honest s at =
       let first = laws.is_call old next event answer call in
-      let one = first.happens ((keeps next events answers engines chain).honest honest) s at in
+      let before = (keeps next events answers engines chain).honest honest in
+      let one = first.happens before s at in
       let t = one.0 in
       let more = runs next events answers engines chain honest t one.1.0 in
       let states = more.0 in
@@ -140,7 +101,7 @@ module _ {E : Type 0} (of : Members E) (called : E → Event → Reply → E →
         t ∷ states,
         record {
           at = (at, rest.at);
-          run = (one.1.1, subst (λ (n : ℕ). Through (Happens n) t events answers states) first.capacity rest.run);
+          run = (one.1.1, subst (λ (n : ℕ). Through (Happens n) t events answers states) (first.takes before s at).1 rest.run);
           later = (
             laws.weaker old (last_of next engines) (s ∷ t ∷ t ∷ states) (s ∷ t ∷ states) (without_double s t states)
                 (laws.in_turn old next (last_of next engines) (s ∷ t ∷ []) (t ∷ states) one.1.2 rest.later.0),

@@ -11,7 +11,7 @@ use Rattle.catalogue.specs.Reading.{HasRisen}
 use Rattle.watershed.specs.declared.runs.Run.{Run}
 use Rattle.calls.specs.Engines.{answered, items_in}
 use Rattle.calls.specs.Events.{SaysFailed, fails_after, Happens}
-use Rattle.calls.specs.Outcomes.{Elevates, Exports, Lists, Fills, Directs, Traces, Sheds}
+use Rattle.calls.specs.Outcomes.{Elevates, Exports, Lists, ListsSinks, Fills, Directs, Traces, Sheds}
 use Rattle.calls.specs.State.{State}
 use Rattle.calls.specs.Told.{Matches, may_refuse, IsTold, IsCounted, WritesFew, IsWritten, Known, Knows}
 use Rattle.calls.specs.declared.event.Event.{Event}
@@ -173,3 +173,6 @@ export_asked c = record { asks_it = refl; matches = λ x. tt; goes_on = λ b x. 
 
 pub tiles_asked : IsQuestion ask.Tiles reply.Tiles (λ (s : State) (r : Result (Vec Corner) Refusal) (t : State). Lists s (items_in r) t)
 tiles_asked = record { asks_it = refl; matches = λ x. tt; goes_on = λ b x. refl; no_refusal = λ x r e. cc; knows = λ before after x same. same; right = λ capacity s t x is. is; refused = λ capacity s t r is. is }
+
+pub sinks_asked : IsQuestion ask.Sinks reply.Sinks (λ (s : State) (r : Result (Vec Point) Refusal) (t : State). ListsSinks s (items_in r) t)
+sinks_asked = record { asks_it = refl; matches = λ x. tt; goes_on = λ b x. refl; no_refusal = λ x r e. cc; knows = λ before after x same. same; right = λ capacity s t x is. is; refused = λ capacity s t r is. is }

@@ -1,13 +1,11 @@
 -- Calls of an engine, a store or a table, one after another (this product's own profile).
-use Rattle.std.specs.Prelude.{◌≡◌, ◌≤◌, ℕ, Bool, List, [], ◌∷◌, ◌++◌, Contains, Result, Ok, Err, Vec}
+use Rattle.std.specs.Prelude.{◌≡◌, ◌≢◌, ◌≤◌, ℕ, Bool, List, [], ◌∷◌, ◌++◌, Contains, Result, Ok, Err, Vec}
 use Rattle.lattice.specs.declared.refusal.Refusal.{Refusal}
-use Rattle.edits.specs.declared.command.Command.{Command}
 use Rattle.calls.specs.State.{State}
 use Rattle.calls.specs.Events.{Happens}
 use Rattle.calls.specs.Runs.{last_of, Through}
 use Rattle.calls.specs.Told.{IsTold, IsCounted, failures_after, IsWritten, Known, Knows}
 use Rattle.calls.specs.declared.event.Event.{Event}
-use Rattle.calls.specs.declared.event.Event.TheVariants as ask
 use Rattle.calls.specs.declared.event.Reply.{Reply}
 use Rattle.calls.specs.declared.event.Reply.TheVariants as reply
 
@@ -40,16 +38,18 @@ pub record Members (E : Type 0) : Type 1 where
 module _ {E : Type 0} (of : Members E) where
   -- it was asked this, answered this, and then was that engine: what is known then
   pub record IsCall (old : E) (event : Event) (answer : Reply) (new : E) : Type 0 where
-    -- on any disk
-    pub side : of.side_of new ≡ of.side_of old
-    pub capacity : of.capacity_of new ≡ of.capacity_of old
+    -- on any disk: what tiles it takes, unless it was opened again
+    pub side : answer ≢ reply.Reopened → of.side_of new ≡ of.side_of old
+    pub capacity : answer ≢ reply.Reopened → of.capacity_of new ≡ of.capacity_of old
     pub told : IsTold (of.has_failed old) event answer (of.has_failed new)
     pub failures : IsCounted (of.failures old) answer (of.failures new)
     pub writes : IsWritten (of.known old).version event answer (of.writes old) (of.writes new)
     pub known : Knows (of.known old) event answer (of.known new)
     -- no call makes a dishonest disk honest
     pub honest : of.is_honest new → of.is_honest old
-    -- on an honest one: the answer, the state that it leaves, and what a stop leaves at any moment
+    -- on an honest one: that it takes the same tiles
+    pub takes : of.is_honest new → (s : State) → of.is_at old s → (of.side_of new ≡ of.side_of old) × (of.capacity_of new ≡ of.capacity_of old)
+    -- .. the answer, the state that it leaves, and what a stop leaves at any moment
     pub happens : of.is_honest new → (s : State) → of.is_at old s
         → (t : State) × (of.is_at new t × Happens (of.capacity_of old) s event answer t × of.leaves_only old new (s ∷ t ∷ []))
 
@@ -81,10 +81,8 @@ module _ {E : Type 0} (of : Members E) where
     pub run : Through (Happens (of.capacity_of old)) s events answers states
     pub later : LeaveLater (old ∷ engines) (last_of old engines) (s ∷ states)
 
-  -- what stays over a chain of calls, on any disk
+  -- what is known over a chain of calls, on any disk
   pub record Keeps (old : E) (answers : List Reply) (new : E) : Type 0 where
-    pub side : of.side_of new ≡ of.side_of old
-    pub capacity : of.capacity_of new ≡ of.capacity_of old
     pub honest : of.is_honest new → of.is_honest old
     pub later : of.failures old ≤ of.failures new
     -- the disk is blamed only where it failed
@@ -98,7 +96,3 @@ module _ {E : Type 0} (called : E → Event → Reply → E → Type 0) where
   -- the same, where the engines between are left out
   abbrev pub Calls : E → List Event → List Reply → E → Type 0
   Calls old events answers new = (engines : List E) × ((last_of old engines ≡ new) × Chain old events answers engines)
-
-  -- Done k stands only where a command was applied, and was answered with k
-  abbrev pub IsDoneByCall : E → Event → Reply → E → Type 0
-  IsDoneByCall old event answer new = (k : ℕ) → answer ≡ reply.Done k → (command : Command) × ((event ≡ ask.Do command) × called old (ask.Do command) (reply.Done k) new)

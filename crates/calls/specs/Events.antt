@@ -1,8 +1,8 @@
--- What may happen to a store: one event after another, each with its reply (this product's own profile).
-use Rattle.std.specs.Prelude.{◌≡◌, ◌⊎◌, ℕ, Bool, true, false, IsTrue, List, [], ◌∷◌, Some, Ok, Err}
+-- What may happen to a store by an event, and what its reply tells of failures (this product's own profile).
+use Rattle.std.specs.Prelude.{◌≡◌, ◌⊎◌, ℕ, Bool, true, false, Some, Ok, Err}
 use Rattle.lattice.specs.declared.refusal.Refusal.{Refusal}
 use Rattle.lattice.specs.declared.refusal.Refusal.TheVariants.{Device, NoMemory, Failed}
-use Rattle.calls.specs.Outcomes.{Applies, Elevates, Exports, Lists, Fills, Directs, Traces, Sheds}
+use Rattle.calls.specs.Outcomes.{Applies, Elevates, Exports, Lists, ListsSinks, Fills, Directs, Traces, Sheds}
 use Rattle.calls.specs.State.{Contents, State, working}
 use Rattle.calls.specs.declared.event.Event.{Event}
 use Rattle.calls.specs.declared.event.Event.TheVariants as ask
@@ -37,6 +37,8 @@ Happens capacity s (ask.Export c) (reply.Export bytes) t = Exports s c (Ok bytes
 Happens capacity s (ask.Export c) (reply.Refused r) t = Exports s c (Err r) t
 Happens capacity s ask.Tiles (reply.Tiles corners) t = Lists s (Ok corners.items) t
 Happens capacity s ask.Tiles (reply.Refused r) t = Lists s (Err r) t
+Happens capacity s ask.Sinks (reply.Sinks points) t = ListsSinks s (Ok points.items) t
+Happens capacity s ask.Sinks (reply.Refused r) t = ListsSinks s (Err r) t
 Happens capacity s ask.Count (reply.Count count) t = (count ≡ s.contents.count) × (t ≡ s)
 Happens capacity s ask.Reopen reply.Reopened t = Reopens s t
 Happens capacity s ask.Reopen (reply.Refused r) t = ReopensNot s r t
@@ -54,20 +56,3 @@ fails_after failed ask.Reopen (reply.Refused r) = true
 fails_after failed asked (reply.Refused Device) = true
 fails_after failed asked reply.Reopened = false
 fails_after failed asked replied = failed
-
--- from a fault of the disk on, each reply says that the store failed, until it is open again
-abbrev pub SaysFailedUntilOpen : Bool → List Event → List Reply → Bool → Type 0
-SaysFailedUntilOpen failed [] [] ends = IsTrue failed → IsTrue ends
-SaysFailedUntilOpen failed (event ∷ events) (replied ∷ replies) ends = (IsTrue failed → SaysFailed event replied) × SaysFailedUntilOpen (fails_after failed event replied) events replies ends
-SaysFailedUntilOpen failed events replies ends = ⊥
-
--- one after another: each event has a reply, and a state that it leaves, from which the next one goes on
-abbrev pub IsRun : ℕ → State → List Event → List Reply → List State → Type 0
-IsRun capacity s [] [] [] = Unit {0}
-IsRun capacity s (event ∷ events) (replied ∷ replies) (t ∷ states) = Happens capacity s event replied t × IsRun capacity t events replies states
-IsRun capacity s events replies states = ⊥
-
--- the state at the end of a run that begins in s
-abbrev pub end_of : State → List State → State
-end_of s [] = s
-end_of s (t ∷ states) = end_of t states

@@ -4,4 +4,5 @@ pub mod Events
 pub mod Outcomes
 pub mod Runs
 pub mod State
+pub mod Steps
 pub mod Told

@@ -18,11 +18,7 @@ use Rattle.flow_d8.specs.FlowPath.{IsFlowPath, IsInWatershed}
 use Rattle.watershed.specs.declared.runs.Run.{Run}
 use Rattle.watershed.specs.Runs.{AreRuns}
 use Rattle.watershed.specs.Questions.{IsAnswered, DrainsBy}
-use Rattle.calls.specs.State.{Contents, State, made_by, in_doubt, failing}
-
--- the greatest commit number
-abbrev pub last_number : ℕ
-last_number = 18446744073709551615
+use Rattle.calls.specs.State.{Contents, State, last_number, made_by, in_doubt, failing}
 
 -- the state stays, and the store hasn't failed
 pub record Stays (s t : State) : Type 0 where
@@ -100,6 +96,11 @@ ListsNot s r t = ⊥
 abbrev pub Lists : State → Result (List Corner) Refusal → State → Type 0
 Lists s (Ok corners) t = Stays s t × (corners ≡ map (λ tile. tile.corner) s.contents.mosaic.tiles)
 Lists s (Err r) t = ListsNot s r t
+
+-- the declared sinks, in the order of points
+abbrev pub ListsSinks : State → Result (List Point) Refusal → State → Type 0
+ListsSinks s (Ok points) t = Stays s t × (points ≡ s.contents.mosaic.sinks)
+ListsSinks s (Err r) t = ListsNot s r t
 
 abbrev pub AnswersNot : State → Point → Refusal → State → Type 0
 AnswersNot s p Outside t = Stays s t × (height_of s.contents.mosaic p ≡ height.Outside)

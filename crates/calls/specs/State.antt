@@ -1,5 +1,5 @@
 -- The state of a store, by which its promises are said (this product's own profile).
-use Rattle.std.specs.Prelude.{ℕ, ◌+◌, Bool, true, false, List, [], Option, Some, None, Result, Ok, Err}
+use Rattle.std.specs.Prelude.{ℕ, ◌+◌, nat_lt, if◌then◌else◌, Bool, true, false, List, [], Option, Some, None, Result, Ok, Err}
 use Rattle.lattice.specs.Corners.{Corner}
 use Rattle.lattice.specs.declared.refusal.Refusal.{Refusal}
 use Rattle.lattice.specs.Mosaic.{Mosaic, empty_mosaic}
@@ -7,9 +7,10 @@ use Rattle.edits.specs.declared.command.Command.{Command}
 use Rattle.edits.specs.Effect.{effect}
 use Rattle.edits.specs.Touched.{stale_after}
 
--- what a store holds: the mosaic, how many commands were accepted since it was formatted, the number of its last
--- commit, and the present tiles without kept planes, in order
+-- what a store holds: the version of its format, the mosaic, how many commands were accepted since it was formatted, the
+-- number of its last commit, and the present tiles without kept planes, in order
 pub record Contents : Type 0 where
+  pub version : ℕ
   pub mosaic : Mosaic
   pub count : ℕ
   pub number : ℕ
@@ -24,11 +25,11 @@ pub record State : Type 0 where
 
 -- as formatted: no tile, no command, the first commit
 abbrev pub fresh : ℕ → Contents
-fresh n = record { mosaic = empty_mosaic n; count = 0; number = 1; stale = [] }
+fresh n = record { version = 1; mosaic = empty_mosaic n; count = 0; number = 1; stale = [] }
 
 -- the contents once an accepted command made the new mosaic
 abbrev pub made_by : Contents → Command → Mosaic → Contents
-made_by was c new = record {
+made_by was c new = record was {
   mosaic = new;
   count = was.count + 1;
   number = was.number + 1;
@@ -40,8 +41,17 @@ abbrev pub would_make : Contents → Command → Result Mosaic Refusal → Optio
 would_make was c (Ok new) = Some (made_by was c new)
 would_make was c (Err r) = None
 
+-- the greatest commit number
+abbrev pub last_number : ℕ
+last_number = 18446744073709551615
+
+-- what a commit would make of the contents, where their number can still grow
+abbrev pub if_numbered : Contents → Option Contents → Option Contents
+if_numbered was made = if nat_lt was.number last_number then made else None
+
+-- the commit of a command that the disk failed
 abbrev pub in_doubt : ℕ → Contents → Command → Option Contents
-in_doubt capacity was c = would_make was c (effect capacity was.mosaic c)
+in_doubt capacity was c = if_numbered was (would_make was c (effect capacity was.mosaic c))
 
 -- a call failed on the disk, and this commit is in doubt
 abbrev pub failing : State → Option Contents → State

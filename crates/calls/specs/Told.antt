@@ -4,7 +4,7 @@ use Rattle.lattice.specs.declared.refusal.Refusal.{Refusal}
 use Rattle.lattice.specs.declared.refusal.Refusal.TheVariants.{NoTile, Outside, Void, Device, NoMemory, Failed, Damaged, Worn, NotAStore, Version, TooSmall}
 use Rattle.catalogue.specs.Reading.{HasRisen}
 use Rattle.edits.specs.declared.command.Command.{Command}
-use Rattle.edits.specs.declared.command.Command.TheVariants.{Burn, Wall}
+use Rattle.edits.specs.declared.command.Command.TheVariants.{Burn, Wall, Sink, Unsink}
 use Rattle.edits.specs.Plans.{may_end}
 use Rattle.calls.specs.Events.{SaysFailed, fails_after}
 use Rattle.calls.specs.declared.event.Event.{Event}
@@ -36,10 +36,11 @@ may_refuse_export NoTile = true
 may_refuse_export NoMemory = true
 may_refuse_export r = is_of_read r
 
-abbrev pub may_refuse_tiles : Refusal → Bool
-may_refuse_tiles NoMemory = true
-may_refuse_tiles Failed = true
-may_refuse_tiles r = false
+-- what is held in memory is listed
+abbrev pub may_refuse_list : Refusal → Bool
+may_refuse_list NoMemory = true
+may_refuse_list Failed = true
+may_refuse_list r = false
 
 abbrev pub may_refuse_reopening : Refusal → Bool
 may_refuse_reopening Device = true
@@ -58,7 +59,8 @@ may_refuse (ask.Direction p) r = may_refuse_question r
 may_refuse (ask.Trace p) r = may_refuse_question r
 may_refuse (ask.Watershed p) r = may_refuse_question r
 may_refuse (ask.Export c) r = may_refuse_export r
-may_refuse ask.Tiles r = may_refuse_tiles r
+may_refuse ask.Tiles r = may_refuse_list r
+may_refuse ask.Sinks r = may_refuse_list r
 may_refuse ask.Count r = false
 may_refuse ask.Reopen r = may_refuse_reopening r
 
@@ -73,6 +75,7 @@ Matches (ask.Trace p) (reply.Trace path) = Unit {0}
 Matches (ask.Watershed p) (reply.Watershed runs) = Unit {0}
 Matches (ask.Export c) (reply.Export bytes) = Unit {0}
 Matches ask.Tiles (reply.Tiles corners) = Unit {0}
+Matches ask.Sinks (reply.Sinks points) = Unit {0}
 Matches ask.Count (reply.Count k) = Unit {0}
 Matches ask.Reopen reply.Reopened = Unit {0}
 Matches event answer = ⊥
@@ -105,11 +108,13 @@ failures_after before (replied ∷ replies) = failures_after before replies
 abbrev pub writes_a_point : ℕ → ℕ
 writes_a_point version = if nat_eq version 1 then 8 else 12
 
--- At most so many writes, in this version of the format: a commit's other three are the root and its two gates. Of a
--- command that may set any number of samples nothing is said.
+-- At most so many writes, in this version of the format: a commit's other three are the root and its two gates, and a sink
+-- takes no more. Of a command that may set any number of samples nothing is said.
 abbrev pub WritesFew : ℕ → Event → ℕ → ℕ → Type 0
 WritesFew version (ask.Do (Burn depth points)) before now = now ≤ before + (writes_a_point version * length points.items + 3)
 WritesFew version (ask.Do (Wall height points)) before now = now ≤ before + (writes_a_point version * length points.items + 3)
+WritesFew version (ask.Do (Sink p)) before now = now ≤ before + 3
+WritesFew version (ask.Do (Unsink p)) before now = now ≤ before + 3
 WritesFew version (ask.Do command) before now = Unit {0}
 WritesFew version asked before now = now ≡ before
 

@@ -23,6 +23,8 @@ pub enum Event {
     Export(Corner),
     /// The corners of the present tiles.
     Tiles,
+    /// The declared sinks.
+    Sinks,
     /// How many commands were accepted.
     Count,
     /// To open its disk again.
@@ -48,6 +50,8 @@ pub enum Reply {
     Export(Vec<u8>),
     /// In order.
     Tiles(Vec<Corner>),
+    /// In the order of points.
+    Sinks(Vec<Point>),
     /// As last known.
     Count(u64),
     /// The store is open again.

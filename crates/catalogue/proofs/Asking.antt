@@ -1,15 +1,19 @@
 -- Reads, and a question after them, are a question.
-use Rattle.std.proofs.Common.{◌≡◌, ◌≢◌, Result, Ok, Err, refl}
-use Rattle.std.specs.Prelude.{IfErr}
+use Rattle.std.proofs.Common.{◌≡◌, ◌≢◌, ℕ, ◌⊎◌, inl, inr, Result, Ok, Err, refl, sym, ◌∙◌, ap, subst}
+use Rattle.std.specs.Prelude.{IsOk, IfErr, OnOk, IsErrOf}
 use Rattle.lattice.specs.declared.refusal.Refusal.{Refusal}
-use Rattle.lattice.specs.declared.refusal.Refusal.TheVariants.{Device, Damaged}
-use Rattle.catalogue.specs.Readers.{OnlyReads}
+use Rattle.lattice.specs.declared.refusal.Refusal.TheVariants.{Device, Failed, NoMemory, Damaged}
+use Rattle.catalogue.specs.Reading.{MayRefuse}
+use Rattle.catalogue.specs.Readers.{OnlyReads, reads_of}
 use Rattle.catalogue.specs.Asked.{Asked, IsOwnRefusal}
 use Rattle.catalogue.specs.declared.samples.Samples.{Ghosts}
 use Rattle.catalogue.proofs.Reading.{reads_as, reads_on, reads_refused}
 
 device_is_other : {T : Type 0} (r : Refusal) → r ≡ Device → ◌≢◌ {A = Result T Refusal} (Err r) (Err Damaged)
 device_is_other r e damaged = let same : r ≡ Damaged = cc in absurd (cc)
+
+same_refusal : {T : Type 0} (r r' : Refusal) → ◌≡◌ {A = Result T Refusal} (Err r) (Err r') → r ≡ r'
+same_refusal r r' e = cc
 
 module _ {S : Type 0} (g : Ghosts S) where
   -- a refused read
@@ -43,3 +47,76 @@ module _ {S : Type 0} (g : Ghosts S) where
     own = then_.own;
     sound = λ honest ready. then_.sound honest (first.ready ready);
   }
+
+  -- a call that is refused for want of memory, or as a read of it was
+  pub asked_by_reads : {T : Type 0} (a b : S) (before now : ℕ) (result : Result T Refusal) → OnlyReads g a b (reads_of result) → IfErr result (λ r. (r ≡ NoMemory) ⊎ MayRefuse before now r)
+      → Asked g a b result
+  asked_by_reads a b before now (Ok x) reads h = asked a b tt (Ok x) reads tt (λ _ _ e. absurd (cc))
+  asked_by_reads {T} a b before now (Err r) reads h = by r reads h
+    where
+      by : (r : Refusal) → OnlyReads g a b (reads_of {T = T} (Err r)) → (r ≡ NoMemory) ⊎ MayRefuse before now r → Asked {T = T} g a b (Err r)
+      by Device reads h = asked_refused a b Device reads
+      by Failed reads h = asked_refused a b Failed reads
+      by Damaged reads h = asked_refused a b Damaged reads
+      by NoMemory reads h = asked a b tt (Err NoMemory) reads tt (λ _ _ e. absurd (cc))
+      by _ reads (inl memory) = absurd (cc)
+      by _ reads (inr may) = absurd may
+
+  -- a refusal of a question that another question passes on
+  pub asked_passed : {T U : Type 0} (a b : S) (r : Refusal) → Asked {T = T} g a b (Err r) → Asked {T = U} g a b (Err r)
+  asked_passed {T} {U} a b r h = record {
+    read = h.read;
+    reads = h.reads;
+    passed = as_passed h.read h.passed;
+    own = h.own;
+    sound = λ honest ready e. let same : r ≡ Damaged = cc in h.sound honest ready (ap (λ (x : Refusal). Err x) same);
+  }
+    where
+      as_passed : (read : Result (Unit {0}) Refusal) → IfErr read (λ x. ◌≡◌ {A = Result T Refusal} (Err r) (Err x)) → IfErr read (λ x. ◌≡◌ {A = Result U Refusal} (Err r) (Err x))
+      as_passed (Ok u) e = tt
+      as_passed (Err x) e = let same : r ≡ x = cc in ap (λ (y : Refusal). Err y) same
+
+  -- what comes of a question that was answered, with no read more
+  pub asked_answer : {T U : Type 0} (a b : S) (x : T) (result : Result U Refusal) → Asked {T = T} g a b (Ok x) → IfErr result IsOwnRefusal
+      → (g.is_honest b → g.is_ready a → result ≢ Err Damaged) → Asked g a b result
+  asked_answer {T} {U} a b x result h own sound = by h.read h.reads h.passed
+    where
+      by : (read : Result (Unit {0}) Refusal) → OnlyReads g a b read → IfErr read (λ r. ◌≡◌ {A = Result T Refusal} (Ok x) (Err r)) → Asked g a b result
+      by (Ok u) reads passed = asked a b u result reads own sound
+      by (Err r) reads passed = absurd (cc)
+
+  -- how a question may end, and what it leaves
+  module _ {T : Type 0} (a b : S) (result : Result T Refusal) (h : Asked g a b result) where
+    -- it blames the disk where a read that the disk refused ended it, and then no further read is tried
+    pub asked_risen : IsErrOf result Device → MayRefuse (g.failures a) (g.failures b) Device
+    asked_risen is = by h.read h.reads h.passed h.own
+      where
+        by : (read : Result (Unit {0}) Refusal) → OnlyReads g a b read → IfErr read (λ r. result ≡ Err r) → (IsOk read → IfErr result IsOwnRefusal) → MayRefuse (g.failures a) (g.failures b) Device
+        by (Ok u) reads passed own = absurd (subst (λ (r : Result T Refusal). IfErr r IsOwnRefusal) is (own refl))
+        by (Err r) reads passed own = let same : r ≡ Device = same_refusal r Device (sym passed ∙ is) in subst (MayRefuse (g.failures a) (g.failures b)) same reads.refusal
+
+    pub asked_fails : IsErrOf result Device → ¬ g.is_ready b
+    asked_fails is = by h.read h.reads h.own
+      where
+        by : (read : Result (Unit {0}) Refusal) → OnlyReads g a b read → (IsOk read → IfErr result IsOwnRefusal) → ¬ g.is_ready b
+        by (Ok u) reads own = absurd (subst (λ (r : Result T Refusal). IfErr r IsOwnRefusal) is (own refl))
+        by (Err r) reads own = reads.unready
+
+    -- an answer leaves the samples as they can be read on
+    pub asked_works : g.is_ready a → OnOk result (g.is_ready b)
+    asked_works ready = by result h.read h.reads h.passed
+      where
+        by : (result : Result T Refusal) (read : Result (Unit {0}) Refusal) → OnlyReads g a b read → IfErr read (λ r. result ≡ Err r) → OnOk result (g.is_ready b)
+        by (Ok x) (Ok u) reads passed = reads.ready ready
+        by (Ok x) (Err r) reads passed = absurd (cc)
+        by (Err r) read reads passed = tt
+
+    -- and so does a refusal for any other reason than the disk
+    pub asked_quiet : g.is_ready a → IfErr result (λ r. r ≢ Device → (r ≢ Failed) × g.is_ready b)
+    asked_quiet ready = by result h.read h.reads h.passed h.own
+      where
+        by : (result : Result T Refusal) (read : Result (Unit {0}) Refusal) → OnlyReads g a b read → IfErr read (λ r. result ≡ Err r) → (IsOk read → IfErr result IsOwnRefusal)
+            → IfErr result (λ r. r ≢ Device → (r ≢ Failed) × g.is_ready b)
+        by (Ok x) read reads passed own = tt
+        by (Err r) (Ok u) reads passed own = λ other. ((λ failed. subst IsOwnRefusal failed (own refl)), reads.ready ready)
+        by (Err r) (Err r') reads passed own = λ other. absurd (other (same_refusal r r' passed ∙ reads.only_device ready))

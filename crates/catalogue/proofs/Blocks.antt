@@ -11,7 +11,7 @@ use Rattle.lattice.specs.Lattice.{point_of}
 use Rattle.lattice.specs.Mosaic.{Mosaic, IsMosaic, void, samples_of}
 use Rattle.lattice.specs.Height.{height_of}
 use Rattle.lattice.specs.Ground.{metres}
-use Rattle.lattice.specs.Block.{IsBlockOf, is_rim, rim_number}
+use Rattle.lattice.specs.Block.{AreHeightsOf, is_rim, rim_number}
 use Rattle.lattice.specs.RimPoints.{IsRimPoint}
 use Rattle.lattice.proofs.Interior.{inner_only}
 use Rattle.lattice.proofs.RimNumbers.{one_index, number_below}
@@ -82,7 +82,7 @@ module _ (m : Mosaic) (c : Corner) where
       let value : metres (height_of mid (point_of n c index)) ≡ height_at m c index = ap₂ (λ (x : Mosaic) (l : ℕ). metres (height_of x (point_of l c index))) same_mosaic same_side in
       partly_more k index heights new side at so (set_ either ∙ ap (slice_set heights index) value)
 
-  pub partly_all : (heights : List ℤ) → IsMosaic m → Contains (corners_of m) c → IsPartly m c (4 * (m.side - 1)) heights → IsBlockOf m c heights
+  pub partly_all : (heights : List ℤ) → IsMosaic m → Contains (corners_of m) c → IsPartly m c (4 * (m.side - 1)) heights → AreHeightsOf m c heights
   partly_all heights valid there so = record {
     whole = so.whole;
     values = λ e small. elim (cases_Bool (is_rim m.side e)) [

@@ -15,6 +15,7 @@ use Rattle.lattice.specs.Mosaic.{Tile, Mosaic, IsSample, IsTile, IsMosaic, is_pr
 use Rattle.catalogue.specs.Entries.{tiles_in}
 use Rattle.catalogue.specs.Tiles.{with_tile, added, without, with_sample_in, with_sample}
 use Rattle.catalogue.proofs.Mosaics.{corner_of, rising_tiles, mosaic-added, mosaic-without, mosaic-with_sample}
+use Rattle.lattice.specs.declared.point.Point.{Point}
 use Rattle.lattice.proofs.CornerOrder.{corner_cmp, ranked_corners, same_says, same_from, before_not_same, after_not_same, before_not_back}
 use Rattle.lattice.proofs.Rising.{AllAfter, Rising}
 
@@ -122,21 +123,21 @@ absent-lookup c (e ∷ es) none = by (same_corner e.0 c) (rw (← tied_is c e.0)
     by false there later = later there
 
 -- ---- the mosaic of a table's fields, whose view is `now`
-abbrev pub mosaic_in : ℕ → List Entry → Mosaic
-mosaic_in n es = record { side = n; tiles = tiles_in es }
+abbrev pub mosaic_in : ℕ → List Point → List Entry → Mosaic
+mosaic_in n ps es = record { side = n; tiles = tiles_in es; sinks = ps }
 
-module _ (n : ℕ) (es new : List Entry) (now : Mosaic) (view : mosaic_in n es ≡ now) (valid : IsMosaic (mosaic_in n es)) (c : Corner) where
+module _ (n : ℕ) (ps : List Point) (es new : List Entry) (now : Mosaic) (view : mosaic_in n ps es ≡ now) (valid : IsMosaic (mosaic_in n ps es)) (c : Corner) where
   mosaic-inserted : (v : Vec ℤ) → IsFalse (is_present now c) → new ≡ insert_entry corner_cmp es c v
-      → mosaic_in n new ≡ added (record { corner = c; samples = v.items }) (mosaic_in n es)
+      → mosaic_in n ps new ≡ added (record { corner = c; samples = v.items }) (mosaic_in n ps es)
   mosaic-inserted v absent e =
-      ap (λ (ts : List Tile). record { side = n; tiles = ts }) (ap tiles_in e ∙ tiles-insert c v es (subst (λ (m : Mosaic). IsFalse (is_present m c)) (sym view) absent))
+      ap (λ (ts : List Tile). record { side = n; tiles = ts; sinks = ps }) (ap tiles_in e ∙ tiles-insert c v es (subst (λ (m : Mosaic). IsFalse (is_present m c)) (sym view) absent))
 
   pub added_is : (v : Vec ℤ) → IsFalse (is_present now c) → new ≡ insert_entry corner_cmp es c v
-      → mosaic_in n new ≡ added (record { corner = c; samples = v.items }) now
+      → mosaic_in n ps new ≡ added (record { corner = c; samples = v.items }) now
   added_is v absent e = mosaic-inserted v absent e ∙ ap (added (record { corner = c; samples = v.items })) view
 
   pub added_valid : (v : Vec ℤ) → IsTrue (is_corner c) → vec_len v ≡ now.side * now.side → All IsSample v.items → IsFalse (is_present now c)
-      → new ≡ insert_entry corner_cmp es c v → IsMosaic (mosaic_in n new)
+      → new ≡ insert_entry corner_cmp es c v → IsMosaic (mosaic_in n ps new)
   added_valid v corner whole samples absent e =
       let side : now.side ≡ n = sym (ap (λ (m : Mosaic). m.side) view) in
       let tile : IsTile n (record { corner = c; samples = v.items }) = record {
@@ -145,16 +146,16 @@ module _ (n : ℕ) (es new : List Entry) (now : Mosaic) (view : mosaic_in n es �
         samples = samples;
       } in
       subst IsMosaic (sym (mosaic-inserted v absent e))
-      (mosaic-added (record { corner = c; samples = v.items }) (mosaic_in n es) valid tile (subst (λ (m : Mosaic). IsFalse (is_present m c)) (sym view) absent))
+      (mosaic-added (record { corner = c; samples = v.items }) (mosaic_in n ps es) valid tile (subst (λ (m : Mosaic). IsFalse (is_present m c)) (sym view) absent))
 
-  mosaic-removed : new ≡ remove_entry (is_at (corner_cmp c)) es → mosaic_in n new ≡ without c (mosaic_in n es)
-  mosaic-removed e = ap (λ (ts : List Tile). record { side = n; tiles = ts }) (ap tiles_in e ∙ tiles-remove c es (rising_tiles (mosaic_in n es) valid))
+  mosaic-removed : new ≡ remove_entry (is_at (corner_cmp c)) es → mosaic_in n ps new ≡ without c (mosaic_in n ps es)
+  mosaic-removed e = ap (λ (ts : List Tile). record { side = n; tiles = ts; sinks = ps }) (ap tiles_in e ∙ tiles-remove c es (rising_tiles (mosaic_in n ps es) valid))
 
-  pub removed_is : new ≡ remove_entry (is_at (corner_cmp c)) es → mosaic_in n new ≡ without c now
+  pub removed_is : new ≡ remove_entry (is_at (corner_cmp c)) es → mosaic_in n ps new ≡ without c now
   removed_is e = mosaic-removed e ∙ ap (without c) view
 
-  pub removed_valid : new ≡ remove_entry (is_at (corner_cmp c)) es → IsMosaic (mosaic_in n new)
-  removed_valid e = subst IsMosaic (sym (mosaic-removed e)) (mosaic-without c (mosaic_in n es) valid)
+  pub removed_valid : new ≡ remove_entry (is_at (corner_cmp c)) es → IsMosaic (mosaic_in n ps new)
+  removed_valid e = subst IsMosaic (sym (mosaic-removed e)) (mosaic-without c (mosaic_in n ps es) valid)
 
   -- as many samples as every tile has
   pub range_within : (k : ℕ) (v : Vec ℤ) → Some v ≡ lookup (is_at (corner_cmp c)) es → k ≤ now.side * now.side → k ≤ length v.items
@@ -169,17 +170,17 @@ module _ (n : ℕ) (es new : List Entry) (now : Mosaic) (view : mosaic_in n es �
         let side : now.side ≡ n = sym (ap (λ (m : Mosaic). m.side) view) in
         subst (λ k. i < k) (sym (v.ok.0 ∙ length-found n c v es valid.tiles (sym found))) (subst (λ k. i < k * k) side small)
 
-    mosaic-set : w.items ≡ slice_set v.items i s → new ≡ set_value (is_at (corner_cmp c)) es w → mosaic_in n new ≡ with_sample c i s (mosaic_in n es)
+    mosaic-set : w.items ≡ slice_set v.items i s → new ≡ set_value (is_at (corner_cmp c)) es w → mosaic_in n ps new ≡ with_sample c i s (mosaic_in n ps es)
     mosaic-set items e =
-        ap (λ (ts : List Tile). record { side = n; tiles = ts }) (
+        ap (λ (ts : List Tile). record { side = n; tiles = ts; sinks = ps }) (
         ap tiles_in e
-        ∙ tiles-set c i s w es (rising_tiles (mosaic_in n es) valid) (λ u here. let same : v ≡ u = cc in items ∙ ap (λ (x : Vec ℤ). slice_set x.items i s) same))
+        ∙ tiles-set c i s w es (rising_tiles (mosaic_in n ps es) valid) (λ u here. let same : v ≡ u = cc in items ∙ ap (λ (x : Vec ℤ). slice_set x.items i s) same))
 
-    pub set_is : w.items ≡ slice_set v.items i s → new ≡ set_value (is_at (corner_cmp c)) es w → mosaic_in n new ≡ with_sample c i s now
+    pub set_is : w.items ≡ slice_set v.items i s → new ≡ set_value (is_at (corner_cmp c)) es w → mosaic_in n ps new ≡ with_sample c i s now
     set_is items e = mosaic-set items e ∙ ap (with_sample c i s) view
 
-    pub set_valid : IsSample s → w.items ≡ slice_set v.items i s → new ≡ set_value (is_at (corner_cmp c)) es w → IsMosaic (mosaic_in n new)
-    set_valid sample items e = subst IsMosaic (sym (mosaic-set items e)) (mosaic-with_sample c i s (mosaic_in n es) valid sample)
+    pub set_valid : IsSample s → w.items ≡ slice_set v.items i s → new ≡ set_value (is_at (corner_cmp c)) es w → IsMosaic (mosaic_in n ps new)
+    set_valid sample items e = subst IsMosaic (sym (mosaic-set items e)) (mosaic-with_sample c i s (mosaic_in n ps es) valid sample)
 
   -- a present corner has samples
   pub found_somewhere : IsTrue (is_present now c) → None ≡ lookup (is_at (corner_cmp c)) es → ⊥
@@ -198,7 +199,7 @@ some-lookup c (e ∷ es) = rw (tied_is c e.0) (elim (same_corner e.0 c) as (λ b
   | false ↦ some-lookup c es
 ])
 
-module _ (n : ℕ) (es : List Entry) (now : Mosaic) (view : mosaic_in n es ≡ now) (c : Corner) where
+module _ (n : ℕ) (ps : List Point) (es : List Entry) (now : Mosaic) (view : mosaic_in n ps es ≡ now) (c : Corner) where
   pub found-present : is_some (lookup (is_at (corner_cmp c)) es) ≡ is_present now c
   found-present = some-lookup c es ∙ ap (λ (m : Mosaic). is_present m c) view
 

@@ -33,7 +33,7 @@ listed_after c d (e ∷ es) h listed = by (same_corner e d) refl listed (listed_
     by true same there later = subst (λ f. IsTrue (is_before c f)) (same_says e d same) h.0
     by false other there later = later there
 
-none_after : (c : Corner) (tiles : List Tile) → AllAfter corner_of c tiles → samples_among tiles c ≡ None
+pub none_after : (c : Corner) (tiles : List Tile) → AllAfter corner_of c tiles → samples_among tiles c ≡ None
 none_after c [] h = refl
 none_after c (t ∷ ts) h = rw (after_not_same c t.corner h.0) (none_after c ts h.1)
 

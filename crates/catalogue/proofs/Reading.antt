@@ -32,6 +32,7 @@ module _ {S : Type 0} (g : Ghosts S) where
     never_refuses = h.never_refuses;
     side = h.side;
     corners = h.corners;
+    sinks = h.sinks;
     failures = h.failures;
     honest = h.honest;
     mosaic = h.mosaic;
@@ -49,6 +50,7 @@ module _ {S : Type 0} (g : Ghosts S) where
     never_refuses = h.never_refuses;
     side = h.side;
     corners = h.corners;
+    sinks = h.sinks;
     failures = h.failures;
     honest = h.honest;
     mosaic = h.mosaic;
@@ -66,6 +68,7 @@ module _ {S : Type 0} (g : Ghosts S) where
     never_refuses = λ never. never;
     side = refl;
     corners = refl;
+    sinks = refl;
     failures = omega arith;
     honest = λ honest. honest;
     mosaic = λ _. refl;
@@ -83,6 +86,7 @@ module _ {S : Type 0} (g : Ghosts S) where
     never_refuses = λ never. second.never_refuses (first.never_refuses never);
     side = second.side ∙ first.side;
     corners = second.corners ∙ first.corners;
+    sinks = second.sinks ∙ first.sinks;
     failures = omega (arith, first.failures, second.failures);
     honest = λ honest. first.honest (second.honest honest);
     mosaic = λ honest. second.mosaic honest ∙ first.mosaic (second.honest honest);

@@ -5,11 +5,10 @@ use Rattle.std.specs.List.{filter}
 use Rattle.std.proofs.lemmas.Int.{ints, by_lt_z, to_z-of_z}
 use mir.Syntax.{w16}
 use mir.Val.{SFits, to_z, of_z}
-use Rattle.std.proofs.lemmas.List.{append-nil}
 use Rattle.std.proofs.lemmas.List.Elements.{All-head, All-tail}
-use Rattle.std.proofs.lemmas.Bool.{and_parts, and_from, false_from_ne_true}
+use Rattle.std.proofs.lemmas.Bool.{and_parts, false_from_ne_true}
 use Rattle.lattice.specs.Corners.{Corner, is_corner, is_before, same_corner}
-use Rattle.lattice.proofs.IntTests.{le_true, le_from}
+use Rattle.lattice.proofs.IntTests.{le_true}
 use Rattle.catalogue.specs.Tiles.{corners_before, is_listed}
 use Rattle.lattice.proofs.CornerOrder.{Below, before_says, before_from, same_says, before_not_back, after_from, before_apart}
 use Rattle.lattice.proofs.Rising.{AllAfter, Rising, after_later}
@@ -124,12 +123,6 @@ before-last (x ∷ xs) corners =
     let before : IsTrue (is_before x (corner_at (pos 90) (negsuc 179))) = before_from x (corner_at (pos 90) (negsuc 179)) (inl south) in
     rw before (ap (λ (l : List Corner). x ∷ l) (before-last xs (All-tail (λ c. IsTrue (is_corner c)) x xs corners)))
 
-pub corner_from : (c : Corner) → negsuc 89 ≤ℤ c.lat → c.lat ≤ℤ pos 89 → negsuc 179 ≤ℤ c.lon → c.lon ≤ℤ pos 179 → IsTrue (is_corner c)
-corner_from c south north west east =
-    and_from (int_le (negsuc 89) c.lat && int_le c.lat (pos 89) && int_le (negsuc 179) c.lon) (int_le c.lon (pos 179))
-    (and_from (int_le (negsuc 89) c.lat && int_le c.lat (pos 89)) (int_le (negsuc 179) c.lon)
-    (and_from (int_le (negsuc 89) c.lat) (int_le c.lat (pos 89)) (le_from _ _ south) (le_from _ _ north)) (le_from _ _ west)) (le_from _ _ east)
-
 -- ---- a walk over the corners
 module _ (cs : List Corner) (rising : Rising itself cs) (lat lon : ℤ) where
   abbrev pub named : Option Corner
@@ -137,20 +130,6 @@ module _ (cs : List Corner) (rising : Rising itself cs) (lat lon : ℤ) where
 
   pub before-step : (found : List Corner) → found ≡ corners_before lat lon cs → corners_before lat (lon +ℤ pos 1) cs ≡ found ++ cond (is_listed (corner_at lat lon) cs) (corner_at lat lon ∷ []) []
   before-step found so_far = before-next lat lon cs rising ∙ ap (λ (l : List Corner). l ++ cond (is_listed (corner_at lat lon) cs) (corner_at lat lon ∷ []) []) (sym so_far)
-
-  pub step_some : (found new : List Corner) (c : Corner) → found ≡ corners_before lat lon cs → Some c ≡ named → new ≡ found ++ c ∷ [] → new ≡ corners_before lat (lon +ℤ pos 1) cs
-  step_some found new c so_far is pushed = by (is_listed (corner_at lat lon) cs) is (before-step found so_far)
-    where
-      by : (b : Bool) → Some c ≡ cond b (Some (corner_at lat lon)) None → corners_before lat (lon +ℤ pos 1) cs ≡ found ++ cond b (corner_at lat lon ∷ []) [] → new ≡ corners_before lat (lon +ℤ pos 1) cs
-      by true e step = let this : c ≡ corner_at lat lon = cc in pushed ∙ ap (λ (d : Corner). found ++ d ∷ []) this ∙ sym step
-      by false e step = absurd (cc)
-
-  pub step_none : (found : List Corner) → found ≡ corners_before lat lon cs → None ≡ named → found ≡ corners_before lat (lon +ℤ pos 1) cs
-  step_none found so_far is = by (is_listed (corner_at lat lon) cs) is (before-step found so_far)
-    where
-      by : (b : Bool) → None ≡ cond b (Some (corner_at lat lon)) None → corners_before lat (lon +ℤ pos 1) cs ≡ found ++ cond b (corner_at lat lon ∷ []) [] → found ≡ corners_before lat (lon +ℤ pos 1) cs
-      by true e step = absurd (cc)
-      by false e step = sym (append-nil found) ∙ sym step
 
 -- what is asked for at a corner, or past the last degree
 module _ (cs : List Corner) (lat lon : ℤ) where

@@ -12,8 +12,8 @@ use Rattle.lattice.specs.Steps.{step, directions}
 use Rattle.lattice.specs.Terrain.{Terrain}
 use Rattle.lattice.specs.Mosaic.{Tile, Mosaic, IsMosaic, IsTile, void, is_void}
 use Rattle.lattice.specs.Height.{sample_at, samples_at, first_height, by_seam_rule, height_of, differ, disagrees}
-use Rattle.lattice.specs.Ground.{is_height, metres, is_ground, same_point, is_near, share_tile, is_adjacent, degree_of, is_outlet, terrain}
-use Rattle.lattice.specs.Block.{IsBlockOf}
+use Rattle.lattice.specs.Ground.{is_height, metres, is_ground, same_point, is_near, share_tile, is_adjacent, degree_of, is_sink, is_outlet, terrain}
+use Rattle.lattice.specs.Block.{AreHeightsOf}
 use Rattle.lattice.specs.declared.height.Height.{Height}
 use Rattle.lattice.specs.declared.height.Height.TheVariants.{Void, At}
 use Rattle.lattice.specs.declared.point.Point.{Point}
@@ -96,7 +96,7 @@ module _ (m s : Mosaic) (m_valid : IsMosaic m) (s_valid : IsMosaic s) (sealed : 
   own_said : (p : Point) (t : Tile) → Contains s.tiles t → holds m.side t.corner p ≡ true → sample_at m.side t p ≡ metres (height_of m p)
   own_said p t there held =
       let corner = (All-contains (IsTile s.side) s.tiles t s_valid.tiles there).corner in
-      let block = All-contains (λ (u : Tile). IsBlockOf m u.corner u.samples) s.tiles t sealed.blocks there in
+      let block = All-contains (λ (u : Tile). AreHeightsOf m u.corner u.samples) s.tiles t sealed.heights there in
       let at = (holds_is m.side t.corner p m_valid.side_low corner).0 held in
       block.values (index_of m.side t.corner p) (index_of_below m.side t.corner p at) ∙ ap (λ (q : Point). metres (height_of m q)) (point_of_index m.side t.corner p at)
 
@@ -130,7 +130,9 @@ module _ (m s : Mosaic) (m_valid : IsMosaic m) (s_valid : IsMosaic s) (sealed : 
   sealed_degree p = ap (λ (f : _ → Bool). count_by f directions) (fun_ext (λ d. sealed_adjacent p (step d p)))
 
   pub sealed_outlet : (p : Point) → is_outlet s p ≡ is_outlet m p
-  sealed_outlet p = ap₂ (λ a d. a && nat_lt d 8) (sealed_ground p) (sealed_degree p)
+  sealed_outlet p =
+      ap₂ (λ a d. a && (nat_lt d 8 || is_sink s p)) (sealed_ground p) (sealed_degree p)
+      ∙ ap (λ (l : List Point). is_ground m p && (nat_lt (degree_of m p) 8 || list_any (λ q. same_point q p) l)) sealed.sinks
 
   pub sealed_terrain : terrain s ≡ terrain m
   sealed_terrain =

@@ -1,13 +1,11 @@
 -- How many points disagree: counted tile by tile, each at the first present tile that holds it.
 use Rattle.std.proofs.Common.{◌≡◌, ℕ, zero, suc, ◌+◌, ◌-◌, ◌*◌, ◌<◌, ℤ, pos, negsuc, ◌+ℤ◌, Bool, true, false, cond, ◌&&◌, ◌||◌, IsTrue, List, [], ◌∷◌, ◌++◌, length, map, refl, sym, ◌∙◌, ap, ap₂, subst, arith, add-one, add-zero, zero-add, inl, inr}
 use Rattle.std.specs.Prelude.{Some, None, Result, Ok, Err, IfOk, sum_by, count_by, All, nat_lt}
-use Rattle.std.specs.Ordering.{int_eq}
 use Rattle.std.specs.List.{filter}
 use Rattle.std.proofs.lemmas.List.{length-append}
 use Rattle.std.proofs.lemmas.List.Sums.{sum_by-append}
 use Rattle.std.proofs.lemmas.List.Elements.{All-head, All-tail}
 use Rattle.std.proofs.lemmas.Bool.{and_parts, and_from, and_right, or_left, cases_lt, false≢true, lt-ltb, le-ltb}
-use Rattle.std.proofs.lemmas.Bool.Decides.{Decides-int_eq}
 use Rattle.lattice.specs.Corners.{Corner, is_corner, same_corner}
 use Rattle.lattice.specs.Lattice.{Holds, holds, index_of, point_of}
 use Rattle.lattice.specs.Mosaic.{Tile, Mosaic, IsMosaic}
@@ -18,6 +16,7 @@ use Rattle.lattice.specs.RimPoints.{rim_index}
 use Rattle.lattice.specs.declared.point.Point.{Point}
 use Rattle.lattice.specs.declared.refusal.Refusal.{Refusal}
 use Rattle.lattice.proofs.RimNumbers.{rim_index_is, rim_index_of_number, number_below}
+use Rattle.lattice.proofs.SamePoints.{same_point_says, same_point_from}
 use Rattle.lattice.proofs.Samples.{holds_is, index_of_point_is, point_of_held, point_of_index, index_of_below, index_of_held}
 use Rattle.catalogue.specs.Tiles.{corners_of, corners_before, is_listed}
 use Rattle.catalogue.specs.Seams.{IsSeamCount, is_first, present_holders, is_own_seam, own_seams_below, seams_of, seams_before}
@@ -78,14 +77,6 @@ sum_by-cons f x xs = sum_by-append f (x ∷ []) xs ∙ ap (λ n. n + sum_by f xs
 
 count-append : (f : Point → Bool) (xs ys : List Point) → count_by f (xs ++ ys) ≡ count_by f xs + count_by f ys
 count-append f xs ys = sum_by-append (λ (p : Point). cond (f p) 1 0) xs ys
-
-same_point_says : (p q : Point) → same_point p q ≡ true → p ≡ q
-same_point_says p q e =
-    let both = and_parts (int_eq p.y q.y) (int_eq p.x q.x) e in
-    ap₂ (λ (y x : ℤ). record { y = y; x = x }) ((Decides-int_eq p.y q.y).0 both.0) ((Decides-int_eq p.x q.x).0 both.1)
-
-same_point_from : (p q : Point) → p ≡ q → same_point p q ≡ true
-same_point_from p q e = and_from (int_eq p.y q.y) (int_eq p.x q.x) ((Decides-int_eq p.y q.y).1 (ap (λ r. r.y) e)) ((Decides-int_eq p.x q.x).1 (ap (λ r. r.x) e))
 
 -- ---- the points of one tile
 -- those of the first so many points that are chosen

@@ -25,6 +25,7 @@ pub record OnlyReads {S T : Type 0} (g : Ghosts S) (old new : S) (result : Resul
   pub never_refuses : g.never_refuses old → g.never_refuses new
   pub side : g.side_of new ≡ g.side_of old
   pub corners : g.corners new ≡ g.corners old
+  pub sinks : g.sinks_of new ≡ g.sinks_of old
   pub failures : g.failures old ≤ g.failures new
   -- no call makes a dishonest one honest
   pub honest : g.is_honest new → g.is_honest old

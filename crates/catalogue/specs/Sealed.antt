@@ -7,16 +7,17 @@ use Rattle.lattice.specs.Lattice.{holds, point_of}
 use Rattle.lattice.specs.Mosaic.{Mosaic}
 use Rattle.lattice.specs.Height.{height_of}
 use Rattle.lattice.specs.Ground.{metres}
-use Rattle.lattice.specs.Block.{IsBlockOf}
+use Rattle.lattice.specs.Block.{AreHeightsOf}
 use Rattle.lattice.specs.declared.point.Point.{Point}
 use Rattle.catalogue.specs.Reading.{IsSampleOf}
 use Rattle.catalogue.specs.Tiles.{corners_of}
 
--- each tile's samples are its block: the heights of its points by the seam rule, void where a point has none
+-- each tile's samples are the heights of its points by the seam rule, void where a point has none; the sinks stay
 pub record IsSealed (m sealed : Mosaic) : Type 0 where
   pub side : sealed.side ≡ m.side
   pub corners : corners_of sealed ≡ corners_of m
-  pub blocks : All (λ t. IsBlockOf m t.corner t.samples) sealed.tiles
+  pub sinks : sealed.sinks ≡ m.sinks
+  pub heights : All (λ t. AreHeightsOf m t.corner t.samples) sealed.tiles
 
 -- a present tile other than the corner's holds the point
 abbrev pub is_held_elsewhere : Mosaic → Corner → Point → Bool

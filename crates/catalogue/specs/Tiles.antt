@@ -3,6 +3,7 @@ use Rattle.std.specs.Prelude.{ℕ, ℤ, Bool, not, IsTrue, if◌then◌else◌, 
 use Rattle.std.specs.List.{list_any}
 use Rattle.lattice.specs.Corners.{Corner, is_corner, is_before, same_corner}
 use Rattle.lattice.specs.Mosaic.{Tile, Mosaic}
+use Rattle.lattice.specs.declared.point.Point.{Point}
 
 -- the corners of the present tiles, in order
 abbrev pub corners_of : Mosaic → List Corner
@@ -36,6 +37,10 @@ with_sample_in c i s t = if same_corner t.corner c then record t { samples = sli
 -- the mosaic with this sample at the index of the corner's tile
 abbrev pub with_sample : Corner → ℕ → ℤ → Mosaic → Mosaic
 with_sample c i s m = record m { tiles = map (with_sample_in c i s) m.tiles }
+
+-- the mosaic with these sinks and no others
+abbrev pub with_sinks : List Point → Mosaic → Mosaic
+with_sinks sinks m = record m { sinks = sinks }
 
 -- those of the corners that stand before this latitude and longitude
 abbrev pub corners_before : ℤ → ℤ → List Corner → List Corner

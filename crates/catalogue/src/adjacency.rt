@@ -1,6 +1,6 @@
 //! Adjacent points, and the points where water can leave.
 ghost use Rattle.std.specs.Prelude.{◌≡◌, IfOk};
-ghost use Rattle.lattice.specs.Ground.{is_ground as ground, is_near as near, share_tile as shared, is_adjacent, degree_of, is_outlet};
+ghost use Rattle.lattice.specs.Ground.{is_ground as ground, is_near as near, share_tile as shared, is_adjacent, degree_of, is_outlet, is_sink as is_declared};
 ghost use Rattle.catalogue.specs.Readers.{OnlyReads};
 
 use crate::{Samples, height};
@@ -36,7 +36,7 @@ pub fn degree<S: Samples>(samples: &mut S, point: Point) -> Result<u32, Refusal>
     Ok(count)
 }
 
-/// Whether water can leave at the point: it has a height, and fewer than eight adjacent points.
+/// Whether water can leave at the point: it has a height, and is declared a sink or has fewer than eight adjacent points.
 pub fn outlet<S: Samples>(samples: &mut S, point: Point) -> Result<bool, Refusal>
     ensures value { S.is_honest samples.new → IfOk result (λ answer. answer ≡ is_outlet (S.mosaic samples.old) point) }
     ensures reads { OnlyReads S.Samples samples.old samples.new result }
@@ -44,8 +44,17 @@ pub fn outlet<S: Samples>(samples: &mut S, point: Point) -> Result<bool, Refusal
     if !is_ground(samples, point)? {
         return Ok(false);
     }
+    if is_sink(samples, point) {
+        return Ok(true);
+    }
     let count = degree(samples, point)?;
     Ok(count < 8)
+}
+
+fn is_sink<S: Samples>(samples: &S, point: Point) -> bool
+    ensures { S.is_honest samples.now → result ≡ is_declared (S.mosaic samples.now) point }
+{
+    samples.sinks().contains(&point)
 }
 
 fn is_ground<S: Samples>(samples: &mut S, point: Point) -> Result<bool, Refusal>

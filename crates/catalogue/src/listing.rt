@@ -1,18 +1,16 @@
 //! The present tiles in their order.
-ghost use Rattle.std.specs.Prelude.{◌≡◌, pos, negsuc, ◌+ℤ◌, ◌≤ℤ◌, IsTrue, IfOk, IfErr, OnOk, if◌then◌else◌, length};
+ghost use Rattle.std.specs.Prelude.{◌≡◌, IsTrue, IfOk, IfErr, if◌then◌else◌, length};
 ghost use Rattle.std.specs.List.{AllAdjacentBelow};
 ghost use Rattle.lattice.specs.Corners.{is_corner};
 ghost use Rattle.lattice.specs.Lattice.{IsBefore};
 ghost use Rattle.lattice.specs.declared.refusal.Refusal.TheVariants.{NoMemory};
-ghost use Rattle.catalogue.specs.Tiles.{corners_of, corners_before, is_listed, AreCorners};
+ghost use Rattle.catalogue.specs.Tiles.{corners_of, is_listed, AreCorners};
 
 use crate::Samples;
 use lattice::{Corner, Refusal};
 use std::alloc::Global;
 
-/// The corners of the present tiles, in order.
-///
-/// It asks for each of the 64,800 corners whether its tile is present, which reads no sample.
+/// The corners of the present tiles, in order. NoMemory is the only refusal.
 pub fn tiles<S: Samples>(alloc: Global, samples: &S) -> Result<Vec<Corner>, Refusal>
     ensures corners { S.is_honest samples.now → IfOk result (λ found. found.items ≡ corners_of (S.mosaic samples.now)) }
 
@@ -21,30 +19,7 @@ pub fn tiles<S: Samples>(alloc: Global, samples: &S) -> Result<Vec<Corner>, Refu
     ensures in_order { IfOk result (λ found. AllAdjacentBelow IsBefore found.items (length found.items)) }
     ensures refusal { IfErr result (λ r. r ≡ NoMemory) }
 {
-    let mut found = Vec::new(alloc);
-    for lat in -90..90 {
-        add_row(samples, lat, &mut found)?;
-    }
-    Ok(found)
-}
-
-// Adds the present corners of this latitude to those of the latitudes below.
-fn add_row<S: Samples>(samples: &S, lat: i16, found: &mut Vec<Corner>) -> Result<(), Refusal>
-    requires from { negsuc 89 ≤ℤ lat }
-    requires to { lat ≤ℤ pos 89 }
-    ensures added { AreCorners (S.corners samples.now)
-        → found.old.items ≡ corners_before lat (negsuc 179) (S.corners samples.now)
-        → OnOk result (found.new.items ≡ corners_before (lat +ℤ pos 1) (negsuc 179) (S.corners samples.now)) }
-    ensures in_order { OnOk result (AllAdjacentBelow IsBefore (S.corners samples.now) (length (S.corners samples.now))) }
-    ensures whole_degrees { OnOk result (AreCorners (S.corners samples.now)) }
-    ensures refusal { IfErr result (λ r. r ≡ NoMemory) }
-{
-    for lon in -180..180 {
-        if let Some(corner) = present_at(samples, lat, lon) {
-            found.push(corner).map_err(|_| Refusal::NoMemory)?;
-        }
-    }
-    Ok(())
+    samples.present_corners(alloc)
 }
 
 // The corner at this latitude and longitude, where its tile is present.

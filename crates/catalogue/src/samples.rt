@@ -3,12 +3,14 @@ ghost use Rattle.std.specs.Prelude.{◌≡◌, ◌≤◌, ◌<◌, ◌+◌, ◌*
 ghost use Rattle.std.specs.List.{AllAdjacentBelow};
 ghost use Rattle.lattice.specs.Corners.{Corner};
 ghost use Rattle.lattice.specs.Lattice.{IsBefore};
-ghost use Rattle.lattice.specs.Mosaic.{Mosaic, IsMosaic};
-ghost use Rattle.lattice.specs.declared.refusal.Refusal.TheVariants.{Device};
+ghost use Rattle.lattice.specs.Mosaic.{Mosaic, IsMosaic, AreSinks};
+ghost use Rattle.lattice.specs.declared.point.Point.{Point};
+ghost use Rattle.lattice.specs.declared.refusal.Refusal.TheVariants.{Device, NoMemory};
 ghost use Rattle.catalogue.specs.Reading.{IsSampleOf, AreSamplesOf, MayRefuse};
 ghost use Rattle.catalogue.specs.Tiles.{corners_of, AreCorners};
 
-use lattice::{Corner, Refusal, Side};
+use lattice::{Corner, Point, Refusal, Side};
+use std::alloc::Global;
 
 /// Tiles whose samples can be read, one by one or many at once: in memory, or from a disk.
 ///
@@ -20,6 +22,9 @@ pub trait Samples {
 
     /// The corners of its tiles, in order. They are held in memory, and so known whatever a disk does.
     ghost corners: { Self → List Corner };
+
+    /// Its declared sinks, in the order of points. They are held in memory too.
+    ghost sinks_of: { Self → List Point };
 
     /// The mosaic that it stands for, where it is honest.
     ghost mosaic: { Self → Mosaic };
@@ -51,6 +56,21 @@ pub trait Samples {
         ensures in_order { AllAdjacentBelow IsBefore (corners self.now) (length (corners self.now)) }
         ensures whole_degrees { AreCorners (corners self.now) };
 
+    /// How many tiles are present.
+    fn count(&self) -> usize
+        ensures { result ≡ length (corners self.now) };
+
+    /// The corners of the present tiles, in order. NoMemory is the only refusal.
+    fn present_corners(&self, alloc: Global) -> Result<Vec<Corner>, Refusal>
+        ensures corners { IfOk result (λ found. found.items ≡ corners self.now) }
+        ensures in_order { AllAdjacentBelow IsBefore (corners self.now) (length (corners self.now)) }
+        ensures refusal { IfErr result (λ r. r ≡ NoMemory) };
+
+    /// The points that are declared sinks, in the order of points.
+    fn sinks(&self) -> &[Point]
+        ensures sinks { result.now ≡ sinks_of self.now }
+        ensures valid { AreSinks (side_of self.now) (sinks_of self.now) };
+
     /// The sample at the index in the corner's tile: rows from the north, samples from the west.
     fn sample(&mut self, c: Corner, i: u32) -> Result<i16, Refusal>
         requires present { Contains (corners self.old) c }
@@ -70,6 +90,7 @@ pub trait Samples {
         ensures never_refuses { never_refuses self.old → never_refuses self.new }
         ensures side { side_of self.new ≡ side_of self.old }
         ensures corners { corners self.new ≡ corners self.old }
+        ensures sinks { sinks_of self.new ≡ sinks_of self.old }
         ensures failures { failures self.old ≤ failures self.new }
 
         // No call makes a dishonest one honest.
@@ -98,6 +119,7 @@ pub trait Samples {
         ensures never_refuses { never_refuses self.old → never_refuses self.new }
         ensures side { side_of self.new ≡ side_of self.old }
         ensures corners { corners self.new ≡ corners self.old }
+        ensures sinks { sinks_of self.new ≡ sinks_of self.old }
         ensures failures { failures self.old ≤ failures self.new }
 
         // No call makes a dishonest one honest.
@@ -113,6 +135,9 @@ pub trait Samples {
 
     /// The mosaic has these corners.
     ghost same_corners: { (s : Self) → is_honest s → corners_of (mosaic s) ≡ corners s };
+
+    /// The mosaic has these sinks.
+    ghost same_sinks: { (s : Self) → is_honest s → (mosaic s).sinks ≡ sinks_of s };
 
     /// To do nothing keeps it.
     ghost keeps_itself: { (s : Self) → keeps s s };

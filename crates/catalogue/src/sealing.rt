@@ -1,6 +1,6 @@
 //! The mosaic sealed by the seam rule.
 ghost use Rattle.std.specs.Prelude.{◌≡◌, ◌<◌, ◌*◌, ◌-◌, ◌⊎◌, IfOk, IfErr, OnOk, length, vec_len, slice_index_or, slice_set, Contains};
-ghost use Rattle.lattice.specs.Block.{IsBlockOf};
+ghost use Rattle.lattice.specs.Block.{AreHeightsOf};
 ghost use Rattle.lattice.specs.Ground.{metres as metres_of};
 ghost use Rattle.lattice.specs.Height.{height_of};
 ghost use Rattle.lattice.specs.Lattice.{point_of};
@@ -18,7 +18,7 @@ use lattice::{Corner, Height, Point, Refusal, VOID, holders, point_at, rim_index
 use std::alloc::Global;
 
 /// The mosaic with each tile's samples replaced by the heights of its points by the seam rule, void where a point has
-/// none. Its tiles agree wherever they meet, and each point keeps its height.
+/// none, and with the same sinks. Its tiles agree wherever they meet, and each point keeps its height.
 ///
 /// It takes memory for all tiles at once. Of each tile it reads the samples in one read, and further ones only for the
 /// points of the rim that another tile holds too. It is refused with NoMemory, or as a read of samples is.
@@ -34,17 +34,22 @@ pub fn sealed<S: Samples>(alloc: Global, samples: &mut S) -> Result<Table, Refus
 {
     let corners = tiles(alloc, samples)?;
     let mut table = Table::new(alloc, samples.side());
+    table.declare(samples.sinks());
     for corner in corners.as_slice() {
-        let heights = block(alloc, samples, *corner)?;
+        let heights = block_heights(alloc, samples, *corner)?;
         table.add(*corner, heights)?;
     }
     Ok(table)
 }
 
 // The heights of the points of the corner's tile by the seam rule, by index, void where a point has none.
-fn block<S: Samples>(alloc: Global, samples: &mut S, corner: Corner) -> Result<Vec<i16>, Refusal>
+fn block_heights<S: Samples>(
+    alloc: Global,
+    samples: &mut S,
+    corner: Corner,
+) -> Result<Vec<i16>, Refusal>
     requires { Contains (S.corners samples.old) corner }
-    ensures block { S.is_honest samples.new → IfOk result (λ heights. IsBlockOf (S.mosaic samples.old) corner heights.items) }
+    ensures heights { S.is_honest samples.new → IfOk result (λ heights. AreHeightsOf (S.mosaic samples.old) corner heights.items) }
     ensures whole { IfOk result (λ heights. vec_len heights ≡ S.side_of samples.old * S.side_of samples.old) }
     ensures refusal { IfErr result (λ r. (r ≡ NoMemory) ⊎ MayRefuse (S.failures samples.old) (S.failures samples.new) r) }
     ensures reads { OnlyReads S.Samples samples.old samples.new (reads_of result) }
@@ -59,9 +64,9 @@ fn block<S: Samples>(alloc: Global, samples: &mut S, corner: Corner) -> Result<V
 fn seal_rim<S: Samples>(samples: &mut S, corner: Corner, heights: &mut [i16]) -> Result<(), Refusal>
     requires present { Contains (S.corners samples.old) corner }
     requires whole { length heights.old ≡ S.side_of samples.old * S.side_of samples.old }
-    ensures block { S.is_honest samples.new
+    ensures heights { S.is_honest samples.new
         → AreSamplesOf (S.mosaic samples.old) corner 0 heights.old
-        → OnOk result (IsBlockOf (S.mosaic samples.old) corner heights.new) }
+        → OnOk result (AreHeightsOf (S.mosaic samples.old) corner heights.new) }
     ensures reads { OnlyReads S.Samples samples.old samples.new result }
 {
     let side = samples.side();

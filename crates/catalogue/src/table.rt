@@ -3,7 +3,8 @@ ghost use Rattle.std.specs.Prelude.{◌≡◌, ◌<◌, ◌*◌, ◌↔◌, IsTr
 ghost use Rattle.lattice.specs.Mosaic.{IsSample};
 
 use crate::Samples;
-use lattice::{Corner, Refusal, Side};
+use arrayvec::ArrayVec;
+use lattice::{Corner, MOST_SINKS, Point, Refusal, Side};
 use std::alloc::Global;
 use std::collections::BTreeMap;
 use std::marker::Model;
@@ -13,6 +14,7 @@ use std::marker::Model;
 pub struct Table {
     side: Side,
     tiles: BTreeMap<Corner, Vec<i16>>,
+    sinks: ArrayVec<Point, MOST_SINKS>,
 }
 
 impl Model for Table {
@@ -22,15 +24,15 @@ impl Model for Table {
 
     ghost use Rattle.catalogue.specs.Entries.{tiles_in};
 
-    ghost view = { λ t. record { side = t.side; tiles = tiles_in t.tiles.entries } };
+    ghost view = { λ t. record { side = t.side; tiles = tiles_in t.tiles.entries; sinks = t.sinks.items } };
 
-    ghost invariant = { λ t. IsMosaic (record { side = t.side; tiles = tiles_in t.tiles.entries }) };
+    ghost invariant = { λ t. IsMosaic (record { side = t.side; tiles = tiles_in t.tiles.entries; sinks = t.sinks.items }) };
 }
 
 impl Table {
-    ghost use Rattle.lattice.specs.Mosaic.{Mosaic, IsMosaic, is_present, samples_of, empty_mosaic};
+    ghost use Rattle.lattice.specs.Mosaic.{Mosaic, IsMosaic, AreSinks, is_present, samples_of, empty_mosaic};
     ghost use Rattle.lattice.specs.declared.refusal.Refusal.TheVariants.{NoMemory};
-    ghost use Rattle.catalogue.specs.Tiles.{added, without, with_sample, corners_of};
+    ghost use Rattle.catalogue.specs.Tiles.{added, without, with_sample, with_sinks, corners_of};
 
     /// A table of no tiles, of which each will have this side.
     pub fn new(alloc: Global, side: Side) -> Table
@@ -40,6 +42,19 @@ impl Table {
         Table {
             side,
             tiles: BTreeMap::new(alloc),
+            sinks: ArrayVec::new(),
+        }
+    }
+
+    /// Declares these sinks, and no others.
+    pub fn declare(&mut self, sinks: &[Point])
+        requires { AreSinks self.old.side sinks.now }
+        ensures declared { self.new ≡ with_sinks sinks.now self.old }
+        ensures valid { IsMosaic self.new }
+    {
+        let mut declared = ArrayVec::new();
+        if declared.try_extend_from_slice(sinks).is_ok() {
+            self.sinks = declared;
         }
     }
 
@@ -122,6 +137,8 @@ impl Samples for Table {
 
     ghost corners = { corners_of };
 
+    ghost sinks_of = { λ table. table.sinks };
+
     ghost mosaic = { λ table. table };
 
     ghost is_honest = { IsMosaic };
@@ -139,6 +156,8 @@ impl Samples for Table {
     ghost same_side = { λ _ _. refl };
 
     ghost same_corners = { λ _ _. refl };
+
+    ghost same_sinks = { λ _ _. refl };
 
     ghost keeps_itself = { λ _. refl };
 
@@ -158,6 +177,18 @@ impl Samples for Table {
         ensures valid { IsMosaic self.now }
     {
         self.tiles.contains_key(&c)
+    }
+
+    fn count(&self) -> usize {
+        self.tiles.len()
+    }
+
+    fn present_corners(&self, alloc: Global) -> Result<Vec<Corner>, Refusal> {
+        self.corners(alloc)
+    }
+
+    fn sinks(&self) -> &[Point] {
+        self.sinks.as_slice()
     }
 
     fn sample(&mut self, c: Corner, i: u32) -> Result<i16, Refusal> {

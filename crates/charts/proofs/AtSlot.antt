@@ -7,25 +7,28 @@ use Rattle.lattice.specs.Corners.{Corner}
 use Rattle.lattice.specs.declared.refusal.Refusal.{Refusal}
 use Rattle.lattice.proofs.Rising.{Rising, rising_from}
 use Rattle.page_alloc.specs.Pages.{PageSet}
-use Rattle.page_codec.specs.Sizes.{pages_of}
+use Rattle.layout.specs.Sizes.{pages_of}
+use Rattle.layout.specs.Formats.{Format}
 use Rattle.charts.specs.declared.locations.TilePlanes.{TilePlanes}
 use Rattle.charts.specs.declared.slot.Slot.{Slot}
-use Rattle.charts.specs.declared.slot.Staged.{Staged}
-use Rattle.charts.specs.declared.slot.Staged.TheVariants.{AsCommitted, Heights, Removed}
-use Rattle.charts.specs.Locations.{times}
-use Rattle.charts.specs.FreePages.{free_times, heights_pages, kept_of}
+use Rattle.charts.specs.declared.staged.Staged.{Staged}
+use Rattle.charts.specs.declared.staged.HeightsStaged.TheVariants as of_heights
+use Rattle.charts.specs.declared.staged.Staged.TheVariants.{Tile, Removed}
+use Rattle.charts.specs.Locations.{times, pages_behind}
+use Rattle.charts.specs.FreePages.{free_times, heights_pages}
 use Rattle.charts.specs.TileLocations.{TileLocation, reached, pages_of_kept}
 use Rattle.charts.specs.Charts.{IsLocated, HasFreshHeights, IsFresh, IsWholeTile, IsRewritten, tile_at, is_at, without_location}
 use Rattle.charts.specs.Slots.{committed_tile, staged_as, staged_tile, committed_tiles, staged_tiles, fresh_pages, pages_of_location, is_filled_as, stages_heights, stages_heights_as, fresh_as, IsSound, IsSlotAt, IsRoomAt, IsKept, chart_of, IsRestaged, IsPageRestaged}
+use Rattle.charts.specs.StagedPlanes.{kept_as}
 use Rattle.charts.proofs.Times.{one-self, times-append, member_of_times}
 use Rattle.charts.proofs.FreeTimes.{page_le}
 use Rattle.charts.proofs.SlotLists.{corner_of, times-split, reached_all, slot_in_use}
 use Rattle.charts.proofs.SlotChanges.{all_middle, kept_change, same_committed, chart_changed, staged_without, slot_fresh, rewritten, rewritten_kept}
 use Rattle.charts.proofs.Lookup.{split_of, not_located, located_here, tile_is, tile_here, room_other}
 
-heights_le : (p : ℕ) (c : Corner) (o : Option TilePlanes) → times p (heights_pages o) ≤ times p (pages_of_location (option_map (tile_at c) o))
+pub heights_le : (p : ℕ) (c : Corner) (o : Option TilePlanes) → times p (heights_pages o) ≤ times p (pages_of_location (option_map (tile_at c) o))
 heights_le p c None = omega arith
-heights_le p c (Some planes) = omega (arith, times-append p planes.heights.pages (pages_of_kept planes.kept))
+heights_le p c (Some planes) = omega (arith, times-append p (pages_behind planes.heights) (pages_of_kept planes.kept))
 
 length-filter-le : (p : TileLocation → Bool) (tiles : List TileLocation) → length (filter p tiles) ≤ length tiles
 length-filter-le p [] = omega arith
@@ -34,7 +37,7 @@ length-filter-le p (t ∷ rest) = let later = length-filter-le p rest in elim (p
 pub no_slot : (c : Corner) (at : ℕ) (slots : List Slot) → IsRoomAt c at slots → IsLocated c (staged_tiles slots) → ⊥
 no_slot c at slots room located = not_located c (staged_tiles slots) (room_other c at slots room) located
 
-module _ (side capacity : ℕ) (slots : List Slot) (free : PageSet) (kept : IsKept side capacity slots free) (c : Corner) (at : ℕ) (found : IsSlotAt c at slots) (s : Slot) (is : s ≡ get_or slots at s) where
+module _ (format : Format) (slots : List Slot) (free : PageSet) (kept : IsKept format slots free) (c : Corner) (at : ℕ) (found : IsSlotAt c at slots) (s : Slot) (is : s ≡ get_or slots at s) where
   abbrev before : List Slot
   before = take at slots
 
@@ -47,8 +50,8 @@ module _ (side capacity : ℕ) (slots : List Slot) (free : PageSet) (kept : IsKe
   pub corner : s.corner ≡ c
   corner = ap (λ (x : Slot). x.corner) is ∙ found.here s
 
-  pub kept_there : IsKept side capacity (before ++ s ∷ after) free
-  kept_there = subst (λ (l : List Slot). IsKept side capacity l free) split kept
+  pub kept_there : IsKept format (before ++ s ∷ after) free
+  kept_there = subst (λ (l : List Slot). IsKept format l free) split kept
 
   pub rising_there : Rising corner_of (before ++ s ∷ after)
   rising_there = rising_from corner_of (before ++ s ∷ after) kept_there.in_order
@@ -59,34 +62,38 @@ module _ (side capacity : ℕ) (slots : List Slot) (free : PageSet) (kept : IsKe
   pub present : IsLocated c (staged_tiles slots) → IsSome (staged_tile s)
   present located = located_here before s after rising_there (present_there located)
 
-  sound : IsSound side s
-  sound = all_middle (IsSound side) before s after kept_there.sound
+  sound : IsSound format s
+  sound = all_middle (IsSound format) before s after kept_there.sound
 
-  pub index_within : (i : ℕ) → i < pages_of side → IfSome (staged_tile s) (λ t. i < length t.heights.pages)
+  pub index_within : (i : ℕ) → i < pages_of format.side → IfSome (staged_tile s) (λ t. i < length t.heights.pages)
   index_within i below = by (staged_tile s) sound.staged
     where
-      by : (o : Option TileLocation) → IfSome o (IsWholeTile side) → IfSome o (λ t. i < length t.heights.pages)
+      by : (o : Option TileLocation) → IfSome o (IsWholeTile format) → IfSome o (λ t. i < length t.heights.pages)
       by None whole = tt
-      by (Some t) whole = omega (arith, whole.heights)
+      by (Some t) whole = omega (arith, whole.heights.pages)
 
   pub apart : (p : ℕ) → times p (heights_pages s.committed) + free_times free p ≤ 1
   apart p =
       let in_use = slot_in_use before s after free kept_there.counted p in
       omega (arith, in_use, page_le free.total p, heights_le p s.corner s.committed, times-append p (pages_of_location (committed_tile s)) (fresh_pages s))
 
-  pub staged_before : HasFreshHeights c (chart_of side capacity slots free) → stages_heights s ≡ true
+  pub staged_before : HasFreshHeights c (chart_of format slots free) → stages_heights s ≡ true
   staged_before (t, there) =
       let among : Contains (staged_tiles (before ++ s ∷ after)) t = subst (λ (l : List Slot). Contains (staged_tiles l) t) split there.0 in
       by s.corner s.committed s.staged (tile_is before s after rising_there t among (there.1 ∙ sym corner)) there.2.unreached
-      (λ (here : committed_tile s ≡ Some t). member_of_times (reached (committed_tiles slots)) t.heights.record_page (
-      let whole = ap (λ (l : List Slot). times t.heights.record_page (reached (committed_tiles l))) split ∙ ap (times t.heights.record_page) (reached_all committed_tile (before ++ s ∷ after)) in
-      let own = ap (λ (o : Option TileLocation). times t.heights.record_page (pages_of_location o)) here in
-      omega (arith, whole, own, times-split (λ (x : Slot). pages_of_location (committed_tile x)) t.heights.record_page before s after, one-self t.heights.record_page)))
+      (λ planes (here : s.committed ≡ Some planes). member_of_times (reached (committed_tiles slots)) planes.heights.record_page (
+      let r = planes.heights.record_page in
+      let whole = ap (λ (l : List Slot). times r (reached (committed_tiles l))) split ∙ ap (times r) (reached_all committed_tile (before ++ s ∷ after)) in
+      let own = ap (λ (o : Option TilePlanes). times r (pages_of_location (option_map (tile_at s.corner) o))) here in
+      omega (arith, whole, own, times-split (λ (x : Slot). pages_of_location (committed_tile x)) r before s after, one-self r)))
     where
       by : (d : Corner) (o : Option TilePlanes) (g : Staged) → staged_as d o g ≡ Some t → ¬ Contains (reached (committed_tiles slots)) t.heights.record_page
-          → (option_map (tile_at d) o ≡ Some t → Contains (reached (committed_tiles slots)) t.heights.record_page) → stages_heights_as g ≡ true
-      by d o AsCommitted had unreached reaches = absurd (unreached (reaches had))
-      by d o (Heights location keeps) had unreached reaches = refl
+          → ((planes : TilePlanes) → o ≡ Some planes → Contains (reached (committed_tiles slots)) planes.heights.record_page) → stages_heights_as g ≡ true
+      by d None (Tile of_heights.AsCommitted k) had unreached reaches = cc
+      by d (Some planes) (Tile of_heights.AsCommitted k) had unreached reaches =
+          let record_is : planes.heights.record_page ≡ t.heights.record_page = ap (λ (u : TileLocation). u.heights.record_page) (let same : record { corner = d; heights = planes.heights; kept = kept_as (Some planes) k } ≡ t = cc in same) in
+          absurd (unreached (subst (Contains (reached (committed_tiles slots))) record_is (reaches planes refl)))
+      by d o (Tile (of_heights.Fresh location) k) had unreached reaches = refl
       by d o Removed had unreached reaches = cc
 
   -- ---- a page that may be written
@@ -94,52 +101,52 @@ module _ (side capacity : ℕ) (slots : List Slot) (free : PageSet) (kept : IsKe
     pub set_is : set slots at new ≡ before ++ new ∷ after
     set_is = set_split slots at new found.below
 
-    kept_as_set : IsKept side capacity (before ++ new ∷ after) now → IsKept side capacity (set slots at new) now
-    kept_as_set k = subst (λ (l : List Slot). IsKept side capacity l now) (sym set_is) k
+    kept_as_set : IsKept format (before ++ new ∷ after) now → IsKept format (set slots at new) now
+    kept_as_set k = subst (λ (l : List Slot). IsKept format l now) (sym set_is) k
 
     module _ (i : ℕ) (r : Result ℕ Refusal) (staged : IfOk r (λ page. IsPageRestaged i page s new)) (restaged : IsRestaged s new free now) (unchanged : OnErr r (new ≡ s)) where
-      pub kept_rewritten : IsKept side capacity (set slots at new) now
+      pub kept_rewritten : IsKept format (set slots at new) now
       kept_rewritten = kept_as_set (by r staged unchanged)
         where
-          by : (q : Result ℕ Refusal) → IfOk q (λ page. IsPageRestaged i page s new) → OnErr q (new ≡ s) → IsKept side capacity (before ++ new ∷ after) now
-          by (Ok page) staged same = rewritten_kept side capacity before s new after free now kept_there i page staged restaged
+          by : (q : Result ℕ Refusal) → IfOk q (λ page. IsPageRestaged i page s new) → OnErr q (new ≡ s) → IsKept format (before ++ new ∷ after) now
+          by (Ok page) staged same = rewritten_kept format before s new after free now kept_there i page staged restaged
           by (Err refusal) staged same =
-              kept_change side capacity before s new after free now kept_there restaged.corner (same_committed s new restaged.corner restaged.committed)
-              (subst (λ (x : Slot). IsSound side x) (sym same) sound)
-              (subst (λ (x : Slot). length (staged_tiles (before ++ x ∷ after)) ≤ capacity) (sym same) kept_there.staged_room)
+              kept_change format before s new after free now kept_there restaged.corner (same_committed s new restaged.corner restaged.committed)
+              (subst (λ (x : Slot). IsSound format x) (sym same) sound)
+              (subst (λ (x : Slot). length (staged_tiles (before ++ x ∷ after)) ≤ format.capacity) (sym same) kept_there.staged_room)
               restaged.same_total restaged.each
 
-      pub is_rewritten : IfOk r (λ page. IsRewritten c i page (chart_of side capacity slots free) (chart_of side capacity (set slots at new) now))
+      pub is_rewritten : IfOk r (λ page. IsRewritten c i page (chart_of format slots free) (chart_of format (set slots at new) now))
       is_rewritten = by r staged
         where
-          by : (q : Result ℕ Refusal) → IfOk q (λ page. IsPageRestaged i page s new) → IfOk q (λ page. IsRewritten c i page (chart_of side capacity slots free) (chart_of side capacity (set slots at new) now))
+          by : (q : Result ℕ Refusal) → IfOk q (λ page. IsPageRestaged i page s new) → IfOk q (λ page. IsRewritten c i page (chart_of format slots free) (chart_of format (set slots at new) now))
           by (Ok page) staged =
-              subst (λ (l : List Slot). IsRewritten c i page (chart_of side capacity l free) (chart_of side capacity (set slots at new) now)) (sym split)
-              (subst (λ (l : List Slot). IsRewritten c i page (chart_of side capacity (before ++ s ∷ after) free) (chart_of side capacity l now)) (sym set_is)
-              (subst (λ (d : Corner). IsRewritten d i page (chart_of side capacity (before ++ s ∷ after) free) (chart_of side capacity (before ++ new ∷ after) now)) corner
-              (rewritten side capacity before s new after free now kept_there i page staged restaged)))
+              subst (λ (l : List Slot). IsRewritten c i page (chart_of format l free) (chart_of format (set slots at new) now)) (sym split)
+              (subst (λ (l : List Slot). IsRewritten c i page (chart_of format (before ++ s ∷ after) free) (chart_of format l now)) (sym set_is)
+              (subst (λ (d : Corner). IsRewritten d i page (chart_of format (before ++ s ∷ after) free) (chart_of format (before ++ new ∷ after) now)) corner
+              (rewritten format before s new after free now kept_there i page staged restaged)))
           by (Err refusal) staged = tt
 
   -- ---- a tile taken out
-  module _ (located : IsLocated c (staged_tiles slots)) (settled : ¬ HasFreshHeights c (chart_of side capacity slots free)) where
+  module _ (located : IsLocated c (staged_tiles slots)) (settled : ¬ HasFreshHeights c (chart_of format slots free)) where
     abbrev without : Slot
     without = record s { staged = Removed }
 
-    as_committed : (s.staged ≡ AsCommitted) × (is_filled_as s.committed Removed ≡ true)
-    as_committed = by s.staged refl sound.filled
+    none_fresh : (fresh_pages s ≡ []) × (is_filled_as s.committed Removed ≡ true)
+    none_fresh = by s.staged refl sound.filled
       where
-        by : (g : Staged) → s.staged ≡ g → is_filled_as s.committed g ≡ true → (s.staged ≡ AsCommitted) × (is_filled_as s.committed Removed ≡ true)
-        by AsCommitted same filled = (same, filled)
-        by (Heights location keeps) same filled =
-            let t : TileLocation = record { corner = s.corner; heights = location; kept = cond keeps (kept_of s.committed) None } in
+        by : (g : Staged) → s.staged ≡ g → is_filled_as s.committed g ≡ true → (fresh_pages s ≡ []) × (is_filled_as s.committed Removed ≡ true)
+        by (Tile of_heights.AsCommitted k) same filled = (ap (fresh_as s.committed) same, filled)
+        by (Tile (of_heights.Fresh location) k) same filled =
+            let t : TileLocation = record { corner = s.corner; heights = location; kept = kept_as s.committed k } in
             let had : staged_tile s ≡ Some t = ap (staged_as s.corner s.committed) same in
             absurd (settled (
               t,
               (
                 subst (λ (l : List Slot). Contains (staged_tiles l) t) (sym split) (tile_here before s after rising_there t had),
                 corner,
-                subst (λ (l : List Slot). IsFresh (chart_of side capacity l free) location.record_page) (sym split)
-                    (slot_fresh side capacity before s after free kept_there.counted location.record_page
+                subst (λ (l : List Slot). IsFresh (chart_of format l free) location.record_page) (sym split)
+                    (slot_fresh format before s after free kept_there.counted location.record_page
                     (let there = ap (λ g. times location.record_page (fresh_as s.committed g)) same in omega (arith, there, one-self location.record_page))),
               ),
             ))
@@ -152,20 +159,20 @@ module _ (side capacity : ℕ) (slots : List Slot) (free : PageSet) (kept : IsKe
         by None had some = absurd (false≢true some)
         by (Some t) had some = staged_without before s after rising_there t had without refl
 
-    pub kept_removed : IsKept side capacity (set slots at without) free
+    pub kept_removed : IsKept format (set slots at without) free
     kept_removed =
-        subst (λ (l : List Slot). IsKept side capacity l free) (sym (set_is without free))
-        (kept_change side capacity before s without after free free kept_there refl refl
-        (record { corner = sound.corner; committed = sound.committed; staged = tt; filled = as_committed.1 })
+        subst (λ (l : List Slot). IsKept format l free) (sym (set_is without free))
+        (kept_change format before s without after free free kept_there refl refl
+        (record { corner = sound.corner; committed = sound.committed; staged = tt; filled = none_fresh.1 })
         (rw removed_tiles (fewer (staged_tiles (before ++ s ∷ after)) kept_there.staged_room)) refl
-        (λ p. (let none = ap (λ g. times p (fresh_as s.committed g)) as_committed.0 in omega (arith, none))))
+        (λ p. (let none = ap (times p) none_fresh.0 in omega (arith, none))))
       where
-        fewer : (tiles : List TileLocation) → length tiles ≤ capacity → length (without_location s.corner tiles) ≤ capacity
+        fewer : (tiles : List TileLocation) → length tiles ≤ format.capacity → length (without_location s.corner tiles) ≤ format.capacity
         fewer tiles few = omega (arith, length-filter-le (λ t. not (is_at s.corner t)) tiles)
 
-    pub is_removed : chart_of side capacity (set slots at without) free ≡ record (chart_of side capacity slots free) { staged = without_location c (staged_tiles slots) }
+    pub is_removed : chart_of format (set slots at without) free ≡ record (chart_of format slots free) { staged = without_location c (staged_tiles slots) }
     is_removed =
-        ap (λ (l : List Slot). chart_of side capacity l free) (set_is without free)
-        ∙ (chart_changed side capacity before s without after free free refl refl _ removed_tiles
-        ∙ (ap (λ (d : Corner). record (chart_of side capacity (before ++ s ∷ after) free) { staged = without_location d (staged_tiles (before ++ s ∷ after)) }) corner
-        ∙ ap (λ (l : List Slot). record (chart_of side capacity l free) { staged = without_location c (staged_tiles l) }) (sym split)))
+        ap (λ (l : List Slot). chart_of format l free) (set_is without free)
+        ∙ (chart_changed format before s without after free free refl refl _ removed_tiles
+        ∙ (ap (λ (d : Corner). record (chart_of format (before ++ s ∷ after) free) { staged = without_location d (staged_tiles (before ++ s ∷ after)) }) corner
+        ∙ ap (λ (l : List Slot). record (chart_of format l free) { staged = without_location c (staged_tiles l) }) (sym split)))

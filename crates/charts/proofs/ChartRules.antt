@@ -1,5 +1,5 @@
 -- What is known of every chart.
-use Rattle.std.proofs.Common.{◌≡◌, ℕ, zero, suc, ◌+◌, ◌<◌, ◌≤◌, Bool, true, false, cond, inl, inr, List, [], ◌∷◌, ◌++◌, map, refl, sym, ap, subst, ◌∙◌, arith}
+use Rattle.std.proofs.Common.{◌≡◌, ℕ, zero, suc, ◌+◌, ◌<◌, ◌≤◌, inl, inr, List, [], ◌∷◌, ◌++◌, map, refl, sym, ap, subst, ◌∙◌, arith}
 use Rattle.std.specs.Prelude.{IsTrue, Option, Some, None, IsSome, IfSome, All, Contains, option_map}
 use Rattle.std.specs.List.{filter_map, flat_map, cons_option, AllByRecursion}
 use Rattle.std.proofs.lemmas.Bool.{false≢true}
@@ -8,15 +8,20 @@ use Rattle.std.proofs.lemmas.List.Elements.{filter_map-append, All-nil, All-cons
 use Rattle.lattice.specs.Corners.{Corner, is_corner}
 use Rattle.lattice.proofs.Rising.{Rising, rising_from, adjacent_from}
 use Rattle.page_alloc.specs.Pages.{PageSet}
+use Rattle.layout.specs.Formats.{Format}
 use Rattle.charts.specs.declared.locations.TilePlanes.{TilePlanes}
 use Rattle.charts.specs.declared.slot.Slot.{Slot}
-use Rattle.charts.specs.declared.slot.Staged.{Staged}
-use Rattle.charts.specs.declared.slot.Staged.TheVariants.{AsCommitted, Heights, Removed}
+use Rattle.charts.specs.declared.staged.Staged.{Staged}
+use Rattle.charts.specs.declared.staged.HeightsStaged.TheVariants as of_heights
+use Rattle.charts.specs.declared.staged.KeptStaged.{KeptStaged}
+use Rattle.charts.specs.declared.staged.KeptStaged.TheVariants as of_kept
+use Rattle.charts.specs.declared.staged.Staged.TheVariants.{Tile, Removed}
 use Rattle.charts.specs.Locations.{times}
-use Rattle.charts.specs.FreePages.{page_times, kept_of}
+use Rattle.charts.specs.FreePages.{page_times}
 use Rattle.charts.specs.TileLocations.{TileLocation, KeepsPageRule, reached}
 use Rattle.charts.specs.Charts.{ChartValue, IsChart, IsFresh, IsStagedIn, IsWholeTile, tile_at}
 use Rattle.charts.specs.Slots.{committed_tile, staged_as, staged_tile, committed_tiles, staged_tiles, fresh_as, fresh_pages, pages_of_location, IsSound, AreCounted, IsKept, chart_of}
+use Rattle.charts.specs.StagedPlanes.{kept_as}
 use Rattle.charts.proofs.Times.{one-self, times-append, times_of_member, all_numbers}
 use Rattle.charts.proofs.FreeTimes.{page_at, page_le}
 use Rattle.charts.proofs.Slotting.{replaced_count}
@@ -35,8 +40,7 @@ pub staged_le : (p : ℕ) (s : Slot) → times p (pages_of_location (staged_tile
 staged_le p s = by s.corner s.committed s.staged
   where
     by : (c : Corner) (o : Option TilePlanes) (g : Staged) → times p (pages_of_location (staged_as c o g)) ≤ times p (pages_of_location (option_map (tile_at c) o)) + times p (fresh_as o g)
-    by c o AsCommitted = omega arith
-    by c o (Heights location keeps) = omega (arith, replaced_count p c o location keeps)
+    by c o (Tile h k) = omega (arith, replaced_count p c o h k)
     by c o Removed = omega arith
 
 all_staged_le : (p : ℕ) (slots : List Slot)
@@ -95,8 +99,8 @@ record IsIn (chart : ChartValue) (s : Slot) : Type 0 where
   pub committed : IfSome (committed_tile s) (Contains chart.committed)
   pub fresh : (p : ℕ) → 1 ≤ times p (fresh_pages s) → IsFresh chart p
 
-pub fresh_page : (side capacity : ℕ) (slots : List Slot) (free : PageSet) → AreCounted slots free → (p : ℕ) → 1 ≤ times p (flat_map fresh_pages slots) → IsFresh (chart_of side capacity slots free) p
-fresh_page side capacity slots free counted p some =
+pub fresh_page : (format : Format) (slots : List Slot) (free : PageSet) → AreCounted slots free → (p : ℕ) → 1 ≤ times p (flat_map fresh_pages slots) → IsFresh (chart_of format slots free) p
+fresh_page format slots free counted p some =
     let all = counted p in
     let few = page_le free.total p in
     let page = page_at free.total p (omega arith) in
@@ -106,27 +110,30 @@ fresh_page side capacity slots free counted p some =
       unreached = λ member. (let there = times_of_member (reached (committed_tiles slots)) p member in absurd (omega arith));
     }
 
-is_in : (side capacity : ℕ) (slots : List Slot) (free : PageSet) → AreCounted slots free → AllByRecursion (IsIn (chart_of side capacity slots free)) slots
-is_in side capacity slots free counted =
-    each_slot (IsIn (chart_of side capacity slots free)) [] slots (λ before s after is. record {
+is_in : (format : Format) (slots : List Slot) (free : PageSet) → AreCounted slots free → AllByRecursion (IsIn (chart_of format slots free)) slots
+is_in format slots free counted =
+    each_slot (IsIn (chart_of format slots free)) [] slots (λ before s after is. record {
       committed = subst (λ (l : List Slot). IfSome (committed_tile s) (Contains (committed_tiles l))) (sym is) (contains_at committed_tile before s after);
-      fresh = λ p some. fresh_page side capacity slots free counted p
+      fresh = λ p some. fresh_page format slots free counted p
           (let there = ap (λ (l : List Slot). times p (flat_map fresh_pages l)) is in omega (arith, there, times-split fresh_pages p before s after));
     })
 
 staged_in_chart : (chart : ChartValue) (s : Slot) → IsIn chart s → IfSome (staged_tile s) (IsStagedIn chart)
 staged_in_chart chart s is = by s.corner s.committed s.staged is.committed is.fresh
   where
-    kept_by : (c : Corner) (o : Option TilePlanes) (keeps : Bool) → IfSome (option_map (tile_at c) o) (Contains chart.committed) → IsSome (cond keeps (kept_of o) None) → Contains (map (λ (u : TileLocation). u.kept) chart.committed) (cond keeps (kept_of o) None)
-    kept_by c None true there some = absurd (false≢true some)
-    kept_by c None false there some = absurd (false≢true some)
-    kept_by c (Some planes) true there some = contains_map (λ (u : TileLocation). u.kept) chart.committed (tile_at c planes) there
-    kept_by c (Some planes) false there some = absurd (false≢true some)
+    kept_by : (c : Corner) (o : Option TilePlanes) (k : KeptStaged) → IfSome (option_map (tile_at c) o) (Contains chart.committed) → IsSome (kept_as o k) → Contains (map (λ (u : TileLocation). u.kept) chart.committed) (kept_as o k)
+    kept_by c None of_kept.AsCommitted there some = absurd (false≢true some)
+    kept_by c None of_kept.Dropped there some = absurd (false≢true some)
+    kept_by c (Some planes) of_kept.AsCommitted there some = contains_map (λ (u : TileLocation). u.kept) chart.committed (tile_at c planes) there
+    kept_by c (Some planes) of_kept.Dropped there some = absurd (false≢true some)
 
     by : (c : Corner) (o : Option TilePlanes) (g : Staged) → IfSome (option_map (tile_at c) o) (Contains chart.committed) → ((p : ℕ) → 1 ≤ times p (fresh_as o g) → IsFresh chart p) → IfSome (staged_as c o g) (IsStagedIn chart)
-    by c None AsCommitted there fresh = tt
-    by c (Some planes) AsCommitted there fresh = record { settled = inl there; kept = λ some. contains_map (λ (u : TileLocation). u.kept) chart.committed (tile_at c planes) there }
-    by c o (Heights location keeps) there fresh = record { settled = inr (fresh location.record_page (omega (arith, one-self location.record_page))); kept = kept_by c o keeps there }
+    by c None (Tile of_heights.AsCommitted k) there fresh = tt
+    by c (Some planes) (Tile of_heights.AsCommitted k) there fresh = record {
+      settled = inl (contains_map (λ (u : TileLocation). record u { kept = kept_as (Some planes) k }) chart.committed (tile_at c planes) there);
+      kept = kept_by c (Some planes) k there;
+    }
+    by c o (Tile (of_heights.Fresh location) k) there fresh = record { settled = inr (fresh location.record_page (omega (arith, one-self location.record_page))); kept = kept_by c o k there }
     by c o Removed there fresh = tt
 
 own_corner : (s : Slot) (o : Option TileLocation) → IfSome o (λ t. t.corner ≡ s.corner) → IsTrue (is_corner s.corner) → IfSome o (λ t. IsTrue (is_corner t.corner))
@@ -134,24 +141,24 @@ own_corner s None own degrees = tt
 own_corner s (Some t) own degrees = subst (λ (d : Corner). IsTrue (is_corner d)) (sym own) degrees
 
 -- ---- a chart
-pub charted : (side capacity : ℕ) (slots : List Slot) (free : PageSet) → IsKept side capacity slots free → IsChart (chart_of side capacity slots free)
-charted side capacity slots free is =
+pub charted : (format : Format) (slots : List Slot) (free : PageSet) → IsKept format slots free → IsChart (chart_of format slots free)
+charted format slots free is =
     let rising : Rising corner_of slots = rising_from corner_of slots is.in_order in
     record {
       size = is.size;
       committed = record {
-        corners = all_tiles (λ t. IsTrue (is_corner t.corner)) (IsSound side) committed_tile (λ s sound. own_corner s (committed_tile s) (committed_own s) sound.corner) slots is.sound;
+        corners = all_tiles (λ t. IsTrue (is_corner t.corner)) (IsSound format) committed_tile (λ s sound. own_corner s (committed_tile s) (committed_own s) sound.corner) slots is.sound;
         in_order = adjacent_from (λ (t : TileLocation). t.corner) (committed_tiles slots) (rising_tiles committed_tile committed_own slots rising);
         room = is.committed_room;
-        whole = all_tiles (IsWholeTile side) (IsSound side) committed_tile (λ s sound. sound.committed) slots is.sound;
+        whole = all_tiles (IsWholeTile format) (IsSound format) committed_tile (λ s sound. sound.committed) slots is.sound;
         page_rule = page_rule free.total (committed_tiles slots) (committed_few slots free is.counted);
       };
       staged = record {
-        corners = all_tiles (λ t. IsTrue (is_corner t.corner)) (IsSound side) staged_tile (λ s sound. own_corner s (staged_tile s) (staged_own s) sound.corner) slots is.sound;
+        corners = all_tiles (λ t. IsTrue (is_corner t.corner)) (IsSound format) staged_tile (λ s sound. own_corner s (staged_tile s) (staged_own s) sound.corner) slots is.sound;
         in_order = adjacent_from (λ (t : TileLocation). t.corner) (staged_tiles slots) (rising_tiles staged_tile staged_own slots rising);
         room = is.staged_room;
-        whole = all_tiles (IsWholeTile side) (IsSound side) staged_tile (λ s sound. sound.staged) slots is.sound;
+        whole = all_tiles (IsWholeTile format) (IsSound format) staged_tile (λ s sound. sound.staged) slots is.sound;
         page_rule = page_rule free.total (staged_tiles slots) (staged_few slots free is.counted);
       };
-      each = all_tiles (IsStagedIn (chart_of side capacity slots free)) (IsIn (chart_of side capacity slots free)) staged_tile (staged_in_chart (chart_of side capacity slots free)) slots (is_in side capacity slots free is.counted);
+      each = all_tiles (IsStagedIn (chart_of format slots free)) (IsIn (chart_of format slots free)) staged_tile (staged_in_chart (chart_of format slots free)) slots (is_in format slots free is.counted);
     }

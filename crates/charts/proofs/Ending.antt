@@ -8,10 +8,11 @@ use Rattle.std.proofs.lemmas.Bool.{cases_eq}
 use Rattle.lattice.specs.Corners.{Corner, is_before, is_corner}
 use Rattle.lattice.proofs.Rising.{AllAfter, Rising, rising_from, adjacent_from, rising-filter}
 use Rattle.page_alloc.specs.Pages.{PageSet}
+use Rattle.layout.specs.Formats.{Format}
 use Rattle.charts.specs.declared.locations.TilePlanes.{TilePlanes}
 use Rattle.charts.specs.declared.slot.Slot.{Slot}
-use Rattle.charts.specs.declared.slot.Staged.{Staged}
-use Rattle.charts.specs.declared.slot.Staged.TheVariants.{AsCommitted}
+use Rattle.charts.specs.declared.staged.Staged.{Staged}
+use Rattle.charts.specs.StagedPlanes.{as_committed}
 use Rattle.charts.specs.declared.slot.Ending.{Ending}
 use Rattle.charts.specs.declared.slot.Ending.TheVariants.{Committed, GivenUp}
 use Rattle.charts.specs.Locations.{times}
@@ -110,26 +111,30 @@ ended_rising ending (s ∷ old) (n ∷ new) ended h =
     (subst (λ (d : Corner). AllAfter corner_of d new) (sym ended.0.corner) (ended_after ending s.corner old new ended.1 h.0), ended_rising ending old new ended.1 h.1)
 
 -- one slot that has ended: its tiles are the same, and it has no fresh pages
-record IsSettledSlot (side : ℕ) (s : Slot) : Type 0 where
+record IsSettledSlot (format : Format) (s : Slot) : Type 0 where
   pub corner : IsTrue (is_corner s.corner)
-  pub staged : s.staged ≡ AsCommitted
-  pub whole : IfSome (committed_tile s) (IsWholeTile side)
+  pub staged : s.staged ≡ as_committed
+  pub whole : IfSome (committed_tile s) (IsWholeTile format)
 
-ended_settled : (side : ℕ) (ending : Ending) (old new : List Slot) → AllEnded ending old new → AllByRecursion (IsSound side) old → AllByRecursion (IsSettledSlot side) new
-ended_settled side ending [] [] ended sound = tt
-ended_settled side ending [] (n ∷ new) ended sound = absurd ended
-ended_settled side ending (s ∷ old) [] ended sound = absurd ended
-ended_settled side ending (s ∷ old) (n ∷ new) ended sound = (
-  record { corner = subst (λ (d : Corner). IsTrue (is_corner d)) (sym ended.0.corner) sound.0.corner; staged = ended.0.staged; whole = subst (λ (o : Option TileLocation). IfSome o (IsWholeTile side)) (sym ended.0.committed) (whole ending) },
-  ended_settled side ending old new ended.1 sound.1,
+ended_settled : (format : Format) (ending : Ending) (old new : List Slot) → AllEnded ending old new → AllByRecursion (IsSound format) old → AllByRecursion (IsSettledSlot format) new
+ended_settled format ending [] [] ended sound = tt
+ended_settled format ending [] (n ∷ new) ended sound = absurd ended
+ended_settled format ending (s ∷ old) [] ended sound = absurd ended
+ended_settled format ending (s ∷ old) (n ∷ new) ended sound = (
+  record { corner = subst (λ (d : Corner). IsTrue (is_corner d)) (sym ended.0.corner) sound.0.corner; staged = ended.0.staged; whole = subst (λ (o : Option TileLocation). IfSome o (IsWholeTile format)) (sym ended.0.committed) (whole ending) },
+  ended_settled format ending old new ended.1 sound.1,
 )
   where
-    whole : (e : Ending) → IfSome (ended_tile e s) (IsWholeTile side)
+    whole : (e : Ending) → IfSome (ended_tile e s) (IsWholeTile format)
     whole Committed = sound.0.staged
     whole GivenUp = sound.0.committed
 
-staged_settled : (s : Slot) → s.staged ≡ AsCommitted → staged_tile s ≡ committed_tile s
-staged_settled s is = ap (staged_as s.corner s.committed) is
+staged_settled : (s : Slot) → s.staged ≡ as_committed → staged_tile s ≡ committed_tile s
+staged_settled s is = ap (staged_as s.corner s.committed) is ∙ by s.committed
+  where
+    by : (o : Option TilePlanes) → staged_as s.corner o as_committed ≡ option_map (tile_at s.corner) o
+    by None = refl
+    by (Some planes) = refl
 
 left_committed : (slots : List Slot) → committed_tiles (filter is_left slots) ≡ committed_tiles slots
 left_committed [] = refl
@@ -140,53 +145,53 @@ left_committed (s ∷ rest) = by s.corner s.committed s.staged (left_committed r
     by c None g same = same
     by c (Some planes) g same = ap (λ (l : List TileLocation). tile_at c planes ∷ l) same
 
-left_staged : (side : ℕ) (slots : List Slot) → AllByRecursion (IsSettledSlot side) slots → staged_tiles (filter is_left slots) ≡ committed_tiles slots
-left_staged side [] all = refl
-left_staged side (s ∷ rest) all = by s.corner s.committed s.staged all.0.staged (left_staged side rest all.1)
+left_staged : (format : Format) (slots : List Slot) → AllByRecursion (IsSettledSlot format) slots → staged_tiles (filter is_left slots) ≡ committed_tiles slots
+left_staged format [] all = refl
+left_staged format (s ∷ rest) all = by s.corner s.committed s.staged all.0.staged (left_staged format rest all.1)
   where
-    by : (c : Corner) (o : Option TilePlanes) (g : Staged) → g ≡ AsCommitted → staged_tiles (filter is_left rest) ≡ committed_tiles rest
+    by : (c : Corner) (o : Option TilePlanes) (g : Staged) → g ≡ as_committed → staged_tiles (filter is_left rest) ≡ committed_tiles rest
         → staged_tiles (cond (is_some o) (record { corner = c; committed = o; staged = g } ∷ filter is_left rest) (filter is_left rest)) ≡ cons_option (option_map (tile_at c) o) (committed_tiles rest)
     by c None g is same = same
     by c (Some planes) g is same = ap (λ h. cons_option (staged_as c (Some planes) h) (staged_tiles (filter is_left rest))) is ∙ ap (λ (l : List TileLocation). tile_at c planes ∷ l) same
 
-no_fresh : (side p : ℕ) (slots : List Slot) → AllByRecursion (IsSettledSlot side) slots → times p (flat_map fresh_pages slots) ≡ 0
-no_fresh side p [] all = refl
-no_fresh side p (s ∷ rest) all =
+no_fresh : (format : Format) (p : ℕ) (slots : List Slot) → AllByRecursion (IsSettledSlot format) slots → times p (flat_map fresh_pages slots) ≡ 0
+no_fresh format p [] all = refl
+no_fresh format p (s ∷ rest) all =
     let none = ap (λ g. times p (fresh_as s.committed g)) all.0.staged in
-    omega (arith, none, times-append p (fresh_pages s) (flat_map fresh_pages rest), no_fresh side p rest all.1)
+    omega (arith, none, times-append p (fresh_pages s) (flat_map fresh_pages rest), no_fresh format p rest all.1)
 
-settled_filter : (side : ℕ) (slots : List Slot) → AllByRecursion (IsSettledSlot side) slots → AllByRecursion (IsSettledSlot side) (filter is_left slots)
-settled_filter side [] all = tt
-settled_filter side (s ∷ rest) all = elim (is_left s) as (λ b. AllByRecursion (IsSettledSlot side) (cond b (s ∷ filter is_left rest) (filter is_left rest))) [
-  | true ↦ (all.0, settled_filter side rest all.1)
-  | false ↦ settled_filter side rest all.1
+settled_filter : (format : Format) (slots : List Slot) → AllByRecursion (IsSettledSlot format) slots → AllByRecursion (IsSettledSlot format) (filter is_left slots)
+settled_filter format [] all = tt
+settled_filter format (s ∷ rest) all = elim (is_left s) as (λ b. AllByRecursion (IsSettledSlot format) (cond b (s ∷ filter is_left rest) (filter is_left rest))) [
+  | true ↦ (all.0, settled_filter format rest all.1)
+  | false ↦ settled_filter format rest all.1
 ]
 
-sound_filter : (side : ℕ) (slots : List Slot) → AllByRecursion (IsSettledSlot side) slots → AllByRecursion (IsSound side) (filter is_left slots)
-sound_filter side [] all = tt
-sound_filter side (s ∷ rest) all = by (is_left s) refl (sound_filter side rest all.1)
+sound_filter : (format : Format) (slots : List Slot) → AllByRecursion (IsSettledSlot format) slots → AllByRecursion (IsSound format) (filter is_left slots)
+sound_filter format [] all = tt
+sound_filter format (s ∷ rest) all = by (is_left s) refl (sound_filter format rest all.1)
   where
-    by : (b : Bool) → is_left s ≡ b → AllByRecursion (IsSound side) (filter is_left rest) → AllByRecursion (IsSound side) (cond b (s ∷ filter is_left rest) (filter is_left rest))
+    by : (b : Bool) → is_left s ≡ b → AllByRecursion (IsSound format) (filter is_left rest) → AllByRecursion (IsSound format) (cond b (s ∷ filter is_left rest) (filter is_left rest))
     by true here later = (
       record {
         corner = all.0.corner;
         committed = all.0.whole;
-        staged = subst (λ (o : Option TileLocation). IfSome o (IsWholeTile side)) (sym (staged_settled s all.0.staged)) all.0.whole;
+        staged = subst (λ (o : Option TileLocation). IfSome o (IsWholeTile format)) (sym (staged_settled s all.0.staged)) all.0.whole;
         filled = ap (is_filled_as s.committed) all.0.staged ∙ here;
       },
       later,
     )
     by false here later = later
 
-module _ (side capacity : ℕ) (ending : Ending) (slots new : List Slot) (free now : PageSet) (is : IsKept side capacity slots free) (ended : AreEndedAs ending slots new free now) where
+module _ (format : Format) (ending : Ending) (slots new : List Slot) (free now : PageSet) (is : IsKept format slots free) (ended : AreEndedAs ending slots new free now) where
   abbrev left : List Slot
   left = filter is_left new
 
   pairs : AllEnded ending slots new
   pairs = all_ended ending slots new ended.same_length ended.each
 
-  settled : AllByRecursion (IsSettledSlot side) new
-  settled = ended_settled side ending slots new pairs is.sound
+  settled : AllByRecursion (IsSettledSlot format) new
+  settled = ended_settled format ending slots new pairs is.sound
 
   abbrev tiles : List TileLocation
   tiles = filter_map (ended_tile ending) slots
@@ -195,37 +200,37 @@ module _ (side capacity : ℕ) (ending : Ending) (slots new : List Slot) (free n
   now_committed = left_committed new ∙ ended_tiles ending slots new pairs
 
   now_staged : staged_tiles left ≡ tiles
-  now_staged = left_staged side new settled ∙ ended_tiles ending slots new pairs
+  now_staged = left_staged format new settled ∙ ended_tiles ending slots new pairs
 
-  room : length tiles ≤ capacity
+  room : length tiles ≤ format.capacity
   room = by ending
     where
-      by : (e : Ending) → length (filter_map (ended_tile e) slots) ≤ capacity
+      by : (e : Ending) → length (filter_map (ended_tile e) slots) ≤ format.capacity
       by Committed = is.staged_room
       by GivenUp = is.committed_room
 
-  pub kept_left : IsKept side capacity left now
+  pub kept_left : IsKept format left now
   kept_left = record {
     size = rw ended.same_total is.size;
     fits = rw ended.same_total is.fits;
     few = is.few;
     in_order = adjacent_from corner_of left (rising-filter corner_of is_left new (ended_rising ending slots new pairs (rising_from corner_of slots is.in_order)));
-    sound = sound_filter side new settled;
+    sound = sound_filter format new settled;
     committed_room = rw now_committed room;
     staged_room = rw now_staged room;
     counted = λ p.
         (let committed = ap (λ (l : List TileLocation). times p (reached l)) (left_committed new) in
-        omega (arith, committed, no_fresh side p new settled, no_fresh side p left (settled_filter side new settled), ended.counted p));
+        omega (arith, committed, no_fresh format p new settled, no_fresh format p left (settled_filter format new settled), ended.counted p));
   }
 
-  pub chart_left : chart_of side capacity left now ≡ ended_chart ending (chart_of side capacity slots free)
+  pub chart_left : chart_of format left now ≡ ended_chart ending (chart_of format slots free)
   chart_left =
-      let chart : ℕ → List TileLocation → List TileLocation → ChartValue = λ n a b. record { sectors = n; side = side; capacity = capacity; committed = a; staged = b } in
+      let chart : ℕ → List TileLocation → List TileLocation → ChartValue = λ n a b. record { sectors = n; format = format; committed = a; staged = b } in
       ap (λ n. chart n (committed_tiles left) (staged_tiles left)) ended.same_total
       ∙ (ap (λ a. chart free.total a (staged_tiles left)) now_committed
       ∙ (ap (λ b. chart free.total tiles b) now_staged
       ∙ by ending))
     where
-      by : (e : Ending) → record { sectors = free.total; side = side; capacity = capacity; committed = filter_map (ended_tile e) slots; staged = filter_map (ended_tile e) slots } ≡ ended_chart e (chart_of side capacity slots free)
+      by : (e : Ending) → record { sectors = free.total; format = format; committed = filter_map (ended_tile e) slots; staged = filter_map (ended_tile e) slots } ≡ ended_chart e (chart_of format slots free)
       by Committed = refl
       by GivenUp = refl

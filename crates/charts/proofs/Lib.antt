@@ -13,6 +13,8 @@ pub mod AtSlot
 pub mod SlotInserts
 pub mod Ending
 pub mod Listing
+pub mod FreshIndex
 pub mod Loading
 pub mod Preparing
+pub mod KeptDropping
 pub mod Occurrences

@@ -1,5 +1,5 @@
 -- What a chart is with one more committed tile, and with a tile added where a search says.
-use Rattle.std.proofs.Common.{◌≡◌, ℕ, zero, suc, ◌<◌, ◌≤◌, true, false, cond, List, [], ◌∷◌, ◌++◌, length, take, drop, get_or, set, refl, sym, ap, subst, ◌∙◌, arith}
+use Rattle.std.proofs.Common.{◌≡◌, ℕ, zero, suc, ◌<◌, ◌≤◌, true, false, List, [], ◌∷◌, ◌++◌, length, take, drop, get_or, set, refl, sym, ap, subst, ◌∙◌, arith}
 use Rattle.std.specs.Prelude.{IsTrue, Option, Some, None, IfSome, Contains, All, option_map, insert}
 use Rattle.std.specs.List.{filter_map, cons_option, AllByRecursion, flat_map}
 use Rattle.std.proofs.lemmas.List.{length-append, append-nil, take-append-drop}
@@ -10,16 +10,18 @@ use Rattle.lattice.specs.Corners.{Corner, is_before, is_corner}
 use Rattle.lattice.specs.Lattice.{IsBefore}
 use Rattle.lattice.proofs.Rising.{AllAfter}
 use Rattle.page_alloc.specs.Pages.{PageSet}
-use Rattle.page_codec.specs.Sizes.{pages_of}
+use Rattle.layout.specs.Formats.{Format}
 use Rattle.charts.specs.declared.locations.TilePlanes.{TilePlanes}
 use Rattle.charts.specs.declared.slot.Slot.{Slot}
-use Rattle.charts.specs.declared.slot.Staged.{Staged}
-use Rattle.charts.specs.declared.slot.Staged.TheVariants.{AsCommitted, Heights, Removed}
-use Rattle.charts.specs.Locations.{PlaneLocation, times, pages_of_plane}
-use Rattle.charts.specs.FreePages.{free_times, pages_of_planes, kept_of, AreTaken}
+use Rattle.charts.specs.declared.staged.Staged.{Staged}
+use Rattle.charts.specs.declared.staged.HeightsStaged.TheVariants as of_heights
+use Rattle.charts.specs.declared.staged.Staged.TheVariants.{Tile, Removed}
+use Rattle.charts.specs.Locations.{PlaneLocation, IsWholePlane, times, pages_of_plane}
+use Rattle.charts.specs.FreePages.{free_times, pages_of_planes, AreTaken}
 use Rattle.charts.specs.TileLocations.{TileLocation, KeepsPageRule, reached, pages_of_tile}
 use Rattle.charts.specs.Charts.{ChartValue, IsWholeTile, IsAdded, IsLocated, tile_at}
 use Rattle.charts.specs.Slots.{committed_tile, staged_as, staged_tile, committed_tiles, staged_tiles, fresh_as, fresh_pages, is_filled_as, stages_heights, stages_heights_as, IsSound, IsSlotAt, IsRoomAt, IsKept, AreCounted, chart_of}
+use Rattle.charts.specs.StagedPlanes.{as_committed, kept_as}
 use Rattle.charts.proofs.Times.{one, one-self, times-append, member_of_times}
 use Rattle.charts.proofs.FreeTimes.{page_one}
 use Rattle.charts.proofs.SlotLists.{corner_of, AllBefore}
@@ -41,10 +43,10 @@ reached_member (u ∷ rest) t (suc k, below, here) = omega (arith, reached_membe
 
 -- ---- one more committed tile
 abbrev pub loaded_slot : Corner → TilePlanes → Slot
-loaded_slot c planes = record { corner = c; committed = Some planes; staged = AsCommitted }
+loaded_slot c planes = record { corner = c; committed = Some planes; staged = as_committed }
 
-module _ (side capacity : ℕ) (slots : List Slot) (free : PageSet) (kept : IsKept side capacity slots free) (clean : staged_tiles slots ≡ committed_tiles slots)
-    (c : Corner) (planes : TilePlanes) (later : All (λ t. IsBefore t.corner c) (committed_tiles slots)) (room : length (committed_tiles slots) < capacity) (whole : IsWholeTile side (tile_at c planes)) where
+module _ (format : Format) (slots : List Slot) (free : PageSet) (kept : IsKept format slots free) (clean : staged_tiles slots ≡ committed_tiles slots)
+    (c : Corner) (planes : TilePlanes) (later : All (λ t. IsBefore t.corner c) (committed_tiles slots)) (room : length (committed_tiles slots) < format.capacity) (whole : IsWholeTile format (tile_at c planes)) where
   abbrev loaded : Slot
   loaded = loaded_slot c planes
 
@@ -54,35 +56,35 @@ module _ (side capacity : ℕ) (slots : List Slot) (free : PageSet) (kept : IsKe
   all_before : AllBefore c slots
   all_before =
       each_slot (λ s. IsBefore s.corner c) [] slots (λ before s after is.
-      by s.corner s.committed s.staged (all_middle (IsSound side) before s after (subst (λ (l : List Slot). AllByRecursion (IsSound side) l) is kept.sound)).filled
+      by s.corner s.committed s.staged (all_middle (IsSound format) before s after (subst (λ (l : List Slot). AllByRecursion (IsSound format) l) is kept.sound)).filled
       (subst (λ (l : List Slot). IfSome (committed_tile s) (Contains (committed_tiles l))) (sym is) (contains_at committed_tile before s after))
       (subst (λ (l : List TileLocation). IfSome (staged_tile s) (Contains l)) clean (subst (λ (l : List Slot). IfSome (staged_tile s) (Contains (staged_tiles l))) (sym is) (contains_at staged_tile before s after))))
     where
       by : (d : Corner) (o : Option TilePlanes) (g : Staged) → is_filled_as o g ≡ true → IfSome (option_map (tile_at d) o) (Contains (committed_tiles slots)) → IfSome (staged_as d o g) (Contains (committed_tiles slots)) → IsBefore d c
       by d (Some own) g filled there staged = all_member (λ (t : TileLocation). IsBefore t.corner c) (committed_tiles slots) (tile_at d own) later there
-      by d None AsCommitted filled there staged = absurd (false≢true filled)
-      by d None (Heights location keeps) filled there staged = all_member (λ (t : TileLocation). IsBefore t.corner c) (committed_tiles slots) (record { corner = d; heights = location; kept = cond keeps (kept_of None) None }) later staged
+      by d None (Tile of_heights.AsCommitted k) filled there staged = absurd (false≢true filled)
+      by d None (Tile (of_heights.Fresh location) k) filled there staged = all_member (λ (t : TileLocation). IsBefore t.corner c) (committed_tiles slots) (record { corner = d; heights = location; kept = kept_as None k }) later staged
       by d None Removed filled there staged = absurd (false≢true filled)
 
   none_staged : AllByRecursion (λ s. stages_heights s ≡ false) slots
   none_staged =
       each_slot (λ s. stages_heights s ≡ false) [] slots (λ before s after is.
       by s.corner s.committed s.staged
-      (λ r some. subst (λ (l : List Slot). Contains (reached (committed_tiles l)) r → ⊥) (sym is) (slot_fresh side capacity before s after free (subst (λ (l : List Slot). AreCounted l free) is kept.counted) r some).unreached)
+      (λ r some. subst (λ (l : List Slot). Contains (reached (committed_tiles l)) r → ⊥) (sym is) (slot_fresh format before s after free (subst (λ (l : List Slot). AreCounted l free) is kept.counted) r some).unreached)
       (subst (λ (l : List TileLocation). IfSome (staged_tile s) (Contains l)) clean (subst (λ (l : List Slot). IfSome (staged_tile s) (Contains (staged_tiles l))) (sym is) (contains_at staged_tile before s after))))
     where
       by : (d : Corner) (o : Option TilePlanes) (g : Staged) → ((r : ℕ) → 1 ≤ times r (fresh_as o g) → Contains (reached (committed_tiles slots)) r → ⊥) → IfSome (staged_as d o g) (Contains (committed_tiles slots)) → stages_heights_as g ≡ false
-      by d o AsCommitted un there = refl
-      by d o (Heights location keeps) un there =
-          absurd (un location.record_page (omega (arith, one-self location.record_page)) (member_of_times (reached (committed_tiles slots)) location.record_page (reached_member (committed_tiles slots) (record { corner = d; heights = location; kept = cond keeps (kept_of o) None }) there)))
+      by d o (Tile of_heights.AsCommitted k) un there = refl
+      by d o (Tile (of_heights.Fresh location) k) un there =
+          absurd (un location.record_page (omega (arith, one-self location.record_page)) (member_of_times (reached (committed_tiles slots)) location.record_page (reached_member (committed_tiles slots) (record { corner = d; heights = location; kept = kept_as o k }) there)))
       by d o Removed un there = refl
 
   none_fresh : (p : ℕ) → times p (flat_map fresh_pages slots) ≡ 0
   none_fresh p = all slots none_staged
     where
       one_none : (o : Option TilePlanes) (g : Staged) → stages_heights_as g ≡ false → times p (fresh_as o g) ≡ 0
-      one_none o AsCommitted none = refl
-      one_none o (Heights location keeps) none = absurd (false≢true (sym none))
+      one_none o (Tile of_heights.AsCommitted k) none = refl
+      one_none o (Tile (of_heights.Fresh location) k) none = absurd (false≢true (sym none))
       one_none o Removed none = refl
 
       all : (l : List Slot) → AllByRecursion (λ s. stages_heights s ≡ false) l → times p (flat_map fresh_pages l) ≡ 0
@@ -92,9 +94,9 @@ module _ (side capacity : ℕ) (slots : List Slot) (free : PageSet) (kept : IsKe
   now_tiles : (tile_of : Slot → Option TileLocation) → tile_of loaded ≡ Some (tile_at c planes) → filter_map tile_of (slots ++ loaded ∷ []) ≡ filter_map tile_of slots ++ tile_at c planes ∷ []
   now_tiles tile_of has = filter_map-append tile_of slots (loaded ∷ []) ∙ ap (λ (o : Option TileLocation). filter_map tile_of slots ++ cons_option o []) has
 
-  pub kept_loaded : IsTrue (is_corner c) → (now : PageSet) → AreTaken (pages_of_planes planes) free now → IsKept side capacity (slots ++ loaded ∷ []) now
+  pub kept_loaded : IsTrue (is_corner c) → (now : PageSet) → AreTaken (pages_of_planes planes) free now → IsKept format (slots ++ loaded ∷ []) now
   kept_loaded degrees now taken =
-      kept_insert side capacity slots loaded [] free now (subst (λ (l : List Slot). IsKept side capacity l free) (sym (append-nil slots)) kept) all_before tt
+      kept_insert format slots loaded [] free now (subst (λ (l : List Slot). IsKept format l free) (sym (append-nil slots)) kept) all_before tt
       (record { corner = degrees; committed = whole; staged = whole; filled = refl })
       (rw (now_tiles committed_tile refl) (omega (arith, length-append tiles (tile_at c planes ∷ []))))
       (rw (now_tiles staged_tile refl) (let same = ap length clean in omega (arith, same, length-append (staged_tiles slots) (tile_at c planes ∷ []))))
@@ -102,9 +104,9 @@ module _ (side capacity : ℕ) (slots : List Slot) (free : PageSet) (kept : IsKe
       (λ p. omega (arith, taken.each p, times-append p (pages_of_planes planes) []))
 
   pub chart_loaded : (now : PageSet) → AreTaken (pages_of_planes planes) free now
-      → chart_of side capacity (slots ++ loaded ∷ []) now ≡ record (chart_of side capacity slots free) { committed = tiles ++ tile_at c planes ∷ []; staged = tiles ++ tile_at c planes ∷ [] }
+      → chart_of format (slots ++ loaded ∷ []) now ≡ record (chart_of format slots free) { committed = tiles ++ tile_at c planes ∷ []; staged = tiles ++ tile_at c planes ∷ [] }
   chart_loaded now taken =
-      let chart : ℕ → List TileLocation → List TileLocation → ChartValue = λ n a b. record { sectors = n; side = side; capacity = capacity; committed = a; staged = b } in
+      let chart : ℕ → List TileLocation → List TileLocation → ChartValue = λ n a b. record { sectors = n; format = format; committed = a; staged = b } in
       ap (λ n. chart n (committed_tiles (slots ++ loaded ∷ [])) (staged_tiles (slots ++ loaded ∷ []))) taken.same_total
       ∙ (ap (λ a. chart free.total a (staged_tiles (slots ++ loaded ∷ []))) (now_tiles committed_tile refl)
       ∙ ap (λ b. chart free.total (tiles ++ tile_at c planes ∷ []) b) (now_tiles staged_tile refl ∙ ap (λ l. l ++ tile_at c planes ∷ []) clean))
@@ -131,17 +133,17 @@ all_drop c [] (suc at) each = tt
 all_drop c (s ∷ rest) zero each = (each 0 s (omega arith) (omega arith), all_drop c rest 0 (λ k d from below. each (suc k) d (omega arith) (omega arith)))
 all_drop c (s ∷ rest) (suc at) each = all_drop c rest at (λ k d from below. each (suc k) d (omega arith) (omega arith))
 
-module _ (side capacity : ℕ) (slots : List Slot) (free now : PageSet) (kept : IsKept side capacity slots free) (c : Corner)
-    (location : PlaneLocation) (whole : length location.pages ≡ pages_of side) (taken : AreTaken (pages_of_plane location) free now) (room : length (staged_tiles slots) < capacity) where
+module _ (format : Format) (slots : List Slot) (free now : PageSet) (kept : IsKept format slots free) (c : Corner)
+    (location : PlaneLocation) (whole : IsWholePlane format location) (taken : AreTaken (pages_of_plane location) free now) (room : length (staged_tiles slots) < format.capacity) where
   module _ (degrees : IsTrue (is_corner c)) (at : ℕ) (is : IsRoomAt c at slots) where
     joined : slots ≡ take at slots ++ drop at slots
     joined = sym (take-append-drop at slots)
 
-    kept_joined : IsKept side capacity (take at slots ++ drop at slots) free
-    kept_joined = subst (λ (l : List Slot). IsKept side capacity l free) joined kept
+    kept_joined : IsKept format (take at slots ++ drop at slots) free
+    kept_joined = subst (λ (l : List Slot). IsKept format l free) joined kept
 
-    room_joined : length (staged_tiles (take at slots ++ drop at slots)) < capacity
-    room_joined = subst (λ (l : List Slot). length (staged_tiles l) < capacity) joined room
+    room_joined : length (staged_tiles (take at slots ++ drop at slots)) < format.capacity
+    room_joined = subst (λ (l : List Slot). length (staged_tiles l) < format.capacity) joined room
 
     earlier : AllBefore c (take at slots)
     earlier = all_take (λ s. IsBefore s.corner c) slots at (λ k d less below. is.before k d (omega arith) less)
@@ -149,13 +151,13 @@ module _ (side capacity : ℕ) (slots : List Slot) (free now : PageSet) (kept : 
     later : AllAfter corner_of c (drop at slots)
     later = all_drop c slots at (λ k d from below. is.after k d from below)
 
-    pub kept_inserted : IsKept side capacity (insert slots at (new_slot c location)) now
-    kept_inserted = kept_added side capacity (take at slots) (drop at slots) free now kept_joined c earlier later location whole taken room_joined degrees
+    pub kept_inserted : IsKept format (insert slots at (new_slot c location)) now
+    kept_inserted = kept_added format (take at slots) (drop at slots) free now kept_joined c earlier later location whole taken room_joined degrees
 
-    pub is_inserted : IsAdded c (chart_of side capacity slots free) (chart_of side capacity (insert slots at (new_slot c location)) now)
+    pub is_inserted : IsAdded c (chart_of format slots free) (chart_of format (insert slots at (new_slot c location)) now)
     is_inserted =
-        subst (λ (l : List Slot). IsAdded c (chart_of side capacity l free) (chart_of side capacity (insert slots at (new_slot c location)) now)) (sym joined)
-        (is_added side capacity (take at slots) (drop at slots) free now kept_joined c earlier later location whole taken room_joined degrees)
+        subst (λ (l : List Slot). IsAdded c (chart_of format l free) (chart_of format (insert slots at (new_slot c location)) now)) (sym joined)
+        (is_added format (take at slots) (drop at slots) free now kept_joined c earlier later location whole taken room_joined degrees)
 
   module _ (at : ℕ) (found : IsSlotAt c at slots) (s : Slot) (is : s ≡ get_or slots at s) (absent : ¬ IsLocated c (staged_tiles slots)) where
     none : staged_tile s ≡ None
@@ -164,21 +166,21 @@ module _ (side capacity : ℕ) (slots : List Slot) (free now : PageSet) (kept : 
         by : (o : Option TileLocation) → staged_tile s ≡ o → o ≡ None
         by None had = refl
         by (Some t) had =
-            absurd (absent (subst (λ (d : Corner). IsLocated d (staged_tiles slots)) (corner side capacity slots free kept c at found s is)
-            (subst (λ (l : List Slot). IsLocated s.corner (staged_tiles l)) (sym (split side capacity slots free kept c at found s is))
-            (located_there (take at slots) s (drop (suc at) slots) (rising_there side capacity slots free kept c at found s is) t had))))
+            absurd (absent (subst (λ (d : Corner). IsLocated d (staged_tiles slots)) (corner format slots free kept c at found s is)
+            (subst (λ (l : List Slot). IsLocated s.corner (staged_tiles l)) (sym (split format slots free kept c at found s is))
+            (located_there (take at slots) s (drop (suc at) slots) (rising_there format slots free kept c at found s is) t had))))
 
-    again_room : length (staged_tiles (take at slots ++ s ∷ drop (suc at) slots)) < capacity
-    again_room = subst (λ (l : List Slot). length (staged_tiles l) < capacity) (split side capacity slots free kept c at found s is) room
+    again_room : length (staged_tiles (take at slots ++ s ∷ drop (suc at) slots)) < format.capacity
+    again_room = subst (λ (l : List Slot). length (staged_tiles l) < format.capacity) (split format slots free kept c at found s is) room
 
-    pub kept_restaged : IsKept side capacity (set slots at (with_fresh s location)) now
+    pub kept_restaged : IsKept format (set slots at (with_fresh s location)) now
     kept_restaged =
-        subst (λ (l : List Slot). IsKept side capacity l now) (sym (set_is side capacity slots free kept c at found s is (with_fresh s location) now))
-        (kept_again side capacity (take at slots) s (drop (suc at) slots) free now (kept_there side capacity slots free kept c at found s is) none location whole taken again_room (apart side capacity slots free kept c at found s is))
+        subst (λ (l : List Slot). IsKept format l now) (sym (set_is format slots free kept c at found s is (with_fresh s location) now))
+        (kept_again format (take at slots) s (drop (suc at) slots) free now (kept_there format slots free kept c at found s is) none location whole taken again_room (apart format slots free kept c at found s is))
 
-    pub is_restaged : IsAdded c (chart_of side capacity slots free) (chart_of side capacity (set slots at (with_fresh s location)) now)
+    pub is_restaged : IsAdded c (chart_of format slots free) (chart_of format (set slots at (with_fresh s location)) now)
     is_restaged =
-        subst (λ (l : List Slot). IsAdded c (chart_of side capacity l free) (chart_of side capacity (set slots at (with_fresh s location)) now)) (sym (split side capacity slots free kept c at found s is))
-        (subst (λ (l : List Slot). IsAdded c (chart_of side capacity (take at slots ++ s ∷ drop (suc at) slots) free) (chart_of side capacity l now)) (sym (set_is side capacity slots free kept c at found s is (with_fresh s location) now))
-        (subst (λ (d : Corner). IsAdded d (chart_of side capacity (take at slots ++ s ∷ drop (suc at) slots) free) (chart_of side capacity (take at slots ++ with_fresh s location ∷ drop (suc at) slots) now)) (corner side capacity slots free kept c at found s is)
-        (is_added_again side capacity (take at slots) s (drop (suc at) slots) free now (kept_there side capacity slots free kept c at found s is) none location whole taken again_room (apart side capacity slots free kept c at found s is))))
+        subst (λ (l : List Slot). IsAdded c (chart_of format l free) (chart_of format (set slots at (with_fresh s location)) now)) (sym (split format slots free kept c at found s is))
+        (subst (λ (l : List Slot). IsAdded c (chart_of format (take at slots ++ s ∷ drop (suc at) slots) free) (chart_of format l now)) (sym (set_is format slots free kept c at found s is (with_fresh s location) now))
+        (subst (λ (d : Corner). IsAdded d (chart_of format (take at slots ++ s ∷ drop (suc at) slots) free) (chart_of format (take at slots ++ with_fresh s location ∷ drop (suc at) slots) now)) (corner format slots free kept c at found s is)
+        (is_added_again format (take at slots) s (drop (suc at) slots) free now (kept_there format slots free kept c at found s is) none location whole taken again_room (apart format slots free kept c at found s is))))

@@ -79,6 +79,13 @@ heights_here before s after rising plane is = by (staged_tile s) refl is
     by None had is = cc
     by (Some t) had is = (t, (tile_here before s after rising t had, staged_corner before s after rising t had, (let same : plane ≡ t.heights = cc in sym same)))
 
+-- heights are there where a tile is
+pub is_some_alike : (q : Option (Bor PlaneLocation)) (o : Option TileLocation) → option_copied q ≡ option_map (λ (t : TileLocation). t.heights) o → is_some q ≡ is_some o
+is_some_alike None None same = refl
+is_some_alike None (Some t) same = cc
+is_some_alike (Some plane) None same = cc
+is_some_alike (Some plane) (Some t) same = refl
+
 -- ---- no slot
 pub room_other : (c : Corner) (at : ℕ) (slots : List Slot) → IsRoomAt c at slots → AllOther c (staged_tiles slots)
 room_other c at slots room = all slots (λ k d below. elim (cases_lt k at) [
@@ -129,13 +136,7 @@ module _ (slots : List Slot) (rising : Rising corner_of slots) (c : Corner) (at 
       there (Some t) had some = located_there before_at s after_at rising_split t had
 
   pub heights_present : (r : Option (Bor PlaneLocation)) → option_copied r ≡ option_map (λ (t : TileLocation). t.heights) (staged_tile s) → IsSome r ↔ IsLocated c (staged_tiles slots)
-  heights_present r same = (λ some. located_some.0 (sym (alike r (staged_tile s) same) ∙ some), λ located. alike r (staged_tile s) same ∙ located_some.1 located)
-    where
-      alike : (q : Option (Bor PlaneLocation)) (o : Option TileLocation) → option_copied q ≡ option_map (λ (t : TileLocation). t.heights) o → is_some q ≡ is_some o
-      alike None None same = refl
-      alike None (Some t) same = cc
-      alike (Some plane) None same = cc
-      alike (Some plane) (Some t) same = refl
+  heights_present r same = (λ some. located_some.0 (sym (is_some_alike r (staged_tile s) same) ∙ some), λ located. is_some_alike r (staged_tile s) same ∙ located_some.1 located)
 
   pub kept_found : (r : Option (Bor KeptLocations)) → option_copied r ≡ option_and_then (λ (t : TileLocation). t.kept) (staged_tile s) → IfSome r (λ kept. HasKept c kept.now (staged_tiles slots))
   kept_found None same = tt

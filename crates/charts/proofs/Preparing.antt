@@ -1,19 +1,24 @@
 -- Heights staged as they are: only the location of their record changes.
-use Rattle.std.proofs.Common.{◌≡◌, ℕ, suc, ◌≤◌, Bool, true, false, cond, List, [], ◌∷◌, ◌++◌, length, take, drop, get_or, set, refl, sym, ap, subst, ◌∙◌, arith}
-use Rattle.std.specs.Prelude.{IsTrue, Option, Some, None, IfSome, Result, Ok, Err, OnOk, OnErr}
+use Rattle.std.proofs.Common.{◌≡◌, ℕ, suc, ◌≤◌, false, List, [], ◌∷◌, ◌++◌, length, take, drop, get_or, set, refl, sym, ap, subst, ◌∙◌, arith}
+use Rattle.std.specs.Prelude.{IsTrue, Option, Some, IfSome, Result, Ok, Err, OnOk, OnErr}
 use Rattle.std.proofs.lemmas.List.{length-map}
 use Rattle.lattice.specs.Corners.{Corner, is_corner}
 use Rattle.lattice.specs.declared.refusal.Refusal.{Refusal}
 use Rattle.lattice.proofs.Rising.{Rising, rising_from}
 use Rattle.page_alloc.specs.Pages.{PageSet}
+use Rattle.layout.specs.Formats.{Format}
+use Rattle.charts.specs.declared.locations.TilePlanes.{TilePlanes}
 use Rattle.charts.specs.declared.slot.Slot.{Slot}
-use Rattle.charts.specs.declared.slot.Staged.{Staged}
-use Rattle.charts.specs.declared.slot.Staged.TheVariants.{AsCommitted, Heights}
-use Rattle.charts.specs.Locations.{PlaneLocation, times}
-use Rattle.charts.specs.FreePages.{differing, heights_pages, kept_of, AreTaken}
+use Rattle.charts.specs.declared.staged.Staged.{Staged}
+use Rattle.charts.specs.declared.staged.HeightsStaged.TheVariants as of_heights
+use Rattle.charts.specs.declared.staged.KeptStaged.{KeptStaged}
+use Rattle.charts.specs.declared.staged.Staged.TheVariants.{Tile}
+use Rattle.charts.specs.Locations.{PlaneLocation, pages_behind, times}
+use Rattle.charts.specs.FreePages.{differing, heights_pages, AreTaken}
 use Rattle.charts.specs.TileLocations.{TileLocation}
 use Rattle.charts.specs.Charts.{IsWholeTile, IsPrepared, is_at, with_record_in, with_record}
 use Rattle.charts.specs.Slots.{staged_as, staged_tile, staged_tiles, fresh_as, fresh_pages, IsSound, IsSlotAt, IsKept, chart_of, IsRestaged, IsRecordRestaged}
+use Rattle.charts.specs.StagedPlanes.{kept_as}
 use Rattle.charts.proofs.Times.{one-self, differing-self}
 use Rattle.charts.proofs.SlotLists.{corner_of}
 use Rattle.charts.proofs.Slotting.{at_heights}
@@ -21,31 +26,45 @@ use Rattle.charts.proofs.SlotChanges.{all_middle, kept_change, same_committed, c
 use Rattle.charts.proofs.AtSlot.{split, corner, kept_there, set_is}
 
 -- ---- the slot
-pub already_staged : (s : Slot) (location : PlaneLocation) (keeps : Bool) → s.staged ≡ Heights location keeps → IsRecordRestaged s s
-already_staged s location keeps is = record {
-  tile = record { corner = s.corner; heights = location; kept = cond keeps (kept_of s.committed) None };
+pub already_staged : (s : Slot) (location : PlaneLocation) (k : KeptStaged) → s.staged ≡ Tile (of_heights.Fresh location) k → IsRecordRestaged s s
+already_staged s location k is = record {
+  tile = record { corner = s.corner; heights = location; kept = kept_as s.committed k };
   record_page = location.record_page;
   had = ap (staged_as s.corner s.committed) is;
   has = ap (staged_as s.corner s.committed) is;
   fresh_record = (let there = ap (λ (g : Staged). times location.record_page (fresh_as s.committed g)) is in omega (arith, there, one-self location.record_page));
 }
 
-module _ (s : Slot) (location : PlaneLocation) (r : ℕ) (was now : PageSet) (is : s.staged ≡ AsCommitted) (location_is : location ≡ record { record_page = r; pages = heights_pages s.committed }) (taken : AreTaken (r ∷ []) was now) where
-  pub first_restaged : IsRestaged s (at_heights s location true) was now
+module _ (s : Slot) (planes : TilePlanes) (location : PlaneLocation) (k : KeptStaged) (was now : PageSet) (is : s.staged ≡ Tile of_heights.AsCommitted k) (some : s.committed ≡ Some planes)
+    (same : location ≡ record (planes.heights) { record_page = location.record_page }) (taken : AreTaken (location.record_page ∷ []) was now) where
+  behind : pages_behind location ≡ heights_pages s.committed
+  behind = ap pages_behind same ∙ sym (ap heights_pages some)
+
+  pub first_restaged : IsRestaged s (at_heights s location k) was now
   first_restaged =
-      subst (λ (h : PlaneLocation). IsRestaged s (at_heights s h true) was now) (sym location_is)
-      (record {
+      record {
         corner = refl;
         committed = refl;
         same_total = taken.same_total;
         each = λ p.
-            let none : times p (differing (heights_pages s.committed) (heights_pages s.committed)) ≡ 0 = ap (times p) (differing-self (heights_pages s.committed)) in
+            let none : times p (differing (pages_behind location) (heights_pages s.committed)) ≡ 0 = ap (λ l. times p (differing l (heights_pages s.committed))) behind ∙ ap (times p) (differing-self (heights_pages s.committed)) in
             let before : times p (fresh_pages s) ≡ 0 = ap (λ (g : Staged). times p (fresh_as s.committed g)) is in
             omega (arith, none, before, taken.each p);
-      })
+      }
+
+  pub record_restaged : IsRecordRestaged s (at_heights s location k)
+  record_restaged = record {
+    tile = record { corner = s.corner; heights = planes.heights; kept = kept_as (Some planes) k };
+    record_page = location.record_page;
+    had = ap (staged_as s.corner s.committed) is ∙ ap (λ (o : Option TilePlanes). staged_as s.corner o (Tile of_heights.AsCommitted k)) some;
+    has =
+        ap (λ (h : PlaneLocation). Some (record { corner = s.corner; heights = h; kept = kept_as s.committed k })) same
+        ∙ ap (λ (o : Option TilePlanes). Some (record { corner = s.corner; heights = record (planes.heights) { record_page = location.record_page }; kept = kept_as o k })) some;
+    fresh_record = omega (arith, one-self location.record_page);
+  }
 
 -- ---- the chart
-module _ (side capacity : ℕ) (before : List Slot) (s new : Slot) (after : List Slot) (free now : PageSet) (is : IsKept side capacity (before ++ s ∷ after) free)
+module _ (format : Format) (before : List Slot) (s new : Slot) (after : List Slot) (free now : PageSet) (is : IsKept format (before ++ s ∷ after) free)
     (staged : IsRecordRestaged s new) (restaged : IsRestaged s new free now) where
   rising : Rising corner_of (before ++ s ∷ after)
   rising = rising_from corner_of (before ++ s ∷ after) is.in_order
@@ -62,30 +81,30 @@ module _ (side capacity : ℕ) (before : List Slot) (s new : Slot) (after : List
   moved_tiles : staged_tiles (before ++ new ∷ after) ≡ with_record s.corner staged.record_page (staged_tiles (before ++ s ∷ after))
   moved_tiles = staged_mapped before s after rising staged.tile staged.had moved moved_other new moved_here
 
-  sound_now : IsSound side new
+  sound_now : IsSound format new
   sound_now =
-      let was : IsSound side s = all_middle (IsSound side) before s after is.sound in
-      let whole : IsWholeTile side staged.tile = subst (λ (o : Option TileLocation). IfSome o (IsWholeTile side)) staged.had was.staged in
+      let was : IsSound format s = all_middle (IsSound format) before s after is.sound in
+      let whole : IsWholeTile format staged.tile = subst (λ (o : Option TileLocation). IfSome o (IsWholeTile format)) staged.had was.staged in
       record {
         corner = subst (λ (d : Corner). IsTrue (is_corner d)) (sym restaged.corner) was.corner;
-        committed = subst (λ (o : Option TileLocation). IfSome o (IsWholeTile side)) (sym (same_committed s new restaged.corner restaged.committed)) was.committed;
-        staged = subst (λ (o : Option TileLocation). IfSome o (IsWholeTile side)) (sym staged.has) (record { heights = whole.heights; kept = whole.kept });
+        committed = subst (λ (o : Option TileLocation). IfSome o (IsWholeTile format)) (sym (same_committed s new restaged.corner restaged.committed)) was.committed;
+        staged = subst (λ (o : Option TileLocation). IfSome o (IsWholeTile format)) (sym staged.has) (record { heights = record { index_pages = whole.heights.index_pages; pages = whole.heights.pages }; kept = whole.kept });
         filled = filled_from new _ staged.has;
       }
 
-  prepared_slots : IsKept side capacity (before ++ new ∷ after) now
+  prepared_slots : IsKept format (before ++ new ∷ after) now
   prepared_slots =
-      kept_change side capacity before s new after free now is restaged.corner (same_committed s new restaged.corner restaged.committed) sound_now
+      kept_change format before s new after free now is restaged.corner (same_committed s new restaged.corner restaged.committed) sound_now
       (rw moved_tiles (rw (length-map (staged_tiles (before ++ s ∷ after)) moved) is.staged_room)) restaged.same_total restaged.each
 
-  prepared_there : IsPrepared s.corner (chart_of side capacity (before ++ s ∷ after) free) (chart_of side capacity (before ++ new ∷ after) now)
+  prepared_there : IsPrepared s.corner (chart_of format (before ++ s ∷ after) free) (chart_of format (before ++ new ∷ after) now)
   prepared_there = record {
     record_page = staged.record_page;
-    fresh_record = slot_fresh side capacity before new after now prepared_slots.counted staged.record_page staged.fresh_record;
-    changed = chart_changed side capacity before s new after free now restaged.same_total (same_committed s new restaged.corner restaged.committed) _ moved_tiles;
+    fresh_record = slot_fresh format before new after now prepared_slots.counted staged.record_page staged.fresh_record;
+    changed = chart_changed format before s new after free now restaged.same_total (same_committed s new restaged.corner restaged.committed) _ moved_tiles;
   }
 
-module _ (side capacity : ℕ) (slots : List Slot) (free : PageSet) (kept : IsKept side capacity slots free) (c : Corner) (at : ℕ) (found : IsSlotAt c at slots) (s : Slot) (is : s ≡ get_or slots at s)
+module _ (format : Format) (slots : List Slot) (free : PageSet) (kept : IsKept format slots free) (c : Corner) (at : ℕ) (found : IsSlotAt c at slots) (s : Slot) (is : s ≡ get_or slots at s)
     (new : Slot) (now : PageSet) (r : Result (Unit {0}) Refusal) (staged : OnOk r (IsRecordRestaged s new)) (restaged : IsRestaged s new free now) (unchanged : OnErr r (new ≡ s)) where
   abbrev before : List Slot
   before = take at slots
@@ -93,27 +112,27 @@ module _ (side capacity : ℕ) (slots : List Slot) (free : PageSet) (kept : IsKe
   abbrev after : List Slot
   after = drop (suc at) slots
 
-  there : IsKept side capacity (before ++ s ∷ after) free
-  there = kept_there side capacity slots free kept c at found s is
+  there : IsKept format (before ++ s ∷ after) free
+  there = kept_there format slots free kept c at found s is
 
-  pub kept_prepared : IsKept side capacity (set slots at new) now
-  kept_prepared = subst (λ (l : List Slot). IsKept side capacity l now) (sym (set_is side capacity slots free kept c at found s is new now)) (by r staged unchanged)
+  pub kept_prepared : IsKept format (set slots at new) now
+  kept_prepared = subst (λ (l : List Slot). IsKept format l now) (sym (set_is format slots free kept c at found s is new now)) (by r staged unchanged)
     where
-      by : (q : Result (Unit {0}) Refusal) → OnOk q (IsRecordRestaged s new) → OnErr q (new ≡ s) → IsKept side capacity (before ++ new ∷ after) now
-      by (Ok done) staged same = prepared_slots side capacity before s new after free now there staged restaged
+      by : (q : Result (Unit {0}) Refusal) → OnOk q (IsRecordRestaged s new) → OnErr q (new ≡ s) → IsKept format (before ++ new ∷ after) now
+      by (Ok done) staged same = prepared_slots format before s new after free now there staged restaged
       by (Err refusal) staged same =
-          kept_change side capacity before s new after free now there restaged.corner (same_committed s new restaged.corner restaged.committed)
-          (subst (λ (x : Slot). IsSound side x) (sym same) (all_middle (IsSound side) before s after there.sound))
-          (subst (λ (x : Slot). length (staged_tiles (before ++ x ∷ after)) ≤ capacity) (sym same) there.staged_room)
+          kept_change format before s new after free now there restaged.corner (same_committed s new restaged.corner restaged.committed)
+          (subst (λ (x : Slot). IsSound format x) (sym same) (all_middle (IsSound format) before s after there.sound))
+          (subst (λ (x : Slot). length (staged_tiles (before ++ x ∷ after)) ≤ format.capacity) (sym same) there.staged_room)
           restaged.same_total restaged.each
 
-  pub is_prepared : OnOk r (IsPrepared c (chart_of side capacity slots free) (chart_of side capacity (set slots at new) now))
+  pub is_prepared : OnOk r (IsPrepared c (chart_of format slots free) (chart_of format (set slots at new) now))
   is_prepared = by r staged
     where
-      by : (q : Result (Unit {0}) Refusal) → OnOk q (IsRecordRestaged s new) → OnOk q (IsPrepared c (chart_of side capacity slots free) (chart_of side capacity (set slots at new) now))
+      by : (q : Result (Unit {0}) Refusal) → OnOk q (IsRecordRestaged s new) → OnOk q (IsPrepared c (chart_of format slots free) (chart_of format (set slots at new) now))
       by (Ok done) staged =
-          subst (λ (l : List Slot). IsPrepared c (chart_of side capacity l free) (chart_of side capacity (set slots at new) now)) (sym (split side capacity slots free kept c at found s is))
-          (subst (λ (l : List Slot). IsPrepared c (chart_of side capacity (before ++ s ∷ after) free) (chart_of side capacity l now)) (sym (set_is side capacity slots free kept c at found s is new now))
-          (subst (λ (d : Corner). IsPrepared d (chart_of side capacity (before ++ s ∷ after) free) (chart_of side capacity (before ++ new ∷ after) now)) (corner side capacity slots free kept c at found s is)
-          (prepared_there side capacity before s new after free now there staged restaged)))
+          subst (λ (l : List Slot). IsPrepared c (chart_of format l free) (chart_of format (set slots at new) now)) (sym (split format slots free kept c at found s is))
+          (subst (λ (l : List Slot). IsPrepared c (chart_of format (before ++ s ∷ after) free) (chart_of format l now)) (sym (set_is format slots free kept c at found s is new now))
+          (subst (λ (d : Corner). IsPrepared d (chart_of format (before ++ s ∷ after) free) (chart_of format (before ++ new ∷ after) now)) (corner format slots free kept c at found s is)
+          (prepared_there format before s new after free now there staged restaged)))
       by (Err refusal) staged = tt

@@ -9,13 +9,15 @@ use Rattle.std.proofs.lemmas.Bool.{false≢true, cases_eq, cases_Bool, cases_lt,
 use Rattle.std.proofs.lemmas.List.{length-append}
 use Rattle.lattice.specs.Corners.{Corner}
 use Rattle.page_alloc.specs.Pages.{PageSet}
-use Rattle.page_codec.specs.Sizes.{pages_of}
+use Rattle.layout.specs.Sizes.{plane_pages_of}
+use Rattle.layout.specs.Formats.{Format}
 use Rattle.charts.specs.declared.locations.KeptLocations.{KeptLocations}
 use Rattle.charts.specs.declared.locations.TilePlanes.{TilePlanes}
 use Rattle.charts.specs.declared.slot.Slot.{Slot}
-use Rattle.charts.specs.declared.slot.Staged.{Staged}
-use Rattle.charts.specs.declared.slot.Staged.TheVariants.{AsCommitted, Heights, Removed}
-use Rattle.charts.specs.Locations.{times, pages_of_plane}
+use Rattle.charts.specs.declared.staged.Staged.{Staged}
+use Rattle.charts.specs.declared.staged.HeightsStaged.TheVariants as of_heights
+use Rattle.charts.specs.declared.staged.Staged.TheVariants.{Tile, Removed}
+use Rattle.charts.specs.Locations.{PlaneLocation, IsWholePlane, times, pages_behind, pages_of_plane}
 use Rattle.charts.specs.FreePages.{page_times, heights_pages}
 use Rattle.charts.specs.TileLocations.{TileLocation, pages_of_tile, pages_of_kept, reached}
 use Rattle.charts.specs.Charts.{IsWholeTile, AreWholeKept}
@@ -84,30 +86,33 @@ pages_few pages tile_of most Q each (s ∷ rest) all = by (tile_of s) (each s al
     by None here later = omega (arith, length-append (pages s) (flat_map pages rest))
     by (Some t) here later = omega (arith, length-append (pages s) (flat_map pages rest), mul-add most 1 (length (filter_map tile_of rest)))
 
-module _ (side : ℕ) where
+module _ (format : Format) where
   abbrev plane_size : ℕ
-  plane_size = 1 + pages_of side
+  plane_size = plane_pages_of format
 
-  kept_few : (kept : Option KeptLocations) → IfSome kept (AreWholeKept side) → length (pages_of_kept kept) ≤ 2 * plane_size
+  plane_few : (p : PlaneLocation) → IsWholePlane format p → length (pages_of_plane p) ≡ plane_size
+  plane_few p whole = omega (arith, length-append p.index_pages p.pages, whole.index_pages, whole.pages)
+
+  kept_few : (kept : Option KeptLocations) → IfSome kept (AreWholeKept format) → length (pages_of_kept kept) ≤ 2 * plane_size
   kept_few None whole = omega arith
-  kept_few (Some k) whole = omega (arith, length-append (pages_of_plane k.levels) (pages_of_plane k.labels), whole.levels, whole.labels)
+  kept_few (Some k) whole = omega (arith, length-append (pages_of_plane k.levels) (pages_of_plane k.labels), plane_few k.levels whole.levels, plane_few k.labels whole.labels)
 
-  tile_few : (t : TileLocation) → IsWholeTile side t → length (pages_of_tile t) ≤ 3 * plane_size
-  tile_few t whole = omega (arith, length-append (pages_of_plane t.heights) (pages_of_kept t.kept), whole.heights, kept_few t.kept whole.kept)
+  tile_few : (t : TileLocation) → IsWholeTile format t → length (pages_of_tile t) ≤ 3 * plane_size
+  tile_few t whole = omega (arith, length-append (pages_of_plane t.heights) (pages_of_kept t.kept), plane_few t.heights whole.heights, kept_few t.kept whole.kept)
 
-  committed_few : (s : Slot) → IsSound side s → length (pages_of_location (committed_tile s)) ≤ 3 * plane_size * count (committed_tile s)
+  committed_few : (s : Slot) → IsSound format s → length (pages_of_location (committed_tile s)) ≤ 3 * plane_size * count (committed_tile s)
   committed_few s sound = by (committed_tile s) sound.committed
     where
-      by : (o : Option TileLocation) → IfSome o (IsWholeTile side) → length (pages_of_location o) ≤ 3 * plane_size * count o
+      by : (o : Option TileLocation) → IfSome o (IsWholeTile format) → length (pages_of_location o) ≤ 3 * plane_size * count o
       by None whole = omega arith
       by (Some t) whole = omega (arith, tile_few t whole)
 
-  fresh_few : (s : Slot) → IsSound side s → length (fresh_pages s) ≤ plane_size * count (staged_tile s)
+  fresh_few : (s : Slot) → IsSound format s → length (fresh_pages s) ≤ plane_size * count (staged_tile s)
   fresh_few s sound = by s.corner s.committed s.staged sound.staged
     where
-      by : (c : Corner) (o : Option TilePlanes) (g : Staged) → IfSome (staged_as c o g) (IsWholeTile side) → length (fresh_as o g) ≤ plane_size * count (staged_as c o g)
-      by c o AsCommitted whole = omega arith
-      by c o (Heights location keeps) whole = omega (arith, length-differing location.pages (heights_pages o), whole.heights)
+      by : (c : Corner) (o : Option TilePlanes) (g : Staged) → IfSome (staged_as c o g) (IsWholeTile format) → length (fresh_as o g) ≤ plane_size * count (staged_as c o g)
+      by c o (Tile of_heights.AsCommitted k) whole = omega arith
+      by c o (Tile (of_heights.Fresh location) k) whole = omega (arith, length-differing (pages_behind location) (heights_pages o), plane_few location whole.heights)
       by c o Removed whole = omega arith
 
 left_over : (total used left m c nc ns lc lf : ℕ) → 4 + (4 * c + 2) * m ≤ total → total - 4 ≤ used + left → used ≡ lc + lf → lc ≤ 3 * m * nc → lf ≤ m * ns → m * nc ≤ m * c → m * ns ≤ m * c → 2 * m ≤ left
@@ -117,18 +122,18 @@ left_over total used left m c nc ns lc lf size all joined committed fresh commit
     omega arith
 
 -- two planes more than the slots use, at the least
-pub room_left : (side capacity : ℕ) (slots : List Slot) (free : PageSet) → IsKept side capacity slots free → 2 * (1 + pages_of side) ≤ len free.free
-room_left side capacity slots free is =
+pub room_left : (format : Format) (slots : List Slot) (free : PageSet) → IsKept format slots free → 2 * plane_pages_of format ≤ len free.free
+room_left format slots free is =
     let used = reached (committed_tiles slots) ++ flat_map fresh_pages slots in
-    let m = 1 + pages_of side in
+    let m = plane_pages_of format in
     let all : free.total - 4 ≤ length used + len free.free =
     pages_le (free.total - 4) used free.free (λ p low high. (
     let page : page_times free.total p ≡ 1 = page_one free.total p (low, omega (arith, is.size)) in
     omega (arith, is.counted p, page, times-append p (reached (committed_tiles slots)) (flat_map fresh_pages slots)))) in
     let committed : length (reached (committed_tiles slots)) ≤ 3 * m * length (committed_tiles slots) =
-    rw (reached_all committed_tile slots) (pages_few (λ s. pages_of_location (committed_tile s)) committed_tile (3 * m) (IsSound side) (committed_few side) slots is.sound) in
-    let fresh : length (flat_map fresh_pages slots) ≤ m * length (staged_tiles slots) = pages_few fresh_pages staged_tile m (IsSound side) (fresh_few side) slots is.sound in
-    let committed_most : m * length (committed_tiles slots) ≤ m * capacity = mul-le-mul_left m is.committed_room in
-    let staged_most : m * length (staged_tiles slots) ≤ m * capacity = mul-le-mul_left m is.staged_room in
+    rw (reached_all committed_tile slots) (pages_few (λ s. pages_of_location (committed_tile s)) committed_tile (3 * m) (IsSound format) (committed_few format) slots is.sound) in
+    let fresh : length (flat_map fresh_pages slots) ≤ m * length (staged_tiles slots) = pages_few fresh_pages staged_tile m (IsSound format) (fresh_few format) slots is.sound in
+    let committed_most : m * length (committed_tiles slots) ≤ m * format.capacity = mul-le-mul_left m is.committed_room in
+    let staged_most : m * length (staged_tiles slots) ≤ m * format.capacity = mul-le-mul_left m is.staged_room in
     let joined = length-append (reached (committed_tiles slots)) (flat_map fresh_pages slots) in
-    left_over free.total (length used) (len free.free) m capacity (length (committed_tiles slots)) (length (staged_tiles slots)) _ _ is.size all joined committed fresh committed_most staged_most
+    left_over free.total (length used) (len free.free) m format.capacity (length (committed_tiles slots)) (length (staged_tiles slots)) _ _ is.size all joined committed fresh committed_most staged_most

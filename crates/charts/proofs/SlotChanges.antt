@@ -1,5 +1,5 @@
 -- What a chart is once one slot has changed.
-use Rattle.std.proofs.Common.{◌≡◌, ℕ, suc, ◌+◌, ◌≤◌, true, false, cond, not, IsTrue, List, [], ◌∷◌, ◌++◌, length, map, refl, sym, ap, subst, ◌∙◌, arith}
+use Rattle.std.proofs.Common.{◌≡◌, ℕ, suc, ◌+◌, ◌/◌, ◌≤◌, true, false, cond, not, IsTrue, List, [], ◌∷◌, ◌++◌, length, map, refl, sym, ap, subst, ◌∙◌, arith}
 use Rattle.std.specs.Prelude.{Option, Some, None, IfSome, option_map}
 use Rattle.std.specs.List.{cons_option, AllByRecursion}
 use Rattle.std.proofs.lemmas.List.{length-set}
@@ -8,10 +8,12 @@ use Rattle.lattice.specs.Corners.{Corner, same_corner, is_corner}
 use Rattle.lattice.proofs.CornerOrder.{before_not_same, after_not_same, same_from}
 use Rattle.lattice.proofs.Rising.{AllAfter, Rising, rising_from, adjacent_from}
 use Rattle.page_alloc.specs.Pages.{PageSet}
+use Rattle.layout.specs.Formats.{Format}
 use Rattle.charts.specs.declared.locations.TilePlanes.{TilePlanes}
 use Rattle.charts.specs.declared.slot.Slot.{Slot}
-use Rattle.charts.specs.declared.slot.Staged.{Staged}
-use Rattle.charts.specs.declared.slot.Staged.TheVariants.{AsCommitted, Heights, Removed}
+use Rattle.charts.specs.declared.staged.Staged.{Staged}
+use Rattle.charts.specs.declared.staged.HeightsStaged.TheVariants as of_heights
+use Rattle.charts.specs.declared.staged.Staged.TheVariants.{Tile, Removed}
 use Rattle.charts.specs.Locations.{times}
 use Rattle.charts.specs.FreePages.{free_times}
 use Rattle.charts.specs.TileLocations.{TileLocation}
@@ -30,17 +32,17 @@ pub all_middle : (P : Slot → Type 0) (before : List Slot) (s : Slot) (after : 
 all_middle P [] s after all = all.0
 all_middle P (b ∷ before) s after all = all_middle P before s after all.1
 
-pub kept_change : (side capacity : ℕ) (before : List Slot) (s new : Slot) (after : List Slot) (free now : PageSet)
-    → IsKept side capacity (before ++ s ∷ after) free → new.corner ≡ s.corner → committed_tile new ≡ committed_tile s → IsSound side new
-    → length (staged_tiles (before ++ new ∷ after)) ≤ capacity → now.total ≡ free.total
+pub kept_change : (format : Format) (before : List Slot) (s new : Slot) (after : List Slot) (free now : PageSet)
+    → IsKept format (before ++ s ∷ after) free → new.corner ≡ s.corner → committed_tile new ≡ committed_tile s → IsSound format new
+    → length (staged_tiles (before ++ new ∷ after)) ≤ format.capacity → now.total ≡ free.total
     → ((p : ℕ) → times p (fresh_pages new) + free_times now p ≡ times p (fresh_pages s) + free_times free p)
-    → IsKept side capacity (before ++ new ∷ after) now
-kept_change side capacity before s new after free now is same_corner same_committed sound room same_total each = record {
+    → IsKept format (before ++ new ∷ after) now
+kept_change format before s new after free now is same_corner same_committed sound room same_total each = record {
   size = rw same_total is.size;
   fits = rw same_total is.fits;
   few = is.few;
   in_order = adjacent_from corner_of (before ++ new ∷ after) (rising_change before s new after same_corner (rising_from corner_of (before ++ s ∷ after) is.in_order));
-  sound = all_change (IsSound side) before s new after sound is.sound;
+  sound = all_change (IsSound format) before s new after sound is.sound;
   committed_room =
       (let same : committed_tiles (before ++ new ∷ after) ≡ committed_tiles (before ++ s ∷ after) =
       filter_map-append committed_tile before (new ∷ after)
@@ -60,9 +62,9 @@ pub filled_from : (s : Slot) (t : TileLocation) → staged_tile s ≡ Some t →
 filled_from s t is = by s.corner s.committed s.staged is
   where
     by : (c : Corner) (o : Option TilePlanes) (g : Staged) → staged_as c o g ≡ Some t → is_filled_as o g ≡ true
-    by c None AsCommitted is = cc
-    by c (Some planes) AsCommitted is = refl
-    by c o (Heights location keeps) is = refl
+    by c None (Tile of_heights.AsCommitted k) is = cc
+    by c (Some planes) (Tile of_heights.AsCommitted k) is = refl
+    by c o (Tile (of_heights.Fresh location) k) is = refl
     by c o Removed is = cc
 
 -- ---- the staged tiles
@@ -143,8 +145,8 @@ length-map f [] = refl
 length-map f (t ∷ rest) = ap (λ n. suc n) (length-map f rest)
 
 -- a slot's fresh page is fresh in the chart
-pub slot_fresh : (side capacity : ℕ) (before : List Slot) (s : Slot) (after : List Slot) (free : PageSet) → AreCounted (before ++ s ∷ after) free → (p : ℕ) → 1 ≤ times p (fresh_pages s) → IsFresh (chart_of side capacity (before ++ s ∷ after) free) p
-slot_fresh side capacity before s after free counted p some = fresh_page side capacity (before ++ s ∷ after) free counted p (omega (arith, times-split fresh_pages p before s after))
+pub slot_fresh : (format : Format) (before : List Slot) (s : Slot) (after : List Slot) (free : PageSet) → AreCounted (before ++ s ∷ after) free → (p : ℕ) → 1 ≤ times p (fresh_pages s) → IsFresh (chart_of format (before ++ s ∷ after) free) p
+slot_fresh format before s after free counted p some = fresh_page format (before ++ s ∷ after) free counted p (omega (arith, times-split fresh_pages p before s after))
 
 same_committed_tiles : (before : List Slot) (s new : Slot) (after : List Slot) → committed_tile new ≡ committed_tile s → committed_tiles (before ++ new ∷ after) ≡ committed_tiles (before ++ s ∷ after)
 same_committed_tiles before s new after same =
@@ -153,23 +155,23 @@ same_committed_tiles before s new after same =
     ∙ sym (filter_map-append committed_tile before (s ∷ after)))
 
 -- the chart with other staged tiles
-pub chart_changed : (side capacity : ℕ) (before : List Slot) (s new : Slot) (after : List Slot) (free now : PageSet) → now.total ≡ free.total → committed_tile new ≡ committed_tile s
+pub chart_changed : (format : Format) (before : List Slot) (s new : Slot) (after : List Slot) (free now : PageSet) → now.total ≡ free.total → committed_tile new ≡ committed_tile s
     → (tiles : List TileLocation) → staged_tiles (before ++ new ∷ after) ≡ tiles
-    → chart_of side capacity (before ++ new ∷ after) now ≡ record (chart_of side capacity (before ++ s ∷ after) free) { staged = tiles }
-chart_changed side capacity before s new after free now total same tiles staged =
-    let chart : ℕ → List TileLocation → List TileLocation → ChartValue = λ n c t. record { sectors = n; side = side; capacity = capacity; committed = c; staged = t } in
+    → chart_of format (before ++ new ∷ after) now ≡ record (chart_of format (before ++ s ∷ after) free) { staged = tiles }
+chart_changed format before s new after free now total same tiles staged =
+    let chart : ℕ → List TileLocation → List TileLocation → ChartValue = λ n c t. record { sectors = n; format = format; committed = c; staged = t } in
     ap (λ (n : ℕ). chart n (committed_tiles (before ++ new ∷ after)) (staged_tiles (before ++ new ∷ after))) total
     ∙ (ap (λ (l : List TileLocation). chart free.total l (staged_tiles (before ++ new ∷ after))) (same_committed_tiles before s new after same)
     ∙ ap (λ (l : List TileLocation). chart free.total (committed_tiles (before ++ s ∷ after)) l) staged)
 
 -- ---- a page that may be written
-module _ (side capacity : ℕ) (before : List Slot) (s new : Slot) (after : List Slot) (free now : PageSet) (is : IsKept side capacity (before ++ s ∷ after) free)
+module _ (format : Format) (before : List Slot) (s new : Slot) (after : List Slot) (free now : PageSet) (is : IsKept format (before ++ s ∷ after) free)
     (i page : ℕ) (staged : IsPageRestaged i page s new) (restaged : IsRestaged s new free now) where
   rising : Rising corner_of (before ++ s ∷ after)
   rising = rising_from corner_of (before ++ s ∷ after) is.in_order
 
   abbrev rewrite : TileLocation → TileLocation
-  rewrite = with_page_location_in s.corner i page staged.record_page
+  rewrite = with_page_location_in s.corner i page staged.index_page staged.record_page
 
   rewrite_other : (u : TileLocation) → is_at s.corner u ≡ false → rewrite u ≡ u
   rewrite_other u other = rw other refl
@@ -177,29 +179,41 @@ module _ (side capacity : ℕ) (before : List Slot) (s new : Slot) (after : List
   rewrite_here : staged_tile new ≡ Some (rewrite staged.tile)
   rewrite_here = staged.has ∙ ap Some (sym (rw (staged_at before s after rising staged.tile staged.had) refl))
 
-  pub rewritten_tiles : staged_tiles (before ++ new ∷ after) ≡ with_page_location s.corner i page staged.record_page (staged_tiles (before ++ s ∷ after))
+  pub rewritten_tiles : staged_tiles (before ++ new ∷ after) ≡ with_page_location s.corner i page staged.index_page staged.record_page (staged_tiles (before ++ s ∷ after))
   rewritten_tiles = staged_mapped before s after rising staged.tile staged.had rewrite rewrite_other new rewrite_here
 
-  sound_now : IsSound side new
+  was : IsSound format s
+  was = all_middle (IsSound format) before s after is.sound
+
+  whole : IsWholeTile format staged.tile
+  whole = let there : IfSome (Some staged.tile) (IsWholeTile format) = subst (λ (o : Option TileLocation). IfSome o (IsWholeTile format)) staged.had was.staged in there
+
+  sound_now : IsSound format new
   sound_now =
-      let was : IsSound side s = all_middle (IsSound side) before s after is.sound in
-      let whole : IsWholeTile side staged.tile = subst (λ (o : Option TileLocation). IfSome o (IsWholeTile side)) staged.had was.staged in
       record {
         corner = subst (λ (d : Corner). IsTrue (is_corner d)) (sym restaged.corner) was.corner;
-        committed = subst (λ (o : Option TileLocation). IfSome o (IsWholeTile side)) (sym (same_committed s new restaged.corner restaged.committed)) was.committed;
-        staged = subst (λ (o : Option TileLocation). IfSome o (IsWholeTile side)) (sym staged.has) (record { heights = length-set staged.tile.heights.pages i page ∙ whole.heights; kept = whole.kept });
+        committed = subst (λ (o : Option TileLocation). IfSome o (IsWholeTile format)) (sym (same_committed s new restaged.corner restaged.committed)) was.committed;
+        staged = subst (λ (o : Option TileLocation). IfSome o (IsWholeTile format)) (sym staged.has) (record {
+          heights = record {
+            index_pages = length-set staged.tile.heights.index_pages (i / 1024) staged.index_page ∙ whole.heights.index_pages;
+            pages = length-set staged.tile.heights.pages i page ∙ whole.heights.pages;
+          };
+          kept = whole.kept;
+        });
         filled = filled_from new _ staged.has;
       }
 
-  pub rewritten_kept : IsKept side capacity (before ++ new ∷ after) now
+  pub rewritten_kept : IsKept format (before ++ new ∷ after) now
   rewritten_kept =
-      kept_change side capacity before s new after free now is restaged.corner (same_committed s new restaged.corner restaged.committed) sound_now
+      kept_change format before s new after free now is restaged.corner (same_committed s new restaged.corner restaged.committed) sound_now
       (rw rewritten_tiles (rw (length-map rewrite (staged_tiles (before ++ s ∷ after))) is.staged_room)) restaged.same_total restaged.each
 
-  pub rewritten : IsRewritten s.corner i page (chart_of side capacity (before ++ s ∷ after) free) (chart_of side capacity (before ++ new ∷ after) now)
+  pub rewritten : IsRewritten s.corner i page (chart_of format (before ++ s ∷ after) free) (chart_of format (before ++ new ∷ after) now)
   rewritten = record {
     record_page = staged.record_page;
-    fresh_record = slot_fresh side capacity before new after now rewritten_kept.counted staged.record_page staged.fresh_record;
-    fresh_page = slot_fresh side capacity before new after now rewritten_kept.counted page staged.fresh_page;
-    changed = chart_changed side capacity before s new after free now restaged.same_total (same_committed s new restaged.corner restaged.committed) _ rewritten_tiles;
+    index_page = staged.index_page;
+    fresh_record = slot_fresh format before new after now rewritten_kept.counted staged.record_page staged.fresh_record;
+    fresh_index = λ below. slot_fresh format before new after now rewritten_kept.counted staged.index_page (staged.fresh_index (omega (arith, below, whole.heights.index_pages)));
+    fresh_page = slot_fresh format before new after now rewritten_kept.counted page staged.fresh_page;
+    changed = chart_changed format before s new after free now restaged.same_total (same_committed s new restaged.corner restaged.committed) _ rewritten_tiles;
   }

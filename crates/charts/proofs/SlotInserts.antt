@@ -9,12 +9,14 @@ use Rattle.lattice.specs.Corners.{Corner, is_before, is_corner}
 use Rattle.lattice.proofs.CornerOrder.{before_not_back}
 use Rattle.lattice.proofs.Rising.{AllAfter, Rising, rising_from, adjacent_from}
 use Rattle.page_alloc.specs.Pages.{PageSet}
-use Rattle.page_codec.specs.Sizes.{pages_of}
+use Rattle.layout.specs.Formats.{Format}
 use Rattle.charts.specs.declared.locations.TilePlanes.{TilePlanes}
 use Rattle.charts.specs.declared.slot.Slot.{Slot}
-use Rattle.charts.specs.declared.slot.Staged.{Staged}
-use Rattle.charts.specs.declared.slot.Staged.TheVariants.{AsCommitted, Heights, Removed}
-use Rattle.charts.specs.Locations.{PlaneLocation, times, pages_of_plane}
+use Rattle.charts.specs.declared.staged.Staged.{Staged}
+use Rattle.charts.specs.declared.staged.HeightsStaged.TheVariants as of_heights
+use Rattle.charts.specs.declared.staged.KeptStaged.TheVariants as of_kept
+use Rattle.charts.specs.declared.staged.Staged.TheVariants.{Tile, Removed}
+use Rattle.charts.specs.Locations.{PlaneLocation, IsWholePlane, times, pages_behind, pages_of_plane}
 use Rattle.charts.specs.FreePages.{free_times, page_times, heights_pages, AreTaken}
 use Rattle.charts.specs.TileLocations.{TileLocation, reached}
 use Rattle.charts.specs.Charts.{ChartValue, IsFresh, IsAdded, with_tile_location}
@@ -38,17 +40,17 @@ all_insert : (P : Slot → Type 0) (before : List Slot) (new : Slot) (after : Li
 all_insert P [] new after here all = (here, all)
 all_insert P (b ∷ before) new after here all = (all.0, all_insert P before new after here all.1)
 
-pub kept_insert : (side capacity : ℕ) (before : List Slot) (new : Slot) (after : List Slot) (free now : PageSet)
-    → IsKept side capacity (before ++ after) free → AllBefore new.corner before → AllAfter corner_of new.corner after → IsSound side new
-    → length (committed_tiles (before ++ new ∷ after)) ≤ capacity → length (staged_tiles (before ++ new ∷ after)) ≤ capacity → now.total ≡ free.total
+pub kept_insert : (format : Format) (before : List Slot) (new : Slot) (after : List Slot) (free now : PageSet)
+    → IsKept format (before ++ after) free → AllBefore new.corner before → AllAfter corner_of new.corner after → IsSound format new
+    → length (committed_tiles (before ++ new ∷ after)) ≤ format.capacity → length (staged_tiles (before ++ new ∷ after)) ≤ format.capacity → now.total ≡ free.total
     → ((p : ℕ) → times p (used_pages new) + free_times now p ≡ free_times free p)
-    → IsKept side capacity (before ++ new ∷ after) now
-kept_insert side capacity before new after free now is earlier later sound committed_room staged_room same_total each = record {
+    → IsKept format (before ++ new ∷ after) now
+kept_insert format before new after free now is earlier later sound committed_room staged_room same_total each = record {
   size = rw same_total is.size;
   fits = rw same_total is.fits;
   few = is.few;
   in_order = adjacent_from corner_of (before ++ new ∷ after) (rising_insert before new after earlier later (rising_from corner_of (before ++ after) is.in_order));
-  sound = all_insert (IsSound side) before new after sound is.sound;
+  sound = all_insert (IsSound format) before new after sound is.sound;
   committed_room = committed_room;
   staged_room = staged_room;
   counted = λ p. (let total = ap (λ n. page_times n p) same_total in omega (arith, total, each p, counted_at p before new after, counted_joined p before after, is.counted p));
@@ -98,55 +100,55 @@ module _ (before : List Slot) (new : Slot) (after : List Slot) (earlier : AllBef
 
 -- a slot with fresh heights
 abbrev pub with_fresh : Slot → PlaneLocation → Slot
-with_fresh s location = record { corner = s.corner; committed = s.committed; staged = Heights location false }
+with_fresh s location = record { corner = s.corner; committed = s.committed; staged = Tile (of_heights.Fresh location) of_kept.Dropped }
 
 abbrev pub new_slot : Corner → PlaneLocation → Slot
-new_slot c location = record { corner = c; committed = None; staged = Heights location false }
+new_slot c location = record { corner = c; committed = None; staged = Tile (of_heights.Fresh location) of_kept.Dropped }
 
 abbrev pub new_tile : Corner → PlaneLocation → TileLocation
 new_tile c location = record { corner = c; heights = location; kept = None }
 
-all_fresh : (side capacity : ℕ) (before : List Slot) (new : Slot) (after : List Slot) (now : PageSet) (location : PlaneLocation) → AreCounted (before ++ new ∷ after) now
-    → ((p : ℕ) → times p (fresh_pages new) ≡ times p (pages_of_plane location)) → All (IsFresh (chart_of side capacity (before ++ new ∷ after) now)) (pages_of_plane location)
-all_fresh side capacity before new after now location counted same =
-    all_numbers (IsFresh (chart_of side capacity (before ++ new ∷ after) now)) (pages_of_plane location) (λ p some. slot_fresh side capacity before new after now counted p (omega (arith, same p)))
+all_fresh : (format : Format) (before : List Slot) (new : Slot) (after : List Slot) (now : PageSet) (location : PlaneLocation) → AreCounted (before ++ new ∷ after) now
+    → ((p : ℕ) → times p (fresh_pages new) ≡ times p (pages_of_plane location)) → All (IsFresh (chart_of format (before ++ new ∷ after) now)) (pages_of_plane location)
+all_fresh format before new after now location counted same =
+    all_numbers (IsFresh (chart_of format (before ++ new ∷ after) now)) (pages_of_plane location) (λ p some. slot_fresh format before new after now counted p (omega (arith, same p)))
 
 -- ---- a tile added where the corner has no slot
-module _ (side capacity : ℕ) (before after : List Slot) (free now : PageSet) (is : IsKept side capacity (before ++ after) free) (c : Corner) (earlier : AllBefore c before) (later : AllAfter corner_of c after)
-    (location : PlaneLocation) (whole : length location.pages ≡ pages_of side) (taken : AreTaken (pages_of_plane location) free now) (room : length (staged_tiles (before ++ after)) < capacity) where
+module _ (format : Format) (before after : List Slot) (free now : PageSet) (is : IsKept format (before ++ after) free) (c : Corner) (earlier : AllBefore c before) (later : AllAfter corner_of c after)
+    (location : PlaneLocation) (whole : IsWholePlane format location) (taken : AreTaken (pages_of_plane location) free now) (room : length (staged_tiles (before ++ after)) < format.capacity) where
   abbrev new : Slot
   new = new_slot c location
 
   new_pages : (p : ℕ) → times p (fresh_pages new) ≡ times p (pages_of_plane location)
-  new_pages p = ap (λ l. times p (location.record_page ∷ l)) (differing-nil location.pages)
+  new_pages p = ap (λ l. times p (location.record_page ∷ l)) (differing-nil (pages_behind location))
 
   apart_tiles : staged_tiles (before ++ after) ≡ staged_tiles before ++ staged_tiles after
   apart_tiles = filter_map-append staged_tile before after
 
-  pub kept_added : IsTrue (is_corner c) → IsKept side capacity (before ++ new ∷ after) now
+  pub kept_added : IsTrue (is_corner c) → IsKept format (before ++ new ∷ after) now
   kept_added degrees =
-      kept_insert side capacity before new after free now is earlier later
+      kept_insert format before new after free now is earlier later
       (record { corner = degrees; committed = tt; staged = record { heights = whole; kept = tt }; filled = refl })
       (rw (filter_map-append committed_tile before (new ∷ after)) (rw (sym (filter_map-append committed_tile before after)) is.committed_room))
       (let more = added_length before new after earlier later (new_tile c location) refl refl in let same = ap length apart_tiles in omega arith)
       taken.same_total
       (λ p. omega (arith, new_pages p, taken.each p))
 
-  pub is_added : IsTrue (is_corner c) → IsAdded c (chart_of side capacity (before ++ after) free) (chart_of side capacity (before ++ new ∷ after) now)
+  pub is_added : IsTrue (is_corner c) → IsAdded c (chart_of format (before ++ after) free) (chart_of format (before ++ new ∷ after) now)
   is_added degrees = record {
     location = location;
     whole = whole;
-    fresh = all_fresh side capacity before new after now location (kept_added degrees).counted new_pages;
+    fresh = all_fresh format before new after now location (kept_added degrees).counted new_pages;
     changed =
-        (let chart : ℕ → List TileLocation → List TileLocation → ChartValue = λ n a b. record { sectors = n; side = side; capacity = capacity; committed = a; staged = b } in
+        (let chart : ℕ → List TileLocation → List TileLocation → ChartValue = λ n a b. record { sectors = n; format = format; committed = a; staged = b } in
         ap (λ n. chart n (committed_tiles (before ++ new ∷ after)) (staged_tiles (before ++ new ∷ after))) taken.same_total
         ∙ (ap (λ l. chart free.total l (staged_tiles (before ++ new ∷ after))) (filter_map-append committed_tile before (new ∷ after) ∙ sym (filter_map-append committed_tile before after))
         ∙ ap (λ l. chart free.total (committed_tiles (before ++ after)) l) (added_tiles before new after earlier later (new_tile c location) refl refl ∙ ap (with_tile_location (new_tile c location)) (sym apart_tiles))));
   }
 
 -- ---- a tile added where the corner has a slot
-module _ (side capacity : ℕ) (before : List Slot) (s : Slot) (after : List Slot) (free now : PageSet) (is : IsKept side capacity (before ++ s ∷ after) free) (none : staged_tile s ≡ None)
-    (location : PlaneLocation) (whole : length location.pages ≡ pages_of side) (taken : AreTaken (pages_of_plane location) free now) (room : length (staged_tiles (before ++ s ∷ after)) < capacity)
+module _ (format : Format) (before : List Slot) (s : Slot) (after : List Slot) (free now : PageSet) (is : IsKept format (before ++ s ∷ after) free) (none : staged_tile s ≡ None)
+    (location : PlaneLocation) (whole : IsWholePlane format location) (taken : AreTaken (pages_of_plane location) free now) (room : length (staged_tiles (before ++ s ∷ after)) < format.capacity)
     (apart : (p : ℕ) → times p (heights_pages s.committed) + free_times free p ≤ 1) where
   abbrev again : Slot
   again = with_fresh s location
@@ -164,33 +166,33 @@ module _ (side capacity : ℕ) (before : List Slot) (s : Slot) (after : List Slo
   was_fresh p = by s.corner s.committed s.staged none
     where
       by : (d : Corner) (o : Option TilePlanes) (g : Staged) → staged_as d o g ≡ None → times p (fresh_as o g) ≡ 0
-      by d o AsCommitted none = refl
-      by d o (Heights h keeps) none = cc
+      by d o (Tile of_heights.AsCommitted k) none = refl
+      by d o (Tile (of_heights.Fresh location) k) none = cc
       by d o Removed none = refl
 
   again_pages : (p : ℕ) → times p (fresh_pages again) ≡ times p (pages_of_plane location)
   again_pages p =
-      ap (λ l. times p (location.record_page ∷ l)) (differing-apart location.pages (heights_pages s.committed) (λ q. (
-      let here : one q location.record_page + times q location.pages + free_times now q ≡ free_times free q = taken.each q in
+      ap (λ l. times p (location.record_page ∷ l)) (differing-apart (pages_behind location) (heights_pages s.committed) (λ q. (
+      let here : one q location.record_page + times q (pages_behind location) + free_times now q ≡ free_times free q = taken.each q in
       omega (arith, apart q, here))))
 
   old_tiles : staged_tiles (before ++ s ∷ after) ≡ staged_tiles before ++ staged_tiles after
   old_tiles = filter_map-append staged_tile before (s ∷ after) ∙ ap (λ (o : Option TileLocation). staged_tiles before ++ cons_option o (staged_tiles after)) none
 
-  pub kept_again : IsKept side capacity (before ++ again ∷ after) now
+  pub kept_again : IsKept format (before ++ again ∷ after) now
   kept_again =
-      kept_change side capacity before s again after free now is refl refl
-      (record { corner = (all_middle (IsSound side) before s after is.sound).corner; committed = (all_middle (IsSound side) before s after is.sound).committed; staged = record { heights = whole; kept = tt }; filled = refl })
+      kept_change format before s again after free now is refl refl
+      (record { corner = (all_middle (IsSound format) before s after is.sound).corner; committed = (all_middle (IsSound format) before s after is.sound).committed; staged = record { heights = whole; kept = tt }; filled = refl })
       (let more = added_length before again after earlier later (new_tile s.corner location) refl refl in let same = ap length old_tiles in omega arith)
       taken.same_total
       (λ p. omega (arith, again_pages p, was_fresh p, taken.each p))
 
-  pub is_added_again : IsAdded s.corner (chart_of side capacity (before ++ s ∷ after) free) (chart_of side capacity (before ++ again ∷ after) now)
+  pub is_added_again : IsAdded s.corner (chart_of format (before ++ s ∷ after) free) (chart_of format (before ++ again ∷ after) now)
   is_added_again = record {
     location = location;
     whole = whole;
-    fresh = all_fresh side capacity before again after now location kept_again.counted again_pages;
+    fresh = all_fresh format before again after now location kept_again.counted again_pages;
     changed =
-        chart_changed side capacity before s again after free now taken.same_total refl _
+        chart_changed format before s again after free now taken.same_total refl _
         (added_tiles before again after earlier later (new_tile s.corner location) refl refl ∙ ap (with_tile_location (new_tile s.corner location)) (sym old_tiles));
   }

@@ -11,8 +11,9 @@ use Rattle.lattice.proofs.Rising.{AllAfter, Rising}
 use Rattle.page_alloc.specs.Pages.{PageSet}
 use Rattle.charts.specs.declared.slot.Slot.{Slot}
 use Rattle.charts.specs.declared.locations.TilePlanes.{TilePlanes}
-use Rattle.charts.specs.declared.slot.Staged.{Staged}
-use Rattle.charts.specs.declared.slot.Staged.TheVariants.{AsCommitted, Heights, Removed}
+use Rattle.charts.specs.declared.staged.Staged.{Staged}
+use Rattle.charts.specs.declared.staged.HeightsStaged.TheVariants as of_heights
+use Rattle.charts.specs.declared.staged.Staged.TheVariants.{Tile, Removed}
 use Rattle.charts.specs.Locations.{times}
 use Rattle.charts.specs.FreePages.{free_times, page_times, AreInUse}
 use Rattle.charts.specs.TileLocations.{TileLocation, pages_of_tile, reached}
@@ -126,9 +127,9 @@ pub staged_own : (s : Slot) → IfSome (staged_tile s) (λ t. t.corner ≡ s.cor
 staged_own s = by s.corner s.committed s.staged
   where
     by : (c : Corner) (o : Option TilePlanes) (g : Staged) → IfSome (staged_as c o g) (λ t. t.corner ≡ c)
-    by c None AsCommitted = tt
-    by c (Some planes) AsCommitted = refl
-    by c o (Heights location keeps) = refl
+    by c None (Tile of_heights.AsCommitted k) = tt
+    by c (Some planes) (Tile of_heights.AsCommitted k) = refl
+    by c o (Tile (of_heights.Fresh location) k) = refl
     by c o Removed = tt
 
 -- ---- where a corner's slot stands

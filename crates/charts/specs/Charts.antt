@@ -1,25 +1,25 @@
 -- Which pages hold which planes: as committed, and as the next commit will have it (this product's own profile).
-use Rattle.std.specs.Prelude.{◌≡◌, ◌⊎◌, ℕ, ◌≤◌, ◌<◌, ◌==◌, Bool, IsTrue, List, [], ◌∷◌, All, Contains, length, map, filter, not, Some, None, IsSome, IfSome, if◌then◌else◌, slice_set}
+use Rattle.std.specs.Prelude.{◌≡◌, ◌⊎◌, ℕ, ◌≤◌, ◌<◌, ◌/◌, ◌==◌, Bool, IsTrue, List, [], ◌∷◌, All, Contains, length, map, filter, not, Some, None, IsSome, IfSome, if◌then◌else◌}
 use Rattle.std.specs.List.{AllAdjacentBelow, list_any}
 use Rattle.lattice.specs.Corners.{Corner, same_corner, is_before, is_corner}
 use Rattle.lattice.specs.Lattice.{IsBefore}
-use Rattle.page_codec.specs.Sizes.{pages_of, sectors_of}
+use Rattle.layout.specs.Formats.{Format}
+use Rattle.layout.specs.Sizes.{index_pages_of, sectors_asked}
 use Rattle.charts.specs.declared.locations.KeptLocations.{KeptLocations}
 use Rattle.charts.specs.declared.locations.TilePlanes.{TilePlanes}
-use Rattle.charts.specs.Locations.{PlaneLocation, pages_of_plane}
+use Rattle.charts.specs.Locations.{PlaneLocation, IsWholePlane, moved_plane, pages_of_plane}
 use Rattle.charts.specs.TileLocations.{TileLocation, KeepsPageRule, reached}
 
--- the disk's sectors, the side of the tiles and how many there is room for; the tiles as committed and as staged
+-- the disk's sectors and the format of its store; the tiles as committed and as staged
 pub record ChartValue : Type 0 where
   pub sectors : ℕ
-  pub side : ℕ
-  pub capacity : ℕ
+  pub format : Format
   pub committed : List TileLocation
   pub staged : List TileLocation
 
 -- no tile, neither committed nor staged
-abbrev pub no_tiles_charted : (sectors side capacity : ℕ) → ChartValue
-no_tiles_charted sectors side capacity = record { sectors = sectors; side = side; capacity = capacity; committed = []; staged = [] }
+abbrev pub no_tiles_charted : (sectors : ℕ) → Format → ChartValue
+no_tiles_charted sectors format = record { sectors = sectors; format = format; committed = []; staged = [] }
 
 -- the corner's tile, with these planes
 abbrev pub tile_at : Corner → TilePlanes → TileLocation
@@ -40,21 +40,21 @@ HasHeights c location tiles = (t : TileLocation) × (Contains tiles t × (t.corn
 abbrev pub HasKept : Corner → KeptLocations → List TileLocation → Type 0
 HasKept c kept tiles = (t : TileLocation) × (Contains tiles t × (t.corner ≡ c) × (t.kept ≡ Some kept))
 
-pub record AreWholeKept (side : ℕ) (k : KeptLocations) : Type 0 where
-  pub levels : length k.levels.pages ≡ pages_of side
-  pub labels : length k.labels.pages ≡ pages_of side
+pub record AreWholeKept (format : Format) (k : KeptLocations) : Type 0 where
+  pub levels : IsWholePlane format k.levels
+  pub labels : IsWholePlane format k.labels
 
 -- each plane of the tile has all its pages
-pub record IsWholeTile (side : ℕ) (t : TileLocation) : Type 0 where
-  pub heights : length t.heights.pages ≡ pages_of side
-  pub kept : IfSome t.kept (AreWholeKept side)
+pub record IsWholeTile (format : Format) (t : TileLocation) : Type 0 where
+  pub heights : IsWholePlane format t.heights
+  pub kept : IfSome t.kept (AreWholeKept format)
 
 -- whole tiles of corners in order, no more than there is room for, by the page rule
-pub record AreCharted (sectors side capacity : ℕ) (tiles : List TileLocation) : Type 0 where
+pub record AreCharted (sectors : ℕ) (format : Format) (tiles : List TileLocation) : Type 0 where
   pub corners : All (λ t. IsTrue (is_corner t.corner)) tiles
   pub in_order : AllAdjacentBelow (λ a b. IsBefore a.corner b.corner) tiles (length tiles)
-  pub room : length tiles ≤ capacity
-  pub whole : All (IsWholeTile side) tiles
+  pub room : length tiles ≤ format.capacity
+  pub whole : All (IsWholeTile format) tiles
   pub page_rule : KeepsPageRule sectors tiles
 
 -- a page that the committed tiles don't reach
@@ -63,15 +63,16 @@ pub record IsFresh (chart : ChartValue) (p : ℕ) : Type 0 where
   pub high : p < chart.sectors
   pub unreached : ¬ Contains (reached chart.committed) p
 
--- what a staged tile is: committed as it is, or with a fresh record of its heights, and any kept planes a committed tile's
+-- what a staged tile is: a committed one but for its kept planes, or with a fresh record of its heights; and any kept
+-- planes are a committed tile's
 pub record IsStagedIn (chart : ChartValue) (t : TileLocation) : Type 0 where
-  pub settled : Contains chart.committed t ⊎ IsFresh chart t.heights.record_page
+  pub settled : Contains (map (λ (u : TileLocation). record u { kept = t.kept }) chart.committed) t ⊎ IsFresh chart t.heights.record_page
   pub kept : IsSome t.kept → Contains (map (λ u. u.kept) chart.committed) t.kept
 
 pub record IsChart (chart : ChartValue) : Type 0 where
-  pub size : sectors_of chart.side chart.capacity ≤ chart.sectors
-  pub committed : AreCharted chart.sectors chart.side chart.capacity chart.committed
-  pub staged : AreCharted chart.sectors chart.side chart.capacity chart.staged
+  pub size : sectors_asked chart.format ≤ chart.sectors
+  pub committed : AreCharted chart.sectors chart.format chart.committed
+  pub staged : AreCharted chart.sectors chart.format chart.staged
   pub each : All (IsStagedIn chart) chart.staged
 
 -- nothing is staged
@@ -82,9 +83,13 @@ IsClean chart = chart.staged ≡ chart.committed
 abbrev pub HasFreshHeights : Corner → ChartValue → Type 0
 HasFreshHeights c chart = (t : TileLocation) × (Contains chart.staged t × (t.corner ≡ c) × IsFresh chart t.heights.record_page)
 
+-- no committed tile reaches the page
+abbrev pub is_unreached : List TileLocation → ℕ → Bool
+is_unreached committed page = not (list_any (λ p. p == page) (reached committed))
+
 -- the same as a test of a staged tile
 abbrev pub is_changed : List TileLocation → TileLocation → Bool
-is_changed committed t = not (list_any (λ p. p == t.heights.record_page) (reached committed))
+is_changed committed t = is_unreached committed t.heights.record_page
 
 -- the corners of the tiles whose heights are staged, in order
 abbrev pub fresh_corners : ChartValue → List Corner
@@ -102,28 +107,37 @@ with_tile_location new (t ∷ rest) = if is_before new.corner t.corner then new 
 abbrev pub without_location : Corner → List TileLocation → List TileLocation
 without_location c tiles = filter (λ t. not (is_at c t)) tiles
 
--- the tile with page i of its heights there, and their record too, if it is the corner's
-abbrev pub with_page_location_in : (c : Corner) (i page record_page : ℕ) → TileLocation → TileLocation
-with_page_location_in c i page record_page t =
-    if is_at c t then record t { heights = record { record_page = record_page; pages = slice_set t.heights.pages i page } } else t
+-- the tile without kept planes, if it is the corner's
+abbrev pub without_kept_in : Corner → TileLocation → TileLocation
+without_kept_in c t = if is_at c t then record t { kept = None } else t
 
-abbrev pub with_page_location : (c : Corner) (i page record_page : ℕ) → List TileLocation → List TileLocation
-with_page_location c i page record_page tiles = map (with_page_location_in c i page record_page) tiles
+abbrev pub without_kept : Corner → List TileLocation → List TileLocation
+without_kept c tiles = map (without_kept_in c) tiles
+
+-- the tile with page i of its heights there, and its index page and their record too, if it is the corner's
+abbrev pub with_page_location_in : (c : Corner) (i page index_page record_page : ℕ) → TileLocation → TileLocation
+with_page_location_in c i page index_page record_page t =
+    if is_at c t then record t { heights = moved_plane i page index_page record_page t.heights } else t
+
+abbrev pub with_page_location : (c : Corner) (i page index_page record_page : ℕ) → List TileLocation → List TileLocation
+with_page_location c i page index_page record_page tiles = map (with_page_location_in c i page index_page record_page) tiles
 
 -- the tile with the record of its heights there, if it is the corner's
 abbrev pub with_record_in : (c : Corner) (record_page : ℕ) → TileLocation → TileLocation
-with_record_in c record_page t = if is_at c t then record t { heights = record { record_page = record_page; pages = t.heights.pages } } else t
+with_record_in c record_page t = if is_at c t then record t { heights = record (t.heights) { record_page = record_page } } else t
 
 abbrev pub with_record : (c : Corner) (record_page : ℕ) → List TileLocation → List TileLocation
 with_record c record_page tiles = map (with_record_in c record_page) tiles
 
--- page i of the corner's heights may be written at this page: no committed tile has it or the record of the heights, and
--- nothing else has changed
+-- page i of the corner's heights may be written at this page: no committed tile has it, or the index page that lists it,
+-- or the record of the heights, and nothing else has changed
 pub record IsRewritten (c : Corner) (i page : ℕ) (old new : ChartValue) : Type 0 where
   pub record_page : ℕ
+  pub index_page : ℕ
   pub fresh_record : IsFresh new record_page
+  pub fresh_index : i / 1024 < index_pages_of old.format → IsFresh new index_page
   pub fresh_page : IsFresh new page
-  pub changed : new ≡ record old { staged = with_page_location c i page record_page old.staged }
+  pub changed : new ≡ record old { staged = with_page_location c i page index_page record_page old.staged }
 
 -- the record of the corner's heights has a fresh page, and nothing else has changed
 pub record IsPrepared (c : Corner) (old new : ChartValue) : Type 0 where
@@ -134,6 +148,6 @@ pub record IsPrepared (c : Corner) (old new : ChartValue) : Type 0 where
 -- the corner's tile is new, with fresh pages for its heights
 pub record IsAdded (c : Corner) (old new : ChartValue) : Type 0 where
   pub location : PlaneLocation
-  pub whole : length location.pages ≡ pages_of old.side
+  pub whole : IsWholePlane old.format location
   pub fresh : All (IsFresh new) (pages_of_plane location)
   pub changed : new ≡ record old { staged = with_tile_location (record { corner = c; heights = location; kept = None }) old.staged }

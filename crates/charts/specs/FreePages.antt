@@ -1,10 +1,10 @@
 -- Pages taken out of the free ones, and given back.
-use Rattle.std.specs.Prelude.{◌≡◌, ℕ, ◌+◌, ◌≤◌, ◌&&◌, ◌==◌, nat_le, nat_lt, Bool, List, [], ◌∷◌, ◌++◌, Option, Some, None, if◌then◌else◌}
+use Rattle.std.specs.Prelude.{◌≡◌, ℕ, ◌+◌, ◌/◌, ◌≤◌, ◌<◌, ◌&&◌, ◌==◌, nat_le, nat_lt, List, [], ◌∷◌, ◌++◌, length, Option, Some, None, if◌then◌else◌}
 use Rattle.std.specs.FinSet.{contains}
 use Rattle.page_alloc.specs.Pages.{PageSet}
 use Rattle.charts.specs.declared.locations.TilePlanes.{TilePlanes}
 use Rattle.charts.specs.declared.locations.KeptLocations.{KeptLocations}
-use Rattle.charts.specs.Locations.{PlaneLocation, pages_of_plane, times}
+use Rattle.charts.specs.Locations.{PlaneLocation, pages_behind, pages_of_plane, moved_plane, times}
 use Rattle.charts.specs.TileLocations.{pages_of_kept}
 
 -- 1 for a page that is free, else 0
@@ -47,19 +47,24 @@ abbrev pub kept_of : Option TilePlanes → Option KeptLocations
 kept_of None = None
 kept_of (Some planes) = planes.kept
 
+-- the pages behind the record of the heights
 abbrev pub heights_pages : Option TilePlanes → List ℕ
 heights_pages None = []
-heights_pages (Some planes) = planes.heights.pages
-
--- The pages that other heights of a tile do without: its record, its pages that they don't have, and its kept planes
--- where they don't stay.
-abbrev pub replaced_pages : Option TilePlanes → PlaneLocation → Bool → List ℕ
-replaced_pages None location keeps = []
-replaced_pages (Some was) location keeps =
-    was.heights.record_page ∷ (differing was.heights.pages location.pages ++ (if keeps then [] else pages_of_kept was.kept))
+heights_pages (Some planes) = pages_behind planes.heights
 
 -- a page of a plane is this page now, which the committed plane doesn't have, and the free pages make up for it
 pub record IsOwned (committed : List ℕ) (page : ℕ) (old new : List ℕ) (was now : PageSet) : Type 0 where
   pub fresh : 1 ≤ times page (differing new committed)
   pub same_total : now.total ≡ was.total
+  pub fewer : (p : ℕ) → free_times now p ≤ free_times was p
   pub each : (p : ℕ) → times p (differing new committed) + free_times now p ≡ times p (differing old committed) + free_times was p
+
+-- page i of a plane is this page now, and it and the index page that lists it are pages that the committed plane doesn't
+-- have; the free pages make up for them
+pub record IsOwnedPage (committed : List ℕ) (i page : ℕ) (old new : PlaneLocation) (was now : PageSet) : Type 0 where
+  pub index_page : ℕ
+  pub moved : new ≡ moved_plane i page index_page old.record_page old
+  pub fresh_page : 1 ≤ times page (differing (pages_behind new) committed)
+  pub fresh_index : i / 1024 < length old.index_pages → 1 ≤ times index_page (differing (pages_behind new) committed)
+  pub same_total : now.total ≡ was.total
+  pub each : (p : ℕ) → times p (differing (pages_behind new) committed) + free_times now p ≡ times p (differing (pages_behind old) committed) + free_times was p

@@ -3,4 +3,5 @@ pub mod FreePages
 pub mod Locations
 pub mod Planes
 pub mod Slots
+pub mod StagedPlanes
 pub mod TileLocations

@@ -1,14 +1,38 @@
 -- Where a plane lies on a disk (this product's own profile).
-use Rattle.std.specs.Prelude.{ℕ, ◌+◌, ◌==◌, List, [], ◌∷◌, if◌then◌else◌}
+use Rattle.std.specs.Prelude.{◌≡◌, ℕ, ◌+◌, ◌/◌, ◌==◌, List, [], ◌∷◌, ◌++◌, length, if◌then◌else◌, slice_set}
+use Rattle.layout.specs.Formats.{Format}
+use Rattle.layout.specs.Sizes.{pages_of, index_pages_of}
 
--- the page of a plane's record, and the plane's pages in order
+-- the page of a plane's record, the index pages, of which the first version has none, and the plane's pages in order
 pub record PlaneLocation : Type 0 where
   pub record_page : ℕ
+  pub index_pages : List ℕ
   pub pages : List ℕ
+
+-- the pages behind the record
+abbrev pub pages_behind : PlaneLocation → List ℕ
+pages_behind p = p.index_pages ++ p.pages
 
 -- all its pages
 abbrev pub pages_of_plane : PlaneLocation → List ℕ
-pages_of_plane p = p.record_page ∷ p.pages
+pages_of_plane p = p.record_page ∷ pages_behind p
+
+-- it has as many as its format asks
+pub record IsWholePlane (format : Format) (p : PlaneLocation) : Type 0 where
+  pub index_pages : length p.index_pages ≡ index_pages_of format
+  pub pages : length p.pages ≡ pages_of format.side
+
+-- Page i of the plane is there, and the record and the index page that lists page i are at these pages; where there is no
+-- such index page, nothing stands at its index, and nothing is put there.
+abbrev pub moved_plane : (i page index_page record_page : ℕ) → PlaneLocation → PlaneLocation
+moved_plane i page index_page record_page p =
+    record { record_page = record_page; index_pages = slice_set p.index_pages (i / 1024) index_page; pages = slice_set p.pages i page }
+
+-- one of the pages behind the record is elsewhere
+pub record IsMovedBehind (at page : ℕ) (old new : PlaneLocation) : Type 0 where
+  pub same_record : new.record_page ≡ old.record_page
+  pub same_count : length new.index_pages ≡ length old.index_pages
+  pub moved : pages_behind new ≡ slice_set (pages_behind old) at page
 
 -- how often a number stands in a list
 abbrev pub times : ℕ → List ℕ → ℕ

@@ -1,19 +1,21 @@
 -- How a chart is kept: a slot for each corner that has a committed or a staged tile.
-use Rattle.std.specs.Prelude.{◌≡◌, ℕ, ◌+◌, ◌≤◌, ◌<◌, ◌^◌, true, false, Bool, IsTrue, List, [], ◌∷◌, ◌++◌, length, Option, Some, None, IfSome, is_some, if◌then◌else◌, slice_set, slice_index_or}
+use Rattle.std.specs.Prelude.{◌≡◌, ℕ, ◌+◌, ◌≤◌, ◌<◌, ◌/◌, ◌^◌, true, false, Bool, ◌||◌, IsTrue, List, [], ◌++◌, length, Option, Some, None, IfSome, is_some, slice_index_or}
 use Rattle.std.specs.Option.{option_map}
 use Rattle.std.specs.List.{HoldsAt, AllWithin, filter_map, flat_map, AllByRecursion, AllAdjacentBelow}
 use Rattle.lattice.specs.Corners.{Corner, is_corner}
 use Rattle.lattice.specs.Lattice.{IsBefore}
 use Rattle.page_alloc.specs.Pages.{PageSet}
-use Rattle.page_codec.specs.Sizes.{sectors_of}
+use Rattle.layout.specs.Formats.{Format}
+use Rattle.layout.specs.Sizes.{sectors_asked}
 use Rattle.charts.specs.declared.locations.TilePlanes.{TilePlanes}
 use Rattle.charts.specs.declared.slot.Slot.{Slot}
 use Rattle.charts.specs.declared.slot.Ending.{Ending}
 use Rattle.charts.specs.declared.slot.Ending.TheVariants.{Committed, GivenUp}
-use Rattle.charts.specs.declared.slot.Staged.{Staged}
-use Rattle.charts.specs.declared.slot.Staged.TheVariants.{AsCommitted, Heights, Removed}
-use Rattle.charts.specs.Locations.{times}
-use Rattle.charts.specs.FreePages.{free_times, page_times, differing, heights_pages, kept_of}
+use Rattle.charts.specs.declared.staged.Staged.{Staged}
+use Rattle.charts.specs.declared.staged.Staged.TheVariants.{Tile, Removed}
+use Rattle.charts.specs.Locations.{moved_plane, times}
+use Rattle.charts.specs.FreePages.{free_times, page_times}
+use Rattle.charts.specs.StagedPlanes.{as_committed, heights_as, kept_as, fresh_heights_as, has_fresh_heights}
 use Rattle.charts.specs.TileLocations.{TileLocation, pages_of_tile, reached}
 use Rattle.charts.specs.Charts.{ChartValue, tile_at, IsWholeTile}
 
@@ -22,8 +24,7 @@ abbrev pub committed_tile : Slot → Option TileLocation
 committed_tile s = option_map (tile_at s.corner) s.committed
 
 abbrev pub staged_as : Corner → Option TilePlanes → Staged → Option TileLocation
-staged_as c committed AsCommitted = option_map (tile_at c) committed
-staged_as c committed (Heights location keeps) = Some (record { corner = c; heights = location; kept = if keeps then kept_of committed else None })
+staged_as c committed (Tile h k) = option_map (λ location. record { corner = c; heights = location; kept = kept_as committed k }) (heights_as committed h)
 staged_as c committed Removed = None
 
 abbrev pub staged_tile : Slot → Option TileLocation
@@ -37,8 +38,7 @@ staged_tiles slots = filter_map staged_tile slots
 
 -- the slot's pages that only its staged tile reaches
 abbrev pub fresh_as : Option TilePlanes → Staged → List ℕ
-fresh_as committed AsCommitted = []
-fresh_as committed (Heights location keeps) = location.record_page ∷ differing location.pages (heights_pages committed)
+fresh_as committed (Tile h k) = fresh_heights_as committed h
 fresh_as committed Removed = []
 
 abbrev pub fresh_pages : Slot → List ℕ
@@ -54,8 +54,7 @@ used_pages s = pages_of_location (committed_tile s) ++ fresh_pages s
 
 -- its heights are staged
 abbrev pub stages_heights_as : Staged → Bool
-stages_heights_as AsCommitted = false
-stages_heights_as (Heights location keeps) = true
+stages_heights_as (Tile h k) = has_fresh_heights h
 stages_heights_as Removed = false
 
 abbrev pub stages_heights : Slot → Bool
@@ -68,13 +67,16 @@ pub record IsRestaged (old new : Slot) (was now : PageSet) : Type 0 where
   pub same_total : now.total ≡ was.total
   pub each : (p : ℕ) → times p (fresh_pages new) + free_times now p ≡ times p (fresh_pages old) + free_times was p
 
--- page i of the slot's heights is this fresh page, and their record is on a fresh page too; the tile is the same otherwise
+-- page i of the slot's heights is this fresh page, and the index page that lists it and their record are on fresh pages too;
+-- the tile is the same otherwise
 pub record IsPageRestaged (i page : ℕ) (old new : Slot) : Type 0 where
   pub tile : TileLocation
   pub record_page : ℕ
+  pub index_page : ℕ
   pub had : staged_tile old ≡ Some tile
-  pub has : staged_tile new ≡ Some (record tile { heights = record { record_page = record_page; pages = slice_set tile.heights.pages i page } })
+  pub has : staged_tile new ≡ Some (record tile { heights = moved_plane i page index_page record_page tile.heights })
   pub fresh_record : 1 ≤ times record_page (fresh_pages new)
+  pub fresh_index : i / 1024 < length tile.heights.index_pages → 1 ≤ times index_page (fresh_pages new)
   pub fresh_page : 1 ≤ times page (fresh_pages new)
 
 -- the record of the slot's heights is on a fresh page; the tile is the same otherwise
@@ -82,8 +84,17 @@ pub record IsRecordRestaged (old new : Slot) : Type 0 where
   pub tile : TileLocation
   pub record_page : ℕ
   pub had : staged_tile old ≡ Some tile
-  pub has : staged_tile new ≡ Some (record tile { heights = record { record_page = record_page; pages = tile.heights.pages } })
+  pub has : staged_tile new ≡ Some (record tile { heights = record (tile.heights) { record_page = record_page } })
   pub fresh_record : 1 ≤ times record_page (fresh_pages new)
+
+-- the slot's tile has no kept planes; it is the same otherwise, and so are its fresh pages
+pub record IsKeptDropped (old new : Slot) : Type 0 where
+  pub tile : TileLocation
+  pub corner : new.corner ≡ old.corner
+  pub committed : new.committed ≡ old.committed
+  pub had : staged_tile old ≡ Some tile
+  pub has : staged_tile new ≡ Some (record tile { kept = None })
+  pub same_fresh : fresh_pages new ≡ fresh_pages old
 
 -- what is committed once what is staged has ended so
 abbrev pub ended_tile : Ending → Slot → Option TileLocation
@@ -94,47 +105,46 @@ ended_tile GivenUp s = committed_tile s
 pub record HasEndedAs (ending : Ending) (old new : Slot) : Type 0 where
   pub corner : new.corner ≡ old.corner
   pub committed : committed_tile new ≡ ended_tile ending old
-  pub staged : new.staged ≡ AsCommitted
+  pub staged : new.staged ≡ as_committed
 
 -- the slot has this tile as committed, with nothing staged, and its other pages are free
 pub record IsEndedAs (tile : Option TileLocation) (old new : Slot) (was now : PageSet) : Type 0 where
   pub corner : new.corner ≡ old.corner
   pub committed : committed_tile new ≡ tile
-  pub staged : new.staged ≡ AsCommitted
+  pub staged : new.staged ≡ as_committed
   pub same_total : now.total ≡ was.total
   pub each : (p : ℕ) → times p (pages_of_location tile) + free_times now p ≡ times p (used_pages old) + free_times was p
 
 -- the slot stands for a tile
 abbrev pub is_filled_as : Option TilePlanes → Staged → Bool
-is_filled_as committed AsCommitted = is_some committed
-is_filled_as committed (Heights location keeps) = true
+is_filled_as committed (Tile h k) = has_fresh_heights h || is_some committed
 is_filled_as committed Removed = is_some committed
 
 -- it stands for a tile of a corner, whose planes have all their pages
-pub record IsSound (side : ℕ) (s : Slot) : Type 0 where
+pub record IsSound (format : Format) (s : Slot) : Type 0 where
   pub corner : IsTrue (is_corner s.corner)
-  pub committed : IfSome (committed_tile s) (IsWholeTile side)
-  pub staged : IfSome (staged_tile s) (IsWholeTile side)
+  pub committed : IfSome (committed_tile s) (IsWholeTile format)
+  pub staged : IfSome (staged_tile s) (IsWholeTile format)
   pub filled : is_filled_as s.committed s.staged ≡ true
 
 -- every page of the disk is committed, or fresh, or free, and no page is two of them
 abbrev pub AreCounted : List Slot → PageSet → Type 0
 AreCounted slots free = (p : ℕ) → times p (reached (committed_tiles slots)) + times p (flat_map fresh_pages slots) + free_times free p ≡ page_times free.total p
 
-pub record IsKept (side capacity : ℕ) (slots : List Slot) (free : PageSet) : Type 0 where
-  pub size : sectors_of side capacity ≤ free.total
+pub record IsKept (format : Format) (slots : List Slot) (free : PageSet) : Type 0 where
+  pub size : sectors_asked format ≤ free.total
   pub fits : free.total < 2 ^ 32
-  pub few : capacity ≤ 240
+  pub few : format.capacity ≤ 240
   pub in_order : AllAdjacentBelow (λ a b. IsBefore a.corner b.corner) slots (length slots)
-  pub sound : AllByRecursion (IsSound side) slots
-  pub committed_room : length (committed_tiles slots) ≤ capacity
-  pub staged_room : length (staged_tiles slots) ≤ capacity
+  pub sound : AllByRecursion (IsSound format) slots
+  pub committed_room : length (committed_tiles slots) ≤ format.capacity
+  pub staged_room : length (staged_tiles slots) ≤ format.capacity
   pub counted : AreCounted slots free
 
 -- what a chart of these slots is
-abbrev pub chart_of : (side capacity : ℕ) → List Slot → PageSet → ChartValue
-chart_of side capacity slots free =
-    record { sectors = free.total; side = side; capacity = capacity; committed = committed_tiles slots; staged = staged_tiles slots }
+abbrev pub chart_of : Format → List Slot → PageSet → ChartValue
+chart_of format slots free =
+    record { sectors = free.total; format = format; committed = committed_tiles slots; staged = staged_tiles slots }
 
 -- the corner's slot stands at this index
 pub record IsSlotAt (c : Corner) (at : ℕ) (slots : List Slot) : Type 0 where

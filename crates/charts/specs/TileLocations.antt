@@ -2,8 +2,6 @@
 use Rattle.std.specs.Prelude.{ℕ, ◌≤◌, ◌<◌, List, ◌++◌, [], All, Option, Some, None}
 use Rattle.std.specs.List.{flat_map}
 use Rattle.lattice.specs.Corners.{Corner}
-use Rattle.page_codec.specs.Entries.{EntryValue}
-use Rattle.page_codec.specs.declared.entry.Kept.{Kept}
 use Rattle.charts.specs.declared.locations.KeptLocations.{KeptLocations}
 use Rattle.charts.specs.Locations.{PlaneLocation, pages_of_plane, times}
 
@@ -23,14 +21,6 @@ pages_of_tile t = pages_of_plane t.heights ++ pages_of_kept t.kept
 
 abbrev pub reached : List TileLocation → List ℕ
 reached tiles = flat_map pages_of_tile tiles
-
--- a tile's entry in the root
-abbrev pub entry_of_kept : Option KeptLocations → Option Kept
-entry_of_kept None = None
-entry_of_kept (Some k) = Some (record { levels = k.levels.record_page; labels = k.labels.record_page })
-
-abbrev pub entry_of : TileLocation → EntryValue
-entry_of t = record { corner = t.corner; heights = t.heights.record_page; kept = entry_of_kept t.kept }
 
 -- The page rule: the pages that tiles reach are pages of a disk of so many sectors, each reached once.
 pub record KeepsPageRule (sectors : ℕ) (tiles : List TileLocation) : Type 0 where

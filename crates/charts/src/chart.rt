@@ -1,7 +1,7 @@
 //! Which pages hold which planes, as committed and as the next commit will have it.
-ghost use Rattle.std.specs.Prelude.{◌≡◌, ◌⊎◌, ◌≤◌, ◌<◌, ℕ, [], ◌∷◌, ◌++◌, All, length, map, Some, None, Contains, IsOk, IfOk, OnOk, OnErr, IfSome, IfNone, IsSome, IsTrue, ◌↔◌, IfErr};
+ghost use Rattle.std.specs.Prelude.{◌≡◌, slice_index, ◌⊎◌, ◌≤◌, ◌<◌, ℕ, [], ◌∷◌, ◌++◌, All, length, map, Some, None, Contains, IsOk, IfOk, OnOk, OnErr, IfSome, IfNone, IsSome, IsTrue, ◌↔◌, IfErr};
 ghost use Rattle.lattice.specs.declared.refusal.Refusal.TheVariants.{Damaged, NoMemory};
-ghost use Rattle.page_codec.specs.Sizes.{pages_of, sectors_of};
+ghost use Rattle.layout.specs.Sizes.{pages_of, index_pages_of, sectors_asked};
 ghost use Rattle.std.specs.List.{AllAdjacentBelow};
 ghost use Rattle.lattice.specs.Corners.{is_before, is_corner};
 ghost use Rattle.lattice.specs.Lattice.{IsBefore};
@@ -10,13 +10,17 @@ ghost use Rattle.charts.specs.Slots.{IsSlotAt, IsRoomAt, AreCounted, AreEndedAs}
 use crate::locations::{KeptLocations, PagedPlane, TilePlanes};
 use crate::pages::{fresh_plane, mark_planes};
 use crate::plane::Plane;
-use crate::slot::{Ending, Slot, Staged};
+use crate::slot::{Ending, Slot};
+use crate::staged::{HeightsStaged, KeptStaged, Staged};
 use arrayvec::ArrayVec;
-use lattice::{Corner, Refusal, Side};
+use lattice::{Corner, MOST_TILES, Refusal};
+use layout::Format;
 use page_alloc::Pages;
-use page_codec::{Entry, ROOT_ENTRIES, pages_in_plane};
 use std::alloc::Global;
 use std::marker::Model;
+
+// The most tiles of a chart, as a length.
+const TILES: usize = MOST_TILES as usize;
 
 /// Where each plane of a store lies, as committed and as the next commit will have it.
 ///
@@ -25,8 +29,7 @@ use std::marker::Model;
 #[derive(Drop)]
 pub struct Chart {
     alloc: Global,
-    side: Side,
-    capacity: u32,
+    format: Format,
     // In the order of their corners.
     slots: Vec<Slot>,
     free: Pages,
@@ -38,32 +41,30 @@ impl Model for Chart {
 
     ghost Value = { ChartValue };
 
-    ghost view = { λ c. chart_of c.side c.capacity c.slots.items c.free };
+    ghost view = { λ c. chart_of c.format c.slots.items c.free };
 
-    ghost invariant = { λ c. IsKept c.side c.capacity c.slots.items c.free };
+    ghost invariant = { λ c. IsKept c.format c.slots.items c.free };
 }
 
 impl Chart {
-    ghost use Rattle.page_codec.specs.Entries.{IsEntry};
-    ghost use Rattle.page_codec.specs.Roots.{AreInOrder};
-    ghost use Rattle.charts.specs.TileLocations.{TileLocation, KeepsPageRule, entry_of};
-    ghost use Rattle.charts.specs.Charts.{no_tiles_charted, IsChart, IsClean, IsLocated, HasHeights, HasKept, HasFreshHeights, IsRewritten, IsPrepared, IsAdded, IsWholeTile, tile_at, without_location, fresh_corners};
+    ghost use Rattle.charts.specs.Locations.{PlaneLocation};
+    ghost use Rattle.charts.specs.TileLocations.{TileLocation, KeepsPageRule};
+    ghost use Rattle.charts.specs.Charts.{no_tiles_charted, IsChart, IsClean, IsLocated, HasHeights, HasKept, HasFreshHeights, is_unreached, IsRewritten, IsPrepared, IsAdded, IsWholeTile, tile_at, without_location, without_kept, corners_of_locations, fresh_corners};
     ghost use Rattle.charts.specs.Slots.{ended_chart};
     ghost use Rattle.charts.specs.Planes.{HasPlane, HasPlaneAt};
 
-    /// A chart of no tiles for a disk of so many sectors.
-    pub fn new(alloc: Global, sectors: u32, side: Side, capacity: u32) -> Result<Chart, Refusal>
-        requires size { sectors_of side capacity ≤ sectors }
-        requires capacity { capacity ≤ 240 }
-        ensures value { IfOk result (λ chart. chart ≡ no_tiles_charted sectors side capacity) }
+    /// A chart of no tiles for a disk of so many sectors with a store of this format.
+    pub fn new(alloc: Global, sectors: u32, format: Format) -> Result<Chart, Refusal>
+        requires size { sectors_asked format ≤ sectors }
+        requires capacity { format.capacity ≤ 240 }
+        ensures value { IfOk result (λ chart. chart ≡ no_tiles_charted sectors format) }
         ensures rules { IfOk result IsChart }
         ensures refused { IfErr result (λ refusal. refusal ≡ NoMemory) }
     {
         let free = Pages::new(alloc, sectors).ok_or(Refusal::NoMemory)?;
         Ok(Chart {
             alloc,
-            side,
-            capacity,
+            format,
             slots: Vec::new(alloc),
             free,
         })
@@ -73,8 +74,8 @@ impl Chart {
     pub fn load(self, corner: Corner, planes: TilePlanes) -> Result<Chart, Refusal>
         requires clean { IsClean self }
         requires after { All (λ t. IsBefore t.corner corner) self.committed }
-        requires room { length self.committed < self.capacity }
-        requires whole { IsWholeTile self.side (tile_at corner planes) }
+        requires room { length self.committed < self.format.capacity }
+        requires whole { IsWholeTile self.format (tile_at corner planes) }
         ensures loaded { IfOk result (λ chart. chart ≡ record self { committed = self.committed ++ tile_at corner planes ∷ []; staged = self.committed ++ tile_at corner planes ∷ [] }) }
         ensures rules { IfOk result IsChart }
         ensures refused { IfErr result (λ refusal. (refusal ≡ NoMemory) ⊎ ((refusal ≡ Damaged) × ¬ KeepsPageRule self.sectors (self.committed ++ tile_at corner planes ∷ []))) }
@@ -82,8 +83,7 @@ impl Chart {
         know_degrees(corner);
         let Chart {
             alloc,
-            side,
-            capacity,
+            format,
             mut slots,
             mut free,
         } = self;
@@ -93,15 +93,14 @@ impl Chart {
         let slot = Slot {
             corner,
             committed: Some(planes),
-            staged: Staged::AsCommitted,
+            staged: Staged::none(),
         };
         if slots.push(slot).is_err() {
             return Err(Refusal::NoMemory);
         }
         Ok(Chart {
             alloc,
-            side,
-            capacity,
+            format,
             slots,
             free,
         })
@@ -162,11 +161,11 @@ impl Chart {
     }
 
     /// The page to which new content of page `i` of the corner's heights may be written. It is free to be written, as
-    /// the record of the heights is: no committed tile reaches either. Refused with NoMemory, never where the heights
+    /// the index page that lists it and the record of the heights are: no committed tile reaches them. Refused with NoMemory, never where the heights
     /// have been staged before.
     pub fn page_for_writing(&mut self, c: Corner, i: u32) -> Result<u32, Refusal>
         requires present { IsLocated c self.old.staged }
-        requires index { i < pages_of self.old.side }
+        requires index { i < pages_of self.old.format.side }
         ensures written { IfOk result (λ page. IsRewritten c i page self.old self.new) }
         ensures sure { HasFreshHeights c self.old → IsOk result }
         ensures refused { IfErr result (λ refusal. refusal ≡ NoMemory) }
@@ -200,10 +199,23 @@ impl Chart {
         }
     }
 
+    /// Whether index page `t` of the heights of the corner's staged tile is still to be written: no committed tile reaches it.
+    pub fn has_fresh_index(&self, c: Corner, t: usize) -> bool
+        requires present { IsLocated c self.now.staged }
+        requires index { t < index_pages_of self.now.format }
+        ensures { (location : PlaneLocation) → HasHeights c location self.now.staged
+            → result ≡ is_unreached self.now.committed (slice_index location.index_pages t) }
+    {
+        match find(&self.slots, c) {
+            Ok(at) => self.slots[at].has_fresh_index(t),
+            Err(_) => unreachable!(),
+        }
+    }
+
     /// Adds a tile with fresh pages for its heights.
     pub fn tile_for_writing(&mut self, c: Corner) -> Result<(), Refusal>
         requires absent { ¬ IsLocated c self.old.staged }
-        requires room { length self.old.staged < self.old.capacity }
+        requires room { length self.old.staged < self.old.format.capacity }
         ensures added { OnOk result (IsAdded c self.old self.new) }
         ensures refused { IfErr result (λ refusal. refusal ≡ NoMemory) }
         ensures unchanged { OnErr result (self.new ≡ self.old) }
@@ -211,10 +223,15 @@ impl Chart {
     {
         know_degrees(c);
         self.slots.reserve(1)?;
-        let location = fresh_plane(self.alloc, &mut self.free, pages_in_plane(self.side))?;
-        let staged = Staged::Heights {
-            location,
-            keeps: false,
+        let location = fresh_plane(
+            self.alloc,
+            &mut self.free,
+            self.format.index_pages(),
+            self.format.data_pages(),
+        )?;
+        let staged = Staged::Tile {
+            heights: HeightsStaged::Fresh(location),
+            kept: KeptStaged::Dropped,
         };
         match find(&self.slots, c) {
             Ok(at) => {
@@ -252,27 +269,39 @@ impl Chart {
         }
     }
 
-    /// The entries of the staged tiles.
-    pub fn entries(&self) -> ArrayVec<Entry, ROOT_ENTRIES>
-        ensures value { result.items ≡ map entry_of self.now.staged }
-        ensures each { All IsEntry result.items }
-        ensures in_order { AreInOrder result.items }
-        ensures room { length result.items ≤ self.now.capacity }
+    /// Stages the corner's tile without its kept planes. Their pages stay in use until the commit. Takes no memory.
+    pub fn drop_kept(&mut self, c: Corner)
+        requires { IsLocated c self.old.staged }
+        ensures dropped { self.new ≡ record (self.old) { staged = without_kept c self.old.staged } }
+        ensures rules { IsChart self.new }
     {
-        let mut entries = ArrayVec::new();
+        match find(&self.slots, c) {
+            Ok(at) => {
+                let slot = &mut self.slots[at];
+                slot.drop_kept();
+            }
+            Err(_) => unreachable!(),
+        }
+    }
+
+    /// The corners of the staged tiles, in order.
+    pub fn corners(&self) -> ArrayVec<Corner, TILES>
+        ensures value { result.items ≡ corners_of_locations self.now.staged }
+        ensures room { length result.items ≤ self.now.format.capacity }
+    {
+        let mut corners = ArrayVec::new();
         for slot in &self.slots {
-            match slot.entry() {
-                Some(entry) => entries.push(entry),
-                None => (),
+            if slot.heights().is_some() {
+                corners.push(slot.corner);
             }
         }
-        entries
+        corners
     }
 
     /// The corners of the staged tiles whose heights aren't as committed, in order: their records are still to be written.
-    pub fn fresh(&self) -> ArrayVec<Corner, ROOT_ENTRIES>
+    pub fn fresh(&self) -> ArrayVec<Corner, TILES>
         ensures value { result.items ≡ fresh_corners self.now }
-        ensures room { length result.items ≤ self.now.capacity }
+        ensures room { length result.items ≤ self.now.format.capacity }
     {
         let mut corners = ArrayVec::new();
         for slot in &self.slots {

@@ -10,6 +10,7 @@ mod locations;
 mod pages;
 mod plane;
 mod slot;
+mod staged;
 
 pub use chart::Chart;
 pub use locations::{KeptLocations, PagedPlane, TilePlanes};

@@ -1,21 +1,28 @@
 //! Where the planes of a tile lie.
-ghost use Rattle.std.specs.Prelude.{◌≡◌, ◌<◌, length, slice_set};
+ghost use Rattle.std.specs.Prelude.{◌≡◌, ◌<◌, ◌≤◌, ◌^◌, length, take, drop};
+ghost use Rattle.charts.specs.Locations.{pages_behind, IsMovedBehind};
 
 use std::marker::Model;
 
-/// Where a plane lies: the page of its record, and its pages in order.
+/// Where a plane lies: the page of its record, its index pages, of which the first version has none, and its pages in order.
 #[derive(Drop)]
 pub struct PagedPlane {
     record_page: u32,
-    pages: Vec<u32>,
+    // The index pages, and the pages behind them.
+    behind: Vec<u32>,
+    // How many of them are index pages.
+    index_count: usize,
 }
 
 impl Model for PagedPlane {
+    ghost use Rattle.std.specs.Prelude.{◌≤◌, length, take, drop};
     ghost use Rattle.charts.specs.Locations.{PlaneLocation};
 
     ghost Value = { PlaneLocation };
 
-    ghost view = { λ p. record { record_page = p.record_page; pages = p.pages.items } };
+    ghost view = { λ p. record { record_page = p.record_page; index_pages = take p.index_count p.behind.items; pages = drop p.index_count p.behind.items } };
+
+    ghost invariant = { λ p. p.index_count ≤ length p.behind.items };
 }
 
 /// The levels and the labels of a tile.
@@ -33,10 +40,16 @@ pub struct TilePlanes {
 }
 
 impl PagedPlane {
-    pub fn new(record_page: u32, pages: Vec<u32>) -> PagedPlane
-        ensures { result ≡ record { record_page = record_page; pages = pages.items } }
+    /// A plane whose record is at this page. So many of the pages behind it are index pages; the others are the plane's.
+    pub fn new(record_page: u32, behind: Vec<u32>, index_count: usize) -> PagedPlane
+        requires { index_count ≤ length behind.items }
+        ensures { result ≡ record { record_page = record_page; index_pages = take index_count behind.items; pages = drop index_count behind.items } }
     {
-        PagedPlane { record_page, pages }
+        PagedPlane {
+            record_page,
+            behind,
+            index_count,
+        }
     }
 
     /// The page of the plane's record.
@@ -46,18 +59,40 @@ impl PagedPlane {
         self.record_page
     }
 
+    /// The plane's index pages in order.
+    pub fn index_pages(&self) -> &[u32]
+        ensures { result.now ≡ self.now.index_pages }
+    {
+        &self.behind[..self.index_count]
+    }
+
     /// The plane's pages in order.
     pub fn pages(&self) -> &[u32]
         ensures { result.now ≡ self.now.pages }
     {
-        &self.pages
+        &self.behind[self.index_count..]
     }
 
-    /// Puts page `i` of the plane elsewhere.
-    pub fn set_page(&mut self, i: usize, page: u32)
-        requires { i < length self.old.pages }
-        ensures { self.new ≡ record (self.old) { pages = slice_set self.old.pages i page } }
+    /// The index pages, and the pages behind them.
+    pub(crate) fn behind(&self) -> &[u32]
+        ensures { result.now ≡ pages_behind self.now }
     {
-        self.pages[i] = page;
+        &self.behind
+    }
+
+    /// How many index pages the plane has.
+    pub(crate) fn index_count(&self) -> usize
+        ensures value { result ≡ length self.now.index_pages }
+        ensures fits { length (pages_behind self.now) < 2 ^ 64 }
+    {
+        self.index_count
+    }
+
+    /// Puts one of the index pages and the pages behind them elsewhere.
+    pub(crate) fn set_behind(&mut self, at: usize, page: u32)
+        requires { at < length (pages_behind self.old) }
+        ensures { IsMovedBehind at page self.old self.new }
+    {
+        self.behind[at] = page;
     }
 }

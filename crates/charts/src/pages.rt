@@ -3,7 +3,7 @@ ghost use Rattle.std.specs.Prelude.{◌≡◌, ◌+◌, ◌<◌, ◌≤◌, ℕ,
 ghost use Rattle.std.specs.Bool.{OnTrue, OnFalse};
 ghost use Rattle.std.specs.FinSet as set;
 ghost use Rattle.lattice.specs.declared.refusal.Refusal.TheVariants.{NoMemory};
-ghost use Rattle.charts.specs.Locations.{times, pages_of_plane};
+ghost use Rattle.charts.specs.Locations.{times, pages_behind, pages_of_plane};
 ghost use Rattle.charts.specs.FreePages.{free_times, differing, pages_of_planes, AreTaken, AreGiven, AreInUse};
 
 use crate::locations::{PagedPlane, TilePlanes};
@@ -20,23 +20,26 @@ pub(crate) fn take_page(free: &mut Pages) -> u32
     free.take().unwrap()
 }
 
-/// A plane of so many free pages, and one for its record.
+/// A plane of so many free index pages and so many free pages, and one for its record.
 pub(crate) fn fresh_plane(
     alloc: Global,
     free: &mut Pages,
-    count: u32,
+    index_pages: u32,
+    pages: u32,
 ) -> Result<PagedPlane, Refusal>
-    requires { count + 1 ≤ set.len free.old.free }
+    requires { index_pages + pages + 1 ≤ set.len free.old.free }
     ensures taken { IfOk result (λ plane. AreTaken (pages_of_plane plane) free.old free.new) }
-    ensures whole { IfOk result (λ plane. length plane.pages ≡ count) }
+    ensures index_pages { IfOk result (λ plane. length plane.index_pages ≡ index_pages) }
+    ensures pages { IfOk result (λ plane. length plane.pages ≡ pages) }
     ensures refused { IfErr result (λ refusal. refusal ≡ NoMemory) }
     ensures unchanged { OnErr result (free.new ≡ free.old) }
 {
-    let mut pages = vec![in alloc; 0; count as usize]?;
-    for page in pages.iter_mut() {
+    let index_count = index_pages as usize;
+    let mut behind = vec![in alloc; 0; index_count + pages as usize]?;
+    for page in behind.iter_mut() {
         *page = take_page(free);
     }
-    Ok(PagedPlane::new(take_page(free), pages))
+    Ok(PagedPlane::new(take_page(free), behind, index_count))
 }
 
 /// Gives back the pages that don't stand at the same index among the others.
@@ -64,7 +67,7 @@ pub(crate) fn give_plane(free: &mut Pages, plane: &PagedPlane)
     ensures { AreGiven (pages_of_plane plane.now) free.old free.new }
 {
     free.give(plane.record_page());
-    give_differing(free, plane.pages(), &[]);
+    give_differing(free, plane.behind(), &[]);
 }
 
 /// Takes the pages of a plane out of the free ones. False where they aren't all free, or not all distinct.
@@ -73,7 +76,7 @@ pub(crate) fn mark_plane(free: &mut Pages, plane: &PagedPlane) -> bool
     ensures taken { OnFalse result ((p : ℕ) × (free_times free.old p < times p (pages_of_plane plane.now))) }
     ensures total { free.new.total ≡ free.old.total }
 {
-    free.mark(plane.record_page()) && mark_all(free, plane.pages())
+    free.mark(plane.record_page()) && mark_all(free, plane.behind())
 }
 
 fn mark_all(free: &mut Pages, pages: &[u32]) -> bool

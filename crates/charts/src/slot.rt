@@ -1,32 +1,20 @@
 //! One tile of a chart.
-ghost use Rattle.std.specs.Prelude.{◌≡◌, ◌+◌, ◌<◌, ◌≤◌, ◌==◌, ℕ, length, take, true, IsSome, IsOk, IfOk, IfErr, IfSome, OnOk, OnErr, IsTrue, option_map, option_copied, option_and_then, slice_set};
+ghost use Rattle.std.specs.Prelude.{◌≡◌, ◌+◌, ◌<◌, ◌≤◌, ◌==◌, ◌↔◌, ℕ, [], ◌∷◌, length, take, true, IsSome, IsOk, IfOk, IfErr, IfSome, OnOk, OnErr, IsTrue, option_map, option_copied, option_and_then, slice_index};
 ghost use Rattle.std.specs.FinSet as set;
 ghost use Rattle.lattice.specs.declared.refusal.Refusal.TheVariants.{NoMemory};
-ghost use Rattle.page_codec.specs.Entries.{IsEntry, IsPage, AreKept};
-ghost use Rattle.charts.specs.Locations.{times};
-ghost use Rattle.charts.specs.FreePages.{free_times, replaced_pages, all_pages, heights_pages, kept_of, AreTaken, AreGiven, AreInUse, IsOwned};
-ghost use Rattle.std.specs.Prelude.{None, if◌then◌else◌};
-ghost use Rattle.charts.specs.TileLocations.{pages_of_kept, entry_of_kept};
+ghost use Rattle.charts.specs.Locations.{times, pages_behind, IsMovedBehind};
+ghost use Rattle.charts.specs.FreePages.{free_times, all_pages, heights_pages, AreTaken, AreGiven, AreInUse, IsOwned, IsOwnedPage};
+ghost use Rattle.charts.specs.StagedPlanes.{with_heights, with_kept, replaced_heights, replaced_kept};
+ghost use Rattle.charts.specs.TileLocations.{pages_of_kept};
 
 use crate::locations::{KeptLocations, PagedPlane, TilePlanes};
 use crate::pages::{give_differing, give_plane, stands_at, take_page};
+use crate::staged::{HeightsStaged, KeptStaged, Staged};
 use lattice::{Corner, Refusal};
+use layout::RECORD_PAGES;
 use page_alloc::Pages;
-use page_codec::{Entry, Kept};
 use std::alloc::Global;
 use std::mem;
-
-/// What the next commit makes of a tile.
-#[derive(Drop)]
-pub(crate) enum Staged {
-    /// The tile, or its absence, as committed.
-    AsCommitted,
-    /// The tile with its heights there, on pages of which some may be committed ones. `keeps` says whether the kept
-    /// planes of the committed tile stay; if not, the tile has none.
-    Heights { location: PagedPlane, keeps: bool },
-    /// No tile.
-    Removed,
-}
 
 /// A corner with its tile as committed, where there is one, and as staged.
 #[derive(Drop)]
@@ -46,20 +34,20 @@ pub(crate) enum Ending {
 }
 
 impl Slot {
-    ghost use Rattle.charts.specs.declared.slot.Staged.TheVariants.{AsCommitted};
-    ghost use Rattle.charts.specs.TileLocations.{entry_of};
-    ghost use Rattle.charts.specs.Slots.{committed_tile, staged_tile, fresh_pages, used_pages, pages_of_location, stages_heights, IsRestaged, IsPageRestaged, IsRecordRestaged, IsEndedAs, ended_tile};
+    ghost use Rattle.charts.specs.Slots.{committed_tile, staged_tile, fresh_pages, used_pages, pages_of_location, stages_heights, IsRestaged, IsPageRestaged, IsRecordRestaged, IsKeptDropped, IsEndedAs, ended_tile};
 
     /// Where the heights of its staged tile lie.
     pub(crate) fn heights(&self) -> Option<&PagedPlane>
         ensures { option_copied result ≡ option_map (λ t. t.heights) (staged_tile self.now) }
     {
         match &self.staged {
-            Staged::AsCommitted => match &self.committed {
-                Some(planes) => Some(&planes.heights),
-                None => None,
+            Staged::Tile { heights, .. } => match heights {
+                HeightsStaged::AsCommitted => match &self.committed {
+                    Some(planes) => Some(&planes.heights),
+                    None => None,
+                },
+                HeightsStaged::Fresh(location) => Some(location),
             },
-            Staged::Heights { location, .. } => Some(location),
             Staged::Removed => None,
         }
     }
@@ -69,8 +57,11 @@ impl Slot {
         ensures { result ≡ stages_heights self.now }
     {
         match &self.staged {
-            Staged::Heights { .. } => true,
-            Staged::AsCommitted | Staged::Removed => false,
+            Staged::Tile { heights, .. } => match heights {
+                HeightsStaged::AsCommitted => false,
+                HeightsStaged::Fresh(_) => true,
+            },
+            Staged::Removed => false,
         }
     }
 
@@ -79,34 +70,26 @@ impl Slot {
         ensures { option_copied result ≡ option_and_then (λ t. t.kept) (staged_tile self.now) }
     {
         match &self.staged {
-            Staged::AsCommitted | Staged::Heights { keeps: true, .. } => match &self.committed {
-                Some(planes) => planes.kept.as_ref(),
-                None => None,
+            Staged::Tile { kept, .. } => match kept {
+                KeptStaged::AsCommitted => match &self.committed {
+                    Some(planes) => planes.kept.as_ref(),
+                    None => None,
+                },
+                KeptStaged::Dropped => None,
             },
-            Staged::Heights { keeps: false, .. } | Staged::Removed => None,
+            Staged::Removed => None,
         }
     }
 
-    /// The entry of its staged tile.
-    pub(crate) fn entry(&self) -> Option<Entry>
-        requires { (p : ℕ) → 1 ≤ times p (pages_of_location (staged_tile self.now)) → IsPage p }
-        ensures value { result ≡ option_map entry_of (staged_tile self.now) }
-        ensures valid { IfSome result IsEntry }
-    {
-        let heights = self.heights()?.record_page();
-        let kept = records_of(self.kept());
-        Some(entry_at(self.corner, heights, kept))
-    }
-
     /// The page to which new content of page `i` of the heights may be written: no committed tile reaches it, nor the
-    /// record of the heights from now on.
+    /// index page that lists it, nor the record of the heights from now on.
     pub(crate) fn page_for_writing(
         &mut self,
         alloc: Global,
         i: usize,
         free: &mut Pages,
     ) -> Result<u32, Refusal>
-        requires room { 2 ≤ set.len free.old.free }
+        requires room { 3 ≤ set.len free.old.free }
         requires present { IsSome (staged_tile self.old) }
         requires index { IfSome (staged_tile self.old) (λ t. i < length t.heights.pages) }
         requires apart { (p : ℕ) → times p (heights_pages self.old.committed) + free_times free.old p ≤ 1 }
@@ -118,17 +101,18 @@ impl Slot {
     {
         let committed = heights_in(&self.committed);
         match &mut self.staged {
-            Staged::Heights { location, .. } => Ok(own_page(location, committed, i, free)),
-            Staged::AsCommitted => {
-                let pages = Vec::from_slice(alloc, committed)?;
-                let mut location = PagedPlane::new(take_page(free), pages);
-                let page = own_page(&mut location, committed, i, free);
-                self.staged = Staged::Heights {
-                    location,
-                    keeps: true,
-                };
-                Ok(page)
-            }
+            Staged::Tile { heights, .. } => match heights {
+                HeightsStaged::Fresh(location) => Ok(own_listed(location, committed, i, free)),
+                HeightsStaged::AsCommitted => match &self.committed {
+                    Some(planes) => {
+                        let mut location = with_fresh_record(alloc, &planes.heights, free)?;
+                        let page = own_listed(&mut location, committed, i, free);
+                        *heights = HeightsStaged::Fresh(location);
+                        Ok(page)
+                    }
+                    None => unreachable!(),
+                },
+            },
             Staged::Removed => unreachable!(),
         }
     }
@@ -142,17 +126,42 @@ impl Slot {
         ensures refused { IfErr result (λ refusal. refusal ≡ NoMemory) }
         ensures unchanged { OnErr result (self.new ≡ self.old) }
     {
-        match &self.staged {
-            Staged::Heights { .. } => Ok(()),
-            Staged::AsCommitted => {
-                let pages = Vec::from_slice(alloc, heights_in(&self.committed))?;
-                let location = PagedPlane::new(take_page(free), pages);
-                self.staged = Staged::Heights {
-                    location,
-                    keeps: true,
-                };
-                Ok(())
-            }
+        let Staged::Tile { heights, .. } = &mut self.staged else {
+            unreachable!()
+        };
+        match heights {
+            HeightsStaged::Fresh(_) => Ok(()),
+            HeightsStaged::AsCommitted => match &self.committed {
+                Some(planes) => {
+                    let location = with_fresh_record(alloc, &planes.heights, free)?;
+                    *heights = HeightsStaged::Fresh(location);
+                    Ok(())
+                }
+                None => unreachable!(),
+            },
+        }
+    }
+
+    /// Whether index page `t` of the heights isn't the committed one.
+    pub(crate) fn has_fresh_index(&self, t: usize) -> bool
+        requires present { IsSome (staged_tile self.now) }
+        requires index { IfSome (staged_tile self.now) (λ tile. t < length tile.heights.index_pages) }
+        ensures { IfSome (staged_tile self.now) (λ tile. IsTrue result
+            ↔ ¬ ((t < length (heights_pages self.now.committed)) × (slice_index (heights_pages self.now.committed) t ≡ slice_index tile.heights.index_pages t))) }
+    {
+        match self.heights() {
+            Some(plane) => !stands_at(plane.index_pages()[t], t, heights_in(&self.committed)),
+            None => unreachable!(),
+        }
+    }
+
+    /// Stages the tile without kept planes.
+    pub(crate) fn drop_kept(&mut self)
+        requires { IsSome (staged_tile self.old) }
+        ensures { IsKeptDropped self.old self.new }
+    {
+        match &mut self.staged {
+            Staged::Tile { kept, .. } => *kept = KeptStaged::Dropped,
             Staged::Removed => unreachable!(),
         }
     }
@@ -179,11 +188,11 @@ impl Slot {
         requires { AreInUse (used_pages self.old) free.old }
         ensures { IsEndedAs (staged_tile self.old) self.old self.new free.old free.new }
     {
-        match mem::replace(&mut self.staged, Staged::AsCommitted) {
-            Staged::AsCommitted => (),
-            Staged::Heights { location, keeps } => {
+        match mem::replace(&mut self.staged, Staged::none()) {
+            Staged::Tile { heights, kept } => {
                 let committed = self.committed.take();
-                self.committed = Some(replace_heights(committed, location, keeps, free));
+                let planes = settle_heights(committed, heights, free);
+                self.committed = settle_kept(planes, kept, free);
             }
             Staged::Removed => {
                 let committed = self.committed.take();
@@ -197,100 +206,125 @@ impl Slot {
         ensures ended { IsEndedAs (committed_tile self.old) self.old self.new free.old free.new }
         ensures committed { self.new.committed ≡ self.old.committed }
     {
-        match mem::replace(&mut self.staged, Staged::AsCommitted) {
-            Staged::AsCommitted | Staged::Removed => (),
-            Staged::Heights { location, .. } => {
-                free.give(location.record_page());
-                give_differing(free, location.pages(), heights_in(&self.committed));
-            }
+        match mem::replace(&mut self.staged, Staged::none()) {
+            Staged::Tile { heights, .. } => match heights {
+                HeightsStaged::AsCommitted => (),
+                HeightsStaged::Fresh(location) => {
+                    free.give(location.record_page());
+                    give_differing(free, location.behind(), heights_in(&self.committed));
+                }
+            },
+            Staged::Removed => (),
         }
     }
 }
 
-/// The record pages of kept planes.
-fn records_of(kept: Option<&KeptLocations>) -> Option<Kept>
-    ensures { result ≡ entry_of_kept (option_copied kept.entry) }
-{
-    match kept {
-        Some(kept) => Some(Kept {
-            levels: kept.levels.record_page(),
-            labels: kept.labels.record_page(),
-        }),
-        None => None,
-    }
-}
-
-fn entry_at(corner: Corner, heights: u32, kept: Option<Kept>) -> Entry
-    requires heights { IsPage heights }
-    requires kept { IfSome kept AreKept }
-    ensures value { result ≡ record { corner = corner; heights = heights; kept = kept } }
-    ensures valid { IsEntry result }
-{
-    // Degrees are known to be in range once they were read.
-    let _lat = corner.lat;
-    Entry {
-        corner,
-        heights,
-        kept,
-    }
-}
-
-/// The pages of the committed heights, where there are any.
+/// The pages behind the record of the committed heights, where there are any.
 fn heights_in(committed: &Option<TilePlanes>) -> &[u32]
     ensures { result.now ≡ heights_pages committed.now }
 {
     match committed {
-        Some(planes) => planes.heights.pages(),
+        Some(planes) => planes.heights.behind(),
         None => &[],
     }
 }
 
-/// Page `i` of the plane, which is moved to a free page where the committed plane has it at the same index.
-fn own_page(location: &mut PagedPlane, committed: &[u32], i: usize, free: &mut Pages) -> u32
-    requires room { 0 < set.len free.old.free }
+/// The same plane with its record on a free page.
+fn with_fresh_record(
+    alloc: Global,
+    plane: &PagedPlane,
+    free: &mut Pages,
+) -> Result<PagedPlane, Refusal>
+    requires { 0 < set.len free.old.free }
+    ensures taken { IfOk result (λ copy. AreTaken (copy.record_page ∷ []) free.old free.new) }
+    ensures same { IfOk result (λ copy. copy ≡ record (plane.now) { record_page = copy.record_page }) }
+    ensures left { IfOk result (λ copy. set.len free.new.free + 1 ≡ set.len free.old.free) }
+    ensures refused { IfErr result (λ refusal. refusal ≡ NoMemory) }
+    ensures unchanged { OnErr result (free.new ≡ free.old) }
+{
+    let behind = Vec::from_slice(alloc, plane.behind())?;
+    Ok(PagedPlane::new(take_page(free), behind, plane.index_count()))
+}
+
+/// Page `i` of the plane, and the index page that lists it where there is one: each is moved to a free page where the
+/// committed plane has it at the same index.
+fn own_listed(location: &mut PagedPlane, committed: &[u32], i: usize, free: &mut Pages) -> u32
+    requires room { 2 ≤ set.len free.old.free }
     requires index { i < length location.old.pages }
     requires apart { (p : ℕ) → times p committed.now + free_times free.old p ≤ 1 }
-    ensures location { location.new ≡ record (location.old) { pages = slice_set location.old.pages i result } }
-    ensures owned { IsOwned committed.now result location.old.pages location.new.pages free.old free.new }
+    ensures { IsOwnedPage committed.now i result location.old location.new free.old free.new }
 {
-    let page = location.pages()[i];
-    if !stands_at(page, i, committed) {
+    let index_page = i / RECORD_PAGES;
+    let count = location.index_count();
+    if index_page < count {
+        own_page(location, committed, index_page, free);
+    }
+    own_page(location, committed, count + i, free)
+}
+
+/// One of the pages behind a record, which is moved to a free page where the committed plane has it at the same index.
+fn own_page(location: &mut PagedPlane, committed: &[u32], at: usize, free: &mut Pages) -> u32
+    requires room { 0 < set.len free.old.free }
+    requires index { at < length (pages_behind location.old) }
+    requires apart { (p : ℕ) → times p committed.now + free_times free.old p ≤ 1 }
+    ensures moved { IsMovedBehind at result location.old location.new }
+    ensures owned { IsOwned committed.now result (pages_behind location.old) (pages_behind location.new) free.old free.new }
+    ensures left { set.len free.old.free ≤ set.len free.new.free + 1 }
+{
+    let page = location.behind()[at];
+    if !stands_at(page, at, committed) {
         return page;
     }
     let page = take_page(free);
-    location.set_page(i, page);
+    location.set_behind(at, page);
     page
 }
 
-/// The tile with these heights, and its kept planes where they stay. Gives back the pages that it does without.
-fn replace_heights(
+/// The committed planes with the staged heights. Gives back the pages of the heights that it does without.
+fn settle_heights(
     committed: Option<TilePlanes>,
-    location: PagedPlane,
-    keeps: bool,
+    heights: HeightsStaged,
     free: &mut Pages,
-) -> TilePlanes
-    requires { AreInUse (replaced_pages committed location keeps) free.old }
-    ensures planes { result ≡ record { heights = location; kept = if keeps then kept_of committed else None } }
-    ensures given { AreGiven (replaced_pages committed location keeps) free.old free.new }
+) -> Option<TilePlanes>
+    requires { AreInUse (replaced_heights committed heights) free.old }
+    ensures planes { result ≡ with_heights committed heights }
+    ensures given { AreGiven (replaced_heights committed heights) free.old free.new }
 {
+    let HeightsStaged::Fresh(location) = heights else {
+        return committed;
+    };
     let Some(was) = committed else {
-        return TilePlanes {
+        return Some(TilePlanes {
             heights: location,
             kept: None,
-        };
+        });
     };
     free.give(was.heights.record_page());
-    give_differing(free, was.heights.pages(), location.pages());
-    if keeps {
-        return TilePlanes {
-            heights: location,
-            kept: was.kept,
-        };
-    }
-    give_kept(free, &was.kept);
-    TilePlanes {
+    give_differing(free, was.heights.behind(), location.behind());
+    Some(TilePlanes {
         heights: location,
-        kept: None,
+        kept: was.kept,
+    })
+}
+
+/// The planes with the staged kept ones. Gives back the pages of the kept planes that it does without.
+fn settle_kept(planes: Option<TilePlanes>, kept: KeptStaged, free: &mut Pages) -> Option<TilePlanes>
+    requires { AreInUse (replaced_kept planes kept) free.old }
+    ensures planes { result ≡ with_kept planes kept }
+    ensures given { AreGiven (replaced_kept planes kept) free.old free.new }
+{
+    match kept {
+        KeptStaged::AsCommitted => planes,
+        KeptStaged::Dropped => match planes {
+            Some(was) => {
+                give_kept(free, &was.kept);
+                Some(TilePlanes {
+                    heights: was.heights,
+                    kept: None,
+                })
+            }
+            None => None,
+        },
     }
 }
 

@@ -4,15 +4,16 @@ use Rattle.std.specs.List.{list_any}
 use Rattle.std.proofs.lemmas.List.Elements.{All-nil, All-cons, All-head, All-tail}
 use Rattle.disk.specs.Disk.{Image}
 use Rattle.lattice.specs.Corners.{Corner, is_before}
-use Rattle.charts.specs.Locations.{PlaneLocation, pages_of_plane, times}
+use Rattle.page_codec.specs.Formats.{Format}
+use Rattle.charts.specs.Locations.{PlaneLocation, pages_behind, pages_of_plane, times}
 use Rattle.charts.specs.TileLocations.{TileLocation, pages_of_kept, pages_of_tile, reached}
 use Rattle.cow_tree.specs.Layout.{tile_in, HasRecord, HaveKeptRecords}
 use Rattle.charts.specs.Charts.{ChartValue, IsChart, IsAdded, IsFresh, IsLocated, HasHeights, with_tile_location, is_changed}
 use Rattle.cow_tree.specs.Stored.{StoredTile, with_tile, stale_tile, pages_of_bytes}
-use Rattle.cow_tree.specs.Staged.{AreStaged}
+use Rattle.cow_tree.specs.Staged.{AreStaged, SharesIndex}
 use Rattle.cow_tree.proofs.Standing.{SameOn, All-front, All-back, tile_same, tiles_same, record_same, kept_records_same}
 use Rattle.charts.proofs.Occurrences.{times-append, stands_there}
-use Rattle.cow_tree.proofs.Staging.{unreached_test}
+use Rattle.cow_tree.proofs.Staging.{shared_same, unreached_test}
 use Rattle.cow_tree.proofs.Tiles.{one_at_corner}
 use Rattle.page_codec.specs.Sizes.{pages_of}
 use Rattle.cow_tree.proofs.Recording.{all_at_times, at_times}
@@ -71,29 +72,31 @@ others_same t tiles a b low once unwritten =
     all_at_times (λ q. a q ≡ b q) (reached tiles)
     (λ q some. let split = times_added q t tiles in let one = once q in
     unwritten q (at_times (λ p. 4 ≤ p) q (reached (with_tile_location t tiles)) low (omega (arith, split, some)))
-    (λ has. let there = stands_there q t.heights.pages has in let whole = times-append q (pages_of_plane t.heights) (pages_of_kept t.kept) in let front = times-append q (t.heights.record_page ∷ []) t.heights.pages in absurd (omega (arith, split, one, some, there, whole, front))))
+    (λ has. let there = stands_there q t.heights.pages has in let whole = times-append q (pages_of_plane t.heights) (pages_of_kept t.kept) in let front = times-append q (t.heights.record_page ∷ []) (pages_behind t.heights) in let behind = times-append q t.heights.index_pages t.heights.pages in absurd (omega (arith, split, one, some, there, whole, front, behind))))
 
 -- what was on the disk of the staged tiles is there still
-still_records : (n : ℕ) (committed tiles : List TileLocation) (a b : Image) → SameOn (reached tiles) a b → AreStaged n committed tiles a → AreStaged n committed tiles b
-still_records n committed [] a b same had = record { heights = All-nil (λ t. is_changed committed t ≡ false → HasRecord n b t.heights); kept = All-nil (λ t. IfSome t.kept (HaveKeptRecords n b)) }
-still_records n committed (t ∷ rest) a b same had =
+still_records : (format : Format) (committed tiles : List TileLocation) (a b : Image) → SameOn (reached tiles) a b → AreStaged format committed tiles a → AreStaged format committed tiles b
+still_records format committed [] a b same had = record { heights = All-nil (λ t. is_changed committed t ≡ false → HasRecord format b t.heights); shared = All-nil (λ t. SharesIndex committed b t.heights); kept = All-nil (λ t. IfSome t.kept (HaveKeptRecords format b)) }
+still_records format committed (t ∷ rest) a b same had =
     let here = All-front (λ q. a q ≡ b q) (pages_of_tile t) (reached rest) same in
-    let later = still_records n committed rest a b (All-back (λ q. a q ≡ b q) (pages_of_tile t) (reached rest) same)
-    (record { heights = All-tail (λ t. is_changed committed t ≡ false → HasRecord n a t.heights) t rest had.heights; kept = All-tail (λ t. IfSome t.kept (HaveKeptRecords n a)) t rest had.kept }) in
+    let later = still_records format committed rest a b (All-back (λ q. a q ≡ b q) (pages_of_tile t) (reached rest) same)
+    (record { heights = All-tail (λ t. is_changed committed t ≡ false → HasRecord format a t.heights) t rest had.heights; shared = All-tail (λ t. SharesIndex committed a t.heights) t rest had.shared; kept = All-tail (λ t. IfSome t.kept (HaveKeptRecords format a)) t rest had.kept }) in
     record {
-      heights = All-cons (λ t. is_changed committed t ≡ false → HasRecord n b t.heights) t rest
-          (λ unchanged. record_same n t.heights a b (All-head (λ q. a q ≡ b q) t.heights.record_page t.heights.pages (All-front (λ q. a q ≡ b q) (pages_of_plane t.heights) (pages_of_kept t.kept) here)) (All-head (λ t. is_changed committed t ≡ false → HasRecord n a t.heights) t rest had.heights unchanged)) later.heights;
-      kept = All-cons (λ t. IfSome t.kept (HaveKeptRecords n b)) t rest (kept_records_same n t.kept a b (All-back (λ q. a q ≡ b q) (pages_of_plane t.heights) (pages_of_kept t.kept) here) (All-head (λ t. IfSome t.kept (HaveKeptRecords n a)) t rest had.kept)) later.kept;
+      heights = All-cons (λ t. is_changed committed t ≡ false → HasRecord format b t.heights) t rest
+          (λ unchanged. record_same format t.heights a b (All-front (λ q. a q ≡ b q) (pages_of_plane t.heights) (pages_of_kept t.kept) here) (All-head (λ t. is_changed committed t ≡ false → HasRecord format a t.heights) t rest had.heights unchanged)) later.heights;
+      shared = All-cons (λ t. SharesIndex committed b t.heights) t rest (shared_same committed t.heights a b (All-front (λ q. a q ≡ b q) (pages_of_plane t.heights) (pages_of_kept t.kept) here) (All-head (λ t. SharesIndex committed a t.heights) t rest had.shared)) later.shared;
+      kept = All-cons (λ t. IfSome t.kept (HaveKeptRecords format b)) t rest (kept_records_same format t.kept a b (All-back (λ q. a q ≡ b q) (pages_of_plane t.heights) (pages_of_kept t.kept) here) (All-head (λ t. IfSome t.kept (HaveKeptRecords format a)) t rest had.kept)) later.kept;
     }
 
-pub staged_with : (n : ℕ) (committed tiles : List TileLocation) (c : Corner) (location : PlaneLocation) (a b : Image) → list_any (λ q. q == location.record_page) (reached committed) ≡ false → SameOn (reached tiles) a b → AreStaged n committed tiles a
-    → AreStaged n committed (with_tile_location (record { corner = c; heights = location; kept = None }) tiles) b
-staged_with n committed tiles c location a b fresh same had =
+pub staged_with : (format : Format) (committed tiles : List TileLocation) (c : Corner) (location : PlaneLocation) (a b : Image) → list_any (λ q. q == location.record_page) (reached committed) ≡ false → SharesIndex committed b location → SameOn (reached tiles) a b → AreStaged format committed tiles a
+    → AreStaged format committed (with_tile_location (record { corner = c; heights = location; kept = None }) tiles) b
+staged_with format committed tiles c location a b fresh shares same had =
     let t : TileLocation = record { corner = c; heights = location; kept = None } in
-    let still = still_records n committed tiles a b same had in
+    let still = still_records format committed tiles a b same had in
     record {
-      heights = all_added (λ t. is_changed committed t ≡ false → HasRecord n b t.heights) t tiles (λ unchanged. absurd (let no : true ≡ false = sym (ap not fresh) ∙ unchanged in cc)) still.heights;
-      kept = all_added (λ t. IfSome t.kept (HaveKeptRecords n b)) t tiles tt still.kept;
+      heights = all_added (λ t. is_changed committed t ≡ false → HasRecord format b t.heights) t tiles (λ unchanged. absurd (let no : true ≡ false = sym (ap not fresh) ∙ unchanged in cc)) still.heights;
+      shared = all_added (λ t. SharesIndex committed b t.heights) t tiles shares still.shared;
+      kept = all_added (λ t. IfSome t.kept (HaveKeptRecords format b)) t tiles tt still.kept;
     }
 
 pub contains-map : {X Y : Type 0} (f : X → Y) (xs : List X) (x : X) → Contains xs x → Contains (map f xs) (f x)
@@ -119,7 +122,12 @@ module _ (old new : ChartValue) (c : Corner) (rules : IsChart new) (added : IsAd
   location_is plane had = ap (λ (t : TileLocation). t.heights) (one_at_corner new.staged (record { corner = c; heights = added.location; kept = None }) had.0 rules.staged.in_order among had.1.0 (sym had.1.1)) ∙ had.1.2
 
   fresh_pages : (plane : PlaneLocation) → HasHeights c plane new.staged → All (IsFresh new) plane.pages
-  fresh_pages plane had = subst (λ (q : PlaneLocation). All (IsFresh new) q.pages) (location_is plane had) (All-tail (IsFresh new) added.location.record_page added.location.pages added.fresh)
+  fresh_pages plane had = subst (λ (q : PlaneLocation). All (IsFresh new) q.pages) (location_is plane had) (All-back (IsFresh new) added.location.index_pages added.location.pages (All-tail (IsFresh new) added.location.record_page (pages_behind added.location) added.fresh))
+
+  index_unreached : (k : ℕ) → k < length added.location.index_pages → ¬ Contains (reached old.committed) (get_or added.location.index_pages k 0)
+  index_unreached k lt =
+      subst (λ (tiles : List TileLocation). ¬ Contains (reached tiles) (get_or added.location.index_pages k 0)) committed_is
+      (All-front (IsFresh new) added.location.index_pages added.location.pages (All-tail (IsFresh new) added.location.record_page (pages_behind added.location) added.fresh) k 0 lt).unreached
 
   pub pages_low : (plane : PlaneLocation) → HasHeights c plane new.staged → All (λ p. 4 ≤ p) plane.pages
   pages_low plane had k d lt = (fresh_pages plane had k d lt).low
@@ -138,8 +146,9 @@ module _ (old new : ChartValue) (c : Corner) (rules : IsChart new) (added : IsAd
       let one = once_there p in
       let split = times_added p (record { corner = c; heights = added.location; kept = None }) old.staged in
       let whole = times-append p (pages_of_plane added.location) [] in
-      let front = times-append p (added.location.record_page ∷ []) added.location.pages in
-      subst (λ (q : PlaneLocation). times p q.pages ≤ 1) (location_is plane had) (omega (arith, one, split, whole, front))
+      let front = times-append p (added.location.record_page ∷ []) (pages_behind added.location) in
+      let behind = times-append p added.location.index_pages added.location.pages in
+      subst (λ (q : PlaneLocation). times p q.pages ≤ 1) (location_is plane had) (omega (arith, one, split, whole, front, behind))
 
   module _ (plane : PlaneLocation) (had : HasHeights c plane new.staged) (a b : Image) (bytes : List ℕ) (others : (p : ℕ) → 4 ≤ p → ¬ Contains plane.pages p → a p ≡ b p) where
     unwritten : (p : ℕ) → 4 ≤ p → ¬ Contains added.location.pages p → a p ≡ b p
@@ -148,18 +157,19 @@ module _ (old new : ChartValue) (c : Corner) (rules : IsChart new) (added : IsAd
     kept_pages : SameOn (reached old.staged) a b
     kept_pages = others_same (record { corner = c; heights = added.location; kept = None }) old.staged a b (subst (λ (tiles : List TileLocation). All (λ q. 4 ≤ q) (reached tiles)) staged_is rules.staged.page_rule.low) once_there unwritten
 
-    pub plane_staged : (n : ℕ) → old.side ≡ n → map b plane.pages ≡ pages_of_bytes (length plane.pages) bytes → map (tile_in b) new.staged ≡ with_tile (stale_tile c (pages_of_bytes (pages_of n) bytes)) (map (tile_in a) old.staged)
+    pub plane_staged : (n : ℕ) → old.format.side ≡ n → map b plane.pages ≡ pages_of_bytes (length plane.pages) bytes → map (tile_in b) new.staged ≡ with_tile (stale_tile c (pages_of_bytes (pages_of n) bytes)) (map (tile_in a) old.staged)
     plane_staged n side wrote =
         let wrote_there : map b added.location.pages ≡ pages_of_bytes (length added.location.pages) bytes = subst (λ (q : PlaneLocation). map b q.pages ≡ pages_of_bytes (length q.pages) bytes) (sym (location_is plane had)) wrote in
-        let count : length added.location.pages ≡ pages_of n = added.whole ∙ ap pages_of side in
+        let count : length added.location.pages ≡ pages_of n = added.whole.pages ∙ ap pages_of side in
         ap (map (tile_in b)) staged_is
         ∙ added_tiles (record { corner = c; heights = added.location; kept = None }) (stale_tile c (pages_of_bytes (pages_of n) bytes)) a b old.staged
         (ap (stale_tile c) (wrote_there ∙ ap (λ (k : ℕ). pages_of_bytes k bytes) count)) kept_pages
 
-    pub plane_stays : (n : ℕ) → AreStaged n old.committed old.staged a → AreStaged n new.committed new.staged b
-    plane_stays n was =
-        subst (λ (tiles : List TileLocation). AreStaged n tiles new.staged b) (sym committed_is)
-        (subst (λ (tiles : List TileLocation). AreStaged n old.committed tiles b) (sym staged_is)
-        (staged_with n old.committed old.staged c added.location a b
-        (unreached_test added.location.record_page (reached old.committed) (subst (λ (tiles : List TileLocation). ¬ Contains (reached tiles) added.location.record_page) committed_is (All-head (IsFresh new) added.location.record_page added.location.pages added.fresh).unreached))
+    pub plane_stays : (format : Format) → AreStaged format old.committed old.staged a → AreStaged format new.committed new.staged b
+    plane_stays format was =
+        subst (λ (tiles : List TileLocation). AreStaged format tiles new.staged b) (sym committed_is)
+        (subst (λ (tiles : List TileLocation). AreStaged format old.committed tiles b) (sym staged_is)
+        (staged_with format old.committed old.staged c added.location a b
+        (unreached_test added.location.record_page (reached old.committed) (subst (λ (tiles : List TileLocation). ¬ Contains (reached tiles) added.location.record_page) committed_is (All-head (IsFresh new) added.location.record_page (pages_behind added.location) added.fresh).unreached))
+        (λ k lt shared. absurd (let no : true ≡ false = sym (ap not (unreached_test (get_or added.location.index_pages k 0) (reached old.committed) (index_unreached k lt))) ∙ shared in cc))
         kept_pages was))

@@ -1,14 +1,17 @@
 -- A tile taken out, and what was staged given up.
-use Rattle.std.proofs.Common.{◌≡◌, ℕ, Bool, true, false, not, cond, List, [], ◌∷◌, ◌++◌, All, Contains, map, IfSome, refl, ap, subst}
+use Rattle.std.proofs.Common.{◌≡◌, Bool, true, false, not, cond, List, [], ◌∷◌, ◌++◌, All, Contains, map, IfSome, refl, ap, subst}
 use Rattle.std.specs.List.{filter}
 use Rattle.std.proofs.lemmas.List.Elements.{All-head, All-contains, All-contains_itself, All-filter}
 use Rattle.disk.specs.Disk.{Image}
 use Rattle.lattice.specs.Corners.{Corner}
+use Rattle.page_codec.specs.Formats.{Format}
 use Rattle.page_codec.specs.Entries.{EntryValue}
-use Rattle.charts.specs.TileLocations.{TileLocation, reached, pages_of_kept, pages_of_tile, entry_of}
+use Rattle.charts.specs.Locations.{pages_behind}
+use Rattle.charts.specs.TileLocations.{TileLocation, reached, pages_of_kept, pages_of_tile}
+use Rattle.cow_tree.specs.Entries.{entry_of}
 use Rattle.cow_tree.specs.Layout.{HasRecord, HaveKeptRecords}
 use Rattle.charts.specs.Charts.{ChartValue, HasFreshHeights, is_at, is_changed, corners_of_locations, without_location}
-use Rattle.cow_tree.specs.Staged.{AreStaged}
+use Rattle.cow_tree.specs.Staged.{AreStaged, SharesIndex}
 use Rattle.cow_tree.proofs.Tiles.{each_tile}
 
 pub filter-map : {X Y : Type 0} (test : Y → Bool) (f : X → Y) (xs : List X) → map f (filter (λ x. test (f x)) xs) ≡ filter test (map f xs)
@@ -27,10 +30,11 @@ pub clean_is_committed : (chart : ChartValue) → chart.staged ≡ chart.committ
 clean_is_committed chart clean c (t, (staged, corner, fresh)) =
     let among : Contains chart.committed t = subst (λ (tiles : List TileLocation). Contains tiles t) clean staged in
     let all : All (Contains (reached chart.committed)) (pages_of_tile t) = All-contains (λ u. All (Contains (reached chart.committed)) (pages_of_tile u)) chart.committed t (each_tile (Contains (reached chart.committed)) chart.committed (All-contains_itself (reached chart.committed))) among in
-    fresh.unreached (All-head (Contains (reached chart.committed)) t.heights.record_page (t.heights.pages ++ pages_of_kept t.kept) all)
+    fresh.unreached (All-head (Contains (reached chart.committed)) t.heights.record_page (pages_behind t.heights ++ pages_of_kept t.kept) all)
 
-pub staged_without : (n : ℕ) (committed tiles : List TileLocation) (c : Corner) (image : Image) → AreStaged n committed tiles image → AreStaged n committed (without_location c tiles) image
-staged_without n committed tiles c image had = record {
-  heights = All-filter (λ t. not (is_at c t)) (λ t. is_changed committed t ≡ false → HasRecord n image t.heights) tiles had.heights;
-  kept = All-filter (λ t. not (is_at c t)) (λ t. IfSome t.kept (HaveKeptRecords n image)) tiles had.kept;
+pub staged_without : (format : Format) (committed tiles : List TileLocation) (c : Corner) (image : Image) → AreStaged format committed tiles image → AreStaged format committed (without_location c tiles) image
+staged_without format committed tiles c image had = record {
+  heights = All-filter (λ t. not (is_at c t)) (λ t. is_changed committed t ≡ false → HasRecord format image t.heights) tiles had.heights;
+  shared = All-filter (λ t. not (is_at c t)) (λ t. SharesIndex committed image t.heights) tiles had.shared;
+  kept = All-filter (λ t. not (is_at c t)) (λ t. IfSome t.kept (HaveKeptRecords format image)) tiles had.kept;
 }

@@ -1,7 +1,7 @@
 -- Which heights are staged, and how many records a commit writes for them.
 use Rattle.std.proofs.Common.{◌≡◌, ℕ, zero, suc, ◌+◌, ◌<◌, ◌≤◌, ◌==◌, ◌&&◌, Bool, true, false, cond, not, if◌then◌else◌, List, [], ◌∷◌, ◌++◌, All, Contains, length, get_or, map, refl, sym, ap, ◌∙◌, subst, arith}
 use Rattle.std.specs.Prelude.{None}
-use Rattle.std.specs.List.{filter, slice_set}
+use Rattle.std.specs.List.{filter}
 use Rattle.std.proofs.lemmas.Bool.Decides.{nat_tests}
 use Rattle.std.proofs.lemmas.List.{length-map}
 use Rattle.std.proofs.lemmas.List.Folds.{list_any_at}
@@ -9,6 +9,7 @@ use Rattle.std.proofs.lemmas.List.Elements.{All-nil, All-cons, All-head, All-tai
 use Rattle.lattice.specs.Corners.{Corner, is_before}
 use Rattle.lattice.proofs.CornerOrder.{same_says, same_from, after_not_same}
 use Rattle.lattice.proofs.Rising.{AllAfter, Rising, rising_from}
+use Rattle.charts.specs.Locations.{moved_plane, pages_behind}
 use Rattle.charts.specs.TileLocations.{TileLocation, pages_of_kept, pages_of_tile, reached}
 use Rattle.charts.specs.Charts.{ChartValue, IsChart, IsFresh, IsLocated, IsRewritten, IsPrepared, IsAdded, HasFreshHeights, is_at, is_changed, fresh_corners, corners_of_locations, with_tile_location, with_page_location_in, with_record_in, without_location}
 use Rattle.cow_tree.specs.Stored.{with_corner}
@@ -33,7 +34,7 @@ unchanged committed t has = ap not (list_any_at (λ q. q == t.heights.record_pag
 none_changed : (committed : List TileLocation) → All (λ t. is_changed committed t ≡ false) committed
 none_changed committed =
     All-weaker (λ t. All (Contains (reached committed)) (pages_of_tile t)) (λ t. is_changed committed t ≡ false)
-    (λ t all. unchanged committed t (All-head (Contains (reached committed)) t.heights.record_page (t.heights.pages ++ pages_of_kept t.kept) all)) committed
+    (λ t all. unchanged committed t (All-head (Contains (reached committed)) t.heights.record_page (pages_behind t.heights ++ pages_of_kept t.kept) all)) committed
     (each_tile (Contains (reached committed)) committed (All-contains_itself (reached committed)))
 
 pub none_due : (chart : ChartValue) → chart.staged ≡ chart.committed → length (fresh_corners chart) ≡ 0
@@ -176,7 +177,7 @@ module _ (old new : ChartValue) (c : Corner) (record_page : ℕ) (f : TileLocati
 -- a page written
 module _ (old new : ChartValue) (c : Corner) (i page : ℕ) (rules : IsChart old) (written : IsRewritten c i page old new) where
   abbrev rewrite : TileLocation → TileLocation
-  rewrite = with_page_location_in c i page written.record_page
+  rewrite = with_page_location_in c i page written.index_page written.record_page
 
   rewrite_other : (t : TileLocation) → is_at c t ≡ false → rewrite t ≡ t
   rewrite_other t other = rw other refl
@@ -185,7 +186,7 @@ module _ (old new : ChartValue) (c : Corner) (i page : ℕ) (rules : IsChart old
   rewrite_here t at = rw at refl
 
   rewrite_corner : (t : TileLocation) → (rewrite t).corner ≡ t.corner
-  rewrite_corner t = elim (is_at c t) as (λ (v : Bool). (if v then record t { heights = record { record_page = written.record_page; pages = slice_set t.heights.pages i page } } else t).corner ≡ t.corner) [ true ↦ refl | false ↦ refl ]
+  rewrite_corner t = elim (is_at c t) as (λ (v : Bool). (if v then record t { heights = moved_plane i page written.index_page written.record_page t.heights } else t).corner ≡ t.corner) [ true ↦ refl | false ↦ refl ]
 
   pub written_due : length (fresh_corners new) ≤ length (fresh_corners old) + 1
   written_due = due_at_most old new c written.record_page rewrite rewrite_other rewrite_here rewrite_corner rules written.fresh_record written.changed
@@ -211,7 +212,7 @@ module _ (old new : ChartValue) (c : Corner) (rules : IsChart old) (prepared : I
   prepare_here t at = rw at refl
 
   prepare_corner : (t : TileLocation) → (prepare t).corner ≡ t.corner
-  prepare_corner t = elim (is_at c t) as (λ (v : Bool). (if v then record t { heights = record { record_page = prepared.record_page; pages = t.heights.pages } } else t).corner ≡ t.corner) [ true ↦ refl | false ↦ refl ]
+  prepare_corner t = elim (is_at c t) as (λ (v : Bool). (if v then record t { heights = record (t.heights) { record_page = prepared.record_page } } else t).corner ≡ t.corner) [ true ↦ refl | false ↦ refl ]
 
   pub prepared_due : length (fresh_corners new) ≤ length (fresh_corners old) + 1
   prepared_due = due_at_most old new c prepared.record_page prepare prepare_other prepare_here prepare_corner rules prepared.fresh_record prepared.changed
@@ -251,7 +252,7 @@ module _ (old new : ChartValue) (c : Corner) (added : IsAdded c old new) where
   tile = record { corner = c; heights = added.location; kept = None }
 
   added_record : IsFresh new added.location.record_page
-  added_record = All-head (IsFresh new) added.location.record_page added.location.pages added.fresh
+  added_record = All-head (IsFresh new) added.location.record_page (pages_behind added.location) added.fresh
 
   added_committed : new.committed ≡ old.committed
   added_committed = ap (λ (x : ChartValue). x.committed) added.changed

@@ -1,6 +1,7 @@
 pub mod Standing
 pub mod OneStored
 pub mod Planes
+pub mod Cached
 pub mod Staging
 pub mod WrittenPages
 pub mod Tiles
@@ -8,13 +9,16 @@ pub mod Recording
 pub mod Steps
 pub mod Commits
 pub mod Dropping
+pub mod EntryTiles
 pub mod ReadOnly
 pub mod Reasons
+pub mod Indexed
 pub mod ReadTiles
 pub mod Opened
 pub mod Adding
 pub mod Due
 pub mod Prepared
+pub mod KeptDrops
 pub mod PageReads
 pub mod SampleReads
 pub mod TreeReads

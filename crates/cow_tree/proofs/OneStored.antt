@@ -1,58 +1,120 @@
 -- An image stands for at most one: its root is the only current one, records have one spelling, and so locations and contents
 -- are equal.
-use Rattle.std.proofs.Common.{◌≡◌, ℕ, List, [], ◌∷◌, All, map, Option, Some, None, IfSome, refl, sym, ap, ap₂, ◌∙◌, subst}
-use Rattle.std.proofs.lemmas.List.Elements.{All-head, All-tail}
+use Rattle.std.proofs.Common.{◌≡◌, ℕ, ◌<◌, ◌*◌, ◌+◌, ◌-◌, ◌/◌, ◌%◌, ◌^◌, List, [], ◌∷◌, All, length, drop, get_or, min, map, arith, Option, Some, None, IfSome, refl, sym, ap, ap₂, ◌∙◌, subst}
+use Rattle.std.proofs.Math.Nat.{div-add-mod, mod-lt}
+use Rattle.std.proofs.lemmas.List.{get_or-take, get_or-drop, length-take, length-drop, same_lists}
+use Rattle.std.proofs.lemmas.List.Elements.{All-head, All-tail, All-take, All-drop}
 use Rattle.disk.specs.Disk.{Image}
 use Rattle.lattice.specs.Corners.{Corner}
+use Rattle.page_codec.specs.Formats.{Format}
 use Rattle.page_codec.specs.Entries.{EntryValue}
 use Rattle.page_codec.specs.declared.entry.Kept.{Kept}
-use Rattle.page_codec.specs.Roots.{RootValue}
-use Rattle.page_codec.specs.Sizes.{pages_of}
+use Rattle.page_codec.specs.Roots.{RootValue, format_of}
+use Rattle.layout.specs.declared.version.Version.{Version}
+use Rattle.layout.specs.declared.version.Version.TheVariants.{One, Two}
+use Rattle.page_codec.specs.Records.{part_of, record_bytes}
+use Rattle.page_codec.specs.Sizes.{pages_of, index_pages_by}
 use Rattle.page_codec.proofs.RecordPages.{same_records}
+use Rattle.cow_tree.proofs.Standing.{All-front, All-back}
 use Rattle.roots.proofs.OneAnswer.{one_is_current}
 use Rattle.charts.specs.declared.locations.KeptLocations.{KeptLocations}
-use Rattle.charts.specs.Locations.{PlaneLocation}
-use Rattle.charts.specs.TileLocations.{TileLocation, entry_of_kept, entry_of}
-use Rattle.cow_tree.specs.Layout.{HasRecord, HaveKeptRecords, HasRecords, IsLaidOut, stored_in, StandsForOne}
+use Rattle.charts.specs.Locations.{PlaneLocation, IsWholePlane, pages_behind}
+use Rattle.charts.specs.TileLocations.{TileLocation}
+use Rattle.cow_tree.specs.Entries.{entry_of_kept, entry_of}
+use Rattle.cow_tree.specs.Layout.{HasRecord, HaveKeptRecords, HasRecords, IsIndexed, IsLaidOut, listed_by, stored_in, StandsForOne}
+
+-- lists of which each part of 1024 is the same
+same_parts : (xs ys : List ℕ) → length xs ≡ length ys → ((t : ℕ) → 1024 * t < length xs → part_of t xs ≡ part_of t ys) → xs ≡ ys
+same_parts xs ys len parts =
+    same_lists xs ys len
+    (λ k d below.
+    let t = k / 1024 in
+    let j = k % 1024 in
+    let at : 1024 * t + j ≡ k = div-add-mod k 1024 in
+    let less : j < 1024 = mod-lt k (omega arith) in
+    let from : 1024 * t < length xs = omega (arith, at, below) in
+    let there : (zs : List ℕ) → get_or (part_of t zs) j d ≡ get_or zs k d = λ zs. get_or-take 1024 (drop (1024 * t) zs) j d less ∙ (get_or-drop (1024 * t) zs j d ∙ ap (λ n. get_or zs n d) at) in
+    sym (there xs) ∙ (ap (λ zs. get_or zs j d) (parts t from) ∙ there ys))
+
+part_length : (t : ℕ) (xs ys : List ℕ) → length xs ≡ length ys → length (part_of t xs) ≡ length (part_of t ys)
+part_length t xs ys len = length-take 1024 (drop (1024 * t) xs) ∙ (ap (min 1024) (length-drop (1024 * t) xs ∙ (ap (λ n. n - 1024 * t) len ∙ sym (length-drop (1024 * t) ys))) ∙ sym (length-take 1024 (drop (1024 * t) ys)))
+
+-- page numbers that are spelt alike are the same
+alike : (xs ys : List ℕ) → All (λ p. p < 2 ^ 32) xs → All (λ p. p < 2 ^ 32) ys → length xs ≡ length ys → record_bytes xs ≡ record_bytes ys → xs ≡ ys
+alike xs ys low low_2 len same = same_records (length ys) xs ys (record { len = len; each = low }) (record { len = refl; each = low_2 }) same
+
+-- there are index pages enough
+index_length : (format : Format) (p : PlaneLocation) → IsWholePlane format p → (format.version ≡ Two) → (t : ℕ) → 1024 * t < length p.pages → t < length p.index_pages
+index_length format p whole two t below = omega (arith, below, whole.pages, whole.index_pages, ap (λ v. index_pages_by v (pages_of format.side)) two)
+
+empty : (l : List ℕ) → length l ≡ 0 → l ≡ []
+empty [] none = refl
+empty (x ∷ xs) none = absurd (omega (arith, none))
+
+part_low : (t : ℕ) (pages : List ℕ) → All (λ p. p < 2 ^ 32) pages → All (λ p. p < 2 ^ 32) (part_of t pages)
+part_low t pages low = All-take (λ p. p < 2 ^ 32) 1024 (drop (1024 * t) pages) (All-drop (λ p. p < 2 ^ 32) (1024 * t) pages low)
+
+-- what stands behind a record
+same_behind : (v : Version) (image : Image) (a b : PlaneLocation) → All (λ p. p < 2 ^ 32) (pages_behind a) → All (λ p. p < 2 ^ 32) (pages_behind b)
+    → length a.index_pages ≡ length b.index_pages → length a.pages ≡ length b.pages → record_bytes (listed_by v a) ≡ record_bytes (listed_by v b)
+    → (v ≡ Two → (t : ℕ) → 1024 * t < length a.pages → t < length a.index_pages)
+    → ((t : ℕ) → t < length a.index_pages → IsIndexed image a t) → ((t : ℕ) → t < length b.index_pages → IsIndexed image b t)
+    → (v ≡ One → length a.index_pages ≡ 0)
+    → (a.index_pages ≡ b.index_pages) × (a.pages ≡ b.pages)
+same_behind One image a b low low_2 index_len len same enough p q none = (
+  empty a.index_pages (none refl) ∙ sym (empty b.index_pages (sym index_len ∙ none refl)),
+  alike a.pages b.pages (All-back (λ p. p < 2 ^ 32) a.index_pages a.pages low) (All-back (λ p. p < 2 ^ 32) b.index_pages b.pages low_2) len same,
+)
+same_behind Two image a b low low_2 index_len len same enough p q none =
+    let index = alike a.index_pages b.index_pages (All-front (λ p. p < 2 ^ 32) a.index_pages a.pages low) (All-front (λ p. p < 2 ^ 32) b.index_pages b.pages low_2) index_len same in (
+      index,
+      same_parts a.pages b.pages len (λ t below.
+          let here = enough refl t below in
+          alike (part_of t a.pages) (part_of t b.pages) (part_low t a.pages (All-back (λ p. p < 2 ^ 32) a.index_pages a.pages low)) (part_low t b.pages (All-back (λ p. p < 2 ^ 32) b.index_pages b.pages low_2))
+          (part_length t a.pages b.pages len)
+          (sym (p t here) ∙ (ap (λ l. image (get_or l t 0)) index ∙ q t (omega (arith, here, index_len))))),
+    )
 
 -- a record page has one list of pages
-pub one_plane : (n : ℕ) (image : Image) (a b : PlaneLocation) → HasRecord n image a → HasRecord n image b → a.record_page ≡ b.record_page → a ≡ b
-one_plane n image a b p q same =
-    ap₂ (λ (r : ℕ) (pages : List ℕ). record { record_page = r; pages = pages }) same
-    (same_records (pages_of n) a.pages b.pages p.0 q.0 (sym p.1 ∙ ap image same ∙ q.1))
+pub one_plane : (format : Format) (image : Image) (a b : PlaneLocation) → HasRecord format image a → HasRecord format image b → a.record_page ≡ b.record_page → a ≡ b
+one_plane format image a b p q same =
+    let behind = same_behind format.version image a b p.each q.each (p.whole.index_pages ∙ sym q.whole.index_pages) (p.whole.pages ∙ sym q.whole.pages)
+    (sym p.listed ∙ ap image same ∙ q.listed) (λ two. index_length format a p.whole two) p.indexed q.indexed (λ one. p.whole.index_pages ∙ ap (λ v. index_pages_by v (pages_of format.side)) one) in
+    ap₂ (λ (r : ℕ) (index : List ℕ). record { record_page = r; index_pages = index; pages = a.pages }) same behind.0
+    ∙ ap (λ (pages : List ℕ). record { record_page = b.record_page; index_pages = b.index_pages; pages = pages }) behind.1
 
-pub one_kept : (n : ℕ) (image : Image) (a b : Option KeptLocations) → IfSome a (HaveKeptRecords n image) → IfSome b (HaveKeptRecords n image) → entry_of_kept a ≡ entry_of_kept b → a ≡ b
-one_kept n image None None p q same = refl
-one_kept n image None (Some b) p q same = cc
-one_kept n image (Some a) None p q same = cc
-one_kept n image (Some a) (Some b) p q same =
+pub one_kept : (format : Format) (image : Image) (a b : Option KeptLocations) → IfSome a (HaveKeptRecords format image) → IfSome b (HaveKeptRecords format image) → entry_of_kept a ≡ entry_of_kept b → a ≡ b
+one_kept format image None None p q same = refl
+one_kept format image None (Some b) p q same = cc
+one_kept format image (Some a) None p q same = cc
+one_kept format image (Some a) (Some b) p q same =
     let e : record { levels = a.levels.record_page; labels = a.labels.record_page } ≡ record { levels = b.levels.record_page; labels = b.labels.record_page } = cc in
     ap₂ (λ (x y : PlaneLocation). Some (record { levels = x; labels = y }))
-    (one_plane n image a.levels b.levels p.levels q.levels (ap (λ (k : Kept). k.levels) e))
-    (one_plane n image a.labels b.labels p.labels q.labels (ap (λ (k : Kept). k.labels) e))
+    (one_plane format image a.levels b.levels p.levels q.levels (ap (λ (k : Kept). k.levels) e))
+    (one_plane format image a.labels b.labels p.labels q.labels (ap (λ (k : Kept). k.labels) e))
 
-pub one_tile : (n : ℕ) (image : Image) (a b : TileLocation) → HasRecords n image a → HasRecords n image b → entry_of a ≡ entry_of b → a ≡ b
-one_tile n image a b p q same =
+pub one_tile : (format : Format) (image : Image) (a b : TileLocation) → HasRecords format image a → HasRecords format image b → entry_of a ≡ entry_of b → a ≡ b
+one_tile format image a b p q same =
     let corner : a.corner ≡ b.corner = ap (λ (e : EntryValue). e.corner) same in
-    let heights = one_plane n image a.heights b.heights p.heights q.heights (ap (λ (e : EntryValue). e.heights) same) in
-    let kept = one_kept n image a.kept b.kept p.kept q.kept (ap (λ (e : EntryValue). e.kept) same) in
+    let heights = one_plane format image a.heights b.heights p.heights q.heights (ap (λ (e : EntryValue). e.heights) same) in
+    let kept = one_kept format image a.kept b.kept p.kept q.kept (ap (λ (e : EntryValue). e.kept) same) in
     ap₂ (λ (c : Corner) (h : PlaneLocation). record { corner = c; heights = h; kept = a.kept }) corner heights
     ∙ ap (λ (k : Option KeptLocations). record { corner = b.corner; heights = b.heights; kept = k }) kept
 
-pub one_layout : (n : ℕ) (image : Image) (xs ys : List TileLocation) → All (HasRecords n image) xs → All (HasRecords n image) ys → map entry_of xs ≡ map entry_of ys → xs ≡ ys
-one_layout n image [] [] p q same = refl
-one_layout n image [] (b ∷ ys) p q same = cc
-one_layout n image (a ∷ xs) [] p q same = cc
-one_layout n image (a ∷ xs) (b ∷ ys) p q same =
+pub one_layout : (format : Format) (image : Image) (xs ys : List TileLocation) → All (HasRecords format image) xs → All (HasRecords format image) ys → map entry_of xs ≡ map entry_of ys → xs ≡ ys
+one_layout format image [] [] p q same = refl
+one_layout format image [] (b ∷ ys) p q same = cc
+one_layout format image (a ∷ xs) [] p q same = cc
+one_layout format image (a ∷ xs) (b ∷ ys) p q same =
     let first : entry_of a ≡ entry_of b = cc in
     let rest : map entry_of xs ≡ map entry_of ys = cc in
     ap₂ (λ (x : TileLocation) (xs : List TileLocation). x ∷ xs)
-    (one_tile n image a b (All-head (HasRecords n image) a xs p) (All-head (HasRecords n image) b ys q) first)
-    (one_layout n image xs ys (All-tail (HasRecords n image) a xs p) (All-tail (HasRecords n image) b ys q) rest)
+    (one_tile format image a b (All-head (HasRecords format image) a xs p) (All-head (HasRecords format image) b ys q) first)
+    (one_layout format image xs ys (All-tail (HasRecords format image) a xs p) (All-tail (HasRecords format image) b ys q) rest)
 
 -- the tiles of one root on one image
 pub one_root_layout : (sectors : ℕ) (image : Image) (root : RootValue) (a b : List TileLocation) → IsLaidOut sectors image root a → IsLaidOut sectors image root b → a ≡ b
-one_root_layout sectors image root a b p q = one_layout root.side image a b p.records q.records (p.entries ∙ sym q.entries)
+one_root_layout sectors image root a b p q = one_layout (format_of root) image a b p.records q.records (p.entries ∙ sym q.entries)
 
 pub one_stored : StandsForOne
 one_stored sectors image a b p q =

@@ -1,26 +1,27 @@
 -- What a disk stands for that was formatted, or opened.
 use Rattle.std.proofs.lemmas.Bool.{false≢true}
-use Rattle.std.proofs.Common.{zero, suc, ◌∷◌, lit<, ◌≡◌, ◌⊎◌, inl, inr, ⊎_elim, ℕ, ◌<◌, ◌≤◌, Result, Ok, Err, List, [], All, map, refl, sym, ap, ◌∙◌, subst, arith}
+use Rattle.std.proofs.Common.{zero, suc, ◌∷◌, lit<, ◌≡◌, ◌⊎◌, inl, inr, ⊎_elim, ℕ, ◌<◌, ◌≤◌, Ok, Err, List, [], All, map, refl, sym, ap, ◌∙◌, subst, arith}
 use Rattle.std.proofs.lemmas.List.Elements.{All-nil}
 use Rattle.disk.specs.Disk.{Image, Only}
 use Rattle.disk.specs.declared.disk.Disk.{Ghosts}
 use Rattle.lattice.specs.declared.refusal.Refusal.{Refusal}
 use Rattle.lattice.specs.declared.refusal.Refusal.TheVariants as refusal
-use Rattle.page_codec.specs.Roots.{RootValue, AreNumbers, empty_root, root_bytes}
+use Rattle.page_codec.specs.Roots.{RootValue, format_of, AreNumbers, empty_root, root_bytes}
 use Rattle.page_codec.specs.Entries.{IsEntry}
-use Rattle.page_codec.specs.Sizes.{sectors_of}
+use Rattle.page_codec.specs.Sizes.{sectors_of, sectors_asked}
 use Rattle.roots.specs.Opening.{OpensAs, StoresOpen}
 use Rattle.roots.specs.Roots.{IsReady, ready_current}
 use Rattle.roots.specs.Slots.{is_open, IsCurrent}
 use Rattle.roots.specs.declared.slot.Slot.TheVariants.{A}
 use Rattle.charts.specs.Charts.{ChartValue, IsChart, IsClean}
-use Rattle.charts.specs.TileLocations.{TileLocation, entry_of, KeepsPageRule}
+use Rattle.charts.specs.TileLocations.{TileLocation, KeepsPageRule}
+use Rattle.cow_tree.specs.Entries.{entry_of}
 use Rattle.cow_tree.specs.Layout.{stored_in, tile_in, HasRecords, IsLaidOut, StoresAt, Stands, NoTilesStand}
 use Rattle.cow_tree.specs.OverRoots.{IsRefusedFor}
 use Rattle.cow_tree.specs.Staged.{AreStaged}
 use Rattle.cow_tree.specs.Stored.{Stored, no_tiles}
-use Rattle.page_codec.specs.Formats.{IsFormat, format_1}
-use Rattle.page_codec.specs.Sinks.{IsSink}
+use Rattle.page_codec.specs.Formats.{Format, IsFormat, format_1}
+use Rattle.lattice.specs.Mosaic.{IsHeld}
 use Rattle.roots.proofs.OneAnswer.{one_is_current, stores_open, only_root}
 use Rattle.cow_tree.specs.Trees.{IsAt, staged_in, MayRefuse}
 use Rattle.cow_tree.specs.declared.tree.Tree.{Tree}
@@ -35,7 +36,7 @@ formatted_stands n side capacity root seen image is_root current same room = (
     laid_out = record {
       store = (subst (λ (i : Image). IsCurrent (empty_root side capacity) i) (sym same) (subst (λ (r : RootValue). IsCurrent r seen) is_root current), room);
       entries = refl;
-      records = All-nil (HasRecords side image);
+      records = All-nil (HasRecords (format_1 side capacity) image);
       page_rule = record { low = All-nil (λ p. 4 ≤ p); high = All-nil (λ p. p < n); once = λ p. omega arith };
     };
     stands = refl;
@@ -43,11 +44,11 @@ formatted_stands n side capacity root seen image is_root current same room = (
 )
 
 -- the tiles of a chart that was read
-pub opened_stores : (n : ℕ) (root : RootValue) (chart : ChartValue) (image : Image) → IsCurrent root image → IsChart chart → chart.sectors ≡ n → chart.side ≡ root.side → chart.capacity ≡ root.capacity → map entry_of chart.committed ≡ root.entries → All (HasRecords root.side image) chart.committed
+pub opened_stores : (n : ℕ) (root : RootValue) (chart : ChartValue) (image : Image) → IsCurrent root image → IsChart chart → chart.sectors ≡ n → chart.format ≡ format_of root → map entry_of chart.committed ≡ root.entries → All (HasRecords (format_of root) image) chart.committed
     → StoresAt n root chart.committed (stored_in image root chart.committed) image
-opened_stores n root chart image current rules sectors side capacity entries records = record {
+opened_stores n root chart image current rules sectors format entries records = record {
   laid_out = record {
-    store = (current, subst (λ (k : ℕ). sectors_of root.side root.capacity ≤ k) sectors (subst (λ (k : ℕ). sectors_of root.side k ≤ chart.sectors) capacity (subst (λ (k : ℕ). sectors_of k chart.capacity ≤ chart.sectors) side rules.size)));
+    store = (current, subst (λ (k : ℕ). sectors_asked (format_of root) ≤ k) sectors (subst (λ (f : Format). sectors_asked f ≤ chart.sectors) format rules.size));
     entries = entries;
     records = records;
     page_rule = subst (λ (k : ℕ). KeepsPageRule k chart.committed) sectors rules.committed.page_rule;
@@ -55,19 +56,19 @@ opened_stores n root chart image current rules sectors side capacity entries rec
   stands = refl;
 }
 
-pub clean_staged : (n : ℕ) (root : RootValue) (chart : ChartValue) (image : Image) → IsClean chart → StoresAt n root chart.committed (stored_in image root chart.committed) image → AreStaged root.side chart.committed chart.staged image
+pub clean_staged : (n : ℕ) (root : RootValue) (chart : ChartValue) (image : Image) → IsClean chart → StoresAt n root chart.committed (stored_in image root chart.committed) image → AreStaged (format_of root) chart.committed chart.staged image
 clean_staged n root chart image clean stores =
-    subst (λ (tiles : List TileLocation). AreStaged root.side chart.committed tiles image) (sym clean) (nothing_staged n root chart.committed (stored_in image root chart.committed) image stores)
+    subst (λ (tiles : List TileLocation). AreStaged (format_of root) chart.committed tiles image) (sym clean) (nothing_staged n root chart.committed (stored_in image root chart.committed) image stores)
 
 -- a tree that was just read from the image stands for what the image holds
 pub opened : {D : Type 0} (g : Ghosts D) (tree : Tree D g) (n : ℕ) (image : Image) → IsReady g tree.roots → g.size tree.roots.disk ≡ n → g.seen tree.roots.disk ≡ image → Only image (g.may tree.roots.disk)
-    → g.may tree.roots.disk (g.seen tree.roots.disk) → IsChart tree.chart → IsClean tree.chart → All (HasRecords tree.root.side image) tree.chart.committed
+    → g.may tree.roots.disk (g.seen tree.roots.disk) → IsChart tree.chart → IsClean tree.chart → All (HasRecords (format_of tree.root) image) tree.chart.committed
     → (s : Stored) × (Stands n image s × (IsAt g tree s × (staged_in g tree ≡ s.tiles)))
 opened g tree n image ready size seen only here rules clean records =
     let root_is : tree.roots.root ≡ tree.root = tree.known ready.works in
     let current : IsCurrent tree.root image = subst (λ (i : Image). IsCurrent tree.root i) seen (subst (λ (r : RootValue). IsCurrent r (g.seen tree.roots.disk)) root_is (ready_current g tree.roots (g.seen tree.roots.disk) ready here)) in
     let s : Stored = stored_in image tree.root tree.chart.committed in
-    let stores : StoresAt n tree.root tree.chart.committed s image = opened_stores n tree.root tree.chart image current rules (tree.sectors ∙ size) tree.side tree.capacity tree.entries records in (
+    let stores : StoresAt n tree.root tree.chart.committed s image = opened_stores n tree.root tree.chart image current rules (tree.sectors ∙ size) tree.format tree.entries records in (
       s,
       (
         (tree.root, tree.chart.committed, stores),
@@ -76,7 +77,7 @@ opened g tree n image ready size seen only here rules clean records =
             ready = ready;
             each = λ i may. stores_along n (g.size tree.roots.disk) tree.root tree.roots.root tree.chart.committed tree.chart.committed s i size root_is refl
                 (subst (λ (x : Image). StoresAt n tree.root tree.chart.committed s x) (sym (only i may)) stores);
-            staged = subst (λ (i : Image). AreStaged tree.root.side tree.chart.committed tree.chart.staged i) (sym seen) (clean_staged n tree.root tree.chart image clean stores);
+            staged = subst (λ (i : Image). AreStaged (format_of tree.root) tree.chart.committed tree.chart.staged i) (sym seen) (clean_staged n tree.root tree.chart image clean stores);
           },
           ap (map (tile_in (g.seen tree.roots.disk))) clean ∙ ap (λ (i : Image). map (tile_in i) tree.chart.committed) seen,
         ),
@@ -84,20 +85,16 @@ opened g tree n image ready size seen only here rules clean records =
     )
 
 -- the refusals of opening
-pub roots_refuse : (n : ℕ) (image : Image) (why : Refusal) (answer : Result RootValue Refusal) → answer ≡ Err why → (answer ≡ Err refusal.Device) ⊎ OpensAs n image answer → MayRefuse n image why
-roots_refuse n image why answer same opens =
-    ⊎_elim (λ device. inl (let e : Err why ≡ Err refusal.Device = sym same ∙ device in cc)) (λ as_roots. inr (inr (inl (subst (OpensAs n image) same as_roots)))) opens
-
-pub records_refuse : (n : ℕ) (image : Image) (root : RootValue) (why : Refusal) → StoresOpen → OpensAs n image (Ok root) → (n < sectors_of root.side root.capacity) ⊎ IsRefusedFor ((tiles : List TileLocation) → ¬ IsLaidOut n image root tiles) why → MayRefuse n image why
+pub records_refuse : (n : ℕ) (image : Image) (root : RootValue) (why : Refusal) → StoresOpen → OpensAs n image (Ok root) → (n < sectors_asked (format_of root)) ⊎ IsRefusedFor ((tiles : List TileLocation) → ¬ IsLaidOut n image root tiles) why → MayRefuse n image why
 records_refuse n image root why law opens refused =
     ⊎_elim (λ small. let store = (law n image root).0 opens in absurd (omega (arith, small, store.1)))
     (λ other. ⊎_elim (λ device. inl device) (λ rest. ⊎_elim (λ memory. inr (inl memory)) (λ damaged. inr (inr (inr (damaged.0, (root, (opens, damaged.1)))))) rest) other) refused
 
 -- .. where the roots opened as this root, and the image was read from then on
 pub chart_refuses : (n m : ℕ) (image read : Image) (root known : RootValue) (why : Refusal) (Fault : Type 0) → m ≡ n → read ≡ image → root ≡ known → ¬ Fault → Fault ⊎ OpensAs n image (Ok known)
-    → (m < sectors_of root.side root.capacity) ⊎ IsRefusedFor ((tiles : List TileLocation) → ¬ IsLaidOut m read root tiles) why → MayRefuse n image why
+    → (m < sectors_asked (format_of root)) ⊎ IsRefusedFor ((tiles : List TileLocation) → ¬ IsLaidOut m read root tiles) why → MayRefuse n image why
 chart_refuses n m image read root known why Fault size same root_is none opens refused =
-    let F : ℕ → Image → Type 0 = λ k i. (k < sectors_of root.side root.capacity) ⊎ IsRefusedFor ((tiles : List TileLocation) → ¬ IsLaidOut k i root tiles) why in
+    let F : ℕ → Image → Type 0 = λ k i. (k < sectors_asked (format_of root)) ⊎ IsRefusedFor ((tiles : List TileLocation) → ¬ IsLaidOut k i root tiles) why in
     records_refuse n image root why stores_open
     (subst (λ (r : RootValue). OpensAs n image (Ok r)) (sym root_is) (⊎_elim (λ fault. absurd (none fault)) (λ opened. opened) opens))
     (subst (λ (k : ℕ). F k image) size (subst (F m) same refused))
@@ -130,7 +127,7 @@ no_tiles_stand sectors side capacity side_low side_high capacity_low capacity_hi
       A,
       record {
         opened = refl;
-        here = record { rules = record { numbers = numbers; entries = All-nil IsEntry; in_order = λ k d below. absurd (omega arith); sinks = All-nil (IsSink side); sinks_in_order = λ k d below. absurd (omega arith) }; spelled = refl };
+        here = record { rules = record { numbers = numbers; entries = All-nil IsEntry; in_order = λ k d below. absurd (omega arith); sinks = record { few = omega arith; in_order = λ k d below. absurd (omega arith); held = All-nil (IsHeld side) } }; spelled = refl };
         greatest = λ opened. absurd (false≢true opened);
       },
     ) in

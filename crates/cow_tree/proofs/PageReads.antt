@@ -6,11 +6,12 @@ use Rattle.std.proofs.lemmas.List.{length-map, get_or-map}
 use Rattle.std.proofs.lemmas.List.Elements.{All-tail, All-contains}
 use Rattle.disk.specs.Disk.{Image}
 use Rattle.lattice.specs.Corners.{Corner}
+use Rattle.page_codec.specs.Formats.{Format}
 use Rattle.page_codec.specs.Sizes.{pages_of}
 use Rattle.charts.specs.declared.locations.KeptLocations.{KeptLocations}
 use Rattle.charts.specs.declared.plane.Plane.{Plane}
 use Rattle.charts.specs.declared.plane.Plane.TheVariants.{Heights, Levels, Labels}
-use Rattle.charts.specs.Locations.{PlaneLocation, pages_of_plane}
+use Rattle.charts.specs.Locations.{PlaneLocation, pages_behind, pages_of_plane}
 use Rattle.charts.specs.TileLocations.{TileLocation, pages_of_kept, pages_of_tile, reached}
 use Rattle.cow_tree.specs.Layout.{plane_in, kept_in, tile_in}
 use Rattle.charts.specs.Charts.{IsWholeTile, AreWholeKept}
@@ -30,21 +31,21 @@ module _ (P : ℕ → Type 0) (tiles : List TileLocation) (c : Corner) (location
 
   pub plane_pages : (plane : Plane) → HasPlaneAt tiles c plane location → All P location.pages
   plane_pages Heights (t, (has, (corner, at))) =
-      subst (λ (p : PlaneLocation). All P p.pages) at (All-tail P t.heights.record_page t.heights.pages (All-front P (pages_of_plane t.heights) (pages_of_kept t.kept) (of_tile t has)))
+      subst (λ (p : PlaneLocation). All P p.pages) at (All-back P t.heights.index_pages t.heights.pages (All-tail P t.heights.record_page (pages_behind t.heights) (All-front P (pages_of_plane t.heights) (pages_of_kept t.kept) (of_tile t has))))
   plane_pages Levels (t, (has, (corner, (kept, (some, at))))) =
-      subst (λ (p : PlaneLocation). All P p.pages) at (All-tail P kept.levels.record_page kept.levels.pages (All-front P (pages_of_plane kept.levels) (pages_of_plane kept.labels) (of_kept t kept has some)))
+      subst (λ (p : PlaneLocation). All P p.pages) at (All-back P kept.levels.index_pages kept.levels.pages (All-tail P kept.levels.record_page (pages_behind kept.levels) (All-front P (pages_of_plane kept.levels) (pages_of_plane kept.labels) (of_kept t kept has some))))
   plane_pages Labels (t, (has, (corner, (kept, (some, at))))) =
-      subst (λ (p : PlaneLocation). All P p.pages) at (All-tail P kept.labels.record_page kept.labels.pages (All-back P (pages_of_plane kept.levels) (pages_of_plane kept.labels) (of_kept t kept has some)))
+      subst (λ (p : PlaneLocation). All P p.pages) at (All-back P kept.labels.index_pages kept.labels.pages (All-tail P kept.labels.record_page (pages_behind kept.labels) (All-back P (pages_of_plane kept.levels) (pages_of_plane kept.labels) (of_kept t kept has some))))
 
 -- it has all its pages
-module _ (side : ℕ) (tiles : List TileLocation) (c : Corner) (location : PlaneLocation) (all : All (IsWholeTile side) tiles) where
-  whole_kept : (t : TileLocation) (kept : KeptLocations) → Contains tiles t → t.kept ≡ Some kept → AreWholeKept side kept
-  whole_kept t kept has some = let whole : IfSome (Some kept) (AreWholeKept side) = subst (λ (o : Option KeptLocations). IfSome o (AreWholeKept side)) some (All-contains (IsWholeTile side) tiles t all has).kept in whole
+module _ (format : Format) (tiles : List TileLocation) (c : Corner) (location : PlaneLocation) (all : All (IsWholeTile format) tiles) where
+  whole_kept : (t : TileLocation) (kept : KeptLocations) → Contains tiles t → t.kept ≡ Some kept → AreWholeKept format kept
+  whole_kept t kept has some = let whole : IfSome (Some kept) (AreWholeKept format) = subst (λ (o : Option KeptLocations). IfSome o (AreWholeKept format)) some (All-contains (IsWholeTile format) tiles t all has).kept in whole
 
-  pub whole_plane : (plane : Plane) → HasPlaneAt tiles c plane location → length location.pages ≡ pages_of side
-  whole_plane Heights (t, (has, (corner, at))) = subst (λ (p : PlaneLocation). length p.pages ≡ pages_of side) at (All-contains (IsWholeTile side) tiles t all has).heights
-  whole_plane Levels (t, (has, (corner, (kept, (some, at))))) = subst (λ (p : PlaneLocation). length p.pages ≡ pages_of side) at (whole_kept t kept has some).levels
-  whole_plane Labels (t, (has, (corner, (kept, (some, at))))) = subst (λ (p : PlaneLocation). length p.pages ≡ pages_of side) at (whole_kept t kept has some).labels
+  pub whole_plane : (plane : Plane) → HasPlaneAt tiles c plane location → length location.pages ≡ pages_of format.side
+  whole_plane Heights (t, (has, (corner, at))) = subst (λ (p : PlaneLocation). length p.pages ≡ pages_of format.side) at (All-contains (IsWholeTile format) tiles t all has).heights.pages
+  whole_plane Levels (t, (has, (corner, (kept, (some, at))))) = subst (λ (p : PlaneLocation). length p.pages ≡ pages_of format.side) at (whole_kept t kept has some).levels.pages
+  whole_plane Labels (t, (has, (corner, (kept, (some, at))))) = subst (λ (p : PlaneLocation). length p.pages ≡ pages_of format.side) at (whole_kept t kept has some).labels.pages
 
 -- page i, read from where it lies
 module _ (image : Image) (tiles : List TileLocation) (c : Corner) (location : PlaneLocation) (i : ℕ) (bytes : List ℕ) (within : i < length location.pages) (read : bytes ≡ image (get_or location.pages i 0)) where

@@ -4,7 +4,7 @@ use Rattle.disk.specs.Disk.{Image}
 use Rattle.disk.specs.Stops.{nothing_done, nothing_twice}
 use Rattle.disk.specs.declared.disk.Disk.{Ghosts}
 use Rattle.lattice.specs.declared.refusal.Refusal.{Refusal}
-use Rattle.lattice.specs.declared.refusal.Refusal.TheVariants.{Device}
+use Rattle.lattice.specs.declared.refusal.Refusal.TheVariants.{Device, NoMemory, Damaged}
 use Rattle.roots.specs.Roots.{disk_of, has_failed}
 use Rattle.cow_tree.specs.OverRoots.{OnlyReads, IsRefusedFor}
 use Rattle.roots.specs.declared.roots.Roots.{Roots}
@@ -15,6 +15,11 @@ refused_for A B why implies refused = ⊎_elim (λ h. inl h) (λ rest. inr (⊎_
 -- a refusal that is handed on
 pub handed_on : {T E : Type 0} (P : E → Type 0) (r : Result T E) (e : E) → r ≡ Err e → P e → IfErr r P
 handed_on {T} {E} P r e same p = subst (λ (x : Result T E). IfErr x P) (sym same) p
+
+-- the same refusal for another reason
+pub refused_so : {T : Type 0} (P Q : Refusal → Type 0) (r : Result T Refusal) → ((why : Refusal) → P why → Q why) → IfErr r P → IfErr r Q
+refused_so P Q (Ok x) implies refused = tt
+refused_so P Q (Err why) implies refused = implies why refused
 
 -- reads so far, none of them refused
 abbrev pub HasRead : {D : Type 0} (g : Ghosts D) → Roots D g → Roots D g → Type 0
@@ -74,3 +79,10 @@ never_refused {T} {A} x why is = cc
 
 pub works_ok : {T : Type 0} (x : T) (failed : Bool) → (failed ≡ false) ⊎ IsErrOf {T = T} {E = Refusal} (Ok x) Device → failed ≡ false
 works_ok x failed works = ⊎_elim (λ h. h) (λ is. never_refused x Device is) works
+
+-- a call that refused for memory or as Damaged didn't refuse for the disk
+pub not_device : {T A X : Type 0} (r : Result T Refusal) (why : Refusal) → r ≡ Err why → (why ≡ NoMemory) ⊎ ((why ≡ Damaged) × X) → IsErrOf r Device → A
+not_device {T} {A} {X} r why same refused is =
+    let here : IsErrOf {T = T} (Err why) Device = subst (λ (q : Result T Refusal). IsErrOf q Device) same is in
+    let device : why ≡ Device = cc in
+    ⊎_elim (λ memory. (let no : NoMemory ≡ Device = sym memory ∙ device in cc)) (λ damaged. (let no : Damaged ≡ Device = sym damaged.0 ∙ device in cc)) refused

@@ -6,10 +6,11 @@ use Rattle.std.proofs.lemmas.List.Elements.{All-nil, All-cons, All-head, All-tai
 use Rattle.disk.specs.Disk.{Image}
 use Rattle.lattice.specs.Corners.{Corner, is_before}
 use Rattle.page_codec.specs.Entries.{EntryValue}
-use Rattle.page_codec.specs.Roots.{RootValue, AreInOrder}
+use Rattle.page_codec.specs.Roots.{RootValue, AreInOrder, format_of}
 use Rattle.lattice.proofs.Rising.{AllAfter, Rising, rising_from}
 use Rattle.charts.specs.Locations.{times}
-use Rattle.charts.specs.TileLocations.{TileLocation, pages_of_tile, reached, entry_of, KeepsPageRule}
+use Rattle.charts.specs.TileLocations.{TileLocation, pages_of_tile, reached, KeepsPageRule}
+use Rattle.cow_tree.specs.Entries.{entry_of}
 use Rattle.cow_tree.specs.Layout.{HasRecords, IsLaidOut}
 use Rattle.cow_tree.specs.Found.{NoTileAt}
 use Rattle.cow_tree.proofs.Standing.{All-front}
@@ -59,7 +60,7 @@ entry_at (u ∷ rest) zero t e lt here = ap entry_of here
 entry_at (u ∷ rest) (suc k) t e lt here = entry_at rest k t e (omega arith) here
 
 module _ (sectors : ℕ) (image : Image) (root : RootValue) where
-  pub no_next_tile : (k : ℕ) (e : EntryValue) → k < length root.entries → e ≡ get_or root.entries k e → NoTileAt root.side sectors image e → (tiles : List TileLocation) → ¬ IsLaidOut sectors image root tiles
+  pub no_next_tile : (k : ℕ) (e : EntryValue) → k < length root.entries → e ≡ get_or root.entries k e → NoTileAt (format_of root) sectors image e → (tiles : List TileLocation) → ¬ IsLaidOut sectors image root tiles
   no_next_tile k e lt is_e none tiles laid =
       let within : k < length tiles = omega (arith, lt, ap length laid.entries, length-map tiles entry_of) in
       let next = next_tile tiles k within in
@@ -67,7 +68,7 @@ module _ (sectors : ℕ) (image : Image) (root : RootValue) where
       none next.0 same
       (subst (λ (t : TileLocation). All (λ p. 4 ≤ p) (pages_of_tile t)) next.1 (each_tile (λ p. 4 ≤ p) tiles laid.page_rule.low k next.0 within))
       (subst (λ (t : TileLocation). All (λ p. p < sectors) (pages_of_tile t)) next.1 (each_tile (λ p. p < sectors) tiles laid.page_rule.high k next.0 within))
-      (subst (HasRecords root.side image) next.1 (laid.records k next.0 within))
+      (subst (HasRecords (format_of root) image) next.1 (laid.records k next.0 within))
 
   rule_of_first : (k : ℕ) (tiles : List TileLocation) → KeepsPageRule sectors tiles → KeepsPageRule sectors (take k tiles)
   rule_of_first k tiles rule =
@@ -78,10 +79,10 @@ module _ (sectors : ℕ) (image : Image) (root : RootValue) where
         once = λ p. let one = rule.once p in let parts = times-append p (reached (take k tiles)) (reached (drop k tiles)) in let same : times p (reached tiles) ≡ times p (reached (take k tiles) ++ reached (drop k tiles)) = ap (times p) split in omega (arith, one, parts, same);
       }
 
-  pub no_rule : (k : ℕ) (so_far : List TileLocation) (t : TileLocation) → map entry_of (so_far ++ t ∷ []) ≡ take (k + 1) root.entries → All (HasRecords root.side image) so_far → HasRecords root.side image t → ¬ KeepsPageRule sectors (so_far ++ t ∷ [])
+  pub no_rule : (k : ℕ) (so_far : List TileLocation) (t : TileLocation) → map entry_of (so_far ++ t ∷ []) ≡ take (k + 1) root.entries → All (HasRecords (format_of root) image) so_far → HasRecords (format_of root) image t → ¬ KeepsPageRule sectors (so_far ++ t ∷ [])
       → (tiles : List TileLocation) → ¬ IsLaidOut sectors image root tiles
   no_rule k so_far t entries records has none tiles laid =
       let same : take (k + 1) tiles ≡ so_far ++ t ∷ [] =
-      one_layout root.side image (take (k + 1) tiles) (so_far ++ t ∷ []) (All-take (HasRecords root.side image) (k + 1) tiles laid.records) (All-push (HasRecords root.side image) so_far t records has)
+      one_layout (format_of root) image (take (k + 1) tiles) (so_far ++ t ∷ []) (All-take (HasRecords (format_of root) image) (k + 1) tiles laid.records) (All-push (HasRecords (format_of root) image) so_far t records has)
       (sym (take-map entry_of (k + 1) tiles) ∙ ap (take (k + 1)) laid.entries ∙ sym entries) in
       none (subst (KeepsPageRule sectors) same (rule_of_first (k + 1) tiles laid.page_rule))

@@ -1,28 +1,34 @@
 -- The records that a commit writes, and what else the staged tiles reach.
-use Rattle.std.proofs.Common.{◌≡◌, ◌≢◌, ⊎_elim, Option, ℕ, zero, suc, ◌+◌, ◌<◌, ◌≤◌, Bool, true, false, cond, if◌then◌else◌, List, [], ◌∷◌, ◌++◌, All, Contains, length, get_or, map, not, ◌==◌, IfSome, refl, sym, ap, ap₂, ◌∙◌, subst, arith}
+use Rattle.std.proofs.Common.{◌≡◌, ◌≢◌, ⊎_elim, Option, ℕ, zero, suc, ◌+◌, ◌<◌, ◌≤◌, ◌^◌, Bool, true, false, cond, if◌then◌else◌, List, [], ◌∷◌, ◌++◌, All, Contains, length, get_or, map, not, ◌==◌, IfSome, refl, sym, ap, ap₂, ◌∙◌, subst, arith}
 use Rattle.std.specs.List.{filter, flat_map, list_any}
 use Rattle.std.proofs.lemmas.Bool.{cases_eq}
 use Rattle.std.proofs.lemmas.Bool.Decides.{nat_tests}
 use Rattle.std.proofs.lemmas.List.{length-map, get_or_default}
 use Rattle.std.proofs.lemmas.List.Folds.{list_any_at}
-use Rattle.std.proofs.lemmas.List.Elements.{All-nil, All-cons, All-head, All-tail, All-contains, All-contains_itself, All-filter, filter_passes}
+use Rattle.std.proofs.lemmas.List.Elements.{All-nil, All-cons, All-head, All-tail, All-contains, All-contains_itself, All-filter, All-append, filter_passes}
 use Rattle.disk.specs.Disk.{Image}
-use Rattle.page_codec.specs.Records.{IsRecord, record_bytes}
-use Rattle.page_codec.specs.Sizes.{pages_of}
+use Rattle.layout.specs.declared.version.Version.TheVariants.{One}
+use Rattle.page_codec.specs.Records.{record_bytes}
+use Rattle.page_codec.specs.Sizes.{pages_of, index_pages_by}
 use Rattle.lattice.specs.Corners.{Corner}
-use Rattle.charts.specs.Locations.{PlaneLocation, pages_of_plane, times}
+use Rattle.page_codec.specs.Formats.{Format}
+use Rattle.charts.specs.Locations.{PlaneLocation, IsWholePlane, pages_behind, pages_of_plane, times}
 use Rattle.charts.specs.TileLocations.{TileLocation, pages_of_kept, pages_of_tile, reached}
-use Rattle.cow_tree.specs.Layout.{HasRecord, HaveKeptRecords, HasRecords, tile_in}
+use Rattle.cow_tree.specs.Layout.{HasRecord, HaveKeptRecords, HasRecords, IsIndexed, listed_by, tile_in}
 use Rattle.cow_tree.specs.Stored.{StoredTile, PlanePages, KeptPlanes}
-use Rattle.charts.specs.Charts.{ChartValue, IsChart, HasHeights, IsLocated, is_changed, fresh_corners}
-use Rattle.cow_tree.specs.Staged.{changed_tiles, record_pages}
+use Rattle.charts.specs.Charts.{ChartValue, IsChart, HasHeights, IsLocated, is_changed, is_unreached, fresh_corners}
+use Rattle.cow_tree.specs.Staged.{SharesIndex, IsRecorded, changed_tiles, record_pages, due_of}
 use Rattle.cow_tree.proofs.Standing.{SameOn, All-front, All-back, map_same, kept_same, record_same, kept_records_same}
 use Rattle.charts.proofs.Occurrences.{times-append, times_other, stands_there, once_apart}
 use Rattle.cow_tree.proofs.Tiles.{each_tile, unfiltered, one_at_corner}
 
--- what of a tile isn't written: its pages and the records of its kept planes, and its record if that is committed
+-- the index pages of a tile that committed tiles reach
+abbrev shared_index : List TileLocation → TileLocation → List ℕ
+shared_index committed t = filter (λ q. not (is_unreached committed q)) t.heights.index_pages
+
+-- what of a tile isn't written: its pages and its kept planes, its record and index pages if they are committed
 abbrev pub unwritten : List TileLocation → TileLocation → List ℕ
-unwritten committed t = (if is_changed committed t then [] else t.heights.record_page ∷ []) ++ (t.heights.pages ++ pages_of_kept t.kept)
+unwritten committed t = (if is_changed committed t then shared_index committed t else t.heights.record_page ∷ t.heights.index_pages) ++ (t.heights.pages ++ pages_of_kept t.kept)
 
 -- what holds of a number that stands there
 pub at_times : (P : ℕ → Type 0) (q : ℕ) (xs : List ℕ) → All P xs → 1 ≤ times q xs → P q
@@ -35,50 +41,72 @@ at_times P q (x ∷ xs) all some =
 pub all_at_times : (P : ℕ → Type 0) (xs : List ℕ) → ((q : ℕ) → 1 ≤ times q xs → P q) → All P xs
 all_at_times P xs each k d lt = each _ (stands_there _ xs (All-contains_itself xs k d lt))
 
--- the pages of a tile are its record's, if it is written, and the others
-split_tile : (committed : List TileLocation) (t : TileLocation) (q : ℕ) → times q (if is_changed committed t then t.heights.record_page ∷ [] else []) + times q (unwritten committed t) ≡ times q (pages_of_tile t)
+-- the numbers that pass a test, and the others
+times_parted : (q : ℕ) (test : ℕ → Bool) (xs : List ℕ) → times q (filter test xs) + times q (filter (λ x. not (test x)) xs) ≡ times q xs
+times_parted q test [] = omega arith
+times_parted q test (x ∷ xs) =
+    let later = times_parted q test xs in
+    elim (test x) as (λ (v : Bool). times q (cond v (x ∷ filter test xs) (filter test xs)) + times q (cond (not v) (x ∷ filter (λ y. not (test y)) xs) (filter (λ y. not (test y)) xs)) ≡ times q (x ∷ xs)) [
+      | true ↦ (let here = times-append q (x ∷ []) (filter test xs) in let all = times-append q (x ∷ []) xs in omega (arith, later, here, all))
+      | false ↦ (let here = times-append q (x ∷ []) (filter (λ y. not (test y)) xs) in let all = times-append q (x ∷ []) xs in omega (arith, later, here, all))
+    ]
+
+-- the pages of a tile are those that are written, if it is changed, and the others
+split_tile : (committed : List TileLocation) (t : TileLocation) (q : ℕ) → times q (if is_changed committed t then due_of committed t else []) + times q (unwritten committed t) ≡ times q (pages_of_tile t)
 split_tile committed t q =
     let whole = times-append q (pages_of_plane t.heights) (pages_of_kept t.kept) in
-    let front = times-append q (t.heights.record_page ∷ []) t.heights.pages in
-    let behind = times-append q t.heights.pages (pages_of_kept t.kept) in
-    by_test (is_changed committed t) whole front behind
-  where
-    by_test : (v : Bool) → times q (pages_of_plane t.heights ++ pages_of_kept t.kept) ≡ times q (pages_of_plane t.heights) + times q (pages_of_kept t.kept)
-        → times q ((t.heights.record_page ∷ []) ++ t.heights.pages) ≡ times q (t.heights.record_page ∷ []) + times q t.heights.pages
-        → times q (t.heights.pages ++ pages_of_kept t.kept) ≡ times q t.heights.pages + times q (pages_of_kept t.kept)
-        → times q (if v then t.heights.record_page ∷ [] else []) + times q ((if v then [] else t.heights.record_page ∷ []) ++ (t.heights.pages ++ pages_of_kept t.kept)) ≡ times q (pages_of_tile t)
-    by_test true whole front behind = omega (arith, whole, front, behind)
-    by_test false whole front behind = let rest = times-append q (t.heights.record_page ∷ []) (t.heights.pages ++ pages_of_kept t.kept) in omega (arith, whole, front, behind, rest)
+    let plane = times-append q (t.heights.record_page ∷ []) (pages_behind t.heights) in
+    let behind = times-append q t.heights.index_pages t.heights.pages in
+    let rest = times-append q t.heights.pages (pages_of_kept t.kept) in
+    let parts = times_parted q (is_unreached committed) t.heights.index_pages in
+    let due = times-append q (t.heights.record_page ∷ []) (filter (is_unreached committed) t.heights.index_pages) in
+    let shared = times-append q (shared_index committed t) (t.heights.pages ++ pages_of_kept t.kept) in
+    let front = times-append q (t.heights.record_page ∷ t.heights.index_pages) (t.heights.pages ++ pages_of_kept t.kept) in
+    let first = times-append q (t.heights.record_page ∷ []) t.heights.index_pages in
+    elim (is_changed committed t) as (λ (v : Bool). times q (if v then due_of committed t else []) + times q ((if v then shared_index committed t else t.heights.record_page ∷ t.heights.index_pages) ++ (t.heights.pages ++ pages_of_kept t.kept)) ≡ times q (pages_of_tile t)) [
+      | true ↦ omega (arith, whole, plane, behind, rest, parts, due, shared)
+      | false ↦ omega (arith, whole, plane, behind, rest, front, first)
+    ]
 
-pub split_reached : (committed tiles : List TileLocation) (q : ℕ) → times q (record_pages (filter (is_changed committed) tiles)) + times q (flat_map (unwritten committed) tiles) ≡ times q (reached tiles)
+pub split_reached : (committed tiles : List TileLocation) (q : ℕ) → times q (flat_map (due_of committed) (filter (is_changed committed) tiles)) + times q (flat_map (unwritten committed) tiles) ≡ times q (reached tiles)
 split_reached committed [] q = omega arith
 split_reached committed (t ∷ rest) q =
     let later = split_reached committed rest q in
     let here = split_tile committed t q in
     let whole = times-append q (pages_of_tile t) (reached rest) in
     let others = times-append q (unwritten committed t) (flat_map (unwritten committed) rest) in
-    let records : times q (record_pages (filter (is_changed committed) (t ∷ rest))) ≡ times q (if is_changed committed t then t.heights.record_page ∷ [] else []) + times q (record_pages (filter (is_changed committed) rest)) = by_test (is_changed committed t) in
-    omega (arith, later, here, whole, others, records)
+    let due : times q (flat_map (due_of committed) (filter (is_changed committed) (t ∷ rest))) ≡ times q (if is_changed committed t then due_of committed t else []) + times q (flat_map (due_of committed) (filter (is_changed committed) rest)) = by_test (is_changed committed t) in
+    omega (arith, later, here, whole, others, due)
   where
-    by_test : (v : Bool) → times q (record_pages (cond v (t ∷ filter (is_changed committed) rest) (filter (is_changed committed) rest))) ≡ times q (if v then t.heights.record_page ∷ [] else []) + times q (record_pages (filter (is_changed committed) rest))
-    by_test true = let split = times-append q (t.heights.record_page ∷ []) (record_pages (filter (is_changed committed) rest)) in omega (arith, split)
+    by_test : (v : Bool) → times q (flat_map (due_of committed) (cond v (t ∷ filter (is_changed committed) rest) (filter (is_changed committed) rest))) ≡ times q (if v then due_of committed t else []) + times q (flat_map (due_of committed) (filter (is_changed committed) rest))
+    by_test true = times-append q (due_of committed t) (flat_map (due_of committed) (filter (is_changed committed) rest))
     by_test false = omega arith
 
--- pages that stay where only records are written
+-- the records are among what is written
+pub records_due_too : (committed xs : List TileLocation) (q : ℕ) → times q (record_pages xs) ≤ times q (flat_map (due_of committed) xs)
+records_due_too committed [] q = omega arith
+records_due_too committed (t ∷ rest) q =
+    let later = records_due_too committed rest q in
+    let here = times-append q (due_of committed t) (flat_map (due_of committed) rest) in
+    let due = times-append q (t.heights.record_page ∷ []) (filter (is_unreached committed) t.heights.index_pages) in
+    let records = times-append q (t.heights.record_page ∷ []) (record_pages rest) in
+    omega (arith, later, here, due, records)
+
+-- pages that stay where only what is due is written
 module _ (committed tiles : List TileLocation) (a b : Image) where
-  pub unwritten_same : All (λ q. 4 ≤ q) (reached tiles) → ((q : ℕ) → times q (reached tiles) ≤ 1) → ((q : ℕ) → 4 ≤ q → times q (record_pages (filter (is_changed committed) tiles)) ≡ 0 → a q ≡ b q) → SameOn (flat_map (unwritten committed) tiles) a b
+  pub unwritten_same : All (λ q. 4 ≤ q) (reached tiles) → ((q : ℕ) → times q (reached tiles) ≤ 1) → ((q : ℕ) → 4 ≤ q → times q (flat_map (due_of committed) (filter (is_changed committed) tiles)) ≡ 0 → a q ≡ b q) → SameOn (flat_map (unwritten committed) tiles) a b
   unwritten_same low once others =
       all_at_times (λ q. a q ≡ b q) (flat_map (unwritten committed) tiles)
       (λ q some. let split = split_reached committed tiles q in let one = once q in
       others q (at_times (λ p. 4 ≤ p) q (reached tiles) low (omega (arith, split, some))) (omega (arith, split, some, one)))
 
--- a tile whose record is written, and nothing else of it
-behind_record : (committed : List TileLocation) (t : TileLocation) (a b : Image) → SameOn (unwritten committed t) a b → SameOn (t.heights.pages ++ pages_of_kept t.kept) a b
-behind_record committed t a b same = All-back (λ q. a q ≡ b q) (if is_changed committed t then [] else t.heights.record_page ∷ []) (t.heights.pages ++ pages_of_kept t.kept) same
+-- a tile whose record and index pages are written, and nothing else of it
+behind_index : (committed : List TileLocation) (t : TileLocation) (a b : Image) → SameOn (unwritten committed t) a b → SameOn (t.heights.pages ++ pages_of_kept t.kept) a b
+behind_index committed t a b same = All-back (λ q. a q ≡ b q) (if is_changed committed t then shared_index committed t else t.heights.record_page ∷ t.heights.index_pages) (t.heights.pages ++ pages_of_kept t.kept) same
 
 pub recorded_tile : (committed : List TileLocation) (t : TileLocation) (a b : Image) → SameOn (unwritten committed t) a b → tile_in a t ≡ tile_in b t
 recorded_tile committed t a b same =
-    let rest = behind_record committed t a b same in
+    let rest = behind_index committed t a b same in
     ap₂ (λ (x : PlanePages) (y : Option KeptPlanes). record { corner = t.corner; heights = x; kept = y })
     (map_same t.heights.pages a b (All-front (λ q. a q ≡ b q) t.heights.pages (pages_of_kept t.kept) rest))
     (kept_same t.kept a b (All-back (λ q. a q ≡ b q) t.heights.pages (pages_of_kept t.kept) rest))
@@ -90,30 +118,67 @@ recorded_tiles committed (t ∷ rest) a b same =
     (recorded_tile committed t a b (All-front (λ q. a q ≡ b q) (unwritten committed t) (flat_map (unwritten committed) rest) same))
     (recorded_tiles committed rest a b (All-back (λ q. a q ≡ b q) (unwritten committed t) (flat_map (unwritten committed) rest) same))
 
--- all records stand there after it
-has_record : (n : ℕ) (committed : List TileLocation) (t : TileLocation) (a b : Image) → SameOn (unwritten committed t) a b
-    → (is_changed committed t ≡ false → HasRecord n a t.heights) → (is_changed committed t ≡ true → b t.heights.record_page ≡ record_bytes t.heights.pages) → IsRecord (pages_of n) t.heights.pages → HasRecord n b t.heights
-has_record n committed t a b same was written fits =
-    elim (is_changed committed t) as (λ (v : Bool). is_changed committed t ≡ v → SameOn ((if v then [] else t.heights.record_page ∷ []) ++ (t.heights.pages ++ pages_of_kept t.kept)) a b → HasRecord n b t.heights) [
-      | true ↦ λ here _. (fits, written here)
-      | false ↦ λ other same. record_same n t.heights a b (All-head (λ q. a q ≡ b q) t.heights.record_page (t.heights.pages ++ pages_of_kept t.kept) same) (was other)
-    ] refl same
+-- a whole plane whose page numbers can be spelt
+pub record CanBeSpelt (format : Format) (p : PlaneLocation) : Type 0 where
+  pub whole : IsWholePlane format p
+  pub each : All (λ q. q < 2 ^ 32) (pages_behind p)
 
-pub recorded : (n : ℕ) (committed tiles : List TileLocation) (a b : Image) → SameOn (flat_map (unwritten committed) tiles) a b
-    → All (λ t. is_changed committed t ≡ false → HasRecord n a t.heights) tiles → All (λ t. IfSome t.kept (HaveKeptRecords n a)) tiles
-    → All (λ t. is_changed committed t ≡ true → b t.heights.record_page ≡ record_bytes t.heights.pages) tiles → All (λ t. IsRecord (pages_of n) t.heights.pages) tiles → All (HasRecords n b) tiles
-recorded n committed [] a b same was kept written fits = All-nil (HasRecords n b)
-recorded n committed (t ∷ rest) a b same was kept written fits =
+-- an index page that was written, or is shared and stays
+index_stands : (committed : List TileLocation) (h : PlaneLocation) (a b : Image) → SameOn (filter (λ q. not (is_unreached committed q)) h.index_pages) a b → SharesIndex committed a h
+    → ((k : ℕ) → k < length h.index_pages → is_unreached committed (get_or h.index_pages k 0) ≡ true → IsIndexed b h k) → (k : ℕ) → k < length h.index_pages → IsIndexed b h k
+index_stands committed h a b same shares wrote k lt =
+    elim (is_unreached committed (get_or h.index_pages k 0)) as (λ (v : Bool). is_unreached committed (get_or h.index_pages k 0) ≡ v → IsIndexed b h k) [
+      | true ↦ λ fresh. wrote k lt fresh
+      | false ↦ λ shared. sym (unfiltered (λ q. not (is_unreached committed q)) (λ q. a q ≡ b q) h.index_pages same k 0 lt (ap not shared)) ∙ shares k lt shared
+    ] refl
+
+-- all records stand there after it
+has_record : (format : Format) (committed : List TileLocation) (t : TileLocation) (a b : Image) → SameOn (unwritten committed t) a b
+    → (is_changed committed t ≡ false → HasRecord format a t.heights) → SharesIndex committed a t.heights → (is_changed committed t ≡ true → IsRecorded format committed b t.heights) → CanBeSpelt format t.heights → HasRecord format b t.heights
+has_record format committed t a b same was shares written fits =
+    elim (is_changed committed t) as (λ (v : Bool). is_changed committed t ≡ v → SameOn ((if v then shared_index committed t else t.heights.record_page ∷ t.heights.index_pages) ++ (t.heights.pages ++ pages_of_kept t.kept)) a b → HasRecord format b t.heights) [
+      | true ↦ λ here same. record {
+        whole = fits.whole;
+        each = fits.each;
+        listed = (written here).listed;
+        indexed = index_stands committed t.heights a b (All-front (λ q. a q ≡ b q) (shared_index committed t) (t.heights.pages ++ pages_of_kept t.kept) same) shares (written here).indexed;
+      }
+      | false ↦ λ other same. record_same format t.heights a b (whole_same same) (was other)
+    ] refl same
+  where
+    whole_same : SameOn ((t.heights.record_page ∷ t.heights.index_pages) ++ (t.heights.pages ++ pages_of_kept t.kept)) a b → SameOn (pages_of_plane t.heights) a b
+    whole_same same =
+        let front = All-front (λ q. a q ≡ b q) (t.heights.record_page ∷ t.heights.index_pages) (t.heights.pages ++ pages_of_kept t.kept) same in
+        let back = All-back (λ q. a q ≡ b q) (t.heights.record_page ∷ t.heights.index_pages) (t.heights.pages ++ pages_of_kept t.kept) same in
+        All-append (λ q. a q ≡ b q) (t.heights.record_page ∷ t.heights.index_pages) t.heights.pages front (All-front (λ q. a q ≡ b q) t.heights.pages (pages_of_kept t.kept) back)
+
+pub recorded : (format : Format) (committed tiles : List TileLocation) (a b : Image) → SameOn (flat_map (unwritten committed) tiles) a b
+    → All (λ t. is_changed committed t ≡ false → HasRecord format a t.heights) tiles → All (λ t. SharesIndex committed a t.heights) tiles → All (λ t. IfSome t.kept (HaveKeptRecords format a)) tiles
+    → All (λ t. is_changed committed t ≡ true → IsRecorded format committed b t.heights) tiles → All (λ t. CanBeSpelt format t.heights) tiles → All (HasRecords format b) tiles
+recorded format committed [] a b same was shares kept written fits = All-nil (HasRecords format b)
+recorded format committed (t ∷ rest) a b same was shares kept written fits =
     let here : SameOn (unwritten committed t) a b = All-front (λ q. a q ≡ b q) (unwritten committed t) (flat_map (unwritten committed) rest) same in
     let later : SameOn (flat_map (unwritten committed) rest) a b = All-back (λ q. a q ≡ b q) (unwritten committed t) (flat_map (unwritten committed) rest) same in
-    All-cons (HasRecords n b) t rest
+    All-cons (HasRecords format b) t rest
     (record {
-      heights = has_record n committed t a b here (All-head (λ t. is_changed committed t ≡ false → HasRecord n a t.heights) t rest was)
-          (All-head (λ t. is_changed committed t ≡ true → b t.heights.record_page ≡ record_bytes t.heights.pages) t rest written) (All-head (λ t. IsRecord (pages_of n) t.heights.pages) t rest fits);
-      kept = kept_records_same n t.kept a b (All-back (λ q. a q ≡ b q) t.heights.pages (pages_of_kept t.kept) (behind_record committed t a b here)) (All-head (λ t. IfSome t.kept (HaveKeptRecords n a)) t rest kept);
+      heights = has_record format committed t a b here (All-head (λ t. is_changed committed t ≡ false → HasRecord format a t.heights) t rest was) (All-head (λ t. SharesIndex committed a t.heights) t rest shares)
+          (All-head (λ t. is_changed committed t ≡ true → IsRecorded format committed b t.heights) t rest written) (All-head (λ t. CanBeSpelt format t.heights) t rest fits);
+      kept = kept_records_same format t.kept a b (All-back (λ q. a q ≡ b q) t.heights.pages (pages_of_kept t.kept) (behind_index committed t a b here)) (All-head (λ t. IfSome t.kept (HaveKeptRecords format a)) t rest kept);
     })
-    (recorded n committed rest a b later (All-tail (λ t. is_changed committed t ≡ false → HasRecord n a t.heights) t rest was) (All-tail (λ t. IfSome t.kept (HaveKeptRecords n a)) t rest kept)
-    (All-tail (λ t. is_changed committed t ≡ true → b t.heights.record_page ≡ record_bytes t.heights.pages) t rest written) (All-tail (λ t. IsRecord (pages_of n) t.heights.pages) t rest fits))
+    (recorded format committed rest a b later (All-tail (λ t. is_changed committed t ≡ false → HasRecord format a t.heights) t rest was) (All-tail (λ t. SharesIndex committed a t.heights) t rest shares)
+    (All-tail (λ t. IfSome t.kept (HaveKeptRecords format a)) t rest kept)
+    (All-tail (λ t. is_changed committed t ≡ true → IsRecorded format committed b t.heights) t rest written) (All-tail (λ t. CanBeSpelt format t.heights) t rest fits))
+
+-- in the first version the record is all that is due
+pub first_recorded : (chart : ChartValue) → IsChart chart → chart.format.version ≡ One → (image : Image) → All (λ t. is_changed chart.committed t ≡ true → image t.heights.record_page ≡ record_bytes t.heights.pages) chart.staged
+    → All (λ t. is_changed chart.committed t ≡ true → IsRecorded chart.format chart.committed image t.heights) chart.staged
+first_recorded chart rules one image wrote k d lt changed =
+    let t : TileLocation = get_or chart.staged k d in
+    let none : length t.heights.index_pages ≡ 0 = (rules.staged.whole k d lt).heights.index_pages ∙ ap (λ v. index_pages_by v (pages_of chart.format.side)) one in
+    record {
+      listed = wrote k d lt changed ∙ sym (ap (λ v. record_bytes (listed_by v t.heights)) one);
+      indexed = λ j below fresh. absurd (omega (arith, below, none));
+    }
 
 -- the k-th of the tiles whose records are written
 get_or-map : {X Y : Type 0} (f : X → Y) (xs : List X) (k : ℕ) (x : X) (d : Y) → k < length xs → get_or xs k x ≡ x → get_or (map f xs) k d ≡ f x
@@ -148,7 +213,7 @@ changed_at chart rules k c plane lt is_c had =
 
 -- its record page
 pub record_page_of : (chart : ChartValue) → IsChart chart → (P : ℕ → Type 0) (t : TileLocation) → All P (reached chart.staged) → Contains chart.staged t → P t.heights.record_page
-record_page_of chart rules P t all staged = All-head P t.heights.record_page (t.heights.pages ++ pages_of_kept t.kept) (All-contains (λ u. All P (pages_of_tile u)) chart.staged t (each_tile P chart.staged all) staged)
+record_page_of chart rules P t all staged = All-head P t.heights.record_page (pages_behind t.heights ++ pages_of_kept t.kept) (All-contains (λ u. All P (pages_of_tile u)) chart.staged t (each_tile P chart.staged all) staged)
 
 pub changed_unreached : (committed : List TileLocation) (t : TileLocation) → is_changed committed t ≡ true → ¬ Contains (reached committed) t.heights.record_page
 changed_unreached committed t changed has =
@@ -160,7 +225,10 @@ changed_unreached committed t changed has =
     equal p q same = grind (arith, nat_tests)
 
 pub records_once : (chart : ChartValue) → IsChart chart → (p : ℕ) → times p (record_pages (changed_tiles chart)) ≤ 1
-records_once chart rules p = let split = split_reached chart.committed chart.staged p in let one = rules.staged.page_rule.once p in omega (arith, split, one)
+records_once chart rules p =
+    let split = split_reached chart.committed chart.staged p in
+    let one = rules.staged.page_rule.once p in
+    omega (arith, split, one, records_due_too chart.committed (changed_tiles chart) p)
 
 pub among_records : (chart : ChartValue) (k : ℕ) (t : TileLocation) → k < length (fresh_corners chart) → get_or (changed_tiles chart) k t ≡ t → 1 ≤ times t.heights.record_page (record_pages (changed_tiles chart))
 among_records chart k t lt here =

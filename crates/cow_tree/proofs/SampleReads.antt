@@ -10,6 +10,7 @@ use Rattle.std.proofs.Math.Seq.{take-add}
 use borrow.Rule.Slice.PartMut.{put_mid}
 use Rattle.std.proofs.lemmas.List.Elements.{All-head, All-tail, All-contains}
 use Rattle.lattice.specs.Corners.{Corner, same_corner}
+use Rattle.lattice.specs.declared.point.Point.{Point}
 use Rattle.lattice.specs.Mosaic.{Tile, Mosaic, IsMosaic, IsTile, samples_among, samples_of}
 use Rattle.hgt.specs.Bytes.{sample_of, samples_in}
 use Rattle.hgt.proofs.BytesLemmas.{get_or-samples_in}
@@ -39,11 +40,11 @@ samples_there (u ∷ rest) t rising (suc k, lt, here) =
 abbrev tile_of : ℕ → StoredTile → Tile
 tile_of n t = record { corner = t.corner; samples = samples_of_plane n t.heights }
 
-module _ (n : ℕ) (tiles : List StoredTile) (c : Corner) (t : StoredTile) (valid : IsMosaic (mosaic_of_tiles n tiles)) (has : Contains tiles t) (corner : t.corner ≡ c) where
+module _ (n : ℕ) (sinks : List Point) (tiles : List StoredTile) (c : Corner) (t : StoredTile) (valid : IsMosaic (mosaic_of_tiles n sinks tiles)) (has : Contains tiles t) (corner : t.corner ≡ c) where
   among : Contains (map (tile_of n) tiles) (tile_of n t)
   among = contains-map (tile_of n) tiles t has
 
-  pub samples_are : samples_of (mosaic_of_tiles n tiles) c ≡ Some (samples_of_plane n t.heights)
+  pub samples_are : samples_of (mosaic_of_tiles n sinks tiles) c ≡ Some (samples_of_plane n t.heights)
   samples_are = subst (λ (d : Corner). samples_among (map (tile_of n) tiles) d ≡ Some (samples_of_plane n t.heights)) corner (samples_there (map (tile_of n) tiles) (tile_of n t) (rising_from corner_of (map (tile_of n) tiles) valid.in_order) among)
 
   pub as_many : length (samples_of_plane n t.heights) ≡ n * n
@@ -68,7 +69,7 @@ byte_at (p ∷ rest) (suc i) r all lt small =
     ap (λ (m : ℕ). get_or (p ++ concat rest) m 0) location ∙ get_or-append-add p (concat rest) (4096 * i + r) 0 ∙ byte_at rest i r (All-tail IsPage p rest all) (omega arith) small
 
 -- ---- samples read from one page
-module _ (n : ℕ) (tiles : List StoredTile) (c : Corner) (first len from : ℕ) (page : List ℕ) (into : List ℤ) (valid : IsMosaic (mosaic_of_tiles n tiles)) (whole : AreWhole tiles)
+module _ (n : ℕ) (sinks : List Point) (tiles : List StoredTile) (c : Corner) (first len from : ℕ) (page : List ℕ) (into : List ℤ) (valid : IsMosaic (mosaic_of_tiles n sinks tiles)) (whole : AreWhole tiles)
     (from_is : from ≡ 2 * (first % 2048)) (one_page : first % 2048 + len ≤ 2048) (range : first + len ≤ n * n) (many : length into ≡ len) (read : into ≡ samples_in (slice_range page from (from + 2 * len))) where
   module _ (t : StoredTile) (has : Contains tiles t) (corner : t.corner ≡ c) (found : slice_get t.heights (first / 2048) ≡ Some page) where
     pages : All IsPage t.heights
@@ -92,7 +93,7 @@ module _ (n : ℕ) (tiles : List StoredTile) (c : Corner) (first len from : ℕ)
 
     sample_at : (k : ℕ) (d : ℤ) → k < len → get_or (samples_of_plane n t.heights) (first + k) d ≡ get_or into k d
     sample_at k d lt =
-        let many_all = as_many n tiles c t valid has corner in
+        let many_all = as_many n sinks tiles c t valid has corner in
         let two : 2 * (first + k) + 1 < length (plane_bytes n t.heights) = pairs_within (plane_bytes n t.heights) (first + k) (omega arith) in
         let split : 2048 * (first / 2048) + first % 2048 ≡ first = omega arith in
         get_or-samples_in (plane_bytes n t.heights) (first + k) d two
@@ -105,16 +106,16 @@ module _ (n : ℕ) (tiles : List StoredTile) (c : Corner) (first len from : ℕ)
     part_is : slice_range (samples_of_plane n t.heights) first (first + length into) ≡ into
     part_is =
         let all : List ℤ = samples_of_plane n t.heights in
-        let many_all : length all ≡ n * n = as_many n tiles c t valid has corner in
+        let many_all : length all ≡ n * n = as_many n sinks tiles c t valid has corner in
         same_lists (slice_range all first (first + length into)) into
         (omega (arith, length-take (first + length into - first) (drop first all), length-drop first all, many_all, many, range))
         (λ k d lt. (
         let small : k < len = omega (arith, lt, length-take (first + length into - first) (drop first all), length-drop first all, many_all, many, range) in
         get_or-take (first + length into - first) (drop first all) k d (omega (arith, small, many)) ∙ get_or-drop first all k d ∙ sample_at k d small))
 
-  pub part_read : HasPage tiles c Heights (first / 2048) page → (all : List ℤ) → samples_of (mosaic_of_tiles n tiles) c ≡ Some all → slice_range all first (first + length into) ≡ into
+  pub part_read : HasPage tiles c Heights (first / 2048) page → (all : List ℤ) → samples_of (mosaic_of_tiles n sinks tiles) c ≡ Some all → slice_range all first (first + length into) ≡ into
   part_read (t, (has, (corner, (pages, (at, found))))) all is =
-      let same : Some all ≡ Some (samples_of_plane n t.heights) = sym is ∙ samples_are n tiles c t valid has corner in
+      let same : Some all ≡ Some (samples_of_plane n t.heights) = sym is ∙ samples_are n sinks tiles c t valid has corner in
       let all_is : all ≡ samples_of_plane n t.heights = cc in
       subst (λ (l : List ℤ). slice_range l first (first + length into) ≡ into) (sym all_is)
       (part_is t has corner (ap (λ (p : PlanePages). slice_get p (first / 2048)) at ∙ found))

@@ -3,11 +3,12 @@ use Rattle.std.proofs.Common.{◌≡◌, ◌≢◌, ℕ, ◌+◌, ◌≤◌, Lis
 use Rattle.std.proofs.lemmas.List.{length-append, get_or_append_left, get_or-append-add}
 use Rattle.std.proofs.lemmas.List.Elements.{All-nil, All-cons, All-head, All-tail, All-contains_itself}
 use Rattle.disk.specs.Disk.{Image}
-use Rattle.page_codec.specs.Roots.{RootValue}
+use Rattle.page_codec.specs.Formats.{Format}
+use Rattle.page_codec.specs.Roots.{RootValue, format_of}
 use Rattle.roots.specs.Slots.{SamePages, SamePagesBut, KeepsAll, KeepsBut, IsCurrent}
 use Rattle.cow_tree.specs.Stored.{PlanePages, KeptPlanes, StoredTile, Stored}
 use Rattle.charts.specs.declared.locations.KeptLocations.{KeptLocations}
-use Rattle.charts.specs.Locations.{PlaneLocation, pages_of_plane}
+use Rattle.charts.specs.Locations.{PlaneLocation, pages_behind, pages_of_plane}
 use Rattle.charts.specs.TileLocations.{TileLocation, pages_of_kept, pages_of_tile, reached}
 use Rattle.cow_tree.specs.Layout.{HasRecord, HaveKeptRecords, HasRecords, plane_in, kept_in, tile_in, StoresAt}
 
@@ -26,7 +27,7 @@ map_same [] a b same = refl
 map_same (p ∷ rest) a b same = ap₂ (λ (x : List ℕ) (xs : List (List ℕ)). x ∷ xs) (All-head (λ q. a q ≡ b q) p rest same) (map_same rest a b (All-tail (λ q. a q ≡ b q) p rest same))
 
 pub plane_same : (p : PlaneLocation) (a b : Image) → SameOn (pages_of_plane p) a b → plane_in a p ≡ plane_in b p
-plane_same p a b same = map_same p.pages a b (All-tail (λ q. a q ≡ b q) p.record_page p.pages same)
+plane_same p a b same = map_same p.pages a b (All-back (λ q. a q ≡ b q) p.index_pages p.pages (All-tail (λ q. a q ≡ b q) p.record_page (pages_behind p) same))
 
 pub kept_same : (kept : Option KeptLocations) (a b : Image) → SameOn (pages_of_kept kept) a b → kept_in a kept ≡ kept_in b kept
 kept_same None a b same = refl
@@ -48,28 +49,35 @@ tiles_same (t ∷ rest) a b same =
     (tile_same t a b (All-front (λ q. a q ≡ b q) (pages_of_tile t) (reached rest) same))
     (tiles_same rest a b (All-back (λ q. a q ≡ b q) (pages_of_tile t) (reached rest) same))
 
-pub record_same : (n : ℕ) (p : PlaneLocation) (a b : Image) → a p.record_page ≡ b p.record_page → HasRecord n a p → HasRecord n b p
-record_same n p a b same has = (has.0, sym same ∙ has.1)
+pub record_same : (format : Format) (p : PlaneLocation) (a b : Image) → SameOn (pages_of_plane p) a b → HasRecord format a p → HasRecord format b p
+record_same format p a b same has =
+    let front : SameOn p.index_pages a b = All-front (λ q. a q ≡ b q) p.index_pages p.pages (All-tail (λ q. a q ≡ b q) p.record_page (pages_behind p) same) in
+    record {
+      whole = has.whole;
+      each = has.each;
+      listed = sym (All-head (λ q. a q ≡ b q) p.record_page (pages_behind p) same) ∙ has.listed;
+      indexed = λ t lt. sym (front t 0 lt) ∙ has.indexed t lt;
+    }
 
-pub kept_records_same : (n : ℕ) (kept : Option KeptLocations) (a b : Image) → SameOn (pages_of_kept kept) a b → IfSome kept (HaveKeptRecords n a) → IfSome kept (HaveKeptRecords n b)
-kept_records_same n None a b same has = has
-kept_records_same n (Some k) a b same has = record {
-  levels = record_same n k.levels a b (All-head (λ q. a q ≡ b q) k.levels.record_page k.levels.pages (All-front (λ q. a q ≡ b q) (pages_of_plane k.levels) (pages_of_plane k.labels) same)) has.levels;
-  labels = record_same n k.labels a b (All-head (λ q. a q ≡ b q) k.labels.record_page k.labels.pages (All-back (λ q. a q ≡ b q) (pages_of_plane k.levels) (pages_of_plane k.labels) same)) has.labels;
+pub kept_records_same : (format : Format) (kept : Option KeptLocations) (a b : Image) → SameOn (pages_of_kept kept) a b → IfSome kept (HaveKeptRecords format a) → IfSome kept (HaveKeptRecords format b)
+kept_records_same format None a b same has = has
+kept_records_same format (Some k) a b same has = record {
+  levels = record_same format k.levels a b (All-front (λ q. a q ≡ b q) (pages_of_plane k.levels) (pages_of_plane k.labels) same) has.levels;
+  labels = record_same format k.labels a b (All-back (λ q. a q ≡ b q) (pages_of_plane k.levels) (pages_of_plane k.labels) same) has.labels;
 }
 
-pub tile_records_same : (n : ℕ) (t : TileLocation) (a b : Image) → SameOn (pages_of_tile t) a b → HasRecords n a t → HasRecords n b t
-tile_records_same n t a b same has = record {
-  heights = record_same n t.heights a b (All-head (λ q. a q ≡ b q) t.heights.record_page t.heights.pages (All-front (λ q. a q ≡ b q) (pages_of_plane t.heights) (pages_of_kept t.kept) same)) has.heights;
-  kept = kept_records_same n t.kept a b (All-back (λ q. a q ≡ b q) (pages_of_plane t.heights) (pages_of_kept t.kept) same) has.kept;
+pub tile_records_same : (format : Format) (t : TileLocation) (a b : Image) → SameOn (pages_of_tile t) a b → HasRecords format a t → HasRecords format b t
+tile_records_same format t a b same has = record {
+  heights = record_same format t.heights a b (All-front (λ q. a q ≡ b q) (pages_of_plane t.heights) (pages_of_kept t.kept) same) has.heights;
+  kept = kept_records_same format t.kept a b (All-back (λ q. a q ≡ b q) (pages_of_plane t.heights) (pages_of_kept t.kept) same) has.kept;
 }
 
-pub records_same : (n : ℕ) (tiles : List TileLocation) (a b : Image) → SameOn (reached tiles) a b → All (HasRecords n a) tiles → All (HasRecords n b) tiles
-records_same n [] a b same all = All-nil (HasRecords n b)
-records_same n (t ∷ rest) a b same all =
-    All-cons (HasRecords n b) t rest
-    (tile_records_same n t a b (All-front (λ q. a q ≡ b q) (pages_of_tile t) (reached rest) same) (All-head (HasRecords n a) t rest all))
-    (records_same n rest a b (All-back (λ q. a q ≡ b q) (pages_of_tile t) (reached rest) same) (All-tail (HasRecords n a) t rest all))
+pub records_same : (format : Format) (tiles : List TileLocation) (a b : Image) → SameOn (reached tiles) a b → All (HasRecords format a) tiles → All (HasRecords format b) tiles
+records_same format [] a b same all = All-nil (HasRecords format b)
+records_same format (t ∷ rest) a b same all =
+    All-cons (HasRecords format b) t rest
+    (tile_records_same format t a b (All-front (λ q. a q ≡ b q) (pages_of_tile t) (reached rest) same) (All-head (HasRecords format a) t rest all))
+    (records_same format rest a b (All-back (λ q. a q ≡ b q) (pages_of_tile t) (reached rest) same) (All-tail (HasRecords format a) t rest all))
 
 -- what is stored survives on an image with the same current root and the same reached pages
 pub stores_same : (sectors : ℕ) (root : RootValue) (tiles : List TileLocation) (s : Stored) (a b : Image) → IsCurrent root b → SameOn (reached tiles) a b → StoresAt sectors root tiles s a → StoresAt sectors root tiles s b
@@ -77,10 +85,10 @@ stores_same sectors root tiles s a b current same stores = record {
   laid_out = record {
     store = (current, stores.laid_out.store.1);
     entries = stores.laid_out.entries;
-    records = records_same root.side tiles a b same stores.laid_out.records;
+    records = records_same (format_of root) tiles a b same stores.laid_out.records;
     page_rule = stores.laid_out.page_rule;
   };
-  stands = stores.stands ∙ ap (λ (ts : List StoredTile). record { side = root.side; capacity = root.capacity; number = root.number; count = root.count; tiles = ts }) (tiles_same tiles a b same);
+  stands = stores.stands ∙ ap (λ (ts : List StoredTile). record { side = root.side; capacity = root.capacity; number = root.number; count = root.count; sinks = root.sinks; tiles = ts }) (tiles_same tiles a b same);
 }
 
 pub same_on_all : (pages : List ℕ) (a b : Image) → All (λ p. 4 ≤ p) pages → SamePages a b → SameOn pages a b

@@ -1,7 +1,7 @@
 -- The steps of staging and of a commit, over charts and images.
-use Rattle.std.proofs.Common.{◌≡◌, ℕ, ◌<◌, ◌≤◌, Bool, true, false, if◌then◌else◌, Result, Ok, Err, OnOk, OnErr, List, [], ◌∷◌, All, Contains, length, map, refl, sym, ap, ap₂, ◌∙◌, subst, arith}
+use Rattle.std.proofs.Common.{◌≡◌, ℕ, ◌/◌, ◌<◌, ◌≤◌, ◌==◌, Bool, true, false, if◌then◌else◌, Result, Ok, Err, OnOk, OnErr, List, [], ◌∷◌, All, Contains, length, map, refl, sym, ap, ap₂, ◌∙◌, subst, arith}
 use Rattle.std.specs.Prelude.{IfErr, IsErrOf}
-use Rattle.std.specs.List.{slice_set}
+use Rattle.std.specs.List.{list_any}
 use Rattle.std.proofs.lemmas.List.Elements.{All-weaker}
 use Rattle.disk.specs.Disk.{Image}
 use Rattle.disk.specs.Stops.{LeavesOnly, weaker}
@@ -9,12 +9,13 @@ use Rattle.disk.specs.declared.disk.Disk.{Ghosts}
 use Rattle.lattice.specs.Corners.{Corner}
 use Rattle.lattice.specs.declared.refusal.Refusal.{Refusal}
 use Rattle.lattice.specs.declared.refusal.Refusal.TheVariants.{Device, NoMemory}
+use Rattle.page_codec.specs.Formats.{Format}
 use Rattle.page_codec.specs.Roots.{RootValue}
 use Rattle.page_codec.specs.Sizes.{pages_of}
 use Rattle.roots.specs.Slots.{SamePagesBut, KeepsBut}
 use Rattle.charts.specs.TileLocations.{TileLocation, reached}
 use Rattle.cow_tree.specs.Layout.{tile_in, StoresAt, Stands}
-use Rattle.charts.specs.Locations.{times}
+use Rattle.charts.specs.Locations.{moved_plane, times}
 use Rattle.charts.specs.Charts.{ChartValue, IsChart, IsRewritten, IsLocated, IsWholeTile, is_at, corners_of_locations, with_page_location}
 use Rattle.cow_tree.specs.Staged.{AreStaged}
 use Rattle.cow_tree.specs.Stored.{Stored, with_page}
@@ -28,12 +29,12 @@ ok_where_works (Ok t) failed err works ok = ok
 ok_where_works (Err e) failed err works ok = absurd (let no : true ≡ false = sym err ∙ works in cc)
 
 -- the same corners
-pub corners_same : (c : Corner) (i p r : ℕ) (tiles : List TileLocation) → corners_of_locations (with_page_location c i p r tiles) ≡ corners_of_locations tiles
-corners_same c i p r [] = refl
-corners_same c i p r (t ∷ rest) =
-    ap₂ (λ (x : Corner) (xs : List Corner). x ∷ xs) (by_test (is_at c t)) (corners_same c i p r rest)
+pub corners_same : (c : Corner) (i p x r : ℕ) (tiles : List TileLocation) → corners_of_locations (with_page_location c i p x r tiles) ≡ corners_of_locations tiles
+corners_same c i p x r [] = refl
+corners_same c i p x r (t ∷ rest) =
+    ap₂ (λ (x : Corner) (xs : List Corner). x ∷ xs) (by_test (is_at c t)) (corners_same c i p x r rest)
   where
-    by_test : (v : Bool) → (if v then record t { heights = record { record_page = r; pages = slice_set t.heights.pages i p } } else t).corner ≡ t.corner
+    by_test : (v : Bool) → (if v then record t { heights = moved_plane i p x r t.heights } else t).corner ≡ t.corner
     by_test true = refl
     by_test false = refl
 
@@ -42,31 +43,38 @@ module _ (old new : ChartValue) (c : Corner) (i p : ℕ) (page : List ℕ) (a b 
   committed_same : new.committed ≡ old.committed
   committed_same = ap (λ (x : ChartValue). x.committed) rw.changed
 
-  staged_is : new.staged ≡ with_page_location c i p rw.record_page old.staged
+  staged_is : new.staged ≡ with_page_location c i p rw.index_page rw.record_page old.staged
   staged_is = ap (λ (x : ChartValue). x.staged) rw.changed
 
   pub page_unreached : ¬ Contains (reached old.committed) p
   page_unreached = subst (λ (tiles : List TileLocation). ¬ Contains (reached tiles) p) committed_same rw.fresh_page.unreached
 
-  each_written : IsLocated c old.staged → i < pages_of old.side → SamePagesBut p a b → b p ≡ page → All (IsWrittenAt c i p page a b) old.staged
+  each_written : IsLocated c old.staged → i < pages_of old.format.side → SamePagesBut p a b → b p ≡ page → All (IsWrittenAt c i p rw.index_page page a b) old.staged
   each_written located lt same written =
-      written_tiles c i p rw.record_page page a b same written old.staged
-      (All-weaker (IsWholeTile old.side) (λ t. i < length t.heights.pages) (λ t whole. omega (arith, whole.heights, lt)) old.staged rules.staged.whole)
+      written_tiles c i p rw.index_page rw.record_page page a b same written old.staged
+      (All-weaker (IsWholeTile old.format) (λ t. i < length t.heights.pages) (λ t whole. omega (arith, whole.heights.pages, lt)) old.staged rules.staged.whole)
       (located_is c old.staged located)
       (subst (λ (tiles : List TileLocation). All (λ q. 4 ≤ q) (reached tiles)) staged_is after.staged.page_rule.low)
       (subst (λ (tiles : List TileLocation). times p (reached tiles) ≤ 1) staged_is (after.staged.page_rule.once p))
 
-  pub stage_pages : IsLocated c old.staged → i < pages_of old.side → SamePagesBut p a b → b p ≡ page → map (tile_in b) new.staged ≡ with_page c i page (map (tile_in a) old.staged)
+  pub stage_pages : IsLocated c old.staged → i < pages_of old.format.side → SamePagesBut p a b → b p ≡ page → map (tile_in b) new.staged ≡ with_page c i page (map (tile_in a) old.staged)
   stage_pages located lt same written =
-      ap (map (tile_in b)) staged_is ∙ staged_pages c i p rw.record_page page a b old.staged (each_written located lt same written)
+      ap (map (tile_in b)) staged_is ∙ staged_pages c i p rw.index_page rw.record_page page a b old.staged (each_written located lt same written)
 
-  pub stage_stays : (n : ℕ) → IsLocated c old.staged → i < pages_of old.side → SamePagesBut p a b → b p ≡ page → AreStaged n old.committed old.staged a → AreStaged n new.committed new.staged b
-  stage_stays n located lt same written had =
-      subst (λ (tiles : List TileLocation). AreStaged n tiles new.staged b) (sym committed_same)
-      (subst (λ (tiles : List TileLocation). AreStaged n old.committed tiles b) (sym staged_is)
-      (still_staged n old.committed c i p rw.record_page page a b
+  fresh_index : All (λ t. i / 1024 < length t.heights.index_pages → list_any (λ q. q == rw.index_page) (reached old.committed) ≡ false) old.staged
+  fresh_index =
+      All-weaker (IsWholeTile old.format) (λ t. i / 1024 < length t.heights.index_pages → list_any (λ q. q == rw.index_page) (reached old.committed) ≡ false)
+      (λ t whole below. unreached_test rw.index_page (reached old.committed)
+      (subst (λ (tiles : List TileLocation). ¬ Contains (reached tiles) rw.index_page) committed_same (rw.fresh_index (omega (arith, below, whole.heights.index_pages))).unreached))
+      old.staged rules.staged.whole
+
+  pub stage_stays : (format : Format) → IsLocated c old.staged → i < pages_of old.format.side → SamePagesBut p a b → b p ≡ page → AreStaged format old.committed old.staged a → AreStaged format new.committed new.staged b
+  stage_stays format located lt same written had =
+      subst (λ (tiles : List TileLocation). AreStaged format tiles new.staged b) (sym committed_same)
+      (subst (λ (tiles : List TileLocation). AreStaged format old.committed tiles b) (sym staged_is)
+      (still_staged format old.committed c i p rw.index_page rw.record_page page a b
       (unreached_test rw.record_page (reached old.committed) (subst (λ (tiles : List TileLocation). ¬ Contains (reached tiles) rw.record_page) committed_same rw.fresh_record.unreached))
-      old.staged (each_written located lt same written) had))
+      old.staged fresh_index (each_written located lt same written) had))
 
 -- what stores stands
 pub stands : (sectors : ℕ) (root : RootValue) (tiles : List TileLocation) (s : Stored) (image : Image) → StoresAt sectors root tiles s image → Stands sectors image s

@@ -5,7 +5,7 @@ use Rattle.std.proofs.lemmas.List.Elements.{All-nil, All-cons, All-head, All-tai
 use Rattle.lattice.specs.Corners.{Corner, same_corner, is_before}
 use Rattle.lattice.specs.Lattice.{IsBefore}
 use Rattle.lattice.proofs.CornerOrder.{before_apart}
-use Rattle.catalogue.proofs.Presence.{listed_from, listed_says}
+use Rattle.catalogue.proofs.Presence.{listed_from}
 use Rattle.lattice.proofs.Rising.{AllAfter, Rising, rising_from, adjacent_from}
 use Rattle.charts.specs.TileLocations.{TileLocation, pages_of_tile, reached}
 use Rattle.charts.specs.Charts.{is_at, corners_of_locations, IsLocated}
@@ -39,9 +39,6 @@ located_test c (t ∷ rest) = ap (λ (b : Bool). same_corner t.corner c || b) (l
 pub located_is : (c : Corner) (tiles : List TileLocation) → IsLocated c tiles → list_any (is_at c) tiles ≡ true
 located_is c tiles located = located_test c tiles ∙ listed_from c (corners_of_locations tiles) located
 
-pub located_says : (c : Corner) (tiles : List TileLocation) → list_any (is_at c) tiles ≡ true → IsLocated c tiles
-located_says c tiles some = listed_says c (corners_of_locations tiles) (sym (located_test c tiles) ∙ some)
-
 -- what holds of all pages that tiles reach holds of those of each tile
 pub each_tile : (P : ℕ → Type 0) (tiles : List TileLocation) → All P (reached tiles) → All (λ t. All P (pages_of_tile t)) tiles
 each_tile P [] all = All-nil (λ t. All P (pages_of_tile t))
@@ -56,14 +53,18 @@ unfiltered test P (x ∷ xs) all =
       | false ↦ λ other all. All-cons (λ x. test x ≡ true → P x) x xs (λ yes. absurd (let no : true ≡ false = sym yes ∙ other in cc)) (unfiltered test P xs all)
     ] refl all
 
--- their corners are in order
-corners_after : (c : Corner) (tiles : List TileLocation) → AllAfter corner_of c tiles → AllAfter (λ d. d) c (map corner_of tiles)
-corners_after c [] after = tt
-corners_after c (t ∷ rest) after = (after.0, corners_after c rest after.1)
+-- what is made of them, with the same corners, is in the same order
+module _ {X Y : Type 0} (f : X → Y) (key : Y → Corner) where
+  after_map : (c : Corner) (xs : List X) → AllAfter (λ x. key (f x)) c xs → AllAfter key c (map f xs)
+  after_map c [] after = tt
+  after_map c (x ∷ rest) after = (after.0, after_map c rest after.1)
 
-corners_rise : (tiles : List TileLocation) → Rising corner_of tiles → Rising (λ d. d) (map corner_of tiles)
-corners_rise [] rising = tt
-corners_rise (t ∷ rest) rising = (corners_after t.corner rest rising.0, corners_rise rest rising.1)
+  rising_map : (xs : List X) → Rising (λ x. key (f x)) xs → Rising key (map f xs)
+  rising_map [] rising = tt
+  rising_map (x ∷ rest) rising = (after_map (key (f x)) rest rising.0, rising_map rest rising.1)
+
+  pub adjacent_map : (xs : List X) → AllAdjacentBelow (λ a b. IsBefore (key (f a)) (key (f b))) xs (length xs) → AllAdjacentBelow (λ a b. IsBefore (key a) (key b)) (map f xs) (length (map f xs))
+  adjacent_map xs in_order = adjacent_from key (map f xs) (rising_map xs (rising_from (λ x. key (f x)) xs in_order))
 
 pub corners_adjacent : (tiles : List TileLocation) → AllAdjacentBelow (λ a b. IsBefore a.corner b.corner) tiles (length tiles) → AllAdjacentBelow IsBefore (corners_of_locations tiles) (length (corners_of_locations tiles))
-corners_adjacent tiles in_order = adjacent_from (λ d. d) (map corner_of tiles) (corners_rise tiles (rising_from corner_of tiles in_order))
+corners_adjacent = adjacent_map corner_of (λ d. d)

@@ -1,33 +1,50 @@
 -- Where on a disk the planes lie, and what an image of it stands for (this product's own profile).
-use Rattle.std.specs.Prelude.{◌≡◌, ℕ, ◌≤◌, List, All, map, Option, Some, None, IfSome}
+use Rattle.std.specs.Prelude.{◌≡◌, ℕ, ◌<◌, ◌≤◌, ◌^◌, List, All, length, slice_index, map, Option, Some, None, IfSome}
 use Rattle.disk.specs.Disk.{Image}
-use Rattle.page_codec.specs.Records.{IsRecord, record_bytes}
-use Rattle.page_codec.specs.Roots.{RootValue}
-use Rattle.page_codec.specs.Sizes.{pages_of, sectors_of}
+use Rattle.lattice.specs.Limits.{most_tiles}
+use Rattle.page_codec.specs.Formats.{Format}
+use Rattle.page_codec.specs.Records.{part_of, record_bytes}
+use Rattle.page_codec.specs.Roots.{RootValue, format_of}
+use Rattle.page_codec.specs.Sizes.{sectors_of}
+use Rattle.layout.specs.declared.version.Version.{Version}
+use Rattle.layout.specs.declared.version.Version.TheVariants.{One, Two}
 use Rattle.roots.specs.Opening.{HoldsStore}
 use Rattle.charts.specs.declared.locations.KeptLocations.{KeptLocations}
-use Rattle.charts.specs.Locations.{PlaneLocation}
-use Rattle.charts.specs.TileLocations.{TileLocation, KeepsPageRule, entry_of}
+use Rattle.charts.specs.Locations.{PlaneLocation, IsWholePlane, pages_behind}
+use Rattle.charts.specs.TileLocations.{TileLocation, KeepsPageRule}
+use Rattle.cow_tree.specs.Entries.{entry_of}
 use Rattle.cow_tree.specs.Stored.{PlanePages, KeptPlanes, StoredTile, Stored, no_tiles}
 
--- the record page of the image lists the plane's pages
-abbrev pub HasRecord : ℕ → Image → PlaneLocation → Type 0
-HasRecord n image p = IsRecord (pages_of n) p.pages × (image p.record_page ≡ record_bytes p.pages)
+-- what a plane's record lists: its pages, or by the second version its index pages
+abbrev pub listed_by : Version → PlaneLocation → List ℕ
+listed_by One p = p.pages
+listed_by Two p = p.index_pages
 
-pub record HaveKeptRecords (n : ℕ) (image : Image) (k : KeptLocations) : Type 0 where
-  pub levels : HasRecord n image k.levels
-  pub labels : HasRecord n image k.labels
+-- on this image index page t lists the plane's pages from 1024 * t on
+abbrev pub IsIndexed : Image → PlaneLocation → ℕ → Type 0
+IsIndexed image p t = image (slice_index p.index_pages t) ≡ record_bytes (part_of t p.pages)
 
-pub record HasRecords (n : ℕ) (image : Image) (t : TileLocation) : Type 0 where
-  pub heights : HasRecord n image t.heights
-  pub kept : IfSome t.kept (HaveKeptRecords n image)
+-- the plane is whole, and on this image its record and its index pages list its pages
+pub record HasRecord (format : Format) (image : Image) (p : PlaneLocation) : Type 0 where
+  pub whole : IsWholePlane format p
+  pub each : All (λ q. q < 2 ^ 32) (pages_behind p)
+  pub listed : image p.record_page ≡ record_bytes (listed_by format.version p)
+  pub indexed : (t : ℕ) → t < length p.index_pages → IsIndexed image p t
+
+pub record HaveKeptRecords (format : Format) (image : Image) (k : KeptLocations) : Type 0 where
+  pub levels : HasRecord format image k.levels
+  pub labels : HasRecord format image k.labels
+
+pub record HasRecords (format : Format) (image : Image) (t : TileLocation) : Type 0 where
+  pub heights : HasRecord format image t.heights
+  pub kept : IfSome t.kept (HaveKeptRecords format image)
 
 -- no rule of opening is broken: the image has this current root and room for its store, and the tiles of its entries
 -- lie there
 pub record IsLaidOut (sectors : ℕ) (image : Image) (root : RootValue) (tiles : List TileLocation) : Type 0 where
   pub store : HoldsStore sectors image root
   pub entries : map entry_of tiles ≡ root.entries
-  pub records : All (HasRecords root.side image) tiles
+  pub records : All (HasRecords (format_of root) image) tiles
   pub page_rule : KeepsPageRule sectors tiles
 
 -- what stands there
@@ -47,6 +64,7 @@ stored_in image root tiles = record {
   capacity = root.capacity;
   number = root.number;
   count = root.count;
+  sinks = root.sinks;
   tiles = map (tile_in image) tiles;
 }
 
@@ -65,5 +83,5 @@ StandsForOne = (sectors : ℕ) (image : Image) (a b : Stored) → Stands sectors
 
 -- some image stands for no tiles, wherever there is room for them
 abbrev pub NoTilesStand : Type 0
-NoTilesStand = (sectors side capacity : ℕ) → 3 ≤ side → side ≤ 1201 → 1 ≤ capacity → capacity ≤ 240 → sectors_of side capacity ≤ sectors
+NoTilesStand = (sectors side capacity : ℕ) → 3 ≤ side → side ≤ 1201 → 1 ≤ capacity → capacity ≤ most_tiles → sectors_of side capacity ≤ sectors
     → (image : Image) × Stands sectors image (no_tiles side capacity)

@@ -1,8 +1,11 @@
+pub mod Caches
+pub mod Entries
 pub mod Found
 pub mod Layout
 pub mod OverRoots
 pub mod Planes
 pub mod Reading
+pub mod Sinks
 pub mod Staged
 pub mod Stored
 pub mod Trees

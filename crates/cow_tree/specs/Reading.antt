@@ -5,6 +5,7 @@ use Rattle.disk.specs.Disk.{Image, HasRisen}
 use Rattle.disk.specs.Stops.{AddsNothing, nothing_done, nothing_twice}
 use Rattle.disk.specs.declared.disk.Disk.{Ghosts}
 use Rattle.lattice.specs.Corners.{Corner}
+use Rattle.lattice.specs.declared.point.Point.{Point}
 use Rattle.lattice.specs.Mosaic.{Mosaic, IsMosaic}
 use Rattle.lattice.specs.declared.refusal.Refusal.{Refusal}
 use Rattle.lattice.specs.declared.refusal.Refusal.TheVariants.{Device, Failed}
@@ -12,12 +13,12 @@ use Rattle.catalogue.specs.Tiles.{corners_of as corners_in}
 use Rattle.charts.specs.TileLocations.{TileLocation}
 use Rattle.cow_tree.specs.Layout.{tile_in}
 use Rattle.cow_tree.specs.Stored.{Stored, AreWhole, mosaic_of_tiles}
-use Rattle.cow_tree.specs.Trees.{disk_of, root_of, has_failed, has_begun, corners_of, staged_in, IsAt}
+use Rattle.cow_tree.specs.Trees.{disk_of, root_of, has_failed, has_begun, corners_of, sinks_of, staged_in, IsAt}
 use Rattle.cow_tree.specs.declared.tree.Tree.{Tree}
 
 -- the tiles as a mosaic, as the next commit will have them
 abbrev pub mosaic_of : {D : Type 0} (g : Ghosts D) → Tree D g → Mosaic
-mosaic_of g tree = mosaic_of_tiles (root_of tree).side (staged_in g tree)
+mosaic_of g tree = mosaic_of_tiles (root_of tree).side (sinks_of tree) (staged_in g tree)
 
 -- The samples of the tree are those of a mosaic: the disk is honest, each page of heights is a whole page, and the tiles
 -- make a mosaic. That a call was refused changes none of it.
@@ -35,6 +36,7 @@ pub record HasOnlyRead {D : Type 0} (g : Ghosts D) (old new : Tree D g) : Type 0
   pub root : root_of new ≡ root_of old
   pub chart : new.chart ≡ old.chart
   pub corners : corners_of new ≡ corners_of old
+  pub sinks : sinks_of new ≡ sinks_of old
   pub begun : has_begun new ≡ has_begun old
   pub works : has_failed new ≡ false → has_failed old ≡ false
   pub honest : g.honest (disk_of new) → g.honest (disk_of old)
@@ -61,6 +63,7 @@ module _ {D : Type 0} (g : Ghosts D) where
     root = refl;
     chart = refl;
     corners = refl;
+    sinks = refl;
     begun = refl;
     works = λ works. works;
     honest = λ honest. honest;
@@ -78,6 +81,7 @@ module _ {D : Type 0} (g : Ghosts D) where
     root = second.root ∙ first.root;
     chart = second.chart ∙ first.chart;
     corners = second.corners ∙ first.corners;
+    sinks = second.sinks ∙ first.sinks;
     begun = second.begun ∙ first.begun;
     works = λ works. first.works (second.works works);
     honest = λ honest. first.honest (second.honest honest);
@@ -87,6 +91,6 @@ module _ {D : Type 0} (g : Ghosts D) where
   }
 
 -- the mosaic has the corners of the staged tiles
-pub corners_in_mosaic : (n : ℕ) (image : Image) (tiles : List TileLocation) → corners_in (mosaic_of_tiles n (map (tile_in image) tiles)) ≡ map (λ (t : TileLocation). t.corner) tiles
-corners_in_mosaic n image [] = refl
-corners_in_mosaic n image (t ∷ rest) = ap (λ (cs : List Corner). t.corner ∷ cs) (corners_in_mosaic n image rest)
+pub corners_in_mosaic : (n : ℕ) (sinks : List Point) (image : Image) (tiles : List TileLocation) → corners_in (mosaic_of_tiles n sinks (map (tile_in image) tiles)) ≡ map (λ (t : TileLocation). t.corner) tiles
+corners_in_mosaic n sinks image [] = refl
+corners_in_mosaic n sinks image (t ∷ rest) = ap (λ (cs : List Corner). t.corner ∷ cs) (corners_in_mosaic n sinks image rest)

@@ -1,15 +1,25 @@
 -- What of the staged tiles stands on the disk already.
-use Rattle.std.specs.Prelude.{◌≡◌, ℕ, ◌*◌, false, List, All, IfSome, take, drop, map, filter}
+use Rattle.std.specs.Prelude.{◌≡◌, ℕ, ◌*◌, ◌<◌, true, false, List, ◌∷◌, All, IfSome, length, slice_index, take, drop, map, filter}
+use Rattle.std.specs.List.{flat_map}
 use Rattle.disk.specs.Disk.{Image}
+use Rattle.page_codec.specs.Formats.{Format}
 use Rattle.page_codec.specs.Numbers.{padded}
+use Rattle.page_codec.specs.Records.{record_bytes}
+use Rattle.charts.specs.Locations.{PlaneLocation}
 use Rattle.charts.specs.TileLocations.{TileLocation}
-use Rattle.cow_tree.specs.Layout.{HasRecord, HaveKeptRecords}
-use Rattle.charts.specs.Charts.{ChartValue, is_changed}
+use Rattle.cow_tree.specs.Layout.{HasRecord, HaveKeptRecords, IsIndexed, listed_by}
+use Rattle.charts.specs.Charts.{ChartValue, is_changed, is_unreached}
 
--- all records but those of changed heights, which a commit writes
-pub record AreStaged (n : ℕ) (committed staged : List TileLocation) (image : Image) : Type 0 where
-  pub heights : All (λ t. is_changed committed t ≡ false → HasRecord n image t.heights) staged
-  pub kept : All (λ t. IfSome t.kept (HaveKeptRecords n image)) staged
+-- on this image those index pages of the plane that committed tiles reach list its pages
+abbrev pub SharesIndex : List TileLocation → Image → PlaneLocation → Type 0
+SharesIndex committed image p = (t : ℕ) → t < length p.index_pages → is_unreached committed (slice_index p.index_pages t) ≡ false → IsIndexed image p t
+
+-- all records and index pages but those of changed heights, which a commit writes; it writes no index page that committed
+-- tiles reach
+pub record AreStaged (format : Format) (committed staged : List TileLocation) (image : Image) : Type 0 where
+  pub heights : All (λ t. is_changed committed t ≡ false → HasRecord format image t.heights) staged
+  pub shared : All (λ t. SharesIndex committed image t.heights) staged
+  pub kept : All (λ t. IfSome t.kept (HaveKeptRecords format image)) staged
 
 -- page i of a plane with these bytes, filled up with zeros where they end
 abbrev pub page_of_bytes : List ℕ → ℕ → List ℕ
@@ -21,3 +31,15 @@ changed_tiles chart = filter (is_changed chart.committed) chart.staged
 
 abbrev pub record_pages : List TileLocation → List ℕ
 record_pages tiles = map (λ t. t.heights.record_page) tiles
+
+-- what a commit writes besides the root: for each of them the record, and the index pages that no committed tile reaches
+abbrev pub due_of : List TileLocation → TileLocation → List ℕ
+due_of committed t = t.heights.record_page ∷ filter (is_unreached committed) t.heights.index_pages
+
+abbrev pub pages_due : ChartValue → List ℕ
+pages_due chart = flat_map (due_of chart.committed) (changed_tiles chart)
+
+-- on this image the record of the plane, and those of its index pages that no committed tile reaches, list its pages
+pub record IsRecorded (format : Format) (committed : List TileLocation) (image : Image) (p : PlaneLocation) : Type 0 where
+  pub listed : image p.record_page ≡ record_bytes (listed_by format.version p)
+  pub indexed : (t : ℕ) → t < length p.index_pages → is_unreached committed (slice_index p.index_pages t) ≡ true → IsIndexed image p t

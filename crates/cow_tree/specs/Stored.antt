@@ -3,6 +3,7 @@
 use Rattle.std.specs.Prelude.{◌≡◌, ℕ, ℤ, ◌+◌, ◌*◌, ◌<◌, List, [], All, length, map, filter, not, take, drop, zero, suc, ◌∷◌, Option, None, if◌then◌else◌, slice_set}
 use Rattle.std.specs.List.{concat}
 use Rattle.lattice.specs.Corners.{Corner, same_corner, is_before}
+use Rattle.lattice.specs.declared.point.Point.{Point}
 use Rattle.lattice.specs.Mosaic.{Mosaic}
 use Rattle.page_codec.specs.Numbers.{padded}
 use Rattle.page_codec.specs.Sizes.{pages_of}
@@ -22,22 +23,23 @@ pub record StoredTile : Type 0 where
   pub heights : PlanePages
   pub kept : Option KeptPlanes
 
--- the side of the tiles, how many there is room for, the commit number, how many commands were accepted, and the tiles
--- in order
+-- the side of the tiles, how many there is room for, the commit number, how many commands were accepted, the declared
+-- sinks, and the tiles in order
 pub record Stored : Type 0 where
   pub side : ℕ
   pub capacity : ℕ
   pub number : ℕ
   pub count : ℕ
+  pub sinks : List Point
   pub tiles : List StoredTile
 
 -- as formatted
 abbrev pub no_tiles : (side capacity : ℕ) → Stored
-no_tiles side capacity = record { side = side; capacity = capacity; number = 1; count = 0; tiles = [] }
+no_tiles side capacity = record { side = side; capacity = capacity; number = 1; count = 0; sinks = []; tiles = [] }
 
--- the next commit, with these tiles and this count of commands
-abbrev pub next_commit : Stored → List StoredTile → ℕ → Stored
-next_commit was tiles count = record was { number = was.number + 1; count = count; tiles = tiles }
+-- the next commit, with these sinks, these tiles and this count of commands
+abbrev pub next_commit : Stored → List Point → List StoredTile → ℕ → Stored
+next_commit was sinks tiles count = record was { number = was.number + 1; count = count; sinks = sinks; tiles = tiles }
 
 -- a page has 4096 bytes
 pub record IsPage (page : List ℕ) : Type 0 where
@@ -65,9 +67,9 @@ PlanesReadBack = (n : ℕ) (bytes : List ℕ) → length bytes ≡ 2 * (n * n) �
 abbrev pub samples_of_plane : ℕ → PlanePages → List ℤ
 samples_of_plane n pages = samples_in (plane_bytes n pages)
 
--- the tiles as tiles of a mosaic
-abbrev pub mosaic_of_tiles : ℕ → List StoredTile → Mosaic
-mosaic_of_tiles n tiles = record { side = n; tiles = map (λ t. record { corner = t.corner; samples = samples_of_plane n t.heights }) tiles }
+-- the tiles as tiles of a mosaic with these sinks
+abbrev pub mosaic_of_tiles : ℕ → List Point → List StoredTile → Mosaic
+mosaic_of_tiles n sinks tiles = record { side = n; sinks = sinks; tiles = map (λ t. record { corner = t.corner; samples = samples_of_plane n t.heights }) tiles }
 
 -- what staging makes of the tiles
 
@@ -82,13 +84,6 @@ with_page c i page tiles = map (with_page_in c i page) tiles
 abbrev pub without_tile : Corner → List StoredTile → List StoredTile
 without_tile c tiles = filter (λ t. not (same_corner t.corner c)) tiles
 
--- the tiles with these pages of heights, if the tile is the corner's
-abbrev pub with_plane_in : Corner → PlanePages → StoredTile → StoredTile
-with_plane_in c pages t = if same_corner t.corner c then record t { heights = pages } else t
-
-abbrev pub with_plane : Corner → PlanePages → List StoredTile → List StoredTile
-with_plane c pages tiles = map (with_plane_in c pages) tiles
-
 -- the tiles with one more, in order
 abbrev pub with_tile : StoredTile → List StoredTile → List StoredTile
 with_tile new [] = new ∷ []
@@ -102,6 +97,13 @@ with_corner new (c ∷ rest) = if is_before new c then new ∷ (c ∷ rest) else
 -- a tile of which no levels and labels are kept
 abbrev pub stale_tile : Corner → PlanePages → StoredTile
 stale_tile c pages = record { corner = c; heights = pages; kept = None }
+
+-- the tiles, of which the corner's is stale
+abbrev pub made_stale_in : Corner → StoredTile → StoredTile
+made_stale_in c t = if same_corner t.corner c then stale_tile t.corner t.heights else t
+
+abbrev pub made_stale : Corner → List StoredTile → List StoredTile
+made_stale c tiles = map (made_stale_in c) tiles
 
 abbrev pub corners_of_stored : List StoredTile → List Corner
 corners_of_stored tiles = map (λ t. t.corner) tiles

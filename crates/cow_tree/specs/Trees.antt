@@ -3,9 +3,10 @@ use Rattle.std.specs.Prelude.{◌≡◌, ◌⊎◌, ℕ, Bool, List, length, map
 use Rattle.disk.specs.Disk.{Image}
 use Rattle.disk.specs.declared.disk.Disk.{Ghosts}
 use Rattle.lattice.specs.Corners.{Corner}
+use Rattle.lattice.specs.declared.point.Point.{Point}
 use Rattle.lattice.specs.declared.refusal.Refusal.{Refusal}
 use Rattle.lattice.specs.declared.refusal.Refusal.TheVariants as refusal
-use Rattle.page_codec.specs.Roots.{RootValue}
+use Rattle.page_codec.specs.Roots.{RootValue, format_of}
 use Rattle.roots.specs.Opening.{OpensAs}
 use Rattle.roots.specs.declared.roots.NotOpened.{NotOpened}
 use Rattle.charts.specs.declared.plane.Plane.{Plane}
@@ -43,6 +44,10 @@ module _ {D : Type 0} {g : Ghosts D} where
   abbrev pub corners_of : Tree D g → List Corner
   corners_of tree = corners_of_locations tree.chart.staged
 
+  -- the declared sinks as the next commit will have them, in the order of points; held in memory too
+  abbrev pub sinks_of : Tree D g → List Point
+  sinks_of tree = tree.sinks.points
+
   -- the corner has such a plane
   abbrev pub Holds : Tree D g → Corner → Plane → Type 0
   Holds tree c plane = HasPlane tree.chart.staged c plane
@@ -69,7 +74,7 @@ staged_in g tree = map (tile_in (g.seen (disk_of tree))) tree.chart.staged
 pub record IsAt {D : Type 0} (g : Ghosts D) (tree : Tree D g) (s : Stored) : Type 0 where
   pub ready : IsReady g tree.roots
   pub each : EachStores g tree.roots tree.chart.committed s
-  pub staged : AreStaged tree.root.side tree.chart.committed tree.chart.staged (g.seen (disk_of tree))
+  pub staged : AreStaged (format_of tree.root) tree.chart.committed tree.chart.staged (g.seen (disk_of tree))
 
 -- an image is refused so by opening where no call fails and memory is had: as roots refuse it, or Damaged where the tiles
 -- of its current root lie nowhere

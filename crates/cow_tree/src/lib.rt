@@ -7,9 +7,12 @@
 //! `specs/Layout.antt` when an image stands for it.
 #![tactic(auto)]
 
+mod cache;
+mod entries;
 mod laws;
 mod opening;
 mod samples;
+mod sinks;
 mod tree;
 mod writing;
 

@@ -1,53 +1,108 @@
 //! The chart of a disk, from its records.
 ghost use Rattle.std.specs.Prelude.{◌≡◌, ◌≤◌, ◌<◌, ◌⊎◌, ◌^◌, ℕ, List, All, length, map, IfSome, false, true, Ok, Err, OnOk, OnErr, IfOk, IfErr, IsErrOf, Some, None};
 ghost use Rattle.lattice.specs.declared.refusal.Refusal.TheVariants.{Device, NoMemory, Damaged};
-ghost use Rattle.page_codec.specs.Roots.{RootValue};
+ghost use Rattle.layout.specs.declared.version.Version.TheVariants.{One, Two};
+ghost use Rattle.page_codec.specs.Records.{IsRecord, record_bytes};
+ghost use Rattle.page_codec.specs.Roots.{RootValue, format_of};
 ghost use Rattle.page_codec.specs.Entries.{EntryValue};
-ghost use Rattle.page_codec.specs.Sizes.{pages_of, sectors_of};
-ghost use Rattle.charts.specs.Locations.{PlaneLocation};
-ghost use Rattle.charts.specs.TileLocations.{TileLocation, KeepsPageRule, entry_of, entry_of_kept};
-ghost use Rattle.cow_tree.specs.Layout.{HasRecord, HasRecords, IsLaidOut, HaveKeptRecords};
+ghost use Rattle.page_codec.specs.Sizes.{pages_of, index_pages_of, sectors_asked};
+ghost use Rattle.charts.specs.Locations.{PlaneLocation, IsWholePlane};
+ghost use Rattle.charts.specs.TileLocations.{TileLocation, KeepsPageRule};
+ghost use Rattle.cow_tree.specs.Entries.{entry_of, entry_of_kept};
+ghost use Rattle.cow_tree.specs.Layout.{HasRecord, IsIndexed, HasRecords, IsLaidOut, HaveKeptRecords};
 ghost use Rattle.charts.specs.Charts.{IsWholeTile, IsChart, IsClean, tile_at, AreWholeKept};
-ghost use Rattle.cow_tree.specs.Found.{NonePlane, NoneKept, NoTileAt};
+ghost use Rattle.cow_tree.specs.Found.{NoneListed, NoneIndexed, NonePlane, NoneKept, NoTileAt};
 ghost use Rattle.roots.specs.Roots.{disk_of, root_of, has_failed};
 ghost use Rattle.cow_tree.specs.OverRoots.{OnlyReads, IsRefusedFor, IsRefusalOfTree};
 
+use arrayvec::ArrayVec;
 use charts::{Chart, KeptLocations, PagedPlane, TilePlanes};
 use disk::Disk;
-use lattice::{Refusal, Side};
-use page_codec::{Entry, Kept, PAGE_BYTES, Record, Root, pages_in_plane, sectors_needed};
+use lattice::Refusal;
+use page_codec::{Entry, Format, Kept, PAGE_BYTES, RECORD_PAGES, Record, Root, Version};
 use roots::Roots;
 use std::alloc::Global;
 
 const FIRST_PAGE: u32 = 4;
 
-/// Where a plane lies, by its record.
-fn read_plane<D: Disk>(
-    alloc: Global,
+/// So many page numbers that a record or an index page lists.
+fn read_listed<D: Disk>(
     roots: &mut Roots<D>,
-    side: Side,
-    record_page: u32,
-) -> Result<PagedPlane, Refusal>
+    page: u32,
+    count: u32,
+) -> Result<ArrayVec<u32, RECORD_PAGES>, Refusal>
     requires not_failed { has_failed roots.old ≡ false }
-    requires side { pages_of side ≤ 1024 }
+    requires count { count ≤ RECORD_PAGES }
     ensures reads { OnlyReads D.Disk roots.old roots.new result }
     ensures refusals { IfErr result IsRefusalOfTree }
-    ensures record { D.honest (disk_of roots.new) → IfOk result (λ plane. HasRecord side (D.seen (disk_of roots.old)) plane) }
-    ensures at { IfOk result (λ plane. plane.record_page ≡ record_page) }
-    ensures whole { IfOk result (λ plane. length plane.pages ≡ pages_of side) }
-    ensures refused { D.honest (disk_of roots.new) → IfErr result (IsRefusedFor (NonePlane side (D.size (disk_of roots.old)) (D.seen (disk_of roots.old)) record_page)) }
+    ensures count { IfOk result (λ pages. IsRecord count pages.items) }
+    ensures listed { D.honest (disk_of roots.new) → IfOk result (λ pages. D.seen (disk_of roots.old) page ≡ record_bytes pages.items) }
+    ensures refused { D.honest (disk_of roots.new) → IfErr result (IsRefusedFor (NoneListed (D.size (disk_of roots.old)) (D.seen (disk_of roots.old)) page count)) }
 {
-    if record_page < FIRST_PAGE || roots.sectors() <= record_page {
+    if page < FIRST_PAGE || roots.sectors() <= page {
         return Err(Refusal::Damaged);
     }
     let mut bytes = [0; PAGE_BYTES];
-    roots.read(record_page, &mut bytes)?;
-    match Record::read(&bytes, pages_in_plane(side)) {
-        Ok(record) => {
-            let pages = record.pages.as_slice().to_vec(alloc)?;
-            Ok(PagedPlane::new(record_page, pages))
-        }
+    roots.read(page, &mut bytes)?;
+    match Record::read(&bytes, count) {
+        Ok(record) => Ok(record.pages),
         Err(_) => Err(Refusal::Damaged),
+    }
+}
+
+/// The plane of this record, whose pages these index pages list.
+fn read_indexed<D: Disk>(
+    roots: &mut Roots<D>,
+    format: Format,
+    record_page: u32,
+    index: Vec<u32>,
+) -> Result<PagedPlane, Refusal>
+    requires not_failed { has_failed roots.old ≡ false }
+    requires second { format.version ≡ Two }
+    requires count { length index.items ≡ index_pages_of format }
+    ensures reads { OnlyReads D.Disk roots.old roots.new result }
+    ensures refusals { IfErr result IsRefusalOfTree }
+    ensures at { IfOk result (λ plane. plane.record_page ≡ record_page) }
+    ensures index { IfOk result (λ plane. plane.index_pages ≡ index.items) }
+    ensures pages { IfOk result (λ plane. length plane.pages ≡ pages_of format.side) }
+    ensures each { IfOk result (λ plane. All (λ p. p < 2 ^ 32) plane.pages) }
+    ensures indexed { D.honest (disk_of roots.new)
+        → IfOk result (λ plane. (t : ℕ) → t < length plane.index_pages → IsIndexed (D.seen (disk_of roots.old)) plane t) }
+    ensures refused { D.honest (disk_of roots.new)
+        → IfErr result (IsRefusedFor (NoneIndexed format (D.size (disk_of roots.old)) (D.seen (disk_of roots.old)) index.items)) }
+{
+    let index_count = index.len();
+    let mut behind = index;
+    let mut left = format.data_pages();
+    for t in 0..index_count {
+        let count = left.min(RECORD_PAGES as u32);
+        let listed = read_listed(roots, behind[t], count)?;
+        behind.extend_from_slice(listed.as_slice())?;
+        left -= count;
+    }
+    Ok(PagedPlane::new(record_page, behind, index_count))
+}
+
+/// Where a plane lies, by its record and its index pages.
+fn read_plane<D: Disk>(
+    alloc: Global,
+    roots: &mut Roots<D>,
+    format: Format,
+    record_page: u32,
+) -> Result<PagedPlane, Refusal>
+    requires not_failed { has_failed roots.old ≡ false }
+    ensures reads { OnlyReads D.Disk roots.old roots.new result }
+    ensures refusals { IfErr result IsRefusalOfTree }
+    ensures record { D.honest (disk_of roots.new) → IfOk result (λ plane. HasRecord format (D.seen (disk_of roots.old)) plane) }
+    ensures at { IfOk result (λ plane. plane.record_page ≡ record_page) }
+    ensures whole { IfOk result (IsWholePlane format) }
+    ensures refused { D.honest (disk_of roots.new) → IfErr result (IsRefusedFor (NonePlane format (D.size (disk_of roots.old)) (D.seen (disk_of roots.old)) record_page)) }
+{
+    let listed = read_listed(roots, record_page, format.listed())?;
+    let behind = Vec::from_slice(alloc, listed.as_slice())?;
+    match format.version() {
+        Version::One => Ok(PagedPlane::new(record_page, behind, 0)),
+        Version::Two => read_indexed(roots, format, record_page, behind),
     }
 }
 
@@ -55,23 +110,22 @@ fn read_plane<D: Disk>(
 fn read_kept<D: Disk>(
     alloc: Global,
     roots: &mut Roots<D>,
-    side: Side,
+    format: Format,
     kept: Option<Kept>,
 ) -> Result<Option<KeptLocations>, Refusal>
     requires not_failed { has_failed roots.old ≡ false }
-    requires side { pages_of side ≤ 1024 }
     ensures reads { OnlyReads D.Disk roots.old roots.new result }
     ensures refusals { IfErr result IsRefusalOfTree }
-    ensures records { D.honest (disk_of roots.new) → IfOk result (λ locations. IfSome locations (HaveKeptRecords side (D.seen (disk_of roots.old)))) }
+    ensures records { D.honest (disk_of roots.new) → IfOk result (λ locations. IfSome locations (HaveKeptRecords format (D.seen (disk_of roots.old)))) }
     ensures entry { IfOk result (λ locations. entry_of_kept locations ≡ kept) }
-    ensures whole { IfOk result (λ locations. IfSome locations (AreWholeKept side)) }
-    ensures refused { D.honest (disk_of roots.new) → IfErr result (IsRefusedFor (NoneKept side (D.size (disk_of roots.old)) (D.seen (disk_of roots.old)) kept)) }
+    ensures whole { IfOk result (λ locations. IfSome locations (AreWholeKept format)) }
+    ensures refused { D.honest (disk_of roots.new) → IfErr result (IsRefusedFor (NoneKept format (D.size (disk_of roots.old)) (D.seen (disk_of roots.old)) kept)) }
 {
     let Some(kept) = kept else {
         return Ok(None);
     };
-    let levels = read_plane(alloc, roots, side, kept.levels)?;
-    let labels = read_plane(alloc, roots, side, kept.labels)?;
+    let levels = read_plane(alloc, roots, format, kept.levels)?;
+    let labels = read_plane(alloc, roots, format, kept.labels)?;
     Ok(Some(KeptLocations { levels, labels }))
 }
 
@@ -79,20 +133,19 @@ fn read_kept<D: Disk>(
 fn read_planes<D: Disk>(
     alloc: Global,
     roots: &mut Roots<D>,
-    side: Side,
+    format: Format,
     entry: &Entry,
 ) -> Result<TilePlanes, Refusal>
     requires not_failed { has_failed roots.old ≡ false }
-    requires side { pages_of side ≤ 1024 }
     ensures reads { OnlyReads D.Disk roots.old roots.new result }
     ensures refusals { IfErr result IsRefusalOfTree }
-    ensures records { D.honest (disk_of roots.new) → IfOk result (λ planes. HasRecords side (D.seen (disk_of roots.old)) (tile_at entry.now.corner planes)) }
+    ensures records { D.honest (disk_of roots.new) → IfOk result (λ planes. HasRecords format (D.seen (disk_of roots.old)) (tile_at entry.now.corner planes)) }
     ensures entry { IfOk result (λ planes. entry_of (tile_at entry.now.corner planes) ≡ entry.now) }
-    ensures whole { IfOk result (λ planes. IsWholeTile side (tile_at entry.now.corner planes)) }
-    ensures refused { D.honest (disk_of roots.new) → IfErr result (IsRefusedFor (NoTileAt side (D.size (disk_of roots.old)) (D.seen (disk_of roots.old)) entry.now)) }
+    ensures whole { IfOk result (λ planes. IsWholeTile format (tile_at entry.now.corner planes)) }
+    ensures refused { D.honest (disk_of roots.new) → IfErr result (IsRefusedFor (NoTileAt format (D.size (disk_of roots.old)) (D.seen (disk_of roots.old)) entry.now)) }
 {
-    let heights = read_plane(alloc, roots, side, entry.heights)?;
-    let kept = read_kept(alloc, roots, side, entry.kept)?;
+    let heights = read_plane(alloc, roots, format, entry.heights)?;
+    let kept = read_kept(alloc, roots, format, entry.kept)?;
     Ok(TilePlanes { heights, kept })
 }
 
@@ -107,26 +160,26 @@ pub(crate) fn read_chart<D: Disk>(
     ensures refusals { IfErr result IsRefusalOfTree }
     ensures rules { IfOk result IsChart }
     ensures sectors { IfOk result (λ chart. chart.sectors ≡ D.size (disk_of roots.old)) }
-    ensures side { IfOk result (λ chart. chart.side ≡ root.now.side) }
-    ensures capacity { IfOk result (λ chart. chart.capacity ≡ root.now.capacity) }
+    ensures format { IfOk result (λ chart. chart.format ≡ format_of root.now) }
+    ensures first { IfOk result (λ chart. chart.format.version ≡ One) }
     ensures fits { IfOk result (λ chart. chart.sectors < 2 ^ 32) }
     ensures entries { IfOk result (λ chart. map entry_of chart.committed ≡ root.now.entries) }
     ensures clean { IfOk result IsClean }
-    ensures records { D.honest (disk_of roots.new) → IfOk result (λ chart. All (HasRecords root.now.side (D.seen (disk_of roots.old))) chart.committed) }
+    ensures records { D.honest (disk_of roots.new) → IfOk result (λ chart. All (HasRecords (format_of root.now) (D.seen (disk_of roots.old))) chart.committed) }
     ensures refused { D.honest (disk_of roots.new)
-        → IfErr result (λ why. (D.size (disk_of roots.old) < sectors_of root.now.side root.now.capacity)
+        → IfErr result (λ why. (D.size (disk_of roots.old) < sectors_asked (format_of root.now))
         ⊎ IsRefusedFor ((tiles : List TileLocation) → ¬ IsLaidOut (D.size (disk_of roots.old)) (D.seen (disk_of roots.old)) root.now tiles) why) }
 {
-    let side = root.side();
-    let capacity = root.capacity();
+    let format = root.format();
+    let entries = root.entries();
     let sectors = roots.sectors();
     // That there is room was tested when the root was found, but on a disk that isn't honest that says nothing here.
-    if sectors < sectors_needed(side, capacity) {
+    if sectors < format.sectors() {
         return Err(Refusal::TooSmall);
     }
-    let mut chart = Chart::new(alloc, sectors, side, capacity)?;
-    for entry in root.entries() {
-        let planes = read_planes(alloc, roots, side, entry)?;
+    let mut chart = Chart::new(alloc, sectors, format)?;
+    for entry in entries {
+        let planes = read_planes(alloc, roots, format, entry)?;
         chart = chart.load(entry.corner, planes)?;
     }
     Ok(chart)

@@ -2,14 +2,15 @@
 ghost use Rattle.std.specs.Prelude.{◌≡◌, ◌≤◌, ◌<◌, ◌+◌, ◌*◌, ◌%◌, ℤ, List, Contains, Some, length, false, OnOk, slice_range, refl};
 ghost use Rattle.lattice.specs.Mosaic.{samples_of};
 ghost use Rattle.cow_tree.specs.Reading.{mosaic_of, IsReadable, HasOnlyRead, Reads, read_nothing, read_again, corners_in_mosaic};
-ghost use Rattle.cow_tree.specs.Trees.{disk_of, root_of, has_failed, corners_of};
+ghost use Rattle.cow_tree.specs.Trees.{disk_of, root_of, has_failed, corners_of, sinks_of};
 
 use crate::tree::Tree;
 use catalogue::Samples;
 use charts::Plane;
 use disk::Disk;
-use lattice::{Corner, Refusal, Side};
+use lattice::{Corner, Point, Refusal, Side};
 use page_codec::PAGE_BYTES;
+use std::alloc::Global;
 
 const SAMPLES_IN_PAGE: u32 = 2048;
 
@@ -30,7 +31,7 @@ fn read_part<D: Disk>(
     ensures length { length into.new ≡ length into.old }
 {
     let mut page = [0; PAGE_BYTES];
-    tree.read_page(c, Plane::Heights, first / SAMPLES_IN_PAGE, &mut page)?;
+    tree.scan_page(c, Plane::Heights, first / SAMPLES_IN_PAGE, &mut page)?;
     let from = 2 * (first % SAMPLES_IN_PAGE) as usize;
     hgt::read_samples(&page[from..from + 2 * into.len()], into);
     Ok(())
@@ -40,6 +41,8 @@ impl<D: Disk> Samples for Tree<D> {
     ghost side_of = { λ tree. (root_of tree).side };
 
     ghost corners = { corners_of };
+
+    ghost sinks_of = { sinks_of };
 
     ghost mosaic = { mosaic_of D.Disk };
 
@@ -57,7 +60,9 @@ impl<D: Disk> Samples for Tree<D> {
 
     ghost same_side = { λ _ _. refl };
 
-    ghost same_corners = { λ tree _. corners_in_mosaic (root_of tree).side (D.seen (disk_of tree)) tree.chart.staged };
+    ghost same_corners = { λ tree _. corners_in_mosaic (root_of tree).side (sinks_of tree) (D.seen (disk_of tree)) tree.chart.staged };
+
+    ghost same_sinks = { λ _ _. refl };
 
     ghost keeps_itself = { read_nothing _ D.only_now };
 
@@ -73,9 +78,24 @@ impl<D: Disk> Samples for Tree<D> {
         Tree::present(self, c)
     }
 
+    fn count(&self) -> usize {
+        self.corners().len()
+    }
+
+    fn present_corners(&self, alloc: Global) -> Result<Vec<Corner>, Refusal> {
+        Ok(Vec::from_slice(alloc, self.corners().as_slice())?)
+    }
+
+    fn sinks(&self) -> &[Point] {
+        Tree::sinks(self)
+    }
+
     fn sample(&mut self, c: Corner, i: u32) -> Result<i16, Refusal> {
+        let mut page = [0; PAGE_BYTES];
+        self.read_page(c, Plane::Heights, i / SAMPLES_IN_PAGE, &mut page)?;
+        let from = 2 * (i % SAMPLES_IN_PAGE) as usize;
         let mut one = [0];
-        read_part(self, c, i, &mut one)?;
+        hgt::read_samples(&page[from..from + 2], &mut one);
         Ok(one[0])
     }
 

@@ -4,26 +4,36 @@ ghost use Rattle.disk.specs.Disk.{Image, Only, HasRisen};
 ghost use Rattle.disk.specs.Stops.{LeavesOnly, AddsNothing, HasCause};
 ghost use Rattle.lattice.specs.Corners.{Corner, same_corner, is_corner};
 ghost use Rattle.lattice.specs.Lattice.{IsBefore};
+ghost use Rattle.lattice.specs.Limits.{most_tiles};
+ghost use Rattle.lattice.specs.Mosaic.{AreSinks};
 ghost use Rattle.std.specs.List.{AllAdjacentBelow};
 ghost use Rattle.lattice.specs.declared.refusal.Refusal.TheVariants.{Device, NoMemory, Failed};
-ghost use Rattle.page_codec.specs.Roots.{RootValue};
+ghost use Rattle.layout.specs.declared.version.Version.TheVariants.{One};
+ghost use Rattle.page_codec.specs.Roots.{RootValue, format_of};
 ghost use Rattle.page_codec.specs.Sizes.{pages_of, sectors_of};
 ghost use Rattle.charts.specs.declared.plane.Plane.TheVariants.{Heights};
-ghost use Rattle.charts.specs.TileLocations.{entry_of};
-ghost use Rattle.cow_tree.specs.Layout.{Stands};
+ghost use Rattle.cow_tree.specs.Caches.{Agrees};
+ghost use Rattle.cow_tree.specs.Entries.{entry_of};
+ghost use Rattle.cow_tree.specs.Layout.{Stands, tile_in};
 ghost use Rattle.roots.specs.Roots.{disk_of as disk_under, root_of as root_under, has_failed as have_failed};
 ghost use Rattle.cow_tree.specs.OverRoots.{IsRefusalOfTree};
 ghost use Rattle.cow_tree.specs.Planes.{HasPage};
-ghost use Rattle.cow_tree.specs.Stored.{Stored, no_tiles, next_commit, pages_of_bytes, stale_tile, with_corner, with_page, with_plane, with_tile, without_tile};
+ghost use Rattle.cow_tree.specs.Stored.{Stored, made_stale, no_tiles, next_commit, pages_of_bytes, stale_tile, with_corner, with_page, with_tile, without_tile};
 
+use crate::cache::PageCache;
+use crate::entries::staged_entries;
 use crate::opening::read_chart;
+use crate::sinks::Sinks;
 use crate::writing::{write_plane, write_records};
+use arrayvec::ArrayVec;
 use charts::{Chart, Plane};
 use disk::Disk;
-use lattice::{Corner, Refusal, Side};
+use lattice::{Corner, MOST_TILES, Point, Refusal, Side};
 use page_codec::Root;
 use roots::{NotOpened, Roots};
 use std::alloc::Global;
+
+const TILES: usize = MOST_TILES as usize;
 
 /// The tiles of a store and their planes, page by page, on a disk.
 ///
@@ -35,23 +45,28 @@ pub struct Tree<D: Disk> {
     roots: Roots<D>,
     chart: Chart,
     root: Root,
+    sinks: Sinks,
+    // Pages that were read lately.
+    cache: PageCache,
     ghost sectors: { chart.sectors ≡ D.Disk.size (disk_under roots) },
     ghost fits: { chart.sectors < 2 ^ 32 },
-    ghost side: { chart.side ≡ root.side },
-    ghost capacity: { chart.capacity ≡ root.capacity },
+    ghost format: { chart.format ≡ format_of root },
+    ghost first: { root.version ≡ One },
     ghost entries: { map entry_of chart.committed ≡ root.entries },
     ghost known: { have_failed roots ≡ false → root_under roots ≡ root },
+    ghost declared: { sinks.side ≡ root.side },
+    ghost cached: { D.Disk.honest (disk_under roots) → have_failed roots ≡ false → Agrees cache (D.Disk.seen (disk_under roots)) },
 }
 
 impl<D: Disk> Tree<D> {
     ghost use Rattle.cow_tree.specs.Reading.{Reads};
-    ghost use Rattle.cow_tree.specs.Trees.{disk_of, root_of, chart_of, has_failed, has_begun, corners_of, Holds, HasStaged, records_due, disk_after, staged_in, IsAt, MayRefuse};
+    ghost use Rattle.cow_tree.specs.Trees.{disk_of, root_of, chart_of, has_failed, has_begun, corners_of, sinks_of, Holds, HasStaged, records_due, disk_after, staged_in, IsAt, MayRefuse};
 
     /// Makes an empty store of this side and capacity (in tiles) on a disk. A fault before the Ok may leave anything.
     pub fn format(disk: &mut D, side: Side, capacity: u32) -> Result<(), Refusal>
         requires side { side ≤ 1201 }
         requires capacity_low { 1 ≤ capacity }
-        requires capacity_high { capacity ≤ 240 }
+        requires capacity_high { capacity ≤ most_tiles }
         requires room { sectors_of side capacity ≤ D.size disk.old }
         ensures size { D.size disk.new ≡ D.size disk.old }
         ensures cause { HasCause (D.failures disk.old) (D.failures disk.new) result }
@@ -63,11 +78,12 @@ impl<D: Disk> Tree<D> {
         Roots::format(disk, &Root::empty(side, capacity))
     }
 
-    /// Opens a disk, which a stop may have left in the middle of a commit: the roots, and then the records that the
-    /// current root reaches. Nothing is written. A refusal hands the disk back.
+    /// Opens a disk, which a stop may have left in the middle of a commit: the roots, and then the records and index
+    /// pages that the current root reaches. Nothing is written. A refusal hands the disk back.
     ///
-    /// It is refused as the roots refuse it, and as Damaged where a record has bytes behind its pages that aren't zero,
-    /// or the pages that the records and entries name aren't pages of the disk or not all distinct; or for memory.
+    /// It is refused as the roots refuse it, and as Damaged where a record or an index page has bytes behind its numbers
+    /// that aren't zero, or the pages that they and the entries name aren't pages of the disk or not all distinct; or for
+    /// memory.
     pub fn open(alloc: Global, disk: D) -> Result<Tree<D>, NotOpened<D>>
         ensures size { D.size (disk_after result) ≡ D.size disk }
         ensures writes { D.writes (disk_after result) ≡ D.writes disk }
@@ -88,7 +104,14 @@ impl<D: Disk> Tree<D> {
         ensures clean { IfOk result (λ tree. (c : Corner) → ¬ HasStaged tree c) }
         ensures none_due { IfOk result (λ tree. records_due tree ≡ 0) }
         ensures corners { IfOk result (λ tree. corners_of tree ≡ map (λ e. e.corner) (root_of tree).entries) }
+        ensures sinks { IfOk result (λ tree. sinks_of tree ≡ (root_of tree).sinks) }
     {
+        let Ok(cache) = PageCache::new(alloc) else {
+            return Err(NotOpened {
+                disk,
+                refusal: Refusal::NoMemory,
+            });
+        };
         let mut roots = Roots::open(disk)?;
         let root = roots.current().copy();
         match read_chart(alloc, &mut roots, &root) {
@@ -96,7 +119,9 @@ impl<D: Disk> Tree<D> {
                 alloc,
                 roots,
                 chart,
+                sinks: Sinks::of(&root),
                 root,
+                cache,
             }),
             Err(refusal) => Err(NotOpened {
                 disk: roots.into_disk(),
@@ -129,12 +154,15 @@ impl<D: Disk> Tree<D> {
         ensures clean { OnOk result ((c : Corner) → ¬ HasStaged self.new c) }
         ensures none_due { OnOk result (records_due self.new ≡ 0) }
         ensures corners { OnOk result (corners_of self.new ≡ map (λ e. e.corner) (root_of self.new).entries) }
+        ensures sinks { OnOk result (sinks_of self.new ≡ (root_of self.new).sinks) }
     {
+        self.cache.clear();
         self.roots.reopen()?;
         let root = self.roots.current().copy();
         match read_chart(self.alloc, &mut self.roots, &root) {
             Ok(chart) => {
                 self.chart = chart;
+                self.sinks = Sinks::of(&root);
                 self.root = root;
                 Ok(())
             }
@@ -159,17 +187,6 @@ impl<D: Disk> Tree<D> {
         self.roots.has_failed()
     }
 
-    /// Only reopening helps from here on, as after a refused read. No call of the disk is made.
-    pub fn fail(&mut self)
-        ensures disk { disk_of self.new ≡ disk_of self.old }
-        ensures root { root_of self.new ≡ root_of self.old }
-        ensures corners { corners_of self.new ≡ corners_of self.old }
-        ensures staged { staged_in D.Disk self.new ≡ staged_in D.Disk self.old }
-        ensures failed { has_failed self.new ≡ true }
-    {
-        self.roots.fail();
-    }
-
     /// Whether the corner has a tile, as the next commit will have it.
     pub fn present(&self, c: Corner) -> bool
         ensures answer { IsTrue result ↔ Contains (corners_of self.now) c }
@@ -178,6 +195,38 @@ impl<D: Disk> Tree<D> {
     {
         self.chart.rules();
         self.chart.is_present(c)
+    }
+
+    /// The corners of the tiles, in order, as the next commit will have them.
+    pub(crate) fn corners(&self) -> ArrayVec<Corner, TILES>
+        ensures corners { result.items ≡ corners_of self.now }
+        ensures in_order { AllAdjacentBelow IsBefore (corners_of self.now) (length (corners_of self.now)) }
+    {
+        self.chart.rules();
+        self.chart.corners()
+    }
+
+    /// The points that are declared sinks, in the order of points, as the next commit will have them.
+    pub fn sinks(&self) -> &[Point]
+        ensures value { result.now ≡ sinks_of self.now }
+        ensures valid { AreSinks (root_of self.now).side (sinks_of self.now) }
+    {
+        self.sinks.points()
+    }
+
+    /// Declares these points sinks and no others, from the next commit on. No call of the disk is made.
+    pub fn declare(&mut self, sinks: &[Point])
+        requires { AreSinks (root_of self.old).side sinks.now }
+        ensures sinks { sinks_of self.new ≡ sinks.now }
+        ensures disk { disk_of self.new ≡ disk_of self.old }
+        ensures root { root_of self.new ≡ root_of self.old }
+        ensures chart { chart_of self.new ≡ chart_of self.old }
+        ensures failed { has_failed self.new ≡ has_failed self.old }
+        ensures begun { has_begun self.new ≡ has_begun self.old }
+        ensures staged { staged_in D.Disk self.new ≡ staged_in D.Disk self.old }
+        ensures at { (s : Stored) → IsAt D.Disk self.old s → IsAt D.Disk self.new s }
+    {
+        self.sinks = Sinks::new(self.root.side(), sinks);
     }
 
     /// How many sectors the disk has, at least four.
@@ -214,12 +263,50 @@ impl<D: Disk> Tree<D> {
         if self.roots.has_failed() {
             return Err(Refusal::Failed);
         }
+        let number = self.page_number(c, plane, i);
+        if self.cache.find(number, into) {
+            return Ok(());
+        }
+        let answer = self.roots.read(number, into);
+        if answer.is_ok() {
+            self.cache.keep(number, into);
+        }
+        answer
+    }
+
+    /// Reads page `i` of a plane as [`Tree::read_page`] does, for whoever reads a plane whole: the page takes no other's
+    /// place among those that were read lately.
+    pub fn scan_page(
+        &mut self,
+        c: Corner,
+        plane: Plane,
+        i: u32,
+        into: &mut [u8; 4096],
+    ) -> Result<(), Refusal>
+        requires held { Holds self.old c plane }
+        requires index { i < pages_of (root_of self.old).side }
+        ensures reads { Reads D.Disk self.old self.new result }
+        ensures page { D.honest (disk_of self.new) → OnOk result (HasPage (staged_in D.Disk self.old) c plane i into.new) }
+        ensures failed { has_failed self.old ≡ true → (result ≡ Err Failed) × (disk_of self.new ≡ disk_of self.old) }
+    {
+        if self.roots.has_failed() {
+            return Err(Refusal::Failed);
+        }
+        let number = self.page_number(c, plane, i);
+        self.roots.read(number, into)
+    }
+
+    // Where page `i` of a plane lies, as the next commit will have it.
+    fn page_number(&self, c: Corner, plane: Plane, i: u32) -> u32
+        requires held { Holds self.now c plane }
+        requires index { i < pages_of (root_of self.now).side }
+        ensures low { 4 ≤ result }
+        ensures high { result < D.size (disk_of self.now) }
+        ensures page { (image : Image) (bytes : List ℕ) → bytes ≡ image result → HasPage (map (tile_in image) (chart_of self.now).staged) c plane i bytes }
+    {
         self.chart.rules();
         match self.chart.plane(c, plane) {
-            Some(location) => {
-                let number = location.pages()[i as usize];
-                self.roots.read(number, into)
-            }
+            Some(location) => location.pages()[i as usize],
             None => unreachable!(),
         }
     }
@@ -245,6 +332,7 @@ impl<D: Disk> Tree<D> {
         ensures honest { D.honest (disk_of self.new) → D.honest (disk_of self.old) }
         ensures root { root_of self.new ≡ root_of self.old }
         ensures corners { corners_of self.new ≡ corners_of self.old }
+        ensures sinks { sinks_of self.new ≡ sinks_of self.old }
         ensures works { has_failed self.new ≡ false ⊎ IsErrOf result Device }
         ensures not_failed { OnOk result (has_failed self.new ≡ false) }
         ensures begun { OnOk result (has_begun self.new ≡ true) }
@@ -272,6 +360,7 @@ impl<D: Disk> Tree<D> {
         prove!(plane == Plane::Heights);
         self.chart.rules();
         let number = self.chart.page_for_writing(c, i)?;
+        self.cache.forget(number);
         self.roots.write(number, page)
     }
 
@@ -285,6 +374,7 @@ impl<D: Disk> Tree<D> {
         ensures disk { disk_of self.new ≡ disk_of self.old }
         ensures root { root_of self.new ≡ root_of self.old }
         ensures corners { corners_of self.new ≡ corners_of self.old }
+        ensures sinks { sinks_of self.new ≡ sinks_of self.old }
         ensures failed { has_failed self.new ≡ has_failed self.old }
         ensures begun { has_begun self.new ≡ has_begun self.old }
         ensures staged { staged_in D.Disk self.new ≡ staged_in D.Disk self.old }
@@ -320,6 +410,7 @@ impl<D: Disk> Tree<D> {
         ensures device { IsErrOf result Device → has_failed self.new ≡ true }
         ensures corners { OnOk result (corners_of self.new ≡ with_corner c (corners_of self.old)) }
         ensures same_corners { IsErrOf result NoMemory → corners_of self.new ≡ corners_of self.old }
+        ensures sinks { sinks_of self.new ≡ sinks_of self.old }
         ensures begun { OnOk result (D.writes (disk_of self.new) + (if has_begun self.new then 0 else 1)
             ≤ D.writes (disk_of self.old) + pages_of (root_of self.old).side + (if has_begun self.old then 0 else 1)) }
         ensures due { OnOk result (records_due self.new ≡ records_due self.old + 1) }
@@ -337,6 +428,7 @@ impl<D: Disk> Tree<D> {
     {
         prove!(plane == Plane::Heights);
         self.chart.tile_for_writing(c)?;
+        self.cache.clear();
         match self.chart.heights(c) {
             Some(plane) => write_plane(&mut self.roots, plane.pages(), bytes),
             None => unreachable!(),
@@ -356,6 +448,7 @@ impl<D: Disk> Tree<D> {
         ensures writes { D.writes (disk_of self.new) ≤ D.writes (disk_of self.old) + records_due self.old + (if has_begun self.old then 2 else 3) }
         ensures honest { D.honest (disk_of self.new) → D.honest (disk_of self.old) }
         ensures corners { corners_of self.new ≡ corners_of self.old }
+        ensures sinks { sinks_of self.new ≡ sinks_of self.old }
         ensures not_failed { OnOk result (has_failed self.new ≡ false) }
         ensures failed { OnErr result (has_failed self.new ≡ true) }
         ensures last_known { OnErr result (root_of self.new ≡ root_of self.old) }
@@ -367,19 +460,25 @@ impl<D: Disk> Tree<D> {
         ensures none_staged { OnOk result ((c : Corner) → ¬ HasStaged self.new c) }
         ensures none_due { OnOk result (records_due self.new ≡ 0) }
         ensures entries { OnOk result (corners_of self.new ≡ map (λ e. e.corner) (root_of self.new).entries) }
+        ensures declared { OnOk result ((root_of self.new).sinks ≡ sinks_of self.old) }
         ensures at { D.honest (disk_of self.new) → (s : Stored) → IsAt D.Disk self.old s
-            → OnOk result (IsAt D.Disk self.new (next_commit s (staged_in D.Disk self.old) count)) }
+            → OnOk result (IsAt D.Disk self.new (next_commit s (sinks_of self.old) (staged_in D.Disk self.old) count)) }
         ensures staged { D.honest (disk_of self.new) → (s : Stored) → IsAt D.Disk self.old s
             → OnOk result (staged_in D.Disk self.new ≡ staged_in D.Disk self.old) }
         ensures durable { D.honest (disk_of self.new)
             → OnOk result (Only (D.seen (disk_of self.new)) (D.may (disk_of self.new))) }
         ensures any_moment { D.honest (disk_of self.new) → (s : Stored) → IsAt D.Disk self.old s
             → LeavesOnly D.Disk (disk_of self.old) (disk_of self.new)
-            (λ image. Stands (D.size (disk_of self.old)) image s ⊎ Stands (D.size (disk_of self.old)) image (next_commit s (staged_in D.Disk self.old) count)) }
+            (λ image. Stands (D.size (disk_of self.old)) image s ⊎ Stands (D.size (disk_of self.old)) image (next_commit s (sinks_of self.old) (staged_in D.Disk self.old) count)) }
     {
+        // What it gives up may hold something else from here on, and so do the pages that get its records.
+        self.cache.clear();
         self.chart.rules();
-        let entries = self.chart.entries();
-        let root = self.root.next(count, entries);
+        let entries = staged_entries(&self.chart);
+        let root = self
+            .root
+            .next(count, entries)
+            .with_sinks(self.sinks.points());
         write_records(&mut self.roots, &self.chart)?;
         self.roots.commit(&root)?;
         self.root = root;
@@ -394,12 +493,16 @@ impl<D: Disk> Tree<D> {
         ensures failed { has_failed self.new ≡ has_failed self.old }
         ensures begun { has_begun self.new ≡ has_begun self.old }
         ensures corners { corners_of self.new ≡ map (λ e. e.corner) (root_of self.new).entries }
+        ensures sinks { sinks_of self.new ≡ (root_of self.new).sinks }
         ensures none_staged { (c : Corner) → ¬ HasStaged self.new c }
         ensures none_due { records_due self.new ≡ 0 }
         ensures at { D.honest (disk_of self.old) → (s : Stored) → IsAt D.Disk self.old s → IsAt D.Disk self.new s }
         ensures committed { D.honest (disk_of self.old) → (s : Stored) → IsAt D.Disk self.old s → staged_in D.Disk self.new ≡ s.tiles }
+        ensures undeclared { D.honest (disk_of self.old) → (s : Stored) → IsAt D.Disk self.old s → sinks_of self.new ≡ s.sinks }
     {
+        self.cache.clear();
         self.chart.undo();
+        self.sinks = Sinks::of(&self.root);
     }
 
     /// Takes the corner's tile out, with all its planes; the plane named is heights. Nothing of it was staged since the last
@@ -414,11 +517,30 @@ impl<D: Disk> Tree<D> {
         ensures not_failed { has_failed self.new ≡ false }
         ensures begun { has_begun self.new ≡ has_begun self.old }
         ensures corners { corners_of self.new ≡ filter (λ other. not (same_corner other c)) (corners_of self.old) }
+        ensures sinks { sinks_of self.new ≡ sinks_of self.old }
         ensures due { records_due self.new ≤ records_due self.old }
         ensures staged { staged_in D.Disk self.new ≡ without_tile c (staged_in D.Disk self.old) }
         ensures at { (s : Stored) → IsAt D.Disk self.old s → IsAt D.Disk self.new s }
     {
         prove!(plane == Plane::Heights);
         self.chart.remove_tile(c);
+    }
+
+    /// Takes the levels and the labels of the corner's tile out, where they are kept; its heights stay. No call of the disk
+    /// is made.
+    pub fn drop_kept(&mut self, c: Corner)
+        requires { Contains (corners_of self.old) c }
+        ensures disk { disk_of self.new ≡ disk_of self.old }
+        ensures root { root_of self.new ≡ root_of self.old }
+        ensures failed { has_failed self.new ≡ has_failed self.old }
+        ensures begun { has_begun self.new ≡ has_begun self.old }
+        ensures corners { corners_of self.new ≡ corners_of self.old }
+        ensures sinks { sinks_of self.new ≡ sinks_of self.old }
+        ensures due { records_due self.new ≡ records_due self.old }
+        ensures still_staged { (other : Corner) → HasStaged self.old other → HasStaged self.new other }
+        ensures staged { staged_in D.Disk self.new ≡ made_stale c (staged_in D.Disk self.old) }
+        ensures at { (s : Stored) → IsAt D.Disk self.old s → IsAt D.Disk self.new s }
+    {
+        self.chart.drop_kept(c);
     }
 }

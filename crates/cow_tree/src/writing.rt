@@ -2,11 +2,12 @@
 ghost use Rattle.std.specs.Prelude.{◌≡◌, ◌≤◌, ◌<◌, ◌+◌, ◌*◌, ℕ, List, All, Contains, true, false, length, map, take, drop, OnOk, OnErr, IfErr, if◌then◌else◌};
 ghost use Rattle.disk.specs.Stops.{LeavesOnly, HasCause};
 ghost use Rattle.lattice.specs.declared.refusal.Refusal.TheVariants.{Device};
+ghost use Rattle.layout.specs.declared.version.Version.TheVariants.{One};
 ghost use Rattle.page_codec.specs.Numbers.{padded};
 ghost use Rattle.page_codec.specs.Records.{record_bytes};
 ghost use Rattle.page_codec.specs.Sizes.{pages_of};
 ghost use Rattle.charts.specs.Charts.{IsChart, is_changed, fresh_corners};
-ghost use Rattle.cow_tree.specs.Staged.{changed_tiles, record_pages};
+ghost use Rattle.cow_tree.specs.Staged.{IsRecorded, pages_due};
 ghost use Rattle.charts.specs.TileLocations.{TileLocation, reached};
 ghost use Rattle.cow_tree.specs.Layout.{StoresAt};
 ghost use Rattle.charts.specs.Locations.{times};
@@ -98,7 +99,8 @@ pub(crate) fn write_plane<D: Disk>(
 pub(crate) fn write_records<D: Disk>(roots: &mut Roots<D>, chart: &Chart) -> Result<(), Refusal>
     requires not_failed { has_failed roots.old ≡ false }
     requires sectors { chart.now.sectors ≡ D.size (disk_of roots.old) }
-    requires side { pages_of chart.now.side ≤ RECORD_PAGES }
+    requires first { chart.now.format.version ≡ One }
+    requires side { pages_of chart.now.format.side ≤ RECORD_PAGES }
     ensures size { D.size (disk_of roots.new) ≡ D.size (disk_of roots.old) }
     ensures cause { HasCause (D.failures (disk_of roots.old)) (D.failures (disk_of roots.new)) result }
     ensures refused { IfErr result (λ refusal. refusal ≡ Device) }
@@ -112,9 +114,9 @@ pub(crate) fn write_records<D: Disk>(roots: &mut Roots<D>, chart: &Chart) -> Res
     ensures ready { D.honest (disk_of roots.new) → IsReady D.Disk roots.old → OnOk result (IsReady D.Disk roots.new) }
     ensures recorded { D.honest (disk_of roots.new)
         → OnOk result (All (λ t. is_changed chart.now.committed t ≡ true
-        → D.seen (disk_of roots.new) t.heights.record_page ≡ record_bytes t.heights.pages) chart.now.staged) }
+        → IsRecorded chart.now.format chart.now.committed (D.seen (disk_of roots.new)) t.heights) chart.now.staged) }
     ensures others { D.honest (disk_of roots.new)
-        → OnOk result ((p : ℕ) → 4 ≤ p → times p (record_pages (changed_tiles chart.now)) ≡ 0
+        → OnOk result ((p : ℕ) → 4 ≤ p → times p (pages_due chart.now) ≡ 0
         → D.seen (disk_of roots.old) p ≡ D.seen (disk_of roots.new) p) }
 
     // A stop at any moment leaves what is stored.

@@ -3,6 +3,7 @@ pub mod FileCalls
 pub mod FileDisk
 pub mod FileLaws
 pub mod FileMembers
+pub mod FileWorlds
 pub mod Faults
 pub mod Faulty
 pub mod MemDisk

@@ -2,7 +2,7 @@
 use Rattle.std.proofs.Common.{◌≡◌, ℕ, zero, suc, ◌+◌, ◌<◌, ◌≤◌, ℤ, pos, inl, inr, List, [], ◌∷◌, ◌++◌, length, map, get_or, refl, sym, ◌∙◌, ap, ap₂, subst, arith, length-append}
 use Rattle.std.specs.Prelude.{Contains}
 use Rattle.std.proofs.lemmas.Bool.{cases_lt}
-use Rattle.std.proofs.lemmas.List.{map-append, take_more, take_all, length-map, get_or_append_left}
+use Rattle.std.proofs.lemmas.List.{map-append, take_more, take_all, length-map, get_or_append_left, get_or_past}
 use Rattle.std.proofs.lemmas.List.Elements.{All-append, All-cons, All-nil}
 use Rattle.std.proofs.Math.Seq.{get_or-append_seam}
 use Rattle.lattice.specs.Corners.{Corner}
@@ -86,3 +86,15 @@ pub map_at : {X Y : Type 0} (f : X → Y) (xs : List X) (k : ℕ) (x : X) (e : Y
 map_at f [] k x e below is = absurd (omega arith)
 map_at f (y ∷ ys) zero x e below is = ap f (sym is)
 map_at f (y ∷ ys) (suc k) x e below is = map_at f ys k x e (omega arith) is
+
+-- each of the tiles has its labelling
+pub labelled_there : (m : Mosaic) (corners : List Corner) (labelled : List LabelledGround) (rims : List (List ℤ)) → AreRimsFilled m corners labelled rims → (k : ℕ) → k < length corners → k < length labelled
+labelled_there m corners labelled rims filled k below = elim (cases_lt k (length labelled)) [
+  | inl inside ↦ inside
+  | inr past ↦
+      let this = filled.each k below in
+      let none : (labelled_at labelled k).side ≡ 0 = ap (λ (l : LabelledGround). l.side) (get_or_past labelled k (record { side = 0; levels = []; labels = [] }) past) in
+      let side = this.side in
+      let low = this.mosaic.side_low in
+      absurd (omega arith)
+]

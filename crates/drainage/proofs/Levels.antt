@@ -5,6 +5,8 @@ use Rattle.std.specs.List.{AllAdjacentBelow}
 use Rattle.std.proofs.Math.Nat.{mul-le-mul_right}
 use Rattle.std.proofs.lemmas.Bool.{cases_lt}
 use Rattle.std.proofs.lemmas.List.{get_or_append_left, get_or-append-add}
+use Rattle.lattice.specs.Limits.{largest_side, most_tiles}
+use Rattle.lattice.specs.declared.point.Point.{Point}
 use Rattle.lattice.specs.Corners.{Corner}
 use Rattle.lattice.specs.Lattice.{IsBefore, point_of}
 use Rattle.lattice.specs.Mosaic.{Mosaic, IsMosaic, void}
@@ -63,9 +65,10 @@ module _ (m : Mosaic) (corners : List Corner) (levels tile : List ℤ) (count : 
       one_more n a = omega arith
 
 -- the levels of all tiles are those of the mosaic
-module _ (m : Mosaic) (is : IsMosaic m) (n : ℕ) (side : n ≡ m.side) (corners : List Corner) (all : corners ≡ corners_of m) (levels : List ℤ) (done : AreTilesFilled m corners levels (length corners)) where
+module _ (m : Mosaic) (is : IsMosaic m) (n : ℕ) (side : n ≡ m.side) (corners : List Corner) (all : corners ≡ corners_of m) (levels : List ℤ) (done : AreTilesFilled m corners levels (length corners))
+    (sinks : List Point) (declared : sinks ≡ m.sinks) where
   found : Filled
-  found = record { side = n; corners = corners; levels = levels }
+  found = record { side = n; corners = corners; levels = levels; sinks = sinks }
 
   found_at : (cs : List Corner) (k : ℕ) (c : Corner) → slice_get cs k ≡ Some c → (k < length cs) × (corner_at cs k ≡ c)
   found_at [] k c e = absurd (cc)
@@ -75,16 +78,16 @@ module _ (m : Mosaic) (is : IsMosaic m) (n : ℕ) (side : n ≡ m.side) (corners
       some_is a b e = cc
   found_at (d ∷ ds) (suc k) c e = let later = found_at ds k c e in (omega (arith, later.0), later.1)
 
-  pub are_levels : length corners ≤ 240 → AreLevels (record { side = n; corners = corners; levels = levels })
+  pub are_levels : length corners ≤ most_tiles → AreLevels (record { side = n; corners = corners; levels = levels; sinks = sinks })
   are_levels few = record {
     side_low = subst (λ k. 3 ≤ k) (sym side) is.side_low;
-    side_high = subst (λ k. k ≤ 3601) (sym side) is.side_high;
+    side_high = subst (λ k. k ≤ largest_side) (sym side) is.side_high;
     few = few;
     in_order = subst (λ (cs : List Corner). AllAdjacentBelow IsBefore cs (length cs)) (sym all) (corners_in_order m is);
     whole = done.whole ∙ ap (λ k. length corners * (k * k)) (sym side);
   }
 
-  pub is_filled : IsFilledOf m (record { side = n; corners = corners; levels = levels })
+  pub is_filled : IsFilledOf m (record { side = n; corners = corners; levels = levels; sinks = sinks })
   is_filled = record {
     side = side;
     corners = all;
@@ -96,4 +99,5 @@ module _ (m : Mosaic) (is : IsMosaic m) (n : ℕ) (side : n ≡ m.side) (corners
         let this = found_at corners k c at in
         subst (λ s. e < s * s → IsFalse (is_ground m (point_of s c e)) → get_or levels (k * (s * s) + e) void ≡ void) (sym side)
         (λ less down. subst (λ d. IsFalse (is_ground m (point_of m.side d e)) → get_or levels (k * (m.side * m.side) + e) void ≡ void) this.1 (done.elsewhere k e this.0 less) down) small off;
+    sinks = declared;
   }

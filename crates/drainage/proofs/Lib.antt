@@ -8,3 +8,11 @@ pub mod Levels
 pub mod Refused
 pub mod Answered
 pub mod LevelFunctions
+pub mod Ashore
+pub mod Lowest
+pub mod Telling
+pub mod Numbered
+pub mod Placed
+pub mod Whole
+pub mod Over
+pub mod Filled

@@ -1,52 +1,50 @@
--- Reads of which none was refused, and tiles that are sealed twice.
-use Rattle.std.proofs.Common.{◌≡◌, ◌⊎◌, ℕ, ◌*◌, ◌<◌, ℤ, inl, inr, sym, ◌∙◌, ap, subst, Result, Ok, Err, List}
-use Rattle.std.specs.Prelude.{IsOk, IfErr}
-use Rattle.std.proofs.lemmas.Bool.{false≢true}
-use Rattle.std.proofs.lemmas.List.Elements.{All-weaker}
+-- What the answers over sealed tiles come to, as questions over samples.
+use Rattle.std.proofs.Common.{◌≡◌, ◌≢◌, ◌⊎◌, inl, inr, Result, Ok, Err}
+use Rattle.std.specs.Prelude.{IfErr, IsTrue}
 use Rattle.lattice.specs.declared.refusal.Refusal.{Refusal}
-use Rattle.lattice.specs.declared.refusal.Refusal.TheVariants.{Device, NoMemory, Failed, Damaged}
-use Rattle.lattice.specs.Corners.{Corner}
-use Rattle.lattice.specs.Lattice.{point_of}
+use Rattle.lattice.specs.declared.refusal.Refusal.TheVariants.{NoMemory, Damaged}
+use Rattle.lattice.specs.declared.point.Point.{Point}
 use Rattle.lattice.specs.Mosaic.{Mosaic, IsMosaic}
-use Rattle.lattice.specs.Height.{height_of}
-use Rattle.lattice.specs.Ground.{metres}
-use Rattle.lattice.specs.Block.{IsBlockOf}
-use Rattle.catalogue.specs.Reading.{MayRefuse}
-use Rattle.catalogue.specs.Readers.{OnlyReads, reads_of}
+use Rattle.lattice.specs.Ground.{is_ground}
+use Rattle.catalogue.specs.Asked.{Asked, IsOwnRefusal}
 use Rattle.catalogue.specs.Sealed.{IsSealed}
 use Rattle.catalogue.specs.declared.samples.Samples.{Ghosts}
-use Rattle.catalogue.proofs.SealedHeights.{sealed_height}
+use Rattle.catalogue.proofs.Asking.{asked_answer}
 
--- reads that a call which is refused for want of memory follows are as they were
-pub read_then : {S T : Type 0} (g : Ghosts S) (a b : S) (result : Result T Refusal) → IfErr result (λ r. r ≡ NoMemory) → OnlyReads {T = Unit {0}} g a b (Ok tt) → OnlyReads g a b (reads_of result)
-read_then g a b (Ok x) h reads = reads
-read_then {S} {T} g a b (Err r) h reads = subst (λ (x : Refusal). OnlyReads g a b (reads_of {T = T} (Err x))) (sym h) reads
-
--- where no read was refused, only memory was wanting
-pub memory_alone : {T : Type 0} (before now : ℕ) (result : Result T Refusal) → IsOk (reads_of result) → IfErr result (λ r. (r ≡ NoMemory) ⊎ MayRefuse before now r) → IfErr result (λ r. r ≡ NoMemory)
-memory_alone before now (Ok x) unread h = tt
-memory_alone {T} before now (Err r) unread h = by r unread h
+own_refusal : {T : Type 0} (result : Result T Refusal) → IfErr result (λ r. (r ≡ NoMemory) ⊎ (r ≡ Damaged)) → IfErr result IsOwnRefusal
+own_refusal (Ok x) h = tt
+own_refusal (Err r) h = by r h
   where
-    by : (r : Refusal) → IsOk (reads_of {T = T} (Err r)) → (r ≡ NoMemory) ⊎ MayRefuse before now r → r ≡ NoMemory
-    by r unread (inl memory) = memory
-    by Device unread (inr may) = absurd (false≢true unread)
-    by Failed unread (inr may) = absurd (false≢true unread)
-    by Damaged unread (inr may) = absurd (false≢true unread)
-    by _ unread (inr may) = absurd may
+    by : (r : Refusal) → (r ≡ NoMemory) ⊎ (r ≡ Damaged) → IsOwnRefusal r
+    by NoMemory h = tt
+    by Damaged h = tt
+    by _ (inl e) = absurd (cc)
+    by _ (inr e) = absurd (cc)
 
--- a sealed mosaic sealed again is the mosaic sealed
-pub sealed_again : (m s again : Mosaic) → IsMosaic m → IsMosaic s → IsSealed m s → IsSealed s again → IsSealed m again
-sealed_again m s again is valid once twice = record {
-  side = twice.side ∙ once.side;
-  corners = twice.corners ∙ once.corners;
-  blocks = All-weaker (λ t. IsBlockOf s t.corner t.samples) (λ t. IsBlockOf m t.corner t.samples) (λ t block. same_block t.corner t.samples block) again.tiles twice.blocks;
-}
+never_damaged : {T : Type 0} (result : Result T Refusal) → IfErr result (λ r. r ≡ NoMemory) → result ≢ Err Damaged
+never_damaged (Ok x) h e = cc
+never_damaged (Err r) h e = cc
+
+-- an answer from sealed tiles, damaged only where they are no mosaic's, is one to the question that sealed them
+pub asked_of_sealed : {S T : Type 0} (g : Ghosts S) (is_mosaic : (s : S) → g.is_honest s → IsMosaic (g.mosaic s)) (a b : S) (table : Mosaic) (result : Result T Refusal)
+    → Asked g a b (Ok table) → (g.is_honest b → IsSealed (g.mosaic a) table) → IfErr result (λ r. (r ≡ NoMemory) ⊎ (r ≡ Damaged))
+    → ((m : Mosaic) → IsMosaic m → IsSealed m table → IfErr result (λ r. r ≡ NoMemory)) → Asked g a b result
+asked_of_sealed g is_mosaic a b table result h sealed causes sound =
+    asked_answer g a b table result h (own_refusal result causes)
+    (λ honest ready. never_damaged result (sound (g.mosaic a) (is_mosaic a (h.reads.honest honest)) (sealed honest)))
+
+-- the same of a ground point
+pub asked_of_ground : {S T : Type 0} (g : Ghosts S) (is_mosaic : (s : S) → g.is_honest s → IsMosaic (g.mosaic s)) (a b : S) (table : Mosaic) (p : Point) (result : Result T Refusal)
+    → Asked g a b (Ok table) → (g.is_honest b → IsSealed (g.mosaic a) table) → (g.is_honest b → IsTrue (is_ground (g.mosaic a) p)) → IfErr result (λ r. (r ≡ NoMemory) ⊎ (r ≡ Damaged))
+    → ((m : Mosaic) → IsMosaic m → IsSealed m table → IsTrue (is_ground m p) → IfErr result (λ r. r ≡ NoMemory)) → Asked g a b result
+asked_of_ground g is_mosaic a b table p result h sealed on causes sound =
+    asked_answer g a b table result h (own_refusal result causes)
+    (λ honest ready. never_damaged result (sound (g.mosaic a) (is_mosaic a (h.reads.honest honest)) (sealed honest) (on honest)))
+
+-- nor is one that only memory was wanting for
+pub asked_of_memory : {S T : Type 0} (g : Ghosts S) (a b : S) (table : Mosaic) (result : Result T Refusal) → Asked g a b (Ok table) → IfErr result (λ r. r ≡ NoMemory) → Asked g a b result
+asked_of_memory g a b table result h memory = asked_answer g a b table result h (own_refusal result (or_memory result memory)) (λ _ _. never_damaged result memory)
   where
-    same_block : (c : Corner) (heights : List ℤ) → IsBlockOf s c heights → IsBlockOf m c heights
-    same_block c heights block = record {
-      whole = block.whole ∙ ap (λ n. n * n) once.side;
-      values = λ e small.
-          block.values e (subst (λ n. e < n * n) (sym once.side) small)
-          ∙ ap metres (sealed_height m s is valid once (point_of s.side c e))
-          ∙ ap (λ n. metres (height_of m (point_of n c e))) once.side;
-    }
+    or_memory : {T : Type 0} (result : Result T Refusal) → IfErr result (λ r. r ≡ NoMemory) → IfErr result (λ r. (r ≡ NoMemory) ⊎ (r ≡ Damaged))
+    or_memory (Ok x) h = tt
+    or_memory (Err r) h = inl h

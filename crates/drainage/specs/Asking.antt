@@ -5,8 +5,6 @@ use Rattle.lattice.specs.Lattice.{Holds}
 use Rattle.lattice.specs.declared.point.Point.{Point}
 use Rattle.lattice.specs.declared.refusal.Refusal.{Refusal}
 use Rattle.lattice.specs.declared.refusal.Refusal.TheVariants.{Outside, Void}
-use Rattle.lattice.specs.Mosaic.{Mosaic, IsMosaic}
-use Rattle.catalogue.specs.Sealed.{IsSealed}
 use Rattle.catalogue.specs.Endings.{ends_any}
 
 -- none of these corners' tiles holds the point
@@ -18,7 +16,3 @@ abbrev pub may_refuse : Refusal → Bool
 may_refuse Outside = true
 may_refuse Void = true
 may_refuse r = ends_any r
-
--- the table is a mosaic sealed
-abbrev pub IsSealedOfSome : Mosaic → Type 0
-IsSealedOfSome table = (m : Mosaic) × (IsMosaic m × IsSealed m table)

@@ -5,9 +5,9 @@ use Rattle.lattice.specs.Corners.{Corner}
 use Rattle.lattice.specs.Lattice.{point_of}
 use Rattle.lattice.specs.Mosaic.{Mosaic, void, samples_of}
 use Rattle.lattice.specs.Ground.{is_outlet}
-use Rattle.lattice.specs.Block.{IsBlockOf}
+use Rattle.lattice.specs.Block.{Block, IsBlockOf, sinks_in}
 use Rattle.catalogue.specs.Tiles.{corners_of}
-use Rattle.tile_flood.specs.Blocks.{Ground, LabelledGround}
+use Rattle.tile_flood.specs.Blocks.{LabelledGround}
 use Rattle.tile_flood.specs.Labelling.{IsLabelling}
 use Rattle.tile_flood.specs.Raising.{IsRimFilled}
 use Rattle.border_graph.specs.declared.summary.RimPoint.{RimPoint}
@@ -15,10 +15,11 @@ use Rattle.border_graph.specs.Summaries.{Summary}
 use Rattle.border_graph.specs.Joining.{nowhere, IsSummaryOf}
 use Rattle.lattice.specs.RimPoints.{IsRimPoint}
 
--- the side and the samples of the corner's tile
-pub record IsGroundIn (table : Mosaic) (c : Corner) (block : Ground) : Type 0 where
+-- the side, the samples and the sinks of the corner's tile
+pub record IsGroundIn (table : Mosaic) (c : Corner) (block : Block) : Type 0 where
   pub side : block.side ≡ table.side
   pub heights : samples_of table c ≡ Some block.heights
+  pub sinks : block.sinks ≡ sinks_in table.side c table.sinks
 
 -- what a summary says of the rim point with this number, where each tile of the table is its block
 pub record IsRimPointIn (table : Mosaic) (c : Corner) (heights : List ℤ) (labels : List ℕ) (k : ℕ) (p : RimPoint) : Type 0 where
@@ -36,7 +37,7 @@ pub record AreRimPointsIn (table : Mosaic) (c : Corner) (heights : List ℤ) (la
 -- a valid labelling of the block of the corner's tile
 pub record IsFlooded (m : Mosaic) (c : Corner) (labelled : LabelledGround) : Type 0 where
   pub side : labelled.side ≡ m.side
-  pub valid : (heights : List ℤ) × (IsBlockOf m c heights × IsLabelling labelled.side heights labelled.levels labelled.labels)
+  pub valid : (b : Block) × (IsBlockOf m c b × IsLabelling b labelled.levels labelled.labels)
 
 abbrev pub corner_at : List Corner → ℕ → Corner
 corner_at corners k = slice_index_or corners k (record { lat = pos 0; lon = pos 0 })

@@ -5,11 +5,11 @@ ghost use Rattle.lattice.specs.Height.{height_of};
 ghost use Rattle.lattice.specs.Ground.{is_ground};
 ghost use Rattle.lattice.specs.declared.height.Height.TheVariants as height_is;
 ghost use Rattle.lattice.specs.declared.refusal.Refusal.TheVariants.{Outside, Void};
-ghost use Rattle.catalogue.specs.Readers.{OnlyReads, reads_of};
+ghost use Rattle.catalogue.specs.Asked.{Asked};
 ghost use Rattle.catalogue.specs.Tiles.{corners_of};
 ghost use Rattle.catalogue.specs.Sealed.{IsSealed};
 ghost use Rattle.catalogue.specs.Endings.{ends_any};
-ghost use Rattle.drainage.specs.Asking.{IsHeldByNone, IsSealedOfSome, may_refuse};
+ghost use Rattle.drainage.specs.Asking.{IsHeldByNone, may_refuse};
 
 use catalogue::{Samples, Table, height, sealed};
 use lattice::{Height, Point, Refusal, holders};
@@ -22,7 +22,6 @@ pub(crate) fn survey<S: Samples>(
     point: Point,
 ) -> Result<Table, Refusal>
     ensures sealed { S.is_honest samples.new → IfOk result (λ table. IsSealed (S.mosaic samples.old) table) }
-    ensures own { IfOk result (λ table. IsSealedOfSome table) }
     ensures valid { IfOk result (λ table. IsMosaic table) }
     ensures side { IfOk result (λ table. table.side ≡ S.side_of samples.old) }
     ensures corners { IfOk result (λ table. corners_of table ≡ S.corners samples.old) }
@@ -30,7 +29,7 @@ pub(crate) fn survey<S: Samples>(
     ensures outside { IsErrOf result Outside ↔ IsHeldByNone (S.side_of samples.old) (S.corners samples.old) point }
     ensures void { S.is_honest samples.new → IsErrOf result Void → height_of (S.mosaic samples.old) point ≡ height_is.Void }
     ensures causes { IfErr result (λ r. IsTrue (may_refuse r)) }
-    ensures reads { OnlyReads S.Samples samples.old samples.new (reads_of result) }
+    ensures asked { Asked S.Samples samples.old samples.new result }
 {
     if !is_held(samples, point) {
         return Err(Refusal::Outside);
@@ -41,19 +40,17 @@ pub(crate) fn survey<S: Samples>(
     }
 }
 
-// The sealed tiles. A disk that isn't honest may say one thing in one read and another in the next, and then its tiles
-// disagree: sealed once more, in memory, they never do.
+// The sealed tiles. A disk that isn't honest may say one thing in one read and another in the next: then its tiles
+// disagree, and are no sealed mosaic.
 fn sealed_tiles<S: Samples>(alloc: Global, samples: &mut S) -> Result<Table, Refusal>
     ensures sealed { S.is_honest samples.new → IfOk result (λ table. IsSealed (S.mosaic samples.old) table) }
-    ensures own { IfOk result (λ table. IsSealedOfSome table) }
     ensures valid { IfOk result (λ table. IsMosaic table) }
     ensures side { IfOk result (λ table. table.side ≡ S.side_of samples.old) }
     ensures corners { IfOk result (λ table. corners_of table ≡ S.corners samples.old) }
     ensures refusal { IfErr result (λ r. IsTrue (ends_any r)) }
-    ensures reads { OnlyReads S.Samples samples.old samples.new (reads_of result) }
+    ensures asked { Asked S.Samples samples.old samples.new result }
 {
-    let mut table = sealed(alloc, samples)?;
-    sealed(alloc, &mut table)
+    sealed(alloc, samples)
 }
 
 // Whether some present tile holds the point.

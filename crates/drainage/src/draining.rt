@@ -1,12 +1,13 @@
 //! Where water goes from a point, and where it comes from.
 ghost use Rattle.std.specs.Prelude.{◌≡◌, ◌≤◌, ◌⊎◌, ◌↔◌, ℤ, IsTrue, IsOk, IfOk, IfErr, IsErrOf, length};
+ghost use Rattle.lattice.specs.Limits.{most_tiles};
 ghost use Rattle.lattice.specs.declared.point.Point.{Point};
 ghost use Rattle.lattice.specs.Mosaic.{Mosaic, IsMosaic};
 ghost use Rattle.lattice.specs.Height.{height_of};
 ghost use Rattle.lattice.specs.Ground.{is_ground, terrain};
 ghost use Rattle.lattice.specs.declared.height.Height.TheVariants as height_is;
 ghost use Rattle.lattice.specs.declared.refusal.Refusal.TheVariants.{Outside, Void, NoMemory, Damaged};
-ghost use Rattle.catalogue.specs.Readers.{OnlyReads, reads_of};
+ghost use Rattle.catalogue.specs.Asked.{Asked};
 ghost use Rattle.catalogue.specs.Tiles.{corners_of};
 ghost use Rattle.flow_d8.specs.Drainage.{AreFilledLevels};
 ghost use Rattle.flow_d8.specs.Directions.{AreDirectionsOf};
@@ -28,16 +29,16 @@ use watershed::Run;
 /// where it leaves the mosaic.
 ///
 /// Outside where no present tile holds the point, then Void where its height is void. Otherwise it is refused only for
-/// want of memory, or as a read may be.
+/// want of memory, as a read may be, or with Damaged where what was read is no mosaic's.
 pub fn direction<S: Samples>(alloc: Global, samples: &mut S, point: Point) -> Result<u8, Refusal>
-    requires few { length (S.corners samples.old) ≤ 240 }
+    requires few { length (S.corners samples.old) ≤ most_tiles }
     ensures direction { S.is_honest samples.new → IfOk result (λ code. (level : Point → ℤ) → AreFilledLevels (terrain (S.mosaic samples.old)) level
         → DrainsBy (terrain (S.mosaic samples.old)) level point code) }
     ensures on_ground { S.is_honest samples.new → IsOk result → IsTrue (is_ground (S.mosaic samples.old) point) }
     ensures outside { IsErrOf result Outside ↔ IsHeldByNone (S.side_of samples.old) (S.corners samples.old) point }
     ensures void { S.is_honest samples.new → IsErrOf result Void → height_of (S.mosaic samples.old) point ≡ height_is.Void }
     ensures causes { IfErr result (λ r. IsTrue (may_refuse r)) }
-    ensures reads { OnlyReads S.Samples samples.old samples.new (reads_of result) }
+    ensures asked { Asked S.Samples samples.old samples.new result }
 {
     let mut table = survey(alloc, samples, point)?;
     let directions = drained(alloc, &mut table)?;
@@ -51,14 +52,14 @@ pub fn trace<S: Samples>(
     samples: &mut S,
     point: Point,
 ) -> Result<Vec<Point>, Refusal>
-    requires few { length (S.corners samples.old) ≤ 240 }
+    requires few { length (S.corners samples.old) ≤ most_tiles }
     ensures path { S.is_honest samples.new → IfOk result (λ path. (level : Point → ℤ) → AreFilledLevels (terrain (S.mosaic samples.old)) level
         → IsFlowPath (terrain (S.mosaic samples.old)) level point path.items) }
     ensures on_ground { S.is_honest samples.new → IsOk result → IsTrue (is_ground (S.mosaic samples.old) point) }
     ensures outside { IsErrOf result Outside ↔ IsHeldByNone (S.side_of samples.old) (S.corners samples.old) point }
     ensures void { S.is_honest samples.new → IsErrOf result Void → height_of (S.mosaic samples.old) point ≡ height_is.Void }
     ensures causes { IfErr result (λ r. IsTrue (may_refuse r)) }
-    ensures reads { OnlyReads S.Samples samples.old samples.new (reads_of result) }
+    ensures asked { Asked S.Samples samples.old samples.new result }
 {
     let mut table = survey(alloc, samples, point)?;
     let directions = drained(alloc, &mut table)?;
@@ -72,14 +73,14 @@ pub fn watershed<S: Samples>(
     samples: &mut S,
     point: Point,
 ) -> Result<Vec<Run>, Refusal>
-    requires few { length (S.corners samples.old) ≤ 240 }
+    requires few { length (S.corners samples.old) ≤ most_tiles }
     ensures runs { S.is_honest samples.new → IfOk result (λ runs. (level : Point → ℤ) → AreFilledLevels (terrain (S.mosaic samples.old)) level
         → AreRuns (IsInWatershed (terrain (S.mosaic samples.old)) level point) runs.items) }
     ensures on_ground { S.is_honest samples.new → IsOk result → IsTrue (is_ground (S.mosaic samples.old) point) }
     ensures outside { IsErrOf result Outside ↔ IsHeldByNone (S.side_of samples.old) (S.corners samples.old) point }
     ensures void { S.is_honest samples.new → IsErrOf result Void → height_of (S.mosaic samples.old) point ≡ height_is.Void }
     ensures causes { IfErr result (λ r. IsTrue (may_refuse r)) }
-    ensures reads { OnlyReads S.Samples samples.old samples.new (reads_of result) }
+    ensures asked { Asked S.Samples samples.old samples.new result }
 {
     let mut table = survey(alloc, samples, point)?;
     let directions = drained(alloc, &mut table)?;
@@ -89,15 +90,16 @@ pub fn watershed<S: Samples>(
 // The directions of all ground points, where each tile of the table is its block.
 fn drained(alloc: Global, table: &mut Table) -> Result<Directions, Refusal>
     requires valid { IsMosaic table.old }
-    requires few { length (corners_of table.old) ≤ 240 }
+    requires few { length (corners_of table.old) ≤ most_tiles }
     ensures directions { IfOk result (λ d. (m : Mosaic) (level : Point → ℤ) → IsMosaic m → IsSealed m table.old → AreFilledLevels (terrain m) level → AreDirectionsOf m level d) }
     ensures not_damaged { (m : Mosaic) → IsMosaic m → IsSealed m table.old → IfErr result (λ r. r ≡ NoMemory) }
     ensures causes { IfErr result (λ r. (r ≡ NoMemory) ⊎ (r ≡ Damaged)) }
 {
     let side = table.side();
+    let sinks = Vec::from_slice(alloc, table.sinks())?;
     let flooded = flood(alloc, table)?;
     let levels = all_levels(alloc, &flooded)?;
-    let Some(filled) = Filled::new(side, flooded.corners, levels) else {
+    let Some(filled) = Filled::new(side, flooded.corners, levels, sinks) else {
         return Err(Refusal::Damaged);
     };
     filled.directions(alloc)

@@ -1,5 +1,8 @@
 //! All tiles flooded, and joined at their rims.
-ghost use Rattle.std.specs.Prelude.{◌≡◌, ◌<◌, ◌⊎◌, IfOk, IfErr, length, map};
+ghost use Rattle.std.specs.Prelude.{◌*◌, IsTrue, IsSomeAnd, ◌≡◌, ◌<◌, ◌⊎◌, IfOk, IfErr, length, map};
+ghost use Rattle.lattice.specs.Lattice.{point_of};
+ghost use Rattle.lattice.specs.Ground.{is_ground, terrain};
+ghost use Rattle.lattice.specs.Terrain.{IsFilledLevel};
 ghost use Rattle.lattice.specs.Mosaic.{Mosaic, IsMosaic};
 ghost use Rattle.lattice.specs.declared.refusal.Refusal.TheVariants.{NoMemory, Damaged};
 ghost use Rattle.catalogue.specs.Tiles.{corners_of};

@@ -2,7 +2,8 @@
 //! origin.
 //!
 //! The layer above rests on this: over any lawful `Samples` each call gives what its definition says of the mosaic that
-//! they stand for, floods every present tile in memory, and only reads.
+//! they stand for, and only reads. A filled level floods the tiles on the water's way out, in memory; the other questions
+//! flood every present tile.
 #![tactic(auto)]
 
 mod asking;
@@ -11,6 +12,7 @@ mod filling;
 mod flooding;
 mod growth;
 mod laws;
+mod shores;
 mod summing;
 
 pub use draining::{direction, trace, watershed};

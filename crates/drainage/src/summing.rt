@@ -10,7 +10,7 @@ ghost use Rattle.drainage.specs.Flooded.{IsGroundIn, IsRimPointIn, AreRimPointsI
 use crate::growth::push;
 use border_graph::{RimPoint, Summary};
 use catalogue::{Samples, Table, outlet};
-use lattice::{Corner, Refusal, point_at, rim_index};
+use lattice::{Corner, Refusal, point_at, rim_index, sinks_in};
 use std::alloc::Global;
 use tile_flood::{Block, Flood, Labelled, spills};
 
@@ -35,7 +35,7 @@ pub(crate) fn flood_tile(
     Ok((labelled, Summary::new(corner, rim, spills)))
 }
 
-// The heights of the corner's tile.
+// The ground of the corner's tile.
 fn block_of(alloc: Global, table: &Table, corner: Corner) -> Result<Block, Refusal>
     requires valid { IsMosaic table.now }
     requires present { Contains (corners_of table.now) corner }
@@ -46,7 +46,9 @@ fn block_of(alloc: Global, table: &Table, corner: Corner) -> Result<Block, Refus
         unreachable!();
     };
     let heights = Vec::from_slice(alloc, samples)?;
-    match Block::new(table.side(), heights) {
+    let side = table.side();
+    let sinks = sinks_in(side, corner, table.sinks());
+    match Block::new(side, heights, sinks) {
         Some(block) => Ok(block),
         None => unreachable!(),
     }

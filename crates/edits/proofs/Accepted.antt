@@ -1,13 +1,21 @@
 -- What is known of a command that isn't refused, and of what it makes.
-use Rattle.std.proofs.Common.{◌≡◌, ℕ, ◌*◌, pos, Bool, true, false, cond, not, nat_eq, nat_lt, length, refl}
+use Rattle.std.proofs.Common.{◌≡◌, ℕ, ℤ, ◌*◌, pos, Bool, true, false, cond, not, nat_eq, nat_lt, length, refl}
 use Rattle.std.specs.Prelude.{Option, Some, None, Result, Ok, Err}
 use Rattle.lattice.specs.declared.refusal.Refusal.{Refusal}
+use Rattle.lattice.specs.declared.refusal.Refusal.TheVariants.{NoSink}
+use Rattle.lattice.specs.declared.point.Point.{Point}
+use Rattle.lattice.specs.declared.height.Height.{Height}
+use Rattle.lattice.specs.declared.height.Height.TheVariants as height
+use Rattle.lattice.specs.Ground.{is_sink}
+use Rattle.lattice.specs.Height.{height_of}
+use Rattle.lattice.specs.Limits.{most_sinks}
 use Rattle.lattice.specs.Mosaic.{Mosaic, is_present}
 use Rattle.hgt.specs.Bytes.{samples_in}
-use Rattle.catalogue.specs.Tiles.{added, without}
+use Rattle.catalogue.specs.Tiles.{added, without, with_sinks}
 use Rattle.edits.specs.declared.command.Command.{Command}
-use Rattle.edits.specs.declared.command.Command.TheVariants.{Import, Remove, Patch, Burn, Wall}
+use Rattle.edits.specs.declared.command.Command.TheVariants.{Import, Remove, Patch, Burn, Wall, Sink, Unsink}
 use Rattle.edits.specs.Effect.{effect, is_height, is_depth, is_box, is_repeated, has_void, first_fault, unless_fault, patched, burnt, walled}
+use Rattle.edits.specs.Sinks.{with_point, without_point, sunk, sunk_at, unsunk}
 
 abbrev pub IsMade : ℕ → Mosaic → Command → Mosaic → Type 0
 IsMade capacity m (Import c bytes) new =
@@ -16,6 +24,8 @@ IsMade capacity m (Remove c) new = new ≡ without c m
 IsMade capacity m (Patch from to h) new = (is_height h ≡ true) × (new ≡ patched from to h m)
 IsMade capacity m (Burn depth points) new = (is_depth depth ≡ true) × (first_fault m depth points.items ≡ None) × (new ≡ burnt depth points.items m)
 IsMade capacity m (Wall h points) new = (is_height h ≡ true) × (first_fault m (pos 0) points.items ≡ None) × (new ≡ walled h points.items m)
+IsMade capacity m (Sink p) new = (sunk m p ≡ Ok new) × (new ≡ with_sinks (with_point p m.sinks) m)
+IsMade capacity m (Unsink p) new = (unsunk m p ≡ Ok new) × (new ≡ with_sinks (without_point p m.sinks) m)
 
 ok_is : (a b : Mosaic) → ◌≡◌ {A = Result Mosaic Refusal} (Ok a) (Ok b) → b ≡ a
 ok_is a b e = cc
@@ -35,6 +45,18 @@ module _ (new : Mosaic) where
   first_test_not : {X : Type 0} (r : Refusal) (later : Result Mosaic Refusal) (b : Bool) → cond b (Err r) later ≡ Ok new → (b ≡ false → later ≡ Ok new → X) → X
   first_test_not r later false e then_ = then_ refl e
   first_test_not r later true e then_ = not_ok new e
+
+  sunk_is : (h : Height) (m : Mosaic) (p : Point) → sunk_at h p m ≡ Ok new → new ≡ with_sinks (with_point p m.sinks) m
+  sunk_is height.Outside m p e = not_ok new e
+  sunk_is height.Void m p e = not_ok new e
+  sunk_is (height.At h) m p e =
+      first_test_not _ _ (is_sink m p) e (λ absent rest.
+      first_test _ _ (nat_lt (length m.sinks) most_sinks) rest (λ room made.
+      ok_is (with_sinks (with_point p m.sinks) m) new made))
+
+  unsunk_is : (m : Mosaic) (p : Point) (b : Bool) → cond b (Ok (with_sinks (without_point p m.sinks) m)) (Err NoSink) ≡ Ok new → new ≡ with_sinks (without_point p m.sinks) m
+  unsunk_is m p true e = ok_is (with_sinks (without_point p m.sinks) m) new e
+  unsunk_is m p false e = not_ok new e
 
 pub accepted_is : (capacity : ℕ) (m : Mosaic) (c : Command) (new : Mosaic) → effect capacity m c ≡ Ok new → IsMade capacity m c new
 accepted_is capacity m (Import c bytes) new e =
@@ -59,3 +81,5 @@ accepted_is capacity m (Wall h points) new e =
     first_test_not new _ _ (is_repeated points.items) rest (λ single made.
     let sound = unless_fault_is new (walled h points.items m) (first_fault m (pos 0) points.items) made in
     (in_range, sound.0, sound.1)))
+accepted_is capacity m (Sink p) new e = (e, sunk_is new (height_of m p) m p e)
+accepted_is capacity m (Unsink p) new e = (e, unsunk_is new m p (is_sink m p) e)

@@ -15,15 +15,17 @@ use Rattle.lattice.specs.declared.point.Point.{Point}
 use Rattle.lattice.specs.declared.refusal.Refusal.{Refusal}
 use Rattle.lattice.specs.declared.refusal.Refusal.TheVariants.{BadLength, TileThere, NoTile, Full, NothingVoid, BadHeight, BadDepth, BadBox, Repeated}
 use Rattle.hgt.specs.Bytes.{samples_in}
-use Rattle.catalogue.specs.Tiles.{with_tile, added, without, with_sample, corners_of}
+use Rattle.catalogue.specs.Tiles.{with_tile, added, without, with_sample, with_sinks, corners_of}
 use Rattle.lattice.proofs.CornerOrder.{same_from}
 use Rattle.edits.specs.declared.command.Command.{Command}
-use Rattle.edits.specs.declared.command.Command.TheVariants.{Import, Remove, Patch, Burn, Wall}
+use Rattle.edits.specs.declared.command.Command.TheVariants.{Import, Remove, Patch, Burn, Wall, Sink, Unsink}
 use Rattle.edits.specs.declared.change.Change.{Change}
-use Rattle.edits.specs.declared.change.Change.TheVariants.{Add, Drop, Set}
+use Rattle.edits.specs.declared.change.Change.TheVariants.{Add, Drop, Set, Sink as SinkPut, Unsink as SinkTaken}
 use Rattle.edits.specs.Changes.{all_changed}
 use Rattle.edits.specs.Effect.{effect, edited, changed_from, is_in_box, is_void_at, is_named, patched, burnt, walled, unless_fault, first_fault, is_height, is_depth, is_box, has_void, is_repeated}
+use Rattle.edits.specs.Sinks.{with_point, without_point}
 use Rattle.edits.specs.Touched.{are_neighbours, goes_stale, stale_after}
+use Rattle.edits.proofs.Accepted.{accepted_is}
 
 abbrev corner_of : Tile → Corner
 corner_of t = t.corner
@@ -60,6 +62,8 @@ all_changed_side [] m = refl
 all_changed_side (Add c samples ∷ rest) m = all_changed_side rest (added (record { corner = c; samples = samples }) m)
 all_changed_side (Drop c ∷ rest) m = all_changed_side rest (without c m)
 all_changed_side (Set c i s ∷ rest) m = all_changed_side rest (with_sample c i s m)
+all_changed_side (SinkPut p ∷ rest) m = all_changed_side rest (with_sinks (with_point p m.sinks) m)
+all_changed_side (SinkTaken p ∷ rest) m = all_changed_side rest (with_sinks (without_point p m.sinks) m)
 
 -- all tiles are stale, and stay so
 
@@ -131,6 +135,8 @@ new_stale capacity m new (Burn depth points) e =
 new_stale capacity m new (Wall h points) e =
     same_stale m (Wall h points) (walled h points.items m) new (edited_corners (λ p s. if is_named points.items p then int_max (metres (height_of m p)) h else s) m)
     (passes_faults (not (is_height h)) (is_repeated points.items) BadHeight Repeated (first_fault m (pos 0) points.items) (walled h points.items m) new e)
+new_stale capacity m new (Sink p) e = same_stale m (Sink p) (with_sinks (with_point p m.sinks) m) new refl (sym (accepted_is capacity m (Sink p) new e).1)
+new_stale capacity m new (Unsink p) e = same_stale m (Unsink p) (with_sinks (without_point p m.sinks) m) new refl (sym (accepted_is capacity m (Unsink p) new e).1)
 
 pub all_stale : (capacity : ℕ) (m new : Mosaic) (c : Command) → effect capacity m c ≡ Ok new → stale_after m c (corners_of m) new ≡ corners_of new
 all_stale capacity m new c e =

@@ -18,7 +18,7 @@ use Rattle.edits.specs.declared.change.Change.{Change}
 use Rattle.edits.specs.declared.change.Change.TheVariants.{Set}
 use Rattle.edits.specs.declared.command.Command.{Command}
 use Rattle.edits.specs.Effect.{is_named, has_void_from}
-use Rattle.edits.specs.LeftStale.{tile_of, is_beside, is_near_one, left_stale}
+use Rattle.edits.specs.LeftStale.{is_near, is_beside, is_near_one, left_stale}
 use Rattle.edits.specs.Puts.{Puts}
 use Rattle.edits.specs.Touched.{holds_one, are_neighbours, goes_stale, stale_after}
 use Rattle.edits.proofs.SamePoints.{same_point_says, same_point_from}
@@ -44,20 +44,19 @@ module _ (m : Mosaic) (valid : IsMosaic m) (test : Point → Bool) (sample : Poi
   whole : (t : Tile) → Contains m.tiles t → IsTile m.side t
   whole t there = All-contains (IsTile m.side) m.tiles t valid.tiles there
 
-  near : is_beside changes p ≡ true → is_near_one touched m p ≡ true
+  near : is_beside m changes p ≡ true → is_near_one touched m p ≡ true
   near beside =
-      let found = any_says (λ (x : Change). are_neighbours (tile_of x) p) changes beside in
+      let found = any_says (is_near m p) changes beside in
       let placed = puts.each found.0 found.1.0 in
       let put = placed.1.1 in
       let tile = tile_at m put.corner put.present in
       let t = tile.0 in
       let at : point_of m.side t.corner put.index ≡ placed.0 = ap (λ (c : Corner). point_of m.side c put.index) tile.1.1 ∙ put.here in
       let hit : touched t ≡ true = from t (whole t tile.1.0) (put.index, (put.within, ap test at ∙ placed.1.0)) in
-      let of : tile_of found.0 ≡ t.corner = ap tile_of put.sets ∙ sym tile.1.1 in
-      let close : are_neighbours t.corner p ≡ true = ap (λ (c : Corner). are_neighbours c p) (sym of) ∙ found.1.1 in
+      let close : are_neighbours t.corner p ≡ true = ap (λ (c : Corner). are_neighbours c p) tile.1.1 ∙ sym (ap (is_near m p) put.sets) ∙ found.1.1 in
       any_from (λ (u : Tile). touched u && are_neighbours u.corner p) m.tiles t tile.1.0 (and_from (touched t) (are_neighbours t.corner p) hit close)
 
-  beside_one : is_near_one touched m p ≡ true → is_beside changes p ≡ true
+  beside_one : is_near_one touched m p ≡ true → is_beside m changes p ≡ true
   beside_one some =
       let found = any_says (λ (u : Tile). touched u && are_neighbours u.corner p) m.tiles some in
       let t = found.0 in
@@ -65,10 +64,10 @@ module _ (m : Mosaic) (valid : IsMosaic m) (test : Point → Bool) (sample : Poi
       let one = says t (whole t found.1.0) both.0 in
       let x = Set t.corner one.0 (sample (point_of m.side t.corner one.0)) in
       let there : Contains changes x = puts.complete t.corner one.0 (whole t found.1.0).corner (listed m t found.1.0) one.1.0 one.1.1 in
-      any_from (λ (y : Change). are_neighbours (tile_of y) p) changes x there both.1
+      any_from (is_near m p) changes x there both.1
 
-  puts_beside : is_beside changes p ≡ is_near_one touched m p
-  puts_beside = same_bools (is_beside changes p) (is_near_one touched m p) near beside_one
+  puts_beside : is_beside m changes p ≡ is_near_one touched m p
+  puts_beside = same_bools (is_beside m changes p) (is_near_one touched m p) near beside_one
 
 -- the tiles that hold a named point
 module _ (m : Mosaic) (valid : IsMosaic m) (points : List Point) where
@@ -90,7 +89,7 @@ module _ (m : Mosaic) (valid : IsMosaic m) (points : List Point) where
       let held : Holds m.side t.corner q = subst (λ (r : Point). Holds m.side t.corner r) here (point_of_held m.side t.corner e (some_edge m.side valid.side_low) tile.corner below) in
       any_from (λ (r : Point). holds m.side t.corner r) points q found.1.0 ((holds_is m.side t.corner q valid.side_low tile.corner).1 held)
 
-  pub named_beside : (sample : Point → ℤ) (changes : List Change) → Puts m.side (corners_of m) (is_named points) sample changes → (p : Corner) → is_beside changes p ≡ is_near_one (λ t. holds_one m points t.corner) m p
+  pub named_beside : (sample : Point → ℤ) (changes : List Change) → Puts m.side (corners_of m) (is_named points) sample changes → (p : Corner) → is_beside m changes p ≡ is_near_one (λ t. holds_one m points t.corner) m p
   named_beside sample changes puts p = puts_beside m valid (is_named points) sample changes puts (λ t. holds_one m points t.corner) named_says named_from p
 
 -- the tiles that hold a void point of the box
@@ -105,13 +104,19 @@ module _ (m : Mosaic) (valid : IsMosaic m) (from to : Point) where
   void_from t tile (e, (below, void)) =
       at_index m from to t.corner 0 t.samples e (omega (arith, below, tile.whole)) (ap (λ i. is_void_within m from to (point_of m.side t.corner i)) (zero-add e) ∙ void)
 
-  pub void_beside : (sample : Point → ℤ) (changes : List Change) → Puts m.side (corners_of m) (is_void_within m from to) sample changes → (p : Corner) → is_beside changes p ≡ is_near_one (λ t. has_void_from m from to t.corner 0 t.samples) m p
+  pub void_beside : (sample : Point → ℤ) (changes : List Change) → Puts m.side (corners_of m) (is_void_within m from to) sample changes → (p : Corner) → is_beside m changes p ≡ is_near_one (λ t. has_void_from m from to t.corner 0 t.samples) m p
   void_beside sample changes puts p = puts_beside m valid (is_void_within m from to) sample changes puts (λ t. has_void_from m from to t.corner 0 t.samples) void_says void_from p
 
 -- the stale tiles, by the tiles that the changes are of
-pub stale_as : (m : Mosaic) (result : Result (Vec Change) Refusal) (a b : Command) → a ≡ b → IfOk result (λ changes. (p : Corner) → is_beside changes.items p ≡ goes_stale m a p) →
-    IfOk result (λ changes. (stale : List Corner) (new : Mosaic) → stale_after m b stale new ≡ left_stale changes.items stale new)
+pub stale_as : (m : Mosaic) (result : Result (Vec Change) Refusal) (a b : Command) → a ≡ b → IfOk result (λ changes. (p : Corner) → is_beside m changes.items p ≡ goes_stale m a p) →
+    IfOk result (λ changes. (stale : List Corner) (new : Mosaic) → stale_after m b stale new ≡ left_stale m changes.items stale new)
 stale_as m (Ok changes) a b same beside = λ stale new.
     ap (λ (test : Corner → Bool). filter (λ p. list_any (same_corner p) stale || test p) (corners_of new))
     (λ i p. (ap (λ (c : Command). goes_stale m c p) (sym same) ∙ sym (beside p)) i)
 stale_as m (Err r) a b same beside = tt
+
+-- what is beside the changes in any mosaic is so in this one
+pub beside_at : (m : Mosaic) (result : Result (Vec Change) Refusal) (c : Command) → IfOk result (λ changes. (m : Mosaic) (p : Corner) → is_beside m changes.items p ≡ goes_stale m c p)
+    → IfOk result (λ changes. (p : Corner) → is_beside m changes.items p ≡ goes_stale m c p)
+beside_at m (Ok changes) c beside = beside m
+beside_at m (Err r) c beside = tt

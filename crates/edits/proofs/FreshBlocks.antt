@@ -12,13 +12,14 @@ use Rattle.lattice.specs.Height.{height_of, by_seam_rule, sample_at}
 use Rattle.lattice.specs.Lattice.{holds, point_of}
 use Rattle.lattice.specs.Mosaic.{Tile, Mosaic, IsTile, IsMosaic}
 use Rattle.hgt.specs.Bytes.{samples_in}
-use Rattle.catalogue.specs.Tiles.{with_tile, added, without}
+use Rattle.catalogue.specs.Tiles.{with_tile, added, without, with_sinks}
 use Rattle.catalogue.proofs.Nearby.{holders_near}
 use Rattle.lattice.proofs.CornerOrder.{same_says}
 use Rattle.edits.specs.declared.command.Command.{Command}
-use Rattle.edits.specs.declared.command.Command.TheVariants.{Import, Remove, Patch, Burn, Wall}
+use Rattle.edits.specs.declared.command.Command.TheVariants.{Import, Remove, Patch, Burn, Wall, Sink, Unsink}
 use Rattle.edits.specs.Effect.{effect, changed_from, edited, is_named, has_void_from, patched, burnt, walled}
 use Rattle.edits.specs.LeftStale.{is_near_one}
+use Rattle.edits.specs.Sinks.{with_point, without_point}
 use Rattle.edits.specs.Touched.{are_neighbours, goes_stale, holds_one}
 use Rattle.edits.proofs.Accepted.{IsMade, accepted_is}
 use Rattle.edits.proofs.Beside.{HasOne, named_from, void_from}
@@ -123,3 +124,5 @@ fresh_stays capacity m c new p q valid made fresh inside = by c fresh (accepted_
         as_made (burnt depth points.items m) is (edit_stays m p q valid inside (is_named points.items) (λ r _. metres (height_of m r) -ℤ depth) (λ t. holds_one m points.items t.corner) (named_from m valid points.items) fresh_)
     by (Wall h points) fresh_ (in_range, fine, is) =
         as_made (walled h points.items m) is (edit_stays m p q valid inside (is_named points.items) (λ r _. int_max (metres (height_of m r)) h) (λ t. holds_one m points.items t.corner) (named_from m valid points.items) fresh_)
+    by (Sink r) fresh_ (sinks, is) = as_made (with_sinks (with_point r m.sinks) m) is refl
+    by (Unsink r) fresh_ (leaves, is) = as_made (with_sinks (without_point r m.sinks) m) is refl

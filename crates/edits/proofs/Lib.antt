@@ -2,7 +2,6 @@ mod Accepted
 pub mod AllStale
 mod Beside
 mod CarryingOut
-mod Counting
 mod FreshBlocks
 mod NamedCommands
 mod NewMosaics
@@ -14,6 +13,7 @@ mod PutLemmas
 mod Putting
 mod Repeats
 mod SamePoints
+pub mod SinkLists
 mod Treating
 mod Untouched
 mod Voids

@@ -19,16 +19,18 @@ use Rattle.lattice.specs.Lattice.{point_of, holds, index_of}
 use Rattle.lattice.specs.Mosaic.{Tile, Mosaic, IsSample, IsTile, IsMosaic, void, is_void}
 use Rattle.hgt.specs.Bytes.{sample_of, samples_in}
 use Rattle.hgt.proofs.BytesLemmas.{length-samples_in}
-use Rattle.catalogue.specs.Tiles.{added, with_tile, without}
+use Rattle.catalogue.specs.Tiles.{added, with_tile, without, with_sinks}
 use Rattle.catalogue.proofs.Mosaics.{corner_of, rising_tiles, mosaic-added, mosaic-without}
 use Rattle.lattice.proofs.Rising.{AllAfter, Rising, adjacent_from}
 use Rattle.edits.specs.declared.command.Command.{Command}
-use Rattle.edits.specs.declared.command.Command.TheVariants.{Import, Remove, Patch, Burn, Wall}
+use Rattle.edits.specs.declared.command.Command.TheVariants.{Import, Remove, Patch, Burn, Wall, Sink, Unsink}
 use Rattle.edits.specs.Effect.{effect, changed_from, edited, is_named, is_height, is_depth, is_in_box, is_void_at, first_fault, fault_at, patched, burnt, walled}
 use Rattle.edits.specs.EffectLaws.{IsCommand}
+use Rattle.edits.specs.Sinks.{with_point, without_point}
 use Rattle.edits.proofs.Accepted.{IsMade, accepted_is}
 use Rattle.edits.proofs.Putting.{length-changed_from}
 use Rattle.edits.proofs.SamePoints.{same_point_says}
+use Rattle.edits.proofs.SinkLists.{sunk_makes, unsunk_leaves}
 
 -- ---- samples
 
@@ -132,6 +134,7 @@ module _ (m : Mosaic) (f : Point → ℤ → ℤ) (keeps : (p : Point) (s : ℤ)
     side_high = valid.side_high;
     tiles = tiles_edited m.side m.tiles valid.tiles;
     in_order = adjacent_from corner_of (map edit_tile m.tiles) (rising_edited m.tiles (rising_tiles m valid));
+    sinks = valid.sinks;
   }
 
 -- a point that is burnt has a height, and stays above the lowest
@@ -196,6 +199,8 @@ new_is_mosaic capacity m c new valid given made = by c given (accepted_is capaci
           | true ↦ max_is_sample (metres (height_of m p)) h (metres_are_sample m p valid) (height_is_sample h in_range)
           | false ↦ sample
         ]) valid)
+    by (Sink p) given (sinks, is) = (sunk_makes m p new valid sinks).0
+    by (Unsink p) given (leaves, is) = (unsunk_leaves m p new valid leaves).0
 
 pub new_side : (capacity : ℕ) (m : Mosaic) (c : Command) (new : Mosaic) → effect capacity m c ≡ Ok new → new.side ≡ m.side
 new_side capacity m c new made = by c (accepted_is capacity m c new made)
@@ -206,6 +211,8 @@ new_side capacity m c new made = by c (accepted_is capacity m c new made)
     by (Patch from to h) (in_range, is) = ap (λ (x : Mosaic). x.side) is
     by (Burn depth points) (in_range, fine, is) = ap (λ (x : Mosaic). x.side) is
     by (Wall h points) (in_range, fine, is) = ap (λ (x : Mosaic). x.side) is
+    by (Sink p) (sinks, is) = ap (λ (x : Mosaic). x.side) is
+    by (Unsink p) (leaves, is) = ap (λ (x : Mosaic). x.side) is
 
 length-with_tile : (t : Tile) (ts : List Tile) → length (with_tile t ts) ≡ length ts + 1
 length-with_tile t [] = refl
@@ -240,3 +247,5 @@ new_within capacity m c new few made = by c (accepted_is capacity m c new made)
     by (Patch from to h) (in_range, is) = count (patched from to h m) is (same _)
     by (Burn depth points) (in_range, fine, is) = count (burnt depth points.items m) is (same _)
     by (Wall h points) (in_range, fine, is) = count (walled h points.items m) is (same _)
+    by (Sink p) (sinks, is) = count (with_sinks (with_point p m.sinks) m) is few
+    by (Unsink p) (leaves, is) = count (with_sinks (without_point p m.sinks) m) is few

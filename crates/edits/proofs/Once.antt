@@ -1,6 +1,6 @@
 -- No sample is set twice.
 use Rattle.std.proofs.Common.{◌≡◌, ℕ, zero, suc, ◌+◌, ◌<◌, ◌⊎◌, inl, inr, ℤ, pos, ◌+ℤ◌, Bool, true, false, ◌&&◌, ◌||◌, List, [], ◌∷◌, ◌++◌, length, get_or, take, refl, sym, ◌∙◌, ap, ap₂, subst, nat_eq, arith}
-use Rattle.std.specs.Prelude.{int_le, int_lt}
+use Rattle.std.specs.Prelude.{IfSome, int_le, int_lt}
 use Rattle.std.specs.List.{Contains}
 use Rattle.std.specs.Ordering.{int_eq}
 use Rattle.std.proofs.lemmas.Bool.{and_parts, or_left, or_right, or_parts, both_ways, false_from_ne_true, false≢true, eqb-true}
@@ -15,7 +15,7 @@ use Rattle.lattice.proofs.Samples.{point_at_index}
 use Rattle.lattice.proofs.CornerOrder.{same_says, before_apart}
 use Rattle.lattice.proofs.Rising.{AllAfter, Rising}
 use Rattle.edits.specs.declared.change.Change.{Change}
-use Rattle.edits.specs.declared.change.Change.TheVariants.{Add, Drop, Set}
+use Rattle.edits.specs.declared.change.Change.TheVariants.{Add, Drop, Set, Sink, Unsink}
 use Rattle.edits.specs.Boxes.{is_in_row, is_in_rows}
 use Rattle.edits.specs.Changes.{SetOnce, set_same}
 use Rattle.edits.specs.Effect.{is_named, is_repeated}
@@ -28,6 +28,8 @@ same_at : (n : ℕ) (p q : Point) (x : Change) → IsAt n p x → IsAt n q x →
 same_at n p q (Set c i s) one other = sym one ∙ other
 same_at n p q (Add c t) one other = absurd one
 same_at n p q (Drop c) one other = absurd one
+same_at n p q (Sink r) one other = absurd one
+same_at n p q (Unsink r) one other = absurd one
 
 pub no_sets : SetOnce []
 no_sets i j d i_j below = absurd (omega arith)
@@ -75,25 +77,35 @@ same_set_says (Set d j t) c i s e =
     (t, ap₂ (λ (p : Corner) (k : ℕ). Set p k t) (same_says d c both.0) (eqb-true j i both.1))
 same_set_says (Add d t) c i s e = absurd (false≢true e)
 same_set_says (Drop d) c i s e = absurd (false≢true e)
+same_set_says (Sink p) c i s e = absurd (false≢true e)
+same_set_says (Unsink p) c i s e = absurd (false≢true e)
+
+-- the change is of a tile of these corners
+abbrev pub IsOfOne : List Corner → Change → Type 0
+IsOfOne among x = IfSome (tile_of x) (λ c. Contains among c)
 
 -- the point was set in those of the corners, among these, whose present tiles hold it
 pub record OnceAmong (n : ℕ) (among : List Corner) (p : Point) (old new : List Change) : Type 0 where
-  pub each : (x : Change) → Contains new x → Contains old x ⊎ (Contains among (tile_of x) × IsAt n p x)
+  pub each : (x : Change) → Contains new x → Contains old x ⊎ (IsOfOne among x × IsAt n p x)
   pub once : SetOnce old → ((x : Change) (q : Point) → Contains old x → same_point q p ≡ true → IsAt n q x → ⊥) → SetOnce new
 
 module _ (n : ℕ) (p : Point) where
   pub once_start : (old : List Change) → OnceAmong n [] p old old
   once_start old = record { each = λ x there. inl there; once = λ single clear. single }
 
-  among_more : (hs : List Corner) (c d : Corner) → Contains hs d → Contains (hs ++ c ∷ []) d
-  among_more hs c d there = Contains-append_left hs (c ∷ []) d there
+  among_more : (hs : List Corner) (c : Corner) (x : Change) → IsOfOne hs x → IsOfOne (hs ++ c ∷ []) x
+  among_more hs c (Add d t) there = Contains-append_left hs (c ∷ []) d there
+  among_more hs c (Drop d) there = Contains-append_left hs (c ∷ []) d there
+  among_more hs c (Set d i s) there = Contains-append_left hs (c ∷ []) d there
+  among_more hs c (Sink q) there = tt
+  among_more hs c (Unsink q) there = tt
 
   pub once_skip : (hs : List Corner) (c : Corner) (old new : List Change) → OnceAmong n hs p old new → OnceAmong n (hs ++ c ∷ []) p old new
   once_skip hs c old new so = record { each = λ x there. by x (so.each x there); once = so.once }
     where
-      by : (x : Change) → Contains old x ⊎ (Contains hs (tile_of x) × IsAt n p x) → Contains old x ⊎ (Contains (hs ++ c ∷ []) (tile_of x) × IsAt n p x)
+      by : (x : Change) → Contains old x ⊎ (IsOfOne hs x × IsAt n p x) → Contains old x ⊎ (IsOfOne (hs ++ c ∷ []) x × IsAt n p x)
       by x (inl was) = inl was
-      by x (inr (early, at)) = inr (among_more hs c (tile_of x) early, at)
+      by x (inr (early, at)) = inr (among_more hs c x early, at)
 
   pub once_put : (hs : List Corner) (c : Corner) (i : ℕ) (s : ℤ) (old new : List Change) → (Contains hs c → ⊥) → IsIndexOf n c p i → OnceAmong n hs p old new → OnceAmong n (hs ++ c ∷ []) p old (new ++ Set c i s ∷ [])
   once_put hs c i s old new fresh index so = record {
@@ -105,18 +117,18 @@ module _ (n : ℕ) (p : Point) where
       here : IsAt n p (Set c i s)
       here = point_at_index n c p i index
 
-      by : (x : Change) → Contains new x ⊎ (Set c i s ≡ x) → Contains old x ⊎ (Contains (hs ++ c ∷ []) (tile_of x) × IsAt n p x)
+      by : (x : Change) → Contains new x ⊎ (Set c i s ≡ x) → Contains old x ⊎ (IsOfOne (hs ++ c ∷ []) x × IsAt n p x)
       by x (inl before) = (once_skip hs c old new so).each x before
-      by x (inr is) = inr (subst (λ (d : Corner). Contains (hs ++ c ∷ []) d) (ap tile_of is) (Contains-push hs c), subst (IsAt n p) is here)
+      by x (inr is) = inr (subst (IsOfOne (hs ++ c ∷ [])) is (Contains-push hs c), subst (IsAt n p) is here)
 
-      twice : ((x : Change) (q : Point) → Contains old x → same_point q p ≡ true → IsAt n q x → ⊥) → (y : Change) → (t : ℤ) × (y ≡ Set c i t) → Contains old y ⊎ (Contains hs (tile_of y) × IsAt n p y) → ⊥
+      twice : ((x : Change) (q : Point) → Contains old x → same_point q p ≡ true → IsAt n q x → ⊥) → (y : Change) → (t : ℤ) × (y ≡ Set c i t) → Contains old y ⊎ (IsOfOne hs y × IsAt n p y) → ⊥
       twice clear y (t, is) (inl was) = clear y p was (same_point_from p) (subst (IsAt n p) (sym is) here)
-      twice clear y (t, is) (inr (early, at)) = fresh (subst (λ (d : Corner). Contains hs d) (ap tile_of is) early)
+      twice clear y (t, is) (inr (early, at)) = fresh (subst (IsOfOne hs) is early)
 
   pub once_at : (hs : List Corner) (old new : List Change) → OnceAmong n hs p old new → PutsOnce n (λ q. same_point q p) old new
   once_at hs old new so = record { each = λ x there. by x (so.each x there); once = so.once }
     where
-      by : (x : Change) → Contains old x ⊎ (Contains hs (tile_of x) × IsAt n p x) → Contains old x ⊎ ((q : Point) × ((same_point q p ≡ true) × IsAt n q x))
+      by : (x : Change) → Contains old x ⊎ (IsOfOne hs x × IsAt n p x) → Contains old x ⊎ ((q : Point) × ((same_point q p ≡ true) × IsAt n q x))
       by x (inl was) = inl was
       by x (inr (early, at)) = inr (p, (same_point_from p, at))
 

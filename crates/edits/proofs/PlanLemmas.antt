@@ -5,15 +5,16 @@ use Rattle.std.specs.Global.{Vec}
 use Rattle.std.specs.List.{All}
 use Rattle.lattice.specs.Corners.{Corner}
 use Rattle.std.proofs.lemmas.Bool.{or_left, or_right, both_ways}
+use Rattle.lattice.specs.declared.point.Point.{Point}
 use Rattle.lattice.specs.Mosaic.{Mosaic}
 use Rattle.lattice.specs.declared.refusal.Refusal.{Refusal}
-use Rattle.lattice.specs.declared.refusal.Refusal.TheVariants.{Device, NoMemory, Failed, Damaged}
+use Rattle.lattice.specs.declared.refusal.Refusal.TheVariants.{Device, NoMemory, Failed, Damaged, NoSink}
 use Rattle.catalogue.specs.declared.samples.Samples.{Ghosts}
 use Rattle.catalogue.specs.Readers.{OnlyReads, reads_of}
 use Rattle.catalogue.proofs.Reading.{reads_nothing}
 use Rattle.edits.specs.declared.change.Change.{Change}
 use Rattle.edits.specs.declared.command.Command.{Command}
-use Rattle.edits.specs.declared.command.Command.TheVariants.{Import, Remove, Patch, Burn, Wall}
+use Rattle.edits.specs.declared.command.Command.TheVariants.{Import, Remove, Patch, Burn, Wall, Sink, Unsink}
 use Rattle.edits.specs.declared.change.Change.TheVariants.{Set}
 use Rattle.edits.specs.Changes.{CanBeMade, CanBeSet, IsSet, StandAlone, SetOnce, all_changed}
 use Rattle.edits.specs.Effect.{effect}
@@ -36,23 +37,23 @@ pub one_once : (result : Result (Vec Change) Refusal) → IfOk result (λ change
 one_once (Ok changes) one = λ i j d i_j below. absurd (omega (arith, one, changes.ok.0))
 one_once (Err r) one = tt
 
-set_fits : (n : ℕ) (cs : List Corner) (x : Change) → CanBeSet n cs x → IsSet x × CanBeMade n cs x
-set_fits n cs (Set c i s) can = (tt, can)
-set_fits n cs _ can = absurd can
+set_fits : (n : ℕ) (cs : List Corner) (sinks : List Point) (x : Change) → CanBeSet n cs x → IsSet x × CanBeMade n cs sinks x
+set_fits n cs sinks (Set c i s) can = (tt, can)
+set_fits n cs sinks _ can = absurd can
 
-module _ (n : ℕ) (cs : List Corner) (result : Result (Vec Change) Refusal) (fits : IfOk result (λ changes. All (CanBeSet n cs) changes.items)) where
+module _ (n : ℕ) (cs : List Corner) (sinks : List Point) (result : Result (Vec Change) Refusal) (fits : IfOk result (λ changes. All (CanBeSet n cs) changes.items)) where
   pub sets_alone : IfOk result (λ changes. StandAlone changes.items)
   sets_alone = by result fits
     where
       by : (r : Result (Vec Change) Refusal) → IfOk r (λ changes. All (CanBeSet n cs) changes.items) → IfOk r (λ changes. StandAlone changes.items)
-      by (Ok changes) can = inr (λ k d below. (set_fits n cs (get_or changes.items k d) (can k d below)).0)
+      by (Ok changes) can = inr (λ k d below. (set_fits n cs sinks (get_or changes.items k d) (can k d below)).0)
       by (Err r) can = tt
 
-  pub sets_fit : IfOk result (λ changes. All (CanBeMade n cs) changes.items)
+  pub sets_fit : IfOk result (λ changes. All (CanBeMade n cs sinks) changes.items)
   sets_fit = by result fits
     where
-      by : (r : Result (Vec Change) Refusal) → IfOk r (λ changes. All (CanBeSet n cs) changes.items) → IfOk r (λ changes. All (CanBeMade n cs) changes.items)
-      by (Ok changes) can = λ k d below. (set_fits n cs (get_or changes.items k d) (can k d below)).1
+      by : (r : Result (Vec Change) Refusal) → IfOk r (λ changes. All (CanBeSet n cs) changes.items) → IfOk r (λ changes. All (CanBeMade n cs sinks) changes.items)
+      by (Ok changes) can = λ k d below. (set_fits n cs sinks (get_or changes.items k d) (can k d below)).1
       by (Err r) can = tt
 
 -- a read's refusal is no command's own
@@ -82,6 +83,16 @@ not_read (Wall h p) Failed e = refl
 not_read (Wall h p) Damaged e = refl
 not_read (Wall h p) NoMemory e = refl
 not_read (Wall h p) _ e = absurd (both_ways false refl e)
+not_read (Sink p) Device e = refl
+not_read (Sink p) Failed e = refl
+not_read (Sink p) Damaged e = refl
+not_read (Sink p) NoMemory e = refl
+not_read (Sink p) _ e = absurd (both_ways false refl e)
+not_read (Unsink p) Device e = refl
+not_read (Unsink p) Failed e = refl
+not_read (Unsink p) Damaged e = refl
+not_read (Unsink p) NoMemory e = refl
+not_read (Unsink p) _ e = absurd (both_ways false refl e)
 
 module _ {T : Type 0} (command : Command) where
   nothing_read : (result : Result T Refusal) → IfErr result (λ r. (r ≡ NoMemory) ⊎ IsTrue (is_own command r)) → reads_of result ≡ Ok tt

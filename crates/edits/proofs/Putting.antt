@@ -12,7 +12,7 @@ use Rattle.lattice.specs.Mosaic.{Tile, Mosaic, IsMosaic, IsTile}
 use Rattle.catalogue.specs.Tiles.{corners_of, with_sample, with_sample_in}
 use Rattle.lattice.proofs.CornerOrder.{same_says, same_from}
 use Rattle.edits.specs.declared.change.Change.{Change}
-use Rattle.edits.specs.declared.change.Change.TheVariants.{Add, Drop, Set}
+use Rattle.edits.specs.declared.change.Change.TheVariants.{Add, Drop, Set, Sink, Unsink}
 use Rattle.edits.specs.Changes.{all_changed}
 use Rattle.edits.specs.Effect.{changed_from, edited}
 use Rattle.edits.specs.Puts.{Puts}
@@ -63,6 +63,8 @@ length-put_one : (c : Corner) (x : Change) (l : List ℤ) → length (put_one c 
 length-put_one c (Set d e s) l = elim (same_corner c d) as (λ b. length (cond b (slice_set l e s) l) ≡ length l) [ true ↦ length-set l e s | false ↦ refl ]
 length-put_one c (Add d t) l = refl
 length-put_one c (Drop d) l = refl
+length-put_one c (Sink p) l = refl
+length-put_one c (Unsink p) l = refl
 
 length-put_all : (c : Corner) (changes : List Change) (l : List ℤ) → length (put_all c changes l) ≡ length l
 length-put_all c [] l = refl
@@ -72,6 +74,8 @@ length-put_all c (x ∷ rest) l = length-put_all c rest (put_one c x l) ∙ leng
 untouched : (c : Corner) (x : Change) (l : List ℤ) (k : ℕ) (d : ℤ) → ((s : ℤ) → x ≡ Set c k s → ⊥) → get_or (put_one c x l) k d ≡ get_or l k d
 untouched c (Add a t) l k d other = refl
 untouched c (Drop a) l k d other = refl
+untouched c (Sink p) l k d other = refl
+untouched c (Unsink p) l k d other = refl
 untouched c (Set a e s) l k d other = by (same_corner c a) refl
   where
     by : (b : Bool) → same_corner c a ≡ b → get_or (cond b (slice_set l e s) l) k d ≡ get_or l k d
@@ -94,6 +98,8 @@ put_none c (x ∷ rest) l k d none =
 decide : (c : Corner) (k : ℕ) (x : Change) → ((s : ℤ) × (x ≡ Set c k s)) ⊎ ((s : ℤ) → x ≡ Set c k s → ⊥)
 decide c k (Add a t) = inr (λ s e. cc)
 decide c k (Drop a) = inr (λ s e. cc)
+decide c k (Sink p) = inr (λ s e. cc)
+decide c k (Unsink p) = inr (λ s e. cc)
 decide c k (Set a i s) = by (same_corner c a) refl (cases_eq k i)
   where
     by : (b : Bool) → same_corner c a ≡ b → (k ≡ i) ⊎ (k ≡ i → ⊥) → ((v : ℤ) × (Set a i s ≡ Set c k v)) ⊎ ((v : ℤ) → Set a i s ≡ Set c k v → ⊥)

@@ -12,13 +12,14 @@ use Rattle.lattice.specs.Height.{height_of}
 use Rattle.lattice.specs.Ground.{metres}
 use Rattle.lattice.specs.Mosaic.{Tile, Mosaic, IsTile, IsMosaic}
 use Rattle.hgt.specs.Bytes.{samples_in}
-use Rattle.catalogue.specs.Tiles.{corners_of, with_tile, added, without}
+use Rattle.catalogue.specs.Tiles.{corners_of, with_tile, added, without, with_sinks}
 use Rattle.lattice.proofs.CornerOrder.{same_comm}
 use Rattle.catalogue.proofs.Presence.{corners_rise}
 use Rattle.lattice.proofs.Rising.{adjacent_from, rising-filter}
 use Rattle.edits.specs.declared.command.Command.{Command}
-use Rattle.edits.specs.declared.command.Command.TheVariants.{Import, Remove, Patch, Burn, Wall}
+use Rattle.edits.specs.declared.command.Command.TheVariants.{Import, Remove, Patch, Burn, Wall, Sink, Unsink}
 use Rattle.edits.specs.Effect.{effect, changed_from, edited, is_named, has_void_from, patched, burnt, walled}
+use Rattle.edits.specs.Sinks.{with_point, without_point}
 use Rattle.edits.specs.Touched.{holds_one, is_touched, goes_stale, stale_after}
 use Rattle.edits.proofs.Accepted.{IsMade, accepted_is}
 use Rattle.edits.proofs.Beside.{HasOne, named_from, void_from}
@@ -97,6 +98,8 @@ untouched_stays capacity m c new t valid made there untouched = by c untouched (
         here (burnt depth points.items m) is (edited_keeps m (is_named points.items) (λ p _. metres (height_of m p) -ℤ depth) t tile (λ one. both_ways (holds_one m points.items t.corner) other (named_from m valid points.items t tile one)) there)
     by (Wall h points) other (in_range, fine, is) =
         here (walled h points.items m) is (edited_keeps m (is_named points.items) (λ p _. int_max (metres (height_of m p)) h) t tile (λ one. both_ways (holds_one m points.items t.corner) other (named_from m valid points.items t tile one)) there)
+    by (Sink p) other (sinks, is) = here (with_sinks (with_point p m.sinks) m) is there
+    by (Unsink p) other (leaves, is) = here (with_sinks (without_point p m.sinks) m) is there
 
 filtered_among : (test : Corner → Bool) (ps : List Corner) (p : Corner) → Contains (filter test ps) p → Contains ps p
 filtered_among test [] p (k, below, here) = absurd (omega arith)

@@ -6,6 +6,7 @@ use Rattle.std.proofs.lemmas.Bool.{false≢true, false_from_ne_true, eq-eqb, lt-
 use Rattle.std.proofs.lemmas.List.Elements.{All-nil, All-cons}
 use Rattle.std.proofs.lemmas.List.{length-map}
 use Rattle.lattice.specs.Corners.{Corner}
+use Rattle.lattice.specs.declared.point.Point.{Point}
 use Rattle.lattice.specs.Mosaic.{Mosaic, is_present}
 use Rattle.lattice.specs.declared.refusal.Refusal.TheVariants.{TileThere, NoTile, Full}
 use Rattle.hgt.specs.Bytes.{samples_in}
@@ -52,8 +53,8 @@ module _ (m : Mosaic) (cs : List Corner) (same : corners_of m ≡ cs) (c : Corne
         let some_room : nat_lt (length m.tiles) capacity ≡ true = lt-ltb (length m.tiles) capacity (omega (arith, count_is)) in
         rw (whole_is, present_is ∙ absent, some_room, only, read) refl
 
-pub added_fits : (n : ℕ) (cs : List Corner) (c : Corner) (present : Bool) (samples : List _) (changes : List Change) →
-    (IsTrue present ↔ Contains cs c) → present ≡ false → length samples ≡ n * n → changes ≡ Add c samples ∷ [] → All (CanBeMade n cs) changes
-added_fits n cs c present samples changes says absent whole only =
+pub added_fits : (n : ℕ) (cs : List Corner) (sinks : List Point) (c : Corner) (present : Bool) (samples : List _) (changes : List Change) →
+    (IsTrue present ↔ Contains cs c) → present ≡ false → length samples ≡ n * n → changes ≡ Add c samples ∷ [] → All (CanBeMade n cs sinks) changes
+added_fits n cs sinks c present samples changes says absent whole only =
     let no_tile : ¬ Contains cs c = λ here. false≢true (sym absent ∙ says.1 here) in
-    subst (All (CanBeMade n cs)) (sym only) (All-cons (CanBeMade n cs) (Add c samples) [] (no_tile, whole) (All-nil (CanBeMade n cs)))
+    subst (All (CanBeMade n cs sinks)) (sym only) (All-cons (CanBeMade n cs sinks) (Add c samples) [] (no_tile, whole) (All-nil (CanBeMade n cs sinks)))

@@ -1,27 +1,33 @@
 -- What a change makes of a mosaic, and where it can be made (this product's own profile).
 use Rattle.std.specs.Prelude.{◌≡◌, ℕ, ◌*◌, ◌<◌, ◌⊎◌, Bool, false, ◌&&◌, IsFalse, nat_eq, List, [], ◌∷◌, length, Contains, All, AllPairs}
 use Rattle.lattice.specs.Corners.{Corner, same_corner}
-use Rattle.lattice.specs.Mosaic.{Mosaic}
-use Rattle.catalogue.specs.Tiles.{added, without, with_sample}
+use Rattle.lattice.specs.declared.point.Point.{Point}
+use Rattle.lattice.specs.Mosaic.{Mosaic, AreSinks}
+use Rattle.catalogue.specs.Tiles.{added, without, with_sample, with_sinks}
 use Rattle.edits.specs.declared.change.Change.{Change}
-use Rattle.edits.specs.declared.change.Change.TheVariants.{Add, Drop, Set}
+use Rattle.edits.specs.declared.change.Change.TheVariants.{Add, Drop, Set, Sink, Unsink}
+use Rattle.edits.specs.Sinks.{with_point, without_point}
 
 abbrev pub changed : Change → Mosaic → Mosaic
 changed (Add c samples) m = added (record { corner = c; samples = samples }) m
 changed (Drop c) m = without c m
 changed (Set c i s) m = with_sample c i s m
+changed (Sink p) m = with_sinks (with_point p m.sinks) m
+changed (Unsink p) m = with_sinks (without_point p m.sinks) m
 
 -- the changes made one after another
 abbrev pub all_changed : List Change → Mosaic → Mosaic
 all_changed [] m = m
 all_changed (change ∷ later) m = all_changed later (changed change m)
 
--- Of the tiles with this side, those at these corners are present. The change adds a whole tile where there is none,
--- or it is of a present one.
-abbrev pub CanBeMade : ℕ → List Corner → Change → Type 0
-CanBeMade n corners (Add c samples) = (¬ Contains corners c) × (length samples ≡ n * n)
-CanBeMade n corners (Drop c) = Contains corners c
-CanBeMade n corners (Set c i s) = Contains corners c × (i < n * n)
+-- Of the tiles with this side, those at these corners are present, and these points are the sinks. The change adds a whole
+-- tile where there is none, or it is of a present one; or it declares a sink that may be one more, or takes one back.
+abbrev pub CanBeMade : ℕ → List Corner → List Point → Change → Type 0
+CanBeMade n corners sinks (Add c samples) = (¬ Contains corners c) × (length samples ≡ n * n)
+CanBeMade n corners sinks (Drop c) = Contains corners c
+CanBeMade n corners sinks (Set c i s) = Contains corners c × (i < n * n)
+CanBeMade n corners sinks (Sink p) = AreSinks n (with_point p sinks)
+CanBeMade n corners sinks (Unsink p) = Unit {0}
 
 -- the change sets a sample
 abbrev pub IsSet : Change → Type 0
@@ -38,7 +44,7 @@ abbrev pub CanBeSet : ℕ → List Corner → Change → Type 0
 CanBeSet n corners (Set c i s) = Contains corners c × (i < n * n)
 CanBeSet n corners _ = ⊥
 
--- a change of a whole tile is the only one
+-- a change of a whole tile, or of a sink, is the only one
 abbrev pub StandAlone : List Change → Type 0
 StandAlone changes = (length changes ≡ 1) ⊎ All IsSet changes
 

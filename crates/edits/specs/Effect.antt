@@ -15,7 +15,8 @@ use Rattle.lattice.specs.Ground.{same_point, metres}
 use Rattle.hgt.specs.Bytes.{samples_in}
 use Rattle.catalogue.specs.Tiles.{added, without}
 use Rattle.edits.specs.declared.command.Command.{Command}
-use Rattle.edits.specs.declared.command.Command.TheVariants.{Import, Remove, Patch, Burn, Wall}
+use Rattle.edits.specs.declared.command.Command.TheVariants.{Import, Remove, Patch, Burn, Wall, Sink, Unsink}
+use Rattle.edits.specs.Sinks.{sunk, unsunk}
 
 -- the samples from the index e on, each changed by its index and what it was
 abbrev pub changed_from : (ℕ → ℤ → ℤ) → ℕ → List ℤ → List ℤ
@@ -114,6 +115,8 @@ effect capacity m (Wall h points) =
     if not (is_height h) then Err BadHeight
     else (if is_repeated points.items then Err Repeated
     else unless_fault (first_fault m (pos 0) points.items) (walled h points.items m))
+effect capacity m (Sink p) = sunk m p
+effect capacity m (Unsink p) = unsunk m p
 
 -- the mosaic as before where the command is refused
 abbrev pub unless_refused : Mosaic → Result Mosaic Refusal → Mosaic

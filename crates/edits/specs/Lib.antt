@@ -5,5 +5,6 @@ pub mod EffectLaws
 pub mod LeftStale
 pub mod Plans
 pub mod Puts
+pub mod Sinks
 pub mod Touched
 pub mod Treatments

@@ -2,12 +2,13 @@
 use Rattle.std.specs.Prelude.{◌≡◌, ◌≤◌, ◌*◌, ℕ, length, Bool, true, false, ◌||◌, List, All}
 use Rattle.lattice.specs.Corners.{Corner}
 use Rattle.lattice.specs.declared.refusal.Refusal.{Refusal}
-use Rattle.lattice.specs.declared.refusal.Refusal.TheVariants.{BadLength, TileThere, NoTile, Full, Outside, Void, NothingVoid, BadHeight, BadDepth, BadBox, Repeated, TooDeep}
+use Rattle.lattice.specs.declared.refusal.Refusal.TheVariants.{BadLength, TileThere, NoTile, Full, Outside, Void, NothingVoid, BadHeight, BadDepth, BadBox, Repeated, TooDeep, NoSink}
 use Rattle.catalogue.specs.Endings.{ends_any}
 use Rattle.edits.specs.declared.command.Command.{Command}
-use Rattle.edits.specs.declared.command.Command.TheVariants.{Import, Remove, Patch, Burn, Wall}
+use Rattle.edits.specs.declared.command.Command.TheVariants.{Import, Remove, Patch, Burn, Wall, Sink, Unsink}
 use Rattle.edits.specs.declared.change.Change.{Change}
 use Rattle.edits.specs.Changes.{CanBeSet}
+use Rattle.edits.specs.Sinks.{refuses_sink}
 
 -- the refusals of a command's own tests
 abbrev pub is_own : Command → Refusal → Bool
@@ -27,6 +28,8 @@ is_own (Wall h points) BadHeight = true
 is_own (Wall h points) Repeated = true
 is_own (Wall h points) Outside = true
 is_own (Wall h points) Void = true
+is_own (Sink p) r = refuses_sink r
+is_own (Unsink p) NoSink = true
 is_own _ _ = false
 
 -- .. or those that may end any call that reads
@@ -40,6 +43,8 @@ IsFew (Remove c) changes = changes ≡ 1
 IsFew (Patch from to h) changes = Unit {0}
 IsFew (Burn depth points) changes = changes ≤ 4 * length points.items
 IsFew (Wall h points) changes = changes ≤ 4 * length points.items
+IsFew (Sink p) changes = changes ≡ 1
+IsFew (Unsink p) changes = changes ≡ 1
 
 -- a patch, a burn and a wall come to samples set in present tiles
 abbrev pub SetsOnly : ℕ → List Corner → Command → List Change → Type 0
@@ -48,3 +53,5 @@ SetsOnly n corners (Remove c) changes = Unit {0}
 SetsOnly n corners (Patch from to h) changes = All (CanBeSet n corners) changes
 SetsOnly n corners (Burn depth points) changes = All (CanBeSet n corners) changes
 SetsOnly n corners (Wall h points) changes = All (CanBeSet n corners) changes
+SetsOnly n corners (Sink p) changes = Unit {0}
+SetsOnly n corners (Unsink p) changes = Unit {0}

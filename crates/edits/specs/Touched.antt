@@ -6,7 +6,7 @@ use Rattle.lattice.specs.declared.point.Point.{Point}
 use Rattle.lattice.specs.Lattice.{holds}
 use Rattle.lattice.specs.Mosaic.{Tile, Mosaic}
 use Rattle.edits.specs.declared.command.Command.{Command}
-use Rattle.edits.specs.declared.command.Command.TheVariants.{Import, Remove, Patch, Burn, Wall}
+use Rattle.edits.specs.declared.command.Command.TheVariants.{Import, Remove, Patch, Burn, Wall, Sink, Unsink}
 use Rattle.edits.specs.Effect.{has_void_from}
 
 -- the tile holds one of the points
@@ -14,13 +14,16 @@ abbrev pub holds_one : Mosaic → List Point → Corner → Bool
 holds_one m points c = list_any (λ p. holds m.side c p) points
 
 -- The command touches the tile: an import or a remove its own, a burn or a wall each that holds a named point, a patch
--- each that holds a point of the box whose height is void. A tile is a present one, or the one taken out.
+-- each that holds a point of the box whose height is void, a sink that comes or goes each that holds its point, also
+-- where nothing else changes. A tile is a present one, or the one taken out.
 abbrev pub is_touched : Mosaic → Command → Tile → Bool
 is_touched m (Import c bytes) t = same_corner c t.corner
 is_touched m (Remove c) t = same_corner c t.corner
 is_touched m (Patch from to h) t = has_void_from m from to t.corner 0 t.samples
 is_touched m (Burn depth points) t = holds_one m points.items t.corner
 is_touched m (Wall h points) t = holds_one m points.items t.corner
+is_touched m (Sink q) t = holds m.side t.corner q
+is_touched m (Unsink q) t = holds m.side t.corner q
 
 -- at most one degree of latitude and one of longitude apart: the same tile, or a neighbour
 abbrev pub are_neighbours : Corner → Corner → Bool
@@ -34,6 +37,8 @@ goes_stale m (Remove c) p = are_neighbours c p
 goes_stale m (Patch from to h) p = list_any (λ t. is_touched m (Patch from to h) t && are_neighbours t.corner p) m.tiles
 goes_stale m (Burn depth points) p = list_any (λ t. is_touched m (Burn depth points) t && are_neighbours t.corner p) m.tiles
 goes_stale m (Wall h points) p = list_any (λ t. is_touched m (Wall h points) t && are_neighbours t.corner p) m.tiles
+goes_stale m (Sink q) p = list_any (λ t. is_touched m (Sink q) t && are_neighbours t.corner p) m.tiles
+goes_stale m (Unsink q) p = list_any (λ t. is_touched m (Unsink q) t && are_neighbours t.corner p) m.tiles
 
 -- the tiles without kept planes once the command made the new mosaic: those so far that are still present, those that
 -- it touches, and their neighbours

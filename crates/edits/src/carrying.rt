@@ -6,13 +6,14 @@ ghost use Rattle.catalogue.specs.Tiles.{corners_of};
 ghost use Rattle.edits.specs.Changes.{AddsNone, CanBeMade, StandAlone, changed, all_changed};
 
 use crate::Change;
-use catalogue::Table;
+use crate::sinks::{with_point, without_point};
+use catalogue::{Samples, Table};
 use lattice::Refusal;
 
 /// Makes the changes in the table, one after another: what `plan` answers for the table as it stands. A tile that comes
-/// in may find no memory. That is `NoMemory`, and the table stays as it was. Removals and samples take none.
+/// in may find no memory. That is `NoMemory`, and the table stays as it was. All other changes take none.
 pub fn carry_out(changes: Vec<Change>, table: &mut Table) -> Result<(), Refusal>
-    requires fits { All (CanBeMade table.old.side (corners_of table.old)) changes.items }
+    requires fits { All (CanBeMade table.old.side (corners_of table.old) table.old.sinks) changes.items }
     requires alone { StandAlone changes.items }
     ensures made { OnOk result (table.new ≡ all_changed changes.items table.old) }
     ensures refusal { IfErr result (λ r. r ≡ NoMemory) }
@@ -28,7 +29,7 @@ pub fn carry_out(changes: Vec<Change>, table: &mut Table) -> Result<(), Refusal>
 
 // Makes one change.
 fn make(change: Change, table: &mut Table) -> Result<(), Refusal>
-    requires { CanBeMade table.old.side (corners_of table.old) change }
+    requires { CanBeMade table.old.side (corners_of table.old) table.old.sinks change }
     ensures made { OnOk result (table.new ≡ changed change table.old) }
     ensures refusal { IfErr result (λ r. r ≡ NoMemory) }
     ensures unchanged { OnErr result (table.new ≡ table.old) }
@@ -47,6 +48,16 @@ fn make(change: Change, table: &mut Table) -> Result<(), Refusal>
             sample,
         } => {
             table.set(corner, index, sample);
+            Ok(())
+        }
+        Change::Sink { point } => {
+            let sinks = with_point(table.sinks(), point);
+            table.declare(&sinks);
+            Ok(())
+        }
+        Change::Unsink { point } => {
+            let sinks = without_point(table.sinks(), point);
+            table.declare(&sinks);
             Ok(())
         }
     }

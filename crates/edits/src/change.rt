@@ -1,7 +1,7 @@
 //! The changes that a command comes to.
 ghost use Rattle.std.specs.Prelude.{◌≡◌};
 
-use lattice::Corner;
+use lattice::{Corner, Point};
 use std::marker::Model;
 
 /// The samples of a whole tile: row by row from the north, in a row from the west, in metres.
@@ -58,19 +58,28 @@ pub enum Change {
         index: u32,
         sample: i16,
     },
+    /// The point is declared a sink.
+    Sink {
+        point: Point,
+    },
+    /// The point is a sink no more.
+    Unsink {
+        point: Point,
+    },
 }
 
 impl Change {
     ghost use Rattle.edits.specs.LeftStale.{tile_of};
 
-    /// The corner of the tile that it changes.
-    pub fn corner(&self) -> Corner
+    /// The corner of the tile that it changes, where it is of a tile and not of a sink.
+    pub fn corner(&self) -> Option<Corner>
         ensures { result ≡ tile_of self.now }
     {
         match self {
             Change::Add { corner, .. } | Change::Drop { corner } | Change::Set { corner, .. } => {
-                *corner
+                Some(*corner)
             }
+            Change::Sink { .. } | Change::Unsink { .. } => None,
         }
     }
 }

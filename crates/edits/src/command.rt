@@ -69,4 +69,12 @@ pub enum Command {
         height: i32,
         points: ArrayVec<Point, 64>,
     },
+    /// Declares the point a sink.
+    Sink {
+        point: Point,
+    },
+    /// Takes the sink at the point back.
+    Unsink {
+        point: Point,
+    },
 }

@@ -1,5 +1,6 @@
 //! Laws of the effect of a command. Each function says its law in its contract, and does nothing.
 ghost use Rattle.edits.specs.EffectLaws.{CommandsMakeMosaics, CommandsKeepTheSide, CommandsKeepTheCapacity, UntouchedTilesStay, StaleTilesArePresent, StaleTilesAreInOrder, FreshHeightsStay};
+ghost use Rattle.edits.specs.Sinks.{SinksMakeMosaics, SinksLeaveMosaics};
 
 /// A command that isn't refused makes a mosaic of the same side, of no more tiles than may be present.
 pub fn commands_make_mosaics()
@@ -22,4 +23,10 @@ pub fn stale_tiles_are_present()
 /// A tile that a command doesn't make stale keeps the heights of its points.
 pub fn fresh_heights_stay()
     ensures { FreshHeightsStay }
+{}
+
+/// A sink that is declared, or taken back, makes a mosaic with the same tiles.
+pub fn sinks_make_mosaics()
+    ensures declared { SinksMakeMosaics }
+    ensures taken { SinksLeaveMosaics }
 {}

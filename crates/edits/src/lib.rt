@@ -13,12 +13,16 @@ mod named;
 mod patching;
 mod planning;
 mod room;
+mod sinking;
+mod sinks;
 mod tiles;
 
 pub use carrying::carry_out;
 pub use change::{Change, TileSamples};
 pub use command::{Bytes, Command};
 pub use laws::{
-    commands_make_mosaics, fresh_heights_stay, stale_tiles_are_present, untouched_tiles_stay,
+    commands_make_mosaics, fresh_heights_stay, sinks_make_mosaics, stale_tiles_are_present,
+    untouched_tiles_stay,
 };
 pub use planning::plan;
+pub use sinks::{with_sink, without_sink};

@@ -49,7 +49,7 @@ pub(crate) fn burn<S: Samples>(
     ensures causes { IfErr result (λ r. IsTrue (may_end (Burn depth points.now) r)) }
     ensures fits { IfOk result (λ changes. All (CanBeSet (S.side_of samples.old) (S.corners samples.old)) changes.items) }
     ensures few { IfOk result (λ changes. vec_len changes ≤ 4 * length points.now.items) }
-    ensures beside { S.is_honest samples.new → IfOk result (λ changes. (p : Corner) → is_beside changes.items p ≡ goes_stale (S.mosaic samples.old) (Burn depth points.now) p) }
+    ensures beside { S.is_honest samples.new → IfOk result (λ changes. (p : Corner) → is_beside (S.mosaic samples.old) changes.items p ≡ goes_stale (S.mosaic samples.old) (Burn depth points.now) p) }
     ensures once { IfOk result (λ changes. SetOnce changes.items) }
     ensures reads { OnlyReads S.Samples samples.old samples.new (reads_of result) }
 {
@@ -80,7 +80,7 @@ pub(crate) fn wall<S: Samples>(
     ensures causes { IfErr result (λ r. IsTrue (may_end (Wall height points.now) r)) }
     ensures fits { IfOk result (λ changes. All (CanBeSet (S.side_of samples.old) (S.corners samples.old)) changes.items) }
     ensures few { IfOk result (λ changes. vec_len changes ≤ 4 * length points.now.items) }
-    ensures beside { S.is_honest samples.new → IfOk result (λ changes. (p : Corner) → is_beside changes.items p ≡ goes_stale (S.mosaic samples.old) (Wall height points.now) p) }
+    ensures beside { S.is_honest samples.new → IfOk result (λ changes. (p : Corner) → is_beside (S.mosaic samples.old) changes.items p ≡ goes_stale (S.mosaic samples.old) (Wall height points.now) p) }
     ensures once { IfOk result (λ changes. SetOnce changes.items) }
     ensures reads { OnlyReads S.Samples samples.old samples.new (reads_of result) }
 {
@@ -112,7 +112,7 @@ fn treat<S: Samples>(
     ensures causes { IfErr result (λ r. IsTrue (is_fault treatment r || ends_any r)) }
     ensures fits { IfOk result (λ changes. All (CanBeSet (S.side_of samples.old) (S.corners samples.old)) changes.items) }
     ensures few { IfOk result (λ changes. vec_len changes ≤ 4 * length points.now) }
-    ensures beside { S.is_honest samples.new → IfOk result (λ changes. (p : Corner) → is_beside changes.items p ≡ is_near_one (λ t. holds_one (S.mosaic samples.old) points.now t.corner) (S.mosaic samples.old) p) }
+    ensures beside { S.is_honest samples.new → IfOk result (λ changes. (p : Corner) → is_beside (S.mosaic samples.old) changes.items p ≡ is_near_one (λ t. holds_one (S.mosaic samples.old) points.now t.corner) (S.mosaic samples.old) p) }
     ensures once { is_repeated points.now ≡ false → IfOk result (λ changes. SetOnce changes.items) }
     ensures reads { OnlyReads S.Samples samples.old samples.new (reads_of result) }
 {
@@ -182,7 +182,7 @@ fn index_among<S: Samples>(samples: &S, corner: Corner, point: Point) -> Option<
 }
 
 // The height of the point, which has to have one.
-fn ground<S: Samples>(samples: &mut S, point: Point) -> Result<i16, Refusal>
+pub(crate) fn ground<S: Samples>(samples: &mut S, point: Point) -> Result<i16, Refusal>
     ensures metres { S.is_honest samples.new → IfOk result (λ h. height_of (S.mosaic samples.old) point ≡ height_is.At h) }
     ensures refused { S.is_honest samples.new → IfErr result (λ r. fault_of (height_of (S.mosaic samples.old) point) r) }
     ensures causes { IfErr result (λ r. IsTrue (is_groundless r || ends_any r)) }

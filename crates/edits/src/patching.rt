@@ -32,7 +32,7 @@ pub(crate) fn patch<S: Samples>(
     ensures refused { (capacity : ℕ) → S.is_honest samples.new → IfErr result (λ r. IsTrue (is_own (Patch from to height) r) → effect capacity (S.mosaic samples.old) (Patch from to height) ≡ Err r) }
     ensures causes { IfErr result (λ r. IsTrue (may_end (Patch from to height) r)) }
     ensures fits { IfOk result (λ changes. All (CanBeSet (S.side_of samples.old) (S.corners samples.old)) changes.items) }
-    ensures beside { S.is_honest samples.new → IfOk result (λ changes. (p : Corner) → is_beside changes.items p ≡ goes_stale (S.mosaic samples.old) (Patch from to height) p) }
+    ensures beside { S.is_honest samples.new → IfOk result (λ changes. (p : Corner) → is_beside (S.mosaic samples.old) changes.items p ≡ goes_stale (S.mosaic samples.old) (Patch from to height) p) }
     ensures once { IfOk result (λ changes. SetOnce changes.items) }
     ensures reads { OnlyReads S.Samples samples.old samples.new (reads_of result) }
 {

@@ -1,6 +1,7 @@
 //! The commands of whole tiles.
 ghost use Rattle.std.specs.Prelude.{◌≡◌, ◌⊎◌, ℕ, [], ◌∷◌, All, IsTrue, IfOk, IfErr, vec_len};
 ghost use Rattle.lattice.specs.Corners.{Corner};
+ghost use Rattle.lattice.specs.Mosaic.{Mosaic};
 ghost use Rattle.lattice.specs.declared.refusal.Refusal.TheVariants.{NoMemory};
 ghost use Rattle.edits.specs.Changes.{CanBeMade, all_changed};
 ghost use Rattle.edits.specs.Effect.{effect};
@@ -26,9 +27,9 @@ pub(crate) fn import<S: Samples>(
     ensures changes { S.is_honest samples.now → IfOk result (λ changes. effect capacity (S.mosaic samples.now) (Import corner bytes.now) ≡ Ok (all_changed changes.items (S.mosaic samples.now))) }
     ensures refused { S.is_honest samples.now → IfErr result (λ r. IsTrue (is_own (Import corner bytes.now) r) → effect capacity (S.mosaic samples.now) (Import corner bytes.now) ≡ Err r) }
     ensures causes { IfErr result (λ r. (r ≡ NoMemory) ⊎ IsTrue (is_own (Import corner bytes.now) r)) }
-    ensures fits { IfOk result (λ changes. All (CanBeMade (S.side_of samples.now) (S.corners samples.now)) changes.items) }
+    ensures fits { IfOk result (λ changes. All (CanBeMade (S.side_of samples.now) (S.corners samples.now) (S.sinks_of samples.now)) changes.items) }
     ensures one { IfOk result (λ changes. vec_len changes ≡ 1) }
-    ensures beside { IfOk result (λ changes. (p : Corner) → is_beside changes.items p ≡ are_neighbours corner p) }
+    ensures beside { IfOk result (λ changes. (m : Mosaic) (p : Corner) → is_beside m changes.items p ≡ are_neighbours corner p) }
 {
     let side = samples.side();
     let bytes = bytes.as_slice();
@@ -54,9 +55,9 @@ pub(crate) fn remove<S: Samples>(
     ensures changes { (capacity : ℕ) → S.is_honest samples.now → IfOk result (λ changes. effect capacity (S.mosaic samples.now) (Remove corner) ≡ Ok (all_changed changes.items (S.mosaic samples.now))) }
     ensures refused { (capacity : ℕ) → S.is_honest samples.now → IfErr result (λ r. IsTrue (is_own (Remove corner) r) → effect capacity (S.mosaic samples.now) (Remove corner) ≡ Err r) }
     ensures causes { IfErr result (λ r. (r ≡ NoMemory) ⊎ IsTrue (is_own (Remove corner) r)) }
-    ensures fits { IfOk result (λ changes. All (CanBeMade (S.side_of samples.now) (S.corners samples.now)) changes.items) }
+    ensures fits { IfOk result (λ changes. All (CanBeMade (S.side_of samples.now) (S.corners samples.now) (S.sinks_of samples.now)) changes.items) }
     ensures one { IfOk result (λ changes. vec_len changes ≡ 1) }
-    ensures beside { IfOk result (λ changes. (p : Corner) → is_beside changes.items p ≡ are_neighbours corner p) }
+    ensures beside { IfOk result (λ changes. (m : Mosaic) (p : Corner) → is_beside m changes.items p ≡ are_neighbours corner p) }
 {
     if !samples.present(corner) {
         return Err(Refusal::NoTile);
@@ -65,7 +66,7 @@ pub(crate) fn remove<S: Samples>(
 }
 
 // This change alone.
-fn just(alloc: Global, change: Change) -> Result<Vec<Change>, Refusal>
+pub(crate) fn just(alloc: Global, change: Change) -> Result<Vec<Change>, Refusal>
     ensures items { IfOk result (λ changes. changes.items ≡ change ∷ []) }
     ensures len { IfOk result (λ changes. vec_len changes ≡ 1) }
     ensures refusal { IfErr result (λ r. r ≡ NoMemory) }

@@ -86,6 +86,10 @@ pub trait Engine {
     fn tiles(&self) -> Result<Vec<Corner>, Refusal>
         ensures { called self.now ask.Tiles (answered reply.Tiles result) self.now };
 
+    /// The declared sinks, in the order of points. They are held in memory too.
+    fn sinks(&self) -> Result<Vec<Point>, Refusal>
+        ensures { called self.now ask.Sinks (answered reply.Sinks result) self.now };
+
     /// How many commands were accepted, as last known.
     fn count(&self) -> u64
         ensures { called self.now ask.Count (reply.Count result) self.now };

@@ -1,5 +1,5 @@
 -- The points that drain downhill or off the mosaic, and the points of flats, one number after another.
-use Rattle.std.proofs.Common.{◌≡◌, ◌≢◌, ℕ, ◌+◌, ◌<◌, ◌≤◌, Bool, true, false, cond, not, ◌&&◌, IsTrue, IsFalse, Option, Some, None, List, length, get_or, set, inl, inr, ⊎_elim, refl, sym, ap, ◌∙◌, subst, arith, true≢false, get_or-set_other, get_or-set_same, length-set}
+use Rattle.std.proofs.Common.{◌||◌, ◌≡◌, ◌≢◌, ℕ, ◌+◌, ◌<◌, ◌≤◌, Bool, true, false, cond, not, ◌&&◌, IsTrue, IsFalse, Option, Some, None, List, length, get_or, set, inl, inr, ⊎_elim, refl, sym, ap, ◌∙◌, subst, arith, true≢false, get_or-set_other, get_or-set_same, length-set}
 use Rattle.std.specs.Prelude.{nat_lt, is_some, count_by, MatchOption}
 use Rattle.std.specs.List.{list_all}
 use Rattle.std.proofs.lemmas.Bool.{cases_Bool, cases_eq}
@@ -10,7 +10,7 @@ use Rattle.lattice.specs.declared.direction.Dir.TheVariants.{East}
 use Rattle.lattice.specs.Steps.{step, directions}
 use Rattle.flow_d8.specs.Drainage.{HasLower, IsSteepest, IsFlatDistance, IsFirstNearer, IsDirection}
 use Rattle.flow_d8.specs.Filled.{Filled, AreLevels}
-use Rattle.flow_d8.specs.Surface.{number_in, level_at, has_level, adjoins, leads_off, surface, beside_of, around_of}
+use Rattle.flow_d8.specs.Surface.{number_in, level_at, has_level, adjoins, is_declared, leads_off, surface, beside_of, around_of}
 use Rattle.flow_d8.specs.Crossing.{unknown, distance_at, Crosses, IsNumberOf, AreDistances, IsDownhill, drain_at, AreDownhill, AreDrained, IsBegun, IsStart, IsFinishing, LeadsNowhere}
 use Rattle.flow_d8.proofs.Surfaces.{same_site, level_within, beside_there, beside_none}
 use Rattle.flow_d8.proofs.Nearest.{on_flat, across_flat}
@@ -55,13 +55,20 @@ module _ (f : Filled) (p : Point) where
   not_not true = refl
   not_not false = refl
 
-  -- a point with a level is an outlet exactly where some direction has no adjacent point
-  pub enclosed_is : IsTrue (has_level f p) → list_all is_some (around_of f p) ≡ not (leads_off f p)
+  -- a point with a level is no outlet exactly where each direction has an adjacent point, and it is no sink
+  pub enclosed_is : IsTrue (has_level f p) → (list_all is_some (around_of f p) && not (is_declared f p)) ≡ not (leads_off f p)
   unfolding leads_off
   enclosed_is level =
-      all_eight _ _ _ _ _ _ _ _ _ _ _ _ _ _ _ _ (some_beside (get_or directions 0 East)) (some_beside (get_or directions 1 East)) (some_beside (get_or directions 2 East)) (some_beside (get_or directions 3 East))
+      ap (λ b. b && not (is_declared f p))
+      (all_eight _ _ _ _ _ _ _ _ _ _ _ _ _ _ _ _ (some_beside (get_or directions 0 East)) (some_beside (get_or directions 1 East)) (some_beside (get_or directions 2 East)) (some_beside (get_or directions 3 East))
       (some_beside (get_or directions 4 East)) (some_beside (get_or directions 5 East)) (some_beside (get_or directions 6 East)) (some_beside (get_or directions 7 East))
-      ∙ sym (not_not _) ∙ ap not (sym (counted _ _ _ _ _ _ _ _) ∙ ap (λ b. b && nat_lt (count_by (λ d. adjoins f p (step d p)) directions) 8) (sym level))
+      ∙ sym (not_not _) ∙ ap not (sym (counted _ _ _ _ _ _ _ _)))
+      ∙ neither (nat_lt (count_by (λ d. adjoins f p (step d p)) directions) 8) (is_declared f p) (has_level f p) level
+    where
+      neither : (few sink on : Bool) → on ≡ true → (not few && not sink) ≡ not (on && (few || sink))
+      neither true sink true is = refl
+      neither false sink true is = refl
+      neither few sink false is = absurd (true≢false (sym is))
 
   -- distance 0 is the flat distance of a point that crosses its flat in no steps
   pub at_once : Crosses f p 0 → IsFlatDistance (surface f) (level_at f) p 0
@@ -259,15 +266,15 @@ module _ (f : Filled) (p : Point) where
   no_lower None answer none is h = none
   no_lower (Some d) answer steep is h = absurd (true≢false (sym is ∙ ap not h))
 
-  pub inside_of : (enclosed : Bool) → IsTrue (has_level f p) → enclosed ≡ list_all is_some (around_of f p) → enclosed ≡ true → IsFalse (leads_off f p)
-  inside_of enclosed level is all_there = flipped (leads_off f p) (sym (enclosed_is f p level) ∙ sym is ∙ all_there)
+  pub inside_of : (enclosed : Bool) → enclosed ≡ not (leads_off f p) → enclosed ≡ true → IsFalse (leads_off f p)
+  inside_of enclosed is all_there = flipped (leads_off f p) (sym is ∙ all_there)
     where
       flipped : (b : Bool) → not b ≡ true → IsFalse b
       flipped true h = sym h
       flipped false h = refl
 
-  pub off_of : (enclosed : Bool) → IsTrue (has_level f p) → enclosed ≡ list_all is_some (around_of f p) → enclosed ≡ false → Crosses f p 0
-  off_of enclosed level is no_more = inr (flipped (leads_off f p) (sym (enclosed_is f p level) ∙ sym is ∙ no_more))
+  pub off_of : (enclosed : Bool) → enclosed ≡ not (leads_off f p) → enclosed ≡ false → Crosses f p 0
+  off_of enclosed is no_more = inr (flipped (leads_off f p) (sym is ∙ no_more))
     where
       flipped : (b : Bool) → not b ≡ false → IsTrue b
       flipped true h = refl

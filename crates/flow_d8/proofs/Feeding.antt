@@ -135,7 +135,7 @@ module _ (d : Directions) (whole : AreWhole d) where
 
   -- the same tiles with a level everywhere
   abbrev pub plain : Filled
-  plain = record { side = d.side; corners = d.corners; levels = map (λ (x : ℕ). pos 0) d.distances }
+  plain = record { side = d.side; corners = d.corners; levels = map (λ (x : ℕ). pos 0) d.distances; sinks = [] }
 
   pub plain_valid : AreLevels plain
   plain_valid = record { side_low = whole.side_low; side_high = whole.side_high; few = whole.few; in_order = whole.in_order; whole = length-map d.distances (λ (x : ℕ). pos 0) ∙ whole.distances }

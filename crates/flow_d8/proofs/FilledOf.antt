@@ -1,5 +1,5 @@
 -- Where levels are the filled levels of a mosaic, they tell of its ground.
-use Rattle.std.proofs.Common.{◌≡◌, ℕ, suc, ◌+◌, ◌*◌, ℤ, ◌≤ℤ◌, Bool, true, false, cond, not, ◌&&◌, ◌||◌, IsTrue, IsFalse, List, [], ◌∷◌, map, refl, sym, ap, ap₂, ◌∙◌, subst, arith, inl, inr, true≢false}
+use Rattle.std.proofs.Common.{◌||◌, ◌≡◌, ℕ, suc, ◌+◌, ◌*◌, ℤ, ◌≤ℤ◌, Bool, true, false, cond, not, ◌&&◌, ◌||◌, IsTrue, IsFalse, List, [], ◌∷◌, map, refl, sym, ap, ap₂, ◌∙◌, subst, arith, inl, inr, true≢false}
 use Rattle.std.specs.Prelude.{All, nat_lt, count_by, slice_index_or, if◌then◌else◌}
 use Rattle.std.specs.List.{list_any}
 use Rattle.std.proofs.lemmas.Int.{ints}
@@ -14,13 +14,13 @@ use Rattle.lattice.specs.Lattice.{holds, index_of, point_of}
 use Rattle.lattice.specs.Terrain.{IsFilledLevel}
 use Rattle.lattice.specs.Mosaic.{Mosaic, Tile, IsMosaic, IsTile, void, is_void}
 use Rattle.lattice.specs.Height.{samples_at, first_height, by_seam_rule, height_of}
-use Rattle.lattice.specs.Ground.{is_ground, is_height, metres, same_point, is_near, share_tile, is_adjacent, is_outlet, terrain}
+use Rattle.lattice.specs.Ground.{is_ground, is_height, metres, same_point, is_near, share_tile, is_adjacent, degree_of, is_outlet, terrain}
 use Rattle.lattice.proofs.Samples.{point_of_index}
 use Rattle.lattice.proofs.WaysOut.{held}
 use Rattle.lattice.proofs.Levels.{height-le_level, level_is_unique}
 use Rattle.flow_d8.specs.Drainage.{AreFilledLevels}
 use Rattle.flow_d8.specs.Filled.{Filled, AreLevels, IsFilledOf, is_holder, is_held}
-use Rattle.flow_d8.specs.Surface.{level_at, has_level, is_shared, adjoins, leads_off, surface}
+use Rattle.flow_d8.specs.Surface.{level_at, has_level, is_shared, adjoins, is_declared, leads_off, surface}
 use Rattle.flow_d8.proofs.Numbers.{seat_of, holder_holds, index_small}
 use Rattle.flow_d8.proofs.Surfaces.{level_held, at_level}
 use Rattle.flow_d8.proofs.MosaicGrid.{mosaic_is_grid}
@@ -129,7 +129,8 @@ module _ (m : Mosaic) (f : Filled) (is : IsMosaic m) (whole : AreLevels f) (of :
 
   pub outlet_same : (p : Point) → leads_off f p ≡ is_outlet m p
   unfolding leads_off
-  outlet_same p = ap₂ (λ a c. a && nat_lt c 8) (ground_same p) (counts p)
+  outlet_same p = ap₂ (λ a c. a && (nat_lt c 8 || is_declared f p)) (ground_same p) (counts p)
+      ∙ ap (λ (ss : List Point). is_ground m p && (nat_lt (degree_of m p) 8 || list_any (λ s. same_point s p) ss)) of.sinks
 
   pub alike : (level : Point → ℤ) → AreFilledLevels (terrain m) level → Alike (surface f) (terrain m) (level_at f) level
   alike level filled = record {

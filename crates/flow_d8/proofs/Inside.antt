@@ -1,21 +1,19 @@
 -- All around a point at least two samples from the edges of its tile lies inside that tile, and no other tile holds it.
-use Rattle.std.proofs.Common.{◌≡◌, ℕ, zero, suc, ◌+◌, ◌-◌, ◌*◌, ◌/◌, ◌%◌, ◌<◌, ◌≤◌, ℤ, pos, negsuc, ◌+ℤ◌, ◌-ℤ◌, ◌*ℤ◌, ◌<ℤ◌, Bool, true, not, IsTrue, ◌&&◌, ◌⊎◌, inl, inr, ⊎_elim, Option, Some, None, List, [], ◌∷◌, length, get_or, refl, sym, ◌∙◌, ap, ap₂, subst, arith, nat_abs, true≢false}
-use Rattle.std.specs.Prelude.{int_lt, nat_le, slice_index_or, slice_get, if◌then◌else◌}
-use Rattle.std.specs.Ordering.{int_eq}
+use Rattle.std.proofs.Common.{◌≡◌, ℕ, zero, suc, ◌+◌, ◌-◌, ◌*◌, ◌/◌, ◌%◌, ◌<◌, ◌≤◌, ℤ, pos, ◌+ℤ◌, ◌-ℤ◌, ◌*ℤ◌, Bool, true, not, IsTrue, ◌&&◌, inl, inr, Option, Some, None, List, [], ◌∷◌, length, get_or, refl, sym, ◌∙◌, ap, ap₂, subst, arith, true≢false}
+use Rattle.std.specs.Prelude.{nat_le, slice_index_or, slice_get, if◌then◌else◌}
 use Rattle.std.specs.List.{list_any, AllAdjacentBelow}
-use Rattle.std.proofs.Math.IntN.{+ℤ_idr, suc_ℤ-*ℤ, suc_ℤ}
 use Rattle.std.proofs.Math.Nat.{mul-le-mul_right}
-use Rattle.std.proofs.lemmas.Int.{ints, by_lt_z}
+use Rattle.std.proofs.lemmas.Int.{ints}
 use Rattle.std.proofs.lemmas.Grind.{rows}
 use Rattle.std.proofs.lemmas.Option.{slice_get_read, get_or_from_slice_get}
-use Rattle.std.proofs.lemmas.Bool.{cases_Bool, cases_order, cond-true, cond-false, and_parts, and_from, or_cases, or_left, or_right}
-use Rattle.std.proofs.lemmas.Bool.Decides.{Decides-int_eq, nat_tests}
+use Rattle.std.proofs.lemmas.Bool.{cases_Bool, cond-true, cond-false, and_parts, and_from, or_left, or_right}
+use Rattle.std.proofs.lemmas.Bool.Decides.{nat_tests}
 use Rattle.lattice.specs.declared.point.Point.{Point}
 use Rattle.lattice.specs.declared.direction.Dir.{Dir}
-use Rattle.lattice.specs.Corners.{Corner, is_corner, is_before}
+use Rattle.lattice.specs.Corners.{Corner, is_corner}
 use Rattle.lattice.specs.declared.direction.Dir.TheVariants.{East, SouthEast, South, SouthWest, West, NorthWest, North, NorthEast}
 use Rattle.lattice.specs.Steps.{step, north_of, east_of}
-use Rattle.lattice.specs.Lattice.{IsBefore, Holds, IsSampleAt, IsIndexOf, index_of}
+use Rattle.lattice.specs.Lattice.{IsBefore, IsSampleAt, IsIndexOf, index_of}
 use Rattle.lattice.specs.Mosaic.{void, is_void}
 use Rattle.lattice.proofs.Interior.{inner_holder}
 use Rattle.lattice.proofs.Rising.{rising_from, one_index}

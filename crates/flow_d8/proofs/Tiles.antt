@@ -1,5 +1,5 @@
 -- Where a corner stands among corners in the order of tiles, and which of them is the first whose tile holds a point.
-use Rattle.std.proofs.Common.{◌≡◌, ℕ, zero, suc, ◌+◌, ◌-◌, ◌*◌, ◌<◌, ◌≤◌, Bool, true, false, IsTrue, ℤ, ◌<ℤ◌, ◌⊎◌, ◌↔◌, Option, Some, None, Result, Ok, Err, ◌&&◌, List, [], ◌∷◌, length, get_or, refl, sym, ap, ap₂, ◌∙◌, subst, arith, inl, inr, ⊎_elim, true≢false}
+use Rattle.std.proofs.Common.{◌≡◌, ℕ, zero, suc, ◌+◌, ◌*◌, ◌<◌, ◌≤◌, Bool, true, false, IsTrue, ℤ, ◌<ℤ◌, ◌⊎◌, ◌↔◌, Option, Some, None, Result, Ok, Err, ◌&&◌, List, [], ◌∷◌, length, get_or, refl, sym, ap, ap₂, ◌∙◌, subst, arith, inl, inr, ⊎_elim, true≢false}
 use Rattle.std.specs.Prelude.{MatchOption, Contains, is_some, slice_get}
 use Rattle.std.specs.Result.{result_ok}
 use Rattle.std.specs.List.{AllAdjacentBelow, list_any}

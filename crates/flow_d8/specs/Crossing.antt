@@ -96,6 +96,11 @@ module _ (f : Filled) where
     pub right : AreRight distances 0
     pub known : (p : Point) → IsTrue (has_level f p) → Crosses p 0 → distance_at distances (number_in f p) < unknown
 
+  -- q lies beside p and has its level
+  pub record IsAcross (p q : Point) : Type 0 where
+    pub beside : IsTrue (adjoins f p q)
+    pub same_level : level_at f q ≡ level_at f p
+
   -- q lies beside p, has its level and the distance 0
   pub record IsWayOut (distances : List ℕ) (p q : Point) : Type 0 where
     pub beside : IsTrue (adjoins f p q)

@@ -1,5 +1,6 @@
 -- Where each point of a mosaic drains, kept by the numbers of samples.
 use Rattle.std.specs.Prelude.{◌≡◌, ℕ, ◌*◌, ◌<◌, ◌≤◌, ℤ, ◌&&◌, IsTrue, IsFalse, Option, Some, None, List, length, nat_lt, if◌then◌else◌, slice_index_or}
+use Rattle.lattice.specs.Limits.{largest_side, most_tiles}
 use Rattle.lattice.specs.declared.point.Point.{Point}
 use Rattle.lattice.specs.declared.direction.Dir.{Dir}
 use Rattle.lattice.specs.declared.direction.Dir.TheVariants.{East, SouthEast, South, SouthWest, West, NorthWest, North, NorthEast}
@@ -23,8 +24,8 @@ pub record Directions : Type 0 where
 
 pub record AreWhole (d : Directions) : Type 0 where
   pub side_low : 3 ≤ d.side
-  pub side_high : d.side ≤ 3601
-  pub few : length d.corners ≤ 240
+  pub side_high : d.side ≤ largest_side
+  pub few : length d.corners ≤ most_tiles
   pub in_order : AllAdjacentBelow IsBefore d.corners (length d.corners)
   pub drains : length d.drains ≡ length d.corners * (d.side * d.side)
   pub distances : length d.distances ≡ length d.corners * (d.side * d.side)

@@ -1,6 +1,7 @@
 -- Filled of many tiles, tile after tile in one list, and where in it a point lies.
 use Rattle.std.specs.Prelude.{◌≡◌, ℕ, ◌+◌, ◌*◌, ◌/◌, ◌%◌, nat_le, ◌<◌, ◌≤◌, ℤ, Bool, IsTrue, IsFalse, ◌&&◌, if◌then◌else◌, List, [], ◌∷◌, length, map, slice_index_or, slice_get, Some}
 use Rattle.std.specs.List.{list_any, AllAdjacentBelow}
+use Rattle.lattice.specs.Limits.{largest_side, most_tiles}
 use Rattle.lattice.specs.declared.point.Point.{Point}
 use Rattle.lattice.specs.Corners.{Corner, is_corner}
 use Rattle.lattice.specs.Lattice.{IsBefore, holds, index_of, point_of}
@@ -8,21 +9,24 @@ use Rattle.lattice.specs.Terrain.{IsFilledLevel}
 use Rattle.lattice.specs.Mosaic.{Mosaic, IsMosaic, void}
 use Rattle.lattice.specs.Ground.{is_ground, terrain}
 
--- the corners of the tiles, and of each tile in turn the levels row by row from the north, in a row from the west
+-- the corners of the tiles, and of each tile in turn the levels row by row from the north, in a row from the west; and
+-- the declared sinks
 pub record Filled : Type 0 where
   pub side : ℕ
   pub corners : List Corner
   pub levels : List ℤ
+  pub sinks : List Point
 
 -- corners in the order of tiles, no more than a store has room for, and a level for each sample
 pub record AreLevels (f : Filled) : Type 0 where
   pub side_low : 3 ≤ f.side
-  pub side_high : f.side ≤ 3601
-  pub few : length f.corners ≤ 240
+  pub side_high : f.side ≤ largest_side
+  pub few : length f.corners ≤ most_tiles
   pub in_order : AllAdjacentBelow IsBefore f.corners (length f.corners)
   pub whole : length f.levels ≡ length f.corners * (f.side * f.side)
 
--- the levels are the filled levels of the mosaic's blocks: those of its present tiles, void where a point isn't ground
+-- the levels are the filled levels of the mosaic's blocks: those of its present tiles, void where a point isn't ground;
+-- and the sinks are the mosaic's
 pub record IsFilledOf (m : Mosaic) (f : Filled) : Type 0 where
   pub side : f.side ≡ m.side
   pub corners : f.corners ≡ map (λ t. t.corner) m.tiles
@@ -30,6 +34,7 @@ pub record IsFilledOf (m : Mosaic) (f : Filled) : Type 0 where
       → IsFilledLevel (terrain m) (point_of f.side c e) (slice_index_or f.levels (k * (f.side * f.side) + e) void)
   pub elsewhere : (k e : ℕ) (c : Corner) → slice_get f.corners k ≡ Some c → e < f.side * f.side → IsFalse (is_ground m (point_of f.side c e))
       → slice_index_or f.levels (k * (f.side * f.side) + e) void ≡ void
+  pub sinks : f.sinks ≡ m.sinks
 
 -- the corner's tile holds the point
 abbrev pub is_holder : ℕ → Corner → Point → Bool

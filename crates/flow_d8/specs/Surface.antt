@@ -1,5 +1,5 @@
 -- The ground that levels tell of, as a terrain: which points have a level, and which two of them are adjacent.
-use Rattle.std.specs.Prelude.{ℕ, ℤ, Bool, ◌&&◌, not, nat_lt, if◌then◌else◌, List, map, count_by, slice_index_or, Option, Some, None}
+use Rattle.std.specs.Prelude.{ℕ, ℤ, Bool, ◌&&◌, ◌||◌, not, nat_lt, if◌then◌else◌, List, map, count_by, slice_index_or, Option, Some, None}
 use Rattle.std.specs.List.{list_any}
 use Rattle.lattice.specs.declared.point.Point.{Point}
 use Rattle.lattice.specs.declared.direction.Dir.{Dir}
@@ -26,9 +26,12 @@ module _ (f : Filled) where
   unfoldable pub adjoins : Point → Point → Bool
   adjoins p q = has_level p && has_level q && not (same_point p q) && is_near p q && is_shared p q
 
-  -- a point with a level, and fewer than eight adjacent points
+  abbrev pub is_declared : Point → Bool
+  is_declared p = list_any (λ s. same_point s p) f.sinks
+
+  -- a point with a level, and fewer than eight adjacent points, or one that is declared a sink
   unfoldable pub leads_off : Point → Bool
-  leads_off p = has_level p && nat_lt (count_by (λ d. adjoins p (step d p)) directions) 8
+  leads_off p = has_level p && (nat_lt (count_by (λ d. adjoins p (step d p)) directions) 8 || is_declared p)
 
   abbrev pub surface : Terrain Point
   surface = record { is_ground = has_level; height = level_at; is_adjacent = adjoins; is_outlet = leads_off }

@@ -6,7 +6,7 @@ ghost use Rattle.lattice.specs.Lattice.{IsBefore};
 ghost use Rattle.lattice.specs.Mosaic.{void, is_void};
 ghost use Rattle.lattice.specs.declared.point.Point.{Point};
 ghost use Rattle.flow_d8.specs.Filled.{AreLevels, is_held, is_deep};
-ghost use Rattle.flow_d8.specs.Surface.{number_in, has_level, beside_of, around_of};
+ghost use Rattle.flow_d8.specs.Surface.{number_in, has_level, is_declared, beside_of, around_of};
 
 use crate::numbering::{number_of, share_tile};
 use lattice::{Corner, Dir, MOST_TILES, Point, Side, VOID, neighbour, point_at};
@@ -18,6 +18,7 @@ pub struct Filled {
     side: Side,
     corners: Vec<Corner>,
     levels: Vec<i16>,
+    sinks: Vec<Point>,
 }
 
 impl Model for Filled {
@@ -25,17 +26,22 @@ impl Model for Filled {
 
     ghost Value = { Filled };
 
-    ghost view = { λ f. record { side = f.side; corners = f.corners.items; levels = f.levels.items } };
+    ghost view = { λ f. record { side = f.side; corners = f.corners.items; levels = f.levels.items; sinks = f.sinks.items } };
 
-    ghost invariant = { λ f. AreLevels (record { side = f.side; corners = f.corners.items; levels = f.levels.items }) };
+    ghost invariant = { λ f. AreLevels (record { side = f.side; corners = f.corners.items; levels = f.levels.items; sinks = f.sinks.items }) };
 }
 
 impl Filled {
     /// The levels of the tiles at these corners, in metres: tile after tile, each row by row from the north, in a row
-    /// from the west, -32768 where a point has none. None where the corners aren't in the order of tiles, are more than
+    /// from the west, -32768 where a point has none; and the declared sinks. None where the corners aren't in the order of tiles, are more than
     /// 240, or where the levels aren't as many as the tiles have samples. Takes no memory.
-    pub fn new(side: Side, corners: Vec<Corner>, levels: Vec<i16>) -> Option<Filled>
-        ensures { SomeIff result (AreLevels (record { side = side; corners = corners.items; levels = levels.items })) (record { side = side; corners = corners.items; levels = levels.items }) }
+    pub fn new(
+        side: Side,
+        corners: Vec<Corner>,
+        levels: Vec<i16>,
+        sinks: Vec<Point>,
+    ) -> Option<Filled>
+        ensures { SomeIff result (AreLevels (record { side = side; corners = corners.items; levels = levels.items; sinks = sinks.items })) (record { side = side; corners = corners.items; levels = levels.items; sinks = sinks.items }) }
     {
         if corners.len() <= MOST_TILES as usize
             && are_rising(&corners)
@@ -45,6 +51,7 @@ impl Filled {
                 side,
                 corners,
                 levels,
+                sinks,
             })
         } else {
             None
@@ -73,6 +80,13 @@ impl Filled {
         ensures small { length self.now.levels ≤ 3112192240 }
     {
         &self.levels
+    }
+
+    /// Whether the point is declared a sink.
+    pub(crate) fn is_sink(&self, point: Point) -> bool
+        ensures { result ≡ is_declared self.now point }
+    {
+        self.sinks.contains(&point)
     }
 
     /// The point with a level that has this number, if there is one: a point that several tiles hold has its number in

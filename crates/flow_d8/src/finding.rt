@@ -1,5 +1,5 @@
 //! Directions from levels.
-ghost use Rattle.std.specs.Prelude.{◌≡◌, ℕ, ℤ, ◌+◌, ◌<◌, ◌≤◌, ◌⊎◌, IsTrue, IfOk, IfErr, OnOk, List, None, length, is_some, slice_index_or};
+ghost use Rattle.std.specs.Prelude.{not, ◌≡◌, ℕ, ℤ, ◌+◌, ◌<◌, ◌≤◌, ◌⊎◌, IsTrue, IfOk, IfErr, OnOk, List, None, length, is_some, slice_index_or};
 ghost use Rattle.std.specs.List.{list_all};
 ghost use Rattle.lattice.specs.declared.point.Point.{Point};
 ghost use Rattle.lattice.specs.declared.refusal.Refusal.TheVariants.{NoMemory, Damaged};
@@ -7,7 +7,7 @@ ghost use Rattle.lattice.specs.Mosaic.{Mosaic, IsMosaic};
 ghost use Rattle.lattice.specs.Ground.{terrain};
 ghost use Rattle.flow_d8.specs.Drainage.{AreFilledLevels};
 ghost use Rattle.flow_d8.specs.Filled.{IsFilledOf, IsOfNoMosaic};
-ghost use Rattle.flow_d8.specs.Surface.{number_in, has_level};
+ghost use Rattle.flow_d8.specs.Surface.{number_in, has_level, leads_off, around_of};
 ghost use Rattle.flow_d8.specs.Crossing.{unknown, distance_at, IsStart, IsBegun, IsFinishing, AreDownhill, AreDistances, AreDrained};
 ghost use Rattle.flow_d8.specs.Directions.{AreDirectionsOf};
 
@@ -15,7 +15,7 @@ use crate::directions::Directions;
 use crate::downhill::steepest;
 use crate::filled::Filled;
 use crate::flats::{UNKNOWN, cross, nearer};
-use lattice::{Dir, Refusal};
+use lattice::{Dir, Point, Refusal};
 use std::alloc::Global;
 
 impl Filled {
@@ -84,15 +84,27 @@ fn begin(filled: &Filled, drains: &mut [Option<Dir>], distances: &mut [u32], num
     };
     let around = filled.around(point, number);
     let way = steepest(filled, point, number, &around);
-    if way.is_none() && is_enclosed(&around) {
+    if way.is_none() && is_enclosed(filled, point, &around) {
         return;
     }
     distances[number] = 0;
     drains[number] = way;
 }
 
+// Whether the point is no outlet: there is a point in each of the eight directions, and it is no sink.
+fn is_enclosed(filled: &Filled, point: Point, around: &[Option<usize>; 8]) -> bool
+    requires level { IsTrue (has_level filled.now point) }
+    requires around { around.now ≡ around_of filled.now point }
+    ensures { result ≡ not (leads_off filled.now point) }
+{
+    if filled.is_sink(point) {
+        return false;
+    }
+    are_all_there(around)
+}
+
 // Whether there is a point in each of the eight directions.
-fn is_enclosed(around: &[Option<usize>; 8]) -> bool
+fn are_all_there(around: &[Option<usize>; 8]) -> bool
     ensures { result ≡ list_all is_some around.now }
 {
     around.iter().all(|beside| beside.is_some())

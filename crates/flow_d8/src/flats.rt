@@ -1,11 +1,12 @@
 //! Flats, crossed the shortest way: a breadth-first search from all points that drain downhill or off the mosaic.
-ghost use Rattle.std.specs.Prelude.{◌≡◌, ℕ, ◌+◌, ◌↔◌, ◌<◌, ◌≤◌, IsTrue, IfOk, OnOk, MatchOption, length, slice_index_or};
+ghost use Rattle.std.specs.Prelude.{◌≡◌, ℕ, ◌+◌, ◌↔◌, ◌<◌, ◌≤◌, IsTrue, IfOk, OnOk, IfSome, IfNone, MatchOption, length, slice_index_or};
 ghost use Rattle.lattice.specs.Steps.{step, order_of};
 ghost use Rattle.lattice.specs.declared.direction.Dir.{Dir};
 ghost use Rattle.lattice.specs.declared.point.Point.{Point};
 ghost use Rattle.flow_d8.specs.Drainage.{IsFirstNearer, IsNearer, IsFlatDistance};
+ghost use Rattle.flow_d8.specs.Filled.{AreLevels};
 ghost use Rattle.flow_d8.specs.Surface.{number_in, level_at, has_level, adjoins, beside_of, surface};
-ghost use Rattle.flow_d8.specs.Crossing.{unknown, distance_at, gaps, AreKept, IsStart, IsWave, IsWayOut, IsReaching, IsSpreading, IsSpread, AreDistances};
+ghost use Rattle.flow_d8.specs.Crossing.{unknown, distance_at, gaps, AreKept, IsStart, IsWave, IsAcross, IsWayOut, IsReaching, IsSpreading, IsSpread, AreDistances};
 
 use crate::filled::{Filled, same_level};
 use lattice::{DIRECTIONS, Dir, Point};
@@ -103,13 +104,38 @@ fn is_way_out(
     requires beside { beside ≡ beside_of filled.now point direction }
     ensures { IsTrue result ↔ IsWayOut filled.now distances.now point (step direction point) }
 {
-    let Some(other) = beside else {
-        return false;
-    };
-    if !same_level(filled.levels(), number, other) {
-        return false;
+    match distance_across(filled, distances, point, number, direction, beside) {
+        Some(across) => across == 0,
+        None => false,
     }
-    distances[other] == 0
+}
+
+// The distance of the point one step away, where that has the same level.
+fn distance_across(
+    filled: &Filled,
+    distances: &[u32],
+    point: Point,
+    number: usize,
+    direction: Dir,
+    beside: Option<usize>,
+) -> Option<u32>
+    requires whole { length distances.now ≡ length filled.now.levels }
+    requires level { IsTrue (has_level filled.now point) }
+    requires numbered { number_in filled.now point ≡ number }
+    requires beside { beside ≡ beside_of filled.now point direction }
+    ensures none { IfNone result (IsAcross filled.now point (step direction point) → ⊥) }
+    ensures across { IfSome result (λ _. IsAcross filled.now point (step direction point)) }
+    ensures distance { IfSome result (λ distance. distance ≡ distance_at distances.now (number_in filled.now (step direction point))) }
+    ensures valid { AreLevels filled.now }
+{
+    let levels = filled.levels();
+    let Some(other) = beside else {
+        return None;
+    };
+    if !same_level(levels, number, other) {
+        return None;
+    }
+    Some(distances[other])
 }
 
 // The points that are first reached from those of a wave, which have this distance: each gets the next one.
@@ -252,11 +278,8 @@ fn is_nearer(
     requires beside { beside ≡ beside_of filled.now point direction }
     ensures { IsTrue result ↔ IsNearer (surface filled.now) (level_at filled.now) point (step direction point) }
 {
-    let Some(other) = beside else {
-        return false;
-    };
-    if !same_level(filled.levels(), number, other) {
-        return false;
+    match distance_across(filled, distances, point, number, direction, beside) {
+        Some(across) => across == distance - 1,
+        None => false,
     }
-    distances[other] == distance - 1
 }

@@ -1,6 +1,7 @@
 //! Where in a list of samples, tile after tile, a point lies.
 ghost use Rattle.std.specs.Prelude.{◌≡◌, ◌≤◌, ◌*◌, ◌<◌, ◌&&◌, IsTrue, SomeIff, MatchOption, IfSome, Some, Contains, length, slice_get};
 ghost use Rattle.std.specs.List.{AllAdjacentBelow, list_any};
+ghost use Rattle.lattice.specs.Limits.{most_tiles};
 ghost use Rattle.lattice.specs.Lattice.{IsBefore};
 ghost use Rattle.flow_d8.specs.Filled.{is_held, is_holder, number_of};
 
@@ -8,7 +9,7 @@ use lattice::{Corner, Point, Side, holders, index_in};
 
 /// The number of the point's sample, in the first tile that holds it. The corners are in the order of tiles.
 pub(crate) fn number_of(side: Side, corners: &[Corner], point: Point) -> Option<usize>
-    requires few { length corners.now ≤ 240 }
+    requires few { length corners.now ≤ most_tiles }
     requires in_order { AllAdjacentBelow IsBefore corners.now (length corners.now) }
     ensures { SomeIff result (IsTrue (is_held side corners.now point)) (number_of side corners.now point) }
 {

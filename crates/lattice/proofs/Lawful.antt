@@ -11,7 +11,7 @@ use Rattle.lattice.specs.Lattice.{holds}
 use Rattle.lattice.specs.Terrain.{IsLawful}
 use Rattle.lattice.specs.Mosaic.{Mosaic, Tile}
 use Rattle.lattice.specs.Ground.{is_ground, same_point, is_near, share_tile, is_adjacent, terrain}
-use Rattle.lattice.specs.Block.{is_solid, is_linked, is_beside, is_exit, is_inner_outlet, is_rim, block}
+use Rattle.lattice.specs.Block.{is_solid, is_linked, is_beside, is_exit, is_inner_outlet, is_rim, Block, block_terrain}
 
 pub record AllFive (a b c d e : Bool) : Type 0 where
   pub first : a ≡ true
@@ -88,29 +88,29 @@ turned a b c d = ap₂ (λ x y. x && y) (ap₂ (λ x y. x && y) (and-swap a b) r
 beside-swap : (n e f : ℕ) → is_beside n e f ≡ is_beside n f e
 beside-swap n e f = turned (nat_le (e / n) (f / n + 1)) (nat_le (f / n) (e / n + 1)) (nat_le (e % n) (f % n + 1)) (nat_le (f % n) (e % n + 1))
 
-module _ (n : ℕ) (heights : List ℤ) where
-  linked_parts : (e f : ℕ) → IsTrue (is_linked n heights e f) → AllFive (is_solid n heights e) (is_solid n heights f) (not (nat_eq e f)) (is_beside n e f) true
-  linked_parts e f h = five_parts (is_solid n heights e) (is_solid n heights f) (not (nat_eq e f)) (is_beside n e f) true (and_from (is_linked n heights e f) true h refl)
+module _ (b : Block) where
+  linked_parts : (e f : ℕ) → IsTrue (is_linked b e f) → AllFive (is_solid b e) (is_solid b f) (not (nat_eq e f)) (is_beside b.side e f) true
+  linked_parts e f h = five_parts (is_solid b e) (is_solid b f) (not (nat_eq e f)) (is_beside b.side e f) true (and_from (is_linked b e f) true h refl)
 
-  linked_both_ways : (e f : ℕ) → IsTrue (is_linked n heights e f) → IsTrue (is_linked n heights f e)
+  linked_both_ways : (e f : ℕ) → IsTrue (is_linked b e f) → IsTrue (is_linked b f e)
   linked_both_ways e f h =
       let parts = linked_parts e f h in
-      (and_parts (is_linked n heights f e) true (five_from (is_solid n heights f) (is_solid n heights e) (not (nat_eq f e)) (is_beside n f e) true
+      (and_parts (is_linked b f e) true (five_from (is_solid b f) (is_solid b e) (not (nat_eq f e)) (is_beside b.side f e) true
       (record {
         first = parts.second;
         second = parts.first;
         third = ap not (nat_eq-swap f e) ∙ parts.third;
-        fourth = beside-swap n f e ∙ parts.fourth;
+        fourth = beside-swap b.side f e ∙ parts.fourth;
         fifth = refl;
       }))).0
 
-  exit_is_solid : (e : ℕ) → IsTrue (is_exit n heights e) → IsTrue (is_solid n heights e)
+  exit_is_solid : (e : ℕ) → IsTrue (is_exit b e) → IsTrue (is_solid b e)
   exit_is_solid e h =
-      ⊎_elim (λ rim. (and_parts (is_solid n heights e) (is_rim n e) rim).0)
-      (λ inner. (and_parts (is_solid n heights e) (not (is_rim n e)) (and_parts (is_solid n heights e && not (is_rim n e)) _ inner).0).0)
-      (or_cases (is_solid n heights e && is_rim n e) (is_inner_outlet n heights e) h)
+      ⊎_elim (λ rim. (and_parts (is_solid b e) (is_rim b.side e) rim).0)
+      (λ inner. (and_parts (is_solid b e) (not (is_rim b.side e)) (and_parts (is_solid b e && not (is_rim b.side e)) _ inner).0).0)
+      (or_cases (is_solid b e && is_rim b.side e) (is_inner_outlet b e) h)
 
-  pub block_is_lawful : IsLawful (block n heights)
+  pub block_is_lawful : IsLawful (block_terrain b)
   block_is_lawful = record {
     from_ground = λ e f h. (linked_parts e f h).first;
     to_ground = λ e f h. (linked_parts e f h).second;

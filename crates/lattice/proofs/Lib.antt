@@ -9,6 +9,8 @@ pub mod Rising
 pub mod Reach
 pub mod Kept
 pub mod Squares
+pub mod SamePoints
+pub mod SinkIndices
 pub mod Lawful
 pub mod WaysOut
 pub mod Levels

@@ -1,5 +1,5 @@
 -- Every ground point of a mosaic has a path to an outlet: northwards, as far as there is adjacent ground.
-use Rattle.std.proofs.Common.{◌≡◌, ℕ, zero, suc, ◌+◌, ◌-◌, ◌*◌, ◌<◌, ◌≤◌, ℤ, pos, negsuc, ◌+ℤ◌, ◌-ℤ◌, ◌*ℤ◌, ◌≤ℤ◌, ◌<ℤ◌, Bool, true, false, IsTrue, cond, List, [], ◌∷◌, sym, subst, nat_abs, arith, ⊎_elim, inl, inr, map, true≢false}
+use Rattle.std.proofs.Common.{◌≡◌, ℕ, zero, suc, ◌+◌, ◌-◌, ◌*◌, ◌<◌, ◌≤◌, ℤ, pos, negsuc, ◌+ℤ◌, ◌-ℤ◌, ◌*ℤ◌, ◌≤ℤ◌, ◌<ℤ◌, Bool, true, false, IsTrue, ◌||◌, cond, List, [], ◌∷◌, sym, subst, nat_abs, arith, ⊎_elim, inl, inr, map, true≢false}
 use Rattle.std.specs.Prelude.{nat_lt, All, int_le, filter}
 use Rattle.std.specs.List.{list_any}
 use Rattle.std.proofs.lemmas.Bool.{cases_Bool, and_parts, and_from, or_cases, or_left, or_right, lt-ltb}
@@ -12,7 +12,7 @@ use Rattle.lattice.specs.Lattice.{holds}
 use Rattle.lattice.specs.Terrain.{LeadsOut}
 use Rattle.lattice.specs.Mosaic.{Mosaic, Tile, IsMosaic, IsTile}
 use Rattle.lattice.specs.Height.{sample_at, by_seam_rule}
-use Rattle.lattice.specs.Ground.{is_ground, is_height, is_adjacent, degree_of, terrain}
+use Rattle.lattice.specs.Ground.{is_ground, is_height, is_adjacent, is_sink, degree_of, terrain}
 use Rattle.lattice.proofs.IntTests.{le_true}
 use Rattle.lattice.proofs.Lawful.{terrain_is_lawful}
 
@@ -70,7 +70,7 @@ module _ (m : Mosaic) (is : IsMosaic m) where
     | inl on ↦
         let further = climb k (step North p) ((terrain_is_lawful m).to_ground p (step North p) on) (omega (arith, ints)) in
         (step North p ∷ further.0, record { path = (on, further.1.path); outlet = further.1.outlet })
-    | inr off ↦ ([], record { path = solid; outlet = and_from (is_ground m p) (nat_lt (degree_of m p) 8) solid (lt-ltb (degree_of m p) 8 (degree_few m p off)) })
+    | inr off ↦ ([], record { path = solid; outlet = and_from (is_ground m p) (nat_lt (degree_of m p) 8 || is_sink m p) solid (or_left (nat_lt (degree_of m p) 8) (is_sink m p) (lt-ltb (degree_of m p) 8 (degree_few m p off))) })
   ]
 
   pub way_out : (p : Point) → IsTrue (is_ground m p) → (rest : List Point) × LeadsOut (terrain m) p rest

@@ -1,18 +1,21 @@
--- A block: the n by n points of one tile with their heights by the seam rule, as a terrain of its own, and the numbers
--- of its rim points (this product's own profile, after the tiled flooding of Barnes 2016).
-use Rattle.std.specs.Prelude.{◌≡◌, ℕ, ◌+◌, ◌-◌, ◌*◌, ◌/◌, ◌%◌, ◌<◌, ℤ, Bool, ◌&&◌, ◌||◌, not, if◌then◌else◌, nat_lt, nat_le, nat_eq, List, [], ◌∷◌, length, slice_index_or}
-use Rattle.std.specs.List.{list_all}
+-- A block: the n by n points of one tile with their heights by the seam rule and the sinks among them, as a terrain of
+-- its own, and the numbers of its rim points (this product's own profile, after the tiled flooding of Barnes 2016).
+use Rattle.std.specs.Prelude.{◌≡◌, ℕ, ◌+◌, ◌-◌, ◌*◌, ◌/◌, ◌%◌, ◌<◌, ℤ, Bool, ◌&&◌, ◌||◌, not, if◌then◌else◌, nat_lt, nat_le, nat_eq, List, [], ◌∷◌, length, map, filter, slice_index_or}
+use Rattle.std.specs.List.{list_all, list_any}
 use Rattle.lattice.specs.Corners.{Corner}
-use Rattle.lattice.specs.Lattice.{point_of}
+use Rattle.lattice.specs.Lattice.{point_of, index_of, holds}
+use Rattle.lattice.specs.declared.point.Point.{Point}
 use Rattle.lattice.specs.Terrain.{Terrain}
 use Rattle.lattice.specs.Mosaic.{Mosaic, void, is_void}
 use Rattle.lattice.specs.Height.{height_of}
-use Rattle.lattice.specs.Ground.{metres}
+use Rattle.lattice.specs.Ground.{metres, is_sink}
 
--- the heights are those of the tile's points by the seam rule, by index, void where a point has none
-pub record IsBlockOf (m : Mosaic) (c : Corner) (heights : List ℤ) : Type 0 where
-  pub whole : length heights ≡ m.side * m.side
-  pub values : (e : ℕ) → e < m.side * m.side → slice_index_or heights e void ≡ metres (height_of m (point_of m.side c e))
+-- the ground of one tile: its side, the heights of its points by index, void where a point has none, and the indices of
+-- the sinks among its points
+pub record Block : Type 0 where
+  pub side : ℕ
+  pub heights : List ℤ
+  pub sinks : List ℕ
 
 -- in the first or last row or column; points of a block go by their index
 abbrev pub is_rim : ℕ → ℕ → Bool
@@ -31,22 +34,41 @@ around n e = (e - n - 1) ∷ (e - n) ∷ (e - n + 1) ∷ (e - 1) ∷ (e + 1) ∷
 abbrev pub is_beside : ℕ → ℕ → ℕ → Bool
 is_beside n e f = nat_le (e / n) (f / n + 1) && nat_le (f / n) (e / n + 1) && nat_le (e % n) (f % n + 1) && nat_le (f % n) (e % n + 1)
 
-module _ (n : ℕ) (heights : List ℤ) where
+module _ (b : Block) where
   -- a ground point of the block
   abbrev pub is_solid : ℕ → Bool
-  is_solid e = nat_lt e (n * n) && not (is_void (slice_index_or heights e void))
+  is_solid e = nat_lt e (b.side * b.side) && not (is_void (slice_index_or b.heights e void))
 
   -- two different ground points, at most one row and one column apart
   abbrev pub is_linked : ℕ → ℕ → Bool
-  is_linked e f = is_solid e && is_solid f && not (nat_eq e f) && is_beside n e f
+  is_linked e f = is_solid e && is_solid f && not (nat_eq e f) && is_beside b.side e f
 
-  -- an inner outlet: a ground point off the rim with a void among the eight around it
+  -- the point is declared a sink
+  abbrev pub is_sink_at : ℕ → Bool
+  is_sink_at e = list_any (λ s. nat_eq s e) b.sinks
+
+  -- an inner outlet: a ground point off the rim with a void among the eight around it, or one that is declared a sink
   abbrev pub is_inner_outlet : ℕ → Bool
-  is_inner_outlet e = is_solid e && not (is_rim n e) && not (list_all is_solid (around n e))
+  is_inner_outlet e = is_solid e && not (is_rim b.side e) && (not (list_all is_solid (around b.side e)) || is_sink_at e)
 
   -- where a path may leave the block: at a ground rim point, or at an inner outlet
   abbrev pub is_exit : ℕ → Bool
-  is_exit e = (is_solid e && is_rim n e) || is_inner_outlet e
+  is_exit e = (is_solid e && is_rim b.side e) || is_inner_outlet e
 
-  abbrev pub block : Terrain ℕ
-  block = record { is_ground = is_solid; height = λ e. slice_index_or heights e void; is_adjacent = is_linked; is_outlet = is_exit }
+  abbrev pub block_terrain : Terrain ℕ
+  block_terrain = record { is_ground = is_solid; height = λ e. slice_index_or b.heights e void; is_adjacent = is_linked; is_outlet = is_exit }
+
+-- the heights are those of the tile's points by the seam rule, by index, void where a point has none
+pub record AreHeightsOf (m : Mosaic) (c : Corner) (heights : List ℤ) : Type 0 where
+  pub whole : length heights ≡ m.side * m.side
+  pub values : (e : ℕ) → e < m.side * m.side → slice_index_or heights e void ≡ metres (height_of m (point_of m.side c e))
+
+-- the block is the ground of the corner's tile
+pub record IsBlockOf (m : Mosaic) (c : Corner) (b : Block) : Type 0 where
+  pub side : b.side ≡ m.side
+  pub heights : AreHeightsOf m c b.heights
+  pub sinks : (e : ℕ) → e < m.side * m.side → is_sink_at b e ≡ is_sink m (point_of m.side c e)
+
+-- the indices of those of the points that the corner's tile holds
+abbrev pub sinks_in : ℕ → Corner → List Point → List ℕ
+sinks_in n c sinks = map (index_of n c) (filter (holds n c) sinks)

@@ -1,5 +1,5 @@
 -- Ground, adjacency and outlets: where water can stand, go and leave (this product's own profile).
-use Rattle.std.specs.Prelude.{ℕ, ℤ, ◌-ℤ◌, Bool, true, false, ◌&&◌, not, nat_lt, nat_abs, count_by}
+use Rattle.std.specs.Prelude.{ℕ, ℤ, ◌-ℤ◌, Bool, true, false, ◌&&◌, ◌||◌, not, nat_lt, nat_abs, count_by}
 use Rattle.std.specs.Ordering.{int_eq}
 use Rattle.std.specs.List.{list_any}
 use Rattle.lattice.specs.declared.point.Point.{Point}
@@ -43,9 +43,13 @@ is_adjacent m p q = is_ground m p && is_ground m q && not (same_point p q) && is
 abbrev pub degree_of : Mosaic → Point → ℕ
 degree_of m p = count_by (λ d. is_adjacent m p (step d p)) directions
 
--- a ground point with fewer than eight adjacent points
+-- the point is declared a sink
+abbrev pub is_sink : Mosaic → Point → Bool
+is_sink m p = list_any (λ s. same_point s p) m.sinks
+
+-- a ground point with fewer than eight adjacent points, or one that is declared a sink
 abbrev pub is_outlet : Mosaic → Point → Bool
-is_outlet m p = is_ground m p && nat_lt (degree_of m p) 8
+is_outlet m p = is_ground m p && (nat_lt (degree_of m p) 8 || is_sink m p)
 
 -- the whole mosaic as a terrain
 abbrev pub terrain : Mosaic → Terrain Point

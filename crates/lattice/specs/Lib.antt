@@ -4,6 +4,7 @@ pub mod Refusals
 pub mod Steps
 pub mod Stepping
 pub mod Lattice
+pub mod Points
 pub mod Terrain
 pub mod Mosaic
 pub mod Height

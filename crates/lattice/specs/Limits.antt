@@ -9,6 +9,10 @@ largest_side = 3601
 abbrev pub most_tiles : ℕ
 most_tiles = 240
 
+-- the most sinks that a mosaic has (this product's own profile)
+abbrev pub most_sinks : ℕ
+most_sinks = 16
+
 -- a tile has so many samples along each edge
 abbrev pub IsSide : ℕ → Type 0
 IsSide n = (3 ≤ n) × (n ≤ largest_side)

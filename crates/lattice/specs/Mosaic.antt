@@ -1,11 +1,13 @@
--- The mosaic: a finite map from the corners of the present tiles to their samples (SRTM documentation for a tile's
--- samples and the void; the mosaic is this product's own profile).
+-- The mosaic: a finite map from the corners of the present tiles to their samples, and its declared sinks (SRTM
+-- documentation for a tile's samples and the void; the mosaic is this product's own profile).
 use Rattle.std.specs.Prelude.{◌≡◌, ℕ, ◌*◌, ◌≤◌, ℤ, negsuc, pos, ◌≤ℤ◌, Bool, IsTrue, List, All, length, Option, Some, None, [], ◌∷◌, if◌then◌else◌}
 use Rattle.std.specs.Ordering.{int_eq}
 use Rattle.std.specs.List.{list_any, AllAdjacentBelow}
 use Rattle.lattice.specs.Corners.{Corner, is_corner, same_corner}
-use Rattle.lattice.specs.Lattice.{IsBefore}
-use Rattle.lattice.specs.Limits.{largest_side}
+use Rattle.lattice.specs.Lattice.{IsBefore, holds}
+use Rattle.lattice.specs.Limits.{largest_side, most_sinks}
+use Rattle.lattice.specs.Points.{is_point_before}
+use Rattle.lattice.specs.declared.point.Point.{Point}
 
 -- the sample of a data void
 abbrev pub void : ℤ
@@ -19,10 +21,12 @@ pub record Tile : Type 0 where
   pub corner : Corner
   pub samples : List ℤ
 
--- the map as a list of its tiles in their order, no corner twice: each finite map is one such list
+-- the map as a list of its tiles in their order, no corner twice: each finite map is one such list; and the points that
+-- are declared sinks, as a list in their order
 pub record Mosaic : Type 0 where
   pub side : ℕ
   pub tiles : List Tile
+  pub sinks : List Point
 
 -- a number of 16 bits
 abbrev pub IsSample : ℤ → Type 0
@@ -33,16 +37,27 @@ pub record IsTile (n : ℕ) (t : Tile) : Type 0 where
   pub whole : length t.samples ≡ n * n
   pub samples : All IsSample t.samples
 
--- whole tiles in the order of their corners, no corner twice
+-- the tile of some corner, present or not, holds the point
+abbrev pub IsHeld : ℕ → Point → Type 0
+IsHeld n p = (c : Corner) × (IsTrue (is_corner c) × IsTrue (holds n c p))
+
+-- in the order of points, no point twice, at most 16, each held by the tile of some corner
+pub record AreSinks (n : ℕ) (sinks : List Point) : Type 0 where
+  pub few : length sinks ≤ most_sinks
+  pub in_order : AllAdjacentBelow (λ p q. IsTrue (is_point_before p q)) sinks (length sinks)
+  pub held : All (IsHeld n) sinks
+
+-- whole tiles in the order of their corners, no corner twice, and sinks
 pub record IsMosaic (m : Mosaic) : Type 0 where
   pub side_low : 3 ≤ m.side
   pub side_high : m.side ≤ largest_side
   pub tiles : All (IsTile m.side) m.tiles
   pub in_order : AllAdjacentBelow (λ a b. IsBefore a.corner b.corner) m.tiles (length m.tiles)
+  pub sinks : AreSinks m.side m.sinks
 
--- no tile is present
+-- no tile is present and no sink declared
 abbrev pub empty_mosaic : ℕ → Mosaic
-empty_mosaic n = record { side = n; tiles = [] }
+empty_mosaic n = record { side = n; tiles = []; sinks = [] }
 
 -- some tile has this corner
 abbrev pub is_present : Mosaic → Corner → Bool

@@ -1,7 +1,7 @@
 -- The refusals' numbers and words in replies (this product's own profile).
 use Rattle.std.specs.Prelude.{ℕ, List, codes}
 use Rattle.lattice.specs.declared.refusal.Refusal.{Refusal}
-use Rattle.lattice.specs.declared.refusal.Refusal.TheVariants.{BadLine, BadName, BadLength, TileThere, NoTile, Full, Outside, Void, NothingVoid, BadHeight, BadDepth, BadBox, Repeated, TooDeep, Device, NoMemory, Failed, Damaged, Worn, NotAStore, Version, BadSide, BadCapacity, TooSmall}
+use Rattle.lattice.specs.declared.refusal.Refusal.TheVariants.{BadLine, BadName, BadLength, TileThere, NoTile, Full, Outside, Void, NothingVoid, BadHeight, BadDepth, BadBox, Repeated, TooDeep, SinkThere, SinksFull, NoSink, Device, NoMemory, Failed, Damaged, Worn, NotAStore, Version, BadSide, BadCapacity, TooSmall, NotOld}
 
 abbrev pub number_of : Refusal → ℕ
 number_of BadLine = 1
@@ -18,6 +18,9 @@ number_of BadDepth = 11
 number_of BadBox = 12
 number_of Repeated = 13
 number_of TooDeep = 14
+number_of SinkThere = 15
+number_of SinksFull = 16
+number_of NoSink = 17
 number_of Device = 20
 number_of NoMemory = 21
 number_of Failed = 22
@@ -28,6 +31,7 @@ number_of Version = 31
 number_of BadSide = 32
 number_of BadCapacity = 33
 number_of TooSmall = 34
+number_of NotOld = 35
 
 -- in ASCII
 abbrev pub word_of : Refusal → List ℕ
@@ -45,6 +49,9 @@ word_of BadDepth = codes "BadDepth"
 word_of BadBox = codes "BadBox"
 word_of Repeated = codes "Repeated"
 word_of TooDeep = codes "TooDeep"
+word_of SinkThere = codes "SinkThere"
+word_of SinksFull = codes "SinksFull"
+word_of NoSink = codes "NoSink"
 word_of Device = codes "Device"
 word_of NoMemory = codes "NoMemory"
 word_of Failed = codes "Failed"
@@ -55,3 +62,4 @@ word_of Version = codes "Version"
 word_of BadSide = codes "BadSide"
 word_of BadCapacity = codes "BadCapacity"
 word_of TooSmall = codes "TooSmall"
+word_of NotOld = codes "NotOld"

@@ -1,5 +1,5 @@
 //! Laws of ground and filled levels. Each function does nothing: its contract is the law.
-ghost use Rattle.lattice.specs.GroundLaws.{TerrainsAreLawful, BlocksAreLawful, WaysOutExist, FilledLevelsExist, FilledLevelsAreUnique};
+ghost use Rattle.lattice.specs.GroundLaws.{TerrainsAreLawful, BlocksAreLawful, WaysOutExist, FilledLevelsExist, FilledLevelsAreUnique, HeightsMakeABlock};
 
 /// Adjacency is between ground points and goes both ways, and outlets are ground: on every mosaic.
 pub fn terrains_are_lawful()
@@ -24,4 +24,9 @@ pub fn filled_levels_exist()
 /// A point has at most one filled level.
 pub fn filled_levels_are_unique()
     ensures { FilledLevelsAreUnique }
+{}
+
+/// The heights of a tile's points, with the indices of its sinks, are the tile's block.
+pub fn heights_make_a_block()
+    ensures { HeightsMakeABlock }
 {}

@@ -17,12 +17,13 @@ mod point;
 mod refusal;
 mod rim;
 mod side;
+mod sinks;
 
 pub use corner::Corner;
 pub use direction::{DIRECTIONS, Dir, Step, neighbour, steeper, steps};
 pub use ground_laws::{
-    blocks_are_lawful, filled_levels_are_unique, filled_levels_exist, terrains_are_lawful,
-    ways_out_exist,
+    blocks_are_lawful, filled_levels_are_unique, filled_levels_exist, heights_make_a_block,
+    terrains_are_lawful, ways_out_exist,
 };
 pub use height::{Height, VOID};
 pub use holding::{holders, index_in, point_at};
@@ -30,8 +31,9 @@ pub use laws::{
     at_most_four_hold_a_point, edges_tell_holders, index_and_point_are_inverse, no_double_square,
     rim_points_are_numbered,
 };
-pub use limits::{LARGEST_SIDE, MOST_TILES};
+pub use limits::{LARGEST_SIDE, MOST_SINKS, MOST_TILES};
 pub use point::Point;
 pub use refusal::Refusal;
 pub use rim::{rim_index, rim_number};
 pub use side::Side;
+pub use sinks::{is_held, sinks_in};

@@ -5,3 +5,6 @@ pub const LARGEST_SIDE: u32 = 3601;
 
 /// The most tiles of one mosaic that are kept.
 pub const MOST_TILES: u32 = 240;
+
+/// The most sinks of one mosaic.
+pub const MOST_SINKS: usize = 16;

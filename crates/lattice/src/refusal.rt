@@ -35,6 +35,12 @@ pub enum Refusal {
     Repeated,
     /// A height would fall below -32767.
     TooDeep,
+    /// The point is declared a sink.
+    SinkThere,
+    /// As many sinks are declared as may be.
+    SinksFull,
+    /// The point isn't declared a sink.
+    NoSink,
     /// The disk failed in this call.
     Device,
     /// No memory was had in this call.
@@ -55,6 +61,8 @@ pub enum Refusal {
     BadCapacity,
     /// Too few sectors for the side and the capacity.
     TooSmall,
+    /// The store has the later format already.
+    NotOld,
 }
 
 impl Refusal {
@@ -79,6 +87,9 @@ impl Refusal {
             Refusal::BadBox => 12,
             Refusal::Repeated => 13,
             Refusal::TooDeep => 14,
+            Refusal::SinkThere => 15,
+            Refusal::SinksFull => 16,
+            Refusal::NoSink => 17,
             Refusal::Device => 20,
             Refusal::NoMemory => 21,
             Refusal::Failed => 22,
@@ -89,6 +100,7 @@ impl Refusal {
             Refusal::BadSide => 32,
             Refusal::BadCapacity => 33,
             Refusal::TooSmall => 34,
+            Refusal::NotOld => 35,
         }
     }
 
@@ -111,6 +123,9 @@ impl Refusal {
             Refusal::BadBox => "BadBox",
             Refusal::Repeated => "Repeated",
             Refusal::TooDeep => "TooDeep",
+            Refusal::SinkThere => "SinkThere",
+            Refusal::SinksFull => "SinksFull",
+            Refusal::NoSink => "NoSink",
             Refusal::Device => "Device",
             Refusal::NoMemory => "NoMemory",
             Refusal::Failed => "Failed",
@@ -121,6 +136,7 @@ impl Refusal {
             Refusal::BadSide => "BadSide",
             Refusal::BadCapacity => "BadCapacity",
             Refusal::TooSmall => "TooSmall",
+            Refusal::NotOld => "NotOld",
         }
     }
 }

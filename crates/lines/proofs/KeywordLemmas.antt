@@ -6,26 +6,28 @@ use Rattle.std.proofs.lemmas.List.Sums.{AllPass-from_list_all}
 use Rattle.lines.specs.Grammar.{spelling}
 use Rattle.lines.specs.Words.{HasNoSpace}
 use Rattle.lines.specs.declared.keyword.Keyword.{Keyword}
-use Rattle.lines.specs.declared.keyword.Keyword.TheVariants.{Import, Remove, Patch, Burn, Wall, Elev, Fill, Dir, Trace, Watershed, Export, Tiles, Step, Count, Quit}
+use Rattle.lines.specs.declared.keyword.Keyword.TheVariants.{Import, Remove, Patch, Burn, Wall, Sink, Unsink, Elev, Fill, Dir, Trace, Watershed, Export, Tiles, Sinks, Count, Quit}
 use Rattle.lines.specs.declared.keyword.TheConstants.{KEYWORDS}
 
 -- what holds of each keyword of the list holds of every keyword
-pub each_keyword : (P : Keyword → Type 0) → ((j : ℕ) → j < 15 → P (get_or KEYWORDS j Quit)) → (k : Keyword) → P k
+pub each_keyword : (P : Keyword → Type 0) → ((j : ℕ) → j < 17 → P (get_or KEYWORDS j Quit)) → (k : Keyword) → P k
 each_keyword P h Import = h 0 (lit< tt)
 each_keyword P h Remove = h 1 (lit< tt)
 each_keyword P h Patch = h 2 (lit< tt)
 each_keyword P h Burn = h 3 (lit< tt)
 each_keyword P h Wall = h 4 (lit< tt)
-each_keyword P h Elev = h 5 (lit< tt)
-each_keyword P h Fill = h 6 (lit< tt)
-each_keyword P h Dir = h 7 (lit< tt)
-each_keyword P h Trace = h 8 (lit< tt)
-each_keyword P h Watershed = h 9 (lit< tt)
-each_keyword P h Export = h 10 (lit< tt)
-each_keyword P h Tiles = h 11 (lit< tt)
-each_keyword P h Step = h 12 (lit< tt)
-each_keyword P h Count = h 13 (lit< tt)
-each_keyword P h Quit = h 14 (lit< tt)
+each_keyword P h Sink = h 5 (lit< tt)
+each_keyword P h Unsink = h 6 (lit< tt)
+each_keyword P h Elev = h 7 (lit< tt)
+each_keyword P h Fill = h 8 (lit< tt)
+each_keyword P h Dir = h 9 (lit< tt)
+each_keyword P h Trace = h 10 (lit< tt)
+each_keyword P h Watershed = h 11 (lit< tt)
+each_keyword P h Export = h 12 (lit< tt)
+each_keyword P h Tiles = h 13 (lit< tt)
+each_keyword P h Sinks = h 14 (lit< tt)
+each_keyword P h Count = h 15 (lit< tt)
+each_keyword P h Quit = h 16 (lit< tt)
 
 -- the keyword that a word spells
 abbrev keyword_at : List ℕ → Keyword
@@ -35,6 +37,8 @@ keyword_at word =
     if bytes_eq word (spelling Patch) then Patch else
     if bytes_eq word (spelling Burn) then Burn else
     if bytes_eq word (spelling Wall) then Wall else
+    if bytes_eq word (spelling Sink) then Sink else
+    if bytes_eq word (spelling Unsink) then Unsink else
     if bytes_eq word (spelling Elev) then Elev else
     if bytes_eq word (spelling Fill) then Fill else
     if bytes_eq word (spelling Dir) then Dir else
@@ -42,7 +46,7 @@ keyword_at word =
     if bytes_eq word (spelling Watershed) then Watershed else
     if bytes_eq word (spelling Export) then Export else
     if bytes_eq word (spelling Tiles) then Tiles else
-    if bytes_eq word (spelling Step) then Step else
+    if bytes_eq word (spelling Sinks) then Sinks else
     if bytes_eq word (spelling Count) then Count else
     Quit
 
@@ -52,6 +56,8 @@ keyword_at-spelling Remove = refl
 keyword_at-spelling Patch = refl
 keyword_at-spelling Burn = refl
 keyword_at-spelling Wall = refl
+keyword_at-spelling Sink = refl
+keyword_at-spelling Unsink = refl
 keyword_at-spelling Elev = refl
 keyword_at-spelling Fill = refl
 keyword_at-spelling Dir = refl
@@ -59,7 +65,7 @@ keyword_at-spelling Trace = refl
 keyword_at-spelling Watershed = refl
 keyword_at-spelling Export = refl
 keyword_at-spelling Tiles = refl
-keyword_at-spelling Step = refl
+keyword_at-spelling Sinks = refl
 keyword_at-spelling Count = refl
 keyword_at-spelling Quit = refl
 
@@ -82,6 +88,8 @@ spelling-free Remove = no_space (spelling Remove) refl
 spelling-free Patch = no_space (spelling Patch) refl
 spelling-free Burn = no_space (spelling Burn) refl
 spelling-free Wall = no_space (spelling Wall) refl
+spelling-free Sink = no_space (spelling Sink) refl
+spelling-free Unsink = no_space (spelling Unsink) refl
 spelling-free Elev = no_space (spelling Elev) refl
 spelling-free Fill = no_space (spelling Fill) refl
 spelling-free Dir = no_space (spelling Dir) refl
@@ -89,6 +97,6 @@ spelling-free Trace = no_space (spelling Trace) refl
 spelling-free Watershed = no_space (spelling Watershed) refl
 spelling-free Export = no_space (spelling Export) refl
 spelling-free Tiles = no_space (spelling Tiles) refl
-spelling-free Step = no_space (spelling Step) refl
+spelling-free Sinks = no_space (spelling Sinks) refl
 spelling-free Count = no_space (spelling Count) refl
 spelling-free Quit = no_space (spelling Quit) refl

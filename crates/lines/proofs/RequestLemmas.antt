@@ -5,9 +5,11 @@ use Rattle.std.proofs.lemmas.Str.Parse.{digit_from_value}
 use Rattle.std.specs.Str.Parse.{AllDigits}
 use Rattle.lattice.specs.declared.point.Point.{Point}
 use Rattle.lines.specs.declared.keyword.Keyword.{Keyword}
-use Rattle.lines.specs.declared.keyword.Keyword.TheVariants.{Patch}
+use Rattle.lines.specs.declared.keyword.Keyword.TheVariants.{Import, Remove, Patch, Burn, Wall, Sink, Unsink, Elev, Fill, Dir, Trace, Watershed, Export, Tiles, Sinks, Count, Quit}
 use Rattle.lines.specs.declared.request.Request.{Request}
-use Rattle.lines.specs.Grammar.{Asked, AskImport, AskRemove, AskPatch, AskBurn, AskWall, AskElevation, AskFill, AskDirection, AskTrace, AskWatershed, AskExport, AskTiles, AskStep, AskCount, AskQuit, keyword_of, Takes, AreInts, IsNat, IsInt, IsWord, spelling, IsTextOf, LineAsks, coordinates, spaced}
+use Rattle.lattice.specs.Corners.{Corner}
+use Rattle.calls.specs.declared.event.Event.{Event}
+use Rattle.lines.specs.Grammar.{Asked, AsksImport, AsksOf, AsksBox, AsksAlong, AsksAt, AsksAlone, Takes, AreInts, IsNat, IsInt, IsWord, spelling, IsTextOf, LineAsks, coordinates, spaced}
 use Rattle.lines.specs.Requests.{IsRequest, IsRequestOf}
 use Rattle.lines.specs.Words.{cut, HasNoSpace}
 use Rattle.lines.proofs.KeywordLemmas.{spelling-free, same_keyword}
@@ -37,22 +39,42 @@ ints_free [] (z ∷ zs) h = absurd h
 ints_free (w ∷ ws) [] h = absurd h
 ints_free (w ∷ ws) (z ∷ zs) h = (int_free w z h.0, ints_free ws zs h.1)
 
-pub takes_free : (args : List (List ℕ)) (a : Asked) → Takes args a → AllFree args
-takes_free args (AskImport name len) (digits, e, word, nat) = subst AllFree (sym e) (word_free name word, (nat_free digits len nat, tt))
-takes_free args (AskRemove name) (e, word) = subst AllFree (sym e) (word_free name word, tt)
-takes_free args (AskPatch from to height) h = ints_free args _ h
-takes_free args (AskBurn depth points) h = ints_free args (depth ∷ coordinates points) h.0
-takes_free args (AskWall height points) h = ints_free args (height ∷ coordinates points) h.0
-takes_free args (AskElevation p) h = ints_free args _ h
-takes_free args (AskFill p) h = ints_free args _ h
-takes_free args (AskDirection p) h = ints_free args _ h
-takes_free args (AskTrace p) h = ints_free args _ h
-takes_free args (AskWatershed p) h = ints_free args _ h
-takes_free args (AskExport name) (e, word) = subst AllFree (sym e) (word_free name word, tt)
-takes_free args AskTiles e = subst AllFree (sym e) tt
-takes_free args AskStep e = subst AllFree (sym e) tt
-takes_free args AskCount e = subst AllFree (sym e) tt
-takes_free args AskQuit e = subst AllFree (sym e) tt
+import_free : (args : List (List ℕ)) (a : Asked) → AsksImport args a → AllFree args
+import_free args a (name, digits, len, e, word, nat, is) = subst AllFree (sym e) (word_free name word, (nat_free digits len nat, tt))
+
+of_free : (event : Corner → Event) (args : List (List ℕ)) (a : Asked) → AsksOf event args a → AllFree args
+of_free event args a (name, e, word, is) = subst AllFree (sym e) (word_free name word, tt)
+
+box_free : (event : Point → Point → ℤ → Event) (args : List (List ℕ)) (a : Asked) → AsksBox event args a → AllFree args
+box_free event args a (from, to, height, ints, is) = ints_free args _ ints
+
+along_free : (event : ℤ → List Point → Event) (args : List (List ℕ)) (a : Asked) → AsksAlong event args a → AllFree args
+along_free event args a (number, points, ints, few, is) = ints_free args (number ∷ coordinates points) ints
+
+at_free : (event : Point → Event) (args : List (List ℕ)) (a : Asked) → AsksAt event args a → AllFree args
+at_free event args a (p, ints, is) = ints_free args _ ints
+
+alone_free : (what : Asked) (args : List (List ℕ)) (a : Asked) → AsksAlone what args a → AllFree args
+alone_free what args a (e, is) = subst AllFree (sym e) tt
+
+pub takes_free : (keyword : Keyword) (args : List (List ℕ)) (a : Asked) → Takes keyword args a → AllFree args
+takes_free Import = import_free
+takes_free Remove = of_free _
+takes_free Patch = box_free _
+takes_free Burn = along_free _
+takes_free Wall = along_free _
+takes_free Sink = at_free _
+takes_free Unsink = at_free _
+takes_free Elev = at_free _
+takes_free Fill = at_free _
+takes_free Dir = at_free _
+takes_free Trace = at_free _
+takes_free Watershed = at_free _
+takes_free Export = of_free _
+takes_free Tiles = alone_free _
+takes_free Sinks = alone_free _
+takes_free Count = alone_free _
+takes_free Quit = alone_free _
 
 -- ---- the text of a line, and its words
 
@@ -64,32 +86,25 @@ same_text line t u (inr e) (inr f) = sym e.0 ∙ f.0
 
 -- what a line asks for is asked for by the words of its text
 pub asks_words : (line text word : List ℕ) (rest : List (List ℕ)) (a : Asked) → IsTextOf line text → cut text ≡ word ∷ rest → LineAsks line a
-    → (spelling (keyword_of a) ≡ word) × Takes rest a
-asks_words line text word rest a is_text words (short, t, is_t, (args, e, takes)) =
-    let same : spelling (keyword_of a) ∷ args ≡ word ∷ rest =
-    sym (cut-spaced (spelling (keyword_of a)) args (spelling-free (keyword_of a)) (takes_free args a takes))
+    → (keyword : Keyword) × ((spelling keyword ≡ word) × Takes keyword rest a)
+asks_words line text word rest a is_text words (short, t, is_t, (keyword, args, e, takes)) =
+    let same : spelling keyword ∷ args ≡ word ∷ rest =
+    sym (cut-spaced (spelling keyword) args (spelling-free keyword) (takes_free keyword args a takes))
     ∙ ap cut (sym e ∙ same_text line t text is_t is_text) ∙ words in
-    let first : spelling (keyword_of a) ≡ word = cc in
+    let first : spelling keyword ≡ word = cc in
     let others : args ≡ rest = cc in
-    (first, subst (λ l. Takes l a) others takes)
+    (keyword, (first, subst (λ l. Takes keyword l a) others takes))
 
 -- no command has this word
 pub no_command : (line text word : List ℕ) (rest : List (List ℕ)) → IsTextOf line text → cut text ≡ word ∷ rest → ((k : Keyword) → spelling k ≡ word → ⊥)
     → (a : Asked) → LineAsks line a → ⊥
-no_command line text word rest is_text words none a h = none (keyword_of a) (asks_words line text word rest a is_text words h).0
+no_command line text word rest is_text words none a h = let parts = asks_words line text word rest a is_text words h in none parts.0 parts.1.0
 
 -- the command with this word makes of its arguments what the line asks for
 pub parsed : (line text word : List ℕ) (rest : List (List ℕ)) (k : Keyword) (o : Option Request) → length line ≤ 2048 → IsTextOf line text → cut text ≡ word ∷ rest
     → spelling k ≡ word → IsRequest k rest o → IsRequestOf line o
 parsed line text word rest k None short is_text words is h = λ a asks.
     let parts = asks_words line text word rest a is_text words asks in
-    h a (same_keyword (keyword_of a) k (parts.0 ∙ sym is)) parts.1
-parsed line text word rest k (Some r) short is_text words is (same, takes) =
-    let whole = spaced-cut text word rest words in
-    (short, text, is_text, (rest, subst (λ w. text ≡ spaced w rest) (sym is ∙ ap spelling (sym same)) whole, takes))
-
--- ---- what a command is asked for alone
-
-pub only_patch : (args : List (List ℕ)) → ((from to : Point) (height : ℤ) → AreInts args (from.y ∷ from.x ∷ to.y ∷ to.x ∷ height ∷ []) → ⊥) → (a : Asked) → keyword_of a ≡ Patch → Takes args a → ⊥
-only_patch args h (AskPatch from to height) e t = h from to height t
-only_patch args h a e t = cc
+    h a (subst (λ (j : Keyword). Takes j rest a) (same_keyword parts.0 k (parts.1.0 ∙ sym is)) parts.1.1)
+parsed line text word rest k (Some r) short is_text words is takes =
+    (short, text, is_text, (k, rest, subst (λ w. text ≡ spaced w rest) (sym is) (spaced-cut text word rest words), takes))

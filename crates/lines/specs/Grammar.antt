@@ -2,9 +2,14 @@
 -- by exactly one space; each command has its own arguments.
 use Rattle.std.specs.Prelude.{◌≡◌, ℕ, ◌<◌, ◌≤◌, List, [], ◌∷◌, ◌++◌, All, length, ℤ, pos, neg_ℤ, codes, ◌⊎◌}
 use Rattle.std.specs.Str.Parse.{IsNumeral, digits_value}
+use Rattle.lattice.specs.Corners.{Corner}
 use Rattle.lattice.specs.declared.point.Point.{Point}
+use Rattle.hgt.specs.Names.{IsName}
+use Rattle.edits.specs.declared.command.Command.TheVariants as command
+use Rattle.calls.specs.declared.event.Event.{Event}
+use Rattle.calls.specs.declared.event.Event.TheVariants as ask
 use Rattle.lines.specs.declared.keyword.Keyword.{Keyword}
-use Rattle.lines.specs.declared.keyword.Keyword.TheVariants.{Import, Remove, Patch, Burn, Wall, Elev, Fill, Dir, Trace, Watershed, Export, Tiles, Step, Count, Quit}
+use Rattle.lines.specs.declared.keyword.Keyword.TheVariants.{Import, Remove, Patch, Burn, Wall, Sink, Unsink, Elev, Fill, Dir, Trace, Watershed, Export, Tiles, Sinks, Count, Quit}
 
 -- WORD: one or more bytes from 0x21 to 0x7E
 abbrev pub IsWord : List ℕ → Type 0
@@ -32,40 +37,13 @@ abbrev pub coordinates : List Point → List ℤ
 coordinates [] = []
 coordinates (p ∷ ps) = p.y ∷ p.x ∷ coordinates ps
 
--- what a line can ask for
+-- What a line can ask for: an import of a payload that follows it, an event of a store, an event of a tile that there
+-- isn't, or the end.
 pub data Asked : Type 0 where
   AskImport : (name : List ℕ) (len : ℕ) → Asked
-  AskRemove : (name : List ℕ) → Asked
-  AskPatch : (from to : Point) (height : ℤ) → Asked
-  AskBurn : (depth : ℤ) (points : List Point) → Asked
-  AskWall : (height : ℤ) (points : List Point) → Asked
-  AskElevation : (point : Point) → Asked
-  AskFill : (point : Point) → Asked
-  AskDirection : (point : Point) → Asked
-  AskTrace : (point : Point) → Asked
-  AskWatershed : (point : Point) → Asked
-  AskExport : (name : List ℕ) → Asked
-  AskTiles : Asked
-  AskStep : Asked
-  AskCount : Asked
+  AskEvent : (event : Event) → Asked
+  AskNoTile : Asked
   AskQuit : Asked
-
-abbrev pub keyword_of : Asked → Keyword
-keyword_of (AskImport name len) = Import
-keyword_of (AskRemove name) = Remove
-keyword_of (AskPatch from to height) = Patch
-keyword_of (AskBurn depth points) = Burn
-keyword_of (AskWall height points) = Wall
-keyword_of (AskElevation p) = Elev
-keyword_of (AskFill p) = Fill
-keyword_of (AskDirection p) = Dir
-keyword_of (AskTrace p) = Trace
-keyword_of (AskWatershed p) = Watershed
-keyword_of (AskExport name) = Export
-keyword_of AskTiles = Tiles
-keyword_of AskStep = Step
-keyword_of AskCount = Count
-keyword_of AskQuit = Quit
 
 -- the command word, in lower case
 abbrev pub spelling : Keyword → List ℕ
@@ -74,6 +52,8 @@ spelling Remove = codes "remove"
 spelling Patch = codes "patch"
 spelling Burn = codes "burn"
 spelling Wall = codes "wall"
+spelling Sink = codes "sink"
+spelling Unsink = codes "unsink"
 spelling Elev = codes "elev"
 spelling Fill = codes "fill"
 spelling Dir = codes "dir"
@@ -81,7 +61,7 @@ spelling Trace = codes "trace"
 spelling Watershed = codes "watershed"
 spelling Export = codes "export"
 spelling Tiles = codes "tiles"
-spelling Step = codes "step"
+spelling Sinks = codes "sinks"
 spelling Count = codes "count"
 spelling Quit = codes "quit"
 
@@ -89,23 +69,54 @@ spelling Quit = codes "quit"
 abbrev pub IsPointCount : ℕ → Type 0
 IsPointCount n = (1 ≤ n) × (n ≤ 64)
 
--- the arguments ask for this
-abbrev pub Takes : List (List ℕ) → Asked → Type 0
-Takes args (AskImport name len) = (digits : List ℕ) × (args ≡ name ∷ digits ∷ []) × IsWord name × IsNat digits len
-Takes args (AskRemove name) = (args ≡ name ∷ []) × IsWord name
-Takes args (AskPatch from to height) = AreInts args (from.y ∷ from.x ∷ to.y ∷ to.x ∷ height ∷ [])
-Takes args (AskBurn depth points) = AreInts args (depth ∷ coordinates points) × IsPointCount (length points)
-Takes args (AskWall height points) = AreInts args (height ∷ coordinates points) × IsPointCount (length points)
-Takes args (AskElevation p) = AreInts args (p.y ∷ p.x ∷ [])
-Takes args (AskFill p) = AreInts args (p.y ∷ p.x ∷ [])
-Takes args (AskDirection p) = AreInts args (p.y ∷ p.x ∷ [])
-Takes args (AskTrace p) = AreInts args (p.y ∷ p.x ∷ [])
-Takes args (AskWatershed p) = AreInts args (p.y ∷ p.x ∷ [])
-Takes args (AskExport name) = (args ≡ name ∷ []) × IsWord name
-Takes args AskTiles = args ≡ []
-Takes args AskStep = args ≡ []
-Takes args AskCount = args ≡ []
-Takes args AskQuit = args ≡ []
+-- the name is no tile's
+abbrev pub NamesNone : List ℕ → Type 0
+NamesNone name = (c : Corner) → IsName name c → ⊥
+
+-- a name and a length
+abbrev pub AsksImport : List (List ℕ) → Asked → Type 0
+AsksImport args asked = (name digits : List ℕ) × (len : ℕ) × (args ≡ name ∷ digits ∷ []) × IsWord name × IsNat digits len × (asked ≡ AskImport name len)
+
+-- the name of a tile that the event is of
+abbrev pub AsksOf : (Corner → Event) → List (List ℕ) → Asked → Type 0
+AsksOf event args asked = (name : List ℕ) × (args ≡ name ∷ []) × IsWord name
+    × ((NamesNone name × (asked ≡ AskNoTile)) ⊎ ((c : Corner) × IsName name c × (asked ≡ AskEvent (event c))))
+
+-- two points, and a height
+abbrev pub AsksBox : (Point → Point → ℤ → Event) → List (List ℕ) → Asked → Type 0
+AsksBox event args asked = (from to : Point) × (height : ℤ) × AreInts args (from.y ∷ from.x ∷ to.y ∷ to.x ∷ height ∷ []) × (asked ≡ AskEvent (event from to height))
+
+-- a number, and 1 to 64 points
+abbrev pub AsksAlong : (ℤ → List Point → Event) → List (List ℕ) → Asked → Type 0
+AsksAlong event args asked = (number : ℤ) × (points : List Point) × AreInts args (number ∷ coordinates points) × IsPointCount (length points) × (asked ≡ AskEvent (event number points))
+
+-- a point
+abbrev pub AsksAt : (Point → Event) → List (List ℕ) → Asked → Type 0
+AsksAt event args asked = (p : Point) × AreInts args (p.y ∷ p.x ∷ []) × (asked ≡ AskEvent (event p))
+
+-- nothing
+abbrev pub AsksAlone : Asked → List (List ℕ) → Asked → Type 0
+AsksAlone what args asked = (args ≡ []) × (asked ≡ what)
+
+-- the command with these arguments asks for this
+abbrev pub Takes : Keyword → List (List ℕ) → Asked → Type 0
+Takes Import args asked = AsksImport args asked
+Takes Remove args asked = AsksOf (λ c. ask.Do (command.Remove c)) args asked
+Takes Patch args asked = AsksBox (λ from to height. ask.Do (command.Patch from to height)) args asked
+Takes Burn args asked = AsksAlong (λ depth points. ask.Do (command.Burn depth (record { items = points }))) args asked
+Takes Wall args asked = AsksAlong (λ height points. ask.Do (command.Wall height (record { items = points }))) args asked
+Takes Sink args asked = AsksAt (λ p. ask.Do (command.Sink p)) args asked
+Takes Unsink args asked = AsksAt (λ p. ask.Do (command.Unsink p)) args asked
+Takes Elev args asked = AsksAt ask.Elevation args asked
+Takes Fill args asked = AsksAt ask.Fill args asked
+Takes Dir args asked = AsksAt ask.Direction args asked
+Takes Trace args asked = AsksAt ask.Trace args asked
+Takes Watershed args asked = AsksAt ask.Watershed args asked
+Takes Export args asked = AsksOf ask.Export args asked
+Takes Tiles args asked = AsksAlone (AskEvent ask.Tiles) args asked
+Takes Sinks args asked = AsksAlone (AskEvent ask.Sinks) args asked
+Takes Count args asked = AsksAlone (AskEvent ask.Count) args asked
+Takes Quit args asked = AsksAlone AskQuit args asked
 
 -- a word, and then each further word behind exactly one space
 abbrev pub spaced : List ℕ → List (List ℕ) → List ℕ
@@ -114,7 +125,7 @@ spaced word (w ∷ ws) = word ++ 32 ∷ spaced w ws
 
 -- the text of a line asks for this
 abbrev pub Asks : List ℕ → Asked → Type 0
-Asks text a = (args : List (List ℕ)) × (text ≡ spaced (spelling (keyword_of a)) args) × Takes args a
+Asks text a = (keyword : Keyword) × (args : List (List ℕ)) × (text ≡ spaced (spelling keyword) args) × Takes keyword args a
 
 -- the text of a line: what stands before the CR at its end, or all of it where no CR is at its end
 abbrev pub IsTextOf : List ℕ → List ℕ → Type 0

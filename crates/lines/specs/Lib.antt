@@ -1,7 +1,8 @@
 pub mod Ahead
 pub mod Grammar
+pub mod Held
 pub mod Lines
 pub mod Replies
-pub mod ReplyText
 pub mod Requests
+pub mod Telling
 pub mod Words

@@ -1,7 +1,10 @@
 //! The grammar of lines: which of them ask for what.
 ghost use Rattle.std.specs.Prelude.{◌≡◌, ◌≢◌, ◌≤◌, ◌*◌, ℕ, ℤ, List, [], ◌∷◌, length, MatchOption, IfSome, IsTrue, ◌↔◌};
 ghost use Rattle.lattice.specs.declared.point.Point.{Point};
-ghost use Rattle.lines.specs.Grammar.{IsWord, IsNat, AreInts, IsPointCount, coordinates, IsTextOf, Asked, LineAsks};
+ghost use Rattle.hgt.specs.Names.{IsName};
+ghost use Rattle.edits.specs.declared.command.Command.TheVariants.{Patch};
+ghost use Rattle.calls.specs.declared.event.Event.TheVariants as ask;
+ghost use Rattle.lines.specs.Grammar.{IsWord, NamesNone, AreInts, IsPointCount, coordinates, IsTextOf, Asked, LineAsks};
 ghost use Rattle.lines.specs.Requests.{IsRequest, IsRequestOf, asked};
 
 use crate::keyword::Keyword;
@@ -9,7 +12,10 @@ use crate::number::{integers, natural};
 use crate::request::{MOST_POINTS, Request};
 use crate::words::{Words, first_word};
 use arrayvec::ArrayVec;
-use lattice::Point;
+use calls::Event;
+use edits::Command;
+use hgt::name_of;
+use lattice::{Corner, Point};
 
 /// What a line asks for, if the grammar has it.
 pub fn request_of(line: &[u8]) -> Option<Request<'_>>
@@ -35,35 +41,44 @@ fn text_of(line: &[u8]) -> &[u8]
 fn with_arguments<'a>(command: Keyword, arguments: Words<'a>) -> Option<Request<'a>>
     ensures { IsRequest command arguments.entry result }
 {
-    match command {
-        Keyword::Import => import(arguments),
-        Keyword::Remove => {
-            let name = name(arguments)?;
-            Some(Request::Remove { name })
-        }
-        Keyword::Export => {
-            let name = name(arguments)?;
-            Some(Request::Export { name })
-        }
-        Keyword::Patch => patch(arguments),
+    let event = match command {
+        Keyword::Import => return import(arguments),
+        Keyword::Remove => match tile(arguments)? {
+            Some(corner) => Event::Do(Command::Remove { corner }),
+            None => return Some(Request::BadName),
+        },
+        Keyword::Export => match tile(arguments)? {
+            Some(corner) => Event::Export(corner),
+            None => return Some(Request::BadName),
+        },
+        Keyword::Patch => patch(arguments)?,
         Keyword::Burn => {
             let (depth, points) = number_and_points(arguments)?;
-            Some(Request::Burn { depth, points })
+            Event::Do(Command::Burn { depth, points })
         }
         Keyword::Wall => {
             let (height, points) = number_and_points(arguments)?;
-            Some(Request::Wall { height, points })
+            Event::Do(Command::Wall { height, points })
         }
-        Keyword::Elev => Some(Request::Elevation(point(arguments)?)),
-        Keyword::Fill => Some(Request::Fill(point(arguments)?)),
-        Keyword::Dir => Some(Request::Direction(point(arguments)?)),
-        Keyword::Trace => Some(Request::Trace(point(arguments)?)),
-        Keyword::Watershed => Some(Request::Watershed(point(arguments)?)),
-        Keyword::Tiles => alone(arguments, Request::Tiles),
-        Keyword::Step => alone(arguments, Request::Step),
-        Keyword::Count => alone(arguments, Request::Count),
-        Keyword::Quit => alone(arguments, Request::Quit),
-    }
+        Keyword::Sink => {
+            let point = point(arguments)?;
+            Event::Do(Command::Sink { point })
+        }
+        Keyword::Unsink => {
+            let point = point(arguments)?;
+            Event::Do(Command::Unsink { point })
+        }
+        Keyword::Elev => Event::Elevation(point(arguments)?),
+        Keyword::Fill => Event::Fill(point(arguments)?),
+        Keyword::Dir => Event::Direction(point(arguments)?),
+        Keyword::Trace => Event::Trace(point(arguments)?),
+        Keyword::Watershed => Event::Watershed(point(arguments)?),
+        Keyword::Tiles => return alone(arguments, Request::Ask(Event::Tiles)),
+        Keyword::Sinks => return alone(arguments, Request::Ask(Event::Sinks)),
+        Keyword::Count => return alone(arguments, Request::Ask(Event::Count)),
+        Keyword::Quit => return alone(arguments, Request::Quit),
+    };
+    Some(Request::Ask(event))
 }
 
 /// Whether all bytes are from 0x21 to 0x7E, and there is one at least.
@@ -73,17 +88,16 @@ fn is_word(word: &[u8]) -> bool
     !word.is_empty() && word.iter().all(|&byte| byte >= 0x21 && byte <= 0x7e)
 }
 
-/// The one argument, as a WORD.
-fn name(mut arguments: Words<'_>) -> Option<&[u8]>
+/// The one argument, as a WORD, and the corner of the tile that it names, if it names one.
+fn tile(mut arguments: Words<'_>) -> Option<Option<Corner>>
     ensures { MatchOption result ((w : List ℕ) → arguments.entry ≡ w ∷ [] → IsWord w → ⊥)
-        (λ w. (arguments.entry ≡ w.now ∷ []) × IsWord w.now) }
+        (λ corner. (w : List ℕ) × (arguments.entry ≡ w ∷ []) × IsWord w × MatchOption corner (NamesNone w) (λ c. IsName w c)) }
 {
     let name = arguments.next()?;
-    if arguments.next().is_none() && is_word(name) {
-        Some(name)
-    } else {
-        None
+    if arguments.next().is_some() || !is_word(name) {
+        return None;
     }
+    Some(name_of(name).ok())
 }
 
 /// A name and a length.
@@ -100,25 +114,25 @@ fn import(mut arguments: Words<'_>) -> Option<Request<'_>>
 }
 
 /// Two points and a height.
-fn patch(arguments: Words<'_>) -> Option<Request<'static>>
-    ensures { IsRequest Keyword.Patch arguments.entry result }
+fn patch(arguments: Words<'_>) -> Option<Event>
+    ensures { MatchOption result ((from to : Point) (height : ℤ) → AreInts arguments.entry (from.y ∷ from.x ∷ to.y ∷ to.x ∷ height ∷ []) → ⊥)
+        (λ event. (from to : Point) × (height : ℤ) × AreInts arguments.entry (from.y ∷ from.x ∷ to.y ∷ to.x ∷ height ∷ []) × (event ≡ ask.Do (Patch from to height))) }
 {
     let numbers = integers(arguments)?;
     let numbers = numbers.as_slice();
     if numbers.len() != 5 {
         return None;
     }
-    Some(Request::Patch {
-        from: Point {
-            y: numbers[0],
-            x: numbers[1],
-        },
-        to: Point {
-            y: numbers[2],
-            x: numbers[3],
-        },
-        height: numbers[4],
-    })
+    let from = Point {
+        y: numbers[0],
+        x: numbers[1],
+    };
+    let to = Point {
+        y: numbers[2],
+        x: numbers[3],
+    };
+    let height = numbers[4];
+    Some(Event::Do(Command::Patch { from, to, height }))
 }
 
 /// One point.

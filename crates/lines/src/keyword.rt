@@ -10,6 +10,8 @@ pub enum Keyword {
     Patch,
     Burn,
     Wall,
+    Sink,
+    Unsink,
     Elev,
     Fill,
     Dir,
@@ -17,17 +19,19 @@ pub enum Keyword {
     Watershed,
     Export,
     Tiles,
-    Step,
+    Sinks,
     Count,
     Quit,
 }
 
-const KEYWORDS: [Keyword; 15] = [
+const KEYWORDS: [Keyword; 17] = [
     Keyword::Import,
     Keyword::Remove,
     Keyword::Patch,
     Keyword::Burn,
     Keyword::Wall,
+    Keyword::Sink,
+    Keyword::Unsink,
     Keyword::Elev,
     Keyword::Fill,
     Keyword::Dir,
@@ -35,7 +39,7 @@ const KEYWORDS: [Keyword; 15] = [
     Keyword::Watershed,
     Keyword::Export,
     Keyword::Tiles,
-    Keyword::Step,
+    Keyword::Sinks,
     Keyword::Count,
     Keyword::Quit,
 ];
@@ -62,6 +66,8 @@ impl Keyword {
             Keyword::Patch => b"patch",
             Keyword::Burn => b"burn",
             Keyword::Wall => b"wall",
+            Keyword::Sink => b"sink",
+            Keyword::Unsink => b"unsink",
             Keyword::Elev => b"elev",
             Keyword::Fill => b"fill",
             Keyword::Dir => b"dir",
@@ -69,7 +75,7 @@ impl Keyword {
             Keyword::Watershed => b"watershed",
             Keyword::Export => b"export",
             Keyword::Tiles => b"tiles",
-            Keyword::Step => b"step",
+            Keyword::Sinks => b"sinks",
             Keyword::Count => b"count",
             Keyword::Quit => b"quit",
         }

@@ -1,6 +1,7 @@
-//! The line language: what is read as a line, what it asks for, and the texts of replies.
+//! The line language: what is read as a line, the event that it asks for, and the text of an answer.
 //!
-//! It speaks of bytes, texts and lines alone. What a line does, and to what, is said by the crates above.
+//! It speaks of bytes, texts and lines alone. What an event does is said by the crate `calls`, and what of by the crates
+//! above.
 #![tactic(auto)]
 
 mod bytes;
@@ -8,15 +9,17 @@ mod grammar;
 mod keyword;
 mod lists;
 mod number;
-mod reply;
 mod request;
 mod source;
+mod telling;
 #[cfg(test)]
 mod tests;
+mod text;
 mod words;
 
 pub use grammar::request_of;
 pub use number::natural;
-pub use reply::{Reply, WriteFault, write_bytes};
 pub use request::{MOST_POINTS, Request};
 pub use source::{Ahead, Extent, Line, ReadFault, read_line, read_payload, skip_payload};
+pub use telling::tell;
+pub use text::{Text, WriteFault, write_bytes};

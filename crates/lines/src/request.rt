@@ -1,43 +1,19 @@
 //! What lines ask for.
-use arrayvec::ArrayVec;
-use lattice::Point;
+use calls::Event;
 
 /// The most points that a burn or a wall names.
 pub const MOST_POINTS: usize = 64;
 
-/// What a line asks for. A tile's name stands as it was written: whether there is such a tile is judged later.
+/// What a line asks for.
 #[derive(Drop)]
 pub enum Request<'a> {
-    Import {
-        name: &'a [u8],
-        len: u32,
-    },
-    Remove {
-        name: &'a [u8],
-    },
-    Patch {
-        from: Point,
-        to: Point,
-        height: i32,
-    },
-    Burn {
-        depth: i32,
-        points: ArrayVec<Point, MOST_POINTS>,
-    },
-    Wall {
-        height: i32,
-        points: ArrayVec<Point, MOST_POINTS>,
-    },
-    Elevation(Point),
-    Fill(Point),
-    Direction(Point),
-    Trace(Point),
-    Watershed(Point),
-    Export {
-        name: &'a [u8],
-    },
-    Tiles,
-    Step,
-    Count,
+    /// An import of a payload of this length, which follows the line. The name stands as it was written: whether there is
+    /// such a tile is judged once the payload came.
+    Import { name: &'a [u8], len: u32 },
+    /// An event of a store.
+    Ask(Event),
+    /// An event of a tile, by a word that names none.
+    BadName,
+    /// The end.
     Quit,
 }

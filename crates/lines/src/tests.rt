@@ -1,7 +1,9 @@
 use crate::{
-    Ahead, Extent, Line, Reply, Request, read_line, read_payload, request_of, skip_payload,
+    Ahead, Extent, Line, Request, Text, read_line, read_payload, request_of, skip_payload,
 };
-use lattice::{Point, Refusal};
+use calls::Event;
+use edits::Command;
+use lattice::{Corner, Point, Refusal};
 use std::io::{self, Read};
 use std::test::Fail;
 use watershed::Run;
@@ -55,7 +57,7 @@ fn elevation_of(line: &[u8]) -> Option<Point> {
         return None;
     }
     match request_of(line)? {
-        Request::Elevation(point) => Some(point),
+        Request::Ask(Event::Elevation(point)) => Some(point),
         _ => None,
     }
 }
@@ -85,40 +87,82 @@ fn words_of_lines(rt: HostRuntime) {
             })
         )
     );
+    assert!(rt; matches!(request_of(b"remove ~!"), Some(Request::BadName)));
+    assert!(rt; matches!(request_of(b"export x"), Some(Request::BadName)));
     assert!(rt;
         matches!(
-            request_of(b"remove ~!"),
-            Some(Request::Remove { name: b"~!" })
+            request_of(b"remove n00w001"),
+            Some(Request::Ask(Event::Do(Command::Remove {
+                corner: Corner { lat: 0, lon: -1 }
+            })))
         )
     );
     assert!(rt;
         matches!(
-            request_of(b"export x"),
-            Some(Request::Export { name: b"x" })
+            request_of(b"export S01E000"),
+            Some(Request::Ask(Event::Export(Corner { lat: -1, lon: 0 })))
         )
     );
     assert!(rt;
         matches!(
             request_of(b"patch 0 0 2 2 40000"),
-            Some(Request::Patch { height: 40000, .. })
+            Some(Request::Ask(Event::Do(Command::Patch { height: 40000, .. })))
         )
     );
-    assert!(rt; matches!(request_of(b"fill 1 1"), Some(Request::Fill(_))));
-    assert!(rt; matches!(request_of(b"dir 1 1"), Some(Request::Direction(_))));
-    assert!(rt; matches!(request_of(b"trace 1 1"), Some(Request::Trace(_))));
-    assert!(rt; matches!(request_of(b"watershed 1 1"), Some(Request::Watershed(_))));
-    assert!(rt; matches!(request_of(b"tiles"), Some(Request::Tiles)));
-    assert!(rt; matches!(request_of(b"step"), Some(Request::Step)));
-    assert!(rt; matches!(request_of(b"count\r"), Some(Request::Count)));
+    assert!(rt; matches!(request_of(b"fill 1 1"), Some(Request::Ask(Event::Fill(_)))));
+    assert!(rt;
+        matches!(
+            request_of(b"dir 1 1"),
+            Some(Request::Ask(Event::Direction(_)))
+        )
+    );
+    assert!(rt;
+        matches!(
+            request_of(b"trace 1 1"),
+            Some(Request::Ask(Event::Trace(_)))
+        )
+    );
+    assert!(rt;
+        matches!(
+            request_of(b"watershed 1 1"),
+            Some(Request::Ask(Event::Watershed(_)))
+        )
+    );
+    assert!(rt; matches!(request_of(b"tiles"), Some(Request::Ask(Event::Tiles))));
+    assert!(rt; matches!(request_of(b"sinks"), Some(Request::Ask(Event::Sinks))));
+    assert!(rt; matches!(request_of(b"count\r"), Some(Request::Ask(Event::Count))));
     assert!(rt; matches!(request_of(b"quit"), Some(Request::Quit)));
+}
+
+#[test]
+fn sinks_of_lines(rt: HostRuntime) {
+    assert!(rt;
+        matches!(
+            request_of(b"sink 1 -2"),
+            Some(Request::Ask(Event::Do(Command::Sink {
+                point: Point { y: 1, x: -2 }
+            })))
+        )
+    );
+    assert!(rt;
+        matches!(
+            request_of(b"unsink -1 2"),
+            Some(Request::Ask(Event::Do(Command::Unsink {
+                point: Point { y: -1, x: 2 }
+            })))
+        )
+    );
+    assert!(rt; is_bad(b"sink 1"));
+    assert!(rt; is_bad(b"unsink 1 2 3"));
 }
 
 fn wall_points(line: &[u8]) -> Option<usize> {
     if line.len() > 2048 {
         return None;
     }
-    match request_of(line)? {
-        Request::Wall { height: 5, points } => Some(points.len()),
+    let request = request_of(line)?;
+    match &request {
+        Request::Ask(Event::Do(Command::Wall { height: 5, points })) => Some(points.len()),
         _ => None,
     }
 }
@@ -237,17 +281,17 @@ fn a_read_that_fails(rt: HostRuntime) {
 #[test]
 fn texts_of_replies(rt: HostRuntime) -> Result<(), Fail> {
     let mut output = Vec::new(rt.alloc());
-    assert!(rt; Reply::done().write(&mut output).is_ok());
-    assert!(rt; Reply::void().write(&mut output).is_ok());
-    assert!(rt; Reply::number(-32767i16).write(&mut output).is_ok());
-    assert!(rt; Reply::number(u64::MAX).write(&mut output).is_ok());
-    assert!(rt; Reply::refused(Refusal::Outside).write(&mut output).is_ok());
+    assert!(rt; Text::done().write(&mut output).is_ok());
+    assert!(rt; Text::void().write(&mut output).is_ok());
+    assert!(rt; Text::number(-32767i16).write(&mut output).is_ok());
+    assert!(rt; Text::number(u64::MAX).write(&mut output).is_ok());
+    assert!(rt; Text::refused(Refusal::Outside).write(&mut output).is_ok());
     assert!(rt;
-        Reply::refused(Refusal::BadCapacity)
+        Text::refused(Refusal::BadCapacity)
             .write(&mut output)
             .is_ok()
     );
-    let bytes = Reply::bytes(rt.alloc(), b"\x00\x0a\xff")?;
+    let bytes = Text::bytes(rt.alloc(), b"\x00\x0a\xff")?;
     assert!(rt; bytes.write(&mut output).is_ok());
     assert!(rt;
         output.as_slice()
@@ -260,9 +304,9 @@ fn texts_of_replies(rt: HostRuntime) -> Result<(), Fail> {
 fn texts_of_lists(rt: HostRuntime) -> Result<(), Fail> {
     let mut output = Vec::new(rt.alloc());
     let points = [Point { y: 0, x: -3 }, Point { y: i32::MIN, x: 12 }];
-    let path = Reply::path(rt.alloc(), &points)?;
+    let path = Text::path(rt.alloc(), &points)?;
     assert!(rt; path.write(&mut output).is_ok());
-    assert!(rt; Reply::path(rt.alloc(), &[])?.write(&mut output).is_ok());
+    assert!(rt; Text::path(rt.alloc(), &[])?.write(&mut output).is_ok());
     let runs = [
         Run {
             y: 2,
@@ -275,7 +319,7 @@ fn texts_of_lists(rt: HostRuntime) -> Result<(), Fail> {
             last: -4,
         },
     ];
-    let shed = Reply::runs(rt.alloc(), &runs)?;
+    let shed = Text::runs(rt.alloc(), &runs)?;
     assert!(rt; shed.write(&mut output).is_ok());
     assert!(rt;
         output.as_slice()
@@ -288,6 +332,6 @@ fn texts_of_lists(rt: HostRuntime) -> Result<(), Fail> {
 fn a_writer_without_room(rt: HostRuntime) {
     let mut room = [0; 4];
     let mut writer = room.as_mut_slice();
-    assert!(rt; Reply::number(123u64).write(&mut writer).is_err());
+    assert!(rt; Text::number(123u64).write(&mut writer).is_err());
     assert!(rt; room == *b"OK 1");
 }

@@ -1,5 +1,6 @@
 //! The program's words, and what it does on files of stores.
 use server::program;
+use std::alloc::{AllocError, Global};
 use std::fs;
 use std::test::Fail;
 
@@ -13,6 +14,21 @@ const G: &[u8] = b"\x00\x09\x00\x09\x00\x09\x00\x09\x00\x09\x00\x07\x00\x09\x00\
 const H: &[u8] = b"\x00\x09\x00\x09\x00\x09\x00\x08\x00\x09\x00\x09\x00\x09\x00\x09\x00\x09";
 
 fn run(rt: &HostRuntime, words: &[&str], input: &[u8]) -> (u8, Vec<u8>) {
+    match owned(rt.alloc(), words) {
+        Ok(words) => run_words(rt, &words, input),
+        Err(_) => (u8::MAX, Vec::new(rt.alloc())),
+    }
+}
+
+fn owned(alloc: Global, words: &[&str]) -> Result<Vec<String>, AllocError> {
+    let mut list = Vec::new(alloc);
+    for word in words {
+        list.push(String::from_str(alloc, word)?)?;
+    }
+    Ok(list)
+}
+
+fn run_words(rt: &HostRuntime, words: &[String], input: &[u8]) -> (u8, Vec<u8>) {
     let mut reader = input;
     let mut output = Vec::new(rt.alloc());
     let status = program(rt, words, &mut reader, &mut output);

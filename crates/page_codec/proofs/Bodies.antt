@@ -4,12 +4,14 @@ use Rattle.std.specs.Prelude.{All}
 use Rattle.std.specs.List.{flat_map}
 use Rattle.std.proofs.lemmas.List.{length-append, length-take, take-append-drop}
 use Rattle.lattice.specs.declared.point.Point.{Point}
-use Rattle.page_codec.specs.declared.version.Version.{Version}
-use Rattle.page_codec.specs.declared.version.Version.TheVariants.{One, Two}
+use Rattle.lattice.specs.Limits.{IsSide, largest_side}
+use Rattle.lattice.specs.Mosaic.{AreSinks, IsHeld}
+use Rattle.layout.specs.declared.version.Version.{Version}
+use Rattle.layout.specs.declared.version.Version.TheVariants.{One, Two}
 use Rattle.page_codec.specs.Numbers.{zeros, padded, is_all_zero}
-use Rattle.page_codec.specs.Formats.{Format, IsFormat, largest_side_of}
+use Rattle.layout.specs.Formats.{Format, IsFormat, largest_side_of}
 use Rattle.page_codec.specs.Entries.{EntryValue, IsEntry, entry_bytes}
-use Rattle.page_codec.specs.Sinks.{IsSink, AreSinksInOrder, sink_bytes}
+use Rattle.page_codec.specs.Sinks.{sink_bytes}
 use Rattle.page_codec.specs.Roots.{RootValue, format_of, AreNumbers, AreInOrder, IsRoot}
 use Rattle.page_codec.specs.declared.header.Header.{Header}
 use Rattle.page_codec.specs.Headers.{number_bytes, body_bytes}
@@ -37,18 +39,18 @@ numbers_of h = number_bytes h.side h.capacity h.tiles h.number h.count h.sinks
 abbrev pub format_in : Version → Header → Format
 format_in version h = record { version = version; side = h.side; capacity = h.capacity }
 
-no_larger : (version : Version) → largest_side_of version ≤ 3601
+no_larger : (version : Version) → largest_side_of version ≤ largest_side
 no_larger One = omega arith
 no_larger Two = omega arith
 
-pub side_small : (f : Format) → IsFormat f → f.side ≤ 3601
-side_small f is = omega (arith, is.side_high, no_larger f.version)
+pub side_known : (f : Format) → IsFormat f → IsSide f.side
+side_known f is = (is.side_low, omega (arith, is.side_high, no_larger f.version))
 
 pub has_room : (r : RootValue) → IsRoot r → HasRoom (header_of r)
 has_room r rules =
     let n = rules.numbers in
     record {
-      side_fits = omega (arith, side_small (format_of r) n.format);
+      side_fits = omega (arith, (side_known (format_of r) n.format).1);
       capacity_fits = omega (arith, n.format.capacity_high);
       tiles_fit = omega (arith, n.room, n.format.capacity_high);
       number_fits = n.fits;
@@ -58,17 +60,24 @@ has_room r rules =
 
 -- the rules hold of the root of the next commit
 pub next_rules : (r : RootValue) → IsRoot r → (count : ℕ) (points : List Point) (entries : List EntryValue)
-    → r.number + 1 < 2 ^ 64 → count ≤ r.number → All (IsSink r.side) points → AreSinksInOrder points → length points ≤ 16
-    → length entries ≤ r.capacity → All IsEntry entries → AreInOrder entries
+    → r.number + 1 < 2 ^ 64 → count ≤ r.number → AreSinks r.side points → length entries ≤ r.capacity → All IsEntry entries → AreInOrder entries
     → IsRoot (record r { number = r.number + 1; count = count; sinks = points; entries = entries })
-next_rules r rules count points entries number before held rising few room each order =
+next_rules r rules count points entries number before sinks room each order =
     record {
-      numbers = record { format = rules.numbers.format; known = rules.numbers.known; room = room; fits = number; before = omega arith; few = few };
+      numbers = record { format = rules.numbers.format; known = rules.numbers.known; room = room; fits = number; before = omega arith; few = sinks.few };
       entries = each;
       in_order = order;
-      sinks = held;
-      sinks_in_order = rising;
+      sinks = sinks;
     }
+
+-- and of the root with other sinks
+pub other_sinks : (r : RootValue) → IsRoot r → (points : List Point) → AreSinks r.side points → IsRoot (record r { sinks = points })
+other_sinks r rules points sinks = record {
+  numbers = record { format = rules.numbers.format; known = rules.numbers.known; room = rules.numbers.room; fits = rules.numbers.fits; before = rules.numbers.before; few = sinks.few };
+  entries = rules.entries;
+  in_order = rules.in_order;
+  sinks = sinks;
+}
 
 length-numbers : (h : Header) → length (numbers_of h) ≡ 32
 unfolding number_bytes
@@ -152,10 +161,10 @@ root_from version h sinks entries = record { version = version; side = h.side; c
 pub body_from_parts : (version : Version) (h : Header) (body tail free rest front back : List ℕ) (points : List Point) (entries : List EntryValue)
     → AreNumbers (format_in version h) h.tiles h.number h.count h.sinks → Splits body tail free rest front back h → is_all_zero free ≡ true
     → length entries ≡ h.tiles → All IsEntry entries → AreInOrder entries → front ≡ padded 3840 (flat_map entry_bytes entries)
-    → length points ≡ h.sinks → All (IsSink h.side) points → AreSinksInOrder points → back ≡ padded 192 (flat_map sink_bytes points)
+    → length points ≡ h.sinks → AreSinks h.side points → back ≡ padded 192 (flat_map sink_bytes points)
     → (r : RootValue) → r ≡ root_from version h points entries → IsRoot r × (r.version ≡ version) × (body ≡ body_bytes r)
 unfolding body_bytes
-body_from_parts version h body tail free rest front back points entries n parts zero tiles each order front_is count held rising back_is r is =
+body_from_parts version h body tail free rest front back points entries n parts zero tiles each order front_is count sinks back_is r is =
     let e = padded 3840 (flat_map entry_bytes entries) in
     let k = padded 192 (flat_map sink_bytes points) in
     let free_is : free ≡ zeros 20 = zeros_from_all free zero ∙ ap zeros parts.free_len in
@@ -173,7 +182,7 @@ body_from_parts version h body tail free rest front back points entries n parts 
       before = n.before;
       few = omega (arith, count, n.few);
     } in
-    rw is (record { numbers = rules; entries = each; in_order = order; sinks = held; sinks_in_order = rising }, refl, spelled)
+    rw is (record { numbers = rules; entries = each; in_order = order; sinks = sinks }, refl, spelled)
 
 same_values : (a b : RootValue) → a.version ≡ b.version → SameNumbers (header_of a) (header_of b) → a.sinks ≡ b.sinks → a.entries ≡ b.entries → a ≡ b
 same_values a b version same sinks entries =
@@ -197,8 +206,8 @@ same_bodies a b p q version same =
     let parts : Splits body tail (zeros 20) (e ++ k) e k (header_of a) = record { whole = len; numbers = refl; free_bytes = refl; free_len = length-zeros 20; rooms = refl; entries_len = length_room a p } in
     let is = body_is (header_of a) body tail (zeros 20) (e ++ k) e k b (has_room a p) parts q same in
     let entries = same_padded entry_bytes IsEntry one_entry 3840 a.entries b.entries p.entries q.entries is.same.tiles_are is.entries_are in
-    let held : All (IsSink b.side) a.sinks = subst (λ (n : ℕ). All (IsSink n) a.sinks) is.same.side_is p.sinks in
-    let sinks = same_padded sink_bytes (IsSink b.side) (one_sink b.side (side_small (format_of b) q.numbers.format)) 192 a.sinks b.sinks held q.sinks is.same.sinks_are is.sinks_are in
+    let held : All (IsHeld b.side) a.sinks = subst (λ (n : ℕ). All (IsHeld n) a.sinks) is.same.side_is p.sinks.held in
+    let sinks = same_padded sink_bytes (IsHeld b.side) (one_sink b.side (side_known (format_of b) q.numbers.format)) 192 a.sinks b.sinks held q.sinks.held is.same.sinks_are is.sinks_are in
     same_values a b version is.same sinks entries
 
 pub length_rooms : (r : RootValue) → IsRoot r → length (padded 3840 (flat_map entry_bytes r.entries) ++ padded 192 (flat_map sink_bytes r.sinks)) ≡ 4032

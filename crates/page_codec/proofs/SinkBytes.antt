@@ -1,5 +1,5 @@
 -- The bytes of a sink: they spell one sink only.
-use Rattle.std.proofs.Common.{◌≡◌, ℕ, ◌-◌, ◌*◌, ◌≤◌, ℤ, pos, ◌+ℤ◌, ◌*ℤ◌, List, [], ◌++◌, length, sym, ap, ap₂, ◌∙◌, arith, append_assoc}
+use Rattle.std.proofs.Common.{◌≡◌, ℕ, ◌-◌, ◌*◌, ◌≤◌, ℤ, pos, ◌+ℤ◌, ◌*ℤ◌, IsTrue, List, [], ◌++◌, length, sym, ap, ap₂, ◌∙◌, arith, append_assoc}
 use Rattle.std.specs.Prelude.{unsigned_abs}
 use Rattle.std.specs.List.{flat_map}
 use Rattle.std.specs.Int.{w32}
@@ -7,9 +7,15 @@ use Rattle.std.specs.Int.RustNames.{FitsSigned}
 use Rattle.std.proofs.lemmas.Int.{ints, unsigned_abs-mul, fits_signed_from_abs}
 use Rattle.std.proofs.lemmas.List.{length-append}
 use Rattle.std.proofs.Math.Nat.{mul-le-mul}
+use Rattle.std.proofs.lemmas.Bool.{and_parts}
+use Rattle.lattice.specs.Corners.{is_corner}
+use Rattle.lattice.specs.Lattice.{is_along}
+use Rattle.lattice.specs.Limits.{IsSide}
 use Rattle.lattice.specs.declared.point.Point.{Point}
+use Rattle.lattice.proofs.Along.{steps}
 use Rattle.page_codec.specs.Numbers.{i32_bytes}
-use Rattle.page_codec.specs.Sinks.{IsSink, sink_bytes}
+use Rattle.lattice.specs.Mosaic.{IsHeld}
+use Rattle.page_codec.specs.Sinks.{sink_bytes}
 use Rattle.page_codec.proofs.Fields.{same_i32, length-i32_bytes}
 use Rattle.page_codec.proofs.Items.{SpellsOne, length_items}
 
@@ -17,26 +23,25 @@ use Rattle.page_codec.proofs.Items.{SpellsOne, length_items}
 edge_small : (degrees : ℤ) (m : ℕ) → unsigned_abs degrees ≤ 180 → m ≤ 3600 → unsigned_abs (degrees *ℤ pos m) ≤ 648000
 edge_small degrees m few le = omega (arith, unsigned_abs-mul degrees (pos m), mul-le-mul {n₁ = unsigned_abs degrees} {m₁ = m} {n₂ = 180} {m₂ = 3600} few le)
 
-fits_near : (v edge : ℤ) (i j : ℕ) → unsigned_abs edge ≤ 648000 → i ≤ 3600 → j ≤ 3600 → v +ℤ pos i ≡ edge +ℤ pos j → FitsSigned w32 v
-fits_near v edge i j small le_i le_j is = fits_signed_from_abs w32 v (grind (arith, ints))
+fits_near : (v edge : ℤ) (j : ℕ) → unsigned_abs edge ≤ 648000 → j ≤ 3600 → v ≡ edge +ℤ pos j → FitsSigned w32 v
+fits_near v edge j small le is = fits_signed_from_abs w32 v (grind (arith, ints))
+
+-- between the two edges of a tile
+fits_along : (m : ℕ) (degrees v : ℤ) → unsigned_abs degrees ≤ 180 → m ≤ 3600 → IsTrue (is_along (pos m) degrees v) → FitsSigned w32 v
+fits_along m degrees v few le along =
+    let at = steps m degrees v along in
+    fits_near v (degrees *ℤ pos m) at.0 (edge_small degrees m few le) (omega (arith, at.1.0, le)) at.1.1
 
 -- the coordinates of a sink fit their bytes
-pub sink_fits : (side : ℕ) (p : Point) → side ≤ 3601 → IsSink side p → FitsSigned w32 p.y × FitsSigned w32 p.x
-sink_fits side p low sink =
+pub sink_fits : (side : ℕ) (p : Point) → IsSide side → IsHeld side p → FitsSigned w32 p.y × FitsSigned w32 p.x
+sink_fits side p known sink =
     let c = sink.0 in
-    let corner = sink.1.corner in
-    let at = sink.1.sample.2 in
-    let i = sink.1.sample.0 in
-    let j = sink.1.sample.1 in
+    let corner : IsTrue (is_corner c) = sink.1.0 in
+    let along = and_parts (is_along (pos (side - 1)) c.lat p.y) (is_along (pos (side - 1)) c.lon p.x) sink.1.1 in
     let lat : unsigned_abs c.lat ≤ 180 = grind (arith, ints, corner) in
     let lon : unsigned_abs c.lon ≤ 180 = grind (arith, ints, corner) in
-    let m : side - 1 ≤ 3600 = omega arith in
-    let row : i ≤ 3600 = omega (arith, at.row) in
-    let column : j ≤ 3600 = omega (arith, at.column) in
-    let x : p.x +ℤ pos 0 ≡ c.lon *ℤ pos (side - 1) +ℤ pos j = grind (arith, ints, at.x) in (
-      fits_near p.y (c.lat *ℤ pos (side - 1)) i (side - 1) (edge_small c.lat (side - 1) lat m) row m at.y,
-      fits_near p.x (c.lon *ℤ pos (side - 1)) 0 j (edge_small c.lon (side - 1) lon m) (omega arith) column x,
-    )
+    let m : side - 1 ≤ 3600 = omega (arith, known.1) in
+    (fits_along (side - 1) c.lat p.y lat m along.0, fits_along (side - 1) c.lon p.x lon m along.1)
 
 pub length-sink_bytes : (p : Point) → length (sink_bytes p) ≡ 8
 unfolding sink_bytes
@@ -54,12 +59,12 @@ same_sink_bytes a b x y p q e =
     let second = same_i32 a.x b.x x y p.1 q.1 first.1 in
     (same_points a b first.0 second.0, second.1)
 
-pub one_sink : (side : ℕ) → side ≤ 3601 → SpellsOne sink_bytes (IsSink side)
-one_sink side low = record { same = λ a b x y p q e. same_sink_bytes a b x y (sink_fits side a low p) (sink_fits side b low q) e }
+pub one_sink : (side : ℕ) → IsSide side → SpellsOne sink_bytes (IsHeld side)
+one_sink side known = record { same = λ a b x y p q e. same_sink_bytes a b x y (sink_fits side a known p) (sink_fits side b known q) e }
 
 -- a point that fits its bytes has the bytes of no other sink
-pub same_sink : (side : ℕ) (a b : Point) → side ≤ 3601 → FitsSigned w32 a.y → FitsSigned w32 a.x → IsSink side b → sink_bytes a ≡ sink_bytes b → a ≡ b
-same_sink side a b low y x sink same = (same_sink_bytes a b [] [] (y, x) (sink_fits side b low sink) (ap (λ (l : List ℕ). l ++ []) same)).0
+pub same_sink : (side : ℕ) (a b : Point) → IsSide side → FitsSigned w32 a.y → FitsSigned w32 a.x → IsHeld side b → sink_bytes a ≡ sink_bytes b → a ≡ b
+same_sink side a b known y x sink same = (same_sink_bytes a b [] [] (y, x) (sink_fits side b known sink) (ap (λ (l : List ℕ). l ++ []) same)).0
 
 pub length_sinks : (sinks : List Point) → length (flat_map sink_bytes sinks) ≡ 8 * length sinks
 length_sinks sinks = length_items sink_bytes 8 length-sink_bytes sinks

@@ -1,6 +1,6 @@
+pub use Rattle.layout.specs.Formats
+pub use Rattle.layout.specs.Sizes
 pub mod Numbers
-pub mod Formats
-pub mod Sizes
 pub mod Entries
 pub mod Fields
 pub mod Records

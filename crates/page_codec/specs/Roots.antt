@@ -2,13 +2,15 @@
 use Rattle.std.specs.Prelude.{◌≡◌, ℕ, ◌<◌, ◌≤◌, ◌^◌, IsTrue, List, [], ◌∷◌, ◌++◌, All, length, take, drop, codes}
 use Rattle.std.specs.List.{AllAdjacentBelow, concat, flat_map}
 use Rattle.lattice.specs.Corners.{is_before}
+use Rattle.lattice.specs.Limits.{most_sinks}
+use Rattle.lattice.specs.Mosaic.{AreSinks}
 use Rattle.lattice.specs.declared.point.Point.{Point}
-use Rattle.page_codec.specs.declared.version.Version.{Version}
-use Rattle.page_codec.specs.declared.version.Version.TheVariants.{One}
-use Rattle.page_codec.specs.Formats.{Format, IsFormat, IsKnown, number_of}
+use Rattle.layout.specs.declared.version.Version.{Version}
+use Rattle.layout.specs.declared.version.Version.TheVariants.{One}
+use Rattle.layout.specs.Formats.{Format, IsFormat, IsKnown, number_of}
 use Rattle.page_codec.specs.Numbers.{u32_bytes, u64_bytes, zeros, padded}
 use Rattle.page_codec.specs.Entries.{EntryValue, IsEntry, entry_bytes}
-use Rattle.page_codec.specs.Sinks.{IsSink, AreSinksInOrder, sink_bytes}
+use Rattle.page_codec.specs.Sinks.{sink_bytes}
 
 -- the version of its layout, the side of its tiles, how many tiles it has room for, its commit number, how many commands
 -- were accepted, its sinks, and the entries of its tiles
@@ -31,7 +33,7 @@ pub record AreNumbers (f : Format) (tiles number count sinks : ℕ) : Type 0 whe
   pub room : tiles ≤ f.capacity
   pub fits : number < 2 ^ 64
   pub before : count < number
-  pub few : sinks ≤ 16
+  pub few : sinks ≤ most_sinks
 
 abbrev pub EntryIsBefore : EntryValue → EntryValue → Type 0
 EntryIsBefore a b = IsTrue (is_before a.corner b.corner)
@@ -44,8 +46,7 @@ pub record IsRoot (r : RootValue) : Type 0 where
   pub numbers : AreNumbers (format_of r) (length r.entries) r.number r.count (length r.sinks)
   pub entries : All IsEntry r.entries
   pub in_order : AreInOrder r.entries
-  pub sinks : All (IsSink r.side) r.sinks
-  pub sinks_in_order : AreSinksInOrder r.sinks
+  pub sinks : AreSinks r.side r.sinks
 
 -- a new store, by the first version: its first commit, before any command
 abbrev pub empty_root : (side capacity : ℕ) → RootValue

@@ -1,11 +1,12 @@
 //! The numbers of a root.
 ghost use Rattle.std.specs.Prelude.{◌≡◌, ◌+◌, ◌≤◌, ◌++◌, length, SomeIff};
-ghost use Rattle.page_codec.specs.Formats.{IsKnown};
+ghost use Rattle.layout.specs.Formats.{IsKnown};
 ghost use Rattle.page_codec.specs.Roots.{AreNumbers};
 ghost use Rattle.page_codec.specs.Headers.{number_bytes};
 
 use crate::numbers::{split_u32, split_u64};
-use crate::{Format, ROOT_SINKS, Version};
+use crate::{Format, Version};
+use lattice::MOST_SINKS;
 
 /// The numbers of a root as they stand in its bytes, behind the version.
 #[derive(Clone, Copy)]
@@ -56,7 +57,7 @@ impl Header {
         let format = Format::new(version, self.side, self.capacity).ok()?;
         let is_valid = self.tiles <= self.capacity
             && self.count < self.number
-            && self.sinks <= ROOT_SINKS as u32;
+            && self.sinks <= MOST_SINKS as u32;
         if is_valid { Some(format) } else { None }
     }
 }

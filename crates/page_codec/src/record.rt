@@ -7,11 +7,8 @@ ghost use Rattle.page_codec.specs.Records.{IsRecord, record_bytes};
 
 use crate::numbers::{is_zero, split_u32};
 use crate::writer::Writer;
-use crate::{Damaged, PAGE_BYTES};
+use crate::{Damaged, PAGE_BYTES, RECORD_PAGES};
 use arrayvec::ArrayVec;
-
-/// How many page numbers a record or an index page has room for.
-pub const RECORD_PAGES: usize = 1024;
 
 /// What a plane's record lists, in the order of the plane: its pages, or by the second version its index pages.
 #[derive(Debug, Drop)]

@@ -2,11 +2,11 @@
 ghost use Rattle.std.specs.Prelude.{◌≡◌, ◌≢◌, ◌+◌, ◌<◌, ◌≤◌, ◌^◌, ◌↔◌, [], ◌++◌, length, take, All, IsTrue, IfOk, IfErr, IfSome, IfNone, IsErrOf, Ok};
 ghost use Rattle.std.specs.List.{flat_map};
 ghost use Rattle.page_codec.specs.declared.damaged.Damaged.TheVariants as reason;
-ghost use Rattle.page_codec.specs.declared.version.Version.{Version};
+ghost use Rattle.layout.specs.declared.version.Version.{Version};
 ghost use Rattle.page_codec.specs.Numbers.{u32_bytes};
-ghost use Rattle.page_codec.specs.Formats.{IsKnown, number_of};
+ghost use Rattle.layout.specs.Formats.{IsKnown, number_of};
 ghost use Rattle.page_codec.specs.Entries.{IsEntry};
-ghost use Rattle.page_codec.specs.Sinks.{IsSink, AreSinksInOrder};
+ghost use Rattle.lattice.specs.Mosaic.{AreSinks};
 ghost use Rattle.page_codec.specs.Roots.{RootValue, AreInOrder, IsRoot, empty_root, format_of, magic, header_bytes, root_bytes, HasMagic, HasKnownVersion};
 ghost use Rattle.page_codec.specs.Headers.{body_bytes};
 
@@ -15,11 +15,9 @@ use crate::header::Header;
 use crate::numbers::{is_zero, split_u32};
 use crate::sinks::{read_sinks, write_sinks};
 use crate::writer::Writer;
-use crate::{
-    Damaged, Entry, Format, MAX_CAPACITY, MAX_SIDE, PAGE_BYTES, ROOT_ENTRIES, ROOT_SINKS, Version,
-};
+use crate::{Damaged, Entry, Format, MAX_CAPACITY, MAX_SIDE, PAGE_BYTES, ROOT_ENTRIES, Version};
 use arrayvec::ArrayVec;
-use lattice::{Point, Side};
+use lattice::{MOST_SINKS, Point, Side};
 use std::marker::Model;
 
 /// What the bytes of a root begin with.
@@ -38,7 +36,7 @@ pub struct Root {
     format: Format,
     number: u64,
     count: u64,
-    sinks: ArrayVec<Point, ROOT_SINKS>,
+    sinks: ArrayVec<Point, MOST_SINKS>,
     entries: ArrayVec<Entry, ROOT_ENTRIES>,
 }
 
@@ -87,22 +85,16 @@ impl Root {
         }
     }
 
-    /// The root of the next commit, at this count of commands and with these sinks, in their order.
-    pub fn with_sinks(&self, count: u64, sinks: ArrayVec<Point, ROOT_SINKS>) -> Root
-        requires number { self.now.number + 1 < 2 ^ 64 }
-        requires count { count ≤ self.now.number }
-        requires held { All (IsSink self.now.side) sinks.items }
-        requires few { length sinks.items ≤ ROOT_SINKS }
-        requires in_order { AreSinksInOrder sinks.items }
-        ensures { result ≡ record (self.now) { number = self.now.number + 1; count = count; sinks = sinks.items } }
+    /// The same root with these sinks, in their order, in place of its own.
+    pub fn with_sinks(&self, sinks: &[Point]) -> Root
+        requires { AreSinks self.now.side sinks.now }
+        ensures { result ≡ record (self.now) { sinks = sinks.now } }
     {
         let root = self.copy();
-        Root {
-            number: root.number + 1,
-            count,
-            sinks,
-            ..root
-        }
+        let Ok(sinks) = ArrayVec::try_from(sinks) else {
+            unreachable!()
+        };
+        Root { sinks, ..root }
     }
 
     /// The same root once more.

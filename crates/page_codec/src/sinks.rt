@@ -3,16 +3,16 @@ ghost use Rattle.std.specs.Prelude.{◌≡◌, ℕ, ◌+◌, ◌≤◌, ◌↔�
 ghost use Rattle.std.specs.List.{flat_map};
 ghost use Rattle.lattice.specs.declared.point.Point.{Point};
 ghost use Rattle.page_codec.specs.Numbers.{padded};
-ghost use Rattle.page_codec.specs.Sinks.{IsSink, SinkIsBefore, AreSinksInOrder, sink_bytes, is_sink_before};
+ghost use Rattle.lattice.specs.Limits.{IsSide};
+ghost use Rattle.lattice.specs.Mosaic.{AreSinks, IsHeld};
+ghost use Rattle.lattice.specs.Points.{is_point_before};
+ghost use Rattle.page_codec.specs.Sinks.{SinkIsBefore, sink_bytes};
 ghost use Rattle.page_codec.specs.Headers.{Follows};
 
 use crate::numbers::{is_zero, split_i32};
 use crate::writer::Writer;
 use arrayvec::ArrayVec;
-use lattice::{Point, Side, holders};
-
-/// How many sinks a root has room for.
-pub const ROOT_SINKS: usize = 16;
+use lattice::{MOST_SINKS, Point, Side, is_held};
 
 // Bytes of a sink.
 const SINK_BYTES: usize = 8;
@@ -25,15 +25,14 @@ pub(crate) fn read_sinks(
     bytes: &[u8],
     side: Side,
     count: u32,
-) -> Option<ArrayVec<Point, ROOT_SINKS>>
-    requires side { side ≤ 3601 }
-    requires count { count ≤ ROOT_SINKS }
+) -> Option<ArrayVec<Point, MOST_SINKS>>
+    requires side { IsSide side }
+    requires count { count ≤ MOST_SINKS }
     requires bytes { length bytes.now ≡ SINKS_BYTES }
     ensures len { IfSome result (λ found. length found.items ≡ count) }
-    ensures each { IfSome result (λ found. All (IsSink side) found.items) }
-    ensures in_order { IfSome result (λ found. AreSinksInOrder found.items) }
+    ensures sinks { IfSome result (λ found. AreSinks side found.items) }
     ensures spelled { IfSome result (λ found. bytes.now ≡ padded SINKS_BYTES (flat_map sink_bytes found.items)) }
-    ensures none { IfNone result ((sinks : List Point) → length sinks ≡ count → All (IsSink side) sinks → AreSinksInOrder sinks
+    ensures none { IfNone result ((sinks : List Point) → length sinks ≡ count → AreSinks side sinks
         → bytes.now ≡ padded SINKS_BYTES (flat_map sink_bytes sinks) → ⊥) }
 {
     let mut sinks = ArrayVec::new();
@@ -49,12 +48,12 @@ pub(crate) fn read_sinks(
 
 // The sink that these bytes spell, where it may follow the others.
 fn next_sink(bytes: &[u8], side: Side, sinks: &[Point]) -> Option<Point>
-    requires side { side ≤ 3601 }
+    requires side { IsSide side }
     requires bytes { length bytes.now ≡ SINK_BYTES }
-    ensures sink { IfSome result (IsSink side) }
+    ensures held { IfSome result (IsHeld side) }
     ensures follows { IfSome result (λ found. Follows SinkIsBefore sinks.now found) }
     ensures spelled { IfSome result (λ found. bytes.now ≡ sink_bytes found) }
-    ensures none { IfNone result ((sink : Point) → IsSink side sink → Follows SinkIsBefore sinks.now sink → bytes.now ≡ sink_bytes sink → ⊥) }
+    ensures none { IfNone result ((sink : Point) → IsHeld side sink → Follows SinkIsBefore sinks.now sink → bytes.now ≡ sink_bytes sink → ⊥) }
 {
     let sink = read_point(bytes);
     if !may_follow(side, sinks, sink) {
@@ -64,9 +63,9 @@ fn next_sink(bytes: &[u8], side: Side, sinks: &[Point]) -> Option<Point>
 }
 
 fn may_follow(side: Side, sinks: &[Point], sink: Point) -> bool
-    ensures { IsTrue result ↔ (IsSink side sink × Follows SinkIsBefore sinks.now sink) }
+    ensures { IsTrue result ↔ (IsHeld side sink × Follows SinkIsBefore sinks.now sink) }
 {
-    is_sink(side, sink) && follows(sinks, sink)
+    is_held(side, sink) && follows(sinks, sink)
 }
 
 #[tactic(auto, unfolding(crate::specs::Sinks::sink_bytes))]
@@ -77,12 +76,6 @@ fn read_point(bytes: &[u8]) -> Point
     let (y, rest) = split_i32(bytes);
     let (x, _) = split_i32(rest);
     Point { y, x }
-}
-
-fn is_sink(side: Side, point: Point) -> bool
-    ensures { IsTrue result ↔ IsSink side point }
-{
-    !holders(side, point).is_empty()
 }
 
 // Whether this point is after the others.
@@ -96,14 +89,14 @@ fn follows(sinks: &[Point], sink: Point) -> bool
 }
 
 fn is_before(first: Point, second: Point) -> bool
-    ensures { result ≡ is_sink_before first second }
+    ensures { result ≡ is_point_before first second }
 {
     first < second
 }
 
 /// The sinks one after another, and zeros behind them.
 pub(crate) fn write_sinks(sinks: &[Point]) -> [u8; SINKS_BYTES]
-    requires { length sinks.now ≤ ROOT_SINKS }
+    requires { length sinks.now ≤ MOST_SINKS }
     ensures { result ≡ padded SINKS_BYTES (flat_map sink_bytes sinks.now) }
 {
     let mut writer = Writer::new();

@@ -12,17 +12,19 @@ use Rattle.lattice.specs.declared.point.Point.{Point}
 use Rattle.lattice.specs.declared.height.Height.{Height}
 use Rattle.lattice.specs.declared.height.Height.TheVariants.{Outside, Void, At}
 use Rattle.lattice.specs.declared.refusal.Refusal.{Refusal}
-use Rattle.lattice.specs.declared.refusal.Refusal.TheVariants.{BadLength, TileThere, NoTile, Full, NothingVoid, BadHeight, BadDepth, BadBox, Repeated, TooDeep}
+use Rattle.lattice.specs.declared.refusal.Refusal.TheVariants.{BadLength, TileThere, NoTile, Full, NothingVoid, BadHeight, BadDepth, BadBox, Repeated, TooDeep, SinkThere, SinksFull, NoSink}
 use Rattle.lattice.specs.Lattice.{holds, index_of}
 use Rattle.lattice.specs.Mosaic.{Mosaic, IsTile, IsMosaic, IsSample, is_present, is_void, void}
 use Rattle.lattice.specs.Height.{sample_at, first_height, by_seam_rule, height_of}
-use Rattle.lattice.specs.Ground.{metres, same_point}
+use Rattle.lattice.specs.Limits.{most_sinks}
+use Rattle.lattice.specs.Ground.{metres, same_point, is_sink}
 use Rattle.lattice.proofs.IntTests.{le_true}
 use Rattle.hgt.specs.Bytes.{samples_in}
 use Rattle.edits.specs.declared.command.Command.{Command}
-use Rattle.edits.specs.declared.command.Command.TheVariants.{Import, Remove, Patch, Burn, Wall}
+use Rattle.edits.specs.declared.command.Command.TheVariants.{Import, Remove, Patch, Burn, Wall, Sink, Unsink}
 use Rattle.edits.specs.Effect as effects
-use Rattle.catalogue.specs.Tiles.{added, without}
+use Rattle.catalogue.specs.Tiles.{added, without, with_sinks}
+use Rattle.edits.specs.Sinks.{with_point, sunk_at}
 use Rattle.edits.specs.Effect.{effect, edited, patched, burnt, walled, is_named, is_repeated, is_depth, is_box, has_void, is_in_box, is_void_at, fault_at, first_fault, unless_fault}
 use Rattle.plain.specs.Answers.{refusal_of}
 use Rattle.plain.specs.Changes.{change_of, FitsAll}
@@ -53,6 +55,20 @@ accepted_import k m c bytes h =
 
 pub accepted_remove : (k : ℕ) (m : Mosaic) (c : Corner) → refusal_of (effect k m (Remove c)) ≡ None → effect k m (Remove c) ≡ Ok (without c m)
 accepted_remove k m c h = (pass (not (is_present m c)) NoTile (Ok (without c m)) h).2
+
+pub accepted_sink : (h : Height) (m : Mosaic) (p : Point) → refusal_of (sunk_at h p m) ≡ None → sunk_at h p m ≡ Ok (with_sinks (with_point p m.sinks) m)
+accepted_sink Outside m p h = absurd (some_not_none h)
+accepted_sink Void m p h = absurd (some_not_none h)
+accepted_sink (At z) m p h =
+    let new : Result Mosaic Refusal = Ok (with_sinks (with_point p m.sinks) m) in
+    let second = cond (not (nat_lt (length m.sinks) most_sinks)) (Err SinksFull) new in
+    let one = pass (is_sink m p) SinkThere second h in
+    let two = pass (not (nat_lt (length m.sinks) most_sinks)) SinksFull new one.1 in
+    one.2 ∙ two.2
+
+pub accepted_unsink : (b : Bool) (new : Mosaic) → refusal_of (cond b (Ok new) (Err NoSink)) ≡ None → cond b (Ok new) (Err NoSink) ≡ Ok new
+accepted_unsink true new h = refl
+accepted_unsink false new h = absurd (some_not_none h)
 
 sample_fits : (samples : List ℤ) (i : ℕ) → All IsSample samples → IsSample (get_or samples i void)
 sample_fits samples i all = elim (cases_lt i (length samples)) [
@@ -123,6 +139,8 @@ lowered_fits h depth k low deep = (omega (arith, ints), omega (arith, ints, k.1)
 pub accepted_fits : (k : ℕ) (m : Mosaic) (c : Command) → IsMosaic m → refusal_of (effect k m c) ≡ None → FitsAll m c
 accepted_fits k m (Import c bytes) w h p s fits = fits
 accepted_fits k m (Remove c) w h p s fits = fits
+accepted_fits k m (Sink q) w h p s fits = fits
+accepted_fits k m (Unsink q) w h p s fits = fits
 accepted_fits k m (Patch from to height) w h p s fits =
     let one = pass (not (effects.is_height height)) BadHeight _ h in
     cond_both (is_in_box from to p && is_void_at m p) height s IsSample (λ _. in_range height (not-false (effects.is_height height) one.0)) (λ _. fits)
@@ -142,10 +160,12 @@ accepted_fits k m (Wall height points) w h p s fits =
 
 -- and its effect is that every sample changes
 pub accepted_edit : (k : ℕ) (m : Mosaic) (c : Command) → refusal_of (effect k m c) ≡ None →
-    ((d : Corner) (bytes : List ℕ) → c ≡ Import d bytes → ⊥) → ((d : Corner) → c ≡ Remove d → ⊥) → effect k m c ≡ Ok (edited (change_of m c) m)
-accepted_edit k m (Import c bytes) h no_import no_remove = absurd (no_import c bytes refl)
-accepted_edit k m (Remove c) h no_import no_remove = absurd (no_remove c refl)
-accepted_edit k m (Patch from to height) h no_import no_remove =
+    ((d : Corner) (bytes : List ℕ) → c ≡ Import d bytes → ⊥) → ((d : Corner) → c ≡ Remove d → ⊥) → ((q : Point) → c ≡ Sink q → ⊥) → ((q : Point) → c ≡ Unsink q → ⊥) → effect k m c ≡ Ok (edited (change_of m c) m)
+accepted_edit k m (Import c bytes) h no_import no_remove no_sink no_unsink = absurd (no_import c bytes refl)
+accepted_edit k m (Remove c) h no_import no_remove no_sink no_unsink = absurd (no_remove c refl)
+accepted_edit k m (Sink q) h no_import no_remove no_sink no_unsink = absurd (no_sink q refl)
+accepted_edit k m (Unsink q) h no_import no_remove no_sink no_unsink = absurd (no_unsink q refl)
+accepted_edit k m (Patch from to height) h no_import no_remove no_sink no_unsink =
     let new : Result Mosaic Refusal = Ok (patched from to height m) in
     let third = cond (not (has_void m from to)) (Err NothingVoid) new in
     let second = cond (not (is_box m.side from to)) (Err BadBox) third in
@@ -153,14 +173,14 @@ accepted_edit k m (Patch from to height) h no_import no_remove =
     let two = pass (not (is_box m.side from to)) BadBox third one.1 in
     let three = pass (not (has_void m from to)) NothingVoid new two.1 in
     one.2 ∙ two.2 ∙ three.2
-accepted_edit k m (Burn depth points) h no_import no_remove =
+accepted_edit k m (Burn depth points) h no_import no_remove no_sink no_unsink =
     let third = unless_fault (first_fault m depth points.items) (burnt depth points.items m) in
     let second = cond (is_repeated points.items) (Err Repeated) third in
     let one = pass (not (is_depth depth)) BadDepth second h in
     let two = pass (is_repeated points.items) Repeated third one.1 in
     let three = no_fault (first_fault m depth points.items) (burnt depth points.items m) two.1 in
     one.2 ∙ two.2 ∙ three.1
-accepted_edit k m (Wall height points) h no_import no_remove =
+accepted_edit k m (Wall height points) h no_import no_remove no_sink no_unsink =
     let third = unless_fault (first_fault m (pos 0) points.items) (walled height points.items m) in
     let second = cond (is_repeated points.items) (Err Repeated) third in
     let one = pass (not (effects.is_height height)) BadHeight second h in

@@ -15,6 +15,8 @@ use Rattle.lattice.specs.Mosaic.{Tile, Mosaic, IsSample}
 use Rattle.lattice.specs.Height.{height_of}
 use Rattle.hgt.specs.Bytes.{sample_of, samples_in}
 use Rattle.catalogue.specs.Tiles.{with_tile}
+use Rattle.lattice.specs.Points.{is_point_before}
+use Rattle.edits.specs.Sinks.{with_point}
 use Rattle.edits.specs.Effect.{changed_from, is_named, is_repeated, is_in_box, is_void_at, has_void_from, fault_at, first_fault, unless_fault}
 use Rattle.plain.specs.Answers.{refusal_of}
 
@@ -83,6 +85,18 @@ with_tile_at new (t ∷ rest) =
       | false ↦
           let next : 1 + place ≡ suc place = omega arith in
           subst (λ k. t ∷ with_tile new rest ≡ insert (t ∷ rest) k new) (sym next) (ap (λ later. t ∷ later) (with_tile_at new rest))
+    ]
+
+-- .. and so does a new point
+pub with_point_at : (p : Point) (points : List Point) → with_point p points ≡ insert points (position_or_len (λ q. is_point_before p q) points) p
+with_point_at p [] = refl
+with_point_at p (q ∷ rest) =
+    let place = position_or_len (λ r. is_point_before p r) rest in
+    elim (is_point_before p q) as (λ b. cond b (p ∷ (q ∷ rest)) (q ∷ with_point p rest) ≡ insert (q ∷ rest) (cond (not b) (1 + place) 0) p) [
+      | true ↦ refl
+      | false ↦
+          let next : 1 + place ≡ suc place = omega arith in
+          subst (λ k. q ∷ with_point p rest ≡ insert (q ∷ rest) k p) (sym next) (ap (λ later. q ∷ later) (with_point_at p rest))
     ]
 
 pub void_at : (m : Mosaic) (from to p q : Point) (r b : Bool) → r ≡ (is_in_box from to p && is_void_at m p) → p ≡ q → r ≡ b → (is_in_box from to q && is_void_at m q) ≡ b

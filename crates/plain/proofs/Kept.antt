@@ -1,5 +1,5 @@
 -- Each command leaves a mosaic of whole tiles in their order.
-use Rattle.std.proofs.Common.{◌≡◌, ◌∙◌, ℕ, ◌+◌, suc, ℤ, not, IsFalse, List, [], ◌∷◌, length, filter, map, refl, ap, ap₂}
+use Rattle.std.proofs.Common.{◌≡◌, ◌∙◌, ℕ, ◌+◌, suc, ℤ, not, IsFalse, List, [], ◌∷◌, length, filter, map, refl, ap}
 use Rattle.std.proofs.lemmas.List.Elements.{All-nil, All-cons, All-head, All-tail, All-filter, All-map, All-weaker}
 use Rattle.std.specs.List.{All}
 use Rattle.lattice.specs.Corners.{Corner, same_corner}
@@ -16,6 +16,7 @@ kept_without c m w = record {
   side_high = w.side_high;
   tiles = All-filter (λ t. not (same_corner t.corner c)) (IsTile m.side) m.tiles w.tiles;
   in_order = in_order (filter (λ t. not (same_corner t.corner c)) m.tiles) (ranked_filter (λ t. not (same_corner t.corner c)) m.tiles (ranked m.tiles w.in_order));
+  sinks = w.sinks;
 }
 
 pub kept_added : (t : Tile) (m : Mosaic) → IsMosaic m → IsTile m.side t → IsFalse (is_present m t.corner) → IsMosaic (added t m)
@@ -24,6 +25,7 @@ kept_added t m w whole absent = record {
   side_high = w.side_high;
   tiles = with_tile_all (IsTile m.side) t m.tiles whole w.tiles;
   in_order = in_order (with_tile t m.tiles) (ranked_with_tile t m.tiles absent (ranked m.tiles w.in_order));
+  sinks = w.sinks;
 }
 
 length-changed_from : (f : ℕ → ℤ → ℤ) (e : ℕ) (samples : List ℤ) → length (changed_from f e samples) ≡ length samples
@@ -44,6 +46,7 @@ kept_edited f m w fits = record {
   side_high = w.side_high;
   tiles = All-map (IsTile m.side) (edited_tile f m.side) m.tiles (All-weaker (IsTile m.side) (λ t. IsTile m.side (edited_tile f m.side t)) whole m.tiles w.tiles);
   in_order = in_order (map (edited_tile f m.side) m.tiles) (ranked_map (edited_tile f m.side) (λ t. refl) m.tiles (ranked m.tiles w.in_order));
+  sinks = w.sinks;
 }
   where
     whole : (t : Tile) → IsTile m.side t → IsTile m.side (edited_tile f m.side t)
@@ -52,9 +55,6 @@ kept_edited f m w fits = record {
       whole = length-changed_from (λ e s. f (point_of m.side t.corner e) s) 0 t.samples ∙ h.whole;
       samples = changed_samples (λ e s. f (point_of m.side t.corner e) s) (λ e s k. fits (point_of m.side t.corner e) s k) 0 t.samples h.samples;
     }
-
-pub same_mosaic : {n k : ℕ} {tiles others : List Tile} → n ≡ k → tiles ≡ others → ◌≡◌ {A = Mosaic} (record { side = n; tiles = tiles }) (record { side = k; tiles = others })
-same_mosaic a b = ap₂ (λ (v : ℕ) (ts : List Tile). record { side = v; tiles = ts }) a b
 
 pub same_tile : (c : Corner) {samples others : List ℤ} → samples ≡ others → ◌≡◌ {A = Tile} (record { corner = c; samples = samples }) (record { corner = c; samples = others })
 same_tile c e = ap (λ (s : List ℤ). record { corner = c; samples = s }) e

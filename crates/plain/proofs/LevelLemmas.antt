@@ -1,5 +1,5 @@
 -- Where nothing can be lowered any more, each level is the least crest of all ways out.
-use Rattle.std.proofs.Common.{◌≡◌, ◌∙◌, ℕ, zero, suc, ◌<◌, ℤ, pos, negsuc, ◌+ℤ◌, ◌≤ℤ◌, ◌<ℤ◌, int_le, nat_abs, true, false, cond, IsTrue, IsFalse, List, [], ◌∷◌, length, get_or, set, Option, Some, None, MatchOption, unwrap_or, nat_lt, ◌⊎◌, inl, inr, refl, sym, ap, ap₂, subst, arith, get_or-set_same, get_or-set_other, length-set, map}
+use Rattle.std.proofs.Common.{◌≡◌, ◌∙◌, ℕ, zero, suc, ◌<◌, ℤ, pos, negsuc, ◌+ℤ◌, ◌≤ℤ◌, ◌<ℤ◌, int_le, nat_abs, true, false, ◌||◌, cond, IsTrue, IsFalse, List, [], ◌∷◌, length, get_or, set, Option, Some, None, MatchOption, unwrap_or, nat_lt, ◌⊎◌, inl, inr, refl, sym, ap, ap₂, subst, arith, get_or-set_same, get_or-set_other, length-set, map}
 use Rattle.std.proofs.lemmas.Int.{ints, clamps}
 use Rattle.std.proofs.lemmas.List.{length-map}
 use Rattle.std.proofs.lemmas.Bool.{cases_Bool, cases_eq, and_parts, and_from, false≢true, false_from_ne_true}
@@ -13,7 +13,7 @@ use Rattle.lattice.specs.Terrain.{IsPath, crest, LeadsOut, IsFilledLevel}
 use Rattle.lattice.specs.Mosaic.{Mosaic, IsMosaic, IsSample, void}
 use Rattle.lattice.proofs.WaysOut.{way_out}
 use Rattle.lattice.specs.Height.{height_of}
-use Rattle.lattice.specs.Ground.{is_ground, is_adjacent, is_outlet, degree_of, metres, same_point, terrain}
+use Rattle.lattice.specs.Ground.{is_ground, is_adjacent, is_outlet, is_sink, degree_of, metres, same_point, terrain}
 use Rattle.flow_d8.specs.Drainage.{AreFilledLevels}
 use Rattle.plain.specs.declared.levels.Cell.{Cell}
 use Rattle.plain.specs.Levels.{level_of, level_in, starting_cell, lower_level, level_by}
@@ -235,7 +235,7 @@ module _ (m : Mosaic) (cells : List Cell) (i : ℕ) (d : Cell) (y : Cell) (l : �
       omega (arith, change, less)
 
 outlet_leads_out : (m : Mosaic) (p : Point) → is_outlet m p ≡ true → LeadsOut (terrain m) p []
-outlet_leads_out m p h = record { path = (and_parts (is_ground m p) (nat_lt (degree_of m p) 8) h).0; outlet = h }
+outlet_leads_out m p h = record { path = (and_parts (is_ground m p) (nat_lt (degree_of m p) 8 || is_sink m p) h).0; outlet = h }
 
 pub way_start : (m : Mosaic) (p : Point) → HasWay m (starting_cell m p)
 way_start m p l e = elim (cases_Bool (is_outlet m p)) [

@@ -4,15 +4,15 @@ use Rattle.lattice.specs.Corners.{Corner}
 use Rattle.lattice.specs.declared.point.Point.{Point}
 use Rattle.lattice.specs.declared.height.Height.TheVariants as height
 use Rattle.lattice.specs.declared.direction.Dir.TheVariants.{East, SouthEast, North, NorthEast}
-use Rattle.lattice.specs.declared.refusal.Refusal.TheVariants.{BadLength, TileThere, NoTile, Full, Outside, Void, NothingVoid, BadHeight, BadDepth, BadBox, Repeated, TooDeep}
+use Rattle.lattice.specs.declared.refusal.Refusal.TheVariants.{BadLength, TileThere, NoTile, Full, Outside, Void, NothingVoid, BadHeight, BadDepth, BadBox, Repeated, TooDeep, SinkThere, NoSink}
 use Rattle.lattice.specs.Mosaic.{Tile, Mosaic, empty_mosaic, samples_of, void}
 use Rattle.lattice.specs.Height.{height_of, disagrees}
 use Rattle.lattice.specs.Ground.{is_adjacent, is_outlet, degree_of}
 use Rattle.lattice.specs.Block.{rim_number}
 use Rattle.lattice.specs.Steps.{directions, north_of, east_of, code_of, is_steeper}
 use Rattle.edits.specs.declared.command.Command.{Command}
-use Rattle.edits.specs.declared.command.Command.TheVariants.{Import, Remove, Patch, Burn, Wall}
-use Rattle.catalogue.specs.Tiles.{without}
+use Rattle.edits.specs.declared.command.Command.TheVariants.{Import, Remove, Patch, Burn, Wall, Sink, Unsink}
+use Rattle.catalogue.specs.Tiles.{without, with_sinks}
 use Rattle.edits.specs.Effect.{effect, burnt, walled}
 
 abbrev pub place : ℤ → ℤ → Corner
@@ -34,10 +34,10 @@ all_of s = s ∷ s ∷ s ∷ s ∷ s ∷ s ∷ s ∷ s ∷ s ∷ []
 
 -- two tiles side by side
 abbrev pub pair : List ℤ → List ℤ → Mosaic
-pair west east = record { side = 3; tiles = tile (pos 0) (pos 0) west ∷ tile (pos 0) (pos 1) east ∷ [] }
+pair west east = record (empty_mosaic 3) { tiles = tile (pos 0) (pos 0) west ∷ tile (pos 0) (pos 1) east ∷ [] }
 
 abbrev pub single : List ℤ → Mosaic
-single samples = record { side = 3; tiles = tile (pos 0) (pos 0) samples ∷ [] }
+single samples = record (empty_mosaic 3) { tiles = tile (pos 0) (pos 0) samples ∷ [] }
 
 -- 7 and 8 on the seam of two tiles: the first one decides, until it is taken out
 abbrev pub seven_eight : Mosaic
@@ -109,7 +109,7 @@ basin_bytes = 0 ∷ 9 ∷ 0 ∷ 9 ∷ 0 ∷ 9 ∷ 0 ∷ 9 ∷ 0 ∷ 1 ∷ 0 ∷ 
 
 -- the same tile again to the south-west, before the first one
 abbrev pub two_basins : Mosaic
-two_basins = record { side = 3; tiles = tile (negsuc 0) (negsuc 0) basin ∷ tile (pos 0) (pos 0) basin ∷ [] }
+two_basins = record (empty_mosaic 3) { tiles = tile (negsuc 0) (negsuc 0) basin ∷ tile (pos 0) (pos 0) basin ∷ [] }
 
 -- what imports and removals give, and when they are refused
 abbrev pub ImportRows : Type 0
@@ -124,13 +124,26 @@ ImportRows =
 
 -- two tiles that meet at one point, (2, 2): no tile holds both (2, 1) and (3, 2)
 abbrev pub corner_to_corner : Mosaic
-corner_to_corner = record { side = 3; tiles = tile (pos 0) (pos 0) (all_of (pos 5)) ∷ tile (pos 1) (pos 1) (all_of (pos 1)) ∷ [] }
+corner_to_corner = record (empty_mosaic 3) { tiles = tile (pos 0) (pos 0) (all_of (pos 5)) ∷ tile (pos 1) (pos 1) (all_of (pos 1)) ∷ [] }
 
 abbrev pub AdjacencyRows : Type 0
 AdjacencyRows =
     (height_of corner_to_corner (at 2 2) ≡ height.At (pos 5)) × (is_adjacent corner_to_corner (at 2 1) (at 3 2) ≡ false)
     × (is_adjacent corner_to_corner (at 2 1) (at 2 2) ≡ true) × (degree_of corner_to_corner (at 2 2) ≡ 6)
     × (is_outlet corner_to_corner (at 2 2) ≡ true) × (is_outlet corner_to_corner (at 1 1) ≡ false)
+
+-- a sink is an outlet where it is ground, and not where it is void or outside; it outlasts its tile
+abbrev pub SinkRows : Type 0
+SinkRows =
+    (is_outlet (single basin) (at 1 1) ≡ false) × (is_outlet (with_sinks (at 1 1 ∷ []) (single basin)) (at 1 1) ≡ true)
+    × (is_outlet (with_sinks (at 1 1 ∷ []) hollow) (at 1 1) ≡ false) × (is_outlet (with_sinks (at 5 5 ∷ []) (single basin)) (at 5 5) ≡ false)
+    × (effect 4 (with_sinks (at 1 1 ∷ []) (single basin)) (Remove (place (pos 0) (pos 0))) ≡ Ok (with_sinks (at 1 1 ∷ []) (empty_mosaic 3)))
+    × (effect 4 (with_sinks (at 1 1 ∷ []) (empty_mosaic 3)) (Import (place (pos 0) (pos 0)) basin_bytes) ≡ Ok (with_sinks (at 1 1 ∷ []) (single basin)))
+    × (effect 4 (single basin) (Sink (at 1 1)) ≡ Ok (with_sinks (at 1 1 ∷ []) (single basin))) × (effect 4 (single basin) (Sink (at 5 5)) ≡ Err Outside)
+    × (effect 4 hollow (Sink (at 1 1)) ≡ Err Void) × (effect 4 (with_sinks (at 1 1 ∷ []) (single basin)) (Sink (at 1 1)) ≡ Err SinkThere)
+    × (effect 4 (with_sinks (at 1 1 ∷ []) (single basin)) (Sink (at 1 0)) ≡ Ok (with_sinks (at 1 0 ∷ at 1 1 ∷ []) (single basin)))
+    × (effect 4 (with_sinks (at 1 0 ∷ at 1 1 ∷ []) (single basin)) (Unsink (at 1 1)) ≡ Ok (with_sinks (at 1 0 ∷ []) (single basin)))
+    × (effect 4 (single basin) (Unsink (at 1 1)) ≡ Err NoSink)
 
 -- 8 straight is steeper than 10 on the diagonal, and 7 is not; the order of the eight steps
 abbrev pub StepRows : Type 0

@@ -1,6 +1,6 @@
 //! Ground, adjacency and outlets.
 ghost use Rattle.std.specs.Prelude.{◌≡◌, count_by};
-ghost use Rattle.lattice.specs.Ground.{is_ground, same_point, is_near, share_tile, is_adjacent, degree_of, is_outlet};
+ghost use Rattle.lattice.specs.Ground.{is_ground, same_point, is_near, share_tile, is_adjacent, degree_of, is_sink, is_outlet};
 
 use crate::Plain;
 use crate::seam::{height, sample_at};
@@ -47,11 +47,18 @@ fn count_adjacent(mosaic: &Plain, point: Point, steps: &[Step]) -> usize
         .count()
 }
 
-/// Whether water leaves the mosaic at the point: a ground point with fewer than eight adjacent points.
+/// Whether water leaves the mosaic at the point: a ground point with fewer than eight adjacent points, or one that is
+/// declared a sink.
 pub fn is_outlet(mosaic: &Plain, point: Point) -> bool
     ensures { result ≡ is_outlet mosaic.now point }
 {
-    is_ground(mosaic, point) && degree(mosaic, point) < 8
+    is_ground(mosaic, point) && (degree(mosaic, point) < 8 || is_sink(mosaic, point))
+}
+
+pub(crate) fn is_sink(mosaic: &Plain, point: Point) -> bool
+    ensures { result ≡ is_sink mosaic.now point }
+{
+    mosaic.sinks().contains(&point)
 }
 
 pub(crate) fn is_same(point: Point, other: Point) -> bool

@@ -18,12 +18,14 @@ pub(crate) fn edited(alloc: Global, mosaic: &Plain, command: &Command) -> Result
     requires { FitsAll mosaic.now command.now }
     ensures { IfOk result (λ m. m ≡ edited (change_of mosaic.now command.now) mosaic.now) }
 {
+    // Its tiles are whole, and so are those that come of them.
+    let _side = mosaic.side();
     let mut tiles = Vec::new(alloc);
     for tile in mosaic.tiles() {
         let samples = edited_samples(alloc, mosaic, command, tile)?;
         tiles.push(PlainTile::new(tile.corner(), samples))?;
     }
-    Ok(Plain::with_tiles(mosaic.side(), tiles))
+    mosaic.with_tiles(alloc, tiles)
 }
 
 fn edited_samples(
@@ -82,7 +84,10 @@ fn change(mosaic: &Plain, command: &Command, point: Point, sample: i16) -> i64
                 i64::from(sample)
             }
         }
-        Command::Import { .. } | Command::Remove { .. } => i64::from(sample),
+        Command::Import { .. }
+        | Command::Remove { .. }
+        | Command::Sink { .. }
+        | Command::Unsink { .. } => i64::from(sample),
     }
 }
 

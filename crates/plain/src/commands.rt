@@ -12,6 +12,7 @@ ghost use Rattle.edits.specs.Effect.{effect, is_height, is_depth, is_repeated, i
 
 use crate::change::{at_most, edited, is_named, is_void_in_box, lowered};
 use crate::seam::height;
+use crate::sinking::{refusal_of_sink, refusal_of_unsink, sunk, unsunk};
 use crate::{Plain, PlainTile};
 use edits::Command;
 use lattice::{Corner, Height, Point, Refusal, point_at};
@@ -58,6 +59,8 @@ fn refusal(capacity: u32, mosaic: &Plain, command: &Command) -> Option<Refusal>
                 Some(Refusal::BadHeight)
             }
         }
+        Command::Sink { point } => refusal_of_sink(mosaic, *point),
+        Command::Unsink { point } => refusal_of_unsink(mosaic, *point),
     }
 }
 
@@ -125,6 +128,8 @@ fn accepted(
     match command {
         Command::Import { corner, bytes } => imported(alloc, mosaic, *corner, bytes.as_slice()),
         Command::Remove { corner } => removed(alloc, mosaic, *corner),
+        Command::Sink { point } => sunk(alloc, mosaic, *point),
+        Command::Unsink { point } => unsunk(alloc, mosaic, *point),
         _ => edited(alloc, mosaic, command),
     }
 }
@@ -139,9 +144,11 @@ fn imported(
     requires absent { IsFalse (is_present mosaic.now corner) }
     ensures { IfOk result (λ m. m ≡ added (record { corner = corner; samples = samples_in bytes.now }) mosaic.now) }
 {
+    // Its tiles are whole, and the new one is.
+    let _side = mosaic.side();
     let tile = tile_of(alloc, corner, bytes)?;
     let tiles = with_tile(alloc, tile, mosaic.tiles())?;
-    Ok(Plain::with_tiles(mosaic.side(), tiles))
+    mosaic.with_tiles(alloc, tiles)
 }
 
 fn tile_of(alloc: Global, corner: Corner, bytes: &[u8]) -> Result<PlainTile, AllocError>
@@ -186,13 +193,15 @@ fn place_of(corner: Corner, tiles: &[PlainTile]) -> usize
 fn removed(alloc: Global, mosaic: &Plain, corner: Corner) -> Result<Plain, AllocError>
     ensures { IfOk result (λ m. m ≡ without corner mosaic.now) }
 {
+    // The tiles that stay are whole and in order.
+    let _side = mosaic.side();
     let mut tiles = Vec::new(alloc);
     for tile in mosaic.tiles() {
         if !is_same_corner(tile.corner(), corner) {
             tiles.push(tile.copy(alloc)?)?;
         }
     }
-    Ok(Plain::with_tiles(mosaic.side(), tiles))
+    mosaic.with_tiles(alloc, tiles)
 }
 
 // The samples that HGT bytes stand for.

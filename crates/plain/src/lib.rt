@@ -16,6 +16,8 @@ mod points;
 mod rows;
 mod runs;
 mod seam;
+mod sinking;
+mod sinks;
 
 pub use adjacency::{degree, is_adjacent, is_ground, is_outlet};
 pub use commands::effect;
@@ -26,7 +28,7 @@ pub use mosaic::{Plain, PlainTile};
 pub use paths::flow_path;
 pub use rows::{
     adjacency_rows, depth_rows, edit_rows, import_rows, patch_rows, refusal_rows, rim_rows,
-    seam_rows, step_rows, void_rows,
+    seam_rows, sink_rows, step_rows, void_rows,
 };
 pub use runs::watershed;
 pub use seam::{disagrees, height};

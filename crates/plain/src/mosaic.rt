@@ -1,9 +1,11 @@
 //! A mosaic as a list of tiles.
-ghost use Rattle.std.specs.Prelude.{◌≡◌, All, IfOk, IsTrue, MatchOption};
+ghost use Rattle.std.specs.Prelude.{◌≡◌, ◌↔◌, All, IfOk, IsTrue, IsFalse, MatchOption};
 ghost use Rattle.lattice.specs.Corners.{is_corner};
-ghost use Rattle.lattice.specs.Mosaic.{Tile, IsTile, IsMosaic, empty_mosaic, samples_of};
+ghost use Rattle.lattice.specs.Mosaic.{Tile, IsTile, IsMosaic, AreSinks, empty_mosaic, samples_of};
+ghost use Rattle.catalogue.specs.Tiles.{with_sinks};
 
-use lattice::{Corner, Side};
+use crate::sinks::are_sinks;
+use lattice::{Corner, Point, Side};
 use std::alloc::{AllocError, Global};
 use std::marker::Model;
 
@@ -55,11 +57,13 @@ impl PlainTile {
     }
 }
 
-/// A mosaic: its present tiles in their order, by rising latitude, then rising longitude.
+/// A mosaic: its present tiles in their order, by rising latitude, then rising longitude, and its declared sinks, by rising
+/// y, then rising x.
 #[derive(Drop)]
 pub struct Plain {
     side: Side,
     tiles: Vec<PlainTile>,
+    sinks: Vec<Point>,
 }
 
 impl Model for Plain {
@@ -67,13 +71,13 @@ impl Model for Plain {
 
     ghost Value = { Mosaic };
 
-    ghost view = { λ m. record { side = m.side; tiles = m.tiles.items } };
+    ghost view = { λ m. record { side = m.side; tiles = m.tiles.items; sinks = m.sinks.items } };
 
-    ghost invariant = { λ m. IsMosaic (record { side = m.side; tiles = m.tiles.items }) };
+    ghost invariant = { λ m. IsMosaic (record { side = m.side; tiles = m.tiles.items; sinks = m.sinks.items }) };
 }
 
 impl Plain {
-    /// The mosaic with no tile; takes no memory.
+    /// The mosaic with no tile and no sink; takes no memory.
     pub fn new(alloc: Global, side: Side) -> Plain
         ensures { result ≡ empty_mosaic side }
     {
@@ -81,14 +85,41 @@ impl Plain {
         Plain {
             side,
             tiles: Vec::new(alloc),
+            sinks: Vec::new(alloc),
         }
     }
 
-    pub(crate) fn with_tiles(side: Side, tiles: Vec<PlainTile>) -> Plain
-        requires { IsMosaic (record { side = side; tiles = tiles.items }) }
-        ensures { result ≡ record { side = side; tiles = tiles.items } }
+    // The same with these tiles in place of its own.
+    pub(crate) fn with_tiles(
+        &self,
+        alloc: Global,
+        tiles: Vec<PlainTile>,
+    ) -> Result<Plain, AllocError>
+        requires { IsMosaic (record self.now { tiles = tiles.items }) }
+        ensures { IfOk result (λ m. m ≡ record self.now { tiles = tiles.items }) }
     {
-        Plain { side, tiles }
+        let sinks = self.sinks.to_vec(alloc)?;
+        Ok(Plain {
+            side: self.side,
+            tiles,
+            sinks,
+        })
+    }
+
+    // The same with these sinks in place of its own.
+    pub(crate) fn with_sinks(&self, alloc: Global, sinks: Vec<Point>) -> Result<Plain, AllocError>
+        requires { AreSinks self.now.side sinks.items }
+        ensures { IfOk result (λ m. m ≡ with_sinks sinks.items self.now) }
+    {
+        let mut tiles = Vec::new(alloc);
+        for tile in &self.tiles {
+            tiles.push(tile.copy(alloc)?)?;
+        }
+        Ok(Plain {
+            side: self.side,
+            tiles,
+            sinks,
+        })
     }
 
     pub fn side(&self) -> Side
@@ -104,6 +135,28 @@ impl Plain {
         ensures whole { All (IsTile self.now.side) self.now.tiles }
     {
         &self.tiles
+    }
+
+    /// The points that are declared sinks, in their order.
+    pub fn sinks(&self) -> &[Point]
+        ensures value { result.now ≡ self.now.sinks }
+        ensures valid { AreSinks self.now.side self.now.sinks }
+    {
+        &self.sinks
+    }
+
+    /// Declares these sinks and no others, where they can be the sinks of a mosaic: in order, no point twice, at most 16,
+    /// each in the tile of some corner. Says whether it did.
+    pub fn declare(&mut self, sinks: Vec<Point>) -> bool
+        ensures exactly { IsTrue result ↔ AreSinks self.old.side sinks.items }
+        ensures declared { IsTrue result → self.new ≡ with_sinks sinks.items self.old }
+        ensures unchanged { IsFalse result → self.new ≡ self.old }
+    {
+        let are = are_sinks(self.side, &sinks);
+        if are {
+            self.sinks = sinks;
+        }
+        are
     }
 
     /// The samples of the tile with this corner, where it is present.

@@ -1,5 +1,5 @@
 //! Worked rows that the definitions compute: each call does nothing, and its contract is the rows.
-ghost use Rattle.plain.specs.Rows.{ImportRows, SeamRows, EditRows, VoidRows, PatchRows, RefusalRows, DepthRows, AdjacencyRows, StepRows, RimRows};
+ghost use Rattle.plain.specs.Rows.{ImportRows, SeamRows, EditRows, VoidRows, PatchRows, RefusalRows, DepthRows, AdjacencyRows, SinkRows, StepRows, RimRows};
 
 /// What imports and removals give, and when they are refused.
 pub fn import_rows()
@@ -39,6 +39,11 @@ pub fn depth_rows()
 /// Tiles that meet at one point: which points are adjacent, and where water leaves.
 pub fn adjacency_rows()
     ensures { AdjacencyRows }
+{}
+
+/// Where a declared sink is an outlet, that it stays where its tile goes and comes again, and how one comes and goes.
+pub fn sink_rows()
+    ensures { SinkRows }
 {}
 
 /// Which drop is steeper, and the order of the eight steps.

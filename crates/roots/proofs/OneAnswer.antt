@@ -4,8 +4,8 @@ use Rattle.std.proofs.lemmas.Bool.Decides.{nat_tests}
 use Rattle.disk.specs.Disk.{Image}
 use Rattle.lattice.specs.declared.refusal.Refusal.{Refusal}
 use Rattle.lattice.specs.declared.refusal.Refusal.TheVariants as refusal
-use Rattle.page_codec.specs.Roots.{RootValue}
-use Rattle.page_codec.specs.Sizes.{sectors_of}
+use Rattle.page_codec.specs.Roots.{RootValue, format_of}
+use Rattle.page_codec.specs.Sizes.{sectors_asked}
 use Rattle.page_codec.specs.declared.damaged.Damaged.{Damaged}
 use Rattle.page_codec.specs.declared.damaged.Damaged.TheVariants.{Magic, Version, Rule}
 use Rattle.page_codec.proofs.RootBytes.{same_roots, root_has_magic, root_has_version}
@@ -125,16 +125,16 @@ chosen_found root None (Some (Ok b)) e = (B, false, (ap (λ (r : Result RootValu
     back (Err why) = Err Magic
 chosen_found root (Some (Ok a)) (Some (Ok b)) e = let two = chosen_two a b root e in (two.0, true, two.1)
 
-fitting_ok : (sectors : ℕ) (root : RootValue) (x : Result RootValue Refusal) → Ok root ≡ fitting sectors x → (x ≡ Ok root) × (sectors_of root.side root.capacity ≤ sectors)
+fitting_ok : (sectors : ℕ) (root : RootValue) (x : Result RootValue Refusal) → Ok root ≡ fitting sectors x → (x ≡ Ok root) × (sectors_asked (format_of root) ≤ sectors)
 fitting_ok sectors root (Err why) e = absurd (cc e)
-fitting_ok sectors root (Ok r) e = go (nat_lt sectors (sectors_of r.side r.capacity)) refl e
+fitting_ok sectors root (Ok r) e = go (nat_lt sectors (sectors_asked (format_of r))) refl e
   where
-    go : (p : Bool) → nat_lt sectors (sectors_of r.side r.capacity) ≡ p → Ok root ≡ (if p then Err refusal.TooSmall else Ok r) → (let x : Result RootValue Refusal = Ok r in x ≡ Ok root) × (sectors_of root.side root.capacity ≤ sectors)
+    go : (p : Bool) → nat_lt sectors (sectors_asked (format_of r)) ≡ p → Ok root ≡ (if p then Err refusal.TooSmall else Ok r) → (let x : Result RootValue Refusal = Ok r in x ≡ Ok root) × (sectors_asked (format_of root) ≤ sectors)
     go true is e = absurd (cc e)
     go false is e =
         let same : r ≡ root = cc e in
-        let le : sectors_of r.side r.capacity ≤ sectors = grind (arith, nat_tests, is) in
-        (sym e, subst (λ (q : RootValue). sectors_of q.side q.capacity ≤ sectors) same le)
+        let le : sectors_asked (format_of r) ≤ sectors = grind (arith, nat_tests, is) in
+        (sym e, subst (λ (q : RootValue). sectors_asked (format_of q) ≤ sectors) same le)
 
 opened_holds : (sectors : ℕ) (image : Image) (root : RootValue) → OpensAs sectors image (Ok root) → HoldsStore sectors image root
 opened_holds sectors image root (inl h) = absurd (cc h.1)
@@ -161,7 +161,7 @@ holds_opened sectors image root h =
     let held = holds_found h.0.0 root image h.0.1 in
     let is = chosen_is h.0.0 held.4.0 root held.0 held.1 held.4.1 in
     let large : 4 ≤ sectors = omega (arith, h.1) in
-    inr (large, (held.0, held.1, held.2, held.3, sym (ap (fitting sectors) is ∙ fits sectors (sectors_of root.side root.capacity) root h.1)))
+    inr (large, (held.0, held.1, held.2, held.3, sym (ap (fitting sectors) is ∙ fits sectors (sectors_asked (format_of root)) root h.1)))
 
 pub stores_open : StoresOpen
 stores_open sectors image root = (opened_holds sectors image root, holds_opened sectors image root)

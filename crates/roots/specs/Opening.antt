@@ -3,8 +3,8 @@ use Rattle.std.specs.Prelude.{◌≡◌, ◌⊎◌, ◌↔◌, ℕ, ◌≤◌, �
 use Rattle.disk.specs.Disk.{Image}
 use Rattle.lattice.specs.declared.refusal.Refusal.{Refusal}
 use Rattle.lattice.specs.declared.refusal.Refusal.TheVariants as refusal
-use Rattle.page_codec.specs.Roots.{RootValue, HasMagic, HasKnownVersion}
-use Rattle.page_codec.specs.Sizes.{sectors_of}
+use Rattle.page_codec.specs.Roots.{RootValue, format_of, HasMagic, HasKnownVersion}
+use Rattle.page_codec.specs.Sizes.{sectors_asked}
 use Rattle.page_codec.specs.declared.damaged.Damaged.{Damaged}
 use Rattle.page_codec.specs.declared.damaged.Damaged.TheVariants.{Magic, Version, Rule}
 use Rattle.roots.specs.declared.slot.Slot.{Slot}
@@ -46,10 +46,10 @@ chosen (Some (Ok a)) None = Ok a
 chosen None (Some (Ok b)) = Ok b
 chosen (Some (Ok a)) (Some (Ok b)) = later a b
 
--- the last test: a store of the current root's side and capacity needs no more sectors than there are
+-- the last test: a store of the current root's format needs no more sectors than there are
 abbrev pub fitting : ℕ → Result RootValue Refusal → Result RootValue Refusal
 fitting sectors (Err why) = Err why
-fitting sectors (Ok root) = if nat_lt sectors (sectors_of root.side root.capacity) then Err refusal.TooSmall else Ok root
+fitting sectors (Ok root) = if nat_lt sectors (sectors_asked (format_of root)) then Err refusal.TooSmall else Ok root
 
 -- what opening answers on a disk of so many sectors that reads as this image, where no call fails
 abbrev pub OpensAs : ℕ → Image → Result RootValue Refusal → Type 0
@@ -64,7 +64,7 @@ IsRefusalOfOpening why =
 
 -- the image has this current root, and sectors enough for it
 abbrev pub HoldsStore : ℕ → Image → RootValue → Type 0
-HoldsStore sectors image root = IsCurrent root image × (sectors_of root.side root.capacity ≤ sectors)
+HoldsStore sectors image root = IsCurrent root image × (sectors_asked (format_of root) ≤ sectors)
 
 -- there is one answer
 abbrev pub OpeningAnswersOnce : Type 0

@@ -3,7 +3,8 @@ ghost use Rattle.std.specs.Prelude.{◌≡◌, ◌≤◌, ◌<◌, ◌⊎◌, tr
 ghost use Rattle.disk.specs.Disk.{Only, HasRisen};
 ghost use Rattle.disk.specs.Stops.{AddsNothing, HasCause};
 ghost use Rattle.lattice.specs.declared.refusal.Refusal.TheVariants.{Device};
-ghost use Rattle.page_codec.specs.Sizes.{sectors_of};
+ghost use Rattle.page_codec.specs.Roots.{format_of};
+ghost use Rattle.page_codec.specs.Sizes.{sectors_asked};
 ghost use Rattle.roots.specs.Slots.{is_open, gate, root_sector, IsAt};
 ghost use Rattle.roots.specs.Opening.{ReadsAs, Holds, refusal_of, later, chosen, fitting, OpensAs, IsRefusalOfOpening};
 ghost use Rattle.roots.specs.declared.slot.Slot.TheVariants.{A, B};
@@ -13,7 +14,7 @@ use crate::faults::device;
 use crate::slot::{Slot, is_open_gate};
 use disk::{Disk, Fault};
 use lattice::Refusal;
-use page_codec::{Damaged, Root, sectors_needed};
+use page_codec::{Damaged, Root};
 
 // The sectors of the gates and the roots.
 const SLOT_SECTORS: u32 = 4;
@@ -152,11 +153,11 @@ fn judge(
     Ok(found)
 }
 
-// The sectors of a store of this root's side and capacity.
+// The sectors that a store of this root's format asks for.
 fn sectors_for(root: &Root) -> u32
-    ensures { result ≡ sectors_of root.now.side root.now.capacity }
+    ensures { result ≡ sectors_asked (format_of root.now) }
 {
-    sectors_needed(root.side(), root.capacity())
+    root.format().sectors()
 }
 
 /// Syncs, and then only reads. A disk without room for the slots isn't read.

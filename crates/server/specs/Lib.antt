@@ -1,2 +1,6 @@
 pub mod CommandLine
+pub mod Endings
+pub mod OnDisks
+pub mod Paths
+pub mod Program
 pub mod Report

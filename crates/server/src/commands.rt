@@ -1,28 +1,24 @@
 //! The program `mosaic`.
-ghost use Rattle.std.specs.Prelude.{◌≡◌, ◌≤◌, map, SomeIff};
+ghost use Rattle.std.specs.Prelude.{◌≡◌, ◌≤◌, ℕ, map};
+ghost use Rattle.disk.specs.Disk.{Image};
 ghost use Rattle.lines.specs.Replies.{refusal_text};
-ghost use Rattle.server.specs.CommandLine.{Begins, EndsFlushing, EndsReplying, EndsServing, Runs, RunsAs, RunsTable, fault_line};
+ghost use Rattle.server.specs.Endings.{Begins};
+ghost use Rattle.server.specs.Program.{EndsServing, Runs, RunsAs, RunsTable};
 
 use crate::arguments::{ArgumentFault, Arguments};
-use crate::files::{check_file, format_file, import_file, serve_file};
-use hgt::side_ok;
-use lattice::{Refusal, Side};
-use lines::{Reply, write_bytes};
-use serving::{ServeFault, serve};
+use crate::endings::{BAD_WORDS, REFUSED, end_session, end_with, refuse};
+use crate::files::{
+    check_in_file, import_to_file, make_in_file, new_disk, open_disk, serve_on_file, tell_fault,
+    tile_side,
+};
+use hgt::file_name;
+use lattice::{MOST_TILES, Refusal, Side};
+use serving::serve;
 use std::alloc::Global;
 use std::convert::AsStr;
+use std::fs::File;
 use std::io::{Read, Write};
 use table_engine::TableEngine;
-
-/// The most tiles that a mosaic takes.
-pub const MOST_TILES: u32 = 240;
-
-/// The exit statuses: done; refused, or a stream failed; other words than the program takes.
-const DONE: u8 = 0;
-
-pub const REFUSED: u8 = 1;
-
-const BAD_WORDS: u8 = 2;
 
 /// Does what the words after the program's own name ask for, and answers the exit status.
 ///
@@ -30,13 +26,16 @@ const BAD_WORDS: u8 = 2;
 /// `serve PATH` serves lines on it; `check PATH` reports on it; `table SIDE CAPACITY` serves lines on an empty mosaic held
 /// in memory. Status 1 comes with one line that says what was refused or which file or stream failed, status 2 with the
 /// line `mosaic: bad arguments`.
+///
+/// What it does on a file is said for whatever images the file's reads give.
 pub fn program<S: AsStr, R: Read, W: Write>(
     rt: &HostRuntime,
     words: &[S],
     reader: &mut R,
     writer: &mut W,
 ) -> u8
-    ensures { Runs (map S.text words.now) (R.remaining reader.old) (R.remaining reader.new) (W.contents writer.old) (W.contents writer.new) result }
+    ghost images: { ℕ → Image }
+    ensures { Runs images (map S.text words.now) (R.remaining reader.old) (R.remaining reader.new) (W.contents writer.old) (W.contents writer.new) result }
 {
     match Arguments::parse(rt.alloc(), words) {
         Ok(arguments) => run(rt, arguments, reader, writer),
@@ -52,18 +51,39 @@ fn run<R: Read, W: Write>(
     reader: &mut R,
     writer: &mut W,
 ) -> u8
-    ensures { RunsAs arguments.entry (R.remaining reader.old) (R.remaining reader.new) (W.contents writer.old) (W.contents writer.new) result }
+    ghost images: { ℕ → Image }
+    ensures { RunsAs images arguments.entry (R.remaining reader.old) (R.remaining reader.new) (W.contents writer.old) (W.contents writer.new) result }
 {
     match arguments {
         Arguments::Format {
             path,
             side,
             capacity,
-        } => format_file(rt, path, side, capacity, writer),
-        Arguments::Import { path, tile } => import_file(rt, path, tile, writer),
-        Arguments::Serve { path } => serve_file(rt, path, reader, writer),
+        } => match new_disk(rt, path, side, capacity) {
+            Ok(disk) => make_in_file(disk, side, capacity, writer).1,
+            Err(fault) => tell_fault(rt.alloc(), path, fault, writer),
+        },
+        Arguments::Import { path, tile } => {
+            let Ok(corner) = file_name(tile.as_bytes()) else {
+                return refuse(writer, Refusal::BadName);
+            };
+            match open_disk(rt, path) {
+                Ok(disk) => {
+                    let reader = File::open(rt, tile).ok();
+                    import_to_file(rt.alloc(), disk, corner, tile.as_bytes(), reader, writer).1
+                }
+                Err(fault) => tell_fault(rt.alloc(), path, fault, writer),
+            }
+        }
+        Arguments::Serve { path } => match open_disk(rt, path) {
+            Ok(disk) => serve_on_file(rt.alloc(), disk, reader, writer).1,
+            Err(fault) => tell_fault(rt.alloc(), path, fault, writer),
+        },
         Arguments::Table { side, capacity } => { table(rt.alloc(), side, capacity, reader, writer) }
-        Arguments::Check { path } => check_file(rt, path, writer),
+        Arguments::Check { path } => match open_disk(rt, path) {
+            Ok(disk) => check_in_file(rt.alloc(), disk, writer).1,
+            Err(fault) => tell_fault(rt.alloc(), path, fault, writer),
+        },
     }
 }
 
@@ -107,80 +127,6 @@ fn serve_table<R: Read, W: Write>(
     ensures { EndsServing side capacity (R.remaining reader.old) (R.remaining reader.new) (W.contents writer.old) (W.contents writer.new) result }
 {
     let mut engine = TableEngine::new(alloc, side, capacity);
-    match serve(alloc, reader, writer, &mut engine) {
-        Ok(()) => flush(writer),
-        Err(fault) => end_with(writer, fault_line(fault), REFUSED),
-    }
-}
-
-/// Writes a reply, and answers the exit status.
-pub fn reply<W: Write>(writer: &mut W, reply: Reply) -> u8
-    ensures { EndsReplying reply (W.contents writer.old) (W.contents writer.new) result }
-{
-    match reply.write(writer) {
-        Ok(()) => flush(writer),
-        Err(_) => end_with(writer, fault_line(ServeFault::Output), REFUSED),
-    }
-}
-
-/// Writes a reply of several lines, and answers the exit status.
-pub fn reply_text<W: Write>(writer: &mut W, text: &[u8]) -> u8
-    ensures { EndsReplying text.now (W.contents writer.old) (W.contents writer.new) result }
-{
-    match write_bytes(writer, text) {
-        Ok(()) => flush(writer),
-        Err(_) => end_with(writer, fault_line(ServeFault::Output), REFUSED),
-    }
-}
-
-/// Whether all has left, as an exit status.
-pub fn flush<W: Write>(writer: &mut W) -> u8
-    ensures { EndsFlushing (W.contents writer.old) (W.contents writer.new) result }
-{
-    match writer.flush() {
-        Ok(()) => DONE,
-        Err(_) => end_with(writer, fault_line(ServeFault::Output), REFUSED),
-    }
-}
-
-/// The line that tells which stream failed.
-pub fn fault_line(fault: ServeFault) -> &'static [u8]
-    ensures { result.now ≡ fault_line fault }
-{
-    match fault {
-        ServeFault::Input => b"mosaic: input fault\n",
-        ServeFault::Output => b"mosaic: output fault\n",
-    }
-}
-
-/// The side of so many samples, where tiles of it are taken.
-pub fn tile_side(samples: u32) -> Option<Side>
-    ensures { SomeIff result ((3 ≤ samples) × (samples ≤ 1201)) samples }
-{
-    if side_ok(samples) {
-        Side::new(samples)
-    } else {
-        None
-    }
-}
-
-/// Tells of a refusal, and answers the exit status.
-pub fn refuse<W: Write>(writer: &mut W, refusal: Refusal) -> u8
-    ensures status { result ≡ REFUSED }
-    ensures line { Begins (W.contents writer.old) (W.contents writer.new) (refusal_text refusal) }
-{
-    // The status tells of the refusal where the line doesn't come through.
-    let _ = Reply::refused(refusal).write(writer);
-    let _ = writer.flush();
-    REFUSED
-}
-
-/// Ends with a line of the program's own, which is tried once.
-pub fn end_with<W: Write>(writer: &mut W, line: &[u8], status: u8) -> u8
-    ensures status { result ≡ status }
-    ensures line { Begins (W.contents writer.old) (W.contents writer.new) line.now }
-{
-    let _ = write_bytes(writer, line);
-    let _ = writer.flush();
-    status
+    let served = serve(alloc, reader, writer, &mut engine);
+    end_session(writer, served)
 }

@@ -1,191 +1,187 @@
-//! The subcommands on a store's file.
-ghost use Rattle.std.specs.Prelude.{◌≡◌, ◌≤◌, ◌<◌, ◌++◌, IfOk};
-ghost use Rattle.lines.specs.Replies.{line_of};
-ghost use Rattle.server.specs.CommandLine.{EndsClosed, RunsCheck, RunsFormat, RunsImport, RunsServe, Tells};
+//! The store's file at a path: opened as a disk, and what a subcommand does on it.
+//!
+//! No contract sees what a file holds. So what is done to one is said for whatever images its reads may give: where each
+//! answer in the record of the file's calls is right for them, the file was an honest disk, and what holds of a store on
+//! such a disk holds of it.
+ghost use Rattle.std.specs.Prelude.{◌≡◌, ◌≤◌, ℕ, [], IfOk, IfErr, SomeIff};
+ghost use Rattle.disk.specs.Disk.{Image};
+ghost use Rattle.disk.specs.FileDisk.{calls_of, sectors_of};
+ghost use Rattle.disk.specs.FileWorlds.{giving};
+ghost use Rattle.page_codec.specs.Sizes.{sectors_of as least_sectors};
+ghost use Rattle.server.specs.OnDisks.{ChecksStore, ImportsTile, MakesStore, ServesLines, given_by};
+ghost use Rattle.server.specs.Paths.{IsTaken, MakesNone, TellsFault};
+ghost use Rattle.server.specs.declared.files.PathFault.TheVariants.{Closed};
 
-use crate::commands::{
-    MOST_TILES, REFUSED, end_with, fault_line, flush, refuse, reply, reply_text, tile_side,
-};
-use crate::reporting::report;
-use disk::FileDisk;
-use edits::{Bytes, Command};
-use hgt::file_name;
-use lattice::Refusal;
-use lines::Reply;
+use crate::disks::{check_store, import_tile, make_store, serve_store};
+use crate::endings::{refuse, tell};
+use disk::{FileDisk, World};
+use hgt::side_ok;
+use lattice::{Corner, MOST_TILES, Refusal, Side};
 use page_codec::sectors_needed;
-use serving::serve;
-use std::alloc::{AllocError, Global};
-use std::fs::File;
+use std::alloc::Global;
 use std::io::{ErrorKind, Read, Write};
 use std::marker::Brand;
-use store::Store;
 
-/// Why there is no store to work on.
-enum OpenFault {
-    /// The file can't be opened.
-    Closed,
-    /// What the file holds can't be opened as a store.
+/// Why there is no disk at a path to work on.
+#[derive(Clone, Copy, Debug, PartialEq, Eq)]
+pub enum PathFault {
+    /// No store of this side and capacity is made.
     Refused(Refusal),
+    /// There is something at the path already.
+    Exists,
+    /// The file can't be made or opened.
+    Closed,
 }
 
-/// Why there are no bytes of a tile.
-enum TileFault {
-    Unreadable,
-    NoMemory,
-}
-
-/// Makes a store's file of the least size, and formats it.
-pub fn format_file<W: Write>(
+/// Makes the file of a store, of the least size.
+pub fn new_disk(
     rt: &HostRuntime,
     path: &str,
     side: u32,
     capacity: u32,
-    writer: &mut W,
-) -> u8
-    ensures { RunsFormat path.now side capacity (W.contents writer.old) (W.contents writer.new) result }
+) -> Result<FileDisk<Brand>, PathFault>
+    ensures made { IfOk result (λ disk. IsTaken side capacity × (calls_of disk ≡ []) × (sectors_of disk ≡ least_sectors side capacity)) }
+    ensures none { IfErr result (MakesNone side capacity) }
 {
     let Some(samples) = tile_side(side) else {
-        return refuse(writer, Refusal::BadSide);
+        return Err(PathFault::Refused(Refusal::BadSide));
     };
     if capacity < 1 || capacity > MOST_TILES {
-        return refuse(writer, Refusal::BadCapacity);
+        return Err(PathFault::Refused(Refusal::BadCapacity));
     }
     match FileDisk::<Brand>::create(rt, path, sectors_needed(samples, capacity)) {
-        Ok(mut disk) => match Store::format(&mut disk, side, capacity) {
-            Ok(()) => reply(writer, Reply::number(0_u64)),
-            Err(refusal) => refuse(writer, refusal),
-        },
-        Err(error) if error.kind() == ErrorKind::AlreadyExists => {
-            tell(rt.alloc(), writer, b"mosaic: exists ", path)
-        }
-        Err(_) => tell(rt.alloc(), writer, b"mosaic: cannot open ", path),
+        Ok(disk) => Ok(disk),
+        Err(error) if error.kind() == ErrorKind::AlreadyExists => Err(PathFault::Exists),
+        Err(_) => Err(PathFault::Closed),
     }
 }
 
-/// Imports the HGT file at `tile` into the store at `path`.
-pub fn import_file<W: Write>(rt: &HostRuntime, path: &str, tile: &str, writer: &mut W) -> u8
-    ensures { RunsImport path.now tile.now (W.contents writer.old) (W.contents writer.new) result }
+/// Opens the file of a store.
+pub fn open_disk(rt: &HostRuntime, path: &str) -> Result<FileDisk<Brand>, PathFault>
+    ensures opened { IfOk result (λ disk. calls_of disk ≡ []) }
+    ensures none { IfErr result (λ fault. fault ≡ Closed) }
 {
-    let Ok(corner) = file_name(tile.as_bytes()) else {
-        return refuse(writer, Refusal::BadName);
-    };
-    let mut store = match open_file(rt, path) {
-        Ok(store) => store,
-        Err(fault) => return tell_closed(rt.alloc(), writer, path, fault),
-    };
-    let len = store.tile_side().file_bytes() as usize;
-    let bytes = match read_tile(rt, tile, len) {
-        Ok(bytes) => Bytes::new(bytes),
-        Err(TileFault::Unreadable) => {
-            return tell(rt.alloc(), writer, b"mosaic: cannot read ", tile);
-        }
-        Err(TileFault::NoMemory) => return refuse(writer, Refusal::NoMemory),
-    };
-    match store.apply(&Command::Import { corner, bytes }) {
-        Ok(count) => reply(writer, Reply::number(count)),
-        Err(refusal) => refuse(writer, refusal),
-    }
+    FileDisk::<Brand>::open(rt, path).map_err(|_| PathFault::Closed)
 }
 
-/// Serves lines on the store at `path`.
-pub fn serve_file<R: Read, W: Write>(
-    rt: &HostRuntime,
-    path: &str,
-    reader: &mut R,
-    writer: &mut W,
-) -> u8
-    ensures { RunsServe path.now (W.contents writer.old) (W.contents writer.new) result }
-{
-    let mut store = match open_file(rt, path) {
-        Ok(store) => store,
-        Err(fault) => return tell_closed(rt.alloc(), writer, path, fault),
-    };
-    match serve(rt.alloc(), reader, writer, &mut store) {
-        Ok(()) => flush(writer),
-        Err(fault) => end_with(writer, fault_line(fault), REFUSED),
-    }
-}
-
-/// Reports on the store at `path`: how many commands it accepted and commits it made, its tiles, and how many points of
-/// seams disagree.
-pub fn check_file<W: Write>(rt: &HostRuntime, path: &str, writer: &mut W) -> u8
-    ensures { RunsCheck path.now (W.contents writer.old) (W.contents writer.new) result }
-{
-    let mut store = match open_file(rt, path) {
-        Ok(store) => store,
-        Err(fault) => return tell_closed(rt.alloc(), writer, path, fault),
-    };
-    match report(rt.alloc(), &mut store) {
-        Ok(text) => reply_text(writer, text.as_slice()),
-        Err(refusal) => refuse(writer, refusal),
-    }
-}
-
-fn open_file(rt: &HostRuntime, path: &str) -> Result<Store<FileDisk<Brand>>, OpenFault> {
-    let Ok(disk) = FileDisk::<Brand>::open(rt, path) else {
-        return Err(OpenFault::Closed);
-    };
-    match Store::open(rt.alloc(), disk) {
-        Ok(store) => Ok(store),
-        Err(refused) => Err(OpenFault::Refused(refused.refusal)),
-    }
-}
-
-// Tells why there is no store to work on.
-fn tell_closed<W: Write>(alloc: Global, writer: &mut W, path: &str, fault: OpenFault) -> u8
-    ensures { EndsClosed path.now (W.contents writer.old) (W.contents writer.new) result }
+/// Tells why there is no disk at the path, and answers the exit status.
+pub fn tell_fault<W: Write>(alloc: Global, path: &str, fault: PathFault, writer: &mut W) -> u8
+    ensures { TellsFault path.now fault (W.contents writer.old) (W.contents writer.new) result }
 {
     match fault {
-        OpenFault::Closed => tell(alloc, writer, b"mosaic: cannot open ", path),
-        OpenFault::Refused(refusal) => refuse(writer, refusal),
+        PathFault::Refused(refusal) => refuse(writer, refusal),
+        PathFault::Exists => tell(alloc, writer, b"mosaic: exists ", path.as_bytes()),
+        PathFault::Closed => tell(alloc, writer, b"mosaic: cannot open ", path.as_bytes()),
     }
 }
 
-// The bytes of a file, or so many and one more where there are more.
-fn read_tile(rt: &HostRuntime, path: &str, len: usize) -> Result<Vec<u8>, TileFault>
-    requires { len < 4294967296 }
+/// The side of so many samples, where tiles of it are taken.
+pub fn tile_side(samples: u32) -> Option<Side>
+    ensures { SomeIff result ((3 ≤ samples) × (samples ≤ 1201)) samples }
 {
-    let Ok(mut file) = File::open(rt, path) else {
-        return Err(TileFault::Unreadable);
-    };
-    let Ok(mut bytes) = vec![in rt.alloc(); 0; len + 1] else {
-        return Err(TileFault::NoMemory);
-    };
-    let Some(count) = fill(&mut file, &mut bytes) else {
-        return Err(TileFault::Unreadable);
-    };
-    bytes.truncate(count);
-    Ok(bytes)
-}
-
-// Reads until the bytes are full or the reader is at its end, and answers how many were read.
-fn fill<R: Read>(reader: &mut R, bytes: &mut [u8]) -> Option<usize> {
-    let mut at = 0;
-    while at < bytes.len() {
-        match reader.read(&mut bytes[at..]) {
-            Ok(0) => return Some(at),
-            Ok(count) => at += count,
-            Err(_) => return None,
-        }
-    }
-    Some(at)
-}
-
-// Tells in one line what is wrong at a path.
-fn tell<W: Write>(alloc: Global, writer: &mut W, words: &[u8], path: &str) -> u8
-    ensures { Tells (words.now ++ path.now) (W.contents writer.old) (W.contents writer.new) result }
-{
-    match line_about(alloc, words, path) {
-        Ok(line) => end_with(writer, line.as_slice(), REFUSED),
-        Err(_) => refuse(writer, Refusal::NoMemory),
+    if side_ok(samples) {
+        Side::new(samples)
+    } else {
+        None
     }
 }
 
-fn line_about(alloc: Global, words: &[u8], path: &str) -> Result<Vec<u8>, AllocError>
-    ensures { IfOk result (λ line. line.items ≡ line_of (words.now ++ path.now)) }
+/// Makes a file a store without tiles, as `make_store` does on any disk.
+pub fn make_in_file<W: Write>(
+    disk: FileDisk<Brand>,
+    side: u32,
+    capacity: u32,
+    writer: &mut W,
+) -> (FileDisk<Brand>, u8)
+    ghost images: { ℕ → Image }
+    ensures { MakesStore (giving images) side capacity disk result.0 (W.contents writer.old) (W.contents writer.new) result.1 }
 {
-    let mut line = Vec::from_slice(alloc, words)?;
-    line.extend_from_slice(path.as_bytes())?;
-    line.push(b'\n')?;
-    Ok(line)
+    make_in_world::<Brand, W>(disk, side, capacity, writer)
+}
+
+/// Imports a tile into the store in a file, as `import_tile` does on any disk.
+pub fn import_to_file<R: Read + Drop, W: Write>(
+    alloc: Global,
+    disk: FileDisk<Brand>,
+    corner: Corner,
+    tile: &[u8],
+    reader: Option<R>,
+    writer: &mut W,
+) -> (FileDisk<Brand>, u8)
+    ghost images: { ℕ → Image }
+    ensures { ImportsTile (giving images) corner tile.now (given_by R.remaining reader) disk result.0 (W.contents writer.old) (W.contents writer.new) result.1 }
+{
+    import_in_world::<Brand, R, W>(alloc, disk, corner, tile, reader, writer)
+}
+
+/// Serves lines on the store in a file, as `serve_store` does on any disk.
+pub fn serve_on_file<R: Read, W: Write>(
+    alloc: Global,
+    disk: FileDisk<Brand>,
+    reader: &mut R,
+    writer: &mut W,
+) -> (FileDisk<Brand>, u8)
+    ghost images: { ℕ → Image }
+    ensures { ServesLines (giving images) disk result.0 (R.remaining reader.old) (R.remaining reader.new) (W.contents writer.old) (W.contents writer.new) result.1 }
+{
+    serve_in_world::<Brand, R, W>(alloc, disk, reader, writer)
+}
+
+/// Reports on the store in a file, as `check_store` does on any disk.
+pub fn check_in_file<W: Write>(
+    alloc: Global,
+    disk: FileDisk<Brand>,
+    writer: &mut W,
+) -> (FileDisk<Brand>, u8)
+    ghost images: { ℕ → Image }
+    ensures { ChecksStore (giving images) disk result.0 (W.contents writer.old) (W.contents writer.new) result.1 }
+{
+    check_in_world::<Brand, W>(alloc, disk, writer)
+}
+
+// Over any world the file is a disk like any other; the callers at `Brand` pick the images.
+
+fn make_in_world<V: World, W: Write>(
+    disk: FileDisk<V>,
+    side: u32,
+    capacity: u32,
+    writer: &mut W,
+) -> (FileDisk<V>, u8)
+    ensures { MakesStore (giving V.image) side capacity disk result.0 (W.contents writer.old) (W.contents writer.new) result.1 }
+{
+    make_store(disk, side, capacity, writer)
+}
+
+fn import_in_world<V: World, R: Read + Drop, W: Write>(
+    alloc: Global,
+    disk: FileDisk<V>,
+    corner: Corner,
+    tile: &[u8],
+    reader: Option<R>,
+    writer: &mut W,
+) -> (FileDisk<V>, u8)
+    ensures { ImportsTile (giving V.image) corner tile.now (given_by R.remaining reader) disk result.0 (W.contents writer.old) (W.contents writer.new) result.1 }
+{
+    import_tile(alloc, disk, corner, tile, reader, writer)
+}
+
+fn serve_in_world<V: World, R: Read, W: Write>(
+    alloc: Global,
+    disk: FileDisk<V>,
+    reader: &mut R,
+    writer: &mut W,
+) -> (FileDisk<V>, u8)
+    ensures { ServesLines (giving V.image) disk result.0 (R.remaining reader.old) (R.remaining reader.new) (W.contents writer.old) (W.contents writer.new) result.1 }
+{
+    serve_store(alloc, disk, reader, writer)
+}
+
+fn check_in_world<V: World, W: Write>(
+    alloc: Global,
+    disk: FileDisk<V>,
+    writer: &mut W,
+) -> (FileDisk<V>, u8)
+    ensures { ChecksStore (giving V.image) disk result.0 (W.contents writer.old) (W.contents writer.new) result.1 }
+{
+    check_store(alloc, disk, writer)
 }

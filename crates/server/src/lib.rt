@@ -5,11 +5,15 @@
 
 mod arguments;
 mod commands;
+mod disks;
+mod endings;
 mod files;
 mod reporting;
 
 pub use commands::{no_room, program};
+pub use disks::{check_store, import_tile, make_store, serve_store};
 pub use engine::Engine;
+pub use files::{check_in_file, import_to_file, make_in_file, serve_on_file};
 pub use reporting::report;
 pub use serving::{ServeFault, serve};
 pub use table_engine::TableEngine;

@@ -1,6 +1,6 @@
 -- What follows from the replies to items, one after another.
-use Rattle.std.proofs.Common.{◌≡◌, ℕ, ◌≤◌, List, [], ◌∷◌, ◌++◌, refl, sym, ap, ◌∙◌, subst, arith}
-use Rattle.std.specs.Prelude.{Bool, map, Option, Result, Ok, Err}
+use Rattle.std.proofs.Common.{◌≡◌, ℕ, List, [], ◌∷◌, ◌++◌, refl, ◌∙◌, subst, arith}
+use Rattle.std.specs.Prelude.{map, Option, Result, Ok, Err}
 use Rattle.calls.specs.Engines.{AreAt, LeaveLater}
 use Rattle.calls.specs.Events.{Happens}
 use Rattle.calls.specs.Runs.{last_of}
@@ -12,28 +12,25 @@ use Rattle.serving.specs.declared.session.ServeFault.{ServeFault}
 use Rattle.serving.specs.declared.session.ServeFault.TheVariants.{Input, Output}
 use Rattle.serving.specs.Answers.{Replied}
 use Rattle.serving.specs.Items.{Item}
-use Rattle.serving.specs.Promises.{Answers, GoesThrough, Serves, side_in}
+use Rattle.serving.specs.Promises.{Answers, GoesThrough, Serves, Stays, side_in}
 use Rattle.serving.specs.Served.{Outcome, Replies}
 use Rattle.serving.proofs.SessionLemmas.{run_joined}
-use Rattle.serving.proofs.Turns.{Stays, item_leaves, item_tells, turn_stays, unmoved}
+use Rattle.serving.proofs.Turns.{item_leaves, item_tells, unmoved}
 
 module _ {E : Type 0} (g : Ghosts E) (is : IsEngine g) where
-  stays_on : (old mid new : E) → Stays g is old mid → Stays g is mid new → Stays g is old new
+  stays_on : (old mid new : E) → Stays g old mid → Stays g mid new → Stays g old new
   stays_on old mid new first second =
       let one = first.failures in
       let two = second.failures in
       record { side = second.side ∙ first.side; capacity = second.capacity ∙ first.capacity; honest = λ h. first.honest (second.honest h); failures = omega (arith, one, two) }
 
-  item_stays : (old new : E) (i : Item) (text : List ℕ) → Answers g old i text new → Stays g is old new
-  item_stays old new i text answer = let replied = answer.replied in turn_stays g is replied.0 old new text replied.2
-
   -- what stays over some items
-  stays : (items : List Item) (old : E) (text : List ℕ) (engines : List E) → Replies (Answers g) old items text engines → Stays g is old (last_of old engines)
+  stays : (items : List Item) (old : E) (text : List ℕ) (engines : List E) → Replies (Answers g) old items text engines → Stays g old (last_of old engines)
   stays [] old text [] replies = unmoved g is old old refl
   stays [] old text (next ∷ engines) replies = absurd replies
   stays (i ∷ items) old text [] replies = absurd replies
   stays (i ∷ items) old text (next ∷ engines) (reply, more, parts, answer, rest) =
-      stays_on old next (last_of next engines) (item_stays old next i reply answer) (stays items next more engines rest)
+      stays_on old next (last_of next engines) answer.stays (stays items next more engines rest)
 
   -- whether they have failed, one after another
   flags : (n : ℕ) (items : List Item) (old : E) (text : List ℕ) (engines : List E) → g.side_of old ≡ n → Replies (Answers g) old items text engines
@@ -42,7 +39,7 @@ module _ {E : Type 0} (g : Ghosts E) (is : IsEngine g) where
   flags n [] old text (next ∷ engines) side replies = absurd replies
   flags n (i ∷ items) old text [] side replies = absurd replies
   flags n (i ∷ items) old text (next ∷ engines) side (reply, more, parts, answer, rest) =
-      (reply, more, parts, item_tells g is n old next i reply side answer.replied, flags n items next more engines ((item_stays old next i reply answer).side ∙ side) rest)
+      (reply, more, parts, item_tells g is n old next i reply side answer.replied, flags n items next more engines (answer.stays.side ∙ side) rest)
 
   -- the states that they are in, and what a stop leaves since each of them
   abbrev RunsFrom : ℕ → E → List Item → List ℕ → List E → State → Type 0
@@ -58,7 +55,7 @@ module _ {E : Type 0} (g : Ghosts E) (is : IsEngine g) where
       let last = last_of next engines in
       let left = item_leaves g is old next i reply answer.replied ((stays items next more engines rest).honest honest) s at in
       let t = left.0 in
-      let later = runs capacity items next more engines ((item_stays old next i reply answer).capacity ∙ same) rest honest t left.1 in
+      let later = runs capacity items next more engines (answer.stays.capacity ∙ same) rest honest t left.1 in
       let states = later.0 in
       let first = subst (λ (n : ℕ). Replied (Happens n) side_in s i reply t) same left.2 in (
         t ∷ states,
@@ -92,7 +89,7 @@ module _ {E : Type 0} (g : Ghosts E) (is : IsEngine g) where
     flags_of (Err Output) (items, i, extent, text, n, left, on, item, input, replies, appends) =
         (items, i, extent, text, n, left, on, item, input, flags (g.side_of old) (items ++ i ∷ []) old text engines refl replies, appends)
 
-    stays_of : (result : Result (Unit {0}) ServeFault) → Through result → Stays g is old (last_of old engines)
+    stays_of : (result : Result (Unit {0}) ServeFault) → Through result → Stays g old (last_of old engines)
     stays_of (Ok u) (items, text, input, appends, replies) = stays items old text engines replies
     stays_of (Err Input) (items, rest, text, on, begun, input, appends, replies) = stays items old text engines replies
     stays_of (Err Output) (items, i, extent, text, n, left, on, item, input, replies, appends) = stays (items ++ i ∷ []) old text engines replies

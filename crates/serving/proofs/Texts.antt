@@ -1,14 +1,14 @@
 -- What the text of a reply tells of the answer.
-use Rattle.std.proofs.Common.{◌≡◌, ℕ, get_or, Bool, true, false, true≢false, IsTrue, List, refl, sym, ap, ◌∙◌, arith, inl, inr}
+use Rattle.std.proofs.Common.{◌≡◌, ℕ, get_or, Bool, true, false, true≢false, List, refl, sym, ap, ◌∙◌, arith, inl, inr}
 use Rattle.std.specs.Fmt.{digits}
-use Rattle.std.specs.Prelude.{◌==◌, ◌&&◌, Some, ◌⊎◌, Result, Ok, Err, MatchResult}
+use Rattle.std.specs.Prelude.{◌==◌, ◌&&◌, Result, Ok, Err, MatchResult}
 use Rattle.lattice.specs.declared.height.Height.TheVariants as height
 use Rattle.lattice.specs.declared.refusal.Refusal.{Refusal}
 use Rattle.lattice.specs.declared.refusal.Refusal.TheVariants.{Device, NoMemory}
 use Rattle.calls.specs.declared.event.Reply.{Reply}
 use Rattle.calls.specs.declared.event.Reply.TheVariants as reply
 use Rattle.lines.specs.Replies.{done_text, refusal_text}
-use Rattle.serving.specs.Answers.{Tells, text_of, takes_memory}
+use Rattle.lines.specs.Telling.{Tells, text_of, takes_memory}
 use Rattle.serving.specs.Promises.{IsOkText}
 
 pub not_ok : (r : Refusal) (text : List ℕ) → text ≡ refusal_text r → IsOkText text → ⊥

@@ -1,27 +1,29 @@
 -- What follows from the turn of one item.
-use Rattle.std.proofs.Common.{◌≡◌, ℕ, ◌≤◌, Bool, true, false, true≢false, IsTrue, List, [], ◌∷◌, ◌++◌, refl, sym, ap, ◌∙◌, subst, arith, inl, inr}
-use Rattle.std.specs.Prelude.{Option, Some, None, ◌⊎◌, Contains}
+use Rattle.std.proofs.Common.{◌≡◌, ℕ, Bool, true, false, true≢false, IsTrue, List, [], ◌∷◌, refl, sym, ap, ◌∙◌, subst, arith, inl, inr}
+use Rattle.std.specs.Prelude.{Option, Some, None}
 use Rattle.std.proofs.lemmas.Bool.{both_ways}
 use Rattle.std.proofs.lemmas.List.Elements.{Contains-append_left}
-use Rattle.lattice.specs.declared.refusal.Refusal.{Refusal}
 use Rattle.lattice.specs.declared.refusal.Refusal.TheVariants.{Device}
 use Rattle.edits.specs.declared.command.Command.{Command}
 use Rattle.calls.specs.declared.event.Event.{Event}
 use Rattle.calls.specs.declared.event.Event.TheVariants as ask
 use Rattle.calls.specs.declared.event.Reply.{Reply}
 use Rattle.calls.specs.declared.event.Reply.TheVariants as reply
+use Rattle.calls.proofs.Chains.{not_reopened}
 use Rattle.calls.specs.Engines.{IsCall}
 use Rattle.calls.specs.Events.{Happens, fails_after}
 use Rattle.calls.specs.State.{State}
 use Rattle.calls.specs.Told.{Matches, IsTold}
 use Rattle.engine.specs.Members.{IsEngine, members}
 use Rattle.engine.specs.declared.engine.Engine.{Ghosts}
-use Rattle.lines.specs.Grammar.{Asked, AskImport, AskRemove, AskPatch, AskBurn, AskWall, AskElevation, AskFill, AskDirection, AskTrace, AskWatershed, AskExport, AskTiles, AskStep, AskCount, AskQuit}
+use Rattle.lines.specs.Grammar.{Asked, AskImport, AskEvent, AskNoTile, AskQuit}
 use Rattle.catalogue.specs.Reading.{HasRisen}
-use Rattle.lines.specs.Replies.{done_text, refusal_text}
-use Rattle.serving.specs.Answers.{ComesTo, Replied, Tells, Turn, Ask, Refuse, End, Turns}
-use Rattle.serving.specs.Items.{Item}
-use Rattle.serving.specs.Promises.{Answers, IsDone, IsOkText, asks_command, side_in}
+use Rattle.lines.specs.Replies.{refusal_text}
+use Rattle.lines.specs.Telling.{Tells}
+use Rattle.serving.specs.Answers.{ComesTo, Replied, Turn, Ask, Refuse, End, Turns}
+use Rattle.lines.proofs.GrammarLaws.{never_reopens}
+use Rattle.serving.specs.Items.{Item, AsksFor}
+use Rattle.serving.specs.Promises.{Answers, Stays, IsDone, IsOkText, asks_command, side_in}
 use Rattle.serving.proofs.Texts.{blames, done_is_no_fault, not_ok, only_device, refusal_told}
 
 -- A command comes to a command, or is refused; nothing opens the disk again, and nobody but the engine blames it.
@@ -33,28 +35,19 @@ Fits a End = asks_command a ≡ false
 by_is : (a : Option Asked) (turn known : Turn) → turn ≡ known → Fits a known → Fits a turn
 by_is a turn known is fits = subst (Fits a) (sym is) fits
 
-fits : (side : ℕ) (a : Option Asked) (payload : List ℕ) (turn : Turn) → ComesTo side a payload turn → Fits a turn
-fits side None payload turn is = by_is None turn _ is (λ e. absurd (cc))
-fits side (Some (AskImport name len)) payload turn (inl (none, is)) = by_is (Some (AskImport name len)) turn _ is (λ e. absurd (cc))
-fits side (Some (AskImport name len)) payload turn (inr (c, named, inl (wrong, is))) = by_is (Some (AskImport name len)) turn _ is (λ e. absurd (cc))
-fits side (Some (AskImport name len)) payload turn (inr (c, named, inr (len_is, came, inl is))) = by_is (Some (AskImport name len)) turn _ is (λ e. absurd (cc))
-fits side (Some (AskImport name len)) payload turn (inr (c, named, inr (len_is, came, inr is))) = by_is (Some (AskImport name len)) turn _ is ((λ e. absurd (cc)), λ e. (_, refl))
-fits side (Some (AskRemove name)) payload turn (inl (none, is)) = by_is (Some (AskRemove name)) turn _ is (λ e. absurd (cc))
-fits side (Some (AskRemove name)) payload turn (inr (c, named, is)) = by_is (Some (AskRemove name)) turn _ is ((λ e. absurd (cc)), λ e. (_, refl))
-fits side (Some (AskPatch from to height)) payload turn is = by_is (Some (AskPatch from to height)) turn _ is ((λ e. absurd (cc)), λ e. (_, refl))
-fits side (Some (AskBurn depth points)) payload turn is = by_is (Some (AskBurn depth points)) turn _ is ((λ e. absurd (cc)), λ e. (_, refl))
-fits side (Some (AskWall height points)) payload turn is = by_is (Some (AskWall height points)) turn _ is ((λ e. absurd (cc)), λ e. (_, refl))
-fits side (Some (AskElevation p)) payload turn is = by_is (Some (AskElevation p)) turn _ is ((λ e. absurd (cc)), λ e. absurd (true≢false (sym e)))
-fits side (Some (AskFill p)) payload turn is = by_is (Some (AskFill p)) turn _ is ((λ e. absurd (cc)), λ e. absurd (true≢false (sym e)))
-fits side (Some (AskDirection p)) payload turn is = by_is (Some (AskDirection p)) turn _ is ((λ e. absurd (cc)), λ e. absurd (true≢false (sym e)))
-fits side (Some (AskTrace p)) payload turn is = by_is (Some (AskTrace p)) turn _ is ((λ e. absurd (cc)), λ e. absurd (true≢false (sym e)))
-fits side (Some (AskWatershed p)) payload turn is = by_is (Some (AskWatershed p)) turn _ is ((λ e. absurd (cc)), λ e. absurd (true≢false (sym e)))
-fits side (Some (AskExport name)) payload turn (inl (none, is)) = by_is (Some (AskExport name)) turn _ is (λ e. absurd (cc))
-fits side (Some (AskExport name)) payload turn (inr (c, named, is)) = by_is (Some (AskExport name)) turn _ is ((λ e. absurd (cc)), λ e. absurd (true≢false (sym e)))
-fits side (Some AskTiles) payload turn is = by_is (Some AskTiles) turn _ is ((λ e. absurd (cc)), λ e. absurd (true≢false (sym e)))
-fits side (Some AskCount) payload turn is = by_is (Some AskCount) turn _ is ((λ e. absurd (cc)), λ e. absurd (true≢false (sym e)))
-fits side (Some AskQuit) payload turn is = by_is (Some AskQuit) turn _ is refl
-fits side (Some AskStep) payload turn is = by_is (Some AskStep) turn _ is (λ e. absurd (cc))
+fits : (side : ℕ) (line : List ℕ) (a : Option Asked) (payload : List ℕ) (turn : Turn) → AsksFor line a → ComesTo side a payload turn → Fits a turn
+fits side line None payload turn asks is = by_is None turn _ is (λ e. absurd (cc))
+fits side line (Some (AskImport name len)) payload turn asks (inl (none, is)) = by_is (Some (AskImport name len)) turn _ is (λ e. absurd (cc))
+fits side line (Some (AskImport name len)) payload turn asks (inr (c, named, inl (wrong, is))) = by_is (Some (AskImport name len)) turn _ is (λ e. absurd (cc))
+fits side line (Some (AskImport name len)) payload turn asks (inr (c, named, inr (len_is, came, inl is))) = by_is (Some (AskImport name len)) turn _ is (λ e. absurd (cc))
+fits side line (Some (AskImport name len)) payload turn asks (inr (c, named, inr (len_is, came, inr is))) = by_is (Some (AskImport name len)) turn _ is ((λ e. absurd (cc)), λ e. (_, refl))
+fits side line (Some (AskEvent event)) payload turn asks is = by_is (Some (AskEvent event)) turn _ is (never_reopens line event asks, to_command event)
+  where
+    to_command : (event : Event) → asks_command (Some (AskEvent event)) ≡ true → (c : Command) × (event ≡ ask.Do c)
+    to_command (ask.Do c) e = (c, refl)
+    to_command other e = absurd (true≢false (sym e))
+fits side line (Some AskNoTile) payload turn asks is = by_is (Some AskNoTile) turn _ is (λ e. absurd (cc))
+fits side line (Some AskQuit) payload turn asks is = by_is (Some AskQuit) turn _ is refl
 
 -- an engine that hasn't failed fails only where it blames the disk
 newly : (event : Event) (answer : Reply) → (event ≡ ask.Reopen → ⊥) → fails_after false event answer ≡ true → answer ≡ reply.Refused Device
@@ -66,22 +59,16 @@ module _ {E : Type 0} (g : Ghosts E) (is : IsEngine g) where
   call : (old new : E) (event : Event) (answer : Reply) → g.called old event answer new → IsCall (members g) old event answer new
   call = is.laws.is_call
 
-  -- what stays
-  pub record Stays (old new : E) : Type 0 where
-    pub side : g.side_of new ≡ g.side_of old
-    pub capacity : g.capacity_of new ≡ g.capacity_of old
-    pub honest : g.is_honest new → g.is_honest old
-    pub failures : g.failures old ≤ g.failures new
+  pub unmoved : (old new : E) → new ≡ old → Stays g old new
+  unmoved old new same = subst (λ (e : E). Stays g old e) (sym same) (record { side = refl; capacity = refl; honest = λ h. h; failures = omega arith })
 
-  pub unmoved : (old new : E) → new ≡ old → Stays old new
-  unmoved old new same = subst (λ (e : E). Stays old e) (sym same) (record { side = refl; capacity = refl; honest = λ h. h; failures = omega arith })
-
-  pub turn_stays : (turn : Turn) (old new : E) (text : List ℕ) → Turns g.called turn old text new → Stays old new
-  turn_stays (Ask event) old new text (answer, called, tells) =
+  turn_stays : (a : Option Asked) (turn : Turn) (old new : E) (text : List ℕ) → Fits a turn → Turns g.called turn old text new → Stays g old new
+  turn_stays a (Ask event) old new text fit (answer, called, tells) =
       let known = call old new event answer called in
-      record { side = known.side; capacity = known.capacity; honest = known.honest; failures = known.failures.later }
-  turn_stays (Refuse r) old new text (told, same) = unmoved old new same
-  turn_stays End old new text (told, same) = unmoved old new same
+      let unopened = not_reopened event answer fit.0 known.told.matches in
+      record { side = known.side unopened; capacity = known.capacity unopened; honest = known.honest; failures = known.failures.later }
+  turn_stays a (Refuse r) old new text fit (told, same) = unmoved old new same
+  turn_stays a End old new text fit (told, same) = unmoved old new same
 
   module _ (old new : E) (a : Option Asked) (text : List ℕ) where
     done_told : (c : Command) (answer : Reply) → Matches (ask.Do c) answer → g.called old (ask.Do c) answer new → Tells answer text → IsOkText text → IsDone g old text new
@@ -112,14 +99,14 @@ module _ {E : Type 0} (g : Ghosts E) (is : IsEngine g) where
     turn_blames End fit (told, same) e = absurd (done_is_no_fault text told e)
 
   -- the reply to an item
-  pub answers : (old new : E) (i : Item) (text : List ℕ) → Replied g.called g.side_of old i text new → Answers g old i text new
-  answers old new i text (turn, comes, turns) =
-      let fit = fits (g.side_of old) i.asked i.payload turn comes in
+  pub answers : (old new : E) (i : Item) (text : List ℕ) → AsksFor i.line i.asked → Replied g.called g.side_of old i text new → Answers g old i text new
+  answers old new i text asks (turn, comes, turns) =
+      let fit = fits (g.side_of old) i.line i.asked i.payload turn asks comes in
       record {
         replied = (turn, comes, turns);
         done = turn_done old new i.asked text turn fit turns;
         fault = turn_fault old new i.asked text turn fit turns;
-        failures = (turn_stays turn old new text turns).failures;
+        stays = turn_stays i.asked turn old new text fit turns;
         blamed = turn_blames old new i.asked text turn fit turns;
       }
 

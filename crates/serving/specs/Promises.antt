@@ -12,7 +12,7 @@ use Rattle.calls.specs.State.{State}
 use Rattle.calls.specs.Told.{IsTold}
 use Rattle.engine.specs.Members.{members}
 use Rattle.engine.specs.declared.engine.Engine.{Ghosts}
-use Rattle.lines.specs.Grammar.{Asked, AskImport, AskRemove, AskPatch, AskBurn, AskWall}
+use Rattle.lines.specs.Grammar.{Asked, AskImport, AskEvent}
 use Rattle.lines.specs.Replies.{ok_line, refusal_text}
 use Rattle.serving.specs.Answers.{Replied}
 use Rattle.serving.specs.Items.{Item}
@@ -21,10 +21,7 @@ use Rattle.serving.specs.declared.session.ServeFault.{ServeFault}
 
 abbrev pub asks_command : Option Asked → Bool
 asks_command (Some (AskImport name len)) = true
-asks_command (Some (AskRemove name)) = true
-asks_command (Some (AskPatch from to height)) = true
-asks_command (Some (AskBurn depth points)) = true
-asks_command (Some (AskWall height points)) = true
+asks_command (Some (AskEvent (ask.Do c))) = true
 asks_command _ = false
 
 -- a reply that isn't a refusal
@@ -40,6 +37,13 @@ module _ {E : Type 0} (g : Ghosts E) where
   abbrev pub IsDone : E → List ℕ → E → Type 0
   IsDone old text new = (c : Command) × (k : ℕ) × g.called old (ask.Do c) (reply.Done k) new × (text ≡ ok_line (decimal k))
 
+  -- what stays over items, on any disk; no item makes a dishonest one honest
+  pub record Stays (old new : E) : Type 0 where
+    pub side : g.side_of new ≡ g.side_of old
+    pub capacity : g.capacity_of new ≡ g.capacity_of old
+    pub honest : g.is_honest new → g.is_honest old
+    pub failures : g.failures old ≤ g.failures new
+
   -- the reply to an item, on any disk
   pub record Answers (old : E) (i : Item) (text : List ℕ) (new : E) : Type 0 where
     -- the event that it came to was asked, if it came to one, and the text tells what was answered
@@ -48,7 +52,7 @@ module _ {E : Type 0} (g : Ghosts E) where
     pub done : IsTrue (asks_command i.asked) → IsOkText text → IsDone old text new
     -- a fault of the disk is told as such, and nothing else is
     pub fault : g.has_failed old ≡ false → g.has_failed new ≡ true → text ≡ refusal_text Device
-    pub failures : g.failures old ≤ g.failures new
+    pub stays : Stays old new
     pub blamed : text ≡ refusal_text Device → HasRisen (g.failures old) (g.failures new)
 
   -- the states that the engines are in, one after each item

@@ -1,79 +1,38 @@
-//! Has an engine asked, and gives what it answers as one type.
-ghost use Rattle.calls.specs.declared.event.Event.TheVariants as ask;
+//! Asks an engine.
+ghost use Rattle.std.specs.Prelude.{◌≢◌};
+ghost use Rattle.calls.specs.declared.event.Event.TheVariants.{Reopen};
 
-use calls::Reply as Answer;
-use edits::Command;
+use calls::{Event, Reply};
 use engine::Engine;
-use lattice::{Corner, Point};
 
-pub(crate) fn apply<E: Engine>(engine: &mut E, command: &Command) -> Answer
-    ensures { E.called engine.old (ask.Do command.now) result engine.new }
+/// What the engine answers to the event. No line opens its disk again.
+pub(crate) fn ask<E: Engine>(engine: &mut E, event: &Event) -> Reply
+    requires { event.now ≢ Reopen }
+    ensures { E.called engine.old event.now result engine.new }
 {
-    match engine.apply(command) {
-        Ok(count) => Answer::Done(count),
-        Err(refusal) => Answer::Refused(refusal),
-    }
-}
-
-pub(crate) fn elevation<E: Engine>(engine: &mut E, point: Point) -> Answer
-    ensures { E.called engine.old (ask.Elevation point) result engine.new }
-{
-    match engine.elevation(point) {
-        Ok(height) => Answer::Elevation(height),
-        Err(refusal) => Answer::Refused(refusal),
-    }
-}
-
-pub(crate) fn fill<E: Engine>(engine: &mut E, point: Point) -> Answer
-    ensures { E.called engine.old (ask.Fill point) result engine.new }
-{
-    match engine.fill(point) {
-        Ok(level) => Answer::Fill(level),
-        Err(refusal) => Answer::Refused(refusal),
-    }
-}
-
-pub(crate) fn direction<E: Engine>(engine: &mut E, point: Point) -> Answer
-    ensures { E.called engine.old (ask.Direction point) result engine.new }
-{
-    match engine.direction(point) {
-        Ok(code) => Answer::Direction(code),
-        Err(refusal) => Answer::Refused(refusal),
-    }
-}
-
-pub(crate) fn trace<E: Engine>(engine: &mut E, point: Point) -> Answer
-    ensures { E.called engine.old (ask.Trace point) result engine.new }
-{
-    match engine.trace(point) {
-        Ok(path) => Answer::Trace(path),
-        Err(refusal) => Answer::Refused(refusal),
-    }
-}
-
-pub(crate) fn watershed<E: Engine>(engine: &mut E, point: Point) -> Answer
-    ensures { E.called engine.old (ask.Watershed point) result engine.new }
-{
-    match engine.watershed(point) {
-        Ok(runs) => Answer::Watershed(runs),
-        Err(refusal) => Answer::Refused(refusal),
-    }
-}
-
-pub(crate) fn export<E: Engine>(engine: &mut E, corner: Corner) -> Answer
-    ensures { E.called engine.old (ask.Export corner) result engine.new }
-{
-    match engine.export(corner) {
-        Ok(bytes) => Answer::Export(bytes),
-        Err(refusal) => Answer::Refused(refusal),
-    }
-}
-
-pub(crate) fn tiles<E: Engine>(engine: &E) -> Answer
-    ensures { E.called engine.now ask.Tiles result engine.now }
-{
-    match engine.tiles() {
-        Ok(corners) => Answer::Tiles(corners),
-        Err(refusal) => Answer::Refused(refusal),
+    match event {
+        Event::Do(command) => engine
+            .apply(command)
+            .map_or_else(Reply::Refused, Reply::Done),
+        Event::Elevation(point) => engine
+            .elevation(*point)
+            .map_or_else(Reply::Refused, Reply::Elevation),
+        Event::Fill(point) => engine.fill(*point).map_or_else(Reply::Refused, Reply::Fill),
+        Event::Direction(point) => engine
+            .direction(*point)
+            .map_or_else(Reply::Refused, Reply::Direction),
+        Event::Trace(point) => engine
+            .trace(*point)
+            .map_or_else(Reply::Refused, Reply::Trace),
+        Event::Watershed(point) => engine
+            .watershed(*point)
+            .map_or_else(Reply::Refused, Reply::Watershed),
+        Event::Export(corner) => engine
+            .export(*corner)
+            .map_or_else(Reply::Refused, Reply::Export),
+        Event::Tiles => engine.tiles().map_or_else(Reply::Refused, Reply::Tiles),
+        Event::Sinks => engine.sinks().map_or_else(Reply::Refused, Reply::Sinks),
+        Event::Count => Reply::Count(engine.count()),
+        Event::Reopen => unreachable!(),
     }
 }

@@ -13,6 +13,5 @@ mod answering;
 mod asking;
 mod hearing;
 mod session;
-mod telling;
 
 pub use session::{ServeFault, serve};

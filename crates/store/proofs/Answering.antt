@@ -1,20 +1,23 @@
 -- What a store answers to an event, by the call that the event asks for.
-use Rattle.std.proofs.Common.{◌≡◌, ◌≢◌, ◌⊎◌, inl, inr, ⊎_elim, ℕ, ◌≤◌, true, false, List, [], ◌∷◌, refl, sym, ap, ◌∙◌, subst}
+use Rattle.std.proofs.Common.{◌≡◌, ◌≢◌, ◌⊎◌, inl, inr, ⊎_elim, ◌≤◌, true, false, IsTrue, [], ◌∷◌, refl, sym, ap, subst}
 use Rattle.std.specs.Prelude.{Some, Result, Ok, Err, OnOk, OnErr, IfErr, IsErrOf, MatchResult}
-use Rattle.disk.specs.Disk.{Image, HasRisen}
+use Rattle.std.proofs.lemmas.Bool.{both_ways}
+use Rattle.disk.specs.Disk.{HasRisen}
 use Rattle.disk.specs.Stops.{AddsNothing, weaker}
 use Rattle.disk.specs.declared.disk.Disk.{Ghosts}
 use Rattle.lattice.specs.declared.refusal.Refusal.{Refusal}
-use Rattle.lattice.specs.declared.refusal.Refusal.TheVariants.{Device, NoMemory}
-use Rattle.calls.specs.Engines.{answered}
+use Rattle.lattice.specs.declared.refusal.Refusal.TheVariants.{Device, NoMemory, Failed}
+use Rattle.page_codec.specs.Roots.{RootValue}
+use Rattle.cow_tree.specs.OverRoots.{IsRefusalOfTree}
+use Rattle.calls.specs.Engines.{answered, IsCall}
 use Rattle.calls.specs.Events.{Happens}
 use Rattle.calls.specs.State.{Contents, State, working}
+use Rattle.calls.specs.Told.{IsTold, Knows, may_refuse_reopening}
 use Rattle.calls.specs.declared.event.Event.TheVariants as ask
 use Rattle.calls.specs.declared.event.Reply.{Reply}
 use Rattle.calls.specs.declared.event.Reply.TheVariants as reply
-use Rattle.store.specs.Calls.{HasReopened}
 use Rattle.store.specs.StoreRuns.{allowed}
-use Rattle.store.specs.StoreState.{IsStoreAt, StandsForOne, LeavesStates}
+use Rattle.store.specs.StoreState.{StandsForOne, known_by, members}
 use Rattle.store.specs.Stores.{IsAt, disk_of, root_of, side_of, capacity_of, has_failed}
 use Rattle.store.specs.declared.store.Store.{Store}
 
@@ -28,18 +31,6 @@ told_as tell (Err r) replied tells = tells
 module _ {D : Type 0} (g : Ghosts D) (old new : Store D g) where
   abbrev Opened : Result (Unit {0}) Refusal → Reply
   Opened result = answered (λ u. reply.Reopened) result
-
-  open_or_not : (result : Result (Unit {0}) Refusal) → (Opened result ≡ reply.Reopened) ⊎ ((r : Refusal) × (Opened result ≡ reply.Refused r))
-  open_or_not (Ok u) = inl refl
-  open_or_not (Err r) = inr (r, refl)
-
-  open_works : (result : Result (Unit {0}) Refusal) → OnOk result (has_failed new ≡ false) → Opened result ≡ reply.Reopened → has_failed new ≡ false
-  open_works (Ok u) works is = works
-  open_works (Err r) works is = absurd (cc)
-
-  refused_fails : {X : Type 0} (result : Result (Unit {0}) Refusal) → OnErr result X → (r : Refusal) → Opened result ≡ reply.Refused r → X
-  refused_fails (Ok u) fails r is = absurd (cc)
-  refused_fails (Err why) fails r is = fails
 
   refused_for : (result : Result (Unit {0}) Refusal) → Opened result ≡ reply.Refused Device → IsErrOf result Device
   refused_for (Ok u) is = absurd (cc)
@@ -57,21 +48,52 @@ module _ {D : Type 0} (g : Ghosts D) (old new : Store D g) where
     ),
   )
 
+  -- which refusals an opening has on any disk
+  may_reopen : (r : Refusal) → IsRefusalOfTree r → IsTrue (may_refuse_reopening r)
+  may_reopen r (inl (inl is)) = subst (λ (x : Refusal). IsTrue (may_refuse_reopening x)) (sym is) refl
+  may_reopen r (inl (inr (inl is))) = subst (λ (x : Refusal). IsTrue (may_refuse_reopening x)) (sym is) refl
+  may_reopen r (inl (inr (inr (inl is)))) = subst (λ (x : Refusal). IsTrue (may_refuse_reopening x)) (sym is) refl
+  may_reopen r (inl (inr (inr (inr (inl is))))) = subst (λ (x : Refusal). IsTrue (may_refuse_reopening x)) (sym is) refl
+  may_reopen r (inl (inr (inr (inr (inr is))))) = subst (λ (x : Refusal). IsTrue (may_refuse_reopening x)) (sym is) refl
+  may_reopen r (inr is) = subst (λ (x : Refusal). IsTrue (may_refuse_reopening x)) (sym is) refl
+
+  -- whether it has failed then
+  told_reopening : (result : Result (Unit {0}) Refusal) → IfErr result IsRefusalOfTree → OnOk result (has_failed new ≡ false) → OnErr result (has_failed new ≡ true)
+      → IsTold (has_failed old) ask.Reopen (Opened result) (has_failed new)
+  told_reopening (Ok u) refused works failed = record { matches = tt; says = λ had. tt; had_failed = λ e. absurd (cc); after_is = works }
+  told_reopening (Err r) refused works failed = record {
+    matches = may_reopen r refused;
+    says = λ had. tt;
+    had_failed = λ e. absurd (both_ways false refl (subst (λ (x : Refusal). IsTrue (may_refuse_reopening x)) (let same : r ≡ Failed = cc in same) (may_reopen r refused)));
+    after_is = failed;
+  }
+
+  known_then : (result : Result (Unit {0}) Refusal) → OnErr result (root_of new ≡ root_of old) → Knows (known_by (root_of old)) ask.Reopen (Opened result) (known_by (root_of new))
+  known_then (Ok u) last = tt
+  known_then (Err r) last = ap known_by last
+
+  -- where it wasn't opened the root known last stays
+  same_root : (result : Result (Unit {0}) Refusal) → OnErr result (root_of new ≡ root_of old) → Opened result ≢ reply.Reopened → root_of new ≡ root_of old
+  same_root (Ok u) last other = absurd (other refl)
+  same_root (Err r) last other = last
+
   pub reopened : (result : Result (Unit {0}) Refusal) → g.size (disk_of new) ≡ g.size (disk_of old) → g.writes (disk_of new) ≡ g.writes (disk_of old) → g.failures (disk_of old) ≤ g.failures (disk_of new)
-      → (IsErrOf result Device → HasRisen (g.failures (disk_of old)) (g.failures (disk_of new))) → (g.honest (disk_of new) → AddsNothing g (disk_of old) (disk_of new)) → OnOk result (has_failed new ≡ false)
-      → OnErr result (has_failed new ≡ true) → OnErr result (root_of new ≡ root_of old)
+      → IfErr result IsRefusalOfTree → (IsErrOf result Device → HasRisen (g.failures (disk_of old)) (g.failures (disk_of new))) → (g.honest (disk_of new) → AddsNothing g (disk_of old) (disk_of new))
+      → OnOk result (has_failed new ≡ false) → OnErr result (has_failed new ≡ true) → OnErr result (root_of new ≡ root_of old)
       → (g.honest (disk_of new) → (s : State) → IsAt g old s → side_of new ≡ side_of old) → (g.honest (disk_of new) → (s : State) → IsAt g old s → capacity_of new ≡ capacity_of old)
       → (g.honest (disk_of new) → (s : State) → IsAt g old s → OnOk result (IsAt g new (working s.contents) ⊎ ((doubted : Contents) × (s.doubt ≡ Some doubted) × IsAt g new (working doubted))))
       → (g.honest (disk_of new) → (s : State) → IsAt g old s → IfErr result (λ r. IsAt g new (record s { failed = true })))
-      → (g.honest (disk_of new) → (s : State) → IsAt g old s → IfErr result (λ r. (r ≡ Device) ⊎ (r ≡ NoMemory))) → HasReopened g old (Opened result) new
+      → (g.honest (disk_of new) → (s : State) → IsAt g old s → IfErr result (λ r. (r ≡ Device) ⊎ (r ≡ NoMemory))) → IsCall (members g) old ask.Reopen (Opened result) new
   unfolding reopens
-  reopened result size writes later device nothing works failed last_known side capacity at stays sure = record {
-    matches = open_or_not result;
-    works = open_works result works;
-    fails = λ r is. (refused_fails result failed r is, refused_fails result last_known r is);
+  reopened result size writes later refused device nothing works failed last_known side capacity at stays sure = record {
+    side = λ other. ap (λ (root : RootValue). root.side) (same_root result last_known other);
+    capacity = λ other. ap (λ (root : RootValue). root.capacity) (same_root result last_known other);
+    told = told_reopening result refused works failed;
     failures = record { later = later; device = λ is. device (refused_for result is) };
-    writes = writes;
+    writes = record { few = writes; refused = λ r is other. writes };
+    known = known_then result last_known;
     honest = λ h. (nothing h).honest;
+    takes = λ h s was. (side h s was.at, capacity h s was.at);
     happens = λ h s was.
         let step = reopens result s (at h s was.at) (stays h s was.at) (sure h s was.at) in
         let t : State = step.0 in (

@@ -33,7 +33,7 @@ module _ (n : ℕ) (tiles : List StoredTile) (m : Mosaic) where
   tiles_of_mosaic holds =
       let each : All (IsTile n) m.tiles = subst (λ (k : ℕ). All (IsTile k) m.tiles) holds.side_is holds.valid.tiles in
       record {
-        mosaic = ap₂ (λ (k : ℕ) (ts : List Tile). record { side = k; tiles = ts }) holds.side_is (tiles_held n tiles m.tiles each holds.tiles_are);
+        mosaic = ap₂ (λ (k : ℕ) (ts : List Tile). record { side = k; sinks = m.sinks; tiles = ts }) holds.side_is (tiles_held n tiles m.tiles each holds.tiles_are);
         filled = tiles_filled n tiles m.tiles holds.tiles_are holds.none_kept;
       }
 

@@ -76,6 +76,7 @@ module _ {D : Type 0} (g : Ghosts D) where
   stages_on old mid new x result first second = record {
     uncommitted = uncommitted_on old mid new x result first.uncommitted second.uncommitted;
     corners = second.corners ∙ first.corners;
+    sinks = second.sinks ∙ first.sinks;
     still_staged = λ c was. second.still_staged c (first.still_staged c was);
   }
 
@@ -98,6 +99,7 @@ module _ {D : Type 0} (g : Ghosts D) where
   stages_ok old new x y done = record {
     uncommitted = uncommitted_as old new (Ok x) (Ok y) done.uncommitted (λ w. w) (λ is. never_refused y Device is);
     corners = done.corners;
+    sinks = done.sinks;
     still_staged = done.still_staged;
   }
 
@@ -105,6 +107,7 @@ module _ {D : Type 0} (g : Ghosts D) where
   stages_err {T} {U} old new r done = record {
     uncommitted = uncommitted_as old new (Err r) (Err r) done.uncommitted (λ w. w) (λ is. ap (λ (x : Refusal). Err x) (refusal_is {T = U} r is));
     corners = done.corners;
+    sinks = done.sinks;
     still_staged = done.still_staged;
   }
 

@@ -3,8 +3,9 @@ use Rattle.std.proofs.Common.{◌≡◌, ℕ, ◌+◌, ◌*◌, ◌≤◌, Bool,
 use Rattle.std.specs.Prelude.{Result, Ok, Err, OnOk, OnErr}
 use Rattle.lattice.specs.declared.refusal.Refusal.{Refusal}
 use Rattle.edits.specs.declared.command.Command.{Command}
-use Rattle.edits.specs.declared.command.Command.TheVariants.{Import, Remove, Patch, Burn, Wall}
+use Rattle.edits.specs.declared.command.Command.TheVariants.{Import, Remove, Patch, Burn, Wall, Sink, Unsink}
 use Rattle.edits.specs.Plans.{IsFew}
+use Rattle.store.specs.Applied.{SetsSamples}
 use Rattle.store.specs.Editing.{WritesFew}
 
 -- one page more, which may begin a commit
@@ -23,21 +24,23 @@ begun_written true before = omega arith
 begun_written false before = omega arith
 
 -- by the number of changes
-few_written : (command : Command) (changes before now : ℕ) → IsFew command changes → now ≤ before + (2 * changes + 3) → WritesFew command before now
-few_written (Import c bytes) changes before now few most = tt
-few_written (Remove c) changes before now few most = tt
-few_written (Patch from to h) changes before now few most = tt
-few_written (Burn depth points) changes before now few most = omega (arith, few, most)
-few_written (Wall h points) changes before now few most = omega (arith, few, most)
+few_written : (command : Command) (changes before now : ℕ) → SetsSamples command → IsFew command changes → now ≤ before + (2 * changes + 3) → WritesFew command before now
+few_written (Import c bytes) changes before now sets few most = tt
+few_written (Remove c) changes before now sets few most = tt
+few_written (Patch from to h) changes before now sets few most = tt
+few_written (Burn depth points) changes before now sets few most = omega (arith, few, most)
+few_written (Wall h points) changes before now sets few most = omega (arith, few, most)
+few_written (Sink p) changes before now sets few most = absurd sets
+few_written (Unsink p) changes before now sets few most = absurd sets
 
 -- so much is written where staging was refused, and where it wasn't
-pub staged_written : {T : Type 0} (staged : Result T Refusal) (command : Command) (changes due before mid now : ℕ) (begun begins : Bool) → IsFew command changes
+pub staged_written : {T : Type 0} (staged : Result T Refusal) (command : Command) (changes due before mid now : ℕ) (begun begins : Bool) → SetsSamples command → IsFew command changes
     → mid ≤ before + (if begun then 0 else 1) + changes → OnOk staged (mid + (if begins then 0 else 1) ≤ before + (if begun then 0 else 1) + changes) → OnOk staged (due ≤ changes)
     → OnOk staged (now ≤ mid + due + (if begins then 2 else 3)) → OnErr staged (now ≡ mid) → WritesFew command before now
-staged_written (Ok x) command changes due before mid now begun begins few most pages records commits none =
+staged_written (Ok x) command changes due before mid now begun begins sets few most pages records commits none =
     let first = begun_written begun before in
     let last = commit_written begins mid now due commits in
-    few_written command changes before now few (omega (arith, first, last, pages, records))
-staged_written (Err r) command changes due before mid now begun begins few most pages records commits none =
+    few_written command changes before now sets few (omega (arith, first, last, pages, records))
+staged_written (Err r) command changes due before mid now begun begins sets few most pages records commits none =
     let first = begun_written begun before in
-    few_written command changes before now few (omega (arith, first, most, none))
+    few_written command changes before now sets few (omega (arith, first, most, none))

@@ -1,23 +1,18 @@
 -- Samples set in a loop: changes of one page come to one page that is held back until the next page's change or the end.
 use Rattle.std.proofs.Common.{◌≡◌, ℕ, ◌+◌, ◌*◌, ◌<◌, ◌≤◌, ℤ, List, length, get_or, take, Contains, sym, subst, take_all}
-use Rattle.std.specs.Prelude.{Option, Some, None, Ok, slice_get}
+use Rattle.std.specs.Prelude.{Option, Some, None, slice_get}
 use Rattle.lattice.specs.Corners.{Corner}
 use Rattle.lattice.specs.Mosaic.{Mosaic, IsSample, IsMosaic}
 use Rattle.catalogue.specs.Tiles.{with_sample}
 use Rattle.catalogue.proofs.Mosaics.{mosaic-with_sample}
-use Rattle.edits.specs.declared.command.Command.{Command}
 use Rattle.edits.specs.declared.change.Change.{Change}
 use Rattle.edits.specs.declared.change.Change.TheVariants.{Set}
 use Rattle.edits.specs.Changes.{all_changed}
-use Rattle.edits.specs.Effect.{effect}
-use Rattle.calls.specs.State.{Contents, made_by}
-use Rattle.cow_tree.specs.Stored.{StoredTile, Stored, next_commit, with_page}
-use Rattle.store.specs.Standing.{Holds}
+use Rattle.cow_tree.specs.Stored.{StoredTile, with_page}
 use Rattle.store.proofs.Pages.{with_bytes}
 use Rattle.store.proofs.HeldTiles.{AreTilesOf}
 use Rattle.store.proofs.Finding.{rising_stored}
 use Rattle.store.proofs.Sets.{page_as_it_stands, set_in_page, all_changed_more}
-use Rattle.store.proofs.Holding.{holds_next}
 
 -- a page that is held back: page i of the corner's heights
 pub record HeldPage : Type 0 where

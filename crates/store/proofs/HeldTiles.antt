@@ -4,7 +4,7 @@ use Rattle.std.specs.Prelude.{None}
 use Rattle.std.specs.List.{AllZip}
 use Rattle.std.proofs.lemmas.List.Elements.{All-nil, All-cons, All-head, All-tail, All-filter}
 use Rattle.lattice.specs.Corners.{Corner, is_before, same_corner}
-use Rattle.lattice.specs.Mosaic.{Tile, Mosaic, IsTile}
+use Rattle.lattice.specs.Mosaic.{Tile, Mosaic, IsTile, empty_mosaic}
 use Rattle.page_codec.specs.Sizes.{pages_of}
 use Rattle.hgt.specs.Bytes.{samples_in}
 use Rattle.hgt.proofs.BytesLemmas.{samples_are_samples_in, AreHgtBytes-samples_in}
@@ -24,7 +24,7 @@ pub record IsFilled (n : ℕ) (t : StoredTile) : Type 0 where
 
 -- these stored tiles are the tiles of the mosaic
 pub record AreTilesOf (n : ℕ) (tiles : List StoredTile) (m : Mosaic) : Type 0 where
-  pub mosaic : m ≡ mosaic_of_tiles n tiles
+  pub mosaic : m ≡ mosaic_of_tiles n m.sinks tiles
   pub filled : All (IsFilled n) tiles
 
 abbrev pub as_tile : ℕ → StoredTile → Tile
@@ -84,7 +84,7 @@ corners_held n stored m are = same stored ∙ ap corners_of (sym are.mosaic)
 
 -- ---- no tiles
 
-pub no_tiles_of : (n : ℕ) → AreTilesOf n [] (record { side = n; tiles = [] })
+pub no_tiles_of : (n : ℕ) → AreTilesOf n [] (empty_mosaic n)
 no_tiles_of n = record { mosaic = refl; filled = All-nil (IsFilled n) }
 
 -- ---- a tile that comes in
@@ -118,7 +118,7 @@ imported n tiles m c bytes are whole each =
     let new : StoredTile = stale_tile c (pages_of_bytes (pages_of n) bytes) in
     let tile : record { corner = c; samples = samples_in bytes } ≡ as_tile n new = ap (λ (l : List ℕ). record { corner = c; samples = samples_in l }) (sym (plane_read_back n bytes whole)) in
     record {
-      mosaic = ap₂ (λ (t : Tile) (x : Mosaic). added t x) tile are.mosaic ∙ ap (λ (ts : List Tile). record { side = n; tiles = ts }) (added_tiles n new tiles);
+      mosaic = ap₂ (λ (t : Tile) (x : Mosaic). added t x) tile are.mosaic ∙ ap (λ (ts : List Tile). record { side = n; sinks = m.sinks; tiles = ts }) (added_tiles n new tiles);
       filled = all_with_tile (IsFilled n) new tiles (file_filled n c bytes whole each) are.filled;
     }
 
@@ -134,6 +134,6 @@ removed_tiles n c (t ∷ rest) =
 
 pub removed : (n : ℕ) (tiles : List StoredTile) (m : Mosaic) (c : Corner) → AreTilesOf n tiles m → AreTilesOf n (without_tile c tiles) (without c m)
 removed n tiles m c are = record {
-  mosaic = ap (without c) are.mosaic ∙ ap (λ (ts : List Tile). record { side = n; tiles = ts }) (removed_tiles n c tiles);
+  mosaic = ap (without c) are.mosaic ∙ ap (λ (ts : List Tile). record { side = n; sinks = m.sinks; tiles = ts }) (removed_tiles n c tiles);
   filled = All-filter (λ t. not (same_corner t.corner c)) (IsFilled n) tiles are.filled;
 }

@@ -1,25 +1,25 @@
 -- What a store holds from one commit to the next.
-use Rattle.std.proofs.Common.{◌≡◌, ℕ, ◌+◌, ◌≤◌, List, All, refl, sym, ap, ap₂, ◌∙◌, subst, arith}
+use Rattle.std.proofs.Common.{◌≡◌, ℕ, ◌+◌, List, All, refl, sym, ap, ap₂, ◌∙◌, subst}
 use Rattle.std.specs.Prelude.{Ok}
 use Rattle.std.specs.List.{AllZip}
-use Rattle.std.proofs.lemmas.List.Elements.{All-nil}
 use Rattle.lattice.specs.Corners.{Corner}
+use Rattle.lattice.specs.declared.point.Point.{Point}
 use Rattle.lattice.specs.Mosaic.{Tile, Mosaic, IsTile, IsMosaic}
 use Rattle.catalogue.specs.Tiles.{corners_of}
 use Rattle.edits.specs.declared.command.Command.{Command}
 use Rattle.edits.specs.Effect.{effect}
-use Rattle.calls.specs.State.{Contents, fresh, made_by}
+use Rattle.calls.specs.State.{Contents, made_by}
 use Rattle.edits.specs.Touched.{stale_after}
-use Rattle.cow_tree.specs.Stored.{StoredTile, Stored, no_tiles, next_commit, mosaic_of_tiles}
+use Rattle.cow_tree.specs.Stored.{StoredTile, Stored, next_commit, mosaic_of_tiles}
 use Rattle.cow_tree.proofs.OneStored.{one_stored}
 use Rattle.store.specs.Standing.{HoldsTile, Holds, AreSame, StandsForOneContents}
-use Rattle.store.proofs.HeldTiles.{AreTilesOf, tiles_held, tiles_filled, filled_hold, none_kept_filled, no_tiles_of}
+use Rattle.store.proofs.HeldTiles.{AreTilesOf, tiles_held, tiles_filled, filled_hold, none_kept_filled}
 use Rattle.edits.proofs.AllStale.{all_stale}
 
 -- the mosaic is that of the stored tiles
 pub held : (side capacity : ℕ) (stored : Stored) (c : Contents) → Holds side capacity stored c → AreTilesOf side stored.tiles c.mosaic
 held side capacity stored c holds = record {
-  mosaic = ap₂ (λ (n : ℕ) (ts : List Tile). record { side = n; tiles = ts }) holds.side_is (tiles_held side stored.tiles c.mosaic.tiles tiles holds.tiles);
+  mosaic = ap₂ (λ (n : ℕ) (ts : List Tile). record { side = n; sinks = c.mosaic.sinks; tiles = ts }) holds.side_is (tiles_held side stored.tiles c.mosaic.tiles tiles holds.tiles);
   filled = tiles_filled side stored.tiles c.mosaic.tiles holds.tiles holds.none_kept;
 }
   where
@@ -27,46 +27,58 @@ held side capacity stored c holds = record {
     tiles = subst (λ (n : ℕ). All (IsTile n) c.mosaic.tiles) holds.side_is holds.valid.tiles
 
 -- and tiles of the mosaic hold it
-pub holds_from : (side capacity : ℕ) (stored : Stored) (c : Contents) → stored.side ≡ side → stored.capacity ≡ capacity → stored.number ≡ c.number → stored.count ≡ c.count
-    → IsMosaic c.mosaic → AreTilesOf side stored.tiles c.mosaic → c.stale ≡ corners_of c.mosaic → Holds side capacity stored c
-holds_from side capacity stored c stored_side stored_capacity number count valid are stale = record {
+pub holds_from : (side capacity : ℕ) (stored : Stored) (c : Contents) → stored.side ≡ side → stored.capacity ≡ capacity → c.version ≡ 1 → stored.number ≡ c.number → stored.count ≡ c.count
+    → stored.sinks ≡ c.mosaic.sinks → IsMosaic c.mosaic → AreTilesOf side stored.tiles c.mosaic → c.stale ≡ corners_of c.mosaic → Holds side capacity stored c
+holds_from side capacity stored c stored_side stored_capacity version number count sinks valid are stale = record {
   stored_side = stored_side;
   stored_capacity = stored_capacity;
+  version = version;
   number = number;
   count = count;
   valid = valid;
   side_is = ap (λ (m : Mosaic). m.side) are.mosaic;
+  sinks = sinks;
   tiles = subst (λ (m : Mosaic). AllZip (HoldsTile side) stored.tiles m.tiles) (sym are.mosaic) (filled_hold side stored.tiles are.filled);
   none_kept = none_kept_filled side stored.tiles are.filled;
   stale = stale;
 }
 
--- the next commit, by a command that isn't refused
-pub holds_next : (side capacity : ℕ) (stored : Stored) (c : Contents) (command : Command) (new : Mosaic) (tiles : List StoredTile) → Holds side capacity stored c
-    → effect capacity c.mosaic command ≡ Ok new → IsMosaic new → AreTilesOf side tiles new
-    → Holds side capacity (next_commit stored tiles (c.count + 1)) (made_by c command new)
-holds_next side capacity stored c command new tiles holds makes valid are =
-    holds_from side capacity (next_commit stored tiles (c.count + 1)) (made_by c command new) holds.stored_side holds.stored_capacity
-    (ap (λ (k : ℕ). k + 1) holds.number) refl valid are
+-- the next commit, by a command that isn't refused and makes these the sinks
+pub holds_with : (side capacity : ℕ) (stored : Stored) (c : Contents) (command : Command) (new : Mosaic) (sinks : List Point) (tiles : List StoredTile) → Holds side capacity stored c
+    → effect capacity c.mosaic command ≡ Ok new → sinks ≡ new.sinks → IsMosaic new → AreTilesOf side tiles new
+    → Holds side capacity (next_commit stored sinks tiles (c.count + 1)) (made_by c command new)
+holds_with side capacity stored c command new sinks tiles holds makes are_sinks valid are =
+    holds_from side capacity (next_commit stored sinks tiles (c.count + 1)) (made_by c command new) holds.stored_side holds.stored_capacity holds.version
+    (ap (λ (k : ℕ). k + 1) holds.number) refl are_sinks valid are
     (ap (λ (l : List Corner). stale_after c.mosaic command l new) holds.stale ∙ all_stale capacity c.mosaic new command makes)
+
+-- .. and one that leaves them
+pub holds_next : (side capacity : ℕ) (stored : Stored) (c : Contents) (command : Command) (new : Mosaic) (tiles : List StoredTile) → Holds side capacity stored c
+    → effect capacity c.mosaic command ≡ Ok new → new.sinks ≡ c.mosaic.sinks → IsMosaic new → AreTilesOf side tiles new
+    → Holds side capacity (next_commit stored stored.sinks tiles (c.count + 1)) (made_by c command new)
+holds_next side capacity stored c command new tiles holds makes kept valid are =
+    holds_with side capacity stored c command new stored.sinks tiles holds makes (holds.sinks ∙ sym kept) valid are
 
 -- ---- an image stands for at most one
 
-same_contents : (a b : Contents) → a.mosaic ≡ b.mosaic → a.count ≡ b.count → a.number ≡ b.number → a.stale ≡ b.stale → a ≡ b
-same_contents a b mosaic count number stale =
-    ap₂ (λ (m : Mosaic) (k : ℕ). record { mosaic = m; count = k; number = a.number; stale = a.stale }) mosaic count
-    ∙ ap₂ (λ (k : ℕ) (l : List Corner). record { mosaic = b.mosaic; count = b.count; number = k; stale = l }) number stale
+same_contents : (a b : Contents) → a.version ≡ b.version → a.mosaic ≡ b.mosaic → a.count ≡ b.count → a.number ≡ b.number → a.stale ≡ b.stale → a ≡ b
+same_contents a b version mosaic count number stale =
+    ap₂ (λ (v : ℕ) (m : Mosaic). record { version = v; mosaic = m; count = a.count; number = a.number; stale = a.stale }) version mosaic
+    ∙ ap (λ (k : ℕ). record { version = b.version; mosaic = b.mosaic; count = k; number = a.number; stale = a.stale }) count
+    ∙ ap₂ (λ (k : ℕ) (l : List Corner). record { version = b.version; mosaic = b.mosaic; count = b.count; number = k; stale = l }) number stale
 
 one_held : (side capacity other_side other_capacity : ℕ) (stored : Stored) (a b : Contents) → Holds side capacity stored a → Holds other_side other_capacity stored b
     → AreSame side capacity a other_side other_capacity b
 one_held side capacity other_side other_capacity stored a b p q =
     let sides : side ≡ other_side = sym p.stored_side ∙ q.stored_side in
     let mosaic : a.mosaic ≡ b.mosaic =
-    (held side capacity stored a p).mosaic ∙ ap (λ (n : ℕ). mosaic_of_tiles n stored.tiles) sides ∙ sym (held other_side other_capacity stored b q).mosaic in
+    (held side capacity stored a p).mosaic
+    ∙ ap₂ (λ (n : ℕ) (sinks : List Point). mosaic_of_tiles n sinks stored.tiles) sides (sym p.sinks ∙ q.sinks)
+    ∙ sym (held other_side other_capacity stored b q).mosaic in
     record {
       sides = sides;
       capacities = sym p.stored_capacity ∙ q.stored_capacity;
-      contents = same_contents a b mosaic (sym p.count ∙ q.count) (sym p.number ∙ q.number) (p.stale ∙ ap corners_of mosaic ∙ sym q.stale);
+      contents = same_contents a b (p.version ∙ sym q.version) mosaic (sym p.count ∙ q.count) (sym p.number ∙ q.number) (p.stale ∙ ap corners_of mosaic ∙ sym q.stale);
     }
 
 pub one_contents : StandsForOneContents

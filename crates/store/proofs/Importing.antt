@@ -1,8 +1,9 @@
 -- An import and a removal, once they are staged.
-use Rattle.std.proofs.Common.{◌≡◌, ℕ, ◌+◌, ◌*◌, ◌<◌, false, List, length, Contains, All, sym, ap, ◌∙◌, subst}
+use Rattle.std.proofs.Common.{◌≡◌, ℕ, ◌+◌, ◌*◌, ◌<◌, false, List, length, Contains, All, sym, ap, ap₂, ◌∙◌, subst}
 use Rattle.std.specs.Prelude.{IsTrue}
 use Rattle.disk.specs.declared.disk.Disk.{Ghosts}
 use Rattle.lattice.specs.Corners.{Corner, is_corner}
+use Rattle.lattice.specs.declared.point.Point.{Point}
 use Rattle.lattice.specs.Mosaic.{Mosaic}
 use Rattle.hgt.specs.Bytes.{samples_in}
 use Rattle.catalogue.specs.Tiles.{added, without}
@@ -11,7 +12,7 @@ use Rattle.edits.specs.declared.command.Command.TheVariants.{Import, Remove}
 use Rattle.edits.specs.EffectLaws.{CommandsMakeMosaics}
 use Rattle.calls.specs.State.{State, made_by}
 use Rattle.cow_tree.specs.Stored.{StoredTile, Stored, next_commit, pages_of_bytes, stale_tile, with_tile, without_tile}
-use Rattle.cow_tree.specs.Trees.{root_of, has_failed, staged_in, corners_of as corners_under}
+use Rattle.cow_tree.specs.Trees.{root_of, has_failed, sinks_of, staged_in, corners_of as corners_under}
 use Rattle.cow_tree.specs.declared.tree.Tree.{Tree}
 use Rattle.store.specs.Staging.{WillHold}
 use Rattle.store.specs.Standing.{Holds}
@@ -28,25 +29,32 @@ module _ {D : Type 0} (g : Ghosts D) (old mid : Tree D g) (works : has_failed ol
   abbrev stored : Stored
   stored = (at.sound works).stored
 
+  -- what the next commit has
+  next_is : (change : List StoredTile → List StoredTile) → staged_in g mid ≡ change (staged_in g old) → sinks_of mid ≡ sinks_of old
+      → next_commit stored stored.sinks (change stored.tiles) (s.contents.count + 1) ≡ next_commit stored (sinks_of mid) (staged_in g mid) (s.contents.count + 1)
+  next_is change staged kept =
+      sym (ap₂ (λ (sinks : List Point) (tiles : List StoredTile). next_commit stored sinks tiles (s.contents.count + 1)) (kept ∙ (at.sound works).none_declared)
+      (staged ∙ ap change (at.sound works).nothing_staged))
+
   pub import_holds : (bytes : List ℕ) → IsTrue (is_corner c) → All (λ b. b < 256) bytes → length bytes ≡ 2 * (n * n) → ¬ Contains (corners_under old) c → length (corners_under old) < capacity
-      → staged_in g mid ≡ with_tile (stale_tile c (pages_of_bytes (pages_of n) bytes)) (staged_in g old)
+      → staged_in g mid ≡ with_tile (stale_tile c (pages_of_bytes (pages_of n) bytes)) (staged_in g old) → sinks_of mid ≡ sinks_of old
       → WillHold g old mid (Import c bytes) s stored
-  import_holds bytes corner each whole none room staged =
+  import_holds bytes corner each whole none room staged kept =
       let made : Mosaic = added (record { corner = c; samples = samples_in bytes }) s.contents.mosaic in
       let new : StoredTile = stale_tile c (pages_of_bytes (pages_of n) bytes) in
       record {
         made = made;
         makes = imports_at g old works s at c bytes whole none room;
-        will = subst (λ (tiles : List StoredTile). Holds n capacity (next_commit stored tiles (s.contents.count + 1)) (made_by s.contents (Import c bytes) made))
-            (sym (staged ∙ ap (with_tile new) (at.sound works).nothing_staged)) (imported_at g old works s at c bytes whole none room valid corner each);
+        will = subst (λ (next : Stored). Holds n capacity next (made_by s.contents (Import c bytes) made))
+            (next_is (with_tile new) staged kept) (imported_at g old works s at c bytes whole none room valid corner each);
       }
 
-  pub remove_holds : Contains (corners_under old) c → staged_in g mid ≡ without_tile c (staged_in g old) → WillHold g old mid (Remove c) s stored
-  remove_holds has staged =
+  pub remove_holds : Contains (corners_under old) c → staged_in g mid ≡ without_tile c (staged_in g old) → sinks_of mid ≡ sinks_of old → WillHold g old mid (Remove c) s stored
+  remove_holds has staged kept =
       let made : Mosaic = without c s.contents.mosaic in
       record {
         made = made;
         makes = removes_at g old works s at c has;
-        will = subst (λ (tiles : List StoredTile). Holds n capacity (next_commit stored tiles (s.contents.count + 1)) (made_by s.contents (Remove c) made))
-            (sym (staged ∙ ap (without_tile c) (at.sound works).nothing_staged)) (removed_at g old works s at c valid has);
+        will = subst (λ (next : Stored). Holds n capacity next (made_by s.contents (Remove c) made))
+            (next_is (without_tile c) staged kept) (removed_at g old works s at c valid has);
       }

@@ -1,6 +1,5 @@
 pub mod Answering
 pub mod Committed
-pub mod Cuts
 pub mod EditingHeld
 pub mod EditingPages
 pub mod EditingReads
@@ -20,6 +19,7 @@ pub mod QueryingDrainage
 pub mod QueryingPages
 pub mod Runs
 pub mod Sets
+pub mod SinksHeld
 pub mod States
 pub mod StoreLemmas
 pub mod StoredCommands

@@ -4,12 +4,11 @@ use Rattle.std.specs.List.{concat}
 use Rattle.std.specs.Prelude.{Some, slice_get}
 use Rattle.std.proofs.Math.ListN.{get_or-append}
 use Rattle.std.proofs.Math.Seq.{get_or-append_right, take-set-lt}
-use Rattle.std.proofs.lemmas.List.{append-nil, length-append, length-set, length-take, length-take-le, get_or-set_same, get_or-take, set-set, set-append_left, set-append_right, take_more, take_all}
+use Rattle.std.proofs.lemmas.List.{append-nil, length-append, length-set, length-take, length-take-le, get_or-set_same, get_or-take, set-set, set-append_left, set-append_right, take_more}
 use Rattle.std.proofs.lemmas.List.Elements.{All-nil, All-head, All-tail, All-append, All-take, All-set}
 use Rattle.std.proofs.lemmas.List.Folds.{concat-append}
 use Rattle.std.proofs.lemmas.Option.{get_or_from_slice_get, slice_get_within}
 use Rattle.lattice.specs.Mosaic.{IsSample}
-use Rattle.page_codec.specs.Sizes.{pages_of}
 use Rattle.hgt.specs.Bytes.{sample_of, samples_in, high_byte, low_byte}
 use Rattle.hgt.proofs.BytesLemmas.{samples_in-set, get_or-samples_in, length-samples_in}
 use Rattle.hgt.proofs.Words.{byte-high_byte, byte-low_byte}

@@ -1,9 +1,10 @@
 -- What a query leaves, by the tree before and after its reads.
-use Rattle.std.proofs.Common.{◌≡◌, ◌≢◌, ℕ, Bool, true, false, List, length, map, refl, sym, ap, ap₂, ◌∙◌, subst, arith, true≢false}
+use Rattle.std.proofs.Common.{◌≡◌, ◌≢◌, Bool, true, false, List, length, map, refl, sym, ap, ap₂, ◌∙◌, subst, true≢false}
 use Rattle.std.specs.Prelude.{None, Result, Ok, Err, IsErrOf, IfOk, IfErr, OnOk, OnErr}
 use Rattle.disk.specs.Disk.{Image, HasRisen}
 use Rattle.disk.specs.declared.disk.Disk.{Ghosts}
 use Rattle.lattice.specs.Mosaic.{IsMosaic}
+use Rattle.lattice.specs.declared.point.Point.{Point}
 use Rattle.lattice.specs.declared.refusal.Refusal.{Refusal}
 use Rattle.lattice.specs.declared.refusal.Refusal.TheVariants.{Device, Failed}
 use Rattle.page_codec.specs.Roots.{RootValue}
@@ -12,7 +13,7 @@ use Rattle.calls.specs.State.{State, failing}
 use Rattle.cow_tree.specs.Reading.{mosaic_of, IsReadable, HasOnlyRead}
 use Rattle.cow_tree.specs.Stored.{StoredTile, Stored, AreWhole, mosaic_of_tiles}
 use Rattle.charts.specs.Charts.{ChartValue, HasFreshHeights, fresh_corners}
-use Rattle.cow_tree.specs.Trees.{disk_of, root_of, has_failed, staged_in, IsAt as IsTreeAt}
+use Rattle.cow_tree.specs.Trees.{disk_of, root_of, has_failed, sinks_of, staged_in, IsAt as IsTreeAt}
 use Rattle.cow_tree.specs.declared.tree.Tree.{Tree}
 use Rattle.store.specs.Queried.{IsQueried}
 use Rattle.store.specs.TreeStates.{IsInState, IsClean}
@@ -34,7 +35,7 @@ module _ {D : Type 0} (g : Ghosts D) (tree : Tree D g) (works : has_failed tree 
   valid_at = (at.sound works).holds.valid
 
   pub mosaic_at : mosaic_of g tree ≡ s.contents.mosaic
-  mosaic_at = sym tiles_at.mosaic
+  mosaic_at = ap (λ (sinks : List Point). mosaic_of_tiles (root_of tree).side sinks (staged_in g tree)) ((at.sound works).none_declared ∙ (at.sound works).holds.sinks) ∙ sym tiles_at.mosaic
 
   pub readable_at : g.honest (disk_of tree) → IsReadable g tree
   readable_at honest = record {
@@ -83,6 +84,12 @@ module _ {D : Type 0} (g : Ghosts D) (old new : Tree D g) (works : has_failed ol
     corners = keeps.corners ∙ was.corners ∙ ap (λ (r : RootValue). map (λ e. e.corner) r.entries) (sym keeps.root);
   }
 
+  -- it is the same mosaic
+  pub same_mosaic_read : g.honest (disk_of new) → mosaic_of g new ≡ mosaic_of g old
+  same_mosaic_read honest =
+      ap₂ (λ (r : RootValue) (sinks : List Point). mosaic_of_tiles r.side sinks (staged_in g new)) keeps.root keeps.sinks
+      ∙ ap (mosaic_of_tiles (root_of old).side (sinks_of old)) (keeps.staged honest)
+
   module _ (honest : g.honest (disk_of new)) (s : State) (at : IsInState g old s) where
     none_new : (image : Image) → g.may (disk_of new) image → g.may (disk_of old) image
     none_new = (keeps.nothing honest).run.now
@@ -91,13 +98,13 @@ module _ {D : Type 0} (g : Ghosts D) (old new : Tree D g) (works : has_failed ol
     pub still_at : has_failed new ≡ false → IsInState g new s
     still_at still =
         reads_keep g (disk_of old) (disk_of new) keeps.size none_new (root_of old) (root_of new) keeps.root (has_failed old) (has_failed new) (λ (stored : Stored). IsTreeAt g old stored)
-        (λ (stored : Stored). IsTreeAt g new stored) (staged_in g old) (staged_in g new) s at (still ∙ sym works) (λ stored is. keeps.at honest stored is still) (keeps.staged honest)
+        (λ (stored : Stored). IsTreeAt g new stored) (staged_in g old) (staged_in g new) (sinks_of old) (sinks_of new) s at (still ∙ sym works) (λ stored is. keeps.at honest stored is still) (keeps.staged honest) keeps.sinks
 
     -- and fails where one was
     pub failing_at : has_failed new ≡ true → IsInState g new (failing s None)
     failing_at fails =
         reads_fail g (disk_of old) (disk_of new) keeps.size none_new (root_of old) (root_of new) keeps.root (has_failed old) (has_failed new) (λ (stored : Stored). IsTreeAt g old stored)
-        (λ (stored : Stored). IsTreeAt g new stored) (staged_in g old) (staged_in g new) s at None fails (is_working g old works s at)
+        (λ (stored : Stored). IsTreeAt g new stored) (staged_in g old) (staged_in g new) (sinks_of old) (sinks_of new) s at None fails (is_working g old works s at)
 
     pub fails_so : Fails s None (failing s None)
     fails_so = record { working = is_working g old works s at; fails = refl }
@@ -108,7 +115,7 @@ module _ {D : Type 0} (g : Ghosts D) (old new : Tree D g) (works : has_failed ol
         record {
           honest = honest;
           pages = subst AreWhole (sym (keeps.staged honest)) was.pages;
-          valid = subst IsMosaic (sym (ap₂ (λ (n : ℕ) (tiles : List StoredTile). mosaic_of_tiles n tiles) (ap (λ (r : RootValue). r.side) keeps.root) (keeps.staged honest))) was.valid;
+          valid = subst IsMosaic (sym (same_mosaic_read honest)) was.valid;
         }
 
     -- the answer of a call that the disk alone refuses

@@ -109,7 +109,7 @@ module _ (n : ℕ) (c : Corner) (i j e : ℕ) (page : List ℕ) (s : ℤ) (here 
   set_in_page tiles m are =
       let each = tiles_set tiles are.filled in
       record {
-        mosaic = ap (with_sample c e s) are.mosaic ∙ ap (λ (ts : List Tile). record { side = n; tiles = ts }) (sym each.0);
+        mosaic = ap (with_sample c e s) are.mosaic ∙ ap (λ (ts : List Tile). record { side = n; sinks = m.sinks; tiles = ts }) (sym each.0);
         filled = each.1;
       }
 

@@ -1,9 +1,10 @@
 -- The states of a store, by what is seen of its tree.
-use Rattle.std.proofs.Common.{◌≡◌, ◌⊎◌, inl, inr, ⊎_elim, ℕ, Bool, true, false, List, refl, sym, ap, ◌∙◌, subst, true≢false}
+use Rattle.std.proofs.Common.{◌≡◌, ◌⊎◌, inl, inr, ℕ, Bool, true, false, List, refl, sym, ap, ◌∙◌, subst, true≢false}
 use Rattle.std.specs.Prelude.{Option, Some, None}
 use Rattle.std.proofs.lemmas.Option.{none-some}
 use Rattle.disk.specs.Disk.{Image}
 use Rattle.disk.specs.declared.disk.Disk.{Ghosts}
+use Rattle.lattice.specs.declared.point.Point.{Point}
 use Rattle.page_codec.specs.Roots.{RootValue}
 use Rattle.edits.specs.declared.command.Command.{Command}
 use Rattle.calls.specs.State.{Contents, State, in_doubt, failing, working}
@@ -27,28 +28,38 @@ module _ (sectors : ℕ) (root : RootValue) (tiles : List TileLocation) (stored 
   pub root_number : stored.number ≡ root.number
   root_number = ap (λ (s : Stored). s.number) stores.stands
 
+  pub root_sinks : stored.sinks ≡ root.sinks
+  root_sinks = ap (λ (s : Stored). s.sinks) stores.stands
+
   -- so what is held is held with the root's side and capacity
   pub held_by_root : (side capacity : ℕ) (c : Contents) → Holds side capacity stored c → Holds root.side root.capacity stored c
   held_by_root side capacity c holds =
       subst (λ (n : ℕ). Holds n root.capacity stored c) (sym holds.stored_side ∙ root_side)
       (subst (λ (n : ℕ). Holds side n stored c) (sym holds.stored_capacity ∙ root_capacity) holds)
 
-module _ {D : Type 0} (g : Ghosts D) (disk : D) (root : RootValue) (failed : Bool) (IsTreeAt : Stored → Type 0) (staged : List StoredTile) where
+module _ {D : Type 0} (g : Ghosts D) (disk : D) (root : RootValue) (failed : Bool) (IsTreeAt : Stored → Type 0) (staged : List StoredTile) (sinks : List Point) where
   -- a tree that hasn't failed and has nothing staged, at what holds the contents
   pub at_contents : (tiles : List TileLocation) (stored : Stored) (c : Contents) → failed ≡ false → ((image : Image) → g.may disk image → StoresAt (g.size disk) root tiles stored image) → g.may disk (g.seen disk)
-      → IsTreeAt stored → staged ≡ stored.tiles → Holds root.side root.capacity stored c → IsStateOf g disk root failed IsTreeAt staged (working c)
-  at_contents tiles stored c works each seen tree clean holds = record {
+      → IsTreeAt stored → staged ≡ stored.tiles → sinks ≡ root.sinks → Holds root.side root.capacity stored c → IsStateOf g disk root failed IsTreeAt staged sinks (working c)
+  at_contents tiles stored c works each seen tree clean declared holds = record {
     images = λ image may. inl (stored, (root, tiles, each image may), holds);
     side_is = holds.side_is;
     count = sym (root_count (g.size disk) root tiles stored (g.seen disk) (each (g.seen disk) seen)) ∙ holds.count;
     number = sym (root_number (g.size disk) root tiles stored (g.seen disk) (each (g.seen disk) seen)) ∙ holds.number;
     failed_is = works;
-    sound = λ _. record { stored = stored; tree = tree; holds = holds; nothing_staged = clean; no_doubt = refl };
+    sound = λ _. record {
+      stored = stored;
+      tree = tree;
+      holds = holds;
+      nothing_staged = clean;
+      none_declared = declared ∙ sym (root_sinks (g.size disk) root tiles stored (g.seen disk) (each (g.seen disk) seen));
+      no_doubt = refl;
+    };
   }
 
   -- one that failed
   pub at_failure : (s : State) → failed ≡ true → s.failed ≡ true → s.contents.mosaic.side ≡ root.side → root.count ≡ s.contents.count → root.number ≡ s.contents.number → EachStandsFor g disk root.side root.capacity s
-      → IsStateOf g disk root failed IsTreeAt staged s
+      → IsStateOf g disk root failed IsTreeAt staged sinks s
   at_failure s fails is side count number images = record {
     images = images;
     side_is = side;
@@ -59,7 +70,7 @@ module _ {D : Type 0} (g : Ghosts D) (disk : D) (root : RootValue) (failed : Boo
   }
 
   -- where no commit is in doubt, a stop leaves the contents
-  pub leaves_contents : (s : State) → IsStateOf g disk root failed IsTreeAt staged s → s.doubt ≡ None → (image : Image) → g.may disk image → StandsFor (g.size disk) root.side root.capacity image s.contents
+  pub leaves_contents : (s : State) → IsStateOf g disk root failed IsTreeAt staged sinks s → s.doubt ≡ None → (image : Image) → g.may disk image → StandsFor (g.size disk) root.side root.capacity image s.contents
   leaves_contents s at none image may = by (at.images image may)
     where
       by : StandsForState (g.size disk) root.side root.capacity image s → StandsFor (g.size disk) root.side root.capacity image s.contents
@@ -82,16 +93,16 @@ one_made sectors side capacity c made command stored next image makes was will (
 -- what calls that only read leave: no image is new
 
 module _ {D : Type 0} (g : Ghosts D) (old new : D) (size : g.size new ≡ g.size old) (none_new : (image : Image) → g.may new image → g.may old image)
-    (was now : RootValue) (root : now ≡ was) (failed fails : Bool) (IsOld IsNew : Stored → Type 0) (staged still : List StoredTile) (s : State) (at : IsStateOf g old was failed IsOld staged s) where
+    (was now : RootValue) (root : now ≡ was) (failed fails : Bool) (IsOld IsNew : Stored → Type 0) (staged still : List StoredTile) (sinks declared : List Point) (s : State) (at : IsStateOf g old was failed IsOld staged sinks s) where
   images_kept : EachStandsFor g new was.side was.capacity s
   images_kept = λ image may. subst (λ (n : ℕ). StandsForState n was.side was.capacity image s) (sym size) (at.images image (none_new image may))
 
-  by_root : (t : State) → IsStateOf g new was fails IsNew still t → IsStateOf g new now fails IsNew still t
-  by_root t is = subst (λ (r : RootValue). IsStateOf g new r fails IsNew still t) (sym root) is
+  by_root : (t : State) → IsStateOf g new was fails IsNew still declared t → IsStateOf g new now fails IsNew still declared t
+  by_root t is = subst (λ (r : RootValue). IsStateOf g new r fails IsNew still declared t) (sym root) is
 
   -- the state stays where no call failed
-  pub reads_keep : fails ≡ failed → ((stored : Stored) → IsOld stored → IsNew stored) → still ≡ staged → IsStateOf g new now fails IsNew still s
-  reads_keep same moves stays =
+  pub reads_keep : fails ≡ failed → ((stored : Stored) → IsOld stored → IsNew stored) → still ≡ staged → declared ≡ sinks → IsStateOf g new now fails IsNew still declared s
+  reads_keep same moves stays stay =
       by_root s (record {
         images = images_kept;
         side_is = at.side_is;
@@ -100,16 +111,16 @@ module _ {D : Type 0} (g : Ghosts D) (old new : D) (size : g.size new ≡ g.size
         failed_is = same ∙ at.failed_is;
         sound = λ works.
             let sound = at.sound (sym same ∙ works) in
-            record { stored = sound.stored; tree = moves sound.stored sound.tree; holds = sound.holds; nothing_staged = stays ∙ sound.nothing_staged; no_doubt = sound.no_doubt };
+            record { stored = sound.stored; tree = moves sound.stored sound.tree; holds = sound.holds; nothing_staged = stays ∙ sound.nothing_staged; none_declared = stay ∙ sound.none_declared; no_doubt = sound.no_doubt };
       })
 
   -- where one did, the contents stay, and no commit is in doubt, or one that was never begun
-  pub reads_fail : (doubt : Option Contents) → fails ≡ true → s.failed ≡ false → IsStateOf g new now fails IsNew still (failing s doubt)
+  pub reads_fail : (doubt : Option Contents) → fails ≡ true → s.failed ≡ false → IsStateOf g new now fails IsNew still declared (failing s doubt)
   reads_fail doubt fail working_before =
       let none : s.doubt ≡ None = (at.sound (at.failed_is ∙ working_before)).no_doubt in
-      by_root (failing s doubt) (at_failure g new was fails IsNew still (failing s doubt) fail refl at.side_is at.count at.number
-      (still_contents g new was.side was.capacity s doubt (λ image may. subst (λ (n : ℕ). StandsFor n was.side was.capacity image s.contents) (sym size) (leaves_contents g old was failed IsOld staged s at none image (none_new image may)))))
+      by_root (failing s doubt) (at_failure g new was fails IsNew still declared (failing s doubt) fail refl at.side_is at.count at.number
+      (still_contents g new was.side was.capacity s doubt (λ image may. subst (λ (n : ℕ). StandsFor n was.side was.capacity image s.contents) (sym size) (leaves_contents g old was failed IsOld staged sinks s at none image (none_new image may)))))
 
   -- where an opening is refused, the state stays but for the failure
-  pub stays_failed : fails ≡ true → IsStateOf g new now fails IsNew still (record s { failed = true })
-  stays_failed fail = by_root (record s { failed = true }) (at_failure g new was fails IsNew still (record s { failed = true }) fail refl at.side_is at.count at.number images_kept)
+  pub stays_failed : fails ≡ true → IsStateOf g new now fails IsNew still declared (record s { failed = true })
+  stays_failed fail = by_root (record s { failed = true }) (at_failure g new was fails IsNew still declared (record s { failed = true }) fail refl at.side_is at.count at.number images_kept)

@@ -1,6 +1,6 @@
 -- What the calls of a store leave.
 use Rattle.std.proofs.Common.{◌≡◌, ◌≢◌, ◌⊎◌, ⊎_elim, ℕ, Bool, true, false, List, [], ◌∷◌, Some, arith, refl, sym, ◌∙◌, ap, subst, inl, inr}
-use Rattle.std.specs.Prelude.{◌+◌, IsTrue, Result, Ok, Err, OnOk, OnErr, IfOk, IfErr, IsErrOf}
+use Rattle.std.specs.Prelude.{◌+◌, IsTrue, Result, Ok, Err, OnOk, OnErr, IfOk, IfErr}
 use Rattle.std.proofs.lemmas.Bool.{both_ways}
 use Rattle.disk.specs.Disk.{Image}
 use Rattle.disk.specs.Stops.{LeavesOnly, weaker as weaker_on, nothing_done as nothing_done_on}
@@ -9,11 +9,12 @@ use Rattle.lattice.specs.declared.refusal.Refusal.{Refusal}
 use Rattle.lattice.specs.declared.refusal.Refusal.TheVariants.{Device, NoMemory, Failed}
 use Rattle.page_codec.specs.Roots.{RootValue}
 use Rattle.edits.specs.declared.command.Command.{Command}
-use Rattle.edits.specs.declared.command.Command.TheVariants.{Import, Remove, Patch, Burn, Wall}
+use Rattle.edits.specs.declared.command.Command.TheVariants.{Import, Remove, Patch, Burn, Wall, Sink, Unsink}
 use Rattle.calls.specs.Engines.{answered, IsCall}
 use Rattle.calls.specs.Events.{fails_after, Happens}
 use Rattle.calls.specs.Outcomes.{Applies, Accepts, Fails}
-use Rattle.calls.specs.State.{Contents, State, would_make, made_by, in_doubt}
+use Rattle.calls.specs.State.{Contents, State, made_by, in_doubt}
+use Rattle.calls.proofs.Applying.{doubt_is}
 use Rattle.calls.specs.Told.{may_refuse, Knows, WritesFew as FewWrites}
 use Rattle.calls.specs.declared.event.Event.{Event}
 use Rattle.calls.specs.declared.event.Event.TheVariants as ask
@@ -58,7 +59,7 @@ module _ (sectors side capacity : ℕ) (s t : State) (c : Command) (image : Imag
   made_stands k accepts (made, is, stands) =
       let new = accepts.effect_is.0 in
       let effect = accepts.effect_is.1 in
-      let same = same_contents made (made_by s.contents c new) (sym is ∙ ap (would_make s.contents c) effect.0) in
+      let same = same_contents made (made_by s.contents c new) (sym is ∙ doubt_is capacity s.contents c new accepts.room effect.0) in
       inl (subst (StandsFor sectors side capacity image) (same ∙ sym (ap (λ (z : State). z.contents) effect.1)) stands)
 
   -- what a command that the disk failed would make is the new state's commit in doubt
@@ -126,13 +127,14 @@ module _ {D : Type 0} (g : Ghosts D) (old new : Store D g) {T : Type 0} (event :
       let before : ℕ = g.writes (disk_of old) in
       let now : ℕ = g.writes (disk_of new) in
       record {
-        side = ap (λ (root : RootValue). root.side) reads.root;
-        capacity = ap (λ (root : RootValue). root.capacity) reads.root;
+        side = λ _. ap (λ (root : RootValue). root.side) reads.root;
+        capacity = λ _. ap (λ (root : RootValue). root.capacity) reads.root;
         told = told event tell so (has_failed old) (has_failed new) result causes (λ had. ((reads.failed had).0, reads.still_failed had)) reads.works reads.fails reads.quiet;
         failures = counted_so event tell so (g.failures (disk_of old)) (g.failures (disk_of new)) result reads.later reads.device;
         writes = written_so event tell so 1 before now result (few_as event tell Answers is 1 before now reads.writes) (always_err result (λ _. reads.writes));
         known = knows_as event tell Answers is (known_by (root_of old)) (known_by (root_of new)) result (ap known_by reads.root);
         honest = λ h. (reads.nothing h).honest;
+        takes = λ h s at. (ap (λ (root : RootValue). root.side) reads.root, ap (λ (root : RootValue). root.capacity) reads.root);
         happens = λ h s at.
             let step = outcome h s at.at in (
               step.0,
@@ -172,13 +174,14 @@ unread g only_now store {T} result no_device failed refused = record {
 pub counts : {D : Type 0} (g : Ghosts D) → ((disk : D) (image : Image) → g.honest disk → g.since disk (g.moment disk) image → g.may disk image) → (store : Store D g) (k : ℕ) → k ≡ (root_of store).count
     → ((s : State) → IsAt g store s → k ≡ s.contents.count) → IsCall (members g) store ask.Count (reply.Count k) store
 counts g only_now store k known state = record {
-  side = refl;
-  capacity = refl;
+  side = λ _. refl;
+  capacity = λ _. refl;
   told = record { matches = tt; says = λ _. (k, refl); had_failed = λ e. cc; after_is = refl };
   failures = record { later = omega arith; device = λ e. cc };
   writes = record { few = refl; refused = λ r is other. refl };
   known = (known, refl);
   honest = λ h. h;
+  takes = λ h s at. (refl, refl);
   happens = λ h s at. (s, (at, (state s at.at, refl), nothing_done store s (s ∷ []) (λ image. only_now (disk_of store) image) h at));
 }
 
@@ -196,6 +199,8 @@ writes_few (Remove corner) before now few = tt
 writes_few (Patch from to h) before now few = tt
 writes_few (Burn depth points) before now few = few
 writes_few (Wall h points) before now few = few
+writes_few (Sink p) before now few = few
+writes_few (Unsink p) before now few = few
 
 right_command : (capacity : ℕ) (s t : State) (c : Command) (result : Result ℕ Refusal) → Applies capacity s c result t → Happens capacity s (ask.Do c) (answered reply.Done result) t
 right_command capacity s t c (Ok k) is = is
@@ -212,13 +217,14 @@ pub commands : {D : Type 0} (g : Ghosts D) → ((disk : D) (image : Image) → g
     → HasApplied g old new c result → WritesFew c (g.writes (disk_of old)) (g.writes (disk_of new)) → (has_failed old ≡ true → (result ≡ Err Failed) × (disk_of new ≡ disk_of old)) → (has_failed old ≡ true → has_failed new ≡ true)
     → IsCall (members g) old (ask.Do c) (answered reply.Done result) new
 commands g only_now old new c result is few failed still_failed = record {
-  side = is.side;
-  capacity = is.capacity;
+  side = λ _. is.side;
+  capacity = λ _. is.capacity;
   told = told (ask.Do c) reply.Done (is_command c) (has_failed old) (has_failed new) result is.causes (λ had. ((failed had).0, still_failed had)) is.works is.fails is.quiet;
   failures = counted_so (ask.Do c) reply.Done (is_command c) (g.failures (disk_of old)) (g.failures (disk_of new)) result is.later is.device;
   writes = written_so (ask.Do c) reply.Done (is_command c) 1 (g.writes (disk_of old)) (g.writes (disk_of new)) result (writes_few c (g.writes (disk_of old)) (g.writes (disk_of new)) few) is.unwritten;
   known = known_done (root_of old) (root_of new) c result is.counted is.last_known;
   honest = is.honest;
+  takes = λ h s at. (is.side, is.capacity);
   happens = λ h s at.
       let step = is.outcome h s at.at in
       let t : State = step.0 in (

@@ -49,18 +49,18 @@ remove_is capacity m c new e = passes new _ _ (is_present m c) e (λ there made.
 module _ (side capacity : ℕ) (stored : Stored) (c : Contents) (holds : Holds side capacity stored c) (new : Mosaic) (valid : IsMosaic new) where
   -- the stored tiles with the file's bytes as pages of one more, in order
   pub holds_imported : (corner : Corner) (bytes : List ℕ) → All (λ b. b < 256) bytes → effect capacity c.mosaic (Import corner bytes) ≡ Ok new
-      → Holds side capacity (next_commit stored (with_tile (stale_tile corner (pages_of_bytes (pages_of side) bytes)) stored.tiles) (c.count + 1)) (made_by c (Import corner bytes) new)
+      → Holds side capacity (next_commit stored stored.sinks (with_tile (stale_tile corner (pages_of_bytes (pages_of side) bytes)) stored.tiles) (c.count + 1)) (made_by c (Import corner bytes) new)
   holds_imported corner bytes each makes =
       let is = import_is capacity c.mosaic corner bytes new makes in
       let tiles : List StoredTile = with_tile (stale_tile corner (pages_of_bytes (pages_of side) bytes)) stored.tiles in
       let whole : length bytes ≡ 2 * (side * side) = is.whole ∙ ap (λ (n : ℕ). 2 * (n * n)) holds.side_is in
-      holds_next side capacity stored c (Import corner bytes) new tiles holds makes valid
+      holds_next side capacity stored c (Import corner bytes) new tiles holds makes (ap (λ (m : Mosaic). m.sinks) is.made) valid
       (subst (AreTilesOf side tiles) (sym is.made) (imported side stored.tiles c.mosaic corner bytes (held side capacity stored c holds) whole each))
 
   -- the stored tiles without the corner's
   pub holds_removed : (corner : Corner) → effect capacity c.mosaic (Remove corner) ≡ Ok new
-      → Holds side capacity (next_commit stored (without_tile corner stored.tiles) (c.count + 1)) (made_by c (Remove corner) new)
+      → Holds side capacity (next_commit stored stored.sinks (without_tile corner stored.tiles) (c.count + 1)) (made_by c (Remove corner) new)
   holds_removed corner makes =
       let is = remove_is capacity c.mosaic corner new makes in
-      holds_next side capacity stored c (Remove corner) new (without_tile corner stored.tiles) holds makes valid
+      holds_next side capacity stored c (Remove corner) new (without_tile corner stored.tiles) holds makes (ap (λ (m : Mosaic). m.sinks) is.1) valid
       (subst (AreTilesOf side (without_tile corner stored.tiles)) (sym is.1) (removed side stored.tiles c.mosaic corner (held side capacity stored c holds)))

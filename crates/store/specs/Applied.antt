@@ -6,7 +6,7 @@ use Rattle.disk.specs.declared.disk.Disk.{Ghosts}
 use Rattle.lattice.specs.declared.refusal.Refusal.{Refusal}
 use Rattle.lattice.specs.declared.refusal.Refusal.TheVariants.{Device, Failed}
 use Rattle.edits.specs.declared.command.Command.{Command}
-use Rattle.edits.specs.declared.command.Command.TheVariants.{Import, Remove}
+use Rattle.edits.specs.declared.command.Command.TheVariants.{Import, Remove, Sink, Unsink}
 use Rattle.calls.specs.Outcomes.{Applies}
 use Rattle.calls.specs.State.{Contents, State}
 use Rattle.calls.specs.Told.{may_refuse_command}
@@ -31,7 +31,15 @@ module _ {D : Type 0} (g : Ghosts D) (tree : Tree D g) where
 abbrev pub SetsSamples : Command → Type 0
 SetsSamples (Import c bytes) = ⊥
 SetsSamples (Remove c) = ⊥
+SetsSamples (Sink p) = ⊥
+SetsSamples (Unsink p) = ⊥
 SetsSamples _ = Unit {0}
+
+-- it declares a sink, or takes one back
+abbrev pub SetsSinks : Command → Type 0
+SetsSinks (Sink p) = Unit {0}
+SetsSinks (Unsink p) = Unit {0}
+SetsSinks _ = ⊥
 
 -- the command was done, and answered so
 pub record IsApplied {D : Type 0} (g : Ghosts D) (command : Command) (result : Result ℕ Refusal) (old new : Tree D g) : Type 0 where

@@ -8,9 +8,9 @@ use Rattle.lattice.specs.declared.refusal.Refusal.{Refusal}
 use Rattle.edits.specs.declared.change.Change.{Change}
 use Rattle.edits.specs.declared.change.Change.TheVariants.{Set}
 use Rattle.edits.specs.declared.command.Command.{Command}
-use Rattle.edits.specs.declared.command.Command.TheVariants.{Burn, Wall}
+use Rattle.edits.specs.declared.command.Command.TheVariants.{Burn, Wall, Sink, Unsink}
 use Rattle.cow_tree.specs.Stored.{StoredTile}
-use Rattle.cow_tree.specs.Trees.{disk_of, has_begun, corners_of, HasStaged}
+use Rattle.cow_tree.specs.Trees.{disk_of, has_begun, corners_of, sinks_of, HasStaged}
 use Rattle.cow_tree.specs.declared.tree.Tree.{Tree}
 use Rattle.store.specs.Staging.{CommitsNothing}
 use Rattle.store.specs.Standing.{HoldsTile, KeepNone}
@@ -19,10 +19,12 @@ use Rattle.store.specs.Standing.{HoldsTile, KeepNone}
 abbrev pub writes_begun : {D : Type 0} (g : Ghosts D) → Tree D g → ℕ
 writes_begun g tree = g.writes (disk_of tree) + (if has_begun tree then 0 else 1)
 
--- a burn or a wall makes at most four pages and four records a point, the root, and twice a gate
+-- a burn or a wall makes at most four pages and four records a point, the root, and twice a gate; a sink the last three
 abbrev pub WritesFew : Command → ℕ → ℕ → Type 0
 WritesFew (Burn depth points) before now = now ≤ before + (8 * length points.items + 3)
 WritesFew (Wall h points) before now = now ≤ before + (8 * length points.items + 3)
+WritesFew (Sink p) before now = now ≤ before + 3
+WritesFew (Unsink p) before now = now ≤ before + 3
 WritesFew _ before now = Unit {0}
 
 -- the stored tiles are the tiles of the mosaic, with this side
@@ -42,4 +44,5 @@ pub record SetsInPage (c : Corner) (i : ℕ) (change : Change) (j : ℕ) (s : �
 pub record StagesOnly {D T : Type 0} (g : Ghosts D) (old new : Tree D g) (result : Result T Refusal) : Type 0 where
   pub uncommitted : CommitsNothing g old new result
   pub corners : corners_of new ≡ corners_of old
+  pub sinks : sinks_of new ≡ sinks_of old
   pub still_staged : (c : Corner) → HasStaged old c → HasStaged new c

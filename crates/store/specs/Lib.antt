@@ -1,7 +1,6 @@
 pub mod Applied
 pub mod Calls
 pub mod Editing
-pub mod PowerCuts
 pub mod Queried
 pub mod Staging
 pub mod Standing

@@ -11,7 +11,7 @@ use Rattle.edits.specs.Effect.{effect}
 use Rattle.calls.specs.State.{State, made_by}
 use Rattle.cow_tree.specs.Layout.{Stands}
 use Rattle.cow_tree.specs.Stored.{Stored, next_commit}
-use Rattle.cow_tree.specs.Trees.{disk_of, root_of, has_failed, staged_in, IsAt}
+use Rattle.cow_tree.specs.Trees.{disk_of, root_of, has_failed, sinks_of, staged_in, IsAt}
 use Rattle.cow_tree.specs.declared.tree.Tree.{Tree}
 use Rattle.store.specs.Applied.{IsApplied}
 use Rattle.store.specs.Standing.{Holds}
@@ -34,7 +34,7 @@ pub record CommitsNothing {D T : Type 0} (g : Ghosts D) (old new : Tree D g) (re
 pub record WillHold {D : Type 0} (g : Ghosts D) (old mid : Tree D g) (command : Command) (s : State) (stored : Stored) : Type 0 where
   pub made : Mosaic
   pub makes : effect (root_of old).capacity s.contents.mosaic command ≡ Ok made
-  pub will : Holds (root_of old).side (root_of old).capacity (next_commit stored (staged_in g mid) (s.contents.count + 1)) (made_by s.contents command made)
+  pub will : Holds (root_of old).side (root_of old).capacity (next_commit stored (sinks_of mid) (staged_in g mid) (s.contents.count + 1)) (made_by s.contents command made)
 
 -- the command is staged on what the old tree was at, or staging it was refused by the disk, or for memory before any write
 pub record IsStaged {D : Type 0} (g : Ghosts D) (old mid : Tree D g) (command : Command) (staged : Result (Unit {0}) Refusal) : Type 0 where

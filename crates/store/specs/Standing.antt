@@ -19,15 +19,17 @@ pub record HoldsTile (n : ℕ) (stored : StoredTile) (t : Tile) : Type 0 where
 abbrev pub KeepNone : List StoredTile → Type 0
 KeepNone tiles = All (λ t. t.kept ≡ None) tiles
 
--- What is stored, with tiles of this side and room for so many, are these contents. No planes are kept yet, so every
--- present tile is stale.
+-- What is stored, with tiles of this side and room for so many, are these contents. The one format so far is version 1, and
+-- no planes are kept yet, so every present tile is stale.
 pub record Holds (side capacity : ℕ) (stored : Stored) (c : Contents) : Type 0 where
   pub stored_side : stored.side ≡ side
   pub stored_capacity : stored.capacity ≡ capacity
+  pub version : c.version ≡ 1
   pub number : stored.number ≡ c.number
   pub count : stored.count ≡ c.count
   pub valid : IsMosaic c.mosaic
   pub side_is : c.mosaic.side ≡ side
+  pub sinks : stored.sinks ≡ c.mosaic.sinks
   pub tiles : AllZip (HoldsTile side) stored.tiles c.mosaic.tiles
   pub none_kept : KeepNone stored.tiles
   pub stale : c.stale ≡ corners_of c.mosaic

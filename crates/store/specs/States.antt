@@ -3,6 +3,7 @@
 use Rattle.std.specs.Prelude.{◌≡◌, ◌⊎◌, ℕ, Bool, false, List, Some, None}
 use Rattle.disk.specs.Disk.{Image}
 use Rattle.disk.specs.declared.disk.Disk.{Ghosts}
+use Rattle.lattice.specs.declared.point.Point.{Point}
 use Rattle.page_codec.specs.Roots.{RootValue}
 use Rattle.edits.specs.declared.command.Command.{Command}
 use Rattle.calls.specs.State.{Contents, State, in_doubt}
@@ -26,19 +27,20 @@ StandsForMade sectors side capacity image c command =
 
 -- A tree that is at what is stored where the test says so: it is at what holds the contents, nothing is staged beyond it,
 -- and no commit is in doubt.
-pub record IsSound (side capacity : ℕ) (IsTreeAt : Stored → Type 0) (staged : List StoredTile) (s : State) : Type 0 where
+pub record IsSound (side capacity : ℕ) (IsTreeAt : Stored → Type 0) (staged : List StoredTile) (sinks : List Point) (s : State) : Type 0 where
   pub stored : Stored
   pub tree : IsTreeAt stored
   pub holds : Holds side capacity stored s.contents
   pub nothing_staged : staged ≡ stored.tiles
+  pub none_declared : sinks ≡ stored.sinks
   pub no_doubt : s.doubt ≡ None
 
 -- The state of a store by what is seen of its tree: the disk, the root known last, whether it failed, where it is, and
--- the tiles as the next commit will have them.
-pub record IsStateOf {D : Type 0} (g : Ghosts D) (disk : D) (root : RootValue) (failed : Bool) (IsTreeAt : Stored → Type 0) (staged : List StoredTile) (s : State) : Type 0 where
+-- the tiles and the sinks as the next commit will have them.
+pub record IsStateOf {D : Type 0} (g : Ghosts D) (disk : D) (root : RootValue) (failed : Bool) (IsTreeAt : Stored → Type 0) (staged : List StoredTile) (sinks : List Point) (s : State) : Type 0 where
   pub images : EachStandsFor g disk root.side root.capacity s
   pub side_is : s.contents.mosaic.side ≡ root.side
   pub count : root.count ≡ s.contents.count
   pub number : root.number ≡ s.contents.number
   pub failed_is : failed ≡ s.failed
-  pub sound : failed ≡ false → IsSound root.side root.capacity IsTreeAt staged s
+  pub sound : failed ≡ false → IsSound root.side root.capacity IsTreeAt staged sinks s

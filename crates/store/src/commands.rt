@@ -13,13 +13,14 @@ ghost use Rattle.calls.specs.Told.{may_refuse_command};
 ghost use Rattle.cow_tree.specs.Trees.{corners_of};
 ghost use Rattle.store.specs.Standing.{StandsFor};
 ghost use Rattle.store.specs.States.{StandsForMade};
-ghost use Rattle.store.specs.Applied.{SetsSamples, IsApplied, HasApplied};
+ghost use Rattle.store.specs.Applied.{SetsSamples, SetsSinks, IsApplied, HasApplied};
 ghost use Rattle.store.specs.Editing.{WritesFew};
 ghost use Rattle.store.specs.Stores.{disk_of, root_of, side_of, capacity_of, has_failed, IsAt};
 
 use crate::Store;
 use crate::committing::commit_staged;
 use crate::editing::{plan_changes, stage_changes};
+use crate::sinking::plan_sinks;
 use cow_tree::Plane;
 use disk::Disk;
 use edits::{Command, commands_make_mosaics};
@@ -31,7 +32,7 @@ impl<D: Disk> Store<D> {
     pub fn apply(&mut self, command: &Command) -> Result<u64, Refusal>
         ensures applied { HasApplied D.Disk self.old self.new command.now result }
 
-        // A burn or a wall of q points makes at most 8 q + 3 writes, on any disk.
+        // A burn or a wall of q points makes at most 8 q + 3 writes, on any disk, and a sink that comes or goes at most 3.
         ensures writes { WritesFew command.now (D.writes (disk_of self.old)) (D.writes (disk_of self.new)) }
 
         // A store that failed makes no call of the disk, and stays failed.
@@ -47,6 +48,7 @@ impl<D: Disk> Store<D> {
             Command::Patch { .. } | Command::Burn { .. } | Command::Wall { .. } => {
                 self.edit(command)
             }
+            Command::Sink { .. } | Command::Unsink { .. } => self.change_sinks(command),
         }
     }
 
@@ -86,6 +88,21 @@ impl<D: Disk> Store<D> {
         }
         let staged = stage_changes(&mut self.tree, &changes);
         commit_staged(&mut self.tree, staged)
+    }
+
+    // A sink that is declared, or taken back.
+    fn change_sinks(&mut self, command: &Command) -> Result<u64, Refusal>
+        requires not_failed { has_failed self.old ≡ false }
+        requires sinks { SetsSinks command.now }
+        ensures applied { IsApplied D.Disk command.now result self.old.tree self.new.tree }
+        ensures writes { D.writes (disk_of self.new) ≤ D.writes (disk_of self.old) + 3 }
+    {
+        let sinks = plan_sinks(&mut self.tree, command)?;
+        if self.tree.current().number() == u64::MAX {
+            return Err(Refusal::Worn);
+        }
+        self.tree.declare(&sinks);
+        commit_staged(&mut self.tree, Ok(()))
     }
 
     // Whether an import is accepted, by what is held in memory.

@@ -12,7 +12,7 @@ ghost use Rattle.calls.specs.Outcomes.{AppliesNot};
 ghost use Rattle.edits.specs.Plans.{IsFew, may_end};
 ghost use Rattle.calls.specs.State.{State};
 ghost use Rattle.cow_tree.specs.Stored.{StoredTile, Stored, with_page};
-ghost use Rattle.cow_tree.specs.Trees.{disk_of, root_of, has_failed, has_begun, corners_of, records_due, HasStaged, staged_in, IsAt};
+ghost use Rattle.cow_tree.specs.Trees.{disk_of, root_of, has_failed, has_begun, corners_of, sinks_of, records_due, HasStaged, staged_in, IsAt};
 ghost use Rattle.store.specs.Applied.{SetsSamples, IsApplied};
 ghost use Rattle.store.specs.Editing.{HoldsMosaic, SetsInPage, StagesOnly, WritesFew, writes_begun};
 ghost use Rattle.store.specs.Staging.{CommitsNothing};
@@ -39,6 +39,7 @@ pub(crate) fn plan_changes<D: Disk>(
     ensures reads { CommitsNothing D.Disk tree.old tree.new result }
     ensures clean { has_failed tree.new ≡ false → IsClean tree.old → IsClean tree.new }
     ensures staged { D.honest (disk_of tree.new) → staged_in D.Disk tree.new ≡ staged_in D.Disk tree.old }
+    ensures sinks { sinks_of tree.new ≡ sinks_of tree.old }
     ensures writes { D.writes (disk_of tree.new) ≡ D.writes (disk_of tree.old) }
     ensures causes { IfErr result (λ r. IsTrue (may_end command.now r)) }
     ensures quiet { IfErr result (λ r. r ≢ Device → (r ≢ Failed) × (has_failed tree.new ≡ false)) }
@@ -50,16 +51,7 @@ pub(crate) fn plan_changes<D: Disk>(
         → IfErr result (λ r. r ≢ Device → AppliesNot (root_of tree.old).capacity s command.now r s) }
 {
     let capacity = tree.current().capacity();
-    match plan(alloc, tree, capacity, command) {
-        Ok(changes) => Ok(changes),
-        Err(refusal) => match refusal {
-            Refusal::Device => {
-                tree.fail();
-                Err(refusal)
-            }
-            _ => Err(refusal),
-        },
-    }
+    plan(alloc, tree, capacity, command)
 }
 
 // Stages the pages that the changes set samples in. Memory for all of them is had before the first is written: refused
@@ -91,10 +83,13 @@ fn prepare_tiles<D: Disk>(tree: &mut Tree<D>, changes: &[Change]) -> Result<(), 
     ensures begun { has_begun tree.new ≡ has_begun tree.old }
     ensures due { records_due tree.new ≤ records_due tree.old + length changes.now }
     ensures staged { staged_in D.Disk tree.new ≡ staged_in D.Disk tree.old }
-    ensures prepared { OnOk result (All (λ change. HasStaged tree.new (tile_of change)) changes.now) }
+    ensures prepared { OnOk result (All (λ change. IfSome (tile_of change) (HasStaged tree.new)) changes.now) }
 {
     for change in changes {
-        tree.prepare(change.corner())?;
+        let Some(corner) = change.corner() else {
+            unreachable!()
+        };
+        tree.prepare(corner)?;
     }
     Ok(())
 }
@@ -103,7 +98,7 @@ fn prepare_tiles<D: Disk>(tree: &mut Tree<D>, changes: &[Change]) -> Result<(), 
 fn stage_pages<D: Disk>(tree: &mut Tree<D>, changes: &[Change]) -> Result<(), Refusal>
     requires works { has_failed tree.old ≡ false }
     requires sets { All (CanBeSet (root_of tree.old).side (corners_of tree.old)) changes.now }
-    requires prepared { All (λ change. HasStaged tree.old (tile_of change)) changes.now }
+    requires prepared { All (λ change. IfSome (tile_of change) (HasStaged tree.old)) changes.now }
     ensures stages { StagesOnly D.Disk tree.old tree.new result }
     ensures refused { IfErr result (λ r. r ≡ Device) }
     ensures writes { D.writes (disk_of tree.new) ≤ writes_begun D.Disk tree.old + length changes.now }
@@ -130,7 +125,7 @@ fn stage_page<D: Disk>(
     requires works { has_failed tree.old ≡ false }
     requires within { first < length changes.now }
     requires sets { All (CanBeSet (root_of tree.old).side (corners_of tree.old)) changes.now }
-    requires prepared { All (λ change. HasStaged tree.old (tile_of change)) changes.now }
+    requires prepared { All (λ change. IfSome (tile_of change) (HasStaged tree.old)) changes.now }
     ensures stages { StagesOnly D.Disk tree.old tree.new result }
     ensures refused { IfErr result (λ r. r ≡ Device) }
     ensures writes { D.writes (disk_of tree.new) ≤ writes_begun D.Disk tree.old + 1 }

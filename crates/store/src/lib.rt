@@ -10,18 +10,13 @@
 mod commands;
 mod committing;
 mod editing;
-mod in_memory;
 mod laws;
-mod power_cut;
 mod queries;
 mod running;
+mod sinking;
 mod store;
 mod store_engine;
-#[cfg(test)]
-mod tests;
 
 pub use calls::{Event, Reply};
-pub use in_memory::store_in_memory;
 pub use laws::images_stand_for_one_contents;
-pub use power_cut::run_through_power_cut;
 pub use store::Store;

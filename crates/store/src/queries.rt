@@ -1,10 +1,11 @@
 //! The queries of a store: they only read.
 ghost use Rattle.std.specs.Prelude.{◌≡◌, ◌≢◌, ◌≤◌, ◌*◌, ◌⊎◌, Contains, IsTrue, length, false, true, Err, OnOk, IfErr, vec_len, vec_capacity};
+ghost use Rattle.lattice.specs.Limits.{most_tiles};
 ghost use Rattle.lattice.specs.declared.refusal.Refusal.TheVariants.{Device, NoMemory, Failed};
 ghost use Rattle.calls.specs.State.{State};
 ghost use Rattle.calls.specs.Told.{may_refuse};
 ghost use Rattle.calls.specs.declared.event.Event.TheVariants as ask;
-ghost use Rattle.calls.specs.Outcomes.{Elevates, Exports, Lists, Fills, Directs, Traces, Sheds};
+ghost use Rattle.calls.specs.Outcomes.{Elevates, Exports, Lists, ListsSinks, Fills, Directs, Traces, Sheds};
 ghost use Rattle.cow_tree.specs.Reading.{Reads};
 ghost use Rattle.cow_tree.specs.Stored.{StoredTile, plane_bytes};
 ghost use Rattle.cow_tree.specs.Trees.{disk_of as disk_under, root_of as root_under, corners_of, has_failed as have_failed, staged_in};
@@ -130,10 +131,22 @@ impl<D: Disk> Store<D> {
         Ok(corners)
     }
 
+    /// The declared sinks, in the order of points. They are held in memory too.
+    pub fn sinks(&self) -> Result<Vec<Point>, Refusal>
+        ensures memory { result ≢ Err Device }
+        ensures causes { IfErr result (λ r. IsTrue (may_refuse ask.Sinks r)) }
+        ensures refused { IfErr result (λ r. (r ≡ NoMemory) ⊎ ((r ≡ Failed) × (has_failed self.now ≡ true))) }
+        ensures failed { has_failed self.now ≡ true → result ≡ Err Failed }
+        ensures outcome { D.honest (disk_of self.now) → (s : State) → IsAt D.Disk self.now s → ListsSinks s (items_in result) s }
+    {
+        self.check_working()?;
+        Ok(Vec::from_slice(self.alloc, self.tree.sinks())?)
+    }
+
     // Refused where the store has failed. One that works has no more tiles than a root has room for.
     fn check_working(&self) -> Result<(), Refusal>
         ensures works { OnOk result (has_failed self.now ≡ false) }
-        ensures few { OnOk result (length (corners_of self.now.tree) ≤ 240) }
+        ensures few { OnOk result (length (corners_of self.now.tree) ≤ most_tiles) }
         ensures failed { IfErr result (λ r. (r ≡ Failed) × (has_failed self.now ≡ true)) }
     {
         if self.tree.has_failed() {
@@ -163,7 +176,7 @@ fn read_heights<D: Disk>(
     let len = side.file_bytes() as usize;
     let mut page = [0; PAGE_BYTES];
     for i in 0..pages_in_plane(side) {
-        tree.read_page(corner, Plane::Heights, i, &mut page)?;
+        tree.scan_page(corner, Plane::Heights, i, &mut page)?;
         let count = (len - bytes.len()).min(PAGE_BYTES);
         let _ = bytes.extend_from_slice(&page[..count]);
     }

@@ -59,6 +59,7 @@ impl<D: Disk> Store<D> {
                 .export(*corner)
                 .map_or_else(Reply::Refused, Reply::Export),
             Event::Tiles => self.tiles().map_or_else(Reply::Refused, Reply::Tiles),
+            Event::Sinks => self.sinks().map_or_else(Reply::Refused, Reply::Sinks),
             Event::Count => Reply::Count(self.count()),
             Event::Reopen => self
                 .reopen()

@@ -5,6 +5,7 @@ ghost use Rattle.disk.specs.Stops.{AddsNothing};
 ghost use Rattle.lattice.specs.declared.refusal.Refusal.TheVariants.{Device, NoMemory, BadSide, BadCapacity, TooSmall};
 ghost use Rattle.page_codec.specs.Sizes.{sectors_of};
 ghost use Rattle.calls.specs.State.{Contents, State, fresh, working};
+ghost use Rattle.cow_tree.specs.OverRoots.{IsRefusalOfTree};
 ghost use Rattle.cow_tree.specs.Trees.{MayRefuse, has_failed as have_failed};
 ghost use Rattle.store.specs.Standing.{StandsFor};
 ghost use Rattle.store.specs.TreeStates.{IsClean};
@@ -96,6 +97,7 @@ impl<D: Disk> Store<D> {
         ensures size { D.size (disk_of self.new) ≡ D.size (disk_of self.old) }
         ensures writes { D.writes (disk_of self.new) ≡ D.writes (disk_of self.old) }
         ensures later { D.failures (disk_of self.old) ≤ D.failures (disk_of self.new) }
+        ensures refusals { IfErr result IsRefusalOfTree }
         ensures device { IsErrOf result Device → HasRisen (D.failures (disk_of self.old)) (D.failures (disk_of self.new)) }
         ensures nothing { D.honest (disk_of self.new) → AddsNothing D.Disk (disk_of self.old) (disk_of self.new) }
         ensures works { OnOk result (has_failed self.new ≡ false) }

@@ -87,6 +87,10 @@ impl<D: Disk> Engine for Store<D> {
         Store::tiles(self)
     }
 
+    fn sinks(&self) -> Result<Vec<Point>, Refusal> {
+        Store::sinks(self)
+    }
+
     fn count(&self) -> u64 {
         Store::count(self)
     }

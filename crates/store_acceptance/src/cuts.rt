@@ -2,8 +2,9 @@
 use super::fixtures::{A, B, EAST, HERE, import, store_of};
 use disk::{FuseDisk, Torn};
 use edits::Command;
+use memory_store::run_through_power_cut;
 use std::test::Fail;
-use store::{Event, Reply, Store, run_through_power_cut};
+use store::{Event, Reply, Store};
 
 // How many calls opening a store with one tile makes: a sync, both gates, both roots and the record.
 const CALLS_TO_OPEN: u64 = 6;

@@ -3,9 +3,10 @@ use arrayvec::ArrayVec;
 use disk::{Disk, MemDisk};
 use edits::{Bytes, Command};
 use lattice::{Corner, Point};
+use memory_store::store_in_memory;
 use std::alloc::Global;
 use std::test::Fail;
-use store::{Store, store_in_memory};
+use store::Store;
 
 pub(crate) const HERE: Corner = Corner { lat: 0, lon: 0 };
 
@@ -48,6 +49,14 @@ pub(crate) fn burn(depth: i32, points: &[Point]) -> Command {
 pub(crate) fn wall(height: i32, points: &[Point]) -> Command {
     let points = listed(points);
     Command::Wall { height, points }
+}
+
+pub(crate) fn sink(point: Point) -> Command {
+    Command::Sink { point }
+}
+
+pub(crate) fn unsink(point: Point) -> Command {
+    Command::Unsink { point }
 }
 
 fn listed(points: &[Point]) -> ArrayVec<Point, 64> {

@@ -3,9 +3,10 @@ use super::fixtures::{EAST, HERE};
 use disk::MemDisk;
 use edits::{Bytes, Command};
 use lattice::Corner;
+use memory_store::store_in_memory;
 use std::alloc::Global;
 use std::test::Fail;
-use store::{Store, store_in_memory};
+use store::Store;
 
 // What a store of two tiles of 1201 x 1201 samples needs.
 const SECTORS: u32 = 7064;

@@ -3,9 +3,10 @@ use super::fixtures::{A, HERE, at, import};
 use disk::{Disk, FaultOnceDisk};
 use edits::Command;
 use lattice::{Height, Refusal};
+use memory_store::store_in_memory;
 use std::alloc::Global;
 use std::test::Fail;
-use store::{Event, Reply, Store, store_in_memory};
+use store::{Event, Reply, Store};
 use watershed::Run;
 
 // How many calls opening a store with one tile makes: a sync, both gates, both roots and the record.

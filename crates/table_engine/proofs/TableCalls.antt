@@ -15,7 +15,7 @@ use Rattle.hgt.specs.Bytes.{hgt_bytes}
 use Rattle.catalogue.specs.Readers.{reads_of}
 use Rattle.catalogue.specs.Tiles.{corners_of}
 use Rattle.edits.specs.declared.command.Command.{Command}
-use Rattle.edits.specs.declared.command.Command.TheVariants.{Import, Remove, Patch, Burn, Wall}
+use Rattle.edits.specs.declared.command.Command.TheVariants.{Import, Remove, Patch, Burn, Wall, Sink, Unsink}
 use Rattle.edits.specs.Effect.{effect}
 use Rattle.edits.specs.Plans.{is_own, may_end}
 use Rattle.edits.proofs.AllStale.{all_changed_side, all_stale}
@@ -29,8 +29,8 @@ use Rattle.calls.specs.declared.event.Reply.{Reply}
 use Rattle.calls.specs.declared.event.Reply.TheVariants as reply
 use Rattle.calls.specs.Engines.{IsCall, answered}
 use Rattle.calls.specs.Events.{Happens, fails_after}
-use Rattle.calls.specs.Outcomes.{Stays, AnswersNot, Accepts, Applies, AppliesNot, IsWorn, last_number}
-use Rattle.calls.specs.State.{Contents, State, made_by, working}
+use Rattle.calls.specs.Outcomes.{Stays, AnswersNot, Accepts, Applies, AppliesNot, IsWorn}
+use Rattle.calls.specs.State.{Contents, State, last_number, made_by, working}
 use Rattle.calls.specs.Told.{Matches, Knows, WritesFew, may_refuse, may_refuse_question}
 use Rattle.calls.proofs.Applying.{plan_refused}
 use Rattle.table_engine.specs.TableState.{Held, held_of, contents_of, table}
@@ -41,6 +41,8 @@ few_writes (Remove c) = tt
 few_writes (Patch from to height) = tt
 few_writes (Burn depth points) = omega arith
 few_writes (Wall height points) = omega arith
+few_writes (Sink p) = omega arith
+few_writes (Unsink p) = omega arith
 
 module _ (held : Held) where
   abbrev now : State
@@ -59,13 +61,14 @@ module _ (held : Held) where
   same : (event : Event) (answer : Reply) → Matches event answer → (answer ≡ reply.Refused Failed → ⊥) → (answer ≡ reply.Refused Device → ⊥) → false ≡ fails_after false event answer
       → WritesFew 1 event 0 0 → Knows (table.known held) event answer (table.known held) → Happens held.capacity now event answer now → Same event answer
   same event answer matches not_failed not_device after few knows happens = record {
-    side = refl;
-    capacity = refl;
+    side = λ _. refl;
+    capacity = λ _. refl;
     told = record { matches = matches; says = λ failed. absurd (true≢false (sym failed)); had_failed = λ is. absurd (not_failed is); after_is = after };
     failures = record { later = omega arith; device = λ is. absurd (not_device is) };
     writes = record { few = few; refused = λ r is other. refl };
     known = knows;
     honest = λ h. h;
+    takes = λ honest s at. (refl, refl);
     happens = λ honest s at. (s, (at, subst (λ (z : State). Happens held.capacity z event answer z) (sym at) happens, tt));
   }
 
@@ -120,6 +123,10 @@ module _ (held : Held) where
   listed (Ok corners) is memory = same ask.Tiles (reply.Tiles corners) tt (λ e. absurd (cc)) (λ e. absurd (cc)) refl refl refl (stays, is)
   listed (Err r) is memory = subst (λ (r : Refusal). Same ask.Tiles (reply.Refused r)) (sym memory) (same ask.Tiles (reply.Refused NoMemory) refl (λ e. absurd (cc)) (λ e. absurd (cc)) refl refl refl stays)
 
+  pub listed_sinks : (result : Result (Vec Point) Refusal) → IfOk result (λ points. points.items ≡ here.sinks) → IfErr result (λ r. r ≡ NoMemory) → Same ask.Sinks (answered reply.Sinks result)
+  listed_sinks (Ok points) is memory = same ask.Sinks (reply.Sinks points) tt (λ e. absurd (cc)) (λ e. absurd (cc)) refl refl refl (stays, is)
+  listed_sinks (Err r) is memory = subst (λ (r : Refusal). Same ask.Sinks (reply.Refused r)) (sym memory) (same ask.Sinks (reply.Refused NoMemory) refl (λ e. absurd (cc)) (λ e. absurd (cc)) refl refl refl stays)
+
   pub told_count : (k : ℕ) → k ≡ held.contents.count → Same ask.Count (reply.Count k)
   told_count k is = same ask.Count (reply.Count k) tt (λ e. absurd (cc)) (λ e. absurd (cc)) refl refl (is, refl) (is, refl)
 
@@ -149,6 +156,8 @@ module _ (held : Held) where
         may_be_memory (Patch from to height) = refl
         may_be_memory (Burn depth points) = refl
         may_be_memory (Wall height points) = refl
+        may_be_memory (Sink p) = refl
+        may_be_memory (Unsink p) = refl
 
 module _ (m : Mosaic) (capacity k g : ℕ) where
   abbrev pub old : Held
@@ -157,20 +166,21 @@ module _ (m : Mosaic) (capacity k g : ℕ) where
   -- a command that is done
   pub done : (c : Command) (new : Mosaic) → effect capacity m c ≡ Ok new → new.side ≡ m.side → g < last_number → IsCall table old (ask.Do c) (reply.Done (k + 1)) (held_of capacity new (k + 1) (g + 1))
   done c new makes side below = record {
-    side = side;
-    capacity = refl;
+    side = λ _. side;
+    capacity = λ _. refl;
     told = record { matches = tt; says = λ failed. absurd (true≢false (sym failed)); had_failed = λ e. absurd (cc); after_is = refl };
     failures = record { later = omega arith; device = λ e. absurd (cc) };
     writes = record { few = few_writes c; refused = λ r is other. refl };
     known = (refl, refl);
     honest = λ h. h;
+    takes = λ honest s at. (side, refl);
     happens = λ honest s at. (working (contents_of new (k + 1) (g + 1)), (refl, subst (λ (z : State). Applies capacity z c (Ok (k + 1)) (working (contents_of new (k + 1) (g + 1)))) (sym at) accepted, tt));
   }
     where
       accepted : Accepts capacity (working old.contents) c (k + 1) (working (contents_of new (k + 1) (g + 1)))
       accepted = record {
         working = refl;
-        effect_is = (new, (makes, ap (λ (l : List Corner). working (record { mosaic = new; count = k + 1; number = g + 1; stale = l })) (sym (all_stale capacity m new c makes))));
+        effect_is = (new, (makes, ap (λ (l : List Corner). working (record { version = 1; mosaic = new; count = k + 1; number = g + 1; stale = l })) (sym (all_stale capacity m new c makes))));
         counted = refl;
         room = below;
       }

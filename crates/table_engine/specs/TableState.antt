@@ -1,5 +1,6 @@
 -- The state that an engine in memory is in (this product's own profile).
 use Rattle.std.specs.Prelude.{◌≡◌, ℕ, ◌<◌, ◌≤◌, false, length, ⊤}
+use Rattle.lattice.specs.Limits.{most_tiles}
 use Rattle.lattice.specs.Mosaic.{Mosaic, IsMosaic}
 use Rattle.catalogue.specs.Tiles.{corners_of}
 use Rattle.calls.specs.Engines.{Members}
@@ -12,7 +13,7 @@ pub record Held : Type 0 where
 
 -- it keeps no planes: each present tile is without them
 abbrev pub contents_of : Mosaic → ℕ → ℕ → Contents
-contents_of m k g = record { mosaic = m; count = k; number = g; stale = corners_of m }
+contents_of m k g = record { version = 1; mosaic = m; count = k; number = g; stale = corners_of m }
 
 abbrev pub held_of : ℕ → Mosaic → ℕ → ℕ → Held
 held_of capacity m k g = record { capacity = capacity; contents = contents_of m k g }
@@ -36,4 +37,4 @@ pub record IsKept (capacity : ℕ) (m : Mosaic) (k g : ℕ) : Type 0 where
   pub valid : IsMosaic m
   pub above : k < g
   pub within : length m.tiles ≤ capacity
-  pub few : capacity ≤ 240
+  pub few : capacity ≤ most_tiles

@@ -5,7 +5,7 @@ ghost use Rattle.calls.specs.State.{fresh};
 use catalogue::{Samples, Table, height};
 use edits::{Command, carry_out, commands_make_mosaics, plan};
 use engine::Engine;
-use lattice::{Corner, Height, Point, Refusal, Side};
+use lattice::{Corner, Height, MOST_TILES, Point, Refusal, Side};
 use std::alloc::Global;
 use std::marker::Model;
 use watershed::Run;
@@ -31,9 +31,9 @@ impl Model for TableEngine {
 }
 
 impl TableEngine {
-    /// An empty mosaic of tiles of this side, which takes so many of them: at most 240, as a store does.
+    /// An empty mosaic of tiles of this side, which takes so many of them: at most as many as a store does.
     pub fn new(alloc: Global, side: Side, capacity: u32) -> TableEngine
-        requires { capacity ≤ 240 }
+        requires { capacity ≤ MOST_TILES }
         ensures empty { result.contents ≡ fresh side }
         ensures capacity { result.capacity ≡ capacity }
     {
@@ -129,6 +129,10 @@ impl Engine for TableEngine {
 
     fn tiles(&self) -> Result<Vec<Corner>, Refusal> {
         self.table.corners(self.alloc)
+    }
+
+    fn sinks(&self) -> Result<Vec<Point>, Refusal> {
+        Ok(Vec::from_slice(self.alloc, self.table.sinks())?)
     }
 
     fn count(&self) -> u64 {

@@ -1,3 +1,4 @@
+use arrayvec::ArrayVec;
 use lattice::{Refusal, Side};
 use std::alloc::Global;
 use tile_flood::{Block, Flood, Labelled, NO_LABEL, OUT, Spill, raise, spills};
@@ -6,7 +7,7 @@ const VOID: i16 = i16::MIN;
 
 fn labelled(alloc: Global, side: u32, heights: &[i16]) -> Option<Labelled> {
     let heights = Vec::from_slice(alloc, heights).ok()?;
-    let block = Block::new(Side::new(side)?, heights)?;
+    let block = Block::new(Side::new(side)?, heights, ArrayVec::new())?;
     Flood::run(alloc, &block).ok()
 }
 
@@ -54,6 +55,21 @@ fn water_leaves_beside_a_void(rt: HostRuntime) {
 }
 
 #[test]
+fn water_leaves_at_a_sink(rt: HostRuntime) {
+    let heights = Vec::from_slice(rt.alloc(), &[9, 9, 9, 9, 1, 9, 9, 9, 5]).expect(&rt, "memory");
+    let mut sinks = ArrayVec::new();
+    sinks.push(4);
+    let block = Block::new(Side::new(3).expect(&rt, "a side"), heights, sinks).expect(
+        &rt,
+        "nine heights",
+    );
+    let found = Flood::run(rt.alloc(), &block).expect(&rt, "memory");
+    assert_eq!(rt; found.levels().get(4), Some(&1));
+    assert_eq!(rt; found.labels().get(4), Some(&OUT));
+    assert_eq!(rt; found.labels().get(8), Some(&7));
+}
+
+#[test]
 fn voids_have_no_label(rt: HostRuntime) {
     let found = labelled(rt.alloc(), 3, &[VOID; 9]).expect(&rt, "memory");
     assert!(rt; found.levels() == &[VOID; 9][..]);
@@ -64,9 +80,9 @@ fn voids_have_no_label(rt: HostRuntime) {
 fn a_block_is_whole(rt: HostRuntime) {
     let side = Side::new(3).expect(&rt, "a side");
     let heights = Vec::from_slice(rt.alloc(), &[1i16; 8]).expect(&rt, "memory");
-    assert!(rt; Block::new(side, heights).is_none());
+    assert!(rt; Block::new(side, heights, ArrayVec::new()).is_none());
     let heights = Vec::from_slice(rt.alloc(), &[1i16; 9]).expect(&rt, "memory");
-    let block = Block::new(side, heights).expect(&rt, "nine heights");
+    let block = Block::new(side, heights, ArrayVec::new()).expect(&rt, "nine heights");
     assert_eq!(rt; block.side().samples(), 3);
     assert!(rt; block.heights() == &[1i16; 9][..]);
 }

@@ -10,7 +10,7 @@ fn filled(alloc: Global, side: u32, corners: &[(i16, i16)], levels: &[i16]) -> O
         tiles.push(Corner::new(*lat, *lon)?).ok()?;
     }
     let levels = Vec::from_slice(alloc, levels).ok()?;
-    Filled::new(Side::new(side)?, tiles, levels)
+    Filled::new(Side::new(side)?, tiles, levels, Vec::new(alloc))
 }
 
 fn found(alloc: Global, corners: &[(i16, i16)], levels: &[i16]) -> Option<Directions> {
@@ -34,6 +34,22 @@ fn equal_drops_go_to_the_first_in_code_order(rt: HostRuntime) {
     assert_eq!(rt; drained.direction(at(0, 1)), Some(Dir::East));
     let path = drained.trace(rt.alloc(), at(0, 0)).expect(&rt, "memory");
     assert!(rt; path.as_slice() == &[at(0, 0), at(1, 1), at(0, 2)][..]);
+}
+
+#[test]
+fn water_leaves_at_a_sink_with_no_lower_neighbour(rt: HostRuntime) {
+    let alloc = rt.alloc();
+    let mut corners = Vec::new(alloc);
+    corners.push(Corner::default()).expect(&rt, "memory");
+    let levels = Vec::from_slice(alloc, &[9, 9, 9, 9, 1, 9, 9, 9, 5]).expect(&rt, "memory");
+    let sinks = Vec::from_slice(alloc, &[at(1, 1)]).expect(&rt, "memory");
+    let side = Side::new(3).expect(&rt, "a side");
+    let filled = Filled::new(side, corners, levels, sinks).expect(&rt, "levels");
+    let drained = filled.directions(alloc).expect(&rt, "directions");
+    assert_eq!(rt; drained.direction(at(1, 1)), None);
+    assert_eq!(rt; drained.flat_distance(at(1, 1)), Some(0));
+    assert_eq!(rt; drained.direction(at(0, 2)), Some(Dir::NorthWest));
+    assert_eq!(rt; drained.direction(at(0, 1)), Some(Dir::North));
 }
 
 #[test]

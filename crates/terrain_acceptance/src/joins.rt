@@ -1,3 +1,4 @@
+use arrayvec::ArrayVec;
 use border_graph::{RimPoint, Summary, join};
 use lattice::{Corner, Side};
 use std::alloc::Global;
@@ -10,7 +11,11 @@ const RIM: [usize; 8] = [0, 1, 2, 3, 5, 6, 7, 8];
 
 // The summary of a tile of side 3 whose rim points but this one are outlets.
 fn summary(alloc: Global, lon: i16, heights: &[i16; 9], inner: usize) -> Option<Summary> {
-    let block = Block::new(Side::new(3)?, Vec::from_slice(alloc, heights).ok()?)?;
+    let block = Block::new(
+        Side::new(3)?,
+        Vec::from_slice(alloc, heights).ok()?,
+        ArrayVec::new(),
+    )?;
     let labelled = Flood::run(alloc, &block).ok()?;
     let mut rim = Vec::new(alloc);
     for (number, index) in RIM.iter().enumerate() {

@@ -1,5 +1,6 @@
 use lattice::{
-    Corner, DIRECTIONS, Dir, Point, Refusal, Side, holders, index_in, point_at, steeper, steps,
+    Corner, DIRECTIONS, Dir, Point, Refusal, Side, holders, index_in, point_at, sinks_in, steeper,
+    steps,
 };
 
 #[test]
@@ -65,6 +66,18 @@ fn rows_run_from_the_north(rt: HostRuntime) {
     assert_eq!(rt; index_in(side, corner, Point { y: 0, x: 3 }), None);
     assert_eq!(rt; index_in(side, corner, Point { y: -1, x: 0 }), None);
     assert!(rt; point_at(side, corner, 2) == Point { y: 2, x: 2 });
+}
+
+#[test]
+fn a_tile_has_the_sinks_that_it_holds(rt: HostRuntime) {
+    let side = Side::new(3).expect(&rt, "a side");
+    let corner = Corner { lat: 0, lon: 0 };
+    let sinks = [
+        Point { y: 0, x: 0 },
+        Point { y: 1, x: 1 },
+        Point { y: 3, x: 1 },
+    ];
+    assert!(rt; sinks_in(side, corner, &sinks).as_slice() == [6, 4].as_slice());
 }
 
 #[test]

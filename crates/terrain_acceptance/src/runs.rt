@@ -18,7 +18,7 @@ fn drained(
         tiles.push(Corner::new(*lat, *lon)?).ok()?;
     }
     let levels = Vec::from_slice(alloc, levels).ok()?;
-    let filled = Filled::new(Side::new(3)?, tiles, levels)?;
+    let filled = Filled::new(Side::new(3)?, tiles, levels, Vec::new(alloc))?;
     let directions = filled.directions(alloc).ok()?;
     watershed(alloc, &directions, Point { y, x }).ok()
 }

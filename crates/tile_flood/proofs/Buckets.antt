@@ -1,13 +1,15 @@
 -- What waits when one bucket of the queue changes.
-use Rattle.std.proofs.Common.{◌≡◌, ◌≢◌, ℕ, zero, suc, ◌+◌, ◌<◌, ◌≤◌, ℤ, pos, ◌-ℤ◌, List, [], ◌∷◌, ◌++◌, length, map, get_or, set, ◌⊎◌, inl, inr, Contains, refl, sym, ap, ◌∙◌, subst, arith, length-set, get_or-set_same, get_or-set_other, length-append}
+use Rattle.std.proofs.Common.{◌≡◌, ◌≢◌, ℕ, zero, suc, ◌+◌, ◌<◌, ◌≤◌, ℤ, pos, ◌+ℤ◌, ◌-ℤ◌, ◌≤ℤ◌, ◌<ℤ◌, nat_abs, sum_by, List, [], ◌∷◌, ◌++◌, length, map, get_or, set, ◌⊎◌, inl, inr, Contains, refl, sym, ap, ◌∙◌, subst, arith, length-set, get_or-set_same, get_or-set_other, length-append}
 use Rattle.std.proofs.lemmas.Bool.{cases_eq, cases_lt}
 use Rattle.std.proofs.lemmas.Int.{ints}
+use Rattle.std.proofs.lemmas.List.{get_or_past}
 use Rattle.std.proofs.lemmas.List.Sums.{sum_by-set, sum_by-cons}
 use Rattle.std.proofs.lemmas.List.Elements.{Contains-append_cases, Contains-append_left, Contains-append_right}
-use Rattle.tile_flood.specs.Waiting.{bucket, Waits, waiting, AreEmptyBelow, IsJoined, IsTaken}
+use Rattle.tile_flood.specs.Waiting.{Queue, bucket, Waits, HasBucket, waiting, AreEmptyBelow, IsJoined, IsTaken}
 
-level_at : ℕ → ℤ
-level_at k = pos k -ℤ pos 32768
+-- these buckets, the first for the least level
+abbrev pub from_level : ℤ → List (List ℕ) → Queue
+from_level least buckets = record { least = least; buckets = buckets }
 
 only_one : (e f : ℕ) → Contains (e ∷ []) f → f ≡ e
 only_one e f (zero, below, is) = sym is
@@ -17,32 +19,47 @@ none_in : (f : ℕ) (xs : List ℕ) → xs ≡ [] → Contains xs f → ⊥
 none_in f xs empty (k, below, is) = let none : length xs ≡ 0 = ap length empty in absurd (omega arith)
 
 -- a list of buckets where one is another
-module _ (bs : List (List ℕ)) (k : ℕ) (v : List ℕ) (inside : k < length bs) where
+module _ (least : ℤ) (bs : List (List ℕ)) (k : ℕ) (v : List ℕ) (inside : k < length bs) where
   there : bucket (set bs k v) k ≡ v
   there = get_or-set_same bs k v [] inside
 
   elsewhere : (b : ℕ) → b ≢ k → bucket (set bs k v) b ≡ bucket bs b
   elsewhere b other = get_or-set_other bs k b v [] other
 
-  into : (l : ℤ) (f : ℕ) → Waits bs l f → (Contains (bucket bs k) f → Contains v f) → Waits (set bs k v) l f
+  into : (l : ℤ) (f : ℕ) → Waits (from_level least bs) l f → (Contains (bucket bs k) f → Contains v f) → Waits (from_level least (set bs k v)) l f
   into l f (b, (is, has)) grows = elim (cases_eq b k) [
-    | inl same ↦ (k, (is ∙ ap (λ x. pos x -ℤ pos 32768) same, subst (λ xs. Contains xs f) (sym there) (grows (subst (λ x. Contains (bucket bs x) f) same has))))
+    | inl same ↦ (k, (is ∙ ap (λ x. least +ℤ pos x) same, subst (λ xs. Contains xs f) (sym there) (grows (subst (λ x. Contains (bucket bs x) f) same has))))
     | inr other ↦ (b, (is, subst (λ xs. Contains xs f) (sym (elsewhere b other)) has))
   ]
 
-  back : (l : ℤ) (f : ℕ) → Waits (set bs k v) l f → ((l ≡ pos k -ℤ pos 32768) × Contains v f) ⊎ Waits bs l f
+  back : (l : ℤ) (f : ℕ) → Waits (from_level least (set bs k v)) l f → ((l ≡ least +ℤ pos k) × Contains v f) ⊎ Waits (from_level least bs) l f
   back l f (b, (is, has)) = elim (cases_eq b k) [
-    | inl same ↦ inl (is ∙ ap (λ x. pos x -ℤ pos 32768) same, subst (λ xs. Contains xs f) there (subst (λ x. Contains (bucket (set bs k v) x) f) same has))
+    | inl same ↦ inl (is ∙ ap (λ x. least +ℤ pos x) same, subst (λ xs. Contains xs f) there (subst (λ x. Contains (bucket (set bs k v) x) f) same has))
     | inr other ↦ inr (b, (is, subst (λ xs. Contains xs f) (elsewhere b other) has))
   ]
 
+-- what waits has its bucket
+pub has_bucket : (queue : Queue) (l : ℤ) (f : ℕ) → Waits queue l f → HasBucket queue l
+has_bucket queue l f (b, (is, has)) = elim (cases_lt b (length queue.buckets)) [
+  | inl inside ↦ record { number = b; inside = inside; at = is }
+  | inr out ↦ absurd (none_in f (bucket queue.buckets b) (get_or_past queue.buckets b [] out) has)
+]
+
+-- the level's bucket has this number
+pub number_inside : (queue : Queue) (level : ℤ) (k : ℕ) → HasBucket queue level → level ≡ queue.least +ℤ pos k → k < length queue.buckets
+number_inside queue level k has is = let inside = has.inside in let at = has.at in omega (arith, ints)
+
+kept_buckets : (least : ℤ) (bs : List (List ℕ)) (k : ℕ) (v : List ℕ) (l : ℤ) → HasBucket (from_level least bs) l → HasBucket (from_level least (set bs k v)) l
+kept_buckets least bs k v l has = record { number = has.number; inside = let long = length-set bs k v in let inside = has.inside in omega arith; at = has.at }
+
 -- a point joins bucket k
-module _ (bs : List (List ℕ)) (k e : ℕ) (inside : k < length bs) where
-  pub joins : IsJoined bs (set bs k (bucket bs k ++ e ∷ [])) (pos k -ℤ pos 32768) e
+module _ (least : ℤ) (bs : List (List ℕ)) (k e : ℕ) (inside : k < length bs) where
+  pub joins : IsJoined (from_level least bs) (from_level least (set bs k (bucket bs k ++ e ∷ []))) (least +ℤ pos k) e
   joins = record {
-    waits = (k, (refl, subst (λ xs. Contains xs e) (sym (there bs k (bucket bs k ++ e ∷ []) inside)) (Contains-append_right (bucket bs k) (e ∷ []) e (0, omega arith, refl))));
-    others = λ l f w. into bs k (bucket bs k ++ e ∷ []) inside l f w (λ has. Contains-append_left (bucket bs k) (e ∷ []) f has);
-    only = λ l f w. elim (back bs k (bucket bs k ++ e ∷ []) inside l f w) [
+    buckets = kept_buckets least bs k (bucket bs k ++ e ∷ []);
+    waits = (k, (refl, subst (λ xs. Contains xs e) (sym (there least bs k (bucket bs k ++ e ∷ []) inside)) (Contains-append_right (bucket bs k) (e ∷ []) e (0, omega arith, refl))));
+    others = λ l f w. into least bs k (bucket bs k ++ e ∷ []) inside l f w (λ has. Contains-append_left (bucket bs k) (e ∷ []) f has);
+    only = λ l f w. elim (back least bs k (bucket bs k ++ e ∷ []) inside l f w) [
       | inl new ↦ elim (Contains-append_cases (bucket bs k) (e ∷ []) f new.1) [
         | inl old ↦ inr (k, (new.0, old))
         | inr last ↦ inl (new.0, only_one e f last)
@@ -51,16 +68,17 @@ module _ (bs : List (List ℕ)) (k e : ℕ) (inside : k < length bs) where
     ];
   }
 
-  pub joins_count : waiting (set bs k (bucket bs k ++ e ∷ [])) ≡ waiting bs + 1
+  pub joins_count : waiting (from_level least (set bs k (bucket bs k ++ e ∷ []))) ≡ waiting (from_level least bs) + 1
   joins_count =
-      let total : waiting (set bs k (bucket bs k ++ e ∷ [])) + length (bucket bs k) ≡ waiting bs + length (bucket bs k ++ e ∷ []) = sum_by-set length bs k (bucket bs k ++ e ∷ []) [] inside in
+      let total : waiting (from_level least (set bs k (bucket bs k ++ e ∷ []))) + length (bucket bs k) ≡ waiting (from_level least bs) + length (bucket bs k ++ e ∷ []) = sum_by-set length bs k (bucket bs k ++ e ∷ []) [] inside in
       let long : length (bucket bs k ++ e ∷ []) ≡ length (bucket bs k) + 1 = length-append (bucket bs k) (e ∷ []) in
       omega arith
 
 -- the last point of bucket k, the lowest that isn't empty, is taken
-module _ (bs : List (List ℕ)) (k e : ℕ) (rest : List ℕ) (inside : k < length bs) (is : bucket bs k ≡ rest ++ e ∷ []) (low : AreEmptyBelow bs k) where
-  pub takes : IsTaken bs (set bs k rest) (pos k -ℤ pos 32768) e
+module _ (least : ℤ) (bs : List (List ℕ)) (k e : ℕ) (rest : List ℕ) (inside : k < length bs) (is : bucket bs k ≡ rest ++ e ∷ []) (low : AreEmptyBelow bs k) where
+  pub takes : IsTaken (from_level least bs) (from_level least (set bs k rest)) (least +ℤ pos k) e
   takes = record {
+    buckets = kept_buckets least bs k rest;
     waited = (k, (refl, subst (λ xs. Contains xs e) (sym is) (Contains-append_right rest (e ∷ []) e (0, omega arith, refl))));
     lowest = λ l f w. elim (cases_lt w.0 k) [
       | inl below ↦ absurd (none_in f (bucket bs w.0) (low w.0 below) w.1.1)
@@ -68,25 +86,25 @@ module _ (bs : List (List ℕ)) (k e : ℕ) (rest : List ℕ) (inside : k < leng
     ];
     others = λ l f w. elim (cases_eq w.0 k) [
       | inl same ↦ elim (Contains-append_cases rest (e ∷ []) f (subst (λ xs. Contains xs f) is (subst (λ x. Contains (bucket bs x) f) same w.1.1))) [
-        | inl left ↦ inr (k, (w.1.0 ∙ ap (λ x. pos x -ℤ pos 32768) same, subst (λ xs. Contains xs f) (sym (there bs k rest inside)) left))
-        | inr last ↦ inl (w.1.0 ∙ ap (λ x. pos x -ℤ pos 32768) same, only_one e f last)
+        | inl left ↦ inr (k, (w.1.0 ∙ ap (λ x. least +ℤ pos x) same, subst (λ xs. Contains xs f) (sym (there least bs k rest inside)) left))
+        | inr last ↦ inl (w.1.0 ∙ ap (λ x. least +ℤ pos x) same, only_one e f last)
       ]
-      | inr other ↦ inr (w.0, (w.1.0, subst (λ xs. Contains xs f) (sym (elsewhere bs k rest inside w.0 other)) w.1.1))
+      | inr other ↦ inr (w.0, (w.1.0, subst (λ xs. Contains xs f) (sym (elsewhere least bs k rest inside w.0 other)) w.1.1))
     ];
-    only = λ l f w. elim (back bs k rest inside l f w) [
+    only = λ l f w. elim (back least bs k rest inside l f w) [
       | inl new ↦ (k, (new.0, subst (λ xs. Contains xs f) (sym is) (Contains-append_left rest (e ∷ []) f new.1)))
       | inr old ↦ old
     ];
   }
 
-  pub takes_count : waiting bs ≡ waiting (set bs k rest) + 1
+  pub takes_count : waiting (from_level least bs) ≡ waiting (from_level least (set bs k rest)) + 1
   takes_count =
-      let total : waiting (set bs k rest) + length (bucket bs k) ≡ waiting bs + length rest = sum_by-set length bs k rest [] inside in
+      let total : waiting (from_level least (set bs k rest)) + length (bucket bs k) ≡ waiting (from_level least bs) + length rest = sum_by-set length bs k rest [] inside in
       let long : length (bucket bs k) ≡ length rest + 1 = ap length is ∙ length-append rest (e ∷ []) in
       omega arith
 
-pub nobody : (bs : List (List ℕ)) (k : ℕ) → AreEmptyBelow bs k → ((b : ℕ) → k ≤ b → bucket bs b ≡ []) → (l : ℤ) (f : ℕ) → Waits bs l f → ⊥
-nobody bs k low high l f w = elim (cases_lt w.0 k) [
+pub nobody : (least : ℤ) (bs : List (List ℕ)) (k : ℕ) → AreEmptyBelow bs k → ((b : ℕ) → k ≤ b → bucket bs b ≡ []) → (l : ℤ) (f : ℕ) → Waits (from_level least bs) l f → ⊥
+nobody least bs k low high l f w = elim (cases_lt w.0 k) [
   | inl below ↦ none_in f (bucket bs w.0) (low w.0 below) w.1.1
   | inr above ↦ none_in f (bucket bs w.0) (high w.0 above) w.1.1
 ]
@@ -94,6 +112,10 @@ nobody bs k low high l f w = elim (cases_lt w.0 k) [
 pub none_left : {X : Type 0} (xs : List X) → length xs ≡ 0 → xs ≡ []
 none_left [] none = refl
 none_left (x ∷ xs) none = absurd (omega arith)
+
+-- how far the level is above the least
+number_from : (least level : ℤ) → least ≤ℤ level → (k : ℕ) × (level ≡ least +ℤ pos k)
+number_from least level low = (nat_abs (level -ℤ least), omega (arith, ints))
 
 -- the same for buckets that hold more than their lists
 module _ {V : Type 0} (items : V → List ℕ) where
@@ -111,11 +133,11 @@ module _ {V : Type 0} (items : V → List ℕ) where
   map_length [] = refl
   map_length (x ∷ xs) = ap suc (map_length xs)
 
-  -- a change in bucket k leaves the buckets below it empty
-  pub still_sound : (xs : List V) (k low now : ℕ) (v : V) → length xs ≡ 65536 → AreEmptyBelow (map items xs) low → now ≤ low → now ≤ k →
-      (length (set xs k v) ≡ 65536) × AreEmptyBelow (map items (set xs k v)) now
-  still_sound xs k low now v long empty le at = (
-    length-set xs k v ∙ long,
+  -- a change in bucket k leaves the buckets below it empty, and no bucket more
+  pub still_sound : (least : ℤ) (xs : List V) (k low now : ℕ) (v : V) → (least +ℤ pos (length xs)) ≤ℤ pos 32768 → AreEmptyBelow (map items xs) low → now ≤ low → now ≤ k →
+      ((least +ℤ pos (length (set xs k v))) ≤ℤ pos 32768) × AreEmptyBelow (map items (set xs k v)) now
+  still_sound least xs k low now v few empty le at = (
+    subst (λ n. (least +ℤ pos n) ≤ℤ pos 32768) (sym (length-set xs k v)) few,
     λ b below. subst (λ bs. bucket bs b ≡ []) (sym (map_set xs k v)) (get_or-set_other (map items xs) k b (items v) [] (λ same. absurd (omega arith)) ∙ empty b (omega arith)),
   )
 
@@ -149,38 +171,56 @@ module _ {V : Type 0} (items : V → List ℕ) where
   no_more (x ∷ xs) h zero = h.0
   no_more (x ∷ xs) h (suc b) = no_more xs h.1 b
 
-  pub no_count : (xs : List V) → AreEmpty xs → waiting (map items xs) ≡ 0
+  pub no_count : (xs : List V) → AreEmpty xs → sum_by length (map items xs) ≡ 0
   no_count [] h = refl
   no_count (x ∷ xs) h =
       let here : length (items x) ≡ 0 = ap length h.0 in
       let later = no_count xs h.1 in
-      let both : length (items x) + waiting (map items xs) ≡ 0 = omega arith in
+      let both : length (items x) + sum_by length (map items xs) ≡ 0 = omega arith in
       sum_by-cons length (items x) (map items xs) ∙ both
 
+  -- the level's bucket is among them
+  pub inside_of : (least : ℤ) (xs : List V) (queue : Queue) (level : ℤ) (k : ℕ) → from_level least (map items xs) ≡ queue → HasBucket queue level → level ≡ least +ℤ pos k → k < length xs
+  inside_of least xs queue level k same has at =
+      let inside = number_inside (from_level least (map items xs)) level k (subst (λ q. HasBucket q level) (sym same) has) at in
+      let as_many = map_length xs in
+      omega arith
+
+  -- each level from the least on has its bucket
+  pub buckets_from : (least level greatest : ℤ) (xs : List V) (count : ℕ) → length xs ≡ count → greatest <ℤ (least +ℤ pos count) → least ≤ℤ level → level ≤ℤ greatest →
+      HasBucket (from_level least (map items xs)) level
+  buckets_from least level greatest xs count long enough low high =
+      let number = number_from least level low in
+      let as_many = map_length xs in
+      record { number = number.0; inside = let at = number.1 in omega (arith, ints); at = number.1 }
+
   -- what a push into bucket k does, and what a pop out of it does
-  module _ (xs : List V) (k e : ℕ) (old v : V) (queue : List (List ℕ)) (level : ℤ) (long : length xs ≡ 65536) (inside : k < 65536)
-      (same : map items xs ≡ queue) (was : old ≡ get_or xs k old) (at : level ≡ pos k -ℤ pos 32768) where
+  module _ (least : ℤ) (xs : List V) (k e : ℕ) (old v : V) (queue : Queue) (level : ℤ) (inside : k < length xs)
+      (same : from_level least (map items xs) ≡ queue) (was : old ≡ get_or xs k old) (at : level ≡ least +ℤ pos k) where
+    abbrev changed : Queue
+    changed = from_level least (map items (set xs k v))
+
     k_inside : k < length (map items xs)
     k_inside = let a = map_length xs in omega arith
 
     old_bucket : items old ≡ bucket (map items xs) k
-    old_bucket = let a : k < length xs = omega arith in ap items was ∙ sym (bucket_of xs k old a)
+    old_bucket = ap items was ∙ sym (bucket_of xs k old inside)
 
-    pub pushed : items v ≡ items old ++ e ∷ [] → IsJoined queue (map items (set xs k v)) level e × (waiting (map items (set xs k v)) ≡ waiting queue + 1)
+    pub pushed : items v ≡ items old ++ e ∷ [] → IsJoined queue changed level e × (waiting changed ≡ waiting queue + 1)
     pushed grew =
         let is : map items (set xs k v) ≡ set (map items xs) k (bucket (map items xs) k ++ e ∷ []) = map_set xs k v ∙ ap (λ w. set (map items xs) k w) (grew ∙ ap (λ w. w ++ e ∷ []) old_bucket) in
-        subst (λ q. IsJoined q (map items (set xs k v)) level e × (waiting (map items (set xs k v)) ≡ waiting q + 1)) same
-        (subst (λ l. IsJoined (map items xs) (map items (set xs k v)) l e × (waiting (map items (set xs k v)) ≡ waiting (map items xs) + 1)) (sym at)
-        (subst (λ q. IsJoined (map items xs) q (pos k -ℤ pos 32768) e × (waiting q ≡ waiting (map items xs) + 1)) (sym is)
-        (joins (map items xs) k e k_inside, joins_count (map items xs) k e k_inside)))
+        subst (λ q. IsJoined q changed level e × (waiting changed ≡ waiting q + 1)) same
+        (subst (λ l. IsJoined (from_level least (map items xs)) changed l e × (waiting changed ≡ waiting (from_level least (map items xs)) + 1)) (sym at)
+        (subst (λ bs. IsJoined (from_level least (map items xs)) (from_level least bs) (least +ℤ pos k) e × (waiting (from_level least bs) ≡ waiting (from_level least (map items xs)) + 1)) (sym is)
+        (joins least (map items xs) k e k_inside, joins_count least (map items xs) k e k_inside)))
 
     pub popped : (low : ℕ) → AreEmptyBelow (map items xs) low → ((b : ℕ) → low ≤ b → b < k → bucket (map items xs) b ≡ []) → items old ≡ items v ++ e ∷ [] →
-        IsTaken queue (map items (set xs k v)) level e × (waiting queue ≡ waiting (map items (set xs k v)) + 1)
+        IsTaken queue changed level e × (waiting queue ≡ waiting changed + 1)
     popped low empty next shrank =
         let below : AreEmptyBelow (map items xs) k = λ b lt. elim (cases_lt b low) [ inl l ↦ empty b l | inr g ↦ next b g lt ] in
         let is : map items (set xs k v) ≡ set (map items xs) k (items v) = map_set xs k v in
         let ends : bucket (map items xs) k ≡ items v ++ e ∷ [] = sym old_bucket ∙ shrank in
-        subst (λ q. IsTaken q (map items (set xs k v)) level e × (waiting q ≡ waiting (map items (set xs k v)) + 1)) same
-        (subst (λ l. IsTaken (map items xs) (map items (set xs k v)) l e × (waiting (map items xs) ≡ waiting (map items (set xs k v)) + 1)) (sym at)
-        (subst (λ q. IsTaken (map items xs) q (pos k -ℤ pos 32768) e × (waiting (map items xs) ≡ waiting q + 1)) (sym is)
-        (takes (map items xs) k e (items v) k_inside ends below, takes_count (map items xs) k e (items v) k_inside ends below)))
+        subst (λ q. IsTaken q changed level e × (waiting q ≡ waiting changed + 1)) same
+        (subst (λ l. IsTaken (from_level least (map items xs)) changed l e × (waiting (from_level least (map items xs)) ≡ waiting changed + 1)) (sym at)
+        (subst (λ bs. IsTaken (from_level least (map items xs)) (from_level least bs) (least +ℤ pos k) e × (waiting (from_level least (map items xs)) ≡ waiting (from_level least bs) + 1)) (sym is)
+        (takes least (map items xs) k e (items v) k_inside ends below, takes_count least (map items xs) k e (items v) k_inside ends below)))

@@ -17,13 +17,14 @@ use Rattle.lattice.specs.Lattice.{Holds, point_of, holds, index_of, is_along}
 use Rattle.lattice.specs.Steps.{step, north_of, east_of}
 use Rattle.lattice.specs.Mosaic.{Mosaic, Tile, IsMosaic, IsTile, is_present, void, is_void}
 use Rattle.lattice.specs.Height.{height_of, by_seam_rule, first_height, samples_at}
-use Rattle.lattice.specs.Ground.{is_ground, is_height, metres, same_point, is_near, share_tile, is_adjacent, degree_of, is_outlet, terrain}
-use Rattle.lattice.specs.Block.{IsBlockOf, block, is_solid, is_linked, is_rim, is_exit, is_inner_outlet, around}
+use Rattle.lattice.specs.Ground.{is_ground, is_sink, is_height, metres, same_point, is_near, share_tile, is_adjacent, degree_of, is_outlet, terrain}
+use Rattle.lattice.specs.Block.{IsBlockOf, block_terrain, is_solid, is_linked, is_rim, is_exit, is_inner_outlet, is_sink_at, around}
 use Rattle.lattice.proofs.Along.{from_parts}
 use Rattle.lattice.proofs.Samples.{holds_is, point_of_held, index_of_point_is, point_of_index, index_of_below}
 use Rattle.lattice.proofs.Lawful.{five_parts, five_from, terrain_is_lawful}
 use Rattle.tile_flood.proofs.Parts.{IsPart}
-use Rattle.tile_flood.proofs.Squares.{linked_parts, linked_from, linked_apart, Apart, beside_if, solid_below, row_of_cell, column_of_cell, cell_of, row_below, rim_is_exit, inner_is_exit}
+use Rattle.tile_flood.specs.Blocks.{block_of, bare_block}
+use Rattle.tile_flood.proofs.Squares.{inner_at, linked_parts, linked_from, linked_apart, Apart, beside_if, solid_below, row_of_cell, column_of_cell, cell_of, row_below, rim_is_exit, inner_is_exit}
 
 same_if : (a b : ℤ) → IsTrue (int_eq a b) → a ≡ b
 same_if a b h = (Decides-int_eq a b).0 h
@@ -211,7 +212,7 @@ inner_if n e small side off =
     or_false true b h = absurd (true≢false h)
     or_false false b h = (refl, h)
 
-module _ (m : Mosaic) (is : IsMosaic m) (c : Corner) (present : IsTrue (is_present m c)) (heights : List ℤ) (of : IsBlockOf m c heights) where
+module _ (m : Mosaic) (is : IsMosaic m) (c : Corner) (present : IsTrue (is_present m c)) (heights : List ℤ) (sinks : List ℕ) (of : IsBlockOf m c (block_of m.side heights sinks)) where
   at : ℕ → Point
   at e = point_of m.side c e
 
@@ -222,16 +223,16 @@ module _ (m : Mosaic) (is : IsMosaic m) (c : Corner) (present : IsTrue (is_prese
   corner = corner_of_tile m.side c m.tiles is.tiles present
 
   -- the ground of the block
-  pub ground_is : (e : ℕ) → e < m.side * m.side → is_solid m.side heights e ≡ is_ground m (point_of m.side c e)
+  pub ground_is : (e : ℕ) → e < m.side * m.side → is_solid (bare_block m.side heights) e ≡ is_ground m (point_of m.side c e)
   ground_is e small =
-      ap₂ (λ a b. a && b) (lt-ltb e (m.side * m.side) small) (ap (λ v. not (is_void v)) (of.values e small))
+      ap₂ (λ a b. a && b) (lt-ltb e (m.side * m.side) small) (ap (λ v. not (is_void v)) (of.heights.values e small))
       ∙ sym (ground_by_metres (samples_at m (point_of m.side c e)))
 
-  pub solid_is_ground : (e : ℕ) → IsTrue (is_solid m.side heights e) → IsTrue (is_ground m (point_of m.side c e))
+  pub solid_is_ground : (e : ℕ) → IsTrue (is_solid (bare_block m.side heights) e) → IsTrue (is_ground m (point_of m.side c e))
   solid_is_ground e solid = sym (ground_is e (solid_below m.side heights e solid)) ∙ solid
 
-  pub height_is : (e : ℕ) → IsTrue (is_solid m.side heights e) → get_or heights e void ≡ metres (height_of m (point_of m.side c e))
-  height_is e solid = of.values e (solid_below m.side heights e solid)
+  pub height_is : (e : ℕ) → IsTrue (is_solid (bare_block m.side heights) e) → get_or heights e void ≡ metres (height_of m (point_of m.side c e))
+  height_is e solid = of.heights.values e (solid_below m.side heights e solid)
 
   held : (e : ℕ) → e < m.side * m.side → IsTrue (holds m.side c (point_of m.side c e))
   held e small = (holds_is m.side c (point_of m.side c e) is.side_low corner).1 (point_of_held m.side c e some corner small)
@@ -254,7 +255,7 @@ module _ (m : Mosaic) (is : IsMosaic m) (c : Corner) (present : IsTrue (is_prese
       and_from _ _ (lt-ltb _ _ y) (lt-ltb _ _ x)
 
   -- what is adjacent in the block is adjacent in the mosaic
-  pub linked_is_adjacent : (e f : ℕ) → IsTrue (is_linked m.side heights e f) → IsTrue (is_adjacent m (point_of m.side c e) (point_of m.side c f))
+  pub linked_is_adjacent : (e f : ℕ) → IsTrue (is_linked (bare_block m.side heights) e f) → IsTrue (is_adjacent m (point_of m.side c e) (point_of m.side c f))
   linked_is_adjacent e f link =
       let p = point_of m.side c e in
       let q = point_of m.side c f in
@@ -277,7 +278,7 @@ module _ (m : Mosaic) (is : IsMosaic m) (c : Corner) (present : IsTrue (is_prese
       eq_itself e = grind arith
 
   -- and what the tile holds and is adjacent in the mosaic is adjacent in the block
-  pub adjacent_in_tile : (e f : ℕ) → e < m.side * m.side → f < m.side * m.side → IsTrue (is_adjacent m (point_of m.side c e) (point_of m.side c f)) → IsTrue (is_linked m.side heights e f)
+  pub adjacent_in_tile : (e f : ℕ) → e < m.side * m.side → f < m.side * m.side → IsTrue (is_adjacent m (point_of m.side c e) (point_of m.side c f)) → IsTrue (is_linked (bare_block m.side heights) e f)
   adjacent_in_tile e f small small' beside =
       let p = point_of m.side c e in
       let q = point_of m.side c f in
@@ -299,11 +300,11 @@ module _ (m : Mosaic) (is : IsMosaic m) (c : Corner) (present : IsTrue (is_prese
 
   pub record Beside (e : ℕ) (q : Point) : Type 0 where
     pub index : ℕ
-    pub linked : IsTrue (is_linked m.side heights e index)
+    pub linked : IsTrue (is_linked (bare_block m.side heights) e index)
     pub point : point_of m.side c index ≡ q
 
   -- what is adjacent to an inner point lies in its own tile
-  pub adjacent_is_linked : (e : ℕ) (q : Point) → IsTrue (is_solid m.side heights e) → is_rim m.side e ≡ false → IsTrue (is_adjacent m (point_of m.side c e) q) → Beside e q
+  pub adjacent_is_linked : (e : ℕ) (q : Point) → IsTrue (is_solid (bare_block m.side heights) e) → is_rim m.side e ≡ false → IsTrue (is_adjacent m (point_of m.side c e) q) → Beside e q
   adjacent_is_linked e q solid off beside =
       let n = m.side in
       let p = point_of n c e in
@@ -324,7 +325,7 @@ module _ (m : Mosaic) (is : IsMosaic m) (c : Corner) (present : IsTrue (is_prese
         linked = adjacent_in_tile e (index_of n c q) (solid_below n heights e solid) small (subst (λ v. IsTrue (is_adjacent m p v)) (sym same) beside);
       }
 
-  module _ (e : ℕ) (solid : IsTrue (is_solid m.side heights e)) (off : is_rim m.side e ≡ false) where
+  module _ (e : ℕ) (solid : IsTrue (is_solid (bare_block m.side heights) e)) (off : is_rim m.side e ≡ false) where
     inner : IsInner m.side e
     inner = inner_if m.side e (solid_below m.side heights e solid) is.side_low off
 
@@ -373,11 +374,11 @@ module _ (m : Mosaic) (is : IsMosaic m) (c : Corner) (present : IsTrue (is_prese
         right z east r k some h = omega (arith, ints)
 
     -- the eight around it are those that the eight steps lead to
-    ground_there : (d : Dir) → IsTrue (is_adjacent m (point_of m.side c e) (step d (point_of m.side c e))) → IsTrue (is_solid m.side heights (offset m.side e d))
+    ground_there : (d : Dir) → IsTrue (is_adjacent m (point_of m.side c e) (step d (point_of m.side c e))) → IsTrue (is_solid (bare_block m.side heights) (offset m.side e d))
     ground_there d beside =
         ground_is (offset m.side e d) (offset_below d) ∙ ap (is_ground m) (offset_point d) ∙ (terrain_is_lawful m).to_ground (point_of m.side c e) (step d (point_of m.side c e)) beside
 
-    adjacent_there : (d : Dir) → IsTrue (is_solid m.side heights (offset m.side e d)) → IsTrue (is_adjacent m (point_of m.side c e) (step d (point_of m.side c e)))
+    adjacent_there : (d : Dir) → IsTrue (is_solid (bare_block m.side heights) (offset m.side e d)) → IsTrue (is_adjacent m (point_of m.side c e) (step d (point_of m.side c e)))
     adjacent_there d full =
         let o = offset_at d in
         let row = offset_row d in
@@ -392,7 +393,7 @@ module _ (m : Mosaic) (is : IsMosaic m) (c : Corner) (present : IsTrue (is_prese
           beside = beside_if m.side e (offset m.side e d) (record { north = omega arith; south = omega arith; west = omega arith; east = omega arith });
         })))
 
-    around_of_eight : AllEight (λ d. is_adjacent m (point_of m.side c e) (step d (point_of m.side c e))) → IsTrue (list_all (is_solid m.side heights) (around m.side e))
+    around_of_eight : AllEight (λ d. is_adjacent m (point_of m.side c e) (step d (point_of m.side c e))) → IsTrue (list_all (is_solid (bare_block m.side heights)) (around m.side e))
     unfolding offset
     around_of_eight all =
         and_from _ _ (ground_there NorthWest all.north_west)
@@ -404,17 +405,17 @@ module _ (m : Mosaic) (is : IsMosaic m) (c : Corner) (present : IsTrue (is_prese
         (and_from _ _ (ground_there South all.south)
         (and_from _ _ (ground_there SouthEast all.south_east) refl)))))))
 
-    eight_of_around : IsTrue (list_all (is_solid m.side heights) (around m.side e)) → AllEight (λ d. is_adjacent m (point_of m.side c e) (step d (point_of m.side c e)))
+    eight_of_around : IsTrue (list_all (is_solid (bare_block m.side heights)) (around m.side e)) → AllEight (λ d. is_adjacent m (point_of m.side c e) (step d (point_of m.side c e)))
     unfolding offset
     eight_of_around all =
-        let nw = and_parts (is_solid m.side heights (e - m.side - 1)) _ all in
-        let n = and_parts (is_solid m.side heights (e - m.side)) _ nw.1 in
-        let ne = and_parts (is_solid m.side heights (e - m.side + 1)) _ n.1 in
-        let w = and_parts (is_solid m.side heights (e - 1)) _ ne.1 in
-        let east = and_parts (is_solid m.side heights (e + 1)) _ w.1 in
-        let sw = and_parts (is_solid m.side heights (e + m.side - 1)) _ east.1 in
-        let s = and_parts (is_solid m.side heights (e + m.side)) _ sw.1 in
-        let se = and_parts (is_solid m.side heights (e + m.side + 1)) _ s.1 in
+        let nw = and_parts (is_solid (bare_block m.side heights) (e - m.side - 1)) _ all in
+        let n = and_parts (is_solid (bare_block m.side heights) (e - m.side)) _ nw.1 in
+        let ne = and_parts (is_solid (bare_block m.side heights) (e - m.side + 1)) _ n.1 in
+        let w = and_parts (is_solid (bare_block m.side heights) (e - 1)) _ ne.1 in
+        let east = and_parts (is_solid (bare_block m.side heights) (e + 1)) _ w.1 in
+        let sw = and_parts (is_solid (bare_block m.side heights) (e + m.side - 1)) _ east.1 in
+        let s = and_parts (is_solid (bare_block m.side heights) (e + m.side)) _ sw.1 in
+        let se = and_parts (is_solid (bare_block m.side heights) (e + m.side + 1)) _ s.1 in
         record {
           east = adjacent_there East east.0;
           south_east = adjacent_there SouthEast se.0;
@@ -427,45 +428,55 @@ module _ (m : Mosaic) (is : IsMosaic m) (c : Corner) (present : IsTrue (is_prese
         }
 
     -- an outlet of the mosaic off the rim is an inner outlet
-    outlet_is_exit : IsTrue (is_outlet m (point_of m.side c e)) → IsTrue (is_exit m.side heights e)
-    outlet_is_exit out = elim (cases_Bool (list_all (is_solid m.side heights) (around m.side e))) [
-      | inl all ↦
-          let few : degree_of m (point_of m.side c e) < 8 = ltb-true _ _ (and_parts (is_ground m (point_of m.side c e)) _ out).1 in
-          let many : 8 ≤ degree_of m (point_of m.side c e) = degree_from_eight m (point_of m.side c e) (eight_of_around all) in
-          absurd (contrary (degree_of m (point_of m.side c e)) few many)
-      | inr gap ↦ inner_is_exit m.side heights e solid off gap
+    outlet_is_exit : IsTrue (is_outlet m (point_of m.side c e)) → IsTrue (is_exit (block_of m.side heights sinks) e)
+    outlet_is_exit out = elim (cases_Bool (list_all (is_solid (bare_block m.side heights)) (around m.side e))) [
+      | inl all ↦ elim (or_cases (nat_lt (degree_of m (point_of m.side c e)) 8) (is_sink m (point_of m.side c e)) (and_parts (is_ground m (point_of m.side c e)) _ out).1) [
+        | inl less ↦
+            let few : degree_of m (point_of m.side c e) < 8 = ltb-true _ _ less in
+            let many : 8 ≤ degree_of m (point_of m.side c e) = degree_from_eight m (point_of m.side c e) (eight_of_around all) in
+            absurd (contrary (degree_of m (point_of m.side c e)) few many)
+        | inr sink ↦ or_right (is_solid (bare_block m.side heights) e && is_rim m.side e) (is_inner_outlet (block_of m.side heights sinks) e)
+            (inner_at m.side heights sinks e solid off (or_right (not (list_all (is_solid (bare_block m.side heights)) (around m.side e))) (is_sink_at (block_of m.side heights sinks) e)
+            (of.sinks e (solid_below m.side heights e solid) ∙ sink)))
+      ]
+      | inr gap ↦ inner_is_exit m.side heights sinks e solid off gap
     ]
       where
         contrary : (d : ℕ) → d < 8 → 8 ≤ d → ⊥
         contrary d few many = absurd (omega arith)
 
     -- and an inner outlet is an outlet of the mosaic
-    gap_is_outlet : list_all (is_solid m.side heights) (around m.side e) ≡ false → IsTrue (is_outlet m (point_of m.side c e))
-    gap_is_outlet gap = and_from (is_ground m (point_of m.side c e)) (nat_lt (degree_of m (point_of m.side c e)) 8) (solid_is_ground e solid)
-        (elim (cases_Bool (nat_lt (degree_of m (point_of m.side c e)) 8)) [
+    gap_is_outlet : list_all (is_solid (bare_block m.side heights)) (around m.side e) ≡ false → IsTrue (is_outlet m (point_of m.side c e))
+    gap_is_outlet gap = and_from (is_ground m (point_of m.side c e)) (nat_lt (degree_of m (point_of m.side c e)) 8 || is_sink m (point_of m.side c e)) (solid_is_ground e solid)
+        (or_left (nat_lt (degree_of m (point_of m.side c e)) 8) (is_sink m (point_of m.side c e)) (elim (cases_Bool (nat_lt (degree_of m (point_of m.side c e)) 8)) [
           | inl few ↦ few
           | inr many ↦ absurd (true≢false (sym (around_of_eight (eight_from_degree m (point_of m.side c e) (ltb-false _ _ many))) ∙ gap))
-        ])
+        ]))
 
-  pub inner_outlet_is_outlet : (e : ℕ) → IsTrue (is_inner_outlet m.side heights e) → IsTrue (is_outlet m (point_of m.side c e))
+  pub inner_outlet_is_outlet : (e : ℕ) → IsTrue (is_inner_outlet (block_of m.side heights sinks) e) → IsTrue (is_outlet m (point_of m.side c e))
   inner_outlet_is_outlet e inner =
-      let both = and_parts (is_solid m.side heights e && not (is_rim m.side e)) (not (list_all (is_solid m.side heights) (around m.side e))) inner in
-      let first = and_parts (is_solid m.side heights e) (not (is_rim m.side e)) both.0 in
-      gap_is_outlet e first.0 (not-true (is_rim m.side e) first.1) (not-true (list_all (is_solid m.side heights) (around m.side e)) both.1)
+      let p = point_of m.side c e in
+      let both = and_parts (is_solid (bare_block m.side heights) e && not (is_rim m.side e)) (not (list_all (is_solid (bare_block m.side heights)) (around m.side e)) || is_sink_at (block_of m.side heights sinks) e) inner in
+      let first = and_parts (is_solid (bare_block m.side heights) e) (not (is_rim m.side e)) both.0 in
+      elim (or_cases (not (list_all (is_solid (bare_block m.side heights)) (around m.side e))) (is_sink_at (block_of m.side heights sinks) e) both.1) [
+        | inl gap ↦ gap_is_outlet e first.0 (not-true (is_rim m.side e) first.1) (not-true (list_all (is_solid (bare_block m.side heights)) (around m.side e)) gap)
+        | inr sink ↦ and_from (is_ground m p) (nat_lt (degree_of m p) 8 || is_sink m p) (solid_is_ground e first.0)
+            (or_right (nat_lt (degree_of m p) 8) (is_sink m p) (sym (of.sinks e (solid_below m.side heights e first.0)) ∙ sink))
+      ]
     where
       not-true : (b : Bool) → not b ≡ true → b ≡ false
       not-true true h = absurd (true≢false (sym h))
       not-true false h = refl
 
-  pub block_is_part : IsPart (block m.side heights) (terrain m) (λ e. point_of m.side c e) (is_rim m.side)
+  pub block_is_part : IsPart (block_terrain (block_of m.side heights sinks)) (terrain m) (λ e. point_of m.side c e) (is_rim m.side)
   block_is_part = record {
     solid = solid_is_ground;
     heights = height_is;
     onto = linked_is_adjacent;
     inner = λ e q solid off beside. let there = adjacent_is_linked e q solid off beside in (there.index, (there.linked, there.point));
-    rims = λ e solid rim. rim_is_exit m.side heights e solid rim;
+    rims = λ e solid rim. rim_is_exit m.side heights sinks e solid rim;
     outlets = λ e solid out. elim (cases_Bool (is_rim m.side e)) [
-      | inl rim ↦ rim_is_exit m.side heights e solid rim
+      | inl rim ↦ rim_is_exit m.side heights sinks e solid rim
       | inr off ↦ outlet_is_exit e solid off out
     ];
   }

@@ -15,7 +15,7 @@ use Rattle.std.proofs.lemmas.List.Elements.{Contains-get_or, Contains-append_lef
 use Rattle.std.proofs.lemmas.List.Sorted.{Contains-permutation, IsPermutation-sym}
 use Rattle.std.proofs.Math.Nat.{mul-le-mul_right}
 use Rattle.lattice.specs.Mosaic.{void, IsSample}
-use Rattle.lattice.specs.Block.{block, is_solid, is_linked, is_beside}
+use Rattle.lattice.specs.Block.{block_terrain, is_solid, is_linked, is_beside}
 use Rattle.lattice.proofs.Levels.{height-le_level, ≤ℤ_same, ≤ℤ_trans}
 use Rattle.std.proofs.Math.ListN.{get_or-eq_default}
 use Rattle.std.proofs.lemmas.List.{get_or_default}
@@ -25,6 +25,7 @@ use Rattle.tile_flood.specs.Flooding.{is_marked}
 use Rattle.tile_flood.specs.Labelling.{IsLabelling}
 use Rattle.tile_flood.specs.Spills.{Meets, AreSpills, HaveSameLabels}
 use Rattle.tile_flood.specs.Passing.{IsPassage, IsNoPassage, AreFoundStill, AreBeside, ArePassages, IsFound, AreFoundBelow, IsInOrder, AreFirsts, AreFirstsBelow, HasLowerLabels}
+use Rattle.tile_flood.specs.Blocks.{block_of, bare_block}
 use Rattle.tile_flood.proofs.Squares.{linked_parts, linked_from, linked_apart, beside_if, solid_below, solid_if, row_of_cell, column_of_cell, cell_of, row_below, test_if, solid_height}
 
 max-swap : (a b : ℤ) → int_max a b ≡ int_max b a
@@ -116,17 +117,17 @@ module _ (n : ℕ) (levels : List ℤ) (labels : List ℕ) where
       let apart = h.apart in
       let lower = h.lower in
       let higher = h.higher in
-      let solid_e : IsTrue (is_solid n levels e) = solid_of e in_e h.from in
-      let solid_f : IsTrue (is_solid n levels f) = solid_of f in_f h.to in
-      let link : IsTrue (is_linked n levels e f) = linked_from n levels e f (record { from = solid_e; to = solid_f; apart = ap not (ne_eqb e f other); beside = beside }) in (
+      let solid_e : IsTrue (is_solid (bare_block n levels) e) = solid_of e in_e h.from in
+      let solid_f : IsTrue (is_solid (bare_block n levels) f) = solid_of f in_f h.to in
+      let link : IsTrue (is_linked (bare_block n levels) e f) = linked_from n levels e f (record { from = solid_e; to = solid_f; apart = ap not (ne_eqb e f other); beside = beside }) in (
         omega arith,
         elim (cases_lt (slice_index labels e) (slice_index labels f)) [
           | inl less ↦ record { points = (e, f, (link, (sym (omega arith), (sym (omega arith), sym h.level)))) }
-          | inr more ↦ record { points = (f, e, ((block_is_lawful n levels).both_ways e f link, (sym (omega arith), (sym (omega arith), max-swap (get_or levels f void) (get_or levels e void) ∙ sym h.level)))) }
+          | inr more ↦ record { points = (f, e, ((block_is_lawful (bare_block n levels)).both_ways e f link, (sym (omega arith), (sym (omega arith), max-swap (get_or levels f void) (get_or levels e void) ∙ sym h.level)))) }
         ],
       )
     where
-      solid_of : (e : ℕ) → e < n * n → IsTrue (is_marked levels e) → IsTrue (is_solid n levels e)
+      solid_of : (e : ℕ) → e < n * n → IsTrue (is_marked levels e) → IsTrue (is_solid (bare_block n levels) e)
       solid_of e below on = solid_if n levels e below (not-true (int_eq (get_or levels e void) void) on)
         where
           not-true : (b : Bool) → not b ≡ true → b ≡ false
@@ -159,7 +160,7 @@ module _ (n : ℕ) (levels : List ℤ) (labels : List ℕ) where
     ]
   ]
     where
-      marked_of : (e : ℕ) → IsTrue (is_solid n levels e) → IsTrue (is_marked levels e)
+      marked_of : (e : ℕ) → IsTrue (is_solid (bare_block n levels) e) → IsTrue (is_marked levels e)
       marked_of e solid = test_if (get_or levels e void) (solid_height n levels e solid)
 
   -- the points of a row: with the next one, and with those of the row below
@@ -270,7 +271,7 @@ module _ (n : ℕ) (levels : List ℤ) (labels : List ℕ) where
                 (q.0, (q.1.0, (omega arith, (omega arith, subst (λ v. q.0.level ≤ℤ v) (met.1.1.level ∙ at) q.1.1.1))))
             | inr after ↦
                 let other : e ≢ f = differ e f (linked_parts n levels e f link).apart in
-                let back = (block_is_lawful n levels).both_ways e f link in
+                let back = (block_is_lawful (bare_block n levels)).both_ways e f link in
                 let met = below f e (solid_below n levels f (linked_parts n levels e f link).to) (omega arith) back (λ same. absurd (omega arith)) in
                 let lower = met.1.1.lower in let higher = met.1.1.higher in
                 let q = first_of met.0 met.1.0 in
@@ -419,23 +420,23 @@ no_lower heights samples e = elim (cases_lt e (length heights)) [
 ]
 
 -- with a valid labelling the points that have a level are the ground points
-module _ (n : ℕ) (heights levels : List ℤ) (labels : List ℕ) (least : (e : ℕ) → void ≤ℤ get_or heights e void) (is : IsLabelling n heights levels labels) where
-  pub solid_has_level : (e : ℕ) → IsTrue (is_solid n heights e) → get_or levels e void ≢ void
+module _ (n : ℕ) (heights : List ℤ) (sinks : List ℕ) (levels : List ℤ) (labels : List ℕ) (least : (e : ℕ) → void ≤ℤ get_or heights e void) (is : IsLabelling (block_of n heights sinks) levels labels) where
+  pub solid_has_level : (e : ℕ) → IsTrue (is_solid (bare_block n heights) e) → get_or levels e void ≢ void
   solid_has_level e solid same =
-      let low : get_or heights e void ≤ℤ get_or levels e void = height-le_level (block n heights) e (get_or levels e void) (is.level e solid) in
+      let low : get_or heights e void ≤ℤ get_or levels e void = height-le_level (block_terrain (block_of n heights sinks)) e (get_or levels e void) (is.level e solid) in
       let at_least : void ≤ℤ get_or heights e void = least e in
       solid_height n heights e solid (omega (arith, ints))
 
-  pub same_solid : (e : ℕ) → is_solid n heights e ≡ is_solid n levels e
-  same_solid e = elim (cases_Bool (is_solid n heights e)) [
+  pub same_solid : (e : ℕ) → is_solid (bare_block n heights) e ≡ is_solid (bare_block n levels) e
+  same_solid e = elim (cases_Bool (is_solid (bare_block n heights) e)) [
     | inl solid ↦ solid ∙ sym (solid_if n levels e (solid_below n heights e solid) (not_void (get_or levels e void) (solid_has_level e solid)))
-    | inr off ↦ elim (cases_Bool (is_solid n levels e)) [
+    | inr off ↦ elim (cases_Bool (is_solid (bare_block n levels) e)) [
       | inl on ↦ absurd (solid_height n levels e on (is.void_points e (solid_below n levels e on) off).0)
       | inr off' ↦ off ∙ sym off'
     ]
   ]
 
-  pub same_links : (e f : ℕ) → is_linked n heights e f ≡ is_linked n levels e f
+  pub same_links : (e f : ℕ) → is_linked (bare_block n heights) e f ≡ is_linked (bare_block n levels) e f
   same_links e f = ap₂ (λ a b. a && b && not (nat_eq e f) && is_beside n e f) (same_solid e) (same_solid f)
 
   meets_down : (a b : ℕ) (level : ℤ) → Meets n heights levels labels a b level → Meets n levels levels labels a b level

@@ -16,7 +16,7 @@ use Rattle.lattice.specs.Terrain.{IsFilledLevel, IsPath, end_of, crest}
 use Rattle.lattice.specs.Mosaic.{Mosaic, Tile, IsMosaic, IsTile, is_present, void, is_void}
 use Rattle.lattice.specs.Height.{height_of, by_seam_rule, first_height, samples_at, sample_at}
 use Rattle.lattice.specs.Ground.{is_ground, metres, terrain}
-use Rattle.lattice.specs.Block.{IsBlockOf, block, is_solid, is_rim, rim_number, is_exit, is_inner_outlet}
+use Rattle.lattice.specs.Block.{AreHeightsOf, IsBlockOf, block_terrain, is_solid, is_rim, rim_number, is_exit, is_inner_outlet}
 use Rattle.lattice.proofs.Levels.{height-le_level, ≤ℤ_same}
 use Rattle.lattice.proofs.Lawful.{terrain_is_lawful, block_is_lawful}
 use Rattle.tile_flood.specs.Labelling.{IsLabelling, OUT, NO_LABEL}
@@ -24,6 +24,7 @@ use Rattle.tile_flood.specs.Raising.{AreRimLevels, AreTileLevels, IsRimFilled, r
 use Rattle.tile_flood.proofs.Parts.{level_of_part, level_at_outlet}
 use Rattle.tile_flood.proofs.InMosaic.{block_is_part, ground_is, inner_outlet_is_outlet}
 use Rattle.tile_flood.proofs.Passages.{not_void, solid_has_level}
+use Rattle.tile_flood.specs.Blocks.{block_of, bare_block}
 use Rattle.tile_flood.proofs.Squares.{solid_below, solid_height, cell_of, row_below}
 
 -- rim points have numbers below four times the side less one
@@ -103,17 +104,17 @@ low_samples n p [] all = λ k d lt. absurd (omega arith)
 low_samples n p (t ∷ rest) all = low_sample n p t rest (all 0 t (omega arith)) (low_samples n p rest (λ k d lt. all (suc k) d (omega arith)))
 
 -- heights of a block are numbers of 16 bits
-module _ (m : Mosaic) (is : IsMosaic m) (c : Corner) (heights : List ℤ) (of : IsBlockOf m c heights) where
+module _ (m : Mosaic) (is : IsMosaic m) (c : Corner) (heights : List ℤ) (of : AreHeightsOf m c heights) where
   pub lowest_height : (e : ℕ) → void ≤ℤ get_or heights e void
   lowest_height e = elim (cases_lt e (length heights)) [
     | inl inside ↦ subst (λ v. void ≤ℤ v) (sym (of.values e (subst (λ k. e < k) of.whole inside))) (low_metres (samples_at m (point_of m.side c e)) (low_samples m.side (point_of m.side c e) m.tiles is.tiles))
     | inr beyond ↦ subst (λ v. void ≤ℤ v) (sym (get_or-eq_default heights void beyond)) (≤ℤ_same void)
   ]
 
-module _ (m : Mosaic) (is : IsMosaic m) (c : Corner) (present : IsTrue (is_present m c)) (heights : List ℤ) (of : IsBlockOf m c heights)
-    (levels : List ℤ) (labels : List ℕ) (labelling : IsLabelling m.side heights levels labels) (rim : List ℤ) (rims : AreRimLevels m c rim) where
+module _ (m : Mosaic) (is : IsMosaic m) (c : Corner) (present : IsTrue (is_present m c)) (heights : List ℤ) (sinks : List ℕ) (of : IsBlockOf m c (block_of m.side heights sinks))
+    (levels : List ℤ) (labels : List ℕ) (labelling : IsLabelling (block_of m.side heights sinks) levels labels) (rim : List ℤ) (rims : AreRimLevels m c rim) where
   least_height : (e : ℕ) → void ≤ℤ get_or heights e void
-  least_height e = lowest_height m is c heights of e
+  least_height e = lowest_height m is c heights of.heights e
 
   level_at : ℕ → ℤ
   level_at e = get_or levels e void
@@ -124,20 +125,20 @@ module _ (m : Mosaic) (is : IsMosaic m) (c : Corner) (present : IsTrue (is_prese
     filled : IsTrue (is_ground m (point_of m.side c e)) → IsFilledLevel (terrain m) (point_of m.side c e) level
     gap : IsFalse (is_ground m (point_of m.side c e)) → level ≡ void
 
-  module _ (e : ℕ) (solid : IsTrue (is_solid m.side heights e)) (r : ℕ) (rest : List ℕ) (path : IsPath (block m.side heights) e rest)
-      (at_level : crest (block m.side heights) e rest ≡ get_or levels e void) (last : end_of (block m.side heights) e rest ≡ r)
-      (exit : IsTrue (is_exit m.side heights r)) where
-    solid_r : IsTrue (is_solid m.side heights r)
-    solid_r = (block_is_lawful m.side heights).outlet_ground r exit
+  module _ (e : ℕ) (solid : IsTrue (is_solid (bare_block m.side heights) e)) (r : ℕ) (rest : List ℕ) (path : IsPath (block_terrain (block_of m.side heights sinks)) e rest)
+      (at_level : crest (block_terrain (block_of m.side heights sinks)) e rest ≡ get_or levels e void) (last : end_of (block_terrain (block_of m.side heights sinks)) e rest ≡ r)
+      (exit : IsTrue (is_exit (block_of m.side heights sinks) r)) where
+    solid_r : IsTrue (is_solid (bare_block m.side heights) r)
+    solid_r = (block_is_lawful (block_of m.side heights sinks)).outlet_ground r exit
 
-    grounded : (q : ℕ) → IsTrue (is_solid m.side heights q) → IsTrue (is_ground m (point_of m.side c q))
-    grounded q on = sym (ground_is m is c present heights of q (solid_below m.side heights q on)) ∙ on
+    grounded : (q : ℕ) → IsTrue (is_solid (bare_block m.side heights) q) → IsTrue (is_ground m (point_of m.side c q))
+    grounded q on = sym (ground_is m is c present heights sinks of q (solid_below m.side heights q on)) ∙ on
 
     solid_there : IsFalse (is_ground m (point_of m.side c e)) → ⊥
     solid_there off = true≢false (sym (grounded e solid) ∙ off)
 
     full : get_or levels e void ≢ void
-    full = solid_has_level m.side heights levels labels least_height labelling e solid
+    full = solid_has_level m.side heights sinks levels labels least_height labelling e solid
 
     by_rim : IsTrue (is_rim m.side r) → slice_index labels e ≡ rim_number m.side r → IsRaised e
     by_rim on_rim label =
@@ -151,7 +152,7 @@ module _ (m : Mosaic) (is : IsMosaic m) (c : Corner) (present : IsTrue (is_prese
         record {
           level = int_max (get_or levels e void) (get_or rim (slice_index labels e) void);
           raised = raised_over rim (get_or levels e void) (slice_index labels e) some full inner (above fill);
-          filled = λ _. level_of_part (block m.side heights) (terrain m) (λ e. point_of m.side c e) (is_rim m.side) (block_is_part m is c present heights of) (block_is_lawful m.side heights) (terrain_is_lawful m)
+          filled = λ _. level_of_part (block_terrain (block_of m.side heights sinks)) (terrain m) (λ e. point_of m.side c e) (is_rim m.side) (block_is_part m is c present heights sinks of) (block_is_lawful (block_of m.side heights sinks)) (terrain_is_lawful m)
               e (get_or levels e void) (get_or rim (slice_index labels e) void) rest solid (labelling.level e solid) path at_level
               (subst (λ q. IsFilledLevel (terrain m) (point_of m.side c q) (get_or rim (slice_index labels e) void)) (sym last) fill);
           gap = λ off. absurd (solid_there off);
@@ -160,29 +161,29 @@ module _ (m : Mosaic) (is : IsMosaic m) (c : Corner) (present : IsTrue (is_prese
         above : {l : ℤ} → IsFilledLevel (terrain m) (point_of m.side c r) l → l ≢ void
         above {l} fill same =
             let high : metres (height_of m (point_of m.side c r)) ≤ℤ l = height-le_level (terrain m) (point_of m.side c r) l fill in
-            let at : get_or heights r void ≡ metres (height_of m (point_of m.side c r)) = of.values r (solid_below m.side heights r solid_r) in
+            let at : get_or heights r void ≡ metres (height_of m (point_of m.side c r)) = of.heights.values r (solid_below m.side heights r solid_r) in
             let low : void ≤ℤ get_or heights r void = least_height r in
             solid_height m.side heights r solid_r (between (get_or heights r void) low (subst (λ v. v ≤ℤ void) (sym at) (subst (λ v. metres (height_of m (point_of m.side c r)) ≤ℤ v) same high)))
           where
             between : (v : ℤ) → void ≤ℤ v → v ≤ℤ void → v ≡ void
             between v low high = omega (arith, ints)
 
-    by_out : IsTrue (is_inner_outlet m.side heights r) → slice_index labels e ≡ OUT → IsRaised e
+    by_out : IsTrue (is_inner_outlet (block_of m.side heights sinks) r) → slice_index labels e ≡ OUT → IsRaised e
     by_out inner label = record {
       level = get_or levels e void;
       raised = raised_out rim (get_or levels e void) (slice_index labels e) label full;
-      filled = λ _. level_at_outlet (block m.side heights) (terrain m) (λ e. point_of m.side c e) (is_rim m.side) (block_is_part m is c present heights of) (block_is_lawful m.side heights) (terrain_is_lawful m)
+      filled = λ _. level_at_outlet (block_terrain (block_of m.side heights sinks)) (terrain m) (λ e. point_of m.side c e) (is_rim m.side) (block_is_part m is c present heights sinks of) (block_is_lawful (block_of m.side heights sinks)) (terrain_is_lawful m)
           e (get_or levels e void) rest solid (labelling.level e solid) path at_level
-          (subst (λ q. IsTrue ((terrain m).is_outlet (point_of m.side c q))) (sym last) (inner_outlet_is_outlet m is c present heights of r inner));
+          (subst (λ q. IsTrue ((terrain m).is_outlet (point_of m.side c q))) (sym last) (inner_outlet_is_outlet m is c present heights sinks of r inner));
       gap = λ off. absurd (solid_there off);
     }
 
   raised_at : (e : ℕ) → e < m.side * m.side → IsRaised e
-  raised_at e small = elim (cases_Bool (is_solid m.side heights e)) [
+  raised_at e small = elim (cases_Bool (is_solid (bare_block m.side heights) e)) [
     | inl solid ↦
         let label = labelling.label e solid in
         let rest = label.way.0 in
-        let last = end_of (block m.side heights) e rest in
+        let last = end_of (block_terrain (block_of m.side heights sinks)) e rest in
         elim label.way.1.1.1.1 [
           | inl rim ↦ by_rim e solid last rest label.way.1.0 label.way.1.1.0 refl label.way.1.1.1.0 rim.0 rim.1
           | inr out ↦ by_out e solid last rest label.way.1.0 label.way.1.1.0 refl label.way.1.1.1.0 out.0 out.1
@@ -192,10 +193,14 @@ module _ (m : Mosaic) (is : IsMosaic m) (c : Corner) (present : IsTrue (is_prese
         record {
           level = void;
           raised = raised_void rim (get_or levels e void) (slice_index labels e) none.1 none.0;
-          filled = λ on. absurd (true≢false (sym on ∙ (sym (ground_is m is c present heights of e small) ∙ off)));
+          filled = λ on. absurd (true≢false (sym on ∙ (sym (ground_is m is c present heights sinks of e small) ∙ off)));
           gap = λ _. refl;
         }
   ]
+
+  pub filled_at : (e : ℕ) → e < m.side * m.side →
+      (level : ℤ) × ((raised_level rim (get_or levels e void) (slice_index labels e) ≡ Some level) × (IsTrue (is_ground m (point_of m.side c e)) → IsFilledLevel (terrain m) (point_of m.side c e) level))
+  filled_at e small = let at = raised_at e small in (at.level, (at.raised, at.filled))
 
   pub tile_levels : (filled : List ℤ) → AreRaised m.side levels labels rim filled → AreTileLevels m c filled
   tile_levels filled each = record {
@@ -219,13 +224,25 @@ module _ (m : Mosaic) (is : IsMosaic m) (c : Corner) (present : IsTrue (is_prese
 
 pub rim_filled_levels : (m : Mosaic) (c : Corner) (n : ℕ) (levels : List ℤ) (labels : List ℕ) (rim filled : List ℤ) → IsRimFilled m c n levels labels rim → AreRaised n levels labels rim filled → AreTileLevels m c filled
 rim_filled_levels m c n levels labels rim filled h each =
-    tile_levels m h.mosaic c h.present h.labelled.0 h.labelled.1.0 levels labels (subst (λ s. IsLabelling s h.labelled.0 levels labels) h.side h.labelled.1.1) rim h.rim_levels filled
+    tile_levels m h.mosaic c h.present h.labelled.0.heights h.labelled.0.sinks
+    (subst (λ s. IsBlockOf m c (block_of s h.labelled.0.heights h.labelled.0.sinks)) h.labelled.1.0.side h.labelled.1.0) levels labels
+    (subst (λ s. IsLabelling (block_of s h.labelled.0.heights h.labelled.0.sinks) levels labels) h.labelled.1.0.side h.labelled.1.1) rim h.rim_levels filled
     (subst (λ s. AreRaised s levels labels rim filled) h.side each)
 
 pub rim_filled_can : (m : Mosaic) (c : Corner) (n : ℕ) (levels : List ℤ) (labels : List ℕ) (rim : List ℤ) → IsRimFilled m c n levels labels rim → CannotBeRaised n levels labels rim → ⊥
 rim_filled_can m c n levels labels rim h cannot =
-    can_be_raised m h.mosaic c h.present h.labelled.0 h.labelled.1.0 levels labels (subst (λ s. IsLabelling s h.labelled.0 levels labels) h.side h.labelled.1.1) rim h.rim_levels
+    can_be_raised m h.mosaic c h.present h.labelled.0.heights h.labelled.0.sinks
+    (subst (λ s. IsBlockOf m c (block_of s h.labelled.0.heights h.labelled.0.sinks)) h.labelled.1.0.side h.labelled.1.0) levels labels
+    (subst (λ s. IsLabelling (block_of s h.labelled.0.heights h.labelled.0.sinks) levels labels) h.labelled.1.0.side h.labelled.1.1) rim h.rim_levels
     (subst (λ s. CannotBeRaised s levels labels rim) h.side cannot)
+
+pub rim_filled_at : (m : Mosaic) (c : Corner) (n : ℕ) (levels : List ℤ) (labels : List ℕ) (rim : List ℤ) (e : ℕ) → IsRimFilled m c n levels labels rim → e < n * n →
+    (level : ℤ) × ((raised_level rim (get_or levels e void) (slice_index labels e) ≡ Some level) × (IsTrue (is_ground m (point_of m.side c e)) → IsFilledLevel (terrain m) (point_of m.side c e) level))
+rim_filled_at m c n levels labels rim e h small =
+    filled_at m h.mosaic c h.present h.labelled.0.heights h.labelled.0.sinks
+    (subst (λ s. IsBlockOf m c (block_of s h.labelled.0.heights h.labelled.0.sinks)) h.labelled.1.0.side h.labelled.1.0) levels labels
+    (subst (λ s. IsLabelling (block_of s h.labelled.0.heights h.labelled.0.sinks) levels labels) h.labelled.1.0.side h.labelled.1.1) rim h.rim_levels
+    e (subst (λ s. e < s * s) h.side small)
 
 -- one more point is raised
 pub raised_more : (n : ℕ) (levels : List ℤ) (labels : List ℕ) (rim filled filled' : List ℤ) (k : ℕ) (level : ℤ) → AreRaisedBelow n levels labels rim filled k →

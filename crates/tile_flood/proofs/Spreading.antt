@@ -9,26 +9,28 @@ use Rattle.std.proofs.lemmas.Bool.Decides.{Decides-int_eq}
 use Rattle.std.proofs.lemmas.Int.{to_z-of_z}
 use Rattle.lattice.specs.Mosaic.{void}
 use Rattle.lattice.specs.Terrain.{IsFilledLevel, IsPath}
-use Rattle.lattice.specs.Block.{block, is_solid, is_linked, is_exit, is_inner_outlet, is_rim}
+use Rattle.lattice.specs.Block.{block_terrain, is_solid, is_linked, is_exit, is_inner_outlet, is_rim}
 use Rattle.lattice.proofs.Levels.{level_beside, level_of_outlet, all_marked, le-max_right, ≤ℤ_same}
 use Rattle.lattice.proofs.Lawful.{block_is_lawful}
-use Rattle.tile_flood.specs.Waiting.{Waits, IsJoined, IsTaken}
+use Rattle.tile_flood.specs.Waiting.{Queue, Waits, HasBucket, IsJoined, IsTaken}
 use Rattle.tile_flood.specs.Labelling.{IsLabelAt, IsLabelling, NO_LABEL}
 use Rattle.tile_flood.specs.Flooding.{is_marked, unmarked, lack, AreMarks, IsSeeding, IsFlooding, IsSpreading, AreMarkedStill, IsRowMarked, IsOwnLabel}
+use Rattle.tile_flood.specs.Blocks.{block_of, bare_block}
+use Rattle.tile_flood.proofs.Buckets.{has_bucket}
 use Rattle.tile_flood.proofs.Squares.{not_void_if, test_if, linked_parts, linked_from, solid_height, solid_below, beside_if, row_of_cell, column_of_cell, cell_of, leads}
 
 -- a point of a path is ground
-start_solid : (n : ℕ) (heights : List ℤ) (e : ℕ) (rest : List ℕ) → IsPath (block n heights) e rest → IsTrue (is_solid n heights e)
-start_solid n heights e [] path = path
-start_solid n heights e (y ∷ rest) path = (linked_parts n heights e y path.0).from
+start_solid : (n : ℕ) (heights : List ℤ) (sinks : List ℕ) (e : ℕ) (rest : List ℕ) → IsPath (block_terrain (block_of n heights sinks)) e rest → IsTrue (is_solid (bare_block n heights) e)
+start_solid n heights sinks e [] path = path
+start_solid n heights sinks e (y ∷ rest) path = (linked_parts n heights e y path.0).from
 
-pub marked_solid : (n : ℕ) (heights levels : List ℤ) (labels : List ℕ) (queue : List (List ℕ)) (e : ℕ) → AreMarks n heights levels labels queue → IsTrue (is_marked levels e) → IsTrue (is_solid n heights e)
-marked_solid n heights levels labels queue e s on = let way = (s.filled e on).reached in start_solid n heights e way.0 way.1.0.path
+pub marked_solid : (n : ℕ) (heights : List ℤ) (sinks : List ℕ) (levels : List ℤ) (labels : List ℕ) (queue : Queue) (e : ℕ) → AreMarks (block_of n heights sinks) levels labels queue → IsTrue (is_marked levels e) → IsTrue (is_solid (bare_block n heights) e)
+marked_solid n heights sinks levels labels queue e s on = let way = (s.filled e on).reached in start_solid n heights sinks e way.0 way.1.0.path
 
 -- a ground point without a level gets this level and this label, and waits
-module _ (n : ℕ) (heights levels : List ℤ) (labels : List ℕ) (queue queue' : List (List ℕ)) (y : ℕ) (v : ℤ) (label : ℕ)
-    (s : AreMarks n heights levels labels queue) (solid : IsTrue (is_solid n heights y)) (off : is_marked levels y ≡ false)
-    (fills : IsFilledLevel (block n heights) y v) (named : IsLabelAt n heights y v label) (full : v ≢ void) (joined : IsJoined queue queue' v y) where
+module _ (n : ℕ) (heights : List ℤ) (sinks : List ℕ) (levels : List ℤ) (labels : List ℕ) (queue queue' : Queue) (y : ℕ) (v : ℤ) (label : ℕ)
+    (s : AreMarks (block_of n heights sinks) levels labels queue) (solid : IsTrue (is_solid (bare_block n heights) y)) (off : is_marked levels y ≡ false)
+    (fills : IsFilledLevel (block_terrain (block_of n heights sinks)) y v) (named : IsLabelAt (block_of n heights sinks) y v label) (full : v ≢ void) (joined : IsJoined queue queue' v y) where
   in_levels : y < length levels
   in_levels = subst (λ k. y < k) (sym s.levels_whole) (solid_below n heights y solid)
 
@@ -64,14 +66,15 @@ module _ (n : ℕ) (heights levels : List ℤ) (labels : List ℕ) (queue queue'
     | inr old ↦ (still e (s.waiting l e old).0, same_at e (s.waiting l e old).0 ∙ (s.waiting l e old).1)
   ]
 
-  pub marks : AreMarks n heights (set levels y v) (set labels y label) queue'
+  pub marks : AreMarks (block_of n heights sinks) (set levels y v) (set labels y label) queue'
   marks = record {
     levels_whole = length-set levels y v ∙ s.levels_whole;
     labels_whole = length-set labels y label ∙ s.labels_whole;
-    filled = by_point (λ e l _. IsTrue (not (int_eq l void)) → IsFilledLevel (block n heights) e l) (λ _. fills) (λ e other. s.filled e);
-    labelled = by_point (λ e l b. IsTrue (not (int_eq l void)) → IsLabelAt n heights e l b) (λ _. named) (λ e other. s.labelled e);
+    filled = by_point (λ e l _. IsTrue (not (int_eq l void)) → IsFilledLevel (block_terrain (block_of n heights sinks)) e l) (λ _. fills) (λ e other. s.filled e);
+    labelled = by_point (λ e l b. IsTrue (not (int_eq l void)) → IsLabelAt (block_of n heights sinks) e l b) (λ _. named) (λ e other. s.labelled e);
     unlabelled = by_point (λ e l b. e < n * n → not (int_eq l void) ≡ false → b ≡ NO_LABEL)
         (λ _ none. absurd (true≢false (sym (test_if v full) ∙ none))) (λ e other. s.unlabelled e);
+    buckets = λ e on. joined.buckets (get_or heights e void) (s.buckets e on);
     waiting = waiting_now;
   }
 
@@ -91,8 +94,8 @@ module _ (n : ℕ) (heights levels : List ℤ) (labels : List ℕ) (queue queue'
       ]
 
   -- while outlets are marked
-  module _ (k : ℕ) (seeding : IsSeeding n heights levels labels queue k) (here : y ≡ k) where
-    pub seeds : IsSeeding n heights (set levels y v) (set labels y label) queue' (k + 1)
+  module _ (k : ℕ) (seeding : IsSeeding (block_of n heights sinks) levels labels queue k) (here : y ≡ k) where
+    pub seeds : IsSeeding (block_of n heights sinks) (set levels y v) (set labels y label) queue' (k + 1)
     seeds = record {
       marks = marks;
       outlets = λ e below exit. elim (cases_lt e k) [
@@ -105,12 +108,12 @@ module _ (n : ℕ) (heights levels : List ℤ) (labels : List ℕ) (queue queue'
     }
 
   -- while c spreads
-  module _ (c : ℕ) (low : ℤ) (carried : ℕ) (spreading : IsSpreading n heights levels labels queue c low carried) (above : low ≤ℤ v) where
-    pub spreads : IsSpreading n heights (set levels y v) (set labels y label) queue' c low carried
+  module _ (c : ℕ) (low : ℤ) (carried : ℕ) (spreading : IsSpreading (block_of n heights sinks) levels labels queue c low carried) (above : low ≤ℤ v) where
+    pub spreads : IsSpreading (block_of n heights sinks) (set levels y v) (set labels y label) queue' c low carried
     spreads = record {
       marks = marks;
       outlets = λ e out. still e (spreading.outlets e out);
-      closed = λ x z. by_point (λ e l _. IsTrue (not (int_eq l void)) → IsTrue (is_linked n heights e z) → (e ≡ c) ⊎ (Waits queue' l e ⊎ IsTrue (is_marked (set levels y v) z)))
+      closed = λ x z. by_point (λ e l _. IsTrue (not (int_eq l void)) → IsTrue (is_linked (bare_block n heights) e z) → (e ≡ c) ⊎ (Waits queue' l e ⊎ IsTrue (is_marked (set levels y v) z)))
           (λ _ _. inr (inl joined.waits))
           (λ e other on link. elim (spreading.closed e z on link) [
             | inl is ↦ inl is
@@ -123,6 +126,7 @@ module _ (n : ℕ) (heights levels : List ℤ) (labels : List ℕ) (queue queue'
         | inl new ↦ subst (λ m. low ≤ℤ m) (sym new.0) above
         | inr old ↦ spreading.lowest l e old
       ];
+      bucket = joined.buckets low spreading.bucket;
       taken = (still c spreading.taken.0, same_at c spreading.taken.0 ∙ spreading.taken.1);
       named = get_or-set_other labels y c label 0 (λ h. true≢false (sym spreading.taken.0 ∙ (ap (is_marked levels) h ∙ off))) ∙ spreading.named;
     }
@@ -130,17 +134,21 @@ module _ (n : ℕ) (heights levels : List ℤ) (labels : List ℕ) (queue queue'
 max_one_of : (a b : ℤ) → (int_max a b ≡ a) ⊎ (int_max a b ≡ b)
 max_one_of a b = elim (cases_Bool (int_lt b a)) [ inl h ↦ inl (ap (λ v. cond v a b) h) | inr h ↦ inr (ap (λ v. cond v a b) h) ]
 
+-- there is a bucket for the greater of two levels that have one
+pub higher_bucket : (queue : Queue) (a b : ℤ) → HasBucket queue a → HasBucket queue b → HasBucket queue (int_max a b)
+higher_bucket queue a b one other = elim (max_one_of a b) [ inl h ↦ subst (HasBucket queue) (sym h) one | inr h ↦ subst (HasBucket queue) (sym h) other ]
+
 -- what the mark of a point beside c leaves
-pub record IsVisited (n : ℕ) (heights levels levels' : List ℤ) (labels' : List ℕ) (queue' : List (List ℕ)) (c : ℕ) (low : ℤ) (label e : ℕ) : Type 0 where
-  pub state : IsSpreading n heights levels' labels' queue' c low label
+pub record IsVisited (n : ℕ) (heights : List ℤ) (sinks : List ℕ) (levels levels' : List ℤ) (labels' : List ℕ) (queue' : Queue) (c : ℕ) (low : ℤ) (label e : ℕ) : Type 0 where
+  pub state : IsSpreading (block_of n heights sinks) levels' labels' queue' c low label
   pub marked : IsTrue (is_marked levels' e)
   pub still : AreMarkedStill levels levels'
   pub count : unmarked levels' + 1 ≡ unmarked levels
 
 -- the point y beside c, which spreads
-module _ (n : ℕ) (heights levels : List ℤ) (labels : List ℕ) (queue : List (List ℕ)) (c : ℕ) (low : ℤ) (label : ℕ) (s : IsSpreading n heights levels labels queue c low label)
-    (y : ℕ) (beside : IsTrue (is_linked n heights c y)) (off : is_marked levels y ≡ false) where
-  y_solid : IsTrue (is_solid n heights y)
+module _ (n : ℕ) (heights : List ℤ) (sinks : List ℕ) (levels : List ℤ) (labels : List ℕ) (queue : Queue) (c : ℕ) (low : ℤ) (label : ℕ) (s : IsSpreading (block_of n heights sinks) levels labels queue c low label)
+    (y : ℕ) (beside : IsTrue (is_linked (bare_block n heights) c y)) (off : is_marked levels y ≡ false) where
+  y_solid : IsTrue (is_solid (bare_block n heights) y)
   y_solid = (linked_parts n heights c y beside).to
 
   new_full : int_max (get_or heights y void) low ≢ void
@@ -149,8 +157,8 @@ module _ (n : ℕ) (heights levels : List ℤ) (labels : List ℕ) (queue : List
     | inr e ↦ not_void_if levels c s.taken.0 (s.taken.1 ∙ (sym e ∙ h))
   ]
 
-  new_fills : IsFilledLevel (block n heights) y (int_max (get_or heights y void) low)
-  new_fills = level_beside (block n heights) (block_is_lawful n heights) (is_marked levels) (λ e. get_or levels e void) low
+  new_fills : IsFilledLevel (block_terrain (block_of n heights sinks)) y (int_max (get_or heights y void) low)
+  new_fills = level_beside (block_terrain (block_of n heights sinks)) (block_is_lawful (block_of n heights sinks)) (is_marked levels) (λ e. get_or levels e void) low
       s.outlets s.marks.filled
       (λ w z on off' link. elim (s.closed w z on link) [
         | inl e ↦ subst (λ v. low ≤ℤ get_or levels v void) (sym e) (subst (λ v. low ≤ℤ v) (sym s.taken.1) (≤ℤ_same low))
@@ -161,70 +169,71 @@ module _ (n : ℕ) (heights levels : List ℤ) (labels : List ℕ) (queue : List
       ])
       c y s.taken.0 s.taken.1 beside off
 
-  new_named : IsLabelAt n heights y (int_max (get_or heights y void) low) (slice_index labels c)
+  new_named : IsLabelAt (block_of n heights sinks) y (int_max (get_or heights y void) low) (slice_index labels c)
   new_named =
       let from = (s.marks.labelled c s.taken.0).way in
       record {
-        way = (c ∷ from.0, (((block_is_lawful n heights).both_ways c y beside, from.1.0), (ap (int_max (get_or heights y void)) (from.1.1.0 ∙ s.taken.1), from.1.1.1)));
-        inner_outlet = λ inner. absurd (true≢false (sym (s.outlets y (or_right (is_solid n heights y && is_rim n y) (is_inner_outlet n heights y) inner)) ∙ off));
+        way = (c ∷ from.0, (((block_is_lawful (block_of n heights sinks)).both_ways c y beside, from.1.0), (ap (int_max (get_or heights y void)) (from.1.1.0 ∙ s.taken.1), from.1.1.1)));
+        inner_outlet = λ inner. absurd (true≢false (sym (s.outlets y (or_right (is_solid (bare_block n heights) y && is_rim n y) (is_inner_outlet (block_of n heights sinks) y) inner)) ∙ off));
       }
 
-  pub visited : (queue' : List (List ℕ)) → IsJoined queue queue' (int_max (get_or heights y void) low) y →
-      IsVisited n heights levels (set levels y (int_max (get_or heights y void) low)) (set labels y (slice_index labels c)) queue' c low label y
+  pub visited : (queue' : Queue) → IsJoined queue queue' (int_max (get_or heights y void) low) y →
+      IsVisited n heights sinks levels (set levels y (int_max (get_or heights y void) low)) (set labels y (slice_index labels c)) queue' c low label y
   visited queue' joined = record {
-    state = spreads n heights levels labels queue queue' y (int_max (get_or heights y void) low) (slice_index labels c) s.marks y_solid off new_fills new_named new_full joined c low label s
+    state = spreads n heights sinks levels labels queue queue' y (int_max (get_or heights y void) low) (slice_index labels c) s.marks y_solid off new_fills new_named new_full joined c low label s
         (le-max_right (get_or heights y void) low);
-    marked = now n heights levels labels queue queue' y (int_max (get_or heights y void) low) (slice_index labels c) s.marks y_solid off new_fills new_named new_full joined;
-    still = still n heights levels labels queue queue' y (int_max (get_or heights y void) low) (slice_index labels c) s.marks y_solid off new_fills new_named new_full joined;
-    count = counted n heights levels labels queue queue' y (int_max (get_or heights y void) low) (slice_index labels c) s.marks y_solid off new_fills new_named new_full joined;
+    marked = now n heights sinks levels labels queue queue' y (int_max (get_or heights y void) low) (slice_index labels c) s.marks y_solid off new_fills new_named new_full joined;
+    still = still n heights sinks levels labels queue queue' y (int_max (get_or heights y void) low) (slice_index labels c) s.marks y_solid off new_fills new_named new_full joined;
+    count = counted n heights sinks levels labels queue queue' y (int_max (get_or heights y void) low) (slice_index labels c) s.marks y_solid off new_fills new_named new_full joined;
   }
 
 -- the same, as the code does it
-pub visited_as : (n : ℕ) (heights levels levels' : List ℤ) (labels labels' : List ℕ) (queue queue' : List (List ℕ)) (c : ℕ) (low : ℤ) (e : ℕ) (v : ℤ) (label : ℕ) →
-    IsSpreading n heights levels labels queue c low label → IsTrue (is_linked n heights c e) → is_marked levels e ≡ false →
+pub visited_as : (n : ℕ) (heights : List ℤ) (sinks : List ℕ) (levels levels' : List ℤ) (labels labels' : List ℕ) (queue queue' : Queue) (c : ℕ) (low : ℤ) (e : ℕ) (v : ℤ) (label : ℕ) →
+    IsSpreading (block_of n heights sinks) levels labels queue c low label → IsTrue (is_linked (bare_block n heights) c e) → is_marked levels e ≡ false →
     v ≡ int_max (get_or heights e void) low → levels' ≡ set levels e v → labels' ≡ set labels e label → IsJoined queue queue' v e →
-    IsVisited n heights levels levels' labels' queue' c low label e
-visited_as n heights levels levels' labels labels' queue queue' c low e v label s beside off is wrote wrote_label joined =
-    subst (λ ls. IsVisited n heights levels ls labels' queue' c low label e) (ap (set levels e) (sym is) ∙ sym wrote)
-    (subst (λ bs. IsVisited n heights levels (set levels e (int_max (get_or heights e void) low)) bs queue' c low label e) (ap (set labels e) s.named ∙ sym wrote_label)
-    (visited n heights levels labels queue c low label s e beside off queue' (subst (λ l. IsJoined queue queue' l e) is joined)))
+    IsVisited n heights sinks levels levels' labels' queue' c low label e
+visited_as n heights sinks levels levels' labels labels' queue queue' c low e v label s beside off is wrote wrote_label joined =
+    subst (λ ls. IsVisited n heights sinks levels ls labels' queue' c low label e) (ap (set levels e) (sym is) ∙ sym wrote)
+    (subst (λ bs. IsVisited n heights sinks levels (set levels e (int_max (get_or heights e void) low)) bs queue' c low label e) (ap (set labels e) s.named ∙ sym wrote_label)
+    (visited n heights sinks levels labels queue c low label s e beside off queue' (subst (λ l. IsJoined queue queue' l e) is joined)))
 
 -- an outlet that has no level is marked at its height, with its own label
-pub seeded : (n : ℕ) (heights levels levels' : List ℤ) (labels labels' : List ℕ) (queue queue' : List (List ℕ)) (k : ℕ) (v : ℤ) (label : ℕ) →
-    IsSeeding n heights levels labels queue k → IsTrue (is_exit n heights k) → IsOwnLabel n heights k label →
-    v ≡ get_or heights k void → levels' ≡ set levels k v → labels' ≡ set labels k label → IsJoined queue queue' v k → IsSeeding n heights levels' labels' queue' (k + 1)
-seeded n heights levels levels' labels labels' queue queue' k v label s exit own is wrote wrote_label joined =
+pub seeded : (n : ℕ) (heights : List ℤ) (sinks : List ℕ) (levels levels' : List ℤ) (labels labels' : List ℕ) (queue queue' : Queue) (k : ℕ) (v : ℤ) (label : ℕ) →
+    IsSeeding (block_of n heights sinks) levels labels queue k → IsTrue (is_exit (block_of n heights sinks) k) → IsOwnLabel (block_of n heights sinks) k label →
+    v ≡ get_or heights k void → levels' ≡ set levels k v → labels' ≡ set labels k label → IsJoined queue queue' v k → IsSeeding (block_of n heights sinks) levels' labels' queue' (k + 1)
+seeded n heights sinks levels levels' labels labels' queue queue' k v label s exit own is wrote wrote_label joined =
     let height = get_or heights k void in
-    let solid = (block_is_lawful n heights).outlet_ground k exit in
-    subst (λ ls. IsSeeding n heights ls labels' queue' (k + 1)) (ap (set levels k) (sym is) ∙ sym wrote)
-    (subst (λ bs. IsSeeding n heights (set levels k (get_or heights k void)) bs queue' (k + 1)) (sym wrote_label)
-    (seeds n heights levels labels queue queue' k (get_or heights k void) label s.marks solid (s.fresh k (omega arith))
-    (level_of_outlet (block n heights) (block_is_lawful n heights) k exit)
+    let solid = (block_is_lawful (block_of n heights sinks)).outlet_ground k exit in
+    subst (λ ls. IsSeeding (block_of n heights sinks) ls labels' queue' (k + 1)) (ap (set levels k) (sym is) ∙ sym wrote)
+    (subst (λ bs. IsSeeding (block_of n heights sinks) (set levels k (get_or heights k void)) bs queue' (k + 1)) (sym wrote_label)
+    (seeds n heights sinks levels labels queue queue' k (get_or heights k void) label s.marks solid (s.fresh k (omega arith))
+    (level_of_outlet (block_terrain (block_of n heights sinks)) (block_is_lawful (block_of n heights sinks)) k exit)
     (record { way = ([], (solid, (refl, (exit, own.names)))); inner_outlet = own.inner_outlet })
     (solid_height n heights k solid) (subst (λ l. IsJoined queue queue' l k) is joined) k s refl))
 
-pub seed_passed : (n : ℕ) (heights levels : List ℤ) (labels : List ℕ) (queue : List (List ℕ)) (k : ℕ) → IsSeeding n heights levels labels queue k → is_exit n heights k ≡ false →
-    IsSeeding n heights levels labels queue (k + 1)
-seed_passed n heights levels labels queue k s off = record {
+pub seed_passed : (n : ℕ) (heights : List ℤ) (sinks : List ℕ) (levels : List ℤ) (labels : List ℕ) (queue : Queue) (k : ℕ) → IsSeeding (block_of n heights sinks) levels labels queue k → is_exit (block_of n heights sinks) k ≡ false →
+    IsSeeding (block_of n heights sinks) levels labels queue (k + 1)
+seed_passed n heights sinks levels labels queue k s off = record {
   marks = s.marks;
   outlets = λ e lt exit. elim (cases_lt e k) [
     | inl earlier ↦ s.outlets e earlier exit
-    | inr ge ↦ let same : e ≡ k = omega arith in absurd (true≢false (sym exit ∙ (ap (is_exit n heights) same ∙ off)))
+    | inr ge ↦ let same : e ≡ k = omega arith in absurd (true≢false (sym exit ∙ (ap (is_exit (block_of n heights sinks)) same ∙ off)))
   ];
   waits = s.waits;
   fresh = λ e le. s.fresh e (omega arith);
 }
 
 -- nothing is marked at first
-pub seeding_start : (n : ℕ) (heights levels : List ℤ) (labels : List ℕ) (queue : List (List ℕ)) → length levels ≡ n * n → length labels ≡ n * n →
-    ((e : ℕ) → get_or levels e void ≡ void) → ((e : ℕ) → e < n * n → slice_index labels e ≡ NO_LABEL) → ((l : ℤ) (e : ℕ) → Waits queue l e → ⊥) → IsSeeding n heights levels labels queue 0
-seeding_start n heights levels labels queue levels_whole labels_whole none no_label nobody = record {
+pub seeding_start : (n : ℕ) (heights : List ℤ) (sinks : List ℕ) (levels : List ℤ) (labels : List ℕ) (queue : Queue) → length levels ≡ n * n → length labels ≡ n * n →
+    ((e : ℕ) → get_or levels e void ≡ void) → ((e : ℕ) → e < n * n → slice_index labels e ≡ NO_LABEL) → ((e : ℕ) → e < length heights → get_or heights e void ≢ void → HasBucket queue (get_or heights e void)) → ((l : ℤ) (e : ℕ) → Waits queue l e → ⊥) → length heights ≡ n * n → IsSeeding (block_of n heights sinks) levels labels queue 0
+seeding_start n heights sinks levels labels queue levels_whole labels_whole none no_label buckets nobody whole = record {
   marks = record {
     levels_whole = levels_whole;
     labels_whole = labels_whole;
     filled = λ e on. absurd (true≢false (sym on ∙ fresh e));
     labelled = λ e on. absurd (true≢false (sym on ∙ fresh e));
     unlabelled = λ e below _. no_label e below;
+    buckets = λ e on. buckets e (subst (λ k. e < k) (sym whole) (solid_below n heights e on)) (solid_height n heights e on);
     waiting = λ l e w. absurd (nobody l e w);
   };
   outlets = λ e low out. absurd (omega arith);
@@ -236,23 +245,24 @@ seeding_start n heights levels labels queue levels_whole labels_whole none no_la
     fresh e = ap not ((Decides-int_eq (get_or levels e void) void).1 (none e))
 
 -- all outlets wait
-pub seeding_end : (n : ℕ) (heights levels : List ℤ) (labels : List ℕ) (queue : List (List ℕ)) → IsSeeding n heights levels labels queue (n * n) → IsFlooding n heights levels labels queue
-seeding_end n heights levels labels queue s = record {
+pub seeding_end : (n : ℕ) (heights : List ℤ) (sinks : List ℕ) (levels : List ℤ) (labels : List ℕ) (queue : Queue) → IsSeeding (block_of n heights sinks) levels labels queue (n * n) → IsFlooding (block_of n heights sinks) levels labels queue
+seeding_end n heights sinks levels labels queue s = record {
   marks = s.marks;
-  outlets = λ e exit. s.outlets e (solid_below n heights e ((block_is_lawful n heights).outlet_ground e exit)) exit;
+  outlets = λ e exit. s.outlets e (solid_below n heights e ((block_is_lawful (block_of n heights sinks)).outlet_ground e exit)) exit;
   closed = λ x y on link. inl (s.waits x on);
 }
 
 -- a point of the lowest level is taken
-pub spread_begin : (n : ℕ) (heights levels : List ℤ) (labels : List ℕ) (queue queue' : List (List ℕ)) (c : ℕ) (low : ℤ) → IsFlooding n heights levels labels queue → IsTaken queue queue' low c →
-    IsSpreading n heights levels labels queue' c low (slice_index labels c)
-spread_begin n heights levels labels queue queue' c low s taken = record {
+pub spread_begin : (n : ℕ) (heights : List ℤ) (sinks : List ℕ) (levels : List ℤ) (labels : List ℕ) (queue queue' : Queue) (c : ℕ) (low : ℤ) → IsFlooding (block_of n heights sinks) levels labels queue → IsTaken queue queue' low c →
+    IsSpreading (block_of n heights sinks) levels labels queue' c low (slice_index labels c)
+spread_begin n heights sinks levels labels queue queue' c low s taken = record {
   marks = record {
     levels_whole = s.marks.levels_whole;
     labels_whole = s.marks.labels_whole;
     filled = s.marks.filled;
     labelled = s.marks.labelled;
     unlabelled = s.marks.unlabelled;
+    buckets = λ e on. taken.buckets (get_or heights e void) (s.marks.buckets e on);
     waiting = λ l e w. s.marks.waiting l e (taken.only l e w);
   };
   outlets = s.outlets;
@@ -261,26 +271,27 @@ spread_begin n heights levels labels queue queue' c low s taken = record {
     | inr on' ↦ inr (inr on')
   ];
   lowest = λ l e w. taken.lowest l e (taken.only l e w);
+  bucket = taken.buckets low (has_bucket queue low c taken.waited);
   taken = s.marks.waiting low c taken.waited;
   named = refl;
 }
 
 -- all that is adjacent to it is marked
-pub spread_end : (n : ℕ) (heights levels : List ℤ) (labels : List ℕ) (queue : List (List ℕ)) (c : ℕ) (low : ℤ) (label : ℕ) → IsSpreading n heights levels labels queue c low label →
-    ((z : ℕ) → IsTrue (is_linked n heights c z) → IsTrue (is_marked levels z)) → IsFlooding n heights levels labels queue
-spread_end n heights levels labels queue c low label s all = record {
+pub spread_end : (n : ℕ) (heights : List ℤ) (sinks : List ℕ) (levels : List ℤ) (labels : List ℕ) (queue : Queue) (c : ℕ) (low : ℤ) (label : ℕ) → IsSpreading (block_of n heights sinks) levels labels queue c low label →
+    ((z : ℕ) → IsTrue (is_linked (bare_block n heights) c z) → IsTrue (is_marked levels z)) → IsFlooding (block_of n heights sinks) levels labels queue
+spread_end n heights sinks levels labels queue c low label s all = record {
   marks = s.marks;
   outlets = s.outlets;
   closed = λ x y on link. elim (s.closed x y on link) [
-    | inl is ↦ inr (all y (subst (λ v. IsTrue (is_linked n heights v y)) is link))
+    | inl is ↦ inr (all y (subst (λ v. IsTrue (is_linked (bare_block n heights) v y)) is link))
     | inr r ↦ r
   ];
 }
 
 -- nobody waits any more
-pub flooding_end : (n : ℕ) (heights levels : List ℤ) (labels : List ℕ) (queue : List (List ℕ)) → 0 < n → IsFlooding n heights levels labels queue → ((l : ℤ) (e : ℕ) → Waits queue l e → ⊥) →
-    IsLabelling n heights levels labels
-flooding_end n heights levels labels queue some s nobody = record {
+pub flooding_end : (n : ℕ) (heights : List ℤ) (sinks : List ℕ) (levels : List ℤ) (labels : List ℕ) (queue : Queue) → 0 < n → IsFlooding (block_of n heights sinks) levels labels queue → ((l : ℤ) (e : ℕ) → Waits queue l e → ⊥) →
+    IsLabelling (block_of n heights sinks) levels labels
+flooding_end n heights sinks levels labels queue some s nobody = record {
   levels_whole = s.marks.levels_whole;
   labels_whole = s.marks.labels_whole;
   level = λ e solid. s.marks.filled e (marked e solid);
@@ -294,16 +305,16 @@ flooding_end n heights levels labels queue some s nobody = record {
   );
 }
   where
-    marked : (e : ℕ) → IsTrue (is_solid n heights e) → IsTrue (is_marked levels e)
+    marked : (e : ℕ) → IsTrue (is_solid (bare_block n heights) e) → IsTrue (is_marked levels e)
     marked e solid =
-        let out = leads n heights (e / n + 1) e some (omega arith) solid in
-        all_marked (block n heights) (block_is_lawful n heights) (is_marked levels) s.outlets
+        let out = leads n heights sinks (e / n + 1) e some (omega arith) solid in
+        all_marked (block_terrain (block_of n heights sinks)) (block_is_lawful (block_of n heights sinks)) (is_marked levels) s.outlets
         (λ x y on link. elim (s.closed x y on link) [ inl waits ↦ absurd (nobody (get_or levels x void) x waits) | inr on' ↦ on' ])
         e out.0 out.1
 
-    unmarked_if : (e : ℕ) → IsFalse (is_solid n heights e) → is_marked levels e ≡ false
+    unmarked_if : (e : ℕ) → IsFalse (is_solid (bare_block n heights) e) → is_marked levels e ≡ false
     unmarked_if e none = elim (cases_Bool (is_marked levels e)) [
-      | inl on ↦ absurd (true≢false (sym (marked_solid n heights levels labels queue e s.marks on) ∙ none))
+      | inl on ↦ absurd (true≢false (sym (marked_solid n heights sinks levels labels queue e s.marks on) ∙ none))
       | inr off ↦ off
     ]
 
@@ -313,14 +324,14 @@ passed_max r h low g fr fh fl is same =
     to_z-of_z w16 r fr ∙ (is ∙ (ap₂ int_max (to_z-of_z w16 h fh ∙ same) (to_z-of_z w16 low fl)))
 
 -- a ground point without a level, near c, is beside it
-pub cell_beside : (n : ℕ) (heights levels : List ℤ) (labels : List ℕ) (queue : List (List ℕ)) (c : ℕ) (low : ℤ) (label i j : ℕ) → IsSpreading n heights levels labels queue c low label →
+pub cell_beside : (n : ℕ) (heights : List ℤ) (sinks : List ℕ) (levels : List ℤ) (labels : List ℕ) (queue : Queue) (c : ℕ) (low : ℤ) (label i j : ℕ) → IsSpreading (block_of n heights sinks) levels labels queue c low label →
     j < n → c / n ≤ i + 1 → i ≤ c / n + 1 → c % n ≤ j + 1 → j ≤ c % n + 1 →
-    IsTrue (is_solid n heights (i * n + j)) → is_marked levels (i * n + j) ≡ false → IsTrue (is_linked n heights c (i * n + j))
-cell_beside n heights levels labels queue c low label i j s below north south west east solid off =
+    IsTrue (is_solid (bare_block n heights) (i * n + j)) → is_marked levels (i * n + j) ≡ false → IsTrue (is_linked (bare_block n heights) c (i * n + j))
+cell_beside n heights sinks levels labels queue c low label i j s below north south west east solid off =
     let row = row_of_cell n i j below in
     let column = column_of_cell n i j below in
     linked_from n heights c (i * n + j) (record {
-      from = marked_solid n heights levels labels queue c s.marks s.taken.0;
+      from = marked_solid n heights sinks levels labels queue c s.marks s.taken.0;
       to = solid;
       apart = ap not (ne_eqb c (i * n + j) (λ h. true≢false (sym s.taken.0 ∙ (ap (is_marked levels) h ∙ off))));
       beside = beside_if n c (i * n + j) (record { north = omega arith; south = omega arith; west = omega arith; east = omega arith });
@@ -328,27 +339,27 @@ cell_beside n heights levels labels queue c low label i j s below north south we
 
 -- one column more
 pub row_more : (n : ℕ) (heights levels levels' : List ℤ) (c i j : ℕ) → AreMarkedStill levels levels' →
-    ((z : ℕ) → z / n ≡ i → z % n < j → IsTrue (is_linked n heights c z) → IsTrue (is_marked levels z)) →
-    (IsTrue (is_solid n heights (i * n + j)) → IsTrue (is_marked levels' (i * n + j))) →
-    (z : ℕ) → z / n ≡ i → z % n < j + 1 → IsTrue (is_linked n heights c z) → IsTrue (is_marked levels' z)
+    ((z : ℕ) → z / n ≡ i → z % n < j → IsTrue (is_linked (bare_block n heights) c z) → IsTrue (is_marked levels z)) →
+    (IsTrue (is_solid (bare_block n heights) (i * n + j)) → IsTrue (is_marked levels' (i * n + j))) →
+    (z : ℕ) → z / n ≡ i → z % n < j + 1 → IsTrue (is_linked (bare_block n heights) c z) → IsTrue (is_marked levels' z)
 row_more n heights levels levels' c i j still before here z row below link = elim (cases_lt (z % n) j) [
   | inl lt ↦ still z (before z row lt link)
   | inr ge ↦
       let column : z % n ≡ j = omega arith in
       let cell : z ≡ i * n + j = cell_of n z ∙ ap₂ (λ a b. a * n + b) row column in
-      subst (λ v. IsTrue (is_solid n heights v) → IsTrue (is_marked levels' v)) (sym cell) here (linked_parts n heights c z link).to
+      subst (λ v. IsTrue (is_solid (bare_block n heights) v) → IsTrue (is_marked levels' v)) (sym cell) here (linked_parts n heights c z link).to
 ]
 
 -- one row more
 pub rows_more : (n : ℕ) (heights levels levels' : List ℤ) (c i : ℕ) → AreMarkedStill levels levels' →
-    ((z : ℕ) → z / n < i → IsTrue (is_linked n heights c z) → IsTrue (is_marked levels z)) → IsRowMarked n heights levels' c i →
-    (z : ℕ) → z / n < i + 1 → IsTrue (is_linked n heights c z) → IsTrue (is_marked levels' z)
+    ((z : ℕ) → z / n < i → IsTrue (is_linked (bare_block n heights) c z) → IsTrue (is_marked levels z)) → IsRowMarked n heights levels' c i →
+    (z : ℕ) → z / n < i + 1 → IsTrue (is_linked (bare_block n heights) c z) → IsTrue (is_marked levels' z)
 rows_more n heights levels levels' c i still before here z below link = elim (cases_lt (z / n) i) [
   | inl lt ↦ still z (before z lt link)
   | inr ge ↦ here z (omega arith) link
 ]
 
 -- the point that is taken has a label
-pub taken_below : (n : ℕ) (heights levels : List ℤ) (labels : List ℕ) (queue : List (List ℕ)) (c : ℕ) (low : ℤ) (label : ℕ) → IsSpreading n heights levels labels queue c low label → c < length labels
-taken_below n heights levels labels queue c low label s =
-    subst (λ k. c < k) (sym s.marks.labels_whole) (solid_below n heights c (marked_solid n heights levels labels queue c s.marks s.taken.0))
+pub taken_below : (n : ℕ) (heights : List ℤ) (sinks : List ℕ) (levels : List ℤ) (labels : List ℕ) (queue : Queue) (c : ℕ) (low : ℤ) (label : ℕ) → IsSpreading (block_of n heights sinks) levels labels queue c low label → c < length labels
+taken_below n heights sinks levels labels queue c low label s =
+    subst (λ k. c < k) (sym s.marks.labels_whole) (solid_below n heights c (marked_solid n heights sinks levels labels queue c s.marks s.taken.0))

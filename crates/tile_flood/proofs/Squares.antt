@@ -7,7 +7,8 @@ use Rattle.std.proofs.lemmas.Bool.Decides.{Decides-int_eq}
 use Rattle.std.proofs.lemmas.Nat.{rows}
 use Rattle.lattice.specs.Mosaic.{void}
 use Rattle.lattice.specs.Terrain.{LeadsOut}
-use Rattle.lattice.specs.Block.{block, is_solid, is_linked, is_exit, is_inner_outlet, is_beside, is_rim, around}
+use Rattle.lattice.specs.Block.{block_terrain, is_solid, is_linked, is_exit, is_inner_outlet, is_sink_at, is_beside, is_rim, around}
+use Rattle.tile_flood.specs.Blocks.{block_of, bare_block}
 use Rattle.tile_flood.specs.Flooding.{is_marked}
 
 pub not_void_if : (levels : List ℤ) (e : ℕ) → IsTrue (is_marked levels e) → get_or levels e void ≢ void
@@ -17,30 +18,30 @@ pub test_if : (v : ℤ) → v ≢ void → IsTrue (not (int_eq v void))
 test_if v ne = elim (cases_Bool (int_eq v void)) [ inl h ↦ absurd (ne ((Decides-int_eq v void).0 h)) | inr h ↦ ap not h ]
 
 pub record Linked (n : ℕ) (heights : List ℤ) (e f : ℕ) : Type 0 where
-  pub from : IsTrue (is_solid n heights e)
-  pub to : IsTrue (is_solid n heights f)
+  pub from : IsTrue (is_solid (bare_block n heights) e)
+  pub to : IsTrue (is_solid (bare_block n heights) f)
   pub apart : IsTrue (not (nat_eq e f))
   pub beside : IsTrue (is_beside n e f)
 
-pub linked_parts : (n : ℕ) (heights : List ℤ) (e f : ℕ) → IsTrue (is_linked n heights e f) → Linked n heights e f
+pub linked_parts : (n : ℕ) (heights : List ℤ) (e f : ℕ) → IsTrue (is_linked (bare_block n heights) e f) → Linked n heights e f
 linked_parts n heights e f h =
-    let p = and_parts (is_solid n heights e && is_solid n heights f && not (nat_eq e f)) (is_beside n e f) h in
-    let q = and_parts (is_solid n heights e && is_solid n heights f) (not (nat_eq e f)) p.0 in
-    let r = and_parts (is_solid n heights e) (is_solid n heights f) q.0 in
+    let p = and_parts (is_solid (bare_block n heights) e && is_solid (bare_block n heights) f && not (nat_eq e f)) (is_beside n e f) h in
+    let q = and_parts (is_solid (bare_block n heights) e && is_solid (bare_block n heights) f) (not (nat_eq e f)) p.0 in
+    let r = and_parts (is_solid (bare_block n heights) e) (is_solid (bare_block n heights) f) q.0 in
     record { from = r.0; to = r.1; apart = q.1; beside = p.1 }
 
-pub linked_from : (n : ℕ) (heights : List ℤ) (e f : ℕ) → Linked n heights e f → IsTrue (is_linked n heights e f)
+pub linked_from : (n : ℕ) (heights : List ℤ) (e f : ℕ) → Linked n heights e f → IsTrue (is_linked (bare_block n heights) e f)
 linked_from n heights e f l =
-    and_from (is_solid n heights e && is_solid n heights f && not (nat_eq e f)) (is_beside n e f)
-    (and_from (is_solid n heights e && is_solid n heights f) (not (nat_eq e f)) (and_from (is_solid n heights e) (is_solid n heights f) l.from l.to) l.apart) l.beside
+    and_from (is_solid (bare_block n heights) e && is_solid (bare_block n heights) f && not (nat_eq e f)) (is_beside n e f)
+    (and_from (is_solid (bare_block n heights) e && is_solid (bare_block n heights) f) (not (nat_eq e f)) (and_from (is_solid (bare_block n heights) e) (is_solid (bare_block n heights) f) l.from l.to) l.apart) l.beside
 
-pub solid_height : (n : ℕ) (heights : List ℤ) (e : ℕ) → IsTrue (is_solid n heights e) → get_or heights e void ≢ void
+pub solid_height : (n : ℕ) (heights : List ℤ) (e : ℕ) → IsTrue (is_solid (bare_block n heights) e) → get_or heights e void ≢ void
 solid_height n heights e h = not_void_if heights e (and_parts (nat_lt e (n * n)) (is_marked heights e) h).1
 
-pub solid_below : (n : ℕ) (heights : List ℤ) (e : ℕ) → IsTrue (is_solid n heights e) → e < n * n
+pub solid_below : (n : ℕ) (heights : List ℤ) (e : ℕ) → IsTrue (is_solid (bare_block n heights) e) → e < n * n
 solid_below n heights e h = ltb-true e (n * n) (and_parts (nat_lt e (n * n)) (is_marked heights e) h).0
 
-pub solid_if : (n : ℕ) (heights : List ℤ) (e : ℕ) → e < n * n → int_eq (get_or heights e void) void ≡ false → IsTrue (is_solid n heights e)
+pub solid_if : (n : ℕ) (heights : List ℤ) (e : ℕ) → e < n * n → int_eq (get_or heights e void) void ≡ false → IsTrue (is_solid (bare_block n heights) e)
 solid_if n heights e below off = and_from (nat_lt e (n * n)) (is_marked heights e) (lt-ltb e (n * n) below) (ap not off)
 
 pub row_of_cell : (n i j : ℕ) → j < n → (i * n + j) / n ≡ i
@@ -55,7 +56,7 @@ cell_of n z = grind (arith, rows)
 pub row_below : (n z : ℕ) → z < n * n → z / n < n
 row_below n z h = grind (arith, rows)
 
-pub linked_below : (n : ℕ) (heights : List ℤ) (c z : ℕ) → IsTrue (is_linked n heights c z) → z < n * n
+pub linked_below : (n : ℕ) (heights : List ℤ) (c z : ℕ) → IsTrue (is_linked (bare_block n heights) c z) → z < n * n
 linked_below n heights c z link = solid_below n heights z (linked_parts n heights c z link).to
 
 -- how far two linked points are apart
@@ -65,7 +66,7 @@ pub record Apart (n c z : ℕ) : Type 0 where
   pub west : c % n ≤ z % n + 1
   pub east : z % n ≤ c % n + 1
 
-pub linked_apart : (n : ℕ) (heights : List ℤ) (c z : ℕ) → IsTrue (is_linked n heights c z) → Apart n c z
+pub linked_apart : (n : ℕ) (heights : List ℤ) (c z : ℕ) → IsTrue (is_linked (bare_block n heights) c z) → Apart n c z
 linked_apart n heights c z h =
     let p = and_parts (nat_le (c / n) (z / n + 1) && nat_le (z / n) (c / n + 1) && nat_le (c % n) (z % n + 1)) (nat_le (z % n) (c % n + 1)) (linked_parts n heights c z h).beside in
     let q = and_parts (nat_le (c / n) (z / n + 1) && nat_le (z / n) (c / n + 1)) (nat_le (c % n) (z % n + 1)) p.0 in
@@ -110,7 +111,7 @@ inner_high n e inner =
     let f : e / n ≢ 0 = eqb-false (e / n) 0 d in
     omega arith
 
-linked_north : (n : ℕ) (heights : List ℤ) (e : ℕ) → 0 < n → is_rim n e ≡ false → IsTrue (is_solid n heights e) → IsTrue (is_solid n heights (e - n)) → IsTrue (is_linked n heights e (e - n))
+linked_north : (n : ℕ) (heights : List ℤ) (e : ℕ) → 0 < n → is_rim n e ≡ false → IsTrue (is_solid (bare_block n heights) e) → IsTrue (is_solid (bare_block n heights) (e - n)) → IsTrue (is_linked (bare_block n heights) e (e - n))
 linked_north n heights e some inner solid above =
     let o = north n e some (inner_high n e inner) in
     let a = o.row in let b = o.column in let d = o.inside in
@@ -122,37 +123,44 @@ linked_north n heights e some inner solid above =
     })
 
 -- when a point is an outlet of its block, and its own label
-module _ (n : ℕ) (heights : List ℤ) (e : ℕ) where
-  pub rim_is_exit : IsTrue (is_solid n heights e) → IsTrue (is_rim n e) → IsTrue (is_exit n heights e)
-  rim_is_exit solid rim = or_left (is_solid n heights e && is_rim n e) (is_inner_outlet n heights e) (and_from (is_solid n heights e) (is_rim n e) solid rim)
+module _ (n : ℕ) (heights : List ℤ) (sinks : List ℕ) (e : ℕ) where
+  pub rim_is_exit : IsTrue (is_solid (bare_block n heights) e) → IsTrue (is_rim n e) → IsTrue (is_exit (block_of n heights sinks) e)
+  rim_is_exit solid rim = or_left (is_solid (bare_block n heights) e && is_rim n e) (is_inner_outlet (block_of n heights sinks) e) (and_from (is_solid (bare_block n heights) e) (is_rim n e) solid rim)
 
-  inner_off_rim : IsTrue (is_inner_outlet n heights e) → IsTrue (not (is_rim n e))
-  inner_off_rim inner = (and_parts (is_solid n heights e) (not (is_rim n e)) (and_parts (is_solid n heights e && not (is_rim n e)) (not (list_all (is_solid n heights) (around n e))) inner).0).1
+  inner_off_rim : IsTrue (is_inner_outlet (block_of n heights sinks) e) → IsTrue (not (is_rim n e))
+  inner_off_rim inner = (and_parts (is_solid (bare_block n heights) e) (not (is_rim n e))
+      (and_parts (is_solid (bare_block n heights) e && not (is_rim n e)) (not (list_all (is_solid (bare_block n heights)) (around n e)) || is_sink_at (block_of n heights sinks) e) inner).0).1
 
-  inner_from : IsTrue (is_solid n heights e) → is_rim n e ≡ false → list_all (is_solid n heights) (around n e) ≡ false → IsTrue (is_inner_outlet n heights e)
-  inner_from solid off gap = and_from (is_solid n heights e && not (is_rim n e)) (not (list_all (is_solid n heights) (around n e)))
-      (and_from (is_solid n heights e) (not (is_rim n e)) solid (ap not off)) (ap not gap)
+  -- off the rim, beside a void or a sink itself
+  pub inner_at : IsTrue (is_solid (bare_block n heights) e) → is_rim n e ≡ false →
+      IsTrue (not (list_all (is_solid (bare_block n heights)) (around n e)) || is_sink_at (block_of n heights sinks) e) → IsTrue (is_inner_outlet (block_of n heights sinks) e)
+  inner_at solid off out = and_from (is_solid (bare_block n heights) e && not (is_rim n e)) (not (list_all (is_solid (bare_block n heights)) (around n e)) || is_sink_at (block_of n heights sinks) e)
+      (and_from (is_solid (bare_block n heights) e) (not (is_rim n e)) solid (ap not off)) out
 
-  pub inner_is_exit : IsTrue (is_solid n heights e) → is_rim n e ≡ false → list_all (is_solid n heights) (around n e) ≡ false → IsTrue (is_exit n heights e)
-  inner_is_exit solid off gap = or_right (is_solid n heights e && is_rim n e) (is_inner_outlet n heights e) (inner_from solid off gap)
+  -- off the rim, beside a void
+  inner_from : IsTrue (is_solid (bare_block n heights) e) → is_rim n e ≡ false → list_all (is_solid (bare_block n heights)) (around n e) ≡ false → IsTrue (is_inner_outlet (block_of n heights sinks) e)
+  inner_from solid off gap = inner_at solid off (or_left (not (list_all (is_solid (bare_block n heights)) (around n e))) (is_sink_at (block_of n heights sinks) e) (ap not gap))
+
+  pub inner_is_exit : IsTrue (is_solid (bare_block n heights) e) → is_rim n e ≡ false → list_all (is_solid (bare_block n heights)) (around n e) ≡ false → IsTrue (is_exit (block_of n heights sinks) e)
+  inner_is_exit solid off gap = or_right (is_solid (bare_block n heights) e && is_rim n e) (is_inner_outlet (block_of n heights sinks) e) (inner_from solid off gap)
 
 -- to the north of a ground point there is an outlet
-pub leads : (n : ℕ) (heights : List ℤ) (k e : ℕ) → 0 < n → e / n < k → IsTrue (is_solid n heights e) → (rest : List ℕ) × LeadsOut (block n heights) e rest
-leads n heights zero e some low solid = absurd (omega arith)
-leads n heights (suc k) e some low solid = elim (cases_Bool (is_rim n e)) [
-  | inl rim ↦ ([], record { path = solid; outlet = rim_is_exit n heights e solid rim })
-  | inr inner ↦ elim (cases_Bool (is_solid n heights (e - n))) [
+pub leads : (n : ℕ) (heights : List ℤ) (sinks : List ℕ) (k e : ℕ) → 0 < n → e / n < k → IsTrue (is_solid (bare_block n heights) e) → (rest : List ℕ) × LeadsOut (block_terrain (block_of n heights sinks)) e rest
+leads n heights sinks zero e some low solid = absurd (omega arith)
+leads n heights sinks (suc k) e some low solid = elim (cases_Bool (is_rim n e)) [
+  | inl rim ↦ ([], record { path = solid; outlet = rim_is_exit n heights sinks e solid rim })
+  | inr inner ↦ elim (cases_Bool (is_solid (bare_block n heights) (e - n))) [
     | inl above ↦
         let o = north n e some (inner_high n e inner) in
         let row : (e - n) / n + 1 ≡ e / n = o.row in
-        let rest = leads n heights k (e - n) some (omega arith) above in
+        let rest = leads n heights sinks k (e - n) some (omega arith) above in
         ((e - n) ∷ rest.0, record { path = (linked_north n heights e some inner solid above, rest.1.path); outlet = rest.1.outlet })
     | inr gap ↦ (
       [],
       record {
         path = solid;
-        outlet = inner_is_exit n heights e solid inner (and_right (is_solid n heights (e - n - 1)) (list_all (is_solid n heights) ((e - n) ∷ (e - n + 1) ∷ (e - 1) ∷ (e + 1) ∷ (e + n - 1) ∷ (e + n) ∷ (e + n + 1) ∷ []))
-            (and_left (is_solid n heights (e - n)) (list_all (is_solid n heights) ((e - n + 1) ∷ (e - 1) ∷ (e + 1) ∷ (e + n - 1) ∷ (e + n) ∷ (e + n + 1) ∷ [])) gap));
+        outlet = inner_is_exit n heights sinks e solid inner (and_right (is_solid (bare_block n heights) (e - n - 1)) (list_all (is_solid (bare_block n heights)) ((e - n) ∷ (e - n + 1) ∷ (e - 1) ∷ (e + 1) ∷ (e + n - 1) ∷ (e + n) ∷ (e + n + 1) ∷ []))
+            (and_left (is_solid (bare_block n heights) (e - n)) (list_all (is_solid (bare_block n heights)) ((e - n + 1) ∷ (e - 1) ∷ (e + 1) ∷ (e + n - 1) ∷ (e + n) ∷ (e + n + 1) ∷ [])) gap));
       },
     )
   ]

@@ -1,13 +1,17 @@
--- What callers see of a block and of its labelling.
-use Rattle.std.specs.Prelude.{ℕ, ℤ, List}
+-- What callers see of a block's labelling, and blocks by their parts.
+use Rattle.std.specs.Prelude.{ℕ, ℤ, List, []}
+use Rattle.lattice.specs.Block.{Block}
 
--- a block's side, and its heights row by row from the north-west, void where a point has none
-pub record Ground : Type 0 where
-  pub side : ℕ
-  pub heights : List ℤ
-
--- a block's side, and a level and a label for each of its points, in the same order
+-- a block's side, and a level and a label for each of its points, row by row from the north-west
 pub record LabelledGround : Type 0 where
   pub side : ℕ
   pub levels : List ℤ
   pub labels : List ℕ
+
+-- the block of this side with these heights and these sinks
+abbrev pub block_of : ℕ → List ℤ → List ℕ → Block
+block_of n heights sinks = record { side = n; heights = heights; sinks = sinks }
+
+-- a block without sinks: which points are ground, and which are linked, don't depend on sinks
+abbrev pub bare_block : ℕ → List ℤ → Block
+bare_block n heights = block_of n heights []

@@ -4,9 +4,10 @@ use Rattle.std.specs.Prelude.{◌≡◌, ℕ, ◌*◌, ◌/◌, ◌<◌, ◌≤�
 use Rattle.std.specs.Ordering.{int_eq}
 use Rattle.lattice.specs.Mosaic.{void}
 use Rattle.lattice.specs.Terrain.{IsFilledLevel}
-use Rattle.lattice.specs.Block.{block, is_linked, is_exit, is_inner_outlet}
+use Rattle.lattice.specs.Block.{Block, block_terrain, is_solid, is_linked, is_exit, is_inner_outlet}
+use Rattle.tile_flood.specs.Blocks.{bare_block}
 use Rattle.tile_flood.specs.Labelling.{IsLabelAt, Names, OUT, NO_LABEL}
-use Rattle.tile_flood.specs.Waiting.{Waits}
+use Rattle.tile_flood.specs.Waiting.{Queue, Waits, HasBucket}
 
 -- the point has its level
 abbrev pub is_marked : List ℤ → ℕ → Bool
@@ -24,42 +25,45 @@ AreMarkedStill old new = (e : ℕ) → IsTrue (is_marked old e) → IsTrue (is_m
 
 -- the points of row i that are adjacent to c are marked
 abbrev pub IsRowMarked : ℕ → List ℤ → List ℤ → ℕ → ℕ → Type 0
-IsRowMarked n heights levels c i = (z : ℕ) → z / n ≡ i → IsTrue (is_linked n heights c z) → IsTrue (is_marked levels z)
+IsRowMarked n heights levels c i = (z : ℕ) → z / n ≡ i → IsTrue (is_linked (bare_block n heights) c z) → IsTrue (is_marked levels z)
 
 -- the label that an outlet starts with
-pub record IsOwnLabel (n : ℕ) (heights : List ℤ) (e label : ℕ) : Type 0 where
-  pub names : Names n heights label e
-  pub inner_outlet : IsTrue (is_inner_outlet n heights e) → label ≡ OUT
+pub record IsOwnLabel (b : Block) (e label : ℕ) : Type 0 where
+  pub names : Names b label e
+  pub inner_outlet : IsTrue (is_inner_outlet b e) → label ≡ OUT
 
-module _ (n : ℕ) (heights levels : List ℤ) (labels : List ℕ) (queue : List (List ℕ)) where
-  -- marked points have their filled levels and their labels, and each point that waits is marked
+module _ (b : Block) (levels : List ℤ) (labels : List ℕ) (queue : Queue) where
+  -- marked points have their filled levels and their labels, each point that waits is marked, and there is a bucket for
+  -- the height of each ground point
   pub record AreMarks : Type 0 where
-    pub levels_whole : length levels ≡ n * n
-    pub labels_whole : length labels ≡ n * n
-    pub filled : (e : ℕ) → IsTrue (is_marked levels e) → IsFilledLevel (block n heights) e (slice_index_or levels e void)
-    pub labelled : (e : ℕ) → IsTrue (is_marked levels e) → IsLabelAt n heights e (slice_index_or levels e void) (slice_index labels e)
-    pub unlabelled : (e : ℕ) → e < n * n → is_marked levels e ≡ false → slice_index labels e ≡ NO_LABEL
+    pub levels_whole : length levels ≡ b.side * b.side
+    pub labels_whole : length labels ≡ b.side * b.side
+    pub filled : (e : ℕ) → IsTrue (is_marked levels e) → IsFilledLevel (block_terrain b) e (slice_index_or levels e void)
+    pub labelled : (e : ℕ) → IsTrue (is_marked levels e) → IsLabelAt b e (slice_index_or levels e void) (slice_index labels e)
+    pub unlabelled : (e : ℕ) → e < b.side * b.side → is_marked levels e ≡ false → slice_index labels e ≡ NO_LABEL
+    pub buckets : (e : ℕ) → IsTrue (is_solid b e) → HasBucket queue (slice_index_or b.heights e void)
     pub waiting : (l : ℤ) (e : ℕ) → Waits queue l e → IsTrue (is_marked levels e) × (slice_index_or levels e void ≡ l)
 
   -- of the points below k the outlets are marked; they wait, and no other point is marked
   pub record IsSeeding (k : ℕ) : Type 0 where
     pub marks : AreMarks
-    pub outlets : (e : ℕ) → e < k → IsTrue (is_exit n heights e) → IsTrue (is_marked levels e)
+    pub outlets : (e : ℕ) → e < k → IsTrue (is_exit b e) → IsTrue (is_marked levels e)
     pub waits : (x : ℕ) → IsTrue (is_marked levels x) → Waits queue (slice_index_or levels x void) x
     pub fresh : (e : ℕ) → k ≤ e → is_marked levels e ≡ false
 
   -- outlets are marked, and so is all that is adjacent to a marked point that doesn't wait
   pub record IsFlooding : Type 0 where
     pub marks : AreMarks
-    pub outlets : (e : ℕ) → IsTrue (is_exit n heights e) → IsTrue (is_marked levels e)
-    pub closed : (x y : ℕ) → IsTrue (is_marked levels x) → IsTrue (is_linked n heights x y) → Waits queue (slice_index_or levels x void) x ⊎ IsTrue (is_marked levels y)
+    pub outlets : (e : ℕ) → IsTrue (is_exit b e) → IsTrue (is_marked levels e)
+    pub closed : (x y : ℕ) → IsTrue (is_marked levels x) → IsTrue (is_linked b x y) → Waits queue (slice_index_or levels x void) x ⊎ IsTrue (is_marked levels y)
 
   -- the same while c spreads, at the lowest level and with this label
   pub record IsSpreading (c : ℕ) (low : ℤ) (label : ℕ) : Type 0 where
     pub marks : AreMarks
-    pub outlets : (e : ℕ) → IsTrue (is_exit n heights e) → IsTrue (is_marked levels e)
-    pub closed : (x y : ℕ) → IsTrue (is_marked levels x) → IsTrue (is_linked n heights x y) →
+    pub outlets : (e : ℕ) → IsTrue (is_exit b e) → IsTrue (is_marked levels e)
+    pub closed : (x y : ℕ) → IsTrue (is_marked levels x) → IsTrue (is_linked b x y) →
         (x ≡ c) ⊎ (Waits queue (slice_index_or levels x void) x ⊎ IsTrue (is_marked levels y))
     pub lowest : (l : ℤ) (e : ℕ) → Waits queue l e → low ≤ℤ l
+    pub bucket : HasBucket queue low
     pub taken : IsTrue (is_marked levels c) × (slice_index_or levels c void ≡ low)
     pub named : slice_index labels c ≡ label

@@ -4,6 +4,7 @@ use Rattle.std.specs.Int.{int_max}
 use Rattle.std.specs.List.{AllPairs}
 use Rattle.lattice.specs.Mosaic.{void}
 use Rattle.lattice.specs.Block.{is_linked, is_beside}
+use Rattle.tile_flood.specs.Blocks.{bare_block}
 use Rattle.tile_flood.specs.declared.passing.Spill.{Spill}
 use Rattle.tile_flood.specs.Flooding.{is_marked}
 use Rattle.tile_flood.specs.Spills.{Meets, HaveSameLabels}
@@ -39,7 +40,7 @@ module _ (n : ℕ) (levels : List ℤ) (labels : List ℕ) where
 
   -- if water passes between the two points, then that was found
   abbrev pub IsFound : List Spill → ℕ → ℕ → Type 0
-  IsFound found e f = IsTrue (is_linked n levels e f) → slice_index labels e ≢ slice_index labels f → (p : Spill) × (Contains found p × IsPassage levels labels e f p)
+  IsFound found e f = IsTrue (is_linked (bare_block n levels) e f) → slice_index labels e ≢ slice_index labels f → (p : Spill) × (Contains found p × IsPassage levels labels e f p)
 
   -- the same for all points before k, with those after them
   abbrev pub AreFoundBelow : List Spill → ℕ → Type 0

@@ -7,7 +7,7 @@ use Rattle.lattice.specs.Lattice.{point_of}
 use Rattle.lattice.specs.Mosaic.{Mosaic, IsMosaic, is_present, void, is_void}
 use Rattle.lattice.specs.Ground.{is_ground, terrain}
 use Rattle.lattice.specs.Terrain.{IsFilledLevel}
-use Rattle.lattice.specs.Block.{IsBlockOf, is_rim, rim_number}
+use Rattle.lattice.specs.Block.{Block, IsBlockOf, is_rim, rim_number}
 use Rattle.tile_flood.specs.Labelling.{IsLabelling, OUT, NO_LABEL}
 
 -- the levels are those to which water rises in the whole mosaic at the rim points of the corner's tile, by rim number,
@@ -29,7 +29,7 @@ pub record IsRimFilled (m : Mosaic) (c : Corner) (n : ℕ) (levels : List ℤ) (
   pub mosaic : IsMosaic m
   pub side : n ≡ m.side
   pub present : IsTrue (is_present m c)
-  pub labelled : (heights : List ℤ) × (IsBlockOf m c heights × IsLabelling n heights levels labels)
+  pub labelled : (b : Block) × (IsBlockOf m c b × IsLabelling b levels labels)
   pub rim_levels : AreRimLevels m c rim
 
 -- the greater of the level of a point and that of the rim point which its label names; with OUT its level; none where

@@ -5,6 +5,7 @@ use Rattle.std.specs.Int.{int_max}
 use Rattle.std.specs.List.{AllPairs}
 use Rattle.lattice.specs.Mosaic.{void}
 use Rattle.lattice.specs.Block.{is_linked}
+use Rattle.tile_flood.specs.Blocks.{bare_block}
 use Rattle.tile_flood.specs.declared.passing.Spill.{Spill}
 
 -- between the same two labels
@@ -15,7 +16,7 @@ pub record HaveSameLabels (p q : Spill) : Type 0 where
 module _ (n : ℕ) (heights levels : List ℤ) (labels : List ℕ) where
   -- adjacent points with these labels meet at this level, the greater of theirs
   pub record Meets (a b : ℕ) (level : ℤ) : Type 0 where
-    pub points : (e : ℕ) × (f : ℕ) × (IsTrue (is_linked n heights e f) × ((slice_index labels e ≡ a) × ((slice_index labels f ≡ b)
+    pub points : (e : ℕ) × (f : ℕ) × (IsTrue (is_linked (bare_block n heights) e f) × ((slice_index labels e ≡ a) × ((slice_index labels f ≡ b)
         × (int_max (slice_index_or levels e void) (slice_index_or levels f void) ≡ level))))
 
   -- the labels meet at this level, and at no lower one

@@ -1,35 +1,42 @@
-//! The heights of a block.
+//! The ground of a block.
 ghost use Rattle.std.specs.Prelude.{◌≡◌, ◌*◌, length, SomeIff};
 
-use lattice::Side;
+use arrayvec::ArrayVec;
+use lattice::{MOST_SINKS, Side};
 use std::marker::Model;
 
-/// The heights of one tile's points by the seam rule: row by row from the north-west corner, in metres, -32768 where a
-/// point has none.
+/// The ground of one tile: the heights of its points by the seam rule, row by row from the north-west corner, in metres,
+/// -32768 where a point has none, and the indices of the declared sinks among its points.
 #[derive(Drop)]
 pub struct Block {
     side: Side,
     heights: Vec<i16>,
+    sinks: ArrayVec<u32, MOST_SINKS>,
 }
 
 impl Model for Block {
     ghost use Rattle.std.specs.Prelude.{◌≡◌, ◌*◌, length};
-    ghost use Rattle.tile_flood.specs.Blocks.{Ground};
+    ghost use Rattle.lattice.specs.Block.{Block};
 
-    ghost Value = { Ground };
+    ghost Value = { Block };
 
-    ghost view = { λ b. record { side = b.side; heights = b.heights.items } };
+    ghost view = { λ b. record { side = b.side; heights = b.heights.items; sinks = b.sinks.items } };
 
     ghost invariant = { λ b. length b.heights.items ≡ b.side * b.side };
 }
 
 impl Block {
-    /// The block of these heights, where there are as many as a tile of the side has points. Takes no memory.
-    pub fn new(side: Side, heights: Vec<i16>) -> Option<Block>
-        ensures { SomeIff result (length heights.items ≡ side * side) (record { side = side; heights = heights.items }) }
+    /// The block of these heights and these sinks, where there are as many heights as a tile of the side has points. Takes
+    /// no memory.
+    pub fn new(side: Side, heights: Vec<i16>, sinks: ArrayVec<u32, MOST_SINKS>) -> Option<Block>
+        ensures { SomeIff result (length heights.items ≡ side * side) (record { side = side; heights = heights.items; sinks = sinks.items }) }
     {
         if heights.len() == side.area() as usize {
-            Some(Block { side, heights })
+            Some(Block {
+                side,
+                heights,
+                sinks,
+            })
         } else {
             None
         }
@@ -48,5 +55,12 @@ impl Block {
         ensures whole { length self.now.heights ≡ self.now.side * self.now.side }
     {
         &self.heights
+    }
+
+    /// The indices of the sinks among its points.
+    pub fn sinks(&self) -> &[u32]
+        ensures { result.now ≡ self.now.sinks }
+    {
+        self.sinks.as_slice()
     }
 }

@@ -1,18 +1,20 @@
 //! Priority-Flood over one block (Barnes, Lehman and Mulla 2014), with labels.
-ghost use Rattle.std.specs.Prelude.{◌≡◌, ◌<◌, ℕ, ℤ, ◌*◌, ◌+◌, ◌/◌, ◌≤◌, IfOk, IfErr, OnOk, IsTrue, false, length, slice_set, slice_index, slice_index_or};
+ghost use Rattle.std.specs.Prelude.{◌≡◌, ◌≢◌, ◌<◌, ℕ, ℤ, ◌*◌, ◌+◌, ◌/◌, ◌≤◌, IfOk, IfErr, OnOk, IsTrue, false, length, slice_set, slice_index, slice_index_or};
 ghost use Rattle.std.specs.Ordering.{int_eq};
+ghost use Rattle.lattice.specs.Limits.{IsSide};
 ghost use Rattle.lattice.specs.Mosaic.{void};
 ghost use Rattle.lattice.specs.Block.{is_solid, is_linked};
 ghost use Rattle.lattice.specs.declared.refusal.Refusal.TheVariants.{NoMemory};
 ghost use Rattle.tile_flood.specs.Labelling.{IsLabelling, NO_LABEL as no_label};
-ghost use Rattle.tile_flood.specs.Waiting.{Waits, waiting, IsJoined};
+ghost use Rattle.tile_flood.specs.Blocks.{block_of, bare_block};
+ghost use Rattle.tile_flood.specs.Waiting.{Waits, HasBucket, waiting, IsJoined};
 ghost use Rattle.tile_flood.specs.Flooding.{is_marked, unmarked, AreMarkedStill, IsRowMarked, IsSeeding, IsFlooding, IsSpreading};
 
 use crate::block::Block;
 use crate::labelled::{Labelled, NO_LABEL};
 use crate::outlets::{is_ground, own_label};
 use crate::queue::Queue;
-use crate::values::{at, higher};
+use crate::values::{at, higher, range_of};
 use lattice::Refusal;
 use std::alloc::{AllocError, Global};
 
@@ -37,43 +39,68 @@ impl Flood {
     /// inner outlet, and a label for one that is reached at it. NoMemory is the only refusal.
     pub fn run(alloc: Global, block: &Block) -> Result<Labelled, Refusal>
         ensures side { IfOk result (λ labelled. labelled.side ≡ block.now.side) }
-        ensures labelling { IfOk result (λ labelled. IsLabelling block.now.side block.now.heights labelled.levels labelled.labels) }
+        ensures labelling { IfOk result (λ labelled. IsLabelling block.now labelled.levels labelled.labels) }
         ensures refusal { IfErr result (λ refusal. refusal ≡ NoMemory) }
     {
         let side = block.side();
         let n = side.samples() as usize;
         let heights = block.heights();
-        let mut flood = Flood::new(alloc, side.area() as usize)?;
-        flood.seed(n, heights)?;
-        flood.settle(n, heights)?;
+        let sinks = block.sinks();
+        let mut flood = Flood::new(alloc, heights)?;
+        flood.seed(n, heights, sinks)?;
+        flood.settle(n, heights, sinks)?;
         Ok(Labelled::of_flood(side, flood.levels, flood.labels))
     }
 
     // No point has a level, and none waits.
-    fn new(alloc: Global, area: usize) -> Result<Flood, AllocError>
-        ensures levels { IfOk result (λ flood. length flood.levels.items ≡ area) }
-        ensures labels { IfOk result (λ flood. length flood.labels.items ≡ area) }
+    fn new(alloc: Global, heights: &[i16]) -> Result<Flood, AllocError>
+        ensures levels { IfOk result (λ flood. length flood.levels.items ≡ length heights.now) }
+        ensures labels { IfOk result (λ flood. length flood.labels.items ≡ length heights.now) }
         ensures no_level { IfOk result (λ flood. (e : ℕ) → slice_index_or flood.levels.items e void ≡ void) }
-        ensures no_label { IfOk result (λ flood. (e : ℕ) → e < area → slice_index flood.labels.items e ≡ no_label) }
+        ensures no_label { IfOk result (λ flood. (e : ℕ) → e < length heights.now → slice_index flood.labels.items e ≡ no_label) }
+        ensures buckets { IfOk result (λ flood. (e : ℕ) → e < length heights.now → slice_index_or heights.now e void ≢ void → HasBucket flood.queue (slice_index_or heights.now e void)) }
         ensures nobody { IfOk result (λ flood. (l : ℤ) (e : ℕ) → Waits flood.queue l e → ⊥) }
     {
+        let area = heights.len();
         Ok(Flood {
             levels: vec![in alloc; i16::MIN; area]?,
             labels: vec![in alloc; NO_LABEL; area]?,
-            queue: Queue::new(alloc)?,
+            queue: Queue::new(alloc, range_of(heights))?,
         })
     }
 
     // Marks the outlets, each at its own height and with its own label.
-    fn seed(&mut self, n: usize, heights: &[i16]) -> Result<(), AllocError>
-        requires side { (3 ≤ n) × (n ≤ 3601) }
+    fn seed(&mut self, n: usize, heights: &[i16], sinks: &[u32]) -> Result<(), AllocError>
+        requires side { IsSide n }
         requires small { n * n < 4294967296 }
         requires whole { length heights.now ≡ n * n }
-        requires state { IsSeeding n heights.now self.old.levels.items self.old.labels.items self.old.queue 0 }
-        ensures { OnOk result (IsFlooding n heights.now self.new.levels.items self.new.labels.items self.new.queue) }
+        requires state { IsSeeding (block_of n heights.now sinks.now) self.old.levels.items self.old.labels.items self.old.queue 0 }
+        ensures { OnOk result (IsFlooding (block_of n heights.now sinks.now) self.new.levels.items self.new.labels.items self.new.queue) }
     {
-        for e in 0..heights.len() {
-            if let Some(label) = own_label(n, heights, e) {
+        for i in 0..n {
+            self.seed_row(n, heights, sinks, i)?;
+        }
+        Ok(())
+    }
+
+    // Marks the outlets of a row.
+    fn seed_row(
+        &mut self,
+        n: usize,
+        heights: &[i16],
+        sinks: &[u32],
+        i: usize,
+    ) -> Result<(), AllocError>
+        requires side { IsSide n }
+        requires small { n * n < 4294967296 }
+        requires whole { length heights.now ≡ n * n }
+        requires i { i < n }
+        requires state { IsSeeding (block_of n heights.now sinks.now) self.old.levels.items self.old.labels.items self.old.queue (i * n) }
+        ensures { OnOk result (IsSeeding (block_of n heights.now sinks.now) self.new.levels.items self.new.labels.items self.new.queue ((i + 1) * n)) }
+    {
+        for j in 0..n {
+            if let Some(label) = own_label(n, heights, sinks, i, j) {
+                let e = i * n + j;
                 self.mark(e, at(heights, e), label)?;
             }
         }
@@ -81,15 +108,15 @@ impl Flood {
     }
 
     // Lets each point that waits spread, until none does.
-    fn settle(&mut self, n: usize, heights: &[i16]) -> Result<(), AllocError>
-        requires side { (3 ≤ n) × (n ≤ 3601) }
+    fn settle(&mut self, n: usize, heights: &[i16], sinks: &[u32]) -> Result<(), AllocError>
+        requires side { IsSide n }
         requires small { n * n < 4294967296 }
         requires whole { length heights.now ≡ n * n }
-        requires state { IsFlooding n heights.now self.old.levels.items self.old.labels.items self.old.queue }
-        ensures { OnOk result (IsLabelling n heights.now self.new.levels.items self.new.labels.items) }
+        requires state { IsFlooding (block_of n heights.now sinks.now) self.old.levels.items self.old.labels.items self.old.queue }
+        ensures { OnOk result (IsLabelling (block_of n heights.now sinks.now) self.new.levels.items self.new.labels.items) }
     {
         while let Some(seat) = self.queue.pop() {
-            self.spread(n, heights, seat.point as usize, seat.level)?;
+            self.spread(n, heights, sinks, seat.point as usize, seat.level)?;
         }
         Ok(())
     }
@@ -99,15 +126,16 @@ impl Flood {
         &mut self,
         n: usize,
         heights: &[i16],
+        sinks: &[u32],
         point: usize,
         level: i16,
     ) -> Result<(), AllocError>
-        requires side { (3 ≤ n) × (n ≤ 3601) }
+        requires side { IsSide n }
         requires small { n * n < 4294967296 }
         requires whole { length heights.now ≡ n * n }
         requires point { point < length self.old.labels.items }
-        requires state { IsSpreading n heights.now self.old.levels.items self.old.labels.items self.old.queue point level (slice_index self.old.labels.items point) }
-        ensures state { OnOk result (IsFlooding n heights.now self.new.levels.items self.new.labels.items self.new.queue) }
+        requires state { IsSpreading (block_of n heights.now sinks.now) self.old.levels.items self.old.labels.items self.old.queue point level (slice_index self.old.labels.items point) }
+        ensures state { OnOk result (IsFlooding (block_of n heights.now sinks.now) self.new.levels.items self.new.labels.items self.new.queue) }
         ensures count { OnOk result (unmarked self.new.levels.items + waiting self.new.queue ≡ unmarked self.old.levels.items + waiting self.old.queue) }
     {
         let front = Front {
@@ -117,7 +145,7 @@ impl Flood {
         };
         let row = point / n;
         for i in row.saturating_sub(1)..(row + 2).min(n) {
-            self.visit_row(n, heights, front, i)?;
+            self.visit_row(n, heights, sinks, front, i)?;
         }
         Ok(())
     }
@@ -127,36 +155,44 @@ impl Flood {
         &mut self,
         n: usize,
         heights: &[i16],
+        sinks: &[u32],
         front: Front,
         i: usize,
     ) -> Result<(), AllocError>
-        requires side { (3 ≤ n) × (n ≤ 3601) }
+        requires side { IsSide n }
         requires small { n * n < 4294967296 }
         requires whole { length heights.now ≡ n * n }
-        requires state { IsSpreading n heights.now self.old.levels.items self.old.labels.items self.old.queue front.point front.level front.label }
+        requires state { IsSpreading (block_of n heights.now sinks.now) self.old.levels.items self.old.labels.items self.old.queue front.point front.level front.label }
         requires i { i < n }
         requires row { (front.point / n ≤ i + 1) × (i ≤ front.point / n + 1) }
-        ensures state { OnOk result (IsSpreading n heights.now self.new.levels.items self.new.labels.items self.new.queue front.point front.level front.label) }
+        ensures state { OnOk result (IsSpreading (block_of n heights.now sinks.now) self.new.levels.items self.new.labels.items self.new.queue front.point front.level front.label) }
         ensures marked { OnOk result (IsRowMarked n heights.now self.new.levels.items front.point i) }
         ensures still { OnOk result (AreMarkedStill self.old.levels.items self.new.levels.items) }
         ensures count { OnOk result (unmarked self.new.levels.items + waiting self.new.queue ≡ unmarked self.old.levels.items + waiting self.old.queue) }
     {
         let column = front.point % n;
         for j in column.saturating_sub(1)..(column + 2).min(n) {
-            self.visit(n, heights, front, i * n + j)?;
+            self.visit(n, heights, sinks, front, i * n + j)?;
         }
         Ok(())
     }
 
     // Marks the point e, which may lie beside the front, that was taken at the lowest level.
-    fn visit(&mut self, n: usize, heights: &[i16], front: Front, e: usize) -> Result<(), AllocError>
+    fn visit(
+        &mut self,
+        n: usize,
+        heights: &[i16],
+        sinks: &[u32],
+        front: Front,
+        e: usize,
+    ) -> Result<(), AllocError>
         requires small { n * n < 4294967296 }
         requires whole { length heights.now ≡ n * n }
-        requires state { IsSpreading n heights.now self.old.levels.items self.old.labels.items self.old.queue front.point front.level front.label }
+        requires state { IsSpreading (block_of n heights.now sinks.now) self.old.levels.items self.old.labels.items self.old.queue front.point front.level front.label }
         requires e { e < n * n }
-        requires beside { IsTrue (is_solid n heights.now e) → is_marked self.old.levels.items e ≡ false → IsTrue (is_linked n heights.now front.point e) }
-        ensures state { OnOk result (IsSpreading n heights.now self.new.levels.items self.new.labels.items self.new.queue front.point front.level front.label) }
-        ensures marked { OnOk result (IsTrue (is_solid n heights.now e) → IsTrue (is_marked self.new.levels.items e)) }
+        requires beside { IsTrue (is_solid (bare_block n heights.now) e) → is_marked self.old.levels.items e ≡ false → IsTrue (is_linked (bare_block n heights.now) front.point e) }
+        ensures state { OnOk result (IsSpreading (block_of n heights.now sinks.now) self.new.levels.items self.new.labels.items self.new.queue front.point front.level front.label) }
+        ensures marked { OnOk result (IsTrue (is_solid (bare_block n heights.now) e) → IsTrue (is_marked self.new.levels.items e)) }
         ensures still { OnOk result (AreMarkedStill self.old.levels.items self.new.levels.items) }
         ensures count { OnOk result (unmarked self.new.levels.items + waiting self.new.queue ≡ unmarked self.old.levels.items + waiting self.old.queue) }
     {
@@ -179,6 +215,7 @@ impl Flood {
         requires small { e < 4294967296 }
         requires levels { e < length self.old.levels.items }
         requires labels { e < length self.old.labels.items }
+        requires bucket { HasBucket self.old.queue level }
         ensures levels { OnOk result (self.new.levels.items ≡ slice_set self.old.levels.items e level) }
         ensures labels { OnOk result (self.new.labels.items ≡ slice_set self.old.labels.items e label) }
         ensures joined { OnOk result (IsJoined self.old.queue self.new.queue level e) }

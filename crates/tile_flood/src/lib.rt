@@ -18,4 +18,4 @@ pub use block::Block;
 pub use flood::Flood;
 pub use labelled::{Labelled, NO_LABEL, OUT};
 pub use passing::{Spill, spills};
-pub use raising::raise;
+pub use raising::{raise, raise_at};

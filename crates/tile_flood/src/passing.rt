@@ -1,5 +1,7 @@
 //! Where water passes between what drains to one label and what drains to another.
 ghost use Rattle.std.specs.Prelude.{◌≡◌, ◌≢◌, ℕ, ℤ, ◌+◌, ◌*◌, ◌<◌, ◌≤◌, ◌↔◌, List, All, IfOk, IfErr, OnOk, IfSome, IfNone, IsTrue, length};
+ghost use Rattle.lattice.specs.Block.{Block};
+ghost use Rattle.lattice.specs.Limits.{IsSide};
 ghost use Rattle.lattice.specs.Mosaic.{IsSample};
 ghost use Rattle.lattice.specs.declared.refusal.Refusal.TheVariants.{NoMemory};
 ghost use Rattle.tile_flood.specs.Labelling.{IsLabelling};
@@ -22,8 +24,8 @@ pub struct Spill {
 /// label too. NoMemory is the only refusal: of labels that aren't a valid labelling these are the spills between the
 /// points that have a level.
 pub fn spills(alloc: Global, labelled: &Labelled) -> Result<Vec<Spill>, Refusal>
-    ensures spills { (heights : List ℤ) → All IsSample heights → IsLabelling labelled.now.side heights labelled.now.levels labelled.now.labels
-        → IfOk result (λ spills. AreSpills labelled.now.side heights labelled.now.levels labelled.now.labels spills.items) }
+    ensures spills { (b : Block) → All IsSample b.heights → b.side ≡ labelled.now.side → IsLabelling b labelled.now.levels labelled.now.labels
+        → IfOk result (λ spills. AreSpills labelled.now.side b.heights labelled.now.levels labelled.now.labels spills.items) }
     ensures of_any { IfOk result (λ spills. AreSpills labelled.now.side labelled.now.levels labelled.now.levels labelled.now.labels spills.items) }
     ensures refusal { IfErr result (λ refusal. refusal ≡ NoMemory) }
 {
@@ -46,7 +48,7 @@ fn gather_row(
     i: usize,
     found: &mut Vec<Spill>,
 ) -> Result<(), AllocError>
-    requires side { (n ≡ labelled.now.side) × (3 ≤ n) × (n ≤ 3601) }
+    requires side { (n ≡ labelled.now.side) × IsSide n }
     requires small { n * n < 4294967296 }
     requires row { i < n }
     requires passages { ArePassages n labelled.now.levels labelled.now.labels found.old.items }
@@ -74,7 +76,7 @@ fn gather(
     count: usize,
     found: &mut Vec<Spill>,
 ) -> Result<(), AllocError>
-    requires side { (n ≡ labelled.now.side) × (3 ≤ n) × (n ≤ 3601) }
+    requires side { (n ≡ labelled.now.side) × IsSide n }
     requires small { n * n < 4294967296 }
     requires beside { AreBeside n e f count }
     requires passages { ArePassages n labelled.now.levels labelled.now.labels found.old.items }

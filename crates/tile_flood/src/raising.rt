@@ -1,7 +1,10 @@
 //! From levels inside a block to filled levels.
-ghost use Rattle.std.specs.Prelude.{◌≡◌, ◌<◌, ◌⊎◌, [], ◌∷◌, ◌++◌, IfOk, IfErr, OnOk, length, slice_index, slice_index_or};
+ghost use Rattle.std.specs.Prelude.{◌*◌, IsTrue, IsSomeAnd, ◌≡◌, ◌<◌, ◌⊎◌, [], ◌∷◌, ◌++◌, IfOk, IfErr, OnOk, length, slice_index, slice_index_or};
 ghost use Rattle.lattice.specs.Corners.{Corner};
 ghost use Rattle.lattice.specs.Mosaic.{Mosaic, void};
+ghost use Rattle.lattice.specs.Lattice.{point_of};
+ghost use Rattle.lattice.specs.Ground.{is_ground, terrain};
+ghost use Rattle.lattice.specs.Terrain.{IsFilledLevel};
 ghost use Rattle.lattice.specs.declared.refusal.Refusal.TheVariants.{NoMemory, Damaged};
 ghost use Rattle.tile_flood.specs.Raising.{IsRimFilled, AreTileLevels, AreRaised, CannotBeRaised, raised_level};
 
@@ -40,6 +43,19 @@ pub fn raise(alloc: Global, labelled: &Labelled, rim: &[i16]) -> Result<Vec<i16>
         add(&mut filled, level)?;
     }
     Ok(filled)
+}
+
+/// The filled level of the point with this index alone, in metres: as `raise` finds it, without the rest of the tile.
+/// -32768 where the point is void, and None where it can't be raised. Takes no memory.
+pub fn raise_at(labelled: &Labelled, rim: &[i16], index: u32) -> Option<i16>
+    requires { index < labelled.now.side * labelled.now.side }
+    ensures filled { (m : Mosaic) (c : Corner) → IsRimFilled m c labelled.now.side labelled.now.levels labelled.now.labels rim.now
+        → IsSomeAnd result (λ level. IsTrue (is_ground m (point_of m.side c index)) → IsFilledLevel (terrain m) (point_of m.side c index) level) }
+    ensures value { result ≡ raised_level rim.now (slice_index_or labelled.now.levels index void) (slice_index labelled.now.labels index) }
+{
+    let levels = labelled.levels();
+    let labels = labelled.labels();
+    raised(rim, levels, labels, index as usize)
 }
 
 // The filled level of the point e, where it has one.

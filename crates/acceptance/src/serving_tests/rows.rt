@@ -215,9 +215,9 @@ fn tiles_by_their_names(rt: HostRuntime) -> Result<(), Fail> {
                 A,
                 b"import S01W001 18\n",
                 A,
-                b"tiles\nelev 0 0\n"
+                b"tiles\nsinks\nelev 0 0\n"
             ],
-            &[b"OK 1\nOK 1 N00E000\nERR 2 BadName\nOK 2\nOK 2 S01W001 N00E000\nOK 9\n"]
+            &[b"OK 1\nOK 1 N00E000\nERR 2 BadName\nOK 2\nOK 2 S01W001 N00E000\nOK 0\nOK 9\n"]
         )?
     );
     assert!(rt;

@@ -1,10 +1,11 @@
 //! Sessions over a store on a disk in memory.
 use super::sessions::{TILE, joined};
 use disk::{Disk, FaultOnceDisk, MemDisk};
+use memory_store::store_in_memory;
 use serving::serve;
 use std::alloc::Global;
 use std::test::Fail;
-use store::{Store, store_in_memory};
+use store::Store;
 
 /// How many calls opening a store without tiles makes: a sync, both gates and the root behind the open one.
 const CALLS_TO_OPEN: u64 = 4;

@@ -6,16 +6,32 @@ use Rattle.border_graph.proofs.linking.link_label.Goals as goal
 
 pub returns-clause-so_far : goal.returns-clause-so_far
 returns-clause-so_far c =
-    let fits : SFits w16 c.in-Some.point.height = search rules in
-    labels_so_far c.args.n c.args.summaries.now (map (λ v. v.items) c.args.links.now.items) (map (λ v. v.items) c.add.new.links.items) (map (λ v. v.items) c.add-2.new.links.items) c.args.t c.args.k c.in-Some.point (record { level = to_z w16 (of_z w16 c.in-Some.point.height); from = c.node_number-here.result }) (record { level = to_z w16 (of_z w16 c.in-Some.point.height); from = c.node_number-there.result })
-    c.in-Some.ensures.some c.in-Some-ground_rim_point.ensures.some.there c.requires.so_far c.node_number-here.ensures c.node_number-there.ensures (to_z-of_z w16 c.in-Some.point.height fits) (to_z-of_z w16 c.in-Some.point.height fits) fits
-    (subst (λ to. IsAddedTo (map (λ v. v.items) c.args.links.now.items) (map (λ v. v.items) c.add.new.links.items) to (record { level = to_z w16 (of_z w16 c.in-Some.point.height); from = c.node_number-here.result })) c.node_number-there.ensures c.in_ok-add.ensures)
-    (subst (λ to. IsAddedTo (map (λ v. v.items) c.add.new.links.items) (map (λ v. v.items) c.add-2.new.links.items) to (record { level = to_z w16 (of_z w16 c.in-Some.point.height); from = c.node_number-there.result })) c.node_number-here.ensures c.in_ok-add-2.ensures)
+    let height = c.in-Some.point.height in
+    let fits : SFits w16 height = search rules in
+    let h = to_z w16 (of_z w16 height) in
+    let same = to_z-of_z w16 height fits in
+    let here = c.node_number-here.result in
+    let there = c.node_number-there.result in
+    let old = map (λ v. v.items) c.args.links.now.items in
+    let new = map (λ v. v.items) c.add_between.new.links.items in
+    let added = c.in_ok-add_between.ensures in
+    labels_so_far c.args.n c.args.summaries.now old added.half new c.args.t c.args.k c.in-Some.point (record { level = h; from = here }) (record { level = h; from = there })
+    c.in-Some.ensures.some c.in-Some-ground_rim_point.ensures.some.there c.requires.so_far c.node_number-here.ensures c.node_number-there.ensures same same fits
+    (subst (λ to. IsAddedTo old added.half to (record { level = h; from = here })) c.node_number-there.ensures added.there)
+    (subst (λ to. IsAddedTo added.half new to (record { level = h; from = there })) c.node_number-here.ensures added.back)
 
 pub returns-clause-listed : goal.returns-clause-listed
 returns-clause-listed c =
-    let fits : SFits w16 c.in-Some.point.height = search rules in
-    labels_listed c.args.n c.args.summaries.now (map (λ v. v.items) c.args.links.now.items) (map (λ v. v.items) c.add.new.links.items) (map (λ v. v.items) c.add-2.new.links.items) c.args.t c.args.k c.in-Some.point (record { level = to_z w16 (of_z w16 c.in-Some.point.height); from = c.node_number-here.result }) (record { level = to_z w16 (of_z w16 c.in-Some.point.height); from = c.node_number-there.result })
-    c.in-Some.ensures.some c.in-Some-ground_rim_point.ensures.some.there c.requires.so_far c.node_number-here.ensures c.node_number-there.ensures (to_z-of_z w16 c.in-Some.point.height fits) (to_z-of_z w16 c.in-Some.point.height fits) fits
-    (subst (λ to. IsAddedTo (map (λ v. v.items) c.args.links.now.items) (map (λ v. v.items) c.add.new.links.items) to (record { level = to_z w16 (of_z w16 c.in-Some.point.height); from = c.node_number-here.result })) c.node_number-there.ensures c.in_ok-add.ensures)
-    (subst (λ to. IsAddedTo (map (λ v. v.items) c.add.new.links.items) (map (λ v. v.items) c.add-2.new.links.items) to (record { level = to_z w16 (of_z w16 c.in-Some.point.height); from = c.node_number-there.result })) c.node_number-here.ensures c.in_ok-add-2.ensures)
+    let height = c.in-Some.point.height in
+    let fits : SFits w16 height = search rules in
+    let h = to_z w16 (of_z w16 height) in
+    let same = to_z-of_z w16 height fits in
+    let here = c.node_number-here.result in
+    let there = c.node_number-there.result in
+    let old = map (λ v. v.items) c.args.links.now.items in
+    let new = map (λ v. v.items) c.add_between.new.links.items in
+    let added = c.in_ok-add_between.ensures in
+    labels_listed c.args.n c.args.summaries.now old added.half new c.args.t c.args.k c.in-Some.point (record { level = h; from = here }) (record { level = h; from = there })
+    c.in-Some.ensures.some c.in-Some-ground_rim_point.ensures.some.there c.requires.so_far c.node_number-here.ensures c.node_number-there.ensures same same fits
+    (subst (λ to. IsAddedTo old added.half to (record { level = h; from = here })) c.node_number-there.ensures added.there)
+    (subst (λ to. IsAddedTo added.half new to (record { level = h; from = there })) c.node_number-here.ensures added.back)

@@ -34,8 +34,8 @@ loop-number-preserved g c =
           (so.reads.mosaic honest_mid) (so.reads.side ∙ sym side) (laws.is_mosaic now (so.reads.honest honest_mid)).side_low at (so.partly honest_mid own) (c.in_ok-seal_at.ensures.height honest);
     }
 
-pub returns-clause-block : goal.returns-clause-block
-returns-clause-block g c honest own =
+pub returns-clause-heights : goal.returns-clause-heights
+returns-clause-heights g c honest own =
     let laws = g.met.S.Samples in
     let now = c.args.samples.now in
     let m = g.S.Samples.mosaic now in

@@ -2,25 +2,34 @@ use Rattle.std.proofs.Common.{◌≡◌, ◌*◌, length, take, sym, ap, ◌∙�
 use Rattle.std.specs.Prelude.{All}
 use Rattle.std.proofs.Math.Seq.{take-length}
 use Rattle.std.proofs.lemmas.List.Elements.{All-nil}
-use Rattle.lattice.specs.Block.{IsBlockOf}
-use Rattle.lattice.specs.Mosaic.{Tile, Mosaic}
-use Rattle.catalogue.specs.Tiles.{corners_of, added}
+use Rattle.lattice.specs.Block.{AreHeightsOf}
+use Rattle.lattice.specs.Mosaic.{Tile, Mosaic, AreSinks, empty_mosaic}
+use Rattle.catalogue.specs.Tiles.{corners_of, added, with_sinks}
 use Rattle.catalogue.proofs.Filling.{next_absent, next_corners, next_all}
 use Rattle.catalogue.proofs.Holders.{itself}
 use Rattle.catalogue.proofs.Reading.{reads_nothing, reads_on}
 use Rattle.lattice.proofs.Rising.{Adjacent, Rising, rising_from}
 use Rattle.catalogue.proofs.sealing.sealed.Goals as goal
 
+pub declare-requires : goal.declare-requires
+declare-requires g c =
+    let side = ap (λ (m : Mosaic). m.side) c.new-table.ensures.empty ∙ c.side.ensures in
+    subst (λ n. AreSinks n c.sinks.result.now) (sym side)
+    (subst (AreSinks (g.S.Samples.side_of c.args.samples.now)) (sym c.sinks.ensures.sinks) c.sinks.ensures.valid)
+
 pub loop-corner-init : goal.loop-corner-init
-loop-corner-init g c = record {
-  reads = reads_nothing g.S.Samples g.met.S.Samples.keeps_itself c.args.samples.now tt;
-  valid = c.new-table.ensures.valid;
-  side = ap (λ (m : Mosaic). m.side) c.new-table.ensures.empty ∙ c.side.ensures;
-  corners = ap corners_of c.new-table.ensures.empty;
-  blocks = λ honest.
-      let P : Tile → Type 0 = λ t. IsBlockOf (g.S.Samples.mosaic c.args.samples.now) t.corner t.samples in
-      subst (λ (m : Mosaic). All P m.tiles) (sym c.new-table.ensures.empty) (All-nil P);
-}
+loop-corner-init g c =
+    let start : c.declare.new.self ≡ with_sinks c.sinks.result.now (empty_mosaic c.side.result) = c.declare.ensures.declared ∙ ap (with_sinks c.sinks.result.now) c.new-table.ensures.empty in
+    record {
+      reads = reads_nothing g.S.Samples g.met.S.Samples.keeps_itself c.args.samples.now tt;
+      valid = c.declare.ensures.valid;
+      side = ap (λ (m : Mosaic). m.side) start ∙ c.side.ensures;
+      corners = ap corners_of start;
+      sinks = ap (λ (m : Mosaic). m.sinks) start ∙ c.sinks.ensures.sinks;
+      heights = λ honest.
+          let P : Tile → Type 0 = λ t. AreHeightsOf (g.S.Samples.mosaic c.args.samples.now) t.corner t.samples in
+          subst (λ (m : Mosaic). All P m.tiles) (sym start) (All-nil P);
+    }
 
 pub add-requires-whole : goal.add-requires-whole
 add-requires-whole g c = λ _.
@@ -42,16 +51,17 @@ loop-corner-preserved g c =
     let rising : Rising itself items = rising_from itself items (subst (Adjacent itself) (sym c.as_slice-corner-items.ensures.value) c.in_ok-corners.ensures.in_order) in
     let new : c.add.new.self ≡ added t c.loop-corner.table = c.in_ok-add.ensures.added in
     record {
-      reads = reads_on g.S.Samples laws.keeps_on c.args.samples.now c.loop-corner.samples c.block.new.samples tt (Ok tt) so.reads read;
+      reads = reads_on g.S.Samples laws.keeps_on c.args.samples.now c.loop-corner.samples c.block_heights.new.samples tt (Ok tt) so.reads read;
       valid = c.in_ok-add.ensures.valid;
       side = ap (λ (m : Mosaic). m.side) new ∙ so.side;
       corners = ap corners_of new ∙ next_corners t c.loop-corner.table items c.loop-corner.corner-index c.loop-corner-test.true c.corner-item.is rising so.corners;
-      blocks = λ honest.
+      sinks = ap (λ (m : Mosaic). m.sinks) new ∙ so.sinks;
+      heights = λ honest.
           let honest_mid = read.honest honest in
-          let P : Tile → Type 0 = λ u. IsBlockOf (g.S.Samples.mosaic c.args.samples.now) u.corner u.samples in
+          let P : Tile → Type 0 = λ u. AreHeightsOf (g.S.Samples.mosaic c.args.samples.now) u.corner u.samples in
           subst (λ (m : Mosaic). All P m.tiles) (sym new)
-          (next_all t c.loop-corner.table items c.loop-corner.corner-index c.loop-corner-test.true c.corner-item.is rising so.corners P (so.blocks honest_mid)
-          (subst (λ (m : Mosaic). IsBlockOf m t.corner t.samples) (so.reads.mosaic honest_mid) (c.in_ok-heights.ensures.block honest)));
+          (next_all t c.loop-corner.table items c.loop-corner.corner-index c.loop-corner-test.true c.corner-item.is rising so.corners P (so.heights honest_mid)
+          (subst (λ (m : Mosaic). AreHeightsOf m t.corner t.samples) (so.reads.mosaic honest_mid) (c.in_ok-heights.ensures.heights honest)));
     }
 
 corners_are : goal.returns-clause-corners
@@ -76,5 +86,6 @@ returns-clause-sealed g c honest =
     record {
       side = so.side ∙ sym (laws.same_side now honest_now);
       corners = corners_are g c ∙ sym (laws.same_corners now honest_now);
-      blocks = so.blocks honest;
+      sinks = so.sinks ∙ sym (laws.same_sinks now honest_now);
+      heights = so.heights honest;
     }

@@ -1,6 +1,6 @@
 use Rattle.std.proofs.Common.{◌≡◌, take}
 use Rattle.std.specs.Prelude.{All, Ok}
-use Rattle.lattice.specs.Block.{IsBlockOf}
+use Rattle.lattice.specs.Block.{AreHeightsOf}
 use Rattle.lattice.specs.Mosaic.{IsMosaic}
 use Rattle.catalogue.specs.Readers.{OnlyReads}
 use Rattle.catalogue.specs.Tiles.{corners_of}
@@ -12,5 +12,6 @@ invariant-loop-corner g l = record {
   valid : IsMosaic l.table;
   side : l.table.side ≡ g.S.Samples.side_of l.fn.samples;
   corners : corners_of l.table ≡ take l.corner-index l.corner-items;
-  blocks : g.S.Samples.is_honest l.samples → All (λ t. IsBlockOf (g.S.Samples.mosaic l.fn.samples) t.corner t.samples) l.table.tiles;
+  sinks : l.table.sinks ≡ g.S.Samples.sinks_of l.fn.samples;
+  heights : g.S.Samples.is_honest l.samples → All (λ t. AreHeightsOf (g.S.Samples.mosaic l.fn.samples) t.corner t.samples) l.table.tiles;
 }

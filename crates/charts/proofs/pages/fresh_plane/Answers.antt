@@ -1,11 +1,11 @@
 use Rattle.std.proofs.Common.{arith, ◌∙◌}
-use Rattle.std.proofs.lemmas.List.{length-set, with_items_is}
+use Rattle.std.proofs.lemmas.List.{length-set, with_items_is, take-append-drop}
 use Rattle.charts.proofs.FreeTimes.{taken_none}
 use Rattle.charts.proofs.GivenSoFar.{taken_set, taken_plane}
 use Rattle.charts.proofs.pages.fresh_plane.Goals as goal
 
 pub loop-page-init : goal.loop-page-init
-loop-page-init c = (taken_none _, omega arith, c.deref_mut-page-items.ensures.len ∙ c.in_ok-pages.ensures.len)
+loop-page-init c = (taken_none _, omega arith, c.deref_mut-page-items.ensures.len ∙ c.in_ok-behind.ensures.len)
 
 pub loop-page-preserved : goal.loop-page-preserved
 loop-page-preserved c = (
@@ -22,6 +22,6 @@ take_page-requires-2 c = omega (arith, c.requires, c.loop-page.invariant.1, c.lo
 
 pub returns-clause-taken : goal.returns-clause-taken
 returns-clause-taken c =
-    let items = with_items_is c.in_ok-pages.pages c.loop-page.page-items (omega (arith, c.loop-page.auto.page-items, c.deref_mut-page-items.ensures.len)) in
-    rw (c.new.ensures, items)
+    let items = with_items_is c.in_ok-behind.behind c.loop-page.page-items (omega (arith, c.loop-page.auto.page-items, c.deref_mut-page-items.ensures.len)) in
+    rw (c.new.ensures, items, take-append-drop c.args.index_pages c.loop-page.page-items)
     (taken_plane _ _ _ _ _ _ (omega (arith, c.loop-page-test.false, c.loop-page.auto.page-items)) c.loop-page.invariant.0 c.take_page-2.ensures.taken)

@@ -1,4 +1,5 @@
 use Rattle.std.proofs.Common.{[], ◌∷◌}
+use Rattle.charts.specs.Locations.{pages_behind}
 use Rattle.charts.specs.FreePages.{AreGiven}
 use Rattle.charts.proofs.Times.{differing-nil}
 use Rattle.charts.proofs.FreeTimes.{in_use-head, in_use-rest, given_one_page, given-append}
@@ -13,10 +14,10 @@ record_given c = given_one_page _ _ _ (in_use-head _ _ _ c.requires).1 (rw c.rec
 
 pub give_differing-requires : goal.give_differing-requires
 give_differing-requires c =
-    let rest = in_use-rest (c.args.plane.now.record_page ∷ []) c.args.plane.now.pages _ _ c.args.free.now c.requires (record_given (goal.at.give_differing-requires c).After-give) in
-    rw (c.pages.ensures, differing-nil c.args.plane.now.pages) rest
+    let rest = in_use-rest (c.args.plane.now.record_page ∷ []) (pages_behind c.args.plane.now) _ _ c.args.free.now c.requires (record_given (goal.at.give_differing-requires c).After-give) in
+    rw (c.behind.ensures, differing-nil (pages_behind c.args.plane.now)) rest
 
 pub returns : goal.returns
 returns c =
-    let rest : AreGiven c.args.plane.now.pages c.give.new.self c.give_differing.new.free = rw (c.pages.ensures, differing-nil c.args.plane.now.pages) at c.give_differing.ensures in
-    given-append (c.args.plane.now.record_page ∷ []) c.args.plane.now.pages _ _ _ (record_given (goal.at.returns c).After-give) rest
+    let rest : AreGiven (pages_behind c.args.plane.now) c.give.new.self c.give_differing.new.free = rw (c.behind.ensures, differing-nil (pages_behind c.args.plane.now)) at c.give_differing.ensures in
+    given-append (c.args.plane.now.record_page ∷ []) (pages_behind c.args.plane.now) _ _ _ (record_given (goal.at.returns c).After-give) rest

@@ -1,22 +1,27 @@
 use Rattle.std.proofs.Common.{◌≡◌, ◌≢◌, ◌<◌, length, get_or, refl, sym, ◌∙◌}
 use Rattle.std.proofs.lemmas.Bool.{false≢true}
 use Rattle.std.proofs.lemmas.List.{set-get_or}
+use Rattle.charts.specs.Locations.{pages_behind}
 use Rattle.charts.proofs.Owning.{owned_already, owned_now}
 use Rattle.charts.proofs.slot.own_page.Goals as goal
 
-pub returns-then-not-stands_at-clause-location : goal.returns-then-not-stands_at-clause-location
-returns-then-not-stands_at-clause-location c =
-    rw (c.pages.ensures, set-get_or c.args.location.now.pages c.args.i 0) refl
+pub returns-then-not-stands_at-clause-moved : goal.returns-then-not-stands_at-clause-moved
+returns-then-not-stands_at-clause-moved c =
+    record {
+      same_record = refl;
+      same_count = refl;
+      moved = rw c.behind.ensures (sym (set-get_or (pages_behind c.args.location.now) c.args.at 0));
+    }
 
 pub returns-then-not-stands_at-clause-owned : goal.returns-then-not-stands_at-clause-owned
 returns-then-not-stands_at-clause-owned c =
-    let apart : c.args.i < length c.args.committed.now → get_or c.args.location.now.pages c.args.i 0 ≢ get_or c.args.committed.now c.args.i 0 =
-    λ within same. false≢true (sym c.if-not-stands_at.true ∙ c.stands_at.ensures.1 (within, rw c.pages.ensures (sym same))) in
-    rw c.pages.ensures (owned_already c.args.committed.now c.args.location.now.pages c.args.i c.args.free.now c.requires.index apart)
+    let apart : c.args.at < length c.args.committed.now → get_or (pages_behind c.args.location.now) c.args.at 0 ≢ get_or c.args.committed.now c.args.at 0 =
+    λ within same. false≢true (sym c.if-not-stands_at.true ∙ c.stands_at.ensures.1 (within, rw c.behind.ensures (sym same))) in
+    rw c.behind.ensures (owned_already c.args.committed.now (pages_behind c.args.location.now) c.args.at c.args.free.now c.requires.index apart)
 
 pub returns-clause-owned : goal.returns-clause-owned
 returns-clause-owned c =
     let there = c.stands_at.ensures.0 c.if-not-stands_at.false in
-    let same : get_or c.args.location.now.pages c.args.i 0 ≡ get_or c.args.committed.now c.args.i 0 = rw (← c.pages.ensures) (sym there.1) in
-    rw c.set_page.ensures
-    (owned_now c.args.committed.now c.args.location.now.pages c.args.i c.take_page-page.result c.args.free.now c.take_page-page.new.free c.requires.index there.0 same c.requires.apart c.take_page-page.ensures.taken)
+    let same : get_or (pages_behind c.args.location.now) c.args.at 0 ≡ get_or c.args.committed.now c.args.at 0 = rw (← c.behind.ensures) (sym there.1) in
+    rw c.set_behind.ensures.moved
+    (owned_now c.args.committed.now (pages_behind c.args.location.now) c.args.at c.take_page-page.result c.args.free.now c.take_page-page.new.free c.requires.index there.0 same c.requires.apart c.take_page-page.ensures.taken)

@@ -1,6 +1,7 @@
 use Rattle.std.proofs.Common.{◌≡◌, All, map, take, false}
+use Rattle.page_codec.specs.Roots.{format_of}
 use Rattle.charts.specs.Charts.{IsChart, IsClean}
-use Rattle.charts.specs.TileLocations.{entry_of}
+use Rattle.cow_tree.specs.Entries.{entry_of}
 use Rattle.cow_tree.specs.Layout.{HasRecords}
 use Rattle.roots.specs.Roots.{disk_of, has_failed}
 use Rattle.cow_tree.proofs.ReadOnly.{HasRead}
@@ -12,9 +13,8 @@ invariant-loop-entry g l = record {
   reads : HasRead g.D.Disk l.fn.roots l.roots;
   rules : IsChart l.chart;
   sectors : l.chart.sectors ≡ g.D.Disk.size (disk_of l.fn.roots);
-  side : l.chart.side ≡ l.fn.root.side;
-  capacity : l.chart.capacity ≡ l.fn.root.capacity;
+  format : l.chart.format ≡ format_of l.fn.root;
   clean : IsClean l.chart;
   entries : map entry_of l.chart.committed ≡ take l.entry-index l.fn.root.entries;
-  records : g.D.Disk.honest (disk_of l.roots) → All (HasRecords l.fn.root.side (g.D.Disk.seen (disk_of l.fn.roots))) l.chart.committed;
+  records : g.D.Disk.honest (disk_of l.roots) → All (HasRecords (format_of l.fn.root) (g.D.Disk.seen (disk_of l.fn.roots))) l.chart.committed;
 }

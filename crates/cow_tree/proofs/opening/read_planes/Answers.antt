@@ -15,7 +15,7 @@ returns-in_err-heights-clause-refused g c honest =
     let d = g.D.Disk in
     let old = c.args.roots.now.disk in
     handed_on _ c.from_residual.result c.in_err-heights.field-0.0 ended (refused_for _ _ c.in_err-heights.field-0.0
-    (λ none. no_heights c.args.side (d.size old) (d.seen old) c.args.entry.now (subst (NonePlane c.args.side (d.size old) (d.seen old)) (ap (λ (e : EntryValue). e.heights) c.entry.view_is) none)) (c.in_err-heights.ensures.refused honest))
+    (λ none. no_heights c.args.format (d.size old) (d.seen old) c.args.entry.now (subst (NonePlane c.args.format (d.size old) (d.seen old)) (ap (λ (e : EntryValue). e.heights) c.entry.view_is) none)) (c.in_err-heights.ensures.refused honest))
 
 pub returns-in_err-kept-clause-refused : goal.returns-in_err-kept-clause-refused
 returns-in_err-kept-clause-refused g c honest =
@@ -25,7 +25,7 @@ returns-in_err-kept-clause-refused g c honest =
     let old = c.args.roots.now.disk in
     let first = c.in_ok-heights.ensures.reads in
     handed_on _ c.from_residual-in_err-kept.result c.in_err-kept.field-0.0 ended (refused_for _ _ c.in_err-kept.field-0.0
-    (λ none. no_kept c.args.side (d.size old) (d.seen old) c.args.entry.now
-    (subst (λ (n : ℕ). NoneKept c.args.side n (d.seen old) c.args.entry.now.kept) first.size
-    (subst (λ (i : Image). NoneKept c.args.side (d.size c.read_plane.new.roots.disk) i c.args.entry.now.kept) (first.seen (c.in_err-kept.ensures.reads.honest honest))
-    (subst (NoneKept c.args.side (d.size c.read_plane.new.roots.disk) (d.seen c.read_plane.new.roots.disk)) (ap (λ (e : EntryValue). e.kept) c.entry.view_is) none)))) (c.in_err-kept.ensures.refused honest))
+    (λ none. no_kept c.args.format (d.size old) (d.seen old) c.args.entry.now
+    (subst (λ (n : ℕ). NoneKept c.args.format n (d.seen old) c.args.entry.now.kept) first.size
+    (subst (λ (i : Image). NoneKept c.args.format (d.size c.read_plane.new.roots.disk) i c.args.entry.now.kept) (first.seen (c.in_err-kept.ensures.reads.honest honest))
+    (subst (NoneKept c.args.format (d.size c.read_plane.new.roots.disk) (d.seen c.read_plane.new.roots.disk)) (ap (λ (e : EntryValue). e.kept) c.entry.view_is) none)))) (c.in_err-kept.ensures.refused honest))

@@ -5,14 +5,14 @@ use Rattle.cow_tree.proofs.SampleReads.{part_read}
 use Rattle.cow_tree.proofs.TreeReads.{was_readable}
 use Rattle.cow_tree.proofs.samples.read_part.Goals as goal
 
-pub read_page-requires-clause-held : goal.read_page-requires-clause-held
-read_page-requires-clause-held g c =
+pub scan_page-requires-clause-held : goal.scan_page-requires-clause-held
+scan_page-requires-clause-held g c =
     let found = located_tile c.args.c c.args.tree.now.chart.staged c.requires.present in
     (found.0, (found.1.0, (found.1.1, (found.0.heights, refl))))
 
 pub returns-clause-samples : goal.returns-clause-samples
 returns-clause-samples g c readable =
     let old = c.args.tree.now in
-    let was = was_readable g.D.Disk old c.read_page.new.self c.in_ok-read_page.ensures.reads.keeps readable in
-    part_read old.root.side (staged_in g.D.Disk old) c.args.c c.args.first (length c.args.into.now) _ c.read_page.new.into c.read_samples.new.samples was.valid was.pages
-    (omega arith) c.requires.one_page c.requires.range (omega arith) c.read_samples.ensures (c.in_ok-read_page.ensures.page readable.honest)
+    let was = was_readable g.D.Disk old c.scan_page.new.self c.in_ok-scan_page.ensures.reads.keeps readable in
+    part_read old.root.side old.sinks.points (staged_in g.D.Disk old) c.args.c c.args.first (length c.args.into.now) _ c.scan_page.new.into c.read_samples.new.samples was.valid was.pages
+    (omega arith) c.requires.one_page c.requires.range (omega arith) c.read_samples.ensures (c.in_ok-scan_page.ensures.page readable.honest)

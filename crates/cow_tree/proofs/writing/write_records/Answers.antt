@@ -5,7 +5,7 @@ use Rattle.charts.specs.TileLocations.{TileLocation, reached}
 use Rattle.roots.specs.Roots.{disk_of, root_of, has_begun}
 use Rattle.charts.specs.Locations.{PlaneLocation, times}
 use Rattle.cow_tree.specs.Staged.{changed_tiles, record_pages}
-use Rattle.cow_tree.proofs.Recording.{next_changed, records_apart, among_records, all_recorded, record_page_of, staged_at, same_at, next_located}
+use Rattle.cow_tree.proofs.Recording.{next_changed, records_apart, among_records, all_recorded, first_recorded, records_due_too, record_page_of, staged_at, same_at, next_located}
 use Rattle.cow_tree.proofs.WrittenPages.{one_page_more, one_write_more}
 use Rattle.cow_tree.proofs.writing.write_records.Goals as goal
 
@@ -79,4 +79,9 @@ loop-corner-preserved g c =
 
 pub returns-clause-recorded : goal.returns-clause-recorded
 returns-clause-recorded g c honest =
-    all_recorded c.args.chart.now (g.D.Disk.seen (disk_of c.loop-corner.roots)) (λ k lt t is_t. c.loop-corner.invariant.recorded honest k (omega (arith, lt, c.loop-corner-test.false, ap length (c.as_slice-corner-items.ensures.value ∙ c.fresh-corners.ensures.value))) t is_t)
+    first_recorded c.args.chart.now c.rules.ensures c.requires.first (g.D.Disk.seen (disk_of c.loop-corner.roots))
+    (all_recorded c.args.chart.now (g.D.Disk.seen (disk_of c.loop-corner.roots)) (λ k lt t is_t. c.loop-corner.invariant.recorded honest k (omega (arith, lt, c.loop-corner-test.false, ap length (c.as_slice-corner-items.ensures.value ∙ c.fresh-corners.ensures.value))) t is_t))
+
+pub returns-clause-others : goal.returns-clause-others
+returns-clause-others g c honest q low none =
+    c.loop-corner.invariant.others honest q low (omega (arith, none, records_due_too c.args.chart.now.committed (changed_tiles c.args.chart.now) q))

@@ -1,7 +1,11 @@
-use Rattle.std.proofs.Common.{subst, List}
+use Rattle.std.proofs.Common.{refl, ℤ, sym, subst, List, Err}
+use Rattle.std.proofs.lemmas.Result.{err_from_is_err_and}
+use Rattle.lattice.specs.declared.refusal.Refusal.{Refusal}
+use Rattle.catalogue.specs.Asked.{Asked}
+use Rattle.catalogue.proofs.Asking.{asked_passed}
+use Rattle.drainage.proofs.Sealing.{asked_of_ground}
 use Rattle.lattice.specs.Corners.{Corner}
 use Rattle.drainage.specs.Asking.{IsHeldByNone}
-use Rattle.drainage.proofs.Sealing.{read_then}
 use Rattle.drainage.proofs.filling.fill.Goals as goal
 
 pub level_at-requires-clause-held : goal.level_at-requires-clause-held
@@ -11,7 +15,13 @@ level_at-requires-clause-held g c none =
     let never = table.outside.1 none_there in
     absurd (cc)
 
-pub returns-clause-reads : goal.returns-clause-reads
-returns-clause-reads g c =
-    let own = c.in_ok-table.ensures.own in
-    read_then g.S.Samples c.args.samples.now c.survey.new.samples c.level_at.result (c.level_at.ensures.not_damaged own.0 own.1.0 own.1.1) c.in_ok-table.ensures.reads
+pub returns-clause-asked : goal.returns-clause-asked
+returns-clause-asked g c =
+    asked_of_ground g.S.Samples g.met.S.Samples.is_mosaic c.args.samples.now c.survey.new.samples c.in_ok-table.table c.args.point c.level_at.result c.in_ok-table.ensures.asked c.in_ok-table.ensures.sealed
+    (λ honest. c.in_ok-table.ensures.on_ground honest refl) c.level_at.ensures.causes c.level_at.ensures.not_damaged
+
+pub returns-in_err-table-clause-asked : goal.returns-in_err-table-clause-asked
+returns-in_err-table-clause-asked g c =
+    let p = err_from_is_err_and c.from_residual.result c.from_residual.ensures.1 in
+    rw p.1 (subst (λ (r : Refusal). Asked {T = ℤ} g.S.Samples c.args.samples.now c.survey.new.samples (Err r)) (sym p.2)
+    (asked_passed g.S.Samples c.args.samples.now c.survey.new.samples c.in_err-table.field-0.0 c.in_err-table.ensures.asked))

@@ -10,4 +10,4 @@ unreachable-requires c = never_absent c.args.table.now c.args.corner c.requires.
 pub unreachable-requires-in-None : goal.unreachable-requires-in-None
 unreachable-requires-in-None c =
     let given : samples_of c.args.table.now c.args.corner ≡ Some c.in-Some.samples.now = sym c.in-Some.ensures.samples in
-    c.in-None.ensures (ap length c.in_ok-heights.ensures.items ∙ whole_tile c.args.table.now c.args.corner c.in-Some.samples.now c.requires.valid given ∙ ap (λ n. n * n) (sym c.side.ensures))
+    c.in-None.ensures (ap length c.in_ok-heights.ensures.items ∙ whole_tile c.args.table.now c.args.corner c.in-Some.samples.now c.requires.valid given ∙ ap (λ n. n * n) (sym c.side-side.ensures))

@@ -12,8 +12,8 @@ pub make-requires : goal.make-requires
 make-requires c =
     let m = c.loop-change.table in
     let rest = into_iter_items c.next.new.self in
-    All-head (CanBeMade m.side (corners_of m)) c.in-Some.change rest
-    (subst (λ (l : List Change). All (CanBeMade m.side (corners_of m)) l) c.in-Some.ensures.steps.0 c.loop-change.invariant.fits)
+    All-head (CanBeMade m.side (corners_of m) m.sinks) c.in-Some.change rest
+    (subst (λ (l : List Change). All (CanBeMade m.side (corners_of m) m.sinks) l) c.in-Some.ensures.steps.0 c.loop-change.invariant.fits)
 
 pub loop-change-preserved : goal.loop-change-preserved
 loop-change-preserved c =

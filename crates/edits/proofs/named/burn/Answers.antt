@@ -35,7 +35,7 @@ returns-clause-changes g c = λ capacity honest.
 pub returns-clause-beside : goal.returns-clause-beside
 returns-clause-beside g c = λ honest.
     let m = g.S.Samples.mosaic c.args.samples.now in
-    subst (λ (l : List Point). IfOk c.treat.result (λ changes. (p : Corner) → is_beside changes.items p ≡ is_near_one (λ t. holds_one m l t.corner) m p)) c.as_slice-points.ensures.value (c.treat.ensures.beside honest)
+    subst (λ (l : List Point). IfOk c.treat.result (λ changes. (p : Corner) → is_beside m changes.items p ≡ is_near_one (λ t. holds_one m l t.corner) m p)) c.as_slice-points.ensures.value (c.treat.ensures.beside honest)
 
 pub returns-clause-once : goal.returns-clause-once
 returns-clause-once g c = c.treat.ensures.once (sym c.is_repeated.ensures ∙ c.if-is_repeated.false)

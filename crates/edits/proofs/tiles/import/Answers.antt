@@ -23,7 +23,7 @@ returns-then-is_full-clause-refused g c = λ honest _.
     let m = g.S.Samples.mosaic c.args.samples.now in
     let side = c.side-side.ensures ∙ sym (g.met.S.Samples.same_side c.args.samples.now honest) in
     let whole : length c.args.bytes.now ≡ 2 * (m.side * m.side) = ap length (sym c.as_slice-bytes.ensures) ∙ c.if-bytes-file_bytes.false ∙ c.file_bytes.ensures.value ∙ ap (λ n. 2 * (n * n)) side in
-    import_full m (g.S.Samples.corners c.args.samples.now) (g.met.S.Samples.same_corners c.args.samples.now honest) c.args.corner c.present.result c.present.ensures.answer c.args.capacity c.args.bytes.now whole c.if-present.false ((c.is_full.ensures honest).0 c.if-is_full.true)
+    import_full m (g.S.Samples.corners c.args.samples.now) (g.met.S.Samples.same_corners c.args.samples.now honest) c.args.corner c.present.result c.present.ensures.answer c.args.capacity c.args.bytes.now whole c.if-present.false (c.is_full.ensures.0 c.if-is_full.true)
 
 pub returns-clause-changes : goal.returns-clause-changes
 returns-clause-changes g c = λ honest.
@@ -35,7 +35,7 @@ returns-clause-changes g c = λ honest.
     IfOk-weaker c.just.result (λ changes. changes.items ≡ Add c.args.corner samples ∷ []) (λ changes. effect c.args.capacity m (Import c.args.corner c.args.bytes.now) ≡ Ok (all_changed changes.items m))
     (λ changes only. import_accepted m cs (g.met.S.Samples.same_corners c.args.samples.now honest) c.args.corner c.present.result c.present.ensures.answer c.args.capacity c.args.bytes.now whole samples changes.items
     c.if-present.false
-    (λ full. both_ways c.is_full.result c.if-is_full.false ((c.is_full.ensures honest).1 full))
+    (λ full. both_ways c.is_full.result c.if-is_full.false (c.is_full.ensures.1 full))
     (c.new-samples.ensures ∙ c.in_ok-samples.ensures.value ∙ ap samples_in c.as_slice-bytes.ensures)
     only)
     c.just.ensures.items
@@ -44,9 +44,10 @@ pub returns-clause-fits : goal.returns-clause-fits
 returns-clause-fits g c =
     let n = g.S.Samples.side_of c.args.samples.now in
     let cs = g.S.Samples.corners c.args.samples.now in
+    let sinks = g.S.Samples.sinks_of c.args.samples.now in
     let samples = c.new-samples.result in
-    IfOk-weaker c.just.result (λ changes. changes.items ≡ Add c.args.corner samples ∷ []) (λ changes. All (CanBeMade n cs) changes.items)
-    (λ changes only. added_fits n cs c.args.corner c.present.result samples changes.items c.present.ensures.answer c.if-present.false
+    IfOk-weaker c.just.result (λ changes. changes.items ≡ Add c.args.corner samples ∷ []) (λ changes. All (CanBeMade n cs sinks) changes.items)
+    (λ changes only. added_fits n cs sinks c.args.corner c.present.result samples changes.items c.present.ensures.answer c.if-present.false
     (ap length c.new-samples.ensures ∙ c.in_ok-samples.ensures.hgt.whole ∙ ap (λ k. k * k) c.side-side.ensures)
     only)
     c.just.ensures.items

@@ -1,7 +1,8 @@
 use Rattle.std.proofs.Common.{◌≡◌, ◌∙◌, true, sym, subst, rules}
 use Rattle.std.specs.Int.{w32}
 use Rattle.std.specs.Int.RustNames.{FitsSigned}
-use Rattle.page_codec.specs.Sinks.{IsSink, SinkIsBefore}
+use Rattle.lattice.specs.Mosaic.{IsHeld}
+use Rattle.page_codec.specs.Sinks.{SinkIsBefore}
 use Rattle.page_codec.specs.Headers.{Follows}
 use Rattle.page_codec.proofs.SinkBytes.{same_sink}
 use Rattle.page_codec.proofs.sinks.next_sink.Goals as goal
@@ -12,5 +13,5 @@ returns-then-not-may_follow-clause-none c = λ sink held follows spelled.
     let y : FitsSigned w32 found.y = search rules in
     let x : FitsSigned w32 found.x = search rules in
     let same : found ≡ sink = same_sink c.args.side found sink c.requires.side y x held (sym c.read_point-sink.ensures ∙ spelled) in
-    let yes : c.may_follow.result ≡ true = c.may_follow.ensures.1 (subst (IsSink c.args.side) (sym same) held, subst (Follows SinkIsBefore c.args.sinks.now) (sym same) follows) in
+    let yes : c.may_follow.result ≡ true = c.may_follow.ensures.1 (subst (IsHeld c.args.side) (sym same) held, subst (Follows SinkIsBefore c.args.sinks.now) (sym same) follows) in
     cc

@@ -1,14 +1,15 @@
 use Rattle.std.proofs.Common.{◌≡◌, ◌+◌, ◌*◌, ◌++◌, length}
 use Rattle.std.specs.Prelude.{All}
-use Rattle.std.specs.List.{flat_map}
-use Rattle.page_codec.specs.Sinks.{IsSink, AreSinksInOrder, sink_bytes}
+use Rattle.std.specs.List.{AllAdjacentBelow, flat_map}
+use Rattle.lattice.specs.Mosaic.{IsHeld}
+use Rattle.page_codec.specs.Sinks.{SinkIsBefore, sink_bytes}
 use Rattle.page_codec.proofs.sinks.read_sinks.Given as goal
 
 abbrev pub invariant-loop : goal.invariant-loop
 invariant-loop l = record {
   len : length l.sinks.items ≡ l.counter;
-  each : All (IsSink l.side) l.sinks.items;
-  in_order : AreSinksInOrder l.sinks.items;
+  each : All (IsHeld l.side) l.sinks.items;
+  in_order : AllAdjacentBelow SinkIsBefore l.sinks.items (length l.sinks.items);
   parts : l.bytes ≡ flat_map sink_bytes l.sinks.items ++ l.rest;
   behind : length l.rest + 8 * l.counter ≡ length l.bytes;
 }

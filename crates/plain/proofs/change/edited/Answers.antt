@@ -1,9 +1,9 @@
-use Rattle.std.proofs.Common.{◌≡◌, sym, subst, map, arith}
+use Rattle.std.proofs.Common.{◌≡◌, sym, subst, map, arith, List}
 use Rattle.std.proofs.lemmas.Grind.{common_steps}
 use Rattle.std.specs.List.{All}
-use Rattle.lattice.specs.Mosaic.{IsTile, IsMosaic}
+use Rattle.lattice.specs.Mosaic.{Tile, IsTile, IsMosaic}
 use Rattle.plain.specs.Changes.{change_of}
-use Rattle.plain.proofs.Kept.{edited_tile, kept_edited, same_mosaic}
+use Rattle.plain.proofs.Kept.{edited_tile, kept_edited}
 use Rattle.plain.proofs.change.edited.Goals as goal
 
 pub edited_samples-requires-clause-whole : goal.edited_samples-requires-clause-whole
@@ -17,4 +17,4 @@ with_tiles-requires c =
     let m = c.args.mosaic.now in
     let f = change_of m c.args.command.now in
     let tiles : c.loop-tile.tiles.items ≡ map (edited_tile f m.side) m.tiles = grind (arith, common_steps) in
-    subst IsMosaic (same_mosaic (sym c.side.ensures.value) (sym tiles)) (kept_edited f m c.side.ensures.whole c.requires)
+    subst (λ (ts : List Tile). IsMosaic (record m { tiles = ts })) (sym tiles) (kept_edited f m c.side-side.ensures.whole c.requires)

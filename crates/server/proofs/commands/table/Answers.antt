@@ -1,5 +1,6 @@
 use Rattle.std.proofs.Common.{rules, ◌≡◌, ◌≤◌, ℕ, inr, subst}
-use Rattle.server.specs.CommandLine.{EndsServing}
+use Rattle.lattice.specs.Limits.{most_tiles}
+use Rattle.server.specs.Program.{EndsServing}
 use Rattle.server.proofs.commands.table.Goals as goal
 
 pub returns : goal.returns
@@ -10,5 +11,5 @@ returns g c =
     let low : 3 ≤ c.args.side = search rules in
     let high : c.args.side ≤ 1201 = search rules in
     let some : 1 ≤ c.args.capacity = search rules in
-    let few : c.args.capacity ≤ 240 = search rules in
-    inr (inr (low, high, some, few, ends))
+    let few : c.args.capacity ≤ most_tiles = search rules in
+    inr (inr (record { side_low = low; side_high = high; capacity_low = some; capacity_high = few }, ends))

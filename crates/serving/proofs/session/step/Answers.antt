@@ -24,6 +24,13 @@ returns-in_default-hear-clause-calls g c =
     let begun = fault.1 line.0 line.2 in
     ([], (refl, (line.0 ++ (10 ∷ begun.0), inr (line.0, begun.0, begun.1, line.1, begun.2, begun.3, refl), begun_taken _ _ _ line.0 begun.0 (rw fault.0 at line.3) begun.4, Appends-nil _, refl)))
 
+pub answer-requires : goal.answer-requires
+answer-requires g c =
+    let line = c.in-Ok.ensures.ok in
+    let some : c.in-Ok.fed ≡ Cut → line.0 ≢ [] = λ cut empty. both_ways c.is_over.result c.if-is_over.false ((c.is_over.ensures line.0 line.2).1 (cut, empty)) in
+    let found = c.in-Ok-hear.ensures.ok line.0 line.2 line.1 some in
+    (found.0, found.1)
+
 pub returns-in-Ok-write-clause-calls : goal.returns-in-Ok-write-clause-calls
 returns-in-Ok-write-clause-calls g c =
     let line = c.in-Ok.ensures.ok in
@@ -37,7 +44,7 @@ returns-in-Ok-write-clause-calls g c =
       laws = record { is_call = g.met.E.Engine.is_call; stays = g.met.E.Engine.stays; in_turn = g.met.E.Engine.in_turn; weaker = g.met.E.Engine.weaker };
       same_side = g.met.E.Engine.same_side;
     })
-    c.args.engine.now engine i c.answer.result (c.answer.ensures i found.1) in
+    c.args.engine.now engine i c.answer.result found.1.item.asked (c.answer.ensures i found.1) in
     let replied = one_reply (Answers g.E.Engine) c.args.engine.now i c.answer.result engine answered in
     let wrote : Appends (g.W.Write.contents c.args.writer.now) (g.W.Write.contents c.write-2.new.writer) c.answer.result = search rules in (
       engine ∷ [],
@@ -63,7 +70,7 @@ returns-clause-calls g c =
       laws = record { is_call = g.met.E.Engine.is_call; stays = g.met.E.Engine.stays; in_turn = g.met.E.Engine.in_turn; weaker = g.met.E.Engine.weaker };
       same_side = g.met.E.Engine.same_side;
     })
-    c.args.engine.now engine i c.answer.result (c.answer.ensures i found.1) in
+    c.args.engine.now engine i c.answer.result found.1.item.asked (c.answer.ensures i found.1) in
     let wrote : (k : ℕ) × Appends (g.W.Write.contents c.args.writer.now) (g.W.Write.contents c.write-2.new.writer) (take k c.answer.result) = search rules in (
       engine ∷ [],
       (refl, (i, c.in-Ok-hear.item.extent, c.answer.result, wrote.0, found.1.item, taken, wrote.1, one_reply (Answers g.E.Engine) c.args.engine.now i c.answer.result engine answered)),

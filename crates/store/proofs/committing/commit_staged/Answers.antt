@@ -22,7 +22,8 @@ returns-in-Err-clause-command g c old command staged =
     (λ honest s at works.
     let sound = at.sound refused.working in
     let mid_honest = subst d.honest c.abandon.ensures.disk honest in
-    c.abandon.ensures.committed mid_honest sound.stored (refused.uncommitted.at mid_honest sound.stored sound.tree (sym c.abandon.ensures.failed ∙ works)))
+    let mid_at = refused.uncommitted.at mid_honest sound.stored sound.tree (sym c.abandon.ensures.failed ∙ works) in
+    (c.abandon.ensures.committed mid_honest sound.stored mid_at, c.abandon.ensures.undeclared mid_honest sound.stored mid_at))
 
 pub returns-in_err-commit-clause-command : goal.returns-in_err-commit-clause-command
 returns-in_err-commit-clause-command g c old command staged =
@@ -34,7 +35,9 @@ returns-in_err-commit-clause-command g c old command staged =
     (sym (refused_as c.from_residual.result c.in_err-commit.field-0.0 c.from_residual.ensures.1 ∙ ap (λ (r : Refusal). Err r) c.in_err-commit.ensures.refused))
     (fails_in_commit d old mid new command done (c.count-count.result + 1)
     (ap (λ (k : ℕ). k + 1) (c.count-count.ensures.value ∙ ap (λ (r : RootValue). r.count) c.current.ensures))
-    c.commit.ensures.size c.commit.ensures.cause.later c.commit.ensures.honest c.commit.ensures.any_moment c.in_err-commit.ensures.last_known c.in_err-commit.ensures.failed
+    c.commit.ensures.size c.commit.ensures.cause.later c.commit.ensures.honest c.commit.ensures.any_moment
+    (subst (λ (answer : Result (Unit {0}) Refusal). OnOk answer ((root_of mid).number + 1 < 2 ^ 64)) c.in_default.is c.requires.number)
+    c.in_err-commit.ensures.last_known c.in_err-commit.ensures.failed
     (c.in_err-commit.ensures.cause.failed refl))
 
 pub returns-clause-command : goal.returns-clause-command
@@ -45,7 +48,8 @@ returns-clause-command g c old command staged =
     let done : IsStaged d old mid command (Ok tt) = subst (λ (answer : Result (Unit {0}) Refusal). IsStaged d old mid command answer) c.in_default.is staged in
     commits_it d old mid new command done (c.count-count.result + 1)
     (ap (λ (k : ℕ). k + 1) (c.count-count.ensures.value ∙ ap (λ (r : RootValue). r.count) c.current.ensures))
-    c.commit.ensures.size c.commit.ensures.cause.later c.commit.ensures.honest c.commit.ensures.any_moment c.in_ok-commit.ensures.not_failed c.commit.ensures.side c.commit.ensures.capacity
-    c.in_ok-commit.ensures.count c.in_ok-commit.ensures.number (g.met.D.Disk.seen_may new.roots.disk)
+    c.commit.ensures.size c.commit.ensures.cause.later c.commit.ensures.honest c.commit.ensures.any_moment
     (subst (λ (answer : Result (Unit {0}) Refusal). OnOk answer ((root_of mid).number + 1 < 2 ^ 64)) c.in_default.is c.requires.number)
-    c.in_ok-commit.ensures.at c.in_ok-commit.ensures.staged
+    c.in_ok-commit.ensures.not_failed c.commit.ensures.side c.commit.ensures.capacity
+    c.in_ok-commit.ensures.count c.in_ok-commit.ensures.number (g.met.D.Disk.seen_may new.roots.disk)
+    c.in_ok-commit.ensures.at c.in_ok-commit.ensures.staged (c.commit.ensures.sinks ∙ sym c.in_ok-commit.ensures.declared)

@@ -1,57 +1,58 @@
-use Rattle.std.proofs.Common.{◌≡◌, ℕ, false, Result, Ok, Err, OnOk, List, ap, ◌∙◌, subst}
+use Rattle.std.proofs.Common.{◌≡◌, ◌≢◌, ℕ, false, Result, Ok, Err, ap, ◌∙◌, subst}
+use Rattle.std.specs.Prelude.{IsTrue, IfErr}
+use Rattle.std.proofs.lemmas.Result.{IfOk-weaker}
 use Rattle.lattice.specs.Mosaic.{Mosaic}
 use Rattle.lattice.specs.declared.refusal.Refusal.{Refusal}
+use Rattle.lattice.specs.declared.refusal.Refusal.TheVariants.{Device}
 use Rattle.page_codec.specs.Roots.{RootValue}
-use Rattle.edits.specs.declared.change.Change.{Change}
+use Rattle.catalogue.specs.Readers.{reads_of}
+use Rattle.edits.specs.declared.command.Command.{Command}
 use Rattle.edits.specs.Changes.{all_changed}
 use Rattle.edits.specs.Effect.{effect}
+use Rattle.edits.specs.Plans.{is_own, may_end}
+use Rattle.calls.specs.Outcomes.{AppliesNot}
+use Rattle.calls.specs.State.{State}
 use Rattle.cow_tree.specs.Trees.{root_of, has_failed}
-use Rattle.store.proofs.EditingReads.{reading, mosaic_is, readable, none_refused}
-use Rattle.store.proofs.EditingSteps.{refusal_is}
+use Rattle.store.proofs.EditingReads.{reading, mosaic_is, readable, refused_so, risen_read, works_read, fails_read, quiet_read}
 use Rattle.store.proofs.InMemory.{is_working}
-use Rattle.calls.proofs.Applying.{plan_refused}
-use Rattle.store.proofs.Querying.{still_clean}
-use Rattle.store.proofs.QueryingDrainage.{quiet_read}
+use Rattle.store.proofs.Querying.{still_clean, true_where}
 use Rattle.store.proofs.editing.plan_changes.Goals as goal
 
-pub returns-in-Ok-clause-clean : goal.returns-in-Ok-clause-clean
-returns-in-Ok-clause-clean g c works clean = still_clean g.D.Disk c.args.tree.now c.plan.new.samples c.requires.works c.plan.ensures.reads.keeps (λ _. clean) works
+pub returns-clause-clean : goal.returns-clause-clean
+returns-clause-clean g c works clean = still_clean g.D.Disk c.args.tree.now c.plan.new.samples c.requires.works c.plan.ensures.reads.keeps (λ _. clean) works
 
-pub returns-in_default-clause-clean : goal.returns-in_default-clause-clean
-returns-in_default-clause-clean g c works clean = still_clean g.D.Disk c.args.tree.now c.plan.new.samples c.requires.works c.plan.ensures.reads.keeps (λ _. clean) works
+pub returns-clause-reads : goal.returns-clause-reads
+returns-clause-reads g c =
+    let new = c.plan.new.samples in
+    let reads = c.plan.ensures.reads in
+    reading g.D.Disk c.args.tree.now new reads.keeps c.plan.result (risen_read c.plan.result _ _ reads.refusal)
+    (λ is. true_where (has_failed new) (fails_read c.plan.result _ reads.unready is)) (works_read c.plan.result _ (reads.ready c.requires.works))
 
-pub returns-in-Ok-clause-changes : goal.returns-in-Ok-clause-changes
-returns-in-Ok-clause-changes g c honest s at =
+pub returns-clause-quiet : goal.returns-clause-quiet
+returns-clause-quiet g c = quiet_read c.plan.result _ (c.plan.ensures.reads.only_device c.requires.works) (c.plan.ensures.reads.ready c.requires.works)
+
+pub returns-clause-changes : goal.returns-clause-changes
+returns-clause-changes g c honest s at =
     let d = g.D.Disk in
     let old = c.args.tree.now in
     let new = c.plan.new.samples in
     let keeps = c.plan.ensures.reads.keeps in
-    let changes : List Change = c.in-Ok.changes.items in
     let capacity : c.capacity-capacity.result ≡ (root_of old).capacity = c.capacity-capacity.ensures.value ∙ ap (λ (r : RootValue). r.capacity) c.current.ensures in
-    subst (λ (n : ℕ). effect n s.contents.mosaic c.args.command.now ≡ Ok (all_changed changes s.contents.mosaic)) capacity
-    (subst (λ (m : Mosaic). effect c.capacity-capacity.result m c.args.command.now ≡ Ok (all_changed changes m)) (mosaic_is d old new keeps c.requires.works s at)
-    (c.in-Ok.ensures.changes (readable d old new keeps c.requires.works s at honest)))
+    IfOk-weaker c.plan.result _ _
+    (λ changes is.
+    subst (λ (n : ℕ). effect n s.contents.mosaic c.args.command.now ≡ Ok (all_changed changes.items s.contents.mosaic)) capacity
+    (subst (λ (m : Mosaic). effect c.capacity-capacity.result m c.args.command.now ≡ Ok (all_changed changes.items m)) (mosaic_is d old new keeps c.requires.works s at) is))
+    (c.plan.ensures.changes (readable d old new keeps c.requires.works s at honest))
 
-pub returns-in_default-clause-reads : goal.returns-in_default-clause-reads
-returns-in_default-clause-reads g c =
-    let r : Refusal = c.in-Err.refusal in
-    reading g.D.Disk c.args.tree.now c.plan.new.samples c.plan.ensures.reads.keeps (Err r) (λ is. absurd (c.in_default.not-Device (refusal_is r is))) (λ is. absurd (c.in_default.not-Device (refusal_is r is))) tt
-
-pub returns-in_default-clause-refused : goal.returns-in_default-clause-refused
-returns-in_default-clause-refused g c honest s at other =
+pub returns-clause-refused : goal.returns-clause-refused
+returns-clause-refused g c honest s at =
     let d = g.D.Disk in
     let old = c.args.tree.now in
     let new = c.plan.new.samples in
     let keeps = c.plan.ensures.reads.keeps in
     let command = c.args.command.now in
-    let r : Refusal = c.in-Err.refusal in
-    let reads = readable d old new keeps c.requires.works s at honest in
-    let none = none_refused r other (c.in-Err.ensures.reads.only_device c.requires.works) in
     let capacity : c.capacity-capacity.result ≡ (root_of old).capacity = c.capacity-capacity.ensures.value ∙ ap (λ (r : RootValue). r.capacity) c.current.ensures in
-    plan_refused (root_of old).capacity s command r (is_working d old c.requires.works s at) c.in-Err.ensures.causes none
-    (λ own.
-    subst (λ (n : ℕ). effect n s.contents.mosaic command ≡ Err r) capacity
-    (subst (λ (m : Mosaic). effect c.capacity-capacity.result m command ≡ Err r) (mosaic_is d old new keeps c.requires.works s at) (c.in-Err.ensures.refused reads own)))
-
-pub returns-in_default-clause-quiet : goal.returns-in_default-clause-quiet
-returns-in_default-clause-quiet g c = quiet_read {T = List Change} (Err c.in-Err.refusal) _ (c.in-Err.ensures.reads.only_device c.requires.works) (c.in-Err.ensures.reads.ready c.requires.works)
+    refused_so (root_of old).capacity s command c.plan.result (is_working d old c.requires.works s at) c.plan.ensures.causes (c.plan.ensures.reads.only_device c.requires.works)
+    (subst (λ (n : ℕ). IfErr c.plan.result (λ r. IsTrue (is_own command r) → effect n s.contents.mosaic command ≡ Err r)) capacity
+    (subst (λ (m : Mosaic). IfErr c.plan.result (λ r. IsTrue (is_own command r) → effect c.capacity-capacity.result m command ≡ Err r)) (mosaic_is d old new keeps c.requires.works s at)
+    (c.plan.ensures.refused (readable d old new keeps c.requires.works s at honest))))

@@ -1,4 +1,5 @@
-use Rattle.std.proofs.Common.{◌≡◌, ◌∙◌, ℕ, false, Result, Ok, Err, get_or, below_more, sym, ap, subst, arith}
+use Rattle.std.proofs.Common.{◌≡◌, ◌∙◌, ℕ, false, Option, Some, None, Result, Ok, Err, get_or, below_more, sym, ap, subst, arith}
+use Rattle.std.specs.Prelude.{IfSome}
 use Rattle.std.proofs.lemmas.List.{get_or_default}
 use Rattle.lattice.specs.Corners.{Corner}
 use Rattle.lattice.specs.declared.refusal.Refusal.{Refusal}
@@ -10,6 +11,11 @@ use Rattle.store.specs.Editing.{StagesOnly}
 use Rattle.cow_tree.proofs.ReadOnly.{never_refused}
 use Rattle.store.proofs.EditingSteps.{refused_as, in_memory, stages_on}
 use Rattle.store.proofs.editing.prepare_tiles.Goals as goal
+
+-- what holds of the one there is has this to follow
+if_some : (P Q : Corner → Type 0) → ((c : Corner) → P c → Q c) → (o : Option Corner) → IfSome o P → IfSome o Q
+if_some P Q then_ (Some c) is = then_ c is
+if_some P Q then_ None is = tt
 
 pub returns-in_err-prepare-clause-stages : goal.returns-in_err-prepare-clause-stages
 returns-in_err-prepare-clause-stages g c =
@@ -25,6 +31,7 @@ returns-in_err-prepare-clause-stages g c =
       uncommitted = in_memory d mid new (Err r) g.met.D.Disk.only_now c.prepare.ensures.disk c.prepare.ensures.root works c.prepare.ensures.at
           (λ is. let other : r ≡ NoMemory = c.in_err-prepare.ensures.refused in let e : ◌≡◌ {A = Result (Unit {0}) Refusal} (Err r) (Err Device) = is in cc);
       corners = c.prepare.ensures.corners;
+      sinks = c.prepare.ensures.sinks;
       still_staged = c.prepare.ensures.still_staged;
     }))
 
@@ -42,6 +49,7 @@ loop-change-preserved g c =
           (record {
             uncommitted = in_memory d mid new (Ok tt) g.met.D.Disk.only_now c.prepare.ensures.disk c.prepare.ensures.root works c.prepare.ensures.at (λ is. never_refused tt Device is);
             corners = c.prepare.ensures.corners;
+            sinks = c.prepare.ensures.sinks;
             still_staged = c.prepare.ensures.still_staged;
           });
       writes = ap d.writes c.prepare.ensures.disk ∙ here.writes;
@@ -49,9 +57,9 @@ loop-change-preserved g c =
       due = omega (arith, c.prepare.ensures.due, here.due);
       staged = c.prepare.ensures.staged ∙ here.staged;
       prepared = λ k change lt.
-          below_more (λ (j : ℕ). (x : Change) → HasStaged new (tile_of (get_or changes j x))) index
-          (λ j below x. c.prepare.ensures.still_staged (tile_of (get_or changes j x)) (here.prepared j x below))
-          (λ x. subst (λ (p : Corner). HasStaged new p)
-          (c.corner.ensures ∙ ap tile_of (c.change-item.is ∙ get_or_default changes index c.change-item.result x c.loop-change-test.true))
+          below_more (λ (j : ℕ). (x : Change) → IfSome (tile_of (get_or changes j x)) (HasStaged new)) index
+          (λ j below x. if_some (HasStaged mid) (HasStaged new) c.prepare.ensures.still_staged (tile_of (get_or changes j x)) (here.prepared j x below))
+          (λ x. subst (λ (o : Option Corner). IfSome o (HasStaged new))
+          (sym c.in-Some.is ∙ c.corner.ensures ∙ ap tile_of (c.change-item.is ∙ get_or_default changes index c.change-item.result x c.loop-change-test.true))
           c.in_ok-prepare.ensures.has_staged) k lt change;
     }

@@ -1,4 +1,5 @@
 use Rattle.std.proofs.Common.{◌≡◌, ℕ, ◌+◌, ◌<◌, ◌≤◌, get_or, Ok}
+use Rattle.std.specs.Prelude.{IfSome}
 use Rattle.edits.specs.declared.change.Change.{Change}
 use Rattle.edits.specs.LeftStale.{tile_of}
 use Rattle.cow_tree.specs.Trees.{disk_of, has_begun, records_due, staged_in, HasStaged}
@@ -12,5 +13,5 @@ invariant-loop-change g l = record {
   begun : has_begun l.tree ≡ has_begun l.fn.tree;
   due : records_due l.tree ≤ records_due l.fn.tree + l.change-index;
   staged : staged_in g.D.Disk l.tree ≡ staged_in g.D.Disk l.fn.tree;
-  prepared : (k : ℕ) (change : Change) → k < l.change-index → HasStaged l.tree (tile_of (get_or l.changes k change));
+  prepared : (k : ℕ) (change : Change) → k < l.change-index → IfSome (tile_of (get_or l.changes k change)) (HasStaged l.tree);
 }

@@ -1,4 +1,5 @@
-use Rattle.std.proofs.Common.{◌≡◌, ◌<◌, ◌≤◌, ◌+◌, ◌/◌, ℕ, Bool, if◌then◌else◌, Result, Ok, Err, IfErr, List, length, get_or, take, refl, sym, ap, ◌∙◌, ⊎_elim, subst, arith}
+use Rattle.std.proofs.Common.{◌≡◌, ◌<◌, ◌≤◌, ◌+◌, ◌/◌, ℕ, Bool, if◌then◌else◌, Option, Result, Ok, Err, IfErr, List, length, get_or, take, refl, sym, ap, ◌∙◌, ⊎_elim, subst, arith}
+use Rattle.std.specs.Prelude.{IfSome}
 use Rattle.std.proofs.lemmas.List.{get_or_default}
 use Rattle.lattice.specs.Corners.{Corner}
 use Rattle.lattice.specs.declared.refusal.Refusal.{Refusal}
@@ -44,6 +45,7 @@ returns-clause-stages g c =
     (record {
       uncommitted = record { size = is.size; later = is.later; device = is.cause; failed = is.device; works = is.not_failed; honest = is.honest; root = is.root; at = is.at; run = is.any_moment };
       corners = is.corners;
+      sinks = is.sinks;
       still_staged = is.still_staged;
     }))
 
@@ -61,6 +63,7 @@ returns-in_err-stage-clause-stages g c =
     (record {
       uncommitted = record { size = is.size; later = is.later; device = is.cause; failed = is.device; works = is.not_failed; honest = is.honest; root = is.root; at = is.at; run = is.any_moment };
       corners = is.corners;
+      sinks = is.sinks;
       still_staged = is.still_staged;
     })))
 
@@ -95,7 +98,7 @@ returns-in_err-stage-clause-refused g c =
     let mid = c.read_page.new.self in
     let prepared : HasStaged mid c.in-Set.corner =
     (page_read g.D.Disk c.args.tree.now mid (Ok tt) c.in_ok-read_page.ensures.reads).still_staged c.in-Set.corner
-    (subst (λ (p : Corner). HasStaged c.args.tree.now p) (ap tile_of (sym c.index-changes-first.is ∙ c.in-Set.is)) (c.requires.prepared c.args.first c.index-changes-first.result c.requires.within)) in
+    (subst (λ (o : Option Corner). IfSome o (HasStaged c.args.tree.now)) (ap tile_of (sym c.index-changes-first.is ∙ c.in-Set.is)) (c.requires.prepared c.args.first c.index-changes-first.result c.requires.within)) in
     let device : c.in_err-stage.field-0.0 ≡ Device = ⊎_elim (λ is. is) (λ none. absurd (c.stage.ensures.sure prepared (c.in_err-stage.was ∙ ap (λ (r : Refusal). Err r) none))) c.in_err-stage.ensures.refused in
     subst (λ (result : Result ℕ Refusal). IfErr result (λ r. r ≡ Device)) (sym (refused_as c.from_residual-in_err-stage.result c.in_err-stage.field-0.0 c.from_residual-in_err-stage.ensures.1)) device
 
@@ -131,5 +134,5 @@ returns-clause-due g c =
     let read = c.in_ok-read_page.ensures.reads in
     let prepared : HasStaged mid c.in-Set.corner =
     (page_read g.D.Disk c.args.tree.now mid (Ok tt) read).still_staged c.in-Set.corner
-    (subst (λ (p : Corner). HasStaged c.args.tree.now p) (ap tile_of (sym c.index-changes-first.is ∙ c.in-Set.is)) (c.requires.prepared c.args.first c.index-changes-first.result c.requires.within)) in
+    (subst (λ (o : Option Corner). IfSome o (HasStaged c.args.tree.now)) (ap tile_of (sym c.index-changes-first.is ∙ c.in-Set.is)) (c.requires.prepared c.args.first c.index-changes-first.result c.requires.within)) in
     c.in_ok-stage.ensures.due_same prepared ∙ ap (λ (chart : ChartValue). length (fresh_corners chart)) read.keeps.chart

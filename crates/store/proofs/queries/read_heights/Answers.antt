@@ -11,8 +11,8 @@ use Rattle.cow_tree.proofs.Due.{located_tile}
 use Rattle.store.proofs.QueryingPages.{IsReadTo, read_more, all_read, page_of_tile}
 use Rattle.store.proofs.queries.read_heights.Goals as goal
 
-pub read_page-requires-clause-held : goal.read_page-requires-clause-held
-read_page-requires-clause-held g c =
+pub scan_page-requires-clause-held : goal.scan_page-requires-clause-held
+scan_page-requires-clause-held g c =
     let tree = c.loop-i.tree in
     let found = located_tile c.args.corner tree.chart.staged (subst (λ (cs : List Corner). Contains cs c.args.corner) (sym c.loop-i.invariant.keeps.corners) c.requires.present) in
     (found.0, (found.1.0, (found.1.1, (found.0.heights, refl))))
@@ -27,29 +27,29 @@ loop-i-preserved g c =
     let d = g.D.Disk in
     let old = c.args.tree.now in
     let mid = c.loop-i.tree in
-    let reads = c.in_ok-read_page.ensures.reads in
+    let reads = c.in_ok-scan_page.ensures.reads in
     let so_far = c.loop-i.invariant in
     let len = c.file_bytes-len.result in
     let bytes = c.loop-i.bytes in
-    let page = c.read_page.new.into in
+    let page = c.scan_page.new.into in
     let count = c.min-count.result in
-    let some : length (take count page) ≡ count = length-take-le count page (omega (arith, c.min-count.ensures, c.read_page.array_long)) in
+    let some : length (take count page) ≡ count = length-take-le count page (omega (arith, c.min-count.ensures, c.scan_page.array_long)) in
     let ok : IsOk c.extend_from_slice.result = c.extend_from_slice.ensures.succeeds (omega (arith, some, c.min-count.ensures, so_far.within, so_far.room, c.len.ensures)) in
     let grown : c.extend_from_slice.new.self.items ≡ bytes.items ++ take count page = grown_items _ _ _ _ c.extend_from_slice.ensures.items ok in
     let longer : vec_len c.extend_from_slice.new.self ≡ vec_len bytes + length (take count page) = grown_items _ _ _ _ c.extend_from_slice.ensures.len ok in
     let long : vec_len bytes ≡ length bytes.items = omega (arith, bytes.ok.0) in
     let counted : count ≡ min (len - length bytes.items) 4096 = c.min-count.ensures ∙ ap (λ (k : ℕ). min (len - k) 4096) (c.len.ensures ∙ long) in
     record {
-      keeps = read_again d old mid c.read_page.new.self so_far.keeps reads.keeps;
+      keeps = read_again d old mid c.scan_page.new.self so_far.keeps reads.keeps;
       works = reads.not_failed;
       within = omega (arith, longer, some, c.min-count.ensures, so_far.within, c.len.ensures);
       room = omega (arith, c.extend_from_slice.ensures.capacity, so_far.room);
       read = λ honest t is.
           let was = reads.keeps.honest honest in
           let here : HasPage (staged_in d old) c.args.corner Heights c.loop-i.i page =
-          subst (λ (tiles : List StoredTile). HasPage tiles c.args.corner Heights c.loop-i.i page) (so_far.keeps.staged was) (c.in_ok-read_page.ensures.page honest) in
+          subst (λ (tiles : List StoredTile). HasPage tiles c.args.corner Heights c.loop-i.i page) (so_far.keeps.staged was) (c.in_ok-scan_page.ensures.page honest) in
           subst (λ (l : List ℕ). IsReadTo len t.heights (c.loop-i.i + 1) l) (sym (grown ∙ ap (λ (k : ℕ). bytes.items ++ take k page) counted))
-          (read_more len t.heights c.loop-i.i bytes.items page (so_far.read was t is) (page_of_tile (staged_in d old) c.args.corner t c.loop-i.i page is here) c.read_page.array_long);
+          (read_more len t.heights c.loop-i.i bytes.items page (so_far.read was t is) (page_of_tile (staged_in d old) c.args.corner t c.loop-i.i page is here) c.scan_page.array_long);
     }
 
 pub returns-clause-bytes : goal.returns-clause-bytes

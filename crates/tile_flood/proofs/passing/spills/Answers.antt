@@ -1,6 +1,8 @@
 use Rattle.std.proofs.Common.{arith, ◌≡◌, ◌*◌, ◌∙◌, sym, subst}
 use Rattle.tile_flood.specs.Passing.{IsInOrder, AreFoundBelow, AreFirsts}
 use Rattle.tile_flood.specs.Spills.{AreSpills}
+use Rattle.tile_flood.specs.Blocks.{block_of}
+use Rattle.tile_flood.specs.Labelling.{IsLabelling}
 use Rattle.tile_flood.proofs.Passages.{rises, spills_are, spills_of_ground, no_lower}
 use Rattle.tile_flood.proofs.passing.spills.Goals as goal
 
@@ -26,5 +28,6 @@ returns-clause-of_any c =
     c.in_ok-sort.ensures.permutation (subst (λ l. AreFirsts l firsts) c.deref.ensures.value c.in_ok-first_of_each.ensures))
 
 pub returns-clause-spills : goal.returns-clause-spills
-returns-clause-spills c = λ heights samples is. spills_of_ground c.args.labelled.now.side heights c.args.labelled.now.levels c.args.labelled.now.labels (no_lower heights samples) is
+returns-clause-spills c = λ b samples side is. spills_of_ground c.args.labelled.now.side b.heights b.sinks c.args.labelled.now.levels c.args.labelled.now.labels (no_lower b.heights samples)
+    (subst (λ n. IsLabelling (block_of n b.heights b.sinks) c.args.labelled.now.levels c.args.labelled.now.labels) side is)
     c.in_ok-first_of_each.field-0.items (returns-clause-of_any c)

@@ -23,17 +23,17 @@ left_is c =
 pub invariant_of-self : goal.invariant_of-self
 invariant_of-self c =
     let at = (goal.at.invariant_of-self c).After-retain in
-    rw (left_is at) (kept_left c.self.inside.side c.self.inside.capacity c.args.ending c.self.inside.slots.items c.end_all.new.slots c.self.inside.free c.end_all.new.free c.self.invariant (ended at))
+    rw (left_is at) (kept_left c.self.inside.format c.args.ending c.self.inside.slots.items c.end_all.new.slots c.self.inside.free c.end_all.new.free c.self.invariant (ended at))
 
 pub returns-clause-ended : goal.returns-clause-ended
 returns-clause-ended c =
     let at = (goal.at.returns-clause-ended c).After-retain in
-    ap (λ (l : List Slot). chart_of c.self.inside.side c.self.inside.capacity l c.end_all.new.free) (left_is at)
-    ∙ (chart_left c.self.inside.side c.self.inside.capacity c.args.ending c.self.inside.slots.items c.end_all.new.slots c.self.inside.free c.end_all.new.free c.self.invariant (ended at)
+    ap (λ (l : List Slot). chart_of c.self.inside.format l c.end_all.new.free) (left_is at)
+    ∙ (chart_left c.self.inside.format c.args.ending c.self.inside.slots.items c.end_all.new.slots c.self.inside.free c.end_all.new.free c.self.invariant (ended at)
     ∙ ap (ended_chart c.args.ending) c.self.view_is)
 
 pub returns-clause-rules : goal.returns-clause-rules
 returns-clause-rules c =
     let at = (goal.at.returns-clause-rules c).After-retain in
-    charted c.self.inside.side c.self.inside.capacity c.retain.new.self.items c.end_all.new.free
-    (rw (left_is at) (kept_left c.self.inside.side c.self.inside.capacity c.args.ending c.self.inside.slots.items c.end_all.new.slots c.self.inside.free c.end_all.new.free c.self.invariant (ended at)))
+    charted c.self.inside.format c.retain.new.self.items c.end_all.new.free
+    (rw (left_is at) (kept_left c.self.inside.format c.args.ending c.self.inside.slots.items c.end_all.new.slots c.self.inside.free c.end_all.new.free c.self.invariant (ended at)))

@@ -13,16 +13,16 @@ loop-slot-init c = c.new-corners.ensures
 
 pub push-requires : goal.push-requires
 push-requires c =
-    let kept : IsKept c.self.inside.side c.self.inside.capacity c.deref-slot-items.result.now c.self.inside.free = rw c.deref-slot-items.ensures.value c.self.invariant in
+    let kept : IsKept c.self.inside.format c.deref-slot-items.result.now c.self.inside.free = rw c.deref-slot-items.ensures.value c.self.invariant in
     let room : length c.loop-slot.corners.items < 240 =
-    corners_room c.self.inside.side c.self.inside.capacity c.deref-slot-items.result.now c.self.inside.free kept c.loop-slot.slot-index c.slot-item.result c.loop-slot-test.true c.slot-item.is
+    corners_room c.self.inside.format c.deref-slot-items.result.now c.self.inside.free kept c.loop-slot.slot-index c.slot-item.result c.loop-slot-test.true c.slot-item.is
     c.loop-slot.corners.items c.loop-slot.invariant (sym c.stages_heights.ensures ∙ c.if-stages_heights.true) in
     (omega arith, room)
 
 pub loop-slot-preserved : goal.loop-slot-preserved
 loop-slot-preserved c =
-    let kept : IsKept c.self.inside.side c.self.inside.capacity c.deref-slot-items.result.now c.self.inside.free = rw c.deref-slot-items.ensures.value c.self.invariant in
-    let step = corners_step c.self.inside.side c.self.inside.capacity c.deref-slot-items.result.now c.self.inside.free kept c.loop-slot.slot-index c.slot-item.result c.loop-slot-test.true c.slot-item.is c.loop-slot.corners.items c.loop-slot.invariant in
+    let kept : IsKept c.self.inside.format c.deref-slot-items.result.now c.self.inside.free = rw c.deref-slot-items.ensures.value c.self.invariant in
+    let step = corners_step c.self.inside.format c.deref-slot-items.result.now c.self.inside.free kept c.loop-slot.slot-index c.slot-item.result c.loop-slot-test.true c.slot-item.is c.loop-slot.corners.items c.loop-slot.invariant in
     elim c.if-stages_heights.branch [
       | then-stages_heights w ↦
           let heights : stages_heights c.slot-item.result ≡ true = sym c.stages_heights.ensures ∙ w.if-stages_heights.true in
@@ -43,6 +43,6 @@ returns-clause-value c = all_listed (goal.at.returns-clause-value c).After-loop-
 
 pub returns-clause-room : goal.returns-clause-room
 returns-clause-room c =
-    let capacity = ap (λ (v : ChartValue). v.capacity) c.self.view_is in
+    let capacity = ap (λ (v : ChartValue). v.format.capacity) c.self.view_is in
     let listed = ap length (all_listed (goal.at.returns-clause-room c).After-loop-slot) in
     omega (arith, capacity, listed, corners_few (committed_tiles c.self.inside.slots.items) (staged_tiles c.self.inside.slots.items), c.self.invariant.staged_room)

@@ -16,16 +16,16 @@ ok_from (Ok x) none = refl
 ok_from (Err e) none = absurd (false≢true (sym none))
 
 slots_are : (c : Else-is_err) → c.push.new.self.items ≡ c.self.inside.slots.items ++ loaded_slot c.args.corner c.args.planes ∷ []
-slots_are c = rw (ok_from c.push.result (sym c.is_err.ensures.value ∙ c.if-is_err.false)) at c.push.ensures.items
+slots_are c = rw (ok_from c.push.result (sym c.is_err.ensures.value ∙ c.if-is_err.false), c.none.ensures) at c.push.ensures.items
 
 pub invariant_of-result : goal.invariant_of-result
 invariant_of-result c =
     let at = (goal.at.invariant_of-result c).Else-is_err in
     rw (slots_are at)
-    (kept_loaded c.self.inside.side c.self.inside.capacity c.self.inside.slots.items c.self.inside.free c.self.invariant (subst (λ (v : ChartValue). v.staged ≡ v.committed) (sym c.self.view_is) c.requires.clean) c.args.corner c.args.planes
+    (kept_loaded c.self.inside.format c.self.inside.slots.items c.self.inside.free c.self.invariant (subst (λ (v : ChartValue). v.staged ≡ v.committed) (sym c.self.view_is) c.requires.clean) c.args.corner c.args.planes
     (subst (λ (v : ChartValue). All (λ t. IsBefore t.corner c.args.corner) v.committed) (sym c.self.view_is) c.requires.after)
-    (subst (λ (v : ChartValue). length v.committed < v.capacity) (sym c.self.view_is) c.requires.room)
-    (subst (λ (v : ChartValue). IsWholeTile v.side (tile_at c.args.corner c.args.planes)) (sym c.self.view_is) c.requires.whole)
+    (subst (λ (v : ChartValue). length v.committed < v.format.capacity) (sym c.self.view_is) c.requires.room)
+    (subst (λ (v : ChartValue). IsWholeTile v.format (tile_at c.args.corner c.args.planes)) (sym c.self.view_is) c.requires.whole)
     c.know_degrees.ensures c.mark_planes.new.free (rw c.if-not-mark_planes.false at c.mark_planes.ensures.marked))
 
 pub returns-then-not-mark_planes-clause-refused : goal.returns-then-not-mark_planes-clause-refused
@@ -33,31 +33,31 @@ returns-then-not-mark_planes-clause-refused c =
     inr (
       refl,
       subst (λ (v : ChartValue). KeepsPageRule v.sectors (v.committed ++ tile_at c.args.corner c.args.planes ∷ []) → ⊥) c.self.view_is
-          (rule_broken c.self.inside.side c.self.inside.capacity c.self.inside.slots.items c.self.inside.free c.self.invariant (subst (λ (v : ChartValue). v.staged ≡ v.committed) (sym c.self.view_is) c.requires.clean) c.args.corner c.args.planes
+          (rule_broken c.self.inside.format c.self.inside.slots.items c.self.inside.free c.self.invariant (subst (λ (v : ChartValue). v.staged ≡ v.committed) (sym c.self.view_is) c.requires.clean) c.args.corner c.args.planes
           (subst (λ (v : ChartValue). All (λ t. IsBefore t.corner c.args.corner) v.committed) (sym c.self.view_is) c.requires.after)
-          (subst (λ (v : ChartValue). length v.committed < v.capacity) (sym c.self.view_is) c.requires.room)
-          (subst (λ (v : ChartValue). IsWholeTile v.side (tile_at c.args.corner c.args.planes)) (sym c.self.view_is) c.requires.whole)
+          (subst (λ (v : ChartValue). length v.committed < v.format.capacity) (sym c.self.view_is) c.requires.room)
+          (subst (λ (v : ChartValue). IsWholeTile v.format (tile_at c.args.corner c.args.planes)) (sym c.self.view_is) c.requires.whole)
           (rw c.if-not-mark_planes.true at c.mark_planes.ensures.taken)),
     )
 
 pub returns-clause-loaded : goal.returns-clause-loaded
 returns-clause-loaded c =
     let at = (goal.at.returns-clause-loaded c).Else-is_err in
-    ap (λ (l : List Slot). chart_of c.self.inside.side c.self.inside.capacity l c.mark_planes.new.free) (slots_are at)
-    ∙ (chart_loaded c.self.inside.side c.self.inside.capacity c.self.inside.slots.items c.self.inside.free c.self.invariant (subst (λ (v : ChartValue). v.staged ≡ v.committed) (sym c.self.view_is) c.requires.clean) c.args.corner c.args.planes
+    ap (λ (l : List Slot). chart_of c.self.inside.format l c.mark_planes.new.free) (slots_are at)
+    ∙ (chart_loaded c.self.inside.format c.self.inside.slots.items c.self.inside.free c.self.invariant (subst (λ (v : ChartValue). v.staged ≡ v.committed) (sym c.self.view_is) c.requires.clean) c.args.corner c.args.planes
     (subst (λ (v : ChartValue). All (λ t. IsBefore t.corner c.args.corner) v.committed) (sym c.self.view_is) c.requires.after)
-    (subst (λ (v : ChartValue). length v.committed < v.capacity) (sym c.self.view_is) c.requires.room)
-    (subst (λ (v : ChartValue). IsWholeTile v.side (tile_at c.args.corner c.args.planes)) (sym c.self.view_is) c.requires.whole)
+    (subst (λ (v : ChartValue). length v.committed < v.format.capacity) (sym c.self.view_is) c.requires.room)
+    (subst (λ (v : ChartValue). IsWholeTile v.format (tile_at c.args.corner c.args.planes)) (sym c.self.view_is) c.requires.whole)
     c.mark_planes.new.free (rw c.if-not-mark_planes.false at c.mark_planes.ensures.marked)
     ∙ ap (λ (v : ChartValue). record v { committed = v.committed ++ tile_at c.args.corner c.args.planes ∷ []; staged = v.committed ++ tile_at c.args.corner c.args.planes ∷ [] }) c.self.view_is)
 
 pub returns-clause-rules : goal.returns-clause-rules
 returns-clause-rules c =
     let at = (goal.at.returns-clause-rules c).Else-is_err in
-    charted c.self.inside.side c.self.inside.capacity c.push.new.self.items c.mark_planes.new.free
+    charted c.self.inside.format c.push.new.self.items c.mark_planes.new.free
     (rw (slots_are at)
-    (kept_loaded c.self.inside.side c.self.inside.capacity c.self.inside.slots.items c.self.inside.free c.self.invariant (subst (λ (v : ChartValue). v.staged ≡ v.committed) (sym c.self.view_is) c.requires.clean) c.args.corner c.args.planes
+    (kept_loaded c.self.inside.format c.self.inside.slots.items c.self.inside.free c.self.invariant (subst (λ (v : ChartValue). v.staged ≡ v.committed) (sym c.self.view_is) c.requires.clean) c.args.corner c.args.planes
     (subst (λ (v : ChartValue). All (λ t. IsBefore t.corner c.args.corner) v.committed) (sym c.self.view_is) c.requires.after)
-    (subst (λ (v : ChartValue). length v.committed < v.capacity) (sym c.self.view_is) c.requires.room)
-    (subst (λ (v : ChartValue). IsWholeTile v.side (tile_at c.args.corner c.args.planes)) (sym c.self.view_is) c.requires.whole)
+    (subst (λ (v : ChartValue). length v.committed < v.format.capacity) (sym c.self.view_is) c.requires.room)
+    (subst (λ (v : ChartValue). IsWholeTile v.format (tile_at c.args.corner c.args.planes)) (sym c.self.view_is) c.requires.whole)
     c.know_degrees.ensures c.mark_planes.new.free (rw c.if-not-mark_planes.false at c.mark_planes.ensures.marked)))

@@ -10,17 +10,17 @@ use Rattle.charts.proofs.chart.Chart.prepare.Goals as goal
 
 pub prepare-requires-clause-room : goal.prepare-requires-clause-room
 prepare-requires-clause-room c =
-    let left = room_left c.self.inside.side c.self.inside.capacity c.self.inside.slots.items c.self.inside.free c.self.invariant in
+    let left = room_left c.self.inside.format c.self.inside.slots.items c.self.inside.free c.self.invariant in
     omega (arith, left)
 
 pub prepare-requires-clause-present : goal.prepare-requires-clause-present
 prepare-requires-clause-present c =
-    present c.self.inside.side c.self.inside.capacity c.self.inside.slots.items c.self.inside.free c.self.invariant c.args.c c.in-Ok.at (rw c.deref.ensures.value at c.in-Ok.ensures.found) c.index_mut-slot.result.now c.index_mut-slot.ensures.value
+    present c.self.inside.format c.self.inside.slots.items c.self.inside.free c.self.invariant c.args.c c.in-Ok.at (rw c.deref.ensures.value at c.in-Ok.ensures.found) c.index_mut-slot.result.now c.index_mut-slot.ensures.value
     (subst (λ (v : ChartValue). IsLocated c.args.c v.staged) (sym c.self.view_is) c.requires)
 
 pub invariant_of-self : goal.invariant_of-self
 invariant_of-self c =
-    kept_prepared c.self.inside.side c.self.inside.capacity c.self.inside.slots.items c.self.inside.free c.self.invariant c.args.c c.in-Ok.at (rw c.deref.ensures.value at c.in-Ok.ensures.found) c.index_mut-slot.result.now c.index_mut-slot.ensures.value
+    kept_prepared c.self.inside.format c.self.inside.slots.items c.self.inside.free c.self.invariant c.args.c c.in-Ok.at (rw c.deref.ensures.value at c.in-Ok.ensures.found) c.index_mut-slot.result.now c.index_mut-slot.ensures.value
     c.prepare.new.self c.prepare.new.free c.prepare.result c.prepare.ensures.staged c.prepare.ensures.restaged c.prepare.ensures.unchanged
 
 pub unreachable-requires : goal.unreachable-requires
@@ -30,12 +30,12 @@ unreachable-requires c =
 
 pub returns-clause-prepared : goal.returns-clause-prepared
 returns-clause-prepared c =
-    subst (λ (v : ChartValue). OnOk c.prepare.result (IsPrepared c.args.c v (chart_of c.self.inside.side c.self.inside.capacity (set c.self.inside.slots.items c.in-Ok.at c.prepare.new.self) c.prepare.new.free))) c.self.view_is
-    (is_prepared c.self.inside.side c.self.inside.capacity c.self.inside.slots.items c.self.inside.free c.self.invariant c.args.c c.in-Ok.at (rw c.deref.ensures.value at c.in-Ok.ensures.found) c.index_mut-slot.result.now c.index_mut-slot.ensures.value
+    subst (λ (v : ChartValue). OnOk c.prepare.result (IsPrepared c.args.c v (chart_of c.self.inside.format (set c.self.inside.slots.items c.in-Ok.at c.prepare.new.self) c.prepare.new.free))) c.self.view_is
+    (is_prepared c.self.inside.format c.self.inside.slots.items c.self.inside.free c.self.invariant c.args.c c.in-Ok.at (rw c.deref.ensures.value at c.in-Ok.ensures.found) c.index_mut-slot.result.now c.index_mut-slot.ensures.value
     c.prepare.new.self c.prepare.new.free c.prepare.result c.prepare.ensures.staged c.prepare.ensures.restaged c.prepare.ensures.unchanged)
 
 pub returns-clause-rules : goal.returns-clause-rules
 returns-clause-rules c =
-    charted c.self.inside.side c.self.inside.capacity (set c.self.inside.slots.items c.in-Ok.at c.prepare.new.self) c.prepare.new.free
-    (kept_prepared c.self.inside.side c.self.inside.capacity c.self.inside.slots.items c.self.inside.free c.self.invariant c.args.c c.in-Ok.at (rw c.deref.ensures.value at c.in-Ok.ensures.found) c.index_mut-slot.result.now c.index_mut-slot.ensures.value
+    charted c.self.inside.format (set c.self.inside.slots.items c.in-Ok.at c.prepare.new.self) c.prepare.new.free
+    (kept_prepared c.self.inside.format c.self.inside.slots.items c.self.inside.free c.self.invariant c.args.c c.in-Ok.at (rw c.deref.ensures.value at c.in-Ok.ensures.found) c.index_mut-slot.result.now c.index_mut-slot.ensures.value
     c.prepare.new.self c.prepare.new.free c.prepare.result c.prepare.ensures.staged c.prepare.ensures.restaged c.prepare.ensures.unchanged)

@@ -15,7 +15,7 @@ pub invariant_of-self : goal.invariant_of-self
 invariant_of-self c =
     let found : IsSlotAt c.args.c c.in-Ok.at c.self.inside.slots.items = rw c.deref.ensures.value at c.in-Ok.ensures.found in
     rw c.restage.ensures
-    (kept_removed c.self.inside.side c.self.inside.capacity c.self.inside.slots.items c.self.inside.free c.self.invariant c.args.c c.in-Ok.at found c.index_mut-slot.result.now c.index_mut-slot.ensures.value
+    (kept_removed c.self.inside.format c.self.inside.slots.items c.self.inside.free c.self.invariant c.args.c c.in-Ok.at found c.index_mut-slot.result.now c.index_mut-slot.ensures.value
     (subst (λ (v : ChartValue). IsLocated c.args.c v.staged) (sym c.self.view_is) c.requires.present)
     (λ fresh. c.requires.settled (subst (λ (v : ChartValue). HasFreshHeights c.args.c v) c.self.view_is fresh)))
 
@@ -23,7 +23,7 @@ pub returns-clause-removed : goal.returns-clause-removed
 returns-clause-removed c =
     let found : IsSlotAt c.args.c c.in-Ok.at c.self.inside.slots.items = rw c.deref.ensures.value at c.in-Ok.ensures.found in
     rw c.restage.ensures
-    (is_removed c.self.inside.side c.self.inside.capacity c.self.inside.slots.items c.self.inside.free c.self.invariant c.args.c c.in-Ok.at found c.index_mut-slot.result.now c.index_mut-slot.ensures.value
+    (is_removed c.self.inside.format c.self.inside.slots.items c.self.inside.free c.self.invariant c.args.c c.in-Ok.at found c.index_mut-slot.result.now c.index_mut-slot.ensures.value
     (subst (λ (v : ChartValue). IsLocated c.args.c v.staged) (sym c.self.view_is) c.requires.present)
     (λ fresh. c.requires.settled (subst (λ (v : ChartValue). HasFreshHeights c.args.c v) c.self.view_is fresh))
     ∙ ap (λ (v : ChartValue). record v { staged = without_location c.args.c v.staged }) c.self.view_is)
@@ -32,7 +32,7 @@ pub returns-clause-rules : goal.returns-clause-rules
 returns-clause-rules c =
     let found : IsSlotAt c.args.c c.in-Ok.at c.self.inside.slots.items = rw c.deref.ensures.value at c.in-Ok.ensures.found in
     rw c.restage.ensures
-    (charted c.self.inside.side c.self.inside.capacity _ c.self.inside.free
-    (kept_removed c.self.inside.side c.self.inside.capacity c.self.inside.slots.items c.self.inside.free c.self.invariant c.args.c c.in-Ok.at found c.index_mut-slot.result.now c.index_mut-slot.ensures.value
+    (charted c.self.inside.format _ c.self.inside.free
+    (kept_removed c.self.inside.format c.self.inside.slots.items c.self.inside.free c.self.invariant c.args.c c.in-Ok.at found c.index_mut-slot.result.now c.index_mut-slot.ensures.value
     (subst (λ (v : ChartValue). IsLocated c.args.c v.staged) (sym c.self.view_is) c.requires.present)
     (λ fresh. c.requires.settled (subst (λ (v : ChartValue). HasFreshHeights c.args.c v) c.self.view_is fresh))))

@@ -17,27 +17,27 @@ ok_from (Err e) none = absurd (false≢true (sym none))
 
 pub fresh_plane-requires : goal.fresh_plane-requires
 fresh_plane-requires c =
-    let left = room_left c.self.inside.side c.self.inside.capacity c.self.inside.slots.items c.self.inside.free c.self.invariant in
-    omega (arith, left, c.pages_in_plane.ensures.value)
+    let left = room_left c.self.inside.format c.self.inside.slots.items c.self.inside.free c.self.invariant in
+    omega (arith, left, c.index_pages.ensures, c.data_pages.ensures.value)
 
 pub returns-in_err-reserve-clause-rules : goal.returns-in_err-reserve-clause-rules
 returns-in_err-reserve-clause-rules c =
-    charted c.self.inside.side c.self.inside.capacity c.reserve.new.self.items c.self.inside.free
-    (subst (λ (l : List Slot). IsKept c.self.inside.side c.self.inside.capacity l c.self.inside.free) (sym c.in_err-reserve.ensures.items) c.self.invariant)
+    charted c.self.inside.format c.reserve.new.self.items c.self.inside.free
+    (subst (λ (l : List Slot). IsKept c.self.inside.format l c.self.inside.free) (sym c.in_err-reserve.ensures.items) c.self.invariant)
 
 pub returns-in_err-location-clause-rules : goal.returns-in_err-location-clause-rules
 returns-in_err-location-clause-rules c =
-    charted c.self.inside.side c.self.inside.capacity c.reserve.new.self.items c.fresh_plane.new.free
-    (subst (λ (s : PageSet). IsKept c.self.inside.side c.self.inside.capacity c.reserve.new.self.items s) (sym c.in_err-location.ensures.unchanged)
-    (subst (λ (l : List Slot). IsKept c.self.inside.side c.self.inside.capacity l c.self.inside.free) (sym c.in_ok-reserve.ensures.items) c.self.invariant))
+    charted c.self.inside.format c.reserve.new.self.items c.fresh_plane.new.free
+    (subst (λ (s : PageSet). IsKept c.self.inside.format c.reserve.new.self.items s) (sym c.in_err-location.ensures.unchanged)
+    (subst (λ (l : List Slot). IsKept c.self.inside.format l c.self.inside.free) (sym c.in_ok-reserve.ensures.items) c.self.invariant))
 
 pub invariant_of-self-in-Ok : goal.invariant_of-self-in-Ok
 invariant_of-self-in-Ok c =
     let set_is : set c.reserve.new.self.items c.in-Ok.at c.restage.new.self ≡ set c.self.inside.slots.items c.in-Ok.at (with_fresh c.index_mut-slot.result.now c.in_ok-location.location) =
     ap (λ (l : List Slot). set l c.in-Ok.at c.restage.new.self) c.in_ok-reserve.ensures.items ∙ ap (λ (s : Slot). set c.self.inside.slots.items c.in-Ok.at s) c.restage.ensures in
-    subst (λ (l : List Slot). IsKept c.self.inside.side c.self.inside.capacity l c.fresh_plane.new.free) (sym set_is)
-    (kept_restaged c.self.inside.side c.self.inside.capacity c.self.inside.slots.items c.self.inside.free c.fresh_plane.new.free c.self.invariant c.args.c c.in_ok-location.location
-    (c.in_ok-location.ensures.whole ∙ c.pages_in_plane.ensures.value) c.in_ok-location.ensures.taken (subst (λ (v : ChartValue). length v.staged < v.capacity) (sym c.self.view_is) c.requires.room)
+    subst (λ (l : List Slot). IsKept c.self.inside.format l c.fresh_plane.new.free) (sym set_is)
+    (kept_restaged c.self.inside.format c.self.inside.slots.items c.self.inside.free c.fresh_plane.new.free c.self.invariant c.args.c c.in_ok-location.location
+    (record { index_pages = c.in_ok-location.ensures.index_pages ∙ c.index_pages.ensures; pages = c.in_ok-location.ensures.pages ∙ c.data_pages.ensures.value }) c.in_ok-location.ensures.taken (subst (λ (v : ChartValue). length v.staged < v.format.capacity) (sym c.self.view_is) c.requires.room)
     c.in-Ok.at (rw (c.deref.ensures.value, c.in_ok-reserve.ensures.items) at c.in-Ok.ensures.found) c.index_mut-slot.result.now (rw c.in_ok-reserve.ensures.items at c.index_mut-slot.ensures.value)
     (λ located. c.requires.absent (subst (λ (v : ChartValue). IsLocated c.args.c v.staged) c.self.view_is located)))
 
@@ -46,19 +46,19 @@ invariant_of-self-in-Err c =
     let insert_is : c.insert.new.self.items ≡ insert c.self.inside.slots.items c.in-Err.at (new_slot c.args.c c.in_ok-location.location) =
     (rw (ok_from c.insert.result (sym c.is_err.ensures.value ∙ c.if-is_err.false)) at c.insert.ensures.items)
     ∙ ap (λ (l : List Slot). insert l c.in-Err.at (new_slot c.args.c c.in_ok-location.location)) c.in_ok-reserve.ensures.items in
-    subst (λ (l : List Slot). IsKept c.self.inside.side c.self.inside.capacity l c.fresh_plane.new.free) (sym insert_is)
-    (kept_inserted c.self.inside.side c.self.inside.capacity c.self.inside.slots.items c.self.inside.free c.fresh_plane.new.free c.self.invariant c.args.c c.in_ok-location.location
-    (c.in_ok-location.ensures.whole ∙ c.pages_in_plane.ensures.value) c.in_ok-location.ensures.taken (subst (λ (v : ChartValue). length v.staged < v.capacity) (sym c.self.view_is) c.requires.room)
+    subst (λ (l : List Slot). IsKept c.self.inside.format l c.fresh_plane.new.free) (sym insert_is)
+    (kept_inserted c.self.inside.format c.self.inside.slots.items c.self.inside.free c.fresh_plane.new.free c.self.invariant c.args.c c.in_ok-location.location
+    (record { index_pages = c.in_ok-location.ensures.index_pages ∙ c.index_pages.ensures; pages = c.in_ok-location.ensures.pages ∙ c.data_pages.ensures.value }) c.in_ok-location.ensures.taken (subst (λ (v : ChartValue). length v.staged < v.format.capacity) (sym c.self.view_is) c.requires.room)
     c.know_degrees.ensures c.in-Err.at (rw (c.deref.ensures.value, c.in_ok-reserve.ensures.items) at c.in-Err.ensures.absent))
 
 pub returns-in-Ok-clause-added : goal.returns-in-Ok-clause-added
 returns-in-Ok-clause-added c =
     let set_is : set c.reserve.new.self.items c.in-Ok.at c.restage.new.self ≡ set c.self.inside.slots.items c.in-Ok.at (with_fresh c.index_mut-slot.result.now c.in_ok-location.location) =
     ap (λ (l : List Slot). set l c.in-Ok.at c.restage.new.self) c.in_ok-reserve.ensures.items ∙ ap (λ (s : Slot). set c.self.inside.slots.items c.in-Ok.at s) c.restage.ensures in
-    subst (λ (v : ChartValue). IsAdded c.args.c v (chart_of c.self.inside.side c.self.inside.capacity (set c.reserve.new.self.items c.in-Ok.at c.restage.new.self) c.fresh_plane.new.free)) c.self.view_is
-    (subst (λ (l : List Slot). IsAdded c.args.c (chart_of c.self.inside.side c.self.inside.capacity c.self.inside.slots.items c.self.inside.free) (chart_of c.self.inside.side c.self.inside.capacity l c.fresh_plane.new.free)) (sym set_is)
-    (is_restaged c.self.inside.side c.self.inside.capacity c.self.inside.slots.items c.self.inside.free c.fresh_plane.new.free c.self.invariant c.args.c c.in_ok-location.location
-    (c.in_ok-location.ensures.whole ∙ c.pages_in_plane.ensures.value) c.in_ok-location.ensures.taken (subst (λ (v : ChartValue). length v.staged < v.capacity) (sym c.self.view_is) c.requires.room)
+    subst (λ (v : ChartValue). IsAdded c.args.c v (chart_of c.self.inside.format (set c.reserve.new.self.items c.in-Ok.at c.restage.new.self) c.fresh_plane.new.free)) c.self.view_is
+    (subst (λ (l : List Slot). IsAdded c.args.c (chart_of c.self.inside.format c.self.inside.slots.items c.self.inside.free) (chart_of c.self.inside.format l c.fresh_plane.new.free)) (sym set_is)
+    (is_restaged c.self.inside.format c.self.inside.slots.items c.self.inside.free c.fresh_plane.new.free c.self.invariant c.args.c c.in_ok-location.location
+    (record { index_pages = c.in_ok-location.ensures.index_pages ∙ c.index_pages.ensures; pages = c.in_ok-location.ensures.pages ∙ c.data_pages.ensures.value }) c.in_ok-location.ensures.taken (subst (λ (v : ChartValue). length v.staged < v.format.capacity) (sym c.self.view_is) c.requires.room)
     c.in-Ok.at (rw (c.deref.ensures.value, c.in_ok-reserve.ensures.items) at c.in-Ok.ensures.found) c.index_mut-slot.result.now (rw c.in_ok-reserve.ensures.items at c.index_mut-slot.ensures.value)
     (λ located. c.requires.absent (subst (λ (v : ChartValue). IsLocated c.args.c v.staged) c.self.view_is located))))
 
@@ -66,10 +66,10 @@ pub returns-in-Ok-clause-rules : goal.returns-in-Ok-clause-rules
 returns-in-Ok-clause-rules c =
     let set_is : set c.reserve.new.self.items c.in-Ok.at c.restage.new.self ≡ set c.self.inside.slots.items c.in-Ok.at (with_fresh c.index_mut-slot.result.now c.in_ok-location.location) =
     ap (λ (l : List Slot). set l c.in-Ok.at c.restage.new.self) c.in_ok-reserve.ensures.items ∙ ap (λ (s : Slot). set c.self.inside.slots.items c.in-Ok.at s) c.restage.ensures in
-    charted c.self.inside.side c.self.inside.capacity (set c.reserve.new.self.items c.in-Ok.at c.restage.new.self) c.fresh_plane.new.free
-    (subst (λ (l : List Slot). IsKept c.self.inside.side c.self.inside.capacity l c.fresh_plane.new.free) (sym set_is)
-    (kept_restaged c.self.inside.side c.self.inside.capacity c.self.inside.slots.items c.self.inside.free c.fresh_plane.new.free c.self.invariant c.args.c c.in_ok-location.location
-    (c.in_ok-location.ensures.whole ∙ c.pages_in_plane.ensures.value) c.in_ok-location.ensures.taken (subst (λ (v : ChartValue). length v.staged < v.capacity) (sym c.self.view_is) c.requires.room)
+    charted c.self.inside.format (set c.reserve.new.self.items c.in-Ok.at c.restage.new.self) c.fresh_plane.new.free
+    (subst (λ (l : List Slot). IsKept c.self.inside.format l c.fresh_plane.new.free) (sym set_is)
+    (kept_restaged c.self.inside.format c.self.inside.slots.items c.self.inside.free c.fresh_plane.new.free c.self.invariant c.args.c c.in_ok-location.location
+    (record { index_pages = c.in_ok-location.ensures.index_pages ∙ c.index_pages.ensures; pages = c.in_ok-location.ensures.pages ∙ c.data_pages.ensures.value }) c.in_ok-location.ensures.taken (subst (λ (v : ChartValue). length v.staged < v.format.capacity) (sym c.self.view_is) c.requires.room)
     c.in-Ok.at (rw (c.deref.ensures.value, c.in_ok-reserve.ensures.items) at c.in-Ok.ensures.found) c.index_mut-slot.result.now (rw c.in_ok-reserve.ensures.items at c.index_mut-slot.ensures.value)
     (λ located. c.requires.absent (subst (λ (v : ChartValue). IsLocated c.args.c v.staged) c.self.view_is located))))
 
@@ -78,10 +78,10 @@ returns-else-is_err-clause-added c =
     let insert_is : c.insert.new.self.items ≡ insert c.self.inside.slots.items c.in-Err.at (new_slot c.args.c c.in_ok-location.location) =
     (rw (ok_from c.insert.result (sym c.is_err.ensures.value ∙ c.if-is_err.false)) at c.insert.ensures.items)
     ∙ ap (λ (l : List Slot). insert l c.in-Err.at (new_slot c.args.c c.in_ok-location.location)) c.in_ok-reserve.ensures.items in
-    subst (λ (v : ChartValue). IsAdded c.args.c v (chart_of c.self.inside.side c.self.inside.capacity c.insert.new.self.items c.fresh_plane.new.free)) c.self.view_is
-    (subst (λ (l : List Slot). IsAdded c.args.c (chart_of c.self.inside.side c.self.inside.capacity c.self.inside.slots.items c.self.inside.free) (chart_of c.self.inside.side c.self.inside.capacity l c.fresh_plane.new.free)) (sym insert_is)
-    (is_inserted c.self.inside.side c.self.inside.capacity c.self.inside.slots.items c.self.inside.free c.fresh_plane.new.free c.self.invariant c.args.c c.in_ok-location.location
-    (c.in_ok-location.ensures.whole ∙ c.pages_in_plane.ensures.value) c.in_ok-location.ensures.taken (subst (λ (v : ChartValue). length v.staged < v.capacity) (sym c.self.view_is) c.requires.room)
+    subst (λ (v : ChartValue). IsAdded c.args.c v (chart_of c.self.inside.format c.insert.new.self.items c.fresh_plane.new.free)) c.self.view_is
+    (subst (λ (l : List Slot). IsAdded c.args.c (chart_of c.self.inside.format c.self.inside.slots.items c.self.inside.free) (chart_of c.self.inside.format l c.fresh_plane.new.free)) (sym insert_is)
+    (is_inserted c.self.inside.format c.self.inside.slots.items c.self.inside.free c.fresh_plane.new.free c.self.invariant c.args.c c.in_ok-location.location
+    (record { index_pages = c.in_ok-location.ensures.index_pages ∙ c.index_pages.ensures; pages = c.in_ok-location.ensures.pages ∙ c.data_pages.ensures.value }) c.in_ok-location.ensures.taken (subst (λ (v : ChartValue). length v.staged < v.format.capacity) (sym c.self.view_is) c.requires.room)
     c.know_degrees.ensures c.in-Err.at (rw (c.deref.ensures.value, c.in_ok-reserve.ensures.items) at c.in-Err.ensures.absent)))
 
 pub returns-else-is_err-clause-rules : goal.returns-else-is_err-clause-rules
@@ -89,8 +89,8 @@ returns-else-is_err-clause-rules c =
     let insert_is : c.insert.new.self.items ≡ insert c.self.inside.slots.items c.in-Err.at (new_slot c.args.c c.in_ok-location.location) =
     (rw (ok_from c.insert.result (sym c.is_err.ensures.value ∙ c.if-is_err.false)) at c.insert.ensures.items)
     ∙ ap (λ (l : List Slot). insert l c.in-Err.at (new_slot c.args.c c.in_ok-location.location)) c.in_ok-reserve.ensures.items in
-    charted c.self.inside.side c.self.inside.capacity c.insert.new.self.items c.fresh_plane.new.free
-    (subst (λ (l : List Slot). IsKept c.self.inside.side c.self.inside.capacity l c.fresh_plane.new.free) (sym insert_is)
-    (kept_inserted c.self.inside.side c.self.inside.capacity c.self.inside.slots.items c.self.inside.free c.fresh_plane.new.free c.self.invariant c.args.c c.in_ok-location.location
-    (c.in_ok-location.ensures.whole ∙ c.pages_in_plane.ensures.value) c.in_ok-location.ensures.taken (subst (λ (v : ChartValue). length v.staged < v.capacity) (sym c.self.view_is) c.requires.room)
+    charted c.self.inside.format c.insert.new.self.items c.fresh_plane.new.free
+    (subst (λ (l : List Slot). IsKept c.self.inside.format l c.fresh_plane.new.free) (sym insert_is)
+    (kept_inserted c.self.inside.format c.self.inside.slots.items c.self.inside.free c.fresh_plane.new.free c.self.invariant c.args.c c.in_ok-location.location
+    (record { index_pages = c.in_ok-location.ensures.index_pages ∙ c.index_pages.ensures; pages = c.in_ok-location.ensures.pages ∙ c.data_pages.ensures.value }) c.in_ok-location.ensures.taken (subst (λ (v : ChartValue). length v.staged < v.format.capacity) (sym c.self.view_is) c.requires.room)
     c.know_degrees.ensures c.in-Err.at (rw (c.deref.ensures.value, c.in_ok-reserve.ensures.items) at c.in-Err.ensures.absent)))

@@ -1,12 +1,23 @@
-use Rattle.std.proofs.Common.{List, ap, ◌∙◌, ℕ}
-use Rattle.charts.proofs.Preparing.{already_staged, first_restaged}
+use Rattle.std.proofs.Common.{◌≡◌, ap, ◌∙◌, subst}
+use Rattle.charts.specs.declared.staged.HeightsStaged.{HeightsStaged}
+use Rattle.charts.specs.declared.staged.HeightsStaged.TheVariants as of_heights
+use Rattle.charts.specs.declared.staged.Staged.{Staged}
+use Rattle.charts.specs.declared.staged.Staged.TheVariants.{Tile}
+use Rattle.charts.specs.Slots.{IsRecordRestaged}
+use Rattle.charts.proofs.Preparing.{already_staged, first_restaged, record_restaged}
 use Rattle.charts.proofs.slot.Slot.prepare.Goals as goal
 
-pub returns-in-Heights-clause-staged : goal.returns-in-Heights-clause-staged
-returns-in-Heights-clause-staged c = already_staged c.args.self.now c.in-Heights.location c.in-Heights.keeps c.in-Heights.is
+pub returns-in-Fresh-clause-staged : goal.returns-in-Fresh-clause-staged
+returns-in-Fresh-clause-staged c =
+    subst (λ (g : Staged). IsRecordRestaged c.args.self.now (record (c.args.self.now) { staged = g })) c.in-Tile.is
+    (already_staged c.args.self.now c.in-Fresh.field-0 c.in-Tile.kept (c.in-Tile.is ∙ ap (λ (h : HeightsStaged). Tile h c.in-Tile.kept) c.in-Fresh.is))
 
-pub returns-in_ok-pages-in-AsCommitted-clause-restaged : goal.returns-in_ok-pages-in-AsCommitted-clause-restaged
-returns-in_ok-pages-in-AsCommitted-clause-restaged c =
-    first_restaged c.args.self.now c.new-location.result c.take_page.result c.args.free.now c.take_page.new.free c.in-AsCommitted.is
-    (c.new-location.ensures ∙ ap (λ (pages : List ℕ). record { record_page = c.take_page.result; pages = pages }) (c.in_ok-pages-in-AsCommitted.ensures.items ∙ c.heights_in.ensures))
-    c.take_page.ensures.taken
+pub returns-in_ok-location-in-Some-clause-staged : goal.returns-in_ok-location-in-Some-clause-staged
+returns-in_ok-location-in-Some-clause-staged c =
+    let unstaged : c.args.self.now.staged ≡ Tile of_heights.AsCommitted c.in-Tile.kept = c.in-Tile.is ∙ ap (λ (h : HeightsStaged). Tile h c.in-Tile.kept) c.in-AsCommitted.is in
+    record_restaged c.args.self.now c.in-Some.planes c.in_ok-location-in-Some.location c.in-Tile.kept _ _ unstaged c.in-Some.is c.in_ok-location-in-Some.ensures.same c.in_ok-location-in-Some.ensures.taken
+
+pub returns-in_ok-location-in-Some-clause-restaged : goal.returns-in_ok-location-in-Some-clause-restaged
+returns-in_ok-location-in-Some-clause-restaged c =
+    let unstaged : c.args.self.now.staged ≡ Tile of_heights.AsCommitted c.in-Tile.kept = c.in-Tile.is ∙ ap (λ (h : HeightsStaged). Tile h c.in-Tile.kept) c.in-AsCommitted.is in
+    first_restaged c.args.self.now c.in-Some.planes c.in_ok-location-in-Some.location c.in-Tile.kept _ _ unstaged c.in-Some.is c.in_ok-location-in-Some.ensures.same c.in_ok-location-in-Some.ensures.taken

@@ -1,16 +1,24 @@
 use Rattle.std.proofs.Common.{◌≡◌, sym, ◌∙◌}
-use Rattle.charts.specs.declared.slot.Staged.TheVariants.{Heights}
-use Rattle.charts.proofs.Slotting.{replaced_in_use, replaced}
+use Rattle.charts.specs.declared.staged.Staged.TheVariants.{Tile}
+use Rattle.charts.proofs.Slotting.{heights_in_use, kept_in_use, settled}
 use Rattle.charts.proofs.slot.Slot.settle.Goals as goal
 
-pub replace_heights-requires : goal.replace_heights-requires
-replace_heights-requires c =
-    let staged_is : c.args.self.now.staged ≡ Heights c.in-Heights.location c.in-Heights.keeps = sym c.replace.ensures.value ∙ c.in-Heights.is in
-    rw c.take-committed.ensures.value (replaced_in_use c.args.self.now c.in-Heights.location c.in-Heights.keeps staged_is c.args.free.now c.requires)
+pub settle_heights-planes-requires : goal.settle_heights-planes-requires
+settle_heights-planes-requires c =
+    let staged_is : c.args.self.now.staged ≡ Tile c.in-Tile.heights c.in-Tile.kept = sym c.replace.ensures.value ∙ c.in-Tile.is in
+    rw c.take-committed.ensures.value (heights_in_use c.args.self.now c.in-Tile.heights c.in-Tile.kept staged_is c.args.free.now c.requires)
 
-pub returns-in-Heights : goal.returns-in-Heights
-returns-in-Heights c =
-    let staged_is : c.args.self.now.staged ≡ Heights c.in-Heights.location c.in-Heights.keeps = sym c.replace.ensures.value ∙ c.in-Heights.is in
-    rw c.replace.ensures.after
-    (replaced c.args.self.now c.in-Heights.location c.in-Heights.keeps staged_is c.replace_heights.result c.args.free.now c.replace_heights.new.free
-    (rw c.take-committed.ensures.value at c.replace_heights.ensures.planes) (rw c.take-committed.ensures.value at c.replace_heights.ensures.given))
+pub settle_kept-requires : goal.settle_kept-requires
+settle_kept-requires c =
+    let staged_is : c.args.self.now.staged ≡ Tile c.in-Tile.heights c.in-Tile.kept = sym c.replace.ensures.value ∙ c.in-Tile.is in
+    rw (c.settle_heights-planes.ensures.planes, c.take-committed.ensures.value)
+    (kept_in_use c.args.self.now c.in-Tile.heights c.in-Tile.kept staged_is c.args.free.now c.settle_heights-planes.new.free c.requires (rw c.take-committed.ensures.value at c.settle_heights-planes.ensures.given))
+
+pub returns-in-Tile : goal.returns-in-Tile
+returns-in-Tile c =
+    let staged_is : c.args.self.now.staged ≡ Tile c.in-Tile.heights c.in-Tile.kept = sym c.replace.ensures.value ∙ c.in-Tile.is in
+    rw (c.replace.ensures.after, c.none.ensures)
+    (settled c.args.self.now c.in-Tile.heights c.in-Tile.kept staged_is c.settle_kept.result c.args.free.now c.settle_heights-planes.new.free c.settle_kept.new.free
+    (rw (c.settle_heights-planes.ensures.planes, c.take-committed.ensures.value) at c.settle_kept.ensures.planes)
+    (rw c.take-committed.ensures.value at c.settle_heights-planes.ensures.given)
+    (rw (c.settle_heights-planes.ensures.planes, c.take-committed.ensures.value) at c.settle_kept.ensures.given))

@@ -57,7 +57,7 @@ returns-clause-samples g c readable =
     let found = located_tile c.args.c old.chart.staged c.requires.present in
     let among = contains-map (tile_in seen) old.chart.staged found.0 found.1.0 in
     let t : StoredTile = tile_in seen found.0 in
-    let all = samples_are old.root.side (staged_in g.D.Disk old) c.args.c t was.valid among found.1.1 in
+    let all = samples_are old.root.side old.sinks.points (staged_in g.D.Disk old) c.args.c t was.valid among found.1.1 in
     let done : c.loop-done.done ≡ length c.loop-done.into = omega arith in
     subst (λ (o : Option (List ℤ)). IsSomeAnd o (λ l. slice_range l c.args.first (c.args.first + length c.loop-done.into) ≡ c.loop-done.into)) (sym all)
     (subst (λ (n : ℕ). slice_range (samples_of_plane old.root.side t.heights) c.args.first (c.args.first + n) ≡ c.loop-done.into) done

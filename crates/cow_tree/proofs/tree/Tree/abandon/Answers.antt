@@ -1,5 +1,8 @@
 use Rattle.std.proofs.Common.{map, sym, ap, ◌∙◌}
 use Rattle.page_codec.specs.Entries.{EntryValue}
+use Rattle.page_codec.specs.Roots.{RootValue}
+use Rattle.cow_tree.specs.Sinks.{SinksValue}
+use Rattle.cow_tree.specs.Stored.{Stored}
 use Rattle.charts.specs.Charts.{ChartValue, corners_of_locations}
 use Rattle.cow_tree.proofs.Dropping.{corners_of_entries, clean_is_committed}
 use Rattle.cow_tree.proofs.Due.{none_due}
@@ -15,3 +18,10 @@ returns-clause-none_staged g c =
 
 pub returns-clause-none_due : goal.returns-clause-none_due
 returns-clause-none_due g c = none_due c.undo.new.self (ap (λ (x : ChartValue). x.staged) c.undo.ensures.undone ∙ sym (ap (λ (x : ChartValue). x.committed) c.undo.ensures.undone))
+
+pub returns-clause-undeclared : goal.returns-clause-undeclared
+returns-clause-undeclared g c honest s is =
+    let d = g.D.Disk in
+    let old = c.args.self.now in
+    let stores = is.each (d.seen old.roots.disk) (g.met.D.Disk.seen_may old.roots.disk honest) in
+    ap (λ (x : SinksValue). x.points) c.of-self.ensures ∙ ap (λ (r : RootValue). r.sinks) (sym (old.known is.ready.works)) ∙ sym (ap (λ (x : Stored). x.sinks) stores.stands)

@@ -1,14 +1,17 @@
-use Rattle.std.proofs.Common.{◌≡◌, ◌⊎◌, inl, ℕ, map, sym, ap, ◌∙◌, subst}
+use Rattle.std.proofs.Common.{◌≡◌, ◌⊎◌, inl, ℕ, true, All, List, map, sym, ap, ap₂, ◌∙◌, subst}
 use Rattle.disk.specs.Disk.{Image}
 use Rattle.disk.specs.Stops.{LeavesOnly, weaker}
-use Rattle.page_codec.specs.Roots.{RootValue}
+use Rattle.lattice.specs.declared.point.Point.{Point}
+use Rattle.lattice.specs.Mosaic.{AreSinks}
+use Rattle.page_codec.specs.Formats.{Format}
+use Rattle.page_codec.specs.Roots.{RootValue, format_of}
 use Rattle.roots.specs.Roots.{IsReady, ready_current}
 use Rattle.roots.specs.Slots.{KeepsAll, HasMoved, SamePages, IsCurrent}
 use Rattle.page_codec.specs.Entries.{EntryValue}
-use Rattle.charts.specs.Charts.{ChartValue, corners_of_locations}
-use Rattle.charts.specs.TileLocations.{entry_of}
+use Rattle.charts.specs.Charts.{ChartValue, corners_of_locations, is_changed}
+use Rattle.cow_tree.specs.Entries.{entry_of}
 use Rattle.cow_tree.specs.Layout.{stored_in, tile_in, StoresAt, Stands}
-use Rattle.cow_tree.specs.Staged.{AreStaged}
+use Rattle.cow_tree.specs.Staged.{AreStaged, IsRecorded}
 use Rattle.cow_tree.specs.Stored.{Stored, next_commit}
 use Rattle.cow_tree.specs.Trees.{IsAt}
 use Rattle.cow_tree.proofs.Commits.{next_root, lands, same_tiles, nothing_staged, committing}
@@ -18,12 +21,20 @@ use Rattle.cow_tree.proofs.Steps.{stands, stores_along}
 use Rattle.cow_tree.proofs.tree.Tree.commit.Goals as goal
 use Rattle.cow_tree.proofs.tree.Tree.commit.Goals.{After-commit}
 
+pub write_records-requires-clause-first : goal.write_records-requires-clause-first
+write_records-requires-clause-first g c = ap (λ (f : Format). f.version) c.args.self.now.format ∙ c.args.self.now.first
+
+pub with_sinks-root-requires : goal.with_sinks-root-requires
+with_sinks-root-requires g c =
+    subst (λ (r : RootValue). AreSinks r.side c.points.result.now) (sym c.next.ensures)
+    (subst (AreSinks c.args.self.now.root.side) (sym c.points.ensures.value) (subst (λ (n : ℕ). AreSinks n c.args.self.now.sinks.points) c.args.self.now.declared c.points.ensures.valid))
+
 pub returns-in_err-write_records-clause-any_moment : goal.returns-in_err-write_records-clause-any_moment
 returns-in_err-write_records-clause-any_moment g c honest s is =
     let d = g.D.Disk in
     let old = c.args.self.now in
     let size = d.size old.roots.disk in
-    let target : Stored = next_commit s (map (tile_in (d.seen old.roots.disk)) old.chart.staged) c.args.count in
+    let target : Stored = next_commit s old.sinks.points (map (tile_in (d.seen old.roots.disk)) old.chart.staged) c.args.count in
     weaker d old.roots.disk c.write_records.new.roots.disk (StoresAt size old.roots.root old.chart.committed s) (λ image. Stands size image s ⊎ Stands size image target)
     (λ image stores. inl (stands size old.roots.root old.chart.committed s image stores)) (c.write_records.ensures.any_moment honest is.ready s is.each)
 
@@ -44,17 +55,25 @@ module _ (g : _) (c : After-commit g) (honest : g.D.Disk.honest c.commit.new.sel
       ∙ ap (λ (r : RootValue). stored_in seen r c.args.self.now.chart.committed) (c.args.self.now.known c.requires.not_failed)
 
   abbrev target : Stored
-  target = next_commit s (map (tile_in seen) c.args.self.now.chart.staged) c.args.count
+  target = next_commit s c.args.self.now.sinks.points (map (tile_in seen) c.args.self.now.chart.staged) c.args.count
 
-  is_next : c.next-root.result ≡ next_root c.args.self.now.root c.args.count (map entry_of c.args.self.now.chart.staged)
-  is_next = c.next-root.ensures ∙ ap (next_root c.args.self.now.root c.args.count) c.entries-entries.ensures.value
+  is_next : c.with_sinks-root.result ≡ next_root c.args.self.now.root c.args.count c.args.self.now.sinks.points (map entry_of c.args.self.now.chart.staged)
+  is_next =
+      c.with_sinks-root.ensures
+      ∙ ap₂ (λ (r : RootValue) (sinks : List Point). record r { sinks = sinks }) c.next.ensures c.points.ensures.value
+      ∙ ap (next_root c.args.self.now.root c.args.count c.args.self.now.sinks.points) c.staged_entries-entries.ensures.value
 
-  land : (image : Image) → HasMoved c.next-root.result (g.D.Disk.seen c.write_records.new.roots.disk) image → StoresAt size c.next-root.result c.args.self.now.chart.staged target image
+  recorded : All (λ t. is_changed c.args.self.now.chart.committed t ≡ true → IsRecorded (format_of c.args.self.now.root) c.args.self.now.chart.committed (g.D.Disk.seen c.write_records.new.roots.disk) t.heights) c.args.self.now.chart.staged
+  recorded =
+      let chart = c.args.self.now.chart in
+      subst (λ (f : Format). All (λ t. is_changed chart.committed t ≡ true → IsRecorded f chart.committed (g.D.Disk.seen c.write_records.new.roots.disk) t.heights) chart.staged) c.args.self.now.format (c.in_ok-write_records.ensures.recorded mid_honest)
+
+  land : (image : Image) → HasMoved c.with_sinks-root.result (g.D.Disk.seen c.write_records.new.roots.disk) image → StoresAt size c.with_sinks-root.result c.args.self.now.chart.staged target image
   land =
       let old = c.args.self.now in
       subst (λ (r : RootValue). (image : Image) → HasMoved r (g.D.Disk.seen c.write_records.new.roots.disk) image → StoresAt size r old.chart.staged target image) (sym is_next)
-      (lands old.chart c.rules.ensures old.root size c.args.count s seen stored old.sectors old.fits old.side old.capacity seen (g.D.Disk.seen c.write_records.new.roots.disk) is.staged
-      (c.in_ok-write_records.ensures.recorded mid_honest) (c.in_ok-write_records.ensures.others mid_honest))
+      (lands old.chart c.rules.ensures old.root size c.args.count old.sinks.points s seen stored old.sectors old.fits old.format seen (g.D.Disk.seen c.write_records.new.roots.disk) is.staged
+      recorded (c.in_ok-write_records.ensures.others mid_honest))
 
   ready : IsReady g.D.Disk c.write_records.new.roots
   ready = c.in_ok-write_records.ensures.ready mid_honest is.ready
@@ -64,9 +83,9 @@ module _ (g : _) (c : After-commit g) (honest : g.D.Disk.honest c.commit.new.sel
       let d = g.D.Disk in
       let old = c.args.self.now in
       let mid = c.write_records.new.roots in
-      committing d old.roots.disk mid.disk c.commit.new.self.disk size old.roots.root c.next-root.result old.chart.committed old.chart.staged s target
+      committing d old.roots.disk mid.disk c.commit.new.self.disk size old.roots.root c.with_sinks-root.result old.chart.committed old.chart.staged s target
       (c.write_records.ensures.any_moment mid_honest is.ready s is.each) land
-      (subst (λ (r : RootValue). LeavesOnly d mid.disk c.commit.new.self.disk (λ image. KeepsAll r (d.may mid.disk) image ⊎ HasMoved c.next-root.result (d.seen mid.disk) image))
+      (subst (λ (r : RootValue). LeavesOnly d mid.disk c.commit.new.self.disk (λ image. KeepsAll r (d.may mid.disk) image ⊎ HasMoved c.with_sinks-root.result (d.seen mid.disk) image))
       c.write_records.ensures.root (c.commit.ensures.any_moment honest ready))
 
 pub returns-in_err-commit-clause-any_moment : goal.returns-in_err-commit-clause-any_moment
@@ -84,17 +103,17 @@ returns-clause-at g c honest s is =
     let new = c.commit.new.self in
     let n = d.size c.args.self.now.roots.disk in
     let ready_now = c.in_ok-commit.ensures.ready honest (ready g after honest s is) in
-    let each : (image : Image) → d.may new.disk image → StoresAt n c.next-root.result chart.staged (target g after honest s is) image = λ image may.
-    let current : IsCurrent c.next-root.result image = subst (λ (r : RootValue). IsCurrent r image) c.in_ok-commit.ensures.root (ready_current d new image ready_now may) in
+    let each : (image : Image) → d.may new.disk image → StoresAt n c.with_sinks-root.result chart.staged (target g after honest s is) image = λ image may.
+    let current : IsCurrent c.with_sinks-root.result image = subst (λ (r : RootValue). IsCurrent r image) c.in_ok-commit.ensures.root (ready_current d new image ready_now may) in
     let pages : SamePages (d.seen mid.disk) image = subst (λ (i : Image). SamePages (d.seen mid.disk) i) (sym (c.in_ok-commit.ensures.durable honest image may)) (c.in_ok-commit.ensures.pages honest) in
     land g after honest s is image (current, pages) in
     let settled = c.settle.ensures.settled in
     record {
       ready = ready_now;
-      each = λ image may. stores_along n (d.size new.disk) c.next-root.result new.root chart.staged c.settle.new.self.committed (target g after honest s is) image
+      each = λ image may. stores_along n (d.size new.disk) c.with_sinks-root.result new.root chart.staged c.settle.new.self.committed (target g after honest s is) image
           (c.commit.ensures.size ∙ c.write_records.ensures.size) c.in_ok-commit.ensures.root (ap (λ (x : ChartValue). x.committed) settled) (each image may);
-      staged = subst (λ (x : ChartValue). AreStaged c.next-root.result.side x.committed x.staged (d.seen new.disk)) (sym settled)
-          (nothing_staged n c.next-root.result chart.staged (target g after honest s is) (d.seen new.disk) (each (d.seen new.disk) (g.met.D.Disk.seen_may new.disk honest)));
+      staged = subst (λ (x : ChartValue). AreStaged (format_of c.with_sinks-root.result) x.committed x.staged (d.seen new.disk)) (sym settled)
+          (nothing_staged n c.with_sinks-root.result chart.staged (target g after honest s is) (d.seen new.disk) (each (d.seen new.disk) (g.met.D.Disk.seen_may new.disk honest)));
     }
 
 pub returns-clause-staged : goal.returns-clause-staged
@@ -103,8 +122,8 @@ returns-clause-staged g c honest s is =
     let after = (goal.at.returns-clause-staged g c).After-commit in
     let old = c.args.self.now in
     ap (λ (x : ChartValue). map (tile_in (d.seen c.commit.new.self.disk)) x.staged) c.settle.ensures.settled
-    ∙ sym (same_tiles old.chart c.rules.ensures old.root (d.size old.roots.disk) c.args.count s (d.seen old.roots.disk) (stored g after honest s is) old.sectors old.fits old.side old.capacity (d.seen old.roots.disk) (d.seen c.write_records.new.roots.disk) is.staged
-    (c.in_ok-write_records.ensures.recorded (mid_honest g after honest s is)) (c.in_ok-write_records.ensures.others (mid_honest g after honest s is)) (d.seen c.commit.new.self.disk) (c.in_ok-commit.ensures.pages honest))
+    ∙ sym (same_tiles old.chart c.rules.ensures old.root (d.size old.roots.disk) c.args.count old.sinks.points s (d.seen old.roots.disk) (stored g after honest s is) old.sectors old.fits old.format (d.seen old.roots.disk) (d.seen c.write_records.new.roots.disk) is.staged
+    (recorded g after honest s is) (c.in_ok-write_records.ensures.others (mid_honest g after honest s is)) (d.seen c.commit.new.self.disk) (c.in_ok-commit.ensures.pages honest))
 
 pub returns-clause-none_staged : goal.returns-clause-none_staged
 returns-clause-none_staged g c =
@@ -117,4 +136,4 @@ returns-clause-none_due g c =
 pub returns-clause-entries : goal.returns-clause-entries
 returns-clause-entries g c =
     ap (λ (x : ChartValue). corners_of_locations x.staged) c.settle.ensures.settled ∙ corners_of_entries c.args.self.now.chart.staged
-    ∙ ap (map (λ (e : EntryValue). e.corner)) (sym c.entries-entries.ensures.value) ∙ ap (λ (r : RootValue). map (λ (e : EntryValue). e.corner) r.entries) (sym c.next-root.ensures)
+    ∙ ap (map (λ (e : EntryValue). e.corner)) (sym c.staged_entries-entries.ensures.value) ∙ ap (λ (r : RootValue). map (λ (e : EntryValue). e.corner) r.entries) (sym (c.with_sinks-root.ensures ∙ ap (λ (r : RootValue). record r { sinks = c.points.result.now }) c.next.ensures))

@@ -1,4 +1,5 @@
 use Rattle.std.proofs.Common.{not, map, List, sym, ap, ◌∙◌, subst}
+use Rattle.page_codec.specs.Roots.{format_of}
 use Rattle.lattice.specs.Corners.{Corner, same_corner}
 use Rattle.charts.specs.Charts.{ChartValue, corners_of_locations}
 use Rattle.charts.specs.TileLocations.{TileLocation}
@@ -27,8 +28,8 @@ returns-clause-at g c s is =
     record {
       ready = is.ready;
       each = λ image may. subst (λ (tiles : List TileLocation). StoresAt (g.D.Disk.size old.roots.disk) old.roots.root tiles s image) (sym (ap (λ (x : ChartValue). x.committed) removed)) (is.each image may);
-      staged = subst (λ (x : ChartValue). AreStaged old.root.side x.committed x.staged (g.D.Disk.seen old.roots.disk)) (sym removed)
-          (staged_without old.root.side old.chart.committed old.chart.staged c.args.c (g.D.Disk.seen old.roots.disk) is.staged);
+      staged = subst (λ (x : ChartValue). AreStaged (format_of old.root) x.committed x.staged (g.D.Disk.seen old.roots.disk)) (sym removed)
+          (staged_without (format_of old.root) old.chart.committed old.chart.staged c.args.c (g.D.Disk.seen old.roots.disk) is.staged);
     }
 
 pub returns-clause-due : goal.returns-clause-due

@@ -1,4 +1,5 @@
 use Rattle.std.proofs.Common.{◌≡◌, List, length, map, ap, sym, ◌∙◌, subst, arith}
+use Rattle.page_codec.specs.Roots.{format_of}
 use Rattle.charts.specs.Charts.{ChartValue, HasFreshHeights, corners_of_locations, fresh_corners}
 use Rattle.charts.specs.TileLocations.{TileLocation}
 use Rattle.cow_tree.specs.Layout.{tile_in, StoresAt}
@@ -60,6 +61,6 @@ returns-clause-at g c s is =
       ready = is.ready;
       each = λ image may. subst (λ (tiles : List TileLocation). StoresAt (g.D.Disk.size old.roots.disk) old.roots.root tiles s image) (sym committed) (is.each image may);
       staged = either_way c.prepare.result c.prepare.ensures.prepared c.prepare.ensures.unchanged
-          (λ prepared. still_prepared old.root.side old.chart c.prepare.new.self c.args.c seen prepared is.staged)
-          (λ same. subst (λ (x : ChartValue). AreStaged old.root.side x.committed x.staged seen) (sym same) is.staged);
+          (λ prepared. still_prepared (format_of old.root) old.chart c.prepare.new.self c.args.c seen prepared is.staged)
+          (λ same. subst (λ (x : ChartValue). AreStaged (format_of old.root) x.committed x.staged seen) (sym same) is.staged);
     }

@@ -2,6 +2,7 @@ use Rattle.std.proofs.Common.{◌≡◌, All, map, ap, ◌∙◌, subst}
 use Rattle.disk.specs.Disk.{Image}
 use Rattle.lattice.specs.declared.refusal.Refusal.TheVariants.{Device}
 use Rattle.page_codec.specs.Entries.{EntryValue}
+use Rattle.page_codec.specs.Roots.{format_of}
 use Rattle.charts.specs.Charts.{corners_of_locations}
 use Rattle.cow_tree.specs.Layout.{HasRecords}
 use Rattle.cow_tree.proofs.Dropping.{corners_of_entries, clean_is_committed}
@@ -22,7 +23,7 @@ returns-in-Ok-clause-at g c honest =
     opened d _ (d.size start.disk) (d.seen start.disk) (reads.ready honest (opening.ready opened_honest) (works_ok c.in-Ok.chart roots.failed reads.works)) (reads.size ∙ c.reopen.ensures.size) seen_is
     (λ image may. opening.durable opened_honest image ((reads.nothing honest).run.now image may) ∙ opening.seen opened_honest)
     (g.met.D.Disk.seen_may roots.disk honest) c.in-Ok.ensures.rules c.in-Ok.ensures.clean
-    (subst (λ (i : Image). All (HasRecords c.copy-root.result.side i) c.in-Ok.chart.committed) (opening.seen opened_honest) (c.in-Ok.ensures.records honest))
+    (subst (λ (i : Image). All (HasRecords (format_of c.copy-root.result) i) c.in-Ok.chart.committed) (opening.seen opened_honest) (c.in-Ok.ensures.records honest))
 
 pub returns-in-Ok-clause-clean : goal.returns-in-Ok-clause-clean
 returns-in-Ok-clause-clean g c = clean_is_committed c.in-Ok.chart c.in-Ok.ensures.clean

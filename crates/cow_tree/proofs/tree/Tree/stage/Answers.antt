@@ -1,22 +1,26 @@
-use Rattle.std.proofs.Common.{◌<◌, ℕ, length, arith, sym, ap, ◌∙◌, subst}
+use Rattle.std.proofs.Common.{◌<◌, ℕ, length, map, arith, sym, ap, ◌∙◌, subst}
 use Rattle.page_codec.specs.Sizes.{pages_of}
 use Rattle.std.proofs.lemmas.Bool.{false≢true}
+use Rattle.page_codec.specs.Formats.{Format}
+use Rattle.page_codec.specs.Roots.{format_of}
 use Rattle.charts.specs.Charts.{ChartValue, HasFreshHeights, corners_of_locations, fresh_corners}
+use Rattle.cow_tree.specs.Entries.{entry_of}
 use Rattle.cow_tree.proofs.Steps.{corners_same, stage_pages, stage_stays, page_unreached, still_stands, each_still, stores_along, ok_where_works, on_ok_both, ok_where, failed_where, only_device}
+use Rattle.cow_tree.proofs.Cached.{written_agrees}
 use Rattle.cow_tree.proofs.Due.{written_due, written_due_same, written_here, written_still}
 use Rattle.cow_tree.proofs.tree.Tree.stage.Goals as goal
 
 pub returns-clause-corners : goal.returns-clause-corners
 returns-clause-corners g c =
     let rw = c.in_ok-number.ensures.written in
-    ap (λ (chart : ChartValue). corners_of_locations chart.staged) rw.changed ∙ corners_same c.args.c c.args.i c.in_ok-number.number rw.record_page c.args.self.now.chart.staged
+    ap (λ (chart : ChartValue). corners_of_locations chart.staged) rw.changed ∙ corners_same c.args.c c.args.i c.in_ok-number.number rw.index_page rw.record_page c.args.self.now.chart.staged
 
 pub returns-clause-staged : goal.returns-clause-staged
 returns-clause-staged g c honest s is =
     let d = g.D.Disk in
     let old = c.args.self.now in
     let rw = c.in_ok-number.ensures.written in
-    let index : c.args.i < pages_of old.chart.side = subst (λ (n : ℕ). c.args.i < pages_of n) (sym old.side) c.requires.index in
+    let index : c.args.i < pages_of old.chart.format.side = subst (λ (n : ℕ). c.args.i < pages_of n) (sym (ap (λ (f : Format). f.side) old.format)) c.requires.index in
     on_ok_both c.write.result
     (stage_pages old.chart c.page_for_writing.new.self c.args.c c.args.i c.in_ok-number.number c.args.page.now (d.seen old.roots.disk) (d.seen c.write.new.self.disk) c.rules.ensures c.in_ok-number.ensures.rules rw c.requires.present index)
     (c.write.ensures.others honest) (c.write.ensures.written honest)
@@ -27,7 +31,7 @@ returns-clause-at g c honest s is works =
     let old = c.args.self.now in
     let new_chart = c.page_for_writing.new.self in
     let rw = c.in_ok-number.ensures.written in
-    let index : c.args.i < pages_of old.chart.side = subst (λ (n : ℕ). c.args.i < pages_of n) (sym old.side) c.requires.index in
+    let index : c.args.i < pages_of old.chart.format.side = subst (λ (n : ℕ). c.args.i < pages_of n) (sym (ap (λ (f : Format). f.side) old.format)) c.requires.index in
     let failed = c.write.ensures.failed in
     record {
       ready = ok_where_works c.write.result c.write.new.self.failed failed works (c.write.ensures.ready honest is.ready);
@@ -38,7 +42,7 @@ returns-clause-at g c honest s is works =
           (c.write.ensures.any_moment honest is.ready) image may);
       staged = ok_where_works c.write.result c.write.new.self.failed failed works
           (on_ok_both c.write.result
-          (λ same written. stage_stays old.chart new_chart c.args.c c.args.i c.in_ok-number.number c.args.page.now (d.seen old.roots.disk) (d.seen c.write.new.self.disk) c.rules.ensures c.in_ok-number.ensures.rules rw old.root.side c.requires.present index same written is.staged)
+          (λ same written. stage_stays old.chart new_chart c.args.c c.args.i c.in_ok-number.number c.args.page.now (d.seen old.roots.disk) (d.seen c.write.new.self.disk) c.rules.ensures c.in_ok-number.ensures.rules rw (format_of old.root) c.requires.present index same written is.staged)
           (c.write.ensures.others honest) (c.write.ensures.written honest));
     }
 
@@ -80,3 +84,15 @@ returns-clause-has_staged g c = ok_where c.write.result (written_here c.args.sel
 
 pub returns-clause-still_staged : goal.returns-clause-still_staged
 returns-clause-still_staged g c = written_still c.args.self.now.chart c.page_for_writing.new.self c.args.c c.args.i c.in_ok-number.number c.rules.ensures c.in_ok-number.ensures.written
+
+pub invariant_of-self-2-clause-entries : goal.invariant_of-self-2-clause-entries
+invariant_of-self-2-clause-entries g c = ap (λ (chart : ChartValue). map entry_of chart.committed) c.in_ok-number.ensures.written.changed ∙ c.args.self.now.entries
+
+pub invariant_of-self-2-clause-cached : goal.invariant_of-self-2-clause-cached
+invariant_of-self-2-clause-cached g c honest works =
+    let d = g.D.Disk in
+    let old = c.args.self.now in
+    let new = c.write.new.self in
+    let write = c.write.ensures in
+    written_agrees old.cache c.forget.new.self (d.seen old.roots.disk) (d.seen new.disk) c.in_ok-number.number c.forget.ensures.kept c.forget.ensures.gone
+    (ok_where_works c.write.result new.failed write.failed works (write.others honest)) (old.cached (write.honest honest) c.requires.not_failed)

@@ -1,4 +1,6 @@
 use Rattle.std.proofs.Common.{◌≡◌, ℕ, ◌≤◌, ◌<◌, List, All, Contains, length, map, sym, ap, ◌∙◌, subst}
+use Rattle.page_codec.specs.Formats.{Format}
+use Rattle.page_codec.specs.Roots.{format_of}
 use Rattle.disk.specs.Disk.{Image}
 use Rattle.disk.specs.Stops.{weaker}
 use Rattle.charts.specs.Charts.{ChartValue, IsAdded}
@@ -63,7 +65,7 @@ returns-clause-staged g c honest s is =
     let b = g.D.Disk.seen c.write_plane.new.roots.disk in
     on_ok_both c.write_plane.result
     (λ wrote others. plane_staged (old g here) (new g here) c.args.c c.in_ok-tile_for_writing.ensures.rules (added g here) c.in-Some.plane.now c.in-Some.ensures.found a b c.args.bytes.now
-    (subst (λ (pages : List ℕ). SameElsewhere pages a b) c.pages.ensures others) before.root.side before.side
+    (subst (λ (pages : List ℕ). SameElsewhere pages a b) c.pages.ensures others) before.root.side (ap (λ (f : Format). f.side) before.format)
     (subst (λ (pages : List ℕ). map b pages ≡ pages_of_bytes (length pages) c.args.bytes.now) c.pages.ensures wrote))
     (c.write_plane.ensures.written honest) (c.write_plane.ensures.others honest)
 
@@ -82,7 +84,7 @@ returns-clause-at g c honest s is works =
       staged = ok_where_works c.write_plane.result roots.failed written.failed works
           (on_ok c.write_plane.result
           (λ others. plane_stays (old g here) (new g here) c.args.c c.in_ok-tile_for_writing.ensures.rules (added g here) c.in-Some.plane.now c.in-Some.ensures.found (d.seen before.roots.disk) (d.seen roots.disk) c.args.bytes.now
-          (subst (λ (pages : List ℕ). SameElsewhere pages (d.seen before.roots.disk) (d.seen roots.disk)) c.pages.ensures others) before.root.side is.staged)
+          (subst (λ (pages : List ℕ). SameElsewhere pages (d.seen before.roots.disk) (d.seen roots.disk)) c.pages.ensures others) (format_of before.root) is.staged)
           (written.others honest));
     }
 

@@ -1,6 +1,7 @@
 use Rattle.std.proofs.Common.{◌≡◌, ℕ, ℤ, ◌<◌, ◌≤◌, length, List, Some, ap₂, IsTrue, sym, ap, subst, ◌∙◌}
 use Rattle.std.specs.Prelude.{not, slice_index_or}
 use Rattle.std.specs.List.{AllAdjacentBelow}
+use Rattle.lattice.specs.Limits.{most_tiles}
 use Rattle.lattice.specs.Lattice.{IsBefore}
 use Rattle.lattice.specs.Steps.{step}
 use Rattle.lattice.specs.Mosaic.{void, is_void}
@@ -20,7 +21,7 @@ returns-then-not-share_tile c = beside_unshared c.args.self.now c.levels-levels.
 
 pub number_of-requires : goal.number_of-requires
 number_of-requires c = record {
-  few = subst (λ ks. length ks ≤ 240) (sym c.corners-2.ensures.value) c.levels-levels.ensures.valid.few;
+  few = subst (λ ks. length ks ≤ most_tiles) (sym c.corners-2.ensures.value) c.levels-levels.ensures.valid.few;
   in_order = subst (λ ks. AllAdjacentBelow IsBefore ks (length ks)) (sym c.corners-2.ensures.value) c.levels-levels.ensures.valid.in_order;
 }
 

@@ -1,6 +1,7 @@
 use Rattle.std.proofs.Common.{◌≡◌, ◌≤◌, ◌*◌, ◌%◌, IsTrue, length, true≢false, sym, ap, ap₂, subst, ◌∙◌}
 use Rattle.std.specs.Prelude.{MatchOption, not, slice_index_or}
 use Rattle.std.specs.List.{AllAdjacentBelow}
+use Rattle.lattice.specs.Limits.{most_tiles}
 use Rattle.lattice.specs.declared.point.Point.{Point}
 use Rattle.lattice.specs.Lattice.{IsBefore}
 use Rattle.lattice.specs.Mosaic.{void, is_void}
@@ -16,7 +17,7 @@ returns-then-not-is_level c = λ p level at.
 
 pub number_of-requires : goal.number_of-requires
 number_of-requires c = record {
-  few = subst (λ ks. length ks ≤ 240) (sym c.corners.ensures.value) c.corners.ensures.valid.few;
+  few = subst (λ ks. length ks ≤ most_tiles) (sym c.corners.ensures.value) c.corners.ensures.valid.few;
   in_order = subst (λ ks. AllAdjacentBelow IsBefore ks (length ks)) (sym c.corners.ensures.value) c.corners.ensures.valid.in_order;
 }
 

@@ -10,4 +10,4 @@ invariant_of-result c =
     let count : c.args.count ≤ c.root.inside.number = omega (arith, c.requires.count, ap (λ (r : RootValue). r.number) same) in
     let room : length c.args.entries.items ≤ c.root.inside.format.capacity = omega (arith, c.requires.room, ap (λ (r : RootValue). r.capacity) same) in
     let old = c.root.invariant in
-    next_rules _ old c.args.count c.root.inside.sinks.items c.args.entries.items number count old.sinks old.sinks_in_order old.numbers.few room c.requires.each c.requires.in_order
+    next_rules _ old c.args.count c.root.inside.sinks.items c.args.entries.items number count old.sinks room c.requires.each c.requires.in_order

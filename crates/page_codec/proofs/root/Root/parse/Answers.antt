@@ -1,11 +1,11 @@
 use Rattle.std.proofs.Common.{◌≡◌, ◌∙◌, ℕ, true, sym, ap, subst, arith}
-use Rattle.std.specs.Prelude.{All}
-use Rattle.page_codec.specs.declared.version.Version.{Version}
+use Rattle.lattice.specs.Limits.{IsSide}
+use Rattle.lattice.specs.Mosaic.{AreSinks}
+use Rattle.layout.specs.declared.version.Version.{Version}
 use Rattle.page_codec.specs.Numbers.{is_all_zero}
-use Rattle.page_codec.specs.Formats.{Format}
-use Rattle.page_codec.specs.Sinks.{IsSink}
+use Rattle.layout.specs.Formats.{Format}
 use Rattle.page_codec.specs.Roots.{RootValue, AreNumbers}
-use Rattle.page_codec.proofs.Bodies.{HasRoom, Splits, side_small, parts_at, body_is, numbers_from, format_in, body_from_parts}
+use Rattle.page_codec.proofs.Bodies.{HasRoom, Splits, side_known, parts_at, body_is, numbers_from, format_in, body_from_parts}
 use Rattle.page_codec.proofs.root.Root.parse.Goals as goal
 
 pub returns-then-not-is_zero-clause-none : goal.returns-then-not-is_zero-clause-none
@@ -34,7 +34,7 @@ returns-in_err-entries-clause-none c = rw c.from_residual-in_err-entries.ensures
 
 pub read_sinks-requires : goal.read_sinks-requires
 read_sinks-requires c = record {
-  side = omega (arith, c.side.ensures.value, side_small c.in_ok-format.format c.side.ensures.rules);
+  side = subst IsSide (sym c.side.ensures.value) (side_known c.in_ok-format.format c.side.ensures.rules);
   count = c.in_ok-format.ensures.0.few;
   bytes = omega arith;
 }
@@ -46,7 +46,7 @@ returns-in_err-sinks-clause-none c = rw c.from_residual-in_err-sinks.ensures (λ
     let parts : Splits _ _ _ _ c.split_at-2.result.0.now c.split_at-2.result.1.now h = record { whole = c.requires.body; numbers = c.split.ensures.parts; free_bytes = c.split_at.ensures.by_index.0; free_len = c.split_at.ensures.front_len; rooms = c.split_at-2.ensures.by_index.0; entries_len = c.split_at-2.ensures.front_len } in
     let is = body_is h _ _ _ _ _ _ r room parts rules spelled in
     let side : r.side ≡ c.side.result = sym (c.side.ensures.value ∙ ap (λ (f : Format). f.side) c.in_ok-format.ensures.1 ∙ is.same.side_is) in
-    c.in_err-sinks.ensures.none r.sinks (sym is.same.sinks_are) (subst (λ (n : ℕ). All (IsSink n) r.sinks) side rules.sinks) rules.sinks_in_order is.sinks_are)
+    c.in_err-sinks.ensures.none r.sinks (sym is.same.sinks_are) (subst (λ (n : ℕ). AreSinks n r.sinks) side rules.sinks) is.sinks_are)
 
 pub invariant_of-result : goal.invariant_of-result
 invariant_of-result c =
@@ -56,9 +56,9 @@ invariant_of-result c =
     let sinks = c.in_ok-sinks.ensures in
     let parts : Splits _ _ _ _ c.split_at-2.result.0.now c.split_at-2.result.1.now h = record { whole = c.requires.body; numbers = c.split.ensures.parts; free_bytes = c.split_at.ensures.by_index.0; free_len = c.split_at.ensures.front_len; rooms = c.split_at-2.ensures.by_index.0; entries_len = c.split_at-2.ensures.front_len } in
     let side : c.side.result ≡ h.side = c.side.ensures.value ∙ ap (λ (f : Format). f.side) c.in_ok-format.ensures.1 in
-    let held = subst (λ (n : ℕ). All (IsSink n) c.in_ok-sinks.sinks.items) side sinks.each in
+    let points = subst (λ (n : ℕ). AreSinks n c.in_ok-sinks.sinks.items) side sinks.sinks in
     let made = ap (λ (f : Format). let r : RootValue = record { version = f.version; side = f.side; capacity = f.capacity; number = h.number; count = h.count; sinks = c.in_ok-sinks.sinks.items; entries = c.in_ok-entries.entries.items } in r) c.in_ok-format.ensures.1 in
-    (body_from_parts c.args.version h _ _ _ _ _ _ _ _ c.in_ok-format.ensures.0 parts free entries.len entries.each entries.in_order entries.spelled sinks.len held sinks.in_order sinks.spelled _ made).0
+    (body_from_parts c.args.version h _ _ _ _ _ _ _ _ c.in_ok-format.ensures.0 parts free entries.len entries.each entries.in_order entries.spelled sinks.len points sinks.spelled _ made).0
 
 pub returns-clause-found : goal.returns-clause-found
 returns-clause-found c =
@@ -68,6 +68,6 @@ returns-clause-found c =
     let sinks = c.in_ok-sinks.ensures in
     let parts : Splits _ _ _ _ c.split_at-2.result.0.now c.split_at-2.result.1.now h = record { whole = c.requires.body; numbers = c.split.ensures.parts; free_bytes = c.split_at.ensures.by_index.0; free_len = c.split_at.ensures.front_len; rooms = c.split_at-2.ensures.by_index.0; entries_len = c.split_at-2.ensures.front_len } in
     let side : c.side.result ≡ h.side = c.side.ensures.value ∙ ap (λ (f : Format). f.side) c.in_ok-format.ensures.1 in
-    let held = subst (λ (n : ℕ). All (IsSink n) c.in_ok-sinks.sinks.items) side sinks.each in
+    let points = subst (λ (n : ℕ). AreSinks n c.in_ok-sinks.sinks.items) side sinks.sinks in
     let made = ap (λ (f : Format). let r : RootValue = record { version = f.version; side = f.side; capacity = f.capacity; number = h.number; count = h.count; sinks = c.in_ok-sinks.sinks.items; entries = c.in_ok-entries.entries.items } in r) c.in_ok-format.ensures.1 in
-    body_from_parts c.args.version h _ _ _ _ _ _ _ _ c.in_ok-format.ensures.0 parts free entries.len entries.each entries.in_order entries.spelled sinks.len held sinks.in_order sinks.spelled _ made
+    body_from_parts c.args.version h _ _ _ _ _ _ _ _ c.in_ok-format.ensures.0 parts free entries.len entries.each entries.in_order entries.spelled sinks.len points sinks.spelled _ made

@@ -12,9 +12,10 @@ use Rattle.flow_d8.specs.Drainage.{AreFilledLevels}
 use Rattle.watershed.specs.Questions.{DrainsBy}
 use Rattle.calls.specs.Outcomes.{Directs}
 use Rattle.calls.proofs.Answered.{directs}
+use Rattle.catalogue.proofs.Asking.{asked_risen, asked_works, asked_fails, asked_quiet}
 use Rattle.drainage.proofs.Answered.{told_of_levels}
 use Rattle.store.proofs.Querying.{valid_at, stays_at, still_clean, still_readable, queried, fails_so}
-use Rattle.store.proofs.QueryingDrainage.{of_here, held_here, risen_read, works_read, fails_read, quiet_read, read_answered}
+use Rattle.store.proofs.QueryingDrainage.{read_answered, told_here}
 use Rattle.store.proofs.store.Store.direction.Goals as goal
 
 pub invariant_of-self : goal.invariant_of-self
@@ -22,15 +23,17 @@ invariant_of-self g c =
     let d = g.D.Disk in
     let old = c.args.self.now in
     let new = c.direction.new.samples in
-    record { clean = still_clean d old.tree new c.in_ok-check_working.ensures.works c.direction.ensures.reads.keeps old.clean }
+    record { clean = still_clean d old.tree new c.in_ok-check_working.ensures.works c.direction.ensures.asked.reads.keeps old.clean }
 
 pub returns-clause-reads : goal.returns-clause-reads
 returns-clause-reads g c =
     let old = c.args.self.now.tree in
     let works = c.in_ok-check_working.ensures.works in
-    let reads = c.direction.ensures.reads in
-    queried g.D.Disk old c.direction.new.samples works reads.keeps c.direction.result (risen_read c.direction.result _ _ reads.refusal) (works_read c.direction.result _ (reads.ready works)) (fails_read c.direction.result _ reads.unready)
-    (quiet_read c.direction.result _ (reads.only_device works) (reads.ready works))
+    let new = c.direction.new.samples in
+    let result = c.direction.result in
+    let asked = c.direction.ensures.asked in
+    queried g.D.Disk old new works asked.reads.keeps result (asked_risen _ old new result asked) (asked_works _ old new result asked works) (asked_fails _ old new result asked)
+    (asked_quiet _ old new result asked works)
 
 pub returns-clause-outcome : goal.returns-clause-outcome
 returns-clause-outcome g c honest s at =
@@ -39,13 +42,11 @@ returns-clause-outcome g c honest s at =
     let new = c.direction.new.samples in
     let works = c.in_ok-check_working.ensures.works in
     let ensures = c.direction.ensures in
-    let keeps = ensures.reads.keeps in
+    let asked = ensures.asked in
+    let keeps = asked.reads.keeps in
     let result : Result ℕ Refusal = c.direction.result in
     let readable = still_readable d old new works keeps honest s at in
-    read_answered d old new works keeps honest s at (λ (s : State) (r : Result ℕ Refusal) (t : State). Directs s c.args.point (r) t) result (ensures.reads.ready works) ensures.reads.unready
-    (ensures.reads.only_device works) (fails_so d old new works keeps honest s at)
-    (λ unread. directs s s (stays_at d old works s at) c.args.point result (told_of_levels s.contents.mosaic (valid_at d old works s at) c.args.point (λ code level. DrainsBy (terrain s.contents.mosaic) level c.args.point code) result unread
-    (of_here d old new works keeps honest s at (λ (m : Mosaic). IfOk result (λ code. (level : Point → ℤ) → AreFilledLevels (terrain m) level → DrainsBy (terrain m) level c.args.point code)) (ensures.direction readable))
-    (of_here d old new works keeps honest s at (λ (m : Mosaic). IsOk result → IsTrue (is_ground m c.args.point)) (ensures.on_ground readable))
-    (held_here d old new works keeps honest s at (IsErrOf result Outside) c.args.point ensures.outside)
-    (of_here d old new works keeps honest s at (λ (m : Mosaic). IsErrOf result Void → height_of m c.args.point ≡ height.Void) (ensures.void readable)) ensures.causes))
+    read_answered d old new works keeps honest s at (λ (s : State) (r : Result ℕ Refusal) (t : State). Directs s c.args.point (r) t) result asked.read asked.passed (asked.reads.ready works) asked.reads.unready
+    (asked.reads.only_device works) (fails_so d old new works keeps honest s at)
+    (λ unread. directs s s (stays_at d old works s at) c.args.point result (told_here d old new works keeps honest s at c.args.point (λ (m : Mosaic) code level. DrainsBy (terrain m) level c.args.point code) result (asked.own unread) (asked.sound readable works)
+    (ensures.direction readable) (ensures.on_ground readable) ensures.outside (ensures.void readable) ensures.causes))

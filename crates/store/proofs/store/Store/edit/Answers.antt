@@ -7,7 +7,7 @@ use Rattle.page_codec.specs.Roots.{RootValue}
 use Rattle.edits.specs.Changes.{all_changed}
 use Rattle.edits.specs.declared.change.Change.{Change}
 use Rattle.cow_tree.specs.Stored.{StoredTile}
-use Rattle.cow_tree.specs.Trees.{root_of, has_begun, records_due, staged_in}
+use Rattle.cow_tree.specs.Trees.{root_of, corners_of, has_begun, records_due, staged_in}
 use Rattle.cow_tree.proofs.Steps.{on_ok}
 use Rattle.store.specs.Applied.{IsApplied}
 use Rattle.store.specs.Editing.{HoldsMosaic}
@@ -39,7 +39,7 @@ returns-in_err-changes-clause-applied g c =
     subst (λ (x : Refusal). IsApplied d command (Err x) old new) (sym device) (fails_before d old new command c.requires.not_failed (Err r) is.reads (ap (λ (x : Refusal). Err x) device)))
     (λ other.
     let goes_on = is.quiet other in
-    quiet d old new command c.requires.not_failed (Err r) is.reads goes_on.1 (λ honest s at. is.staged honest) r other goes_on.0 goes_on.1 (may_end_it command r is.causes) is.writes
+    quiet d old new command c.requires.not_failed (Err r) is.reads goes_on.1 (λ honest s at. (is.staged honest, is.sinks)) r other goes_on.0 goes_on.1 (may_end_it command r is.causes) is.writes
     (λ honest s at. is.refused honest s at other))
     (device_or_not r))
 
@@ -51,7 +51,7 @@ returns-then-number-clause-applied g c =
     let command = c.args.command.now in
     let changes = c.in_ok-changes.changes in
     let is = c.in_ok-changes.ensures in
-    quiet d old new command c.requires.not_failed (Ok changes) is.reads is.reads.works (λ honest s at. is.staged honest) Worn (λ e. cc) (λ e. cc) is.reads.works refl is.writes
+    quiet d old new command c.requires.not_failed (Ok changes) is.reads is.reads.works (λ honest s at. (is.staged honest, is.sinks)) Worn (λ e. cc) (λ e. cc) is.reads.works refl is.writes
     (λ honest s at. worn_at d old c.requires.not_failed s at command (all_changed changes.items s.contents.mosaic) (is.changes honest s at)
     (sym (ap (λ (r : RootValue). r.number) (c.current.ensures ∙ is.reads.root)) ∙ sym c.number.ensures ∙ c.if-number.true))
 
@@ -81,9 +81,10 @@ returns-clause-applied g c =
           (holds_contents (root_of old).side (root_of old).capacity sound.stored s sound.holds)) in
           on_ok c.stage_changes-staged.result
           (λ set.
-          edit_holds d old mid c.requires.not_failed command s at changes (is.changes planned_honest s at)
+          edit_holds d old mid c.requires.not_failed command s at (root_of old).side (corners_of old) changes is.sets (is.changes planned_honest s at)
           (subst (λ (n : ℕ). HoldsMosaic n (staged_in d mid) (all_changed changes s.contents.mosaic)) side
-          (subst (λ (xs : List Change). HoldsMosaic (root_of planned).side (staged_in d mid) (all_changed xs s.contents.mosaic)) c.deref.ensures.value set)))
+          (subst (λ (xs : List Change). HoldsMosaic (root_of planned).side (staged_in d mid) (all_changed xs s.contents.mosaic)) c.deref.ensures.value set))
+          (c.stage_changes-staged.ensures.stages.sinks ∙ is.sinks))
           (c.stage_changes-staged.ensures.set honest sound.stored s.contents.mosaic planned_at held);
     })
 
@@ -96,7 +97,7 @@ returns-clause-writes g c =
     let none = c.in_ok-changes.ensures.clean c.in_ok-changes.ensures.reads.works (c.args.self.now.clean c.requires.not_failed) in
     let stages = c.stage_changes-staged.ensures in
     staged_written c.stage_changes-staged.result c.args.command.now (vec_len c.in_ok-changes.changes) (records_due mid) (d.writes old.roots.disk) (d.writes mid.roots.disk)
-    (d.writes c.commit_staged.new.tree.roots.disk) (has_begun planned) (has_begun mid) c.in_ok-changes.ensures.few
+    (d.writes c.commit_staged.new.tree.roots.disk) (has_begun planned) (has_begun mid) c.requires.samples c.in_ok-changes.ensures.few
     (subst (λ (n : ℕ). d.writes mid.roots.disk ≤ n + (if has_begun planned then 0 else 1) + vec_len c.in_ok-changes.changes) c.in_ok-changes.ensures.writes
     (subst (λ (k : ℕ). d.writes mid.roots.disk ≤ d.writes planned.roots.disk + (if has_begun planned then 0 else 1) + k) c.deref.ensures.len stages.writes))
     (on_ok c.stage_changes-staged.result (λ few. let same = c.in_ok-changes.ensures.writes in let len = c.deref.ensures.len in omega (arith, few, same, len)) stages.pages)

@@ -1,9 +1,15 @@
 use Rattle.std.proofs.Common.{ap}
 use Rattle.edits.specs.declared.command.Command.TheVariants.{Import}
 use Rattle.cow_tree.proofs.Steps.{on_ok}
-use Rattle.store.proofs.Committed.{refused_quietly}
+use Rattle.store.proofs.Committed.{refused_first, refused_quietly}
+use Rattle.store.proofs.EditingSteps.{refused_as}
 use Rattle.store.proofs.Importing.{import_holds}
 use Rattle.store.proofs.store.Store.import.Goals as goal
+
+pub returns-in_err-can_import : goal.returns-in_err-can_import
+returns-in_err-can_import g c =
+    let is = c.in_err-can_import.ensures in
+    refused_first g.D.Disk c.args.self.now.tree (Import c.args.corner c.args.bytes.now) c.requires g.met.D.Disk.only_now _ is.own is.causes is.refused c.from_residual.result (refused_as c.from_residual.result _ c.from_residual.ensures.1)
 
 pub returns : goal.returns
 returns g c =
@@ -19,6 +25,6 @@ returns g c =
       next = λ honest s at.
           let sound = at.sound c.requires in
           on_ok c.stage_plane-staged.result
-          (λ staged. import_holds d old mid c.requires s at c.commands_make_mosaics.ensures.mosaic c.args.corner c.args.bytes.now can.corner can.bytes can.whole can.absent can.room staged)
+          (λ staged. import_holds d old mid c.requires s at c.commands_make_mosaics.ensures.mosaic c.args.corner c.args.bytes.now can.corner can.bytes can.whole can.absent can.room staged is.sinks)
           (is.staged honest sound.stored sound.tree);
     })

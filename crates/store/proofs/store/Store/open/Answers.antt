@@ -20,5 +20,5 @@ returns-in-Ok-clause-at g c honest side capacity a b each =
     let seen = d.seen c.args.disk in
     let was_honest = (c.in-Ok.ensures.nothing honest).honest in
     let at = c.in-Ok.ensures.at honest in
-    in_one d tree at.0 at.1.1.0 at.1.1.1 (g.met.D.Disk.seen_may tree.roots.disk honest) side capacity a b
+    in_one d tree at.0 at.1.1.0 at.1.1.1 (g.met.D.Disk.seen_may tree.roots.disk honest) side capacity c.in-Ok.ensures.sinks a b
     (found_one (d.size c.args.disk) seen side capacity at.0 a b at.1.0 (each seen (g.met.D.Disk.seen_may c.args.disk was_honest)))

@@ -2,12 +2,18 @@ use Rattle.std.proofs.Common.{Ok}
 use Rattle.edits.specs.declared.command.Command.TheVariants.{Remove}
 use Rattle.lattice.specs.declared.refusal.Refusal.TheVariants.{Device}
 use Rattle.cow_tree.proofs.ReadOnly.{never_refused}
-use Rattle.store.proofs.EditingSteps.{in_memory}
+use Rattle.store.proofs.Committed.{refused_first}
+use Rattle.store.proofs.EditingSteps.{in_memory, refused_as}
 use Rattle.store.proofs.Importing.{remove_holds}
 use Rattle.store.proofs.store.Store.remove.Goals as goal
 
 pub drop_plane-requires-clause-settled : goal.drop_plane-requires-clause-settled
 drop_plane-requires-clause-settled g c = (c.args.self.now.clean c.requires).none_staged c.args.corner
+
+pub returns-in_err-can_remove : goal.returns-in_err-can_remove
+returns-in_err-can_remove g c =
+    let is = c.in_err-can_remove.ensures in
+    refused_first g.D.Disk c.args.self.now.tree (Remove c.args.corner) c.requires g.met.D.Disk.only_now _ is.own is.causes is.refused c.from_residual.result (refused_as c.from_residual.result _ c.from_residual.ensures.1)
 
 pub returns : goal.returns
 returns g c =
@@ -19,5 +25,5 @@ returns g c =
       working = c.requires;
       uncommitted = in_memory d old mid (Ok tt) g.met.D.Disk.only_now is.disk is.root is.not_failed is.at (λ refused. never_refused tt Device refused);
       refused = tt;
-      next = λ honest s at. remove_holds d old mid c.requires s at c.commands_make_mosaics.ensures.mosaic c.args.corner c.in_ok-can_remove.ensures.present is.staged;
+      next = λ honest s at. remove_holds d old mid c.requires s at c.commands_make_mosaics.ensures.mosaic c.args.corner c.in_ok-can_remove.ensures.present is.staged is.sinks;
     })

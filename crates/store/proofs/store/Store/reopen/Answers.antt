@@ -1,7 +1,7 @@
 use Rattle.std.proofs.Common.{⊎_elim, ap}
-use Rattle.std.proofs.lemmas.Result.{on_ok_weaker, IfErr-weaker}
+use Rattle.std.proofs.lemmas.Result.{IfErr-weaker}
 use Rattle.page_codec.specs.Roots.{RootValue}
-use Rattle.cow_tree.proofs.Steps.{ok_where_works, either_way}
+use Rattle.cow_tree.proofs.Steps.{ok_where_works, either_way, on_ok_both}
 use Rattle.store.proofs.Opened.{in_known, sized_as_known}
 use Rattle.store.proofs.Openings.{refused_for}
 use Rattle.store.proofs.store.Store.reopen.Goals as goal
@@ -22,10 +22,10 @@ returns-clause-at g c honest s at =
     let new = c.reopen.new.self in
     let seen = d.seen old.roots.disk in
     let was_honest = (c.reopen.ensures.nothing honest).honest in
-    on_ok_weaker c.reopen.result
-    (λ is. in_known d new is.0 is.1.1.0 is.1.1.1 (g.met.D.Disk.seen_may new.roots.disk honest) old.root.side old.root.capacity (d.size old.roots.disk) seen s is.1.0
+    on_ok_both c.reopen.result
+    (λ is declared. in_known d new is.0 is.1.1.0 is.1.1.1 (g.met.D.Disk.seen_may new.roots.disk honest) old.root.side old.root.capacity declared (d.size old.roots.disk) seen s is.1.0
     (at.images seen (g.met.D.Disk.seen_may old.roots.disk was_honest)))
-    (c.reopen.ensures.at honest)
+    (c.reopen.ensures.at honest) c.reopen.ensures.sinks
 
 pub returns-clause-sure : goal.returns-clause-sure
 returns-clause-sure g c honest s at =

@@ -15,11 +15,11 @@ use Rattle.watershed.specs.Runs.{AreRuns}
 use Rattle.watershed.specs.declared.runs.Run.{Run}
 use Rattle.calls.specs.Outcomes.{Sheds}
 use Rattle.calls.proofs.Answered.{sheds}
+use Rattle.catalogue.proofs.Asking.{asked_risen, asked_works, asked_fails, asked_quiet}
 use Rattle.drainage.proofs.Answered.{told_of_levels}
-use Rattle.cow_tree.specs.Trees.{has_failed}
 use Rattle.calls.specs.Engines.{items_in}
 use Rattle.store.proofs.Querying.{valid_at, stays_at, still_clean, still_readable, queried, fails_so}
-use Rattle.store.proofs.QueryingDrainage.{listed, of_here, held_here, risen_read, works_read, fails_read, quiet_read, read_answered}
+use Rattle.store.proofs.QueryingDrainage.{listed, read_answered, told_here}
 use Rattle.store.proofs.store.Store.watershed.Goals as goal
 
 pub invariant_of-self : goal.invariant_of-self
@@ -27,15 +27,17 @@ invariant_of-self g c =
     let d = g.D.Disk in
     let old = c.args.self.now in
     let new = c.watershed.new.samples in
-    record { clean = still_clean d old.tree new c.in_ok-check_working.ensures.works c.watershed.ensures.reads.keeps old.clean }
+    record { clean = still_clean d old.tree new c.in_ok-check_working.ensures.works c.watershed.ensures.asked.reads.keeps old.clean }
 
 pub returns-clause-reads : goal.returns-clause-reads
 returns-clause-reads g c =
     let old = c.args.self.now.tree in
     let works = c.in_ok-check_working.ensures.works in
-    let reads = c.watershed.ensures.reads in
-    queried g.D.Disk old c.watershed.new.samples works reads.keeps c.watershed.result (risen_read c.watershed.result _ _ reads.refusal) (works_read c.watershed.result _ (reads.ready works)) (fails_read c.watershed.result _ reads.unready)
-    (quiet_read c.watershed.result _ (reads.only_device works) (reads.ready works))
+    let new = c.watershed.new.samples in
+    let result = c.watershed.result in
+    let asked = c.watershed.ensures.asked in
+    queried g.D.Disk old new works asked.reads.keeps result (asked_risen _ old new result asked) (asked_works _ old new result asked works) (asked_fails _ old new result asked)
+    (asked_quiet _ old new result asked works)
 
 pub returns-clause-outcome : goal.returns-clause-outcome
 returns-clause-outcome g c honest s at =
@@ -44,13 +46,11 @@ returns-clause-outcome g c honest s at =
     let new = c.watershed.new.samples in
     let works = c.in_ok-check_working.ensures.works in
     let ensures = c.watershed.ensures in
-    let keeps = ensures.reads.keeps in
+    let asked = ensures.asked in
+    let keeps = asked.reads.keeps in
     let result : Result (Vec Run) Refusal = c.watershed.result in
     let readable = still_readable d old new works keeps honest s at in
-    read_answered d old new works keeps honest s at (λ (s : State) (r : Result (Vec Run) Refusal) (t : State). Sheds s c.args.point (items_in r) t) result (ensures.reads.ready works) ensures.reads.unready
-    (ensures.reads.only_device works) (fails_so d old new works keeps honest s at)
-    (λ unread. listed (λ r. Sheds s c.args.point r s) result (sheds s s (stays_at d old works s at) c.args.point result (told_of_levels s.contents.mosaic (valid_at d old works s at) c.args.point (λ runs level. AreRuns (IsInWatershed (terrain s.contents.mosaic) level c.args.point) runs.items) result unread
-    (of_here d old new works keeps honest s at (λ (m : Mosaic). IfOk result (λ runs. (level : Point → ℤ) → AreFilledLevels (terrain m) level → AreRuns (IsInWatershed (terrain m) level c.args.point) runs.items)) (ensures.runs readable))
-    (of_here d old new works keeps honest s at (λ (m : Mosaic). IsOk result → IsTrue (is_ground m c.args.point)) (ensures.on_ground readable))
-    (held_here d old new works keeps honest s at (IsErrOf result Outside) c.args.point ensures.outside)
-    (of_here d old new works keeps honest s at (λ (m : Mosaic). IsErrOf result Void → height_of m c.args.point ≡ height.Void) (ensures.void readable)) ensures.causes)))
+    read_answered d old new works keeps honest s at (λ (s : State) (r : Result (Vec Run) Refusal) (t : State). Sheds s c.args.point (items_in r) t) result asked.read asked.passed (asked.reads.ready works) asked.reads.unready
+    (asked.reads.only_device works) (fails_so d old new works keeps honest s at)
+    (λ unread. listed (λ r. Sheds s c.args.point r s) result (sheds s s (stays_at d old works s at) c.args.point result (told_here d old new works keeps honest s at c.args.point (λ (m : Mosaic) runs level. AreRuns (IsInWatershed (terrain m) level c.args.point) runs.items) result (asked.own unread) (asked.sound readable works)
+    (ensures.runs readable) (ensures.on_ground readable) ensures.outside (ensures.void readable) ensures.causes)))

@@ -2,24 +2,25 @@ use Rattle.std.proofs.Common.{arith, rules, slice_index, sym, subst, SFits, w16}
 use Rattle.std.proofs.lemmas.Int.{to_z-of_z}
 use Rattle.tile_flood.specs.Flooding.{IsSpreading}
 use Rattle.tile_flood.proofs.Spreading.{spread_begin, taken_below, flooding_end}
+use Rattle.tile_flood.specs.Blocks.{block_of}
 use Rattle.tile_flood.proofs.flood.Flood.settle.Goals as goal
 
 pub spread-requires-clause-point : goal.spread-requires-clause-point
 spread-requires-clause-point c =
-    taken_below c.args.n c.args.heights.now c.loop-seat.self.levels.items c.loop-seat.self.labels.items c.pop.new.self c.in-Some.seat.point c.in-Some.seat.level
+    taken_below c.args.n c.args.heights.now c.args.sinks.now c.loop-seat.self.levels.items c.loop-seat.self.labels.items c.pop.new.self c.in-Some.seat.point c.in-Some.seat.level
     (slice_index c.loop-seat.self.labels.items c.in-Some.seat.point)
-    (spread_begin c.args.n c.args.heights.now c.loop-seat.self.levels.items c.loop-seat.self.labels.items c.loop-seat.self.queue c.pop.new.self c.in-Some.seat.point c.in-Some.seat.level
+    (spread_begin c.args.n c.args.heights.now c.args.sinks.now c.loop-seat.self.levels.items c.loop-seat.self.labels.items c.loop-seat.self.queue c.pop.new.self c.in-Some.seat.point c.in-Some.seat.level
     c.loop-seat.invariant c.in-Some.ensures.taken)
 
 pub spread-requires-clause-state : goal.spread-requires-clause-state
 spread-requires-clause-state c =
     let fits : SFits w16 c.in-Some.seat.level = search rules in
-    subst (λ low. IsSpreading c.args.n c.args.heights.now c.loop-seat.self.levels.items c.loop-seat.self.labels.items c.pop.new.self c.in-Some.seat.point low
+    subst (λ low. IsSpreading (block_of c.args.n c.args.heights.now c.args.sinks.now) c.loop-seat.self.levels.items c.loop-seat.self.labels.items c.pop.new.self c.in-Some.seat.point low
     (slice_index c.loop-seat.self.labels.items c.in-Some.seat.point)) (sym (to_z-of_z w16 c.in-Some.seat.level fits))
-    (spread_begin c.args.n c.args.heights.now c.loop-seat.self.levels.items c.loop-seat.self.labels.items c.loop-seat.self.queue c.pop.new.self c.in-Some.seat.point c.in-Some.seat.level
+    (spread_begin c.args.n c.args.heights.now c.args.sinks.now c.loop-seat.self.levels.items c.loop-seat.self.labels.items c.loop-seat.self.queue c.pop.new.self c.in-Some.seat.point c.in-Some.seat.level
     c.loop-seat.invariant c.in-Some.ensures.taken)
 
 pub returns : goal.returns
 returns c =
     let least = c.requires.side.0 in
-    flooding_end c.args.n c.args.heights.now c.loop-seat.self.levels.items c.loop-seat.self.labels.items c.loop-seat.self.queue (omega arith) c.loop-seat.invariant c.in_default.ensures.taken
+    flooding_end c.args.n c.args.heights.now c.args.sinks.now c.loop-seat.self.levels.items c.loop-seat.self.labels.items c.loop-seat.self.queue (omega arith) c.loop-seat.invariant c.in_default.ensures.taken

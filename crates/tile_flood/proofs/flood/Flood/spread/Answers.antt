@@ -12,7 +12,7 @@ loop-i-preserved c = record {
 }
 
 pub returns-clause-state : goal.returns-clause-state
-returns-clause-state c = spread_end c.args.n c.args.heights.now c.loop-i.self.levels.items c.loop-i.self.labels.items c.loop-i.self.queue c.args.point _ _ c.loop-i.invariant.state
+returns-clause-state c = spread_end c.args.n c.args.heights.now c.args.sinks.now c.loop-i.self.levels.items c.loop-i.self.labels.items c.loop-i.self.queue c.args.point _ _ c.loop-i.invariant.state
     (λ z link.
     let apart = linked_apart c.args.n c.args.heights.now c.args.point z link in
     let south = apart.south in

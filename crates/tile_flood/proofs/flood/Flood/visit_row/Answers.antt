@@ -3,7 +3,7 @@ use Rattle.tile_flood.proofs.Spreading.{cell_beside, row_more}
 use Rattle.tile_flood.proofs.flood.Flood.visit_row.Goals as goal
 
 pub visit-requires-clause-beside : goal.visit-requires-clause-beside
-visit-requires-clause-beside c = λ solid off. cell_beside c.args.n c.args.heights.now c.loop-j.self.levels.items c.loop-j.self.labels.items c.loop-j.self.queue
+visit-requires-clause-beside c = λ solid off. cell_beside c.args.n c.args.heights.now c.args.sinks.now c.loop-j.self.levels.items c.loop-j.self.labels.items c.loop-j.self.queue
     c.args.front.point c.args.front.level c.args.front.label c.args.i c.loop-j.j c.loop-j.invariant.state
     (omega arith) c.requires.row.0 c.requires.row.1 (omega arith) (omega arith) solid off
 

@@ -1,0 +1,47 @@
+use Rattle.std.proofs.Common.{◌≡◌, ℤ, List, length, drop, Ok, Err, refl, sym, ap, ◌∙◌, subst}
+use Rattle.std.proofs.lemmas.Result.{err_from_is_err_and}
+use Rattle.lattice.specs.Block.{AreHeightsOf}
+use Rattle.lattice.specs.Mosaic.{Mosaic}
+use Rattle.lattice.specs.declared.refusal.Refusal.{Refusal}
+use Rattle.catalogue.specs.Readers.{OnlyReads, reads_of}
+use Rattle.catalogue.specs.Reading.{AreSamplesOf}
+use Rattle.catalogue.proofs.Blocks.{written_over}
+use Rattle.catalogue.proofs.Reading.{reads_on, reads_for}
+use Rattle.catalogue.proofs.sealing.block_heights.Goals as goal
+
+pub returns-clause-heights : goal.returns-clause-heights
+returns-clause-heights g c honest =
+    let long = c.as_mut_slice-2.ensures.len in
+    let read = c.read_samples.new.into in
+    let read_long : length read ≡ c.in_ok-heights.heights.len = c.in_ok-read_samples.ensures.length ∙ c.as_mut_slice.ensures.len in
+    let honest_mid = c.in_ok-seal_rim.ensures.reads.honest honest in
+    let same = c.in_ok-read_samples.ensures.mosaic honest_mid in
+    let whole_read : c.as_mut_slice-2.result.now ≡ read = c.as_mut_slice-2.ensures.value ∙ written_over c.in_ok-heights.heights.len read (drop (length read) c.in_ok-heights.heights.items) read_long in
+    let own = subst (λ (l : List ℤ). AreSamplesOf (g.S.Samples.mosaic c.args.samples.now) c.args.corner 0 l) (sym whole_read) (c.in_ok-read_samples.ensures.samples honest_mid) in
+    let block = c.in_ok-seal_rim.ensures.heights honest (subst (λ (m : Mosaic). AreSamplesOf m c.args.corner 0 c.as_mut_slice-2.result.now) (sym same) own) in
+    subst (λ (l : List ℤ). AreHeightsOf (g.S.Samples.mosaic c.args.samples.now) c.args.corner l)
+    (sym (written_over c.in_ok-heights.heights.len c.seal_rim.new.heights _ (c.seal_rim.auto.heights ∙ long)))
+    (subst (λ (m : Mosaic). AreHeightsOf m c.args.corner c.seal_rim.new.heights) same block)
+
+pub returns-in_err-seal_rim-clause-reads : goal.returns-in_err-seal_rim-clause-reads
+returns-in_err-seal_rim-clause-reads g c =
+    let p = err_from_is_err_and c.from_residual-in_err-seal_rim.result c.from_residual-in_err-seal_rim.ensures.1 in
+    let ended : c.from_residual-in_err-seal_rim.result ≡ Err c.in_err-seal_rim.field-0.0 = p.1 ∙ ap (λ (r : Refusal). Err r) p.2 in
+    let told = c.in_ok-read_samples.ensures in
+    let read : OnlyReads {T = Unit {0}} g.S.Samples c.args.samples.now c.read_samples.new.self (Ok tt) = record {
+      refusal = tt;
+      only_device = λ _. tt;
+      ready = told.ready;
+      unready = tt;
+      answers = λ _. refl;
+      never_refuses = told.never_refuses;
+      side = told.side;
+      corners = told.corners;
+      sinks = told.sinks;
+      failures = told.failures;
+      honest = told.honest;
+      mosaic = told.mosaic;
+      keeps = told.keeps;
+    } in
+    rw ended (reads_on g.S.Samples g.met.S.Samples.keeps_on c.args.samples.now c.read_samples.new.self c.seal_rim.new.samples tt (reads_of {T = Unit {0}} (Err c.in_err-seal_rim.field-0.0)) read
+    (reads_for g.S.Samples c.read_samples.new.self c.seal_rim.new.samples (Err c.in_err-seal_rim.field-0.0) c.in_err-seal_rim.ensures.reads))

@@ -1,0 +1,6 @@
+use Rattle.std.proofs.Common.{◌≡◌, map, take}
+use Rattle.cow_tree.specs.Entries.{entry_of}
+use Rattle.cow_tree.proofs.entries.staged_entries.Given as goal
+
+abbrev pub invariant-loop-corner : goal.invariant-loop-corner
+invariant-loop-corner l = l.entries.items ≡ map entry_of (take l.corner-index l.fn.chart.staged)

@@ -1,0 +1,37 @@
+use Rattle.std.proofs.Common.{List, length, map, sym, ap, ◌∙◌, subst}
+use Rattle.lattice.specs.Corners.{Corner}
+use Rattle.page_codec.specs.Roots.{format_of}
+use Rattle.charts.specs.Charts.{ChartValue, corners_of_locations, fresh_corners}
+use Rattle.charts.specs.TileLocations.{TileLocation}
+use Rattle.cow_tree.specs.Layout.{tile_in, StoresAt}
+use Rattle.cow_tree.specs.Staged.{AreStaged}
+use Rattle.cow_tree.proofs.KeptDrops.{bared_tiles, bared_corners, bared_due, bared_still, bared_stays}
+use Rattle.cow_tree.proofs.tree.Tree.drop_kept.Goals as goal
+
+pub returns-clause-corners : goal.returns-clause-corners
+returns-clause-corners g c = ap (λ (x : ChartValue). corners_of_locations x.staged) c.drop_kept.ensures.dropped ∙ bared_corners c.args.c c.args.self.now.chart.staged
+
+pub returns-clause-staged : goal.returns-clause-staged
+returns-clause-staged g c =
+    let seen = g.D.Disk.seen c.args.self.now.roots.disk in
+    ap (λ (x : ChartValue). map (tile_in seen) x.staged) c.drop_kept.ensures.dropped ∙ bared_tiles c.args.c seen c.args.self.now.chart.staged
+
+pub returns-clause-due : goal.returns-clause-due
+returns-clause-due g c =
+    let old = c.args.self.now.chart in
+    ap (λ (x : ChartValue). length (fresh_corners x)) c.drop_kept.ensures.dropped ∙ ap (λ (cs : List Corner). length cs) (bared_due old.committed c.args.c old.staged)
+
+pub returns-clause-still_staged : goal.returns-clause-still_staged
+returns-clause-still_staged g c other = bared_still c.args.self.now.chart c.drop_kept.new.self c.args.c other c.drop_kept.ensures.dropped
+
+pub returns-clause-at : goal.returns-clause-at
+returns-clause-at g c s is =
+    let old = c.args.self.now in
+    let seen = g.D.Disk.seen old.roots.disk in
+    let dropped = c.drop_kept.ensures.dropped in
+    record {
+      ready = is.ready;
+      each = λ image may. subst (λ (tiles : List TileLocation). StoresAt (g.D.Disk.size old.roots.disk) old.roots.root tiles s image) (sym (ap (λ (x : ChartValue). x.committed) dropped)) (is.each image may);
+      staged = subst (λ (x : ChartValue). AreStaged (format_of old.root) x.committed x.staged seen) (sym dropped)
+          (bared_stays (format_of old.root) old.chart.committed c.args.c seen old.chart.staged is.staged);
+    }

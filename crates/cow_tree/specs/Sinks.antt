@@ -1,0 +1,8 @@
+-- The declared sinks that a tree holds in memory.
+use Rattle.std.specs.Prelude.{ℕ, List}
+use Rattle.lattice.specs.declared.point.Point.{Point}
+
+-- the side of the tiles, and the sinks in the order of points
+pub record SinksValue : Type 0 where
+  pub side : ℕ
+  pub points : List Point

@@ -1,0 +1,59 @@
+//! The entries by which a root names the tiles of a chart.
+ghost use Rattle.std.specs.Prelude.{◌≡◌, ◌≤◌, ◌<◌, ◌^◌, All, Contains, length, map, option_copied};
+ghost use Rattle.page_codec.specs.Entries.{IsEntry};
+ghost use Rattle.page_codec.specs.Roots.{AreInOrder};
+ghost use Rattle.charts.specs.Charts.{IsLocated};
+ghost use Rattle.charts.specs.TileLocations.{TileLocation};
+ghost use Rattle.cow_tree.specs.Entries.{entry_of, entry_of_kept};
+
+use arrayvec::ArrayVec;
+use charts::{Chart, KeptLocations};
+use lattice::Corner;
+use page_codec::{Entry, Kept, ROOT_ENTRIES};
+
+/// The entries of the staged tiles, in the order of tiles.
+pub(crate) fn staged_entries(chart: &Chart) -> ArrayVec<Entry, ROOT_ENTRIES>
+    requires fits { chart.now.sectors < 2 ^ 32 }
+    ensures value { result.items ≡ map entry_of chart.now.staged }
+    ensures each { All IsEntry result.items }
+    ensures in_order { AreInOrder result.items }
+    ensures room { length result.items ≤ chart.now.format.capacity }
+{
+    chart.rules();
+    let corners = chart.corners();
+    let mut entries = ArrayVec::new();
+    for corner in corners.as_slice() {
+        entries.push(entry_at(chart, *corner));
+    }
+    entries
+}
+
+// The entry of the corner's staged tile.
+fn entry_at(chart: &Chart, c: Corner) -> Entry
+    requires fits { chart.now.sectors < 2 ^ 32 }
+    requires present { IsLocated c chart.now.staged }
+    ensures { (t : TileLocation) → Contains chart.now.staged t → t.corner ≡ c → result ≡ entry_of t }
+{
+    chart.rules();
+    let Some(heights) = chart.heights(c) else {
+        unreachable!()
+    };
+    Entry {
+        corner: c,
+        heights: heights.record_page(),
+        kept: records_of(chart.kept(c)),
+    }
+}
+
+// The record pages of kept planes.
+fn records_of(kept: Option<&KeptLocations>) -> Option<Kept>
+    ensures { result ≡ entry_of_kept (option_copied kept.entry) }
+{
+    match kept {
+        Some(kept) => Some(Kept {
+            levels: kept.levels.record_page(),
+            labels: kept.labels.record_page(),
+        }),
+        None => None,
+    }
+}

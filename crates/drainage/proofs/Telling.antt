@@ -1,0 +1,113 @@
+-- What is known of tiles as they are told one after another.
+use Rattle.std.proofs.Common.{◌≡◌, ◌≢◌, ℕ, zero, suc, ◌+◌, ◌-◌, ◌<◌, inl, inr, ◌==◌, ℤ, true, false, not, true≢false, List, [], ◌∷◌, ◌++◌, length, get_or, refl, sym, ap, ◌∙◌, subst, arith, SFits, w16, of_z, to_z}
+use Rattle.std.specs.Prelude.{Option, Some, None, is_some, slice_set}
+use Rattle.std.proofs.lemmas.Bool.{cases_eq}
+use Rattle.std.proofs.lemmas.Bool.Decides.{eqb_tells}
+use Rattle.std.proofs.lemmas.Int.{to_z-of_z}
+use Rattle.std.proofs.lemmas.List.{get_or_default, get_or-set_other, get_or-set_same, length-set}
+use Rattle.lattice.specs.Corners.{Corner}
+use Rattle.lattice.specs.Mosaic.{Mosaic, IsMosaic, void}
+use Rattle.catalogue.specs.Sealed.{IsSealed}
+use Rattle.border_graph.specs.Summaries.{Summary}
+use Rattle.border_graph.specs.Joining.{IsSummaryOf}
+use Rattle.rising.specs.Others.{corner_at}
+use Rattle.rising.specs.TileWays.{TileWays}
+use Rattle.drainage.specs.Shores.{told_at, Fits, AreTold, AreKept}
+
+pub fits_before : (table : Mosaic) (corners : List Corner) (told : List (Option TileWays)) (table' : Mosaic) (corners' : List Corner) (told' : List (Option TileWays)) (n : ℕ) (summaries : List Summary)
+    → AreKept table corners told table' corners' told' → Fits table'.side corners' told' n summaries → Fits table.side corners told n summaries
+fits_before table corners told table' corners' told' n summaries kept fits = record {
+  mosaic = fits.mosaic;
+  is = fits.is;
+  all = fits.all;
+  whole = fits.whole;
+  same_side = fits.same_side ∙ ap (λ (s : Mosaic). s.side) kept.same_table;
+  same_corners = fits.same_corners ∙ kept.same_corners;
+  low = fits.low;
+  tells = λ t ways is. fits.tells t ways (kept.still t ways is);
+}
+
+-- a place that is told
+pub some_there : (told : List (Option TileWays)) (t : ℕ) (o : Option TileWays) → t < length told → o ≡ get_or told t o → is_some o ≡ true → (ways : TileWays) × (told_at told t ≡ Some ways)
+some_there told t o small is some = by o some (get_or_default told t None o small ∙ sym is)
+  where
+    by : (p : Option TileWays) → is_some p ≡ true → get_or told t None ≡ p → (ways : TileWays) × (told_at told t ≡ Some ways)
+    by None some is = absurd (true≢false (sym some))
+    by (Some ways) some is = (ways, is)
+
+pub none_there : (told : List (Option TileWays)) (t : ℕ) (o : Option TileWays) → t < length told → o ≡ get_or told t o → is_some o ≡ false → told_at told t ≡ None
+none_there told t o small is off = get_or_default told t None o small ∙ (sym is ∙ by o off)
+  where
+    by : (p : Option TileWays) → is_some p ≡ false → p ≡ None
+    by None off = refl
+    by (Some ways) off = absurd (true≢false off)
+
+pub some_is : (a b : TileWays) → ◌≡◌ {A = Option TileWays} (Some a) (Some b) → a ≡ b
+some_is a b e = cc
+
+pub not_both : (a : TileWays) → ◌≡◌ {A = Option TileWays} None (Some a) → ⊥
+not_both a e = cc
+
+pub none_more : (told new : List (Option TileWays)) → new ≡ told ++ None ∷ [] → ((t : ℕ) → told_at told t ≡ None) → (t : ℕ) → told_at new t ≡ None
+none_more told new is none t = ap (λ (l : List (Option TileWays)). told_at l t) is ∙ by told none t
+  where
+    by : (told : List (Option TileWays)) → ((t : ℕ) → told_at told t ≡ None) → (t : ℕ) → told_at (told ++ None ∷ []) t ≡ None
+    by [] none zero = refl
+    by [] none (suc t) = refl
+    by (o ∷ rest) none zero = none 0
+    by (o ∷ rest) none (suc t) = by rest (λ u. none (suc u)) t
+
+pub none_told : (table : Mosaic) (corners : List Corner) (told : List (Option TileWays)) → length told ≡ length corners → ((t : ℕ) → told_at told t ≡ None) → AreTold table corners told
+none_told table corners told whole none = record {
+  whole = whole;
+  sides = λ t ways is. absurd (not_both ways (sym (none t) ∙ is));
+  places = λ t ways is. absurd (not_both ways (sym (none t) ∙ is));
+  summaries = λ m mosaic sealed t ways is. absurd (not_both ways (sym (none t) ∙ is));
+}
+
+-- one tile more
+module _ (table table' : Mosaic) (corners : List Corner) (told : List (Option TileWays)) (t : ℕ) (c : Corner) (ways : TileWays) (inside : t < length told) (was : told_at told t ≡ None) (same : table' ≡ table) where
+  other_still : (u : ℕ) (w : TileWays) → told_at told u ≡ Some w → u ≢ t
+  other_still u w is equal = not_both w (sym was ∙ (ap (told_at told) (sym equal) ∙ is))
+
+  pub told_more : corner_at corners t ≡ c → ways.side ≡ table.side → ways.summary.corner ≡ c → ((m : Mosaic) → IsMosaic m → IsSealed m table → IsSummaryOf m ways.summary) → AreKept table corners told table' corners (slice_set told t (Some ways))
+  told_more place side corner summary = record {
+    same_table = same;
+    same_corners = refl;
+    still = λ u w is. get_or-set_other told t u (Some ways) None (other_still u w is) ∙ is;
+    right = λ r. record {
+      whole = length-set told t (Some ways) ∙ r.whole;
+      sides = λ u w is. elim (cases_eq u t) [
+        | inl here ↦ ap (λ (x : TileWays). x.side) (sym (this u w here is)) ∙ side
+        | inr other ↦ r.sides u w (sym (get_or-set_other told t u (Some ways) None other) ∙ is)
+      ];
+      places = λ u w is. elim (cases_eq u t) [
+        | inl here ↦ ap (λ (x : TileWays). x.summary.corner) (sym (this u w here is)) ∙ (corner ∙ (sym place ∙ ap (corner_at corners) (sym here)))
+        | inr other ↦ r.places u w (sym (get_or-set_other told t u (Some ways) None other) ∙ is)
+      ];
+      summaries = λ m mosaic sealed u w is. elim (cases_eq u t) [
+        | inl here ↦ subst (λ (x : TileWays). IsSummaryOf m x.summary) (this u w here is) (summary m mosaic sealed)
+        | inr other ↦ r.summaries m mosaic sealed u w (sym (get_or-set_other told t u (Some ways) None other) ∙ is)
+      ];
+    };
+  }
+    where
+      this : (u : ℕ) (w : TileWays) → u ≡ t → told_at (slice_set told t (Some ways)) u ≡ Some w → ways ≡ w
+      this u w here is = some_is ways w (sym (get_or-set_same told t (Some ways) None inside) ∙ (ap (told_at (slice_set told t (Some ways))) (sym here) ∙ is))
+
+-- numbers and heights as they were computed
+pub same_side : (a b : ℕ) → false ≡ not (a == b) → a ≡ b
+same_side a b h = elim (eqb_tells a b) [
+  | inl same ↦ same.1
+  | inr other ↦ absurd (true≢false (sym (h ∙ ap not other.0)))
+]
+
+pub first_is : (last a r r' s : ℕ) → last ≡ 1 + a + r → r ≡ s → r' ≡ s → (last - 1) - r' ≡ a
+first_is last a r r' s is at at' = omega arith
+
+pub is_gap : (h : ℤ) → SFits w16 h → of_z w16 h ≡ 32768 → h ≡ void
+is_gap h fits is = sym (to_z-of_z w16 h fits) ∙ ap (to_z w16) is
+
+-- no other place is told
+pub only_told : (told : List (Option TileWays)) (t : ℕ) (ways : TileWays) (u : ℕ) (w : TileWays) → u ≢ t → told_at (slice_set told t (Some ways)) u ≡ Some w → told_at told u ≡ Some w
+only_told told t ways u w other is = sym (get_or-set_other told t u (Some ways) None other) ∙ is

@@ -1,0 +1,63 @@
+-- What is known of tiles, of which each is flooded once water comes to its rim (this product's own profile, after the
+-- tiled flooding of Barnes 2016).
+use Rattle.std.specs.Prelude.{◌≡◌, ◌≢◌, ℕ, ◌+◌, ◌-◌, ◌*◌, ◌^◌, ◌<◌, ℤ, ◌≤ℤ◌, List, Option, Some, None, length, map, slice_index_or}
+use Rattle.lattice.specs.Corners.{Corner}
+use Rattle.lattice.specs.Lattice.{point_of}
+use Rattle.lattice.specs.Mosaic.{Mosaic, IsMosaic, void}
+use Rattle.lattice.specs.RimPoints.{IsRimPoint}
+use Rattle.catalogue.specs.Tiles.{corners_of}
+use Rattle.catalogue.specs.Sealed.{IsSealed}
+use Rattle.border_graph.specs.Summaries.{Summary}
+use Rattle.border_graph.specs.Joining.{summary_at, rim_point, IsSummaryOf, AreSummaries}
+use Rattle.rising.specs.Placed.{IsPlacedLink}
+use Rattle.rising.specs.TileWays.{TileWays, AreWaysOut, AreWaysAcross}
+use Rattle.rising.specs.Others.{corner_at, AreOthersTold}
+use Rattle.rising.specs.declared.ways.Way.{Way}
+
+-- what is told of the tile with this place
+abbrev pub told_at : List (Option TileWays) → ℕ → Option TileWays
+told_at told t = slice_index_or told t None
+
+-- summaries of all tiles of some mosaic, those of the tiles that are told among them
+pub record Fits (side : ℕ) (corners : List Corner) (told : List (Option TileWays)) (n : ℕ) (summaries : List Summary) : Type 0 where
+  pub mosaic : Mosaic
+  pub is : IsMosaic mosaic
+  pub all : AreSummaries mosaic summaries
+  pub whole : n ≡ mosaic.side
+  pub same_side : n ≡ side
+  pub same_corners : map (λ b. b.corner) summaries ≡ corners
+  pub low : (x y : ℕ) (level : ℤ) → IsPlacedLink n summaries x y level → void ≤ℤ level
+  pub tells : (t : ℕ) (ways : TileWays) → told_at told t ≡ Some ways → (ways.side ≡ n) × (summary_at summaries t ≡ ways.summary)
+
+-- the ways from a rim point of a tile, listed one kind after another
+pub record AreTileWays (n : ℕ) (corners : List Corner) (ways : TileWays) (t k : ℕ) (old new : List Way) : Type 0 where
+  pub side : ways.side ≡ n
+  pub first : List Way
+  pub second : List Way
+  pub out : AreWaysOut n ways.summary k old first
+  pub across : AreWaysAcross n ways.summary k (t * (4 * (n - 1))) first second
+  pub index : ℕ
+  pub rim : IsRimPoint n k index
+  pub nothing : (rim_point ways.summary k).height ≡ void → new ≡ second
+  pub others : (rim_point ways.summary k).height ≢ void → AreOthersTold n corners t (point_of n (corner_at corners t) index) (rim_point ways.summary k).height second new
+
+-- each tile that is told has the side of the table, and a summary of its corner's tile in each mosaic of which the table
+-- is the blocks
+pub record AreTold (table : Mosaic) (corners : List Corner) (told : List (Option TileWays)) : Type 0 where
+  pub whole : length told ≡ length corners
+  pub sides : (t : ℕ) (ways : TileWays) → told_at told t ≡ Some ways → ways.side ≡ table.side
+  pub places : (t : ℕ) (ways : TileWays) → told_at told t ≡ Some ways → ways.summary.corner ≡ corner_at corners t
+  pub summaries : (m : Mosaic) → IsMosaic m → IsSealed m table → (t : ℕ) (ways : TileWays) → told_at told t ≡ Some ways → IsSummaryOf m ways.summary
+
+-- all tiles of the table have their places, and each rim point its number
+pub record AreReady (table : Mosaic) (corners : List Corner) (told : List (Option TileWays)) : Type 0 where
+  pub all : corners ≡ corners_of table
+  pub room : 1 + length corners * (4 * (table.side - 1)) < 2 ^ 32
+  pub tiles : AreTold table corners told
+
+-- the table and the places stay, what was told is told still, and what is told then is as right as it was
+pub record AreKept (table : Mosaic) (corners : List Corner) (told : List (Option TileWays)) (table' : Mosaic) (corners' : List Corner) (told' : List (Option TileWays)) : Type 0 where
+  pub same_table : table' ≡ table
+  pub same_corners : corners' ≡ corners
+  pub still : (t : ℕ) (ways : TileWays) → told_at told t ≡ Some ways → told_at told' t ≡ Some ways
+  pub right : AreTold table corners told → AreTold table corners told'

@@ -1,0 +1,60 @@
+//! Images of a disk, to be changed and laid on another disk.
+use disk::{Disk, MemDisk};
+use std::alloc::Global;
+use std::test::Fail;
+
+pub(crate) type Sector = [u8; 4096];
+
+/// What reads of a disk give, sector by sector.
+#[derive(Drop)]
+pub(crate) struct Image {
+    pub(crate) sectors: Vec<Sector>,
+}
+
+/// Bytes from some place of a sector on.
+#[derive(Clone, Copy)]
+pub(crate) struct Change<'a> {
+    pub(crate) sector: u32,
+    pub(crate) at: usize,
+    pub(crate) bytes: &'a [u8],
+}
+
+impl Image {
+    /// What the disk holds.
+    pub(crate) fn of(alloc: Global, disk: &mut MemDisk) -> Result<Image, Fail> {
+        let mut sectors = Vec::new(alloc);
+        for s in 0..disk.sectors() {
+            let mut bytes = [0; 4096];
+            if s < disk.sectors() {
+                disk.read(s, &mut bytes)?;
+            }
+            sectors.push(bytes)?;
+        }
+        Ok(Image { sectors })
+    }
+
+    /// A disk that holds it, and nothing unsettled.
+    pub(crate) fn disk(&self, alloc: Global) -> Result<MemDisk, Fail> {
+        let mut disk = MemDisk::new(alloc, u32::try_from(self.sectors.len()).unwrap_or(0))?;
+        for (bytes, s) in self.sectors.iter().zip(0..u32::MAX) {
+            if s < disk.sectors() {
+                disk.write(s, bytes)?;
+            }
+        }
+        disk.sync()?;
+        Ok(disk)
+    }
+
+    /// The same image with changes, as far as it has their places.
+    pub(crate) fn with(&self, changes: &[Change]) -> Result<Image, Fail> {
+        let mut sectors = self.sectors.clone()?;
+        for change in changes {
+            if let Some(sector) = sectors.get_mut(change.sector as usize) {
+                for (byte, given) in sector.iter_mut().skip(change.at).zip(change.bytes) {
+                    *byte = *given;
+                }
+            }
+        }
+        Ok(Image { sectors })
+    }
+}

@@ -1,0 +1,249 @@
+//! What opening an image has to find: the rules of the layout, read plainly from the image's bytes.
+use crate::image::Sector;
+use lattice::{Corner, Point, Refusal};
+use std::alloc::Global;
+
+/// What a root says.
+#[derive(Drop)]
+pub(crate) struct Root {
+    pub(crate) side: u32,
+    pub(crate) capacity: u32,
+    pub(crate) commits: u64,
+    pub(crate) count: u64,
+    pub(crate) entries: Vec<Entry>,
+    pub(crate) sinks: Vec<Point>,
+}
+
+/// A tile, and the pages of its records of heights, levels and labels; 0 where there is none.
+#[derive(Clone, Copy)]
+pub(crate) struct Entry {
+    pub(crate) corner: Corner,
+    pub(crate) records: [u32; 3],
+}
+
+/// The current root of an image, or why it doesn't open.
+pub(crate) fn expected_opening(alloc: Global, image: &[Sector]) -> Result<Root, Refusal> {
+    let (Some(gate_a), Some(root_a), Some(gate_b), Some(root_b)) = (
+        image.first(),
+        image.get(1),
+        image.get(2),
+        image.get(3),
+    ) else {
+        return Err(Refusal::NotAStore);
+    };
+    let first = behind(alloc, gate_a, root_a)?;
+    let second = behind(alloc, gate_b, root_b)?;
+    let root = match (first, second) {
+        (None, None) => return Err(Refusal::NotAStore),
+        (Some(root), None) | (None, Some(root)) => root,
+        (Some(a), Some(b)) if a.commits < b.commits => b,
+        (Some(a), Some(b)) if b.commits < a.commits => a,
+        _ => return Err(Refusal::Damaged),
+    };
+    if (image.len() as u64) < sectors_asked(&root) {
+        return Err(Refusal::TooSmall);
+    }
+    check_pages(alloc, image, &root)?;
+    Ok(root)
+}
+
+// The root behind a gate, where that is open.
+fn behind(alloc: Global, gate: &Sector, root: &Sector) -> Result<Option<Root>, Refusal> {
+    if gate[0] != 0xa7 {
+        return Ok(None);
+    }
+    Ok(Some(root_of(alloc, root)?))
+}
+
+fn root_of(alloc: Global, bytes: &Sector) -> Result<Root, Refusal> {
+    if !bytes.starts_with(b"MOSAICST") {
+        return Err(Refusal::NotAStore);
+    }
+    if u32_at(bytes, 8) != 1 {
+        return Err(Refusal::Version);
+    }
+    let root = Root {
+        side: u32_at(bytes, 12),
+        capacity: u32_at(bytes, 16),
+        commits: u64_at(bytes, 24),
+        count: u64_at(bytes, 32),
+        entries: entries_of(alloc, &bytes[64..3904], u32_at(bytes, 20))?,
+        sinks: sinks_of(alloc, &bytes[3904..], u32_at(bytes, 40))?,
+    };
+    if is_zero(&bytes[44..64]) && has_good_numbers(&root) && has_good_lists(&root) {
+        Ok(root)
+    } else {
+        Err(Refusal::Damaged)
+    }
+}
+
+fn has_good_numbers(root: &Root) -> bool {
+    (3..=1201).contains(&root.side)
+        && (1..=240).contains(&root.capacity)
+        && root.entries.len() as u64 <= u64::from(root.capacity)
+        && root.count < root.commits
+        && root.sinks.len() <= 16
+}
+
+fn has_good_lists(root: &Root) -> bool {
+    root.entries.iter().all(is_entry)
+        && root
+            .entries
+            .windows(2)
+            .all(|pair| pair[0].corner < pair[1].corner)
+        && root.sinks.iter().all(|sink| is_held(root.side, *sink))
+        && root.sinks.windows(2).all(|pair| pair[0] < pair[1])
+}
+
+// The record of heights is somewhere, and those of levels and labels are both or neither.
+fn is_entry(entry: &Entry) -> bool {
+    let [heights, levels, labels] = entry.records;
+    heights != 0 && (levels == 0) == (labels == 0)
+}
+
+// Whether the tile of some corner holds the point: they cover latitudes and longitudes whole.
+fn is_held(side: u32, point: Point) -> bool {
+    let edge = i64::from(side).saturating_sub(1);
+    let (y, x) = (i64::from(point.y), i64::from(point.x));
+    y.saturating_abs() <= edge.saturating_mul(90) && x.saturating_abs() <= edge.saturating_mul(180)
+}
+
+// So many entries of 16 bytes, and zeros.
+fn entries_of(alloc: Global, bytes: &[u8], count: u32) -> Result<Vec<Entry>, Refusal> {
+    let mut entries = Vec::new(alloc);
+    for (entry, i) in bytes.chunks_exact(16).zip(0..240_u32) {
+        if i < count {
+            let corner = Corner::new(i16_at(entry, 0), i16_at(entry, 2)).ok_or(Refusal::Damaged)?;
+            let records = [u32_at(entry, 4), u32_at(entry, 8), u32_at(entry, 12)];
+            entries
+                .push(Entry { corner, records })
+                .map_err(|_| Refusal::NoMemory)?;
+        } else if !is_zero(entry) {
+            return Err(Refusal::Damaged);
+        }
+    }
+    if entries.len() as u64 == u64::from(count) {
+        Ok(entries)
+    } else {
+        Err(Refusal::Damaged)
+    }
+}
+
+// So many sinks of 8 bytes, and zeros.
+fn sinks_of(alloc: Global, bytes: &[u8], count: u32) -> Result<Vec<Point>, Refusal> {
+    let mut sinks = Vec::new(alloc);
+    for (sink, i) in bytes.chunks_exact(8).zip(0..24_u32) {
+        if i < count {
+            let y = i32_at(sink, 0);
+            let x = i32_at(sink, 4);
+            sinks.push(Point { y, x }).map_err(|_| Refusal::NoMemory)?;
+        } else if !is_zero(sink) {
+            return Err(Refusal::Damaged);
+        }
+    }
+    if sinks.len() as u64 == u64::from(count) {
+        Ok(sinks)
+    } else {
+        Err(Refusal::Damaged)
+    }
+}
+
+fn sectors_asked(root: &Root) -> u64 {
+    let planes = u64::from(root.capacity).saturating_mul(4).saturating_add(2);
+    planes
+        .saturating_mul(pages_of(root).saturating_add(1))
+        .saturating_add(4)
+}
+
+// How many pages a plane fills, at two bytes a sample.
+fn pages_of(root: &Root) -> u64 {
+    bytes_of_tile(root).div_ceil(4096)
+}
+
+pub(crate) fn bytes_of_tile(root: &Root) -> u64 {
+    let side = u64::from(root.side);
+    side.saturating_mul(side).saturating_mul(2)
+}
+
+// All pages that the root reaches are behind the roots and on the disk, and none is reached twice.
+fn check_pages(alloc: Global, image: &[Sector], root: &Root) -> Result<(), Refusal> {
+    let mut reached = Vec::new(alloc);
+    for entry in &root.entries {
+        for record in entry.records {
+            if record != 0 {
+                reached.push(record).map_err(|_| Refusal::NoMemory)?;
+                reached.extend_from_slice(&listed(alloc, image, root, record)?)?;
+            }
+        }
+    }
+    reached.sort_unstable();
+    let is_good = reached.iter().all(|page| page_at(image, *page).is_some())
+        && reached.windows(2).all(|pair| pair[0] < pair[1]);
+    if is_good {
+        Ok(())
+    } else {
+        Err(Refusal::Damaged)
+    }
+}
+
+fn page_at(image: &[Sector], page: u32) -> Option<&Sector> {
+    if page < 4 {
+        return None;
+    }
+    image.get(page as usize)
+}
+
+/// The pages that a record lists, and zeros behind them.
+pub(crate) fn listed(
+    alloc: Global,
+    image: &[Sector],
+    root: &Root,
+    record: u32,
+) -> Result<Vec<u32>, Refusal> {
+    let bytes = page_at(image, record).ok_or(Refusal::Damaged)?;
+    let mut pages = Vec::new(alloc);
+    for (number, i) in bytes.chunks_exact(4).zip(0..1024_u64) {
+        if i < pages_of(root) {
+            pages
+                .push(u32_at(number, 0))
+                .map_err(|_| Refusal::NoMemory)?;
+        } else if !is_zero(number) {
+            return Err(Refusal::Damaged);
+        }
+    }
+    Ok(pages)
+}
+
+fn is_zero(bytes: &[u8]) -> bool {
+    bytes.iter().all(|byte| *byte == 0)
+}
+
+// Numbers in bytes, the lowest byte first.
+
+fn i16_at(bytes: &[u8], at: usize) -> i16 {
+    match bytes.get(at..).and_then(|rest| rest.first_chunk()) {
+        Some(number) => i16::from_le_bytes(*number),
+        None => 0,
+    }
+}
+
+pub(crate) fn u32_at(bytes: &[u8], at: usize) -> u32 {
+    match bytes.get(at..).and_then(|rest| rest.first_chunk()) {
+        Some(number) => u32::from_le_bytes(*number),
+        None => 0,
+    }
+}
+
+fn i32_at(bytes: &[u8], at: usize) -> i32 {
+    match bytes.get(at..).and_then(|rest| rest.first_chunk()) {
+        Some(number) => i32::from_le_bytes(*number),
+        None => 0,
+    }
+}
+
+fn u64_at(bytes: &[u8], at: usize) -> u64 {
+    match bytes.get(at..).and_then(|rest| rest.first_chunk()) {
+        Some(number) => u64::from_le_bytes(*number),
+        None => 0,
+    }
+}

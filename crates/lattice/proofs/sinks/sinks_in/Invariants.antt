@@ -1,0 +1,11 @@
+use Rattle.std.proofs.Common.{◌≡◌, ◌≤◌, ◌++◌, drop}
+use Rattle.arrayvec.specs.ArrayVec.{array_vec_len}
+use Rattle.lattice.specs.Block.{sinks_in}
+use Rattle.lattice.proofs.sinks.sinks_in.Given as goal
+
+-- what is found, then what the sinks to come give, is the answer
+abbrev pub invariant-loop-sink : goal.invariant-loop-sink
+invariant-loop-sink l = record {
+  short : array_vec_len l.found ≤ l.sink-index;
+  whole : l.found.items ++ sinks_in l.side l.corner (drop l.sink-index l.sinks) ≡ sinks_in l.side l.corner l.sinks;
+}

@@ -1,0 +1,38 @@
+-- The text of an answer (this product's own profile).
+use Rattle.std.specs.Prelude.{◌≡◌, ◌⊎◌, ℕ, Bool, true, false, IsTrue, List, ◌++◌, length, codes, decimal}
+use Rattle.std.specs.Fmt.{signed_decimal}
+use Rattle.lattice.specs.declared.height.Height.TheVariants as height
+use Rattle.lattice.specs.declared.refusal.Refusal.TheVariants as refusal
+use Rattle.calls.specs.declared.event.Reply.{Reply}
+use Rattle.calls.specs.declared.event.Reply.TheVariants as reply
+use Rattle.lines.specs.Replies.{ok_line, done_text, names_line, path_text, runs_text, refusal_text}
+
+-- what is written for an answer: metres or `void` for a height, which outside is a refusal
+abbrev pub text_of : Reply → List ℕ
+text_of (reply.Done count) = ok_line (decimal count)
+text_of (reply.Elevation height.Outside) = refusal_text refusal.Outside
+text_of (reply.Elevation height.Void) = ok_line (codes "void")
+text_of (reply.Elevation (height.At metres)) = ok_line (signed_decimal metres)
+text_of (reply.Fill level) = ok_line (signed_decimal level)
+text_of (reply.Direction code) = ok_line (decimal code)
+text_of (reply.Trace path) = path_text path.items
+text_of (reply.Watershed runs) = runs_text runs.items
+text_of (reply.Export bytes) = ok_line (decimal (length bytes.items)) ++ bytes.items
+text_of (reply.Tiles corners) = names_line corners.items
+text_of (reply.Sinks points) = path_text points.items
+text_of (reply.Count count) = ok_line (decimal count)
+text_of reply.Reopened = done_text
+text_of (reply.Refused r) = refusal_text r
+
+-- whether the text of an answer takes memory
+abbrev pub takes_memory : Reply → Bool
+takes_memory (reply.Trace path) = true
+takes_memory (reply.Watershed runs) = true
+takes_memory (reply.Export bytes) = true
+takes_memory (reply.Tiles corners) = true
+takes_memory (reply.Sinks points) = true
+takes_memory answer = false
+
+-- an answer is told by its text, or by want of memory for that
+abbrev pub Tells : Reply → List ℕ → Type 0
+Tells answer text = (text ≡ text_of answer) ⊎ (IsTrue (takes_memory answer) × (text ≡ refusal_text refusal.NoMemory))

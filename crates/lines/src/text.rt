@@ -1,0 +1,215 @@
+//! What is written for a line: `OK` with a value, or `ERR` with the number and the word of a refusal. Each line of a
+//! reply ends in an LF.
+ghost use Rattle.std.specs.Prelude.{◌≡◌, ◌+◌, ◌≤◌, ℕ, List, [], ◌++◌, length, IfErr, IfOk, OnOk, OnErr, take, codes, decimal};
+ghost use Rattle.std.specs.Io.KnownBytes.{Appends};
+ghost use Rattle.lines.specs.Replies.{ok_line, done_text, names_line, path_text, refusal_text, runs_text};
+
+use crate::lists::{extend_names, extend_points, extend_runs, point_count};
+use arrayvec::ArrayVec;
+use itoa::{Buffer, Integer};
+use lattice::{Corner, Point, Refusal};
+use std::alloc::{AllocError, Global};
+use std::io::Write;
+use std::marker::Model;
+use watershed::Run;
+
+/// Room for `OK`, a number and an LF, and for `ERR`, a refusal and an LF.
+const LONGEST_LINE: usize = 64;
+
+/// The text of a reply, made whole before any of it is written.
+///
+/// One line of a bounded length needs no memory; `bytes`, `names`, `path` and `runs` do.
+#[derive(Drop)]
+pub struct Text {
+    held: Held,
+}
+
+/// Where a text is held.
+#[derive(Drop)]
+enum Held {
+    Short(ArrayVec<u8, LONGEST_LINE>),
+    Long(Vec<u8>),
+}
+
+impl Model for Text {
+    ghost use Rattle.std.specs.Prelude.{ℕ, List};
+    ghost use Rattle.lines.specs.Replies.{reply_code};
+
+    ghost Value = { List ℕ };
+
+    ghost coded = { reply_code };
+
+    ghost use Rattle.lines.specs.Held.{held_in};
+
+    ghost view = { λ t. held_in t.held };
+}
+
+impl Held {
+    ghost use Rattle.lines.specs.Held.{held_in};
+
+    fn as_slice(&self) -> &[u8]
+        ensures { result.now ≡ held_in self.now }
+    {
+        match self {
+            Held::Short(line) => line.as_slice(),
+            Held::Long(text) => text.as_slice(),
+        }
+    }
+}
+
+impl Text {
+    /// `OK` alone.
+    pub fn done() -> Text
+        ensures { result ≡ done_text }
+    {
+        Text::line(joined(b"OK", b"", b"\n"))
+    }
+
+    /// `OK` and a number.
+    pub fn number<I: Integer>(number: I) -> Text
+        ensures { result ≡ ok_line (I.text number) }
+    {
+        let mut buffer = Buffer::new();
+        let digits = buffer.format(number).as_bytes();
+        Text::line(joined(b"OK ", digits, b"\n"))
+    }
+
+    /// `OK void`, the height of a point that is void.
+    pub fn void() -> Text
+        ensures { result ≡ ok_line (codes "void") }
+    {
+        Text::line(joined(b"OK ", b"void", b"\n"))
+    }
+
+    /// `ERR`, the refusal's number and its word.
+    pub fn refused(refusal: Refusal) -> Text
+        ensures { result ≡ refusal_text refusal }
+    {
+        let mut buffer = Buffer::new();
+        let number = buffer.format(refusal.number()).as_bytes();
+        let mut line = joined(b"ERR ", number, b" ");
+        extend(&mut line, refusal.word().as_bytes());
+        extend(&mut line, b"\n");
+        Text::line(line)
+    }
+
+    /// `OK`, the number of bytes, and the bytes themselves, with no LF after them.
+    pub fn bytes(alloc: Global, bytes: &[u8]) -> Result<Text, AllocError>
+        ensures { IfOk result (λ r. r ≡ ok_line (decimal (length bytes.now)) ++ bytes.now) }
+    {
+        let mut buffer = Buffer::new();
+        let count = buffer.format(bytes.len()).as_bytes();
+        let head = joined(b"OK ", count, b"\n");
+        let mut text = Vec::with_capacity(alloc, head.len() + bytes.len())?;
+        text.extend_from_slice(head.as_slice())?;
+        text.extend_from_slice(bytes)?;
+        Ok(Text::lines(text))
+    }
+
+    /// `OK`, the number of tiles, and their names.
+    pub fn names(alloc: Global, corners: &[Corner]) -> Result<Text, AllocError>
+        ensures { IfOk result (λ r. r ≡ names_line corners.now) }
+    {
+        let mut buffer = Buffer::new();
+        let count = buffer.format(corners.len()).as_bytes();
+        let head = joined(b"OK ", count, b"");
+        let mut text = Vec::from_slice(alloc, head.as_slice())?;
+        extend_names(&mut text, corners)?;
+        text.push(b'\n')?;
+        Ok(Text::lines(text))
+    }
+
+    /// `OK` and the number of points, then a line `y x` for each.
+    pub fn path(alloc: Global, points: &[Point]) -> Result<Text, AllocError>
+        ensures { IfOk result (λ r. r ≡ path_text points.now) }
+    {
+        let mut buffer = Buffer::new();
+        let count = buffer.format(points.len()).as_bytes();
+        let head = joined(b"OK ", count, b"\n");
+        let mut text = Vec::from_slice(alloc, head.as_slice())?;
+        extend_points(&mut text, points)?;
+        Ok(Text::lines(text))
+    }
+
+    /// `OK`, the number of the runs' points and that of the runs, then a line `y first last` for each run.
+    pub fn runs(alloc: Global, runs: &[Run]) -> Result<Text, AllocError>
+        ensures { IfOk result (λ r. r ≡ runs_text runs.now) }
+    {
+        let mut points = Buffer::new();
+        let mut count = Buffer::new();
+        let mut text = Vec::from_slice(alloc, b"OK ")?;
+        text.extend_from_slice(points.format(point_count(runs)).as_bytes())?;
+        text.push(b' ')?;
+        text.extend_from_slice(count.format(runs.len()).as_bytes())?;
+        text.push(b'\n')?;
+        extend_runs(&mut text, runs)?;
+        Ok(Text::lines(text))
+    }
+
+    fn line(line: ArrayVec<u8, LONGEST_LINE>) -> Text
+        ensures { result ≡ line.items }
+    {
+        Text {
+            held: Held::Short(line),
+        }
+    }
+
+    fn lines(text: Vec<u8>) -> Text
+        ensures { result ≡ text.items }
+    {
+        Text {
+            held: Held::Long(text),
+        }
+    }
+}
+
+/// Three parts as one line.
+fn joined(first: &[u8], second: &[u8], third: &[u8]) -> ArrayVec<u8, LONGEST_LINE>
+    requires { length first.now + length second.now + length third.now ≤ LONGEST_LINE }
+    ensures { result.items ≡ first.now ++ second.now ++ third.now }
+{
+    let mut line = ArrayVec::new();
+    extend(&mut line, first);
+    extend(&mut line, second);
+    extend(&mut line, third);
+    line
+}
+
+/// The line goes on by these bytes, for which it has room.
+fn extend(line: &mut ArrayVec<u8, LONGEST_LINE>, more: &[u8])
+    requires { length line.old.items + length more.now ≤ LONGEST_LINE }
+    ensures { line.new.items ≡ line.old.items ++ more.now }
+{
+    let _ = line.try_extend_from_slice(more);
+}
+
+/// A write failed, or took no byte.
+#[derive(Clone, Copy, Debug, PartialEq, Eq)]
+pub struct WriteFault;
+
+impl Text {
+    /// Writes the text, by one call of `write` where the writer takes it whole. After a fault a beginning of it was
+    /// written.
+    pub fn write<W: Write>(&self, writer: &mut W) -> Result<(), WriteFault>
+        ensures ok { OnOk result (Appends (W.contents writer.old) (W.contents writer.new) self.now) }
+        ensures err { OnErr result ((n : ℕ) × Appends (W.contents writer.old) (W.contents writer.new) (take n self.now)) }
+    {
+        write_bytes(writer, self.held.as_slice())
+    }
+}
+
+/// Writes all the bytes. After a fault a beginning of them was written.
+pub fn write_bytes<W: Write>(writer: &mut W, bytes: &[u8]) -> Result<(), WriteFault>
+    ensures ok { OnOk result (Appends (W.contents writer.old) (W.contents writer.new) bytes.now) }
+    ensures err { OnErr result ((n : ℕ) × Appends (W.contents writer.old) (W.contents writer.new) (take n bytes.now)) }
+{
+    let mut at = 0;
+    while at < bytes.len() {
+        match writer.write(&bytes[at..]) {
+            Ok(0) => return Err(WriteFault),
+            Ok(count) => at += count,
+            Err(_) => return Err(WriteFault),
+        }
+    }
+    Ok(())
+}

@@ -1,0 +1,39 @@
+use Rattle.std.proofs.Common.{◌≡◌, ap, ◌∙◌, subst}
+use Rattle.disk.specs.Memory.{MayLeave}
+use Rattle.disk.specs.MemDisk.{state_of, sectors_of}
+use Rattle.disk.specs.declared.memory.MemDisk.{MemDisk}
+use Rattle.calls.specs.Runs.{last_of}
+use Rattle.calls.specs.State.{State}
+use Rattle.store.specs.Stores.{disk_of, side_of, capacity_of}
+use Rattle.memory_store.proofs.Cuts.{ends_in, left_by_cut, comes_back, doubted_or_known}
+use Rattle.memory_store.proofs.power_cut.run_through_power_cut.Goals as goal
+
+pub returns-in-Ok-clause-survives : goal.returns-in-Ok-clause-survives
+returns-in-Ok-clause-survives c s at =
+    let store = c.args.store in
+    let new = c.run.new.self in
+    let ran = c.in_ok-run.ensures.ran in
+    let done = ends_in store new c.args.events.now ran.0 ran.2 tt s at in
+    let t : State = last_of s done.states in
+    let behind : c.into_inner-disk.result ≡ (disk_of new).inner = c.into_inner-disk.ensures ∙ ap (λ d. d.inner) c.into_disk.ensures in
+    let size : sectors_of c.stop.new.self ≡ sectors_of (disk_of new).inner = c.stop.ensures.sectors ∙ ap sectors_of behind in
+    let each = left_by_cut _ (MayLeave (state_of c.stop.new.self)) (sectors_of (disk_of new).inner) (sectors_of c.stop.new.self) (side_of new) (capacity_of new) t done.at.at.images size
+    (λ image left. subst (λ (disk : MemDisk). MayLeave (state_of disk) image) behind (c.stop.ensures.may image left)) in
+    let opens = c.in-Ok.ensures.at tt (side_of new) (capacity_of new) t.contents (doubted_or_known t) each in (
+      ran.0,
+      ran.1,
+      record { states = done.states; run = done.run; back = comes_back c.in-Ok.opened t opens.1.1; same_side = opens.0 ∙ done.side; same_capacity = opens.1.0 ∙ done.capacity },
+    )
+
+pub returns-in-Err-clause-sure : goal.returns-in-Err-clause-sure
+returns-in-Err-clause-sure c s at =
+    let store = c.args.store in
+    let new = c.run.new.self in
+    let ran = c.in_ok-run.ensures.ran in
+    let done = ends_in store new c.args.events.now ran.0 ran.2 tt s at in
+    let t : State = last_of s done.states in
+    let behind : c.into_inner-disk.result ≡ (disk_of new).inner = c.into_inner-disk.ensures ∙ ap (λ d. d.inner) c.into_disk.ensures in
+    let size : sectors_of c.stop.new.self ≡ sectors_of (disk_of new).inner = c.stop.ensures.sectors ∙ ap sectors_of behind in
+    let each = left_by_cut _ (MayLeave (state_of c.stop.new.self)) (sectors_of (disk_of new).inner) (sectors_of c.stop.new.self) (side_of new) (capacity_of new) t done.at.at.images size
+    (λ image left. subst (λ (disk : MemDisk). MayLeave (state_of disk) image) behind (c.stop.ensures.may image left)) in
+    c.in-Err.ensures.sure tt (side_of new) (capacity_of new) t.contents (doubted_or_known t) each

@@ -1,0 +1,39 @@
+//! A store on a disk in memory.
+ghost use Rattle.std.specs.Prelude.{◌≡◌, ◌≤◌, ◌⊎◌, IfOk, IfErr};
+ghost use Rattle.disk.specs.MemDisk.{sectors_of};
+ghost use Rattle.lattice.specs.declared.refusal.Refusal.TheVariants.{Device, NoMemory};
+ghost use Rattle.layout.specs.Sizes.{sectors_of as sectors_needed};
+ghost use Rattle.calls.specs.State.{fresh, working};
+ghost use Rattle.store.specs.Stores.{disk_of, side_of, capacity_of, IsAt};
+
+use disk::{Disk, MemDisk};
+use lattice::Refusal;
+use std::alloc::Global;
+use store::Store;
+
+/// A new store on a new disk in memory of so many sectors, formatted and opened. Such a disk is honest, so that what is
+/// promised of an honest disk holds of it.
+pub fn store_in_memory(
+    alloc: Global,
+    sectors: u32,
+    side: u32,
+    capacity: u32,
+) -> Result<Store<MemDisk>, Refusal>
+    ensures fresh { IfOk result (λ store. IsAt ⟦<MemDisk as Disk>⟧ store (working (fresh side))) }
+    ensures side { IfOk result (λ store. side_of store ≡ side) }
+    ensures capacity { IfOk result (λ store. capacity_of store ≡ capacity) }
+    ensures sectors { IfOk result (λ store. sectors_of (disk_of store) ≡ sectors) }
+
+    // Where there is room, it is refused only for want of memory, of its own or of the disk's.
+    ensures sure { 3 ≤ side → side ≤ 1201 → 1 ≤ capacity → capacity ≤ 240 → sectors_needed side capacity ≤ sectors
+        → IfErr result (λ r. (r ≡ Device) ⊎ (r ≡ NoMemory)) }
+{
+    let Ok(mut disk) = MemDisk::new(alloc, sectors) else {
+        return Err(Refusal::NoMemory);
+    };
+    Store::format(&mut disk, side, capacity)?;
+    match Store::open(alloc, disk) {
+        Ok(store) => Ok(store),
+        Err(not_opened) => Err(not_opened.refusal),
+    }
+}

@@ -1,0 +1,5 @@
+use Rattle.std.proofs.Common.{[]}
+use Rattle.mosaic.proofs.main.Given as goal
+
+abbrev pub ghost-program : goal.ghost-program
+ghost-program a = λ n k. []

@@ -1,0 +1,68 @@
+//! Where ways come from.
+ghost use Rattle.std.specs.Prelude.{◌≡◌, ◌<◌, ◌≤ℤ◌, ◌⊎◌, ℕ, ℤ, List, [], IfOk, IfErr, MatchOption};
+ghost use Rattle.lattice.specs.Mosaic.{void};
+ghost use Rattle.lattice.specs.declared.refusal.Refusal.{Refusal};
+ghost use Rattle.border_graph.specs.Links.{IsJoinedLevel};
+ghost use Rattle.border_graph.specs.Summaries.{Summary};
+ghost use Rattle.rising.specs.Answers.{AreWays};
+ghost use Rattle.rising.specs.Placed.{IsPlacedLink, IsOfTile};
+
+use lattice::Refusal;
+use std::alloc::Global;
+
+/// A way from a node: to which node it leads, and at which level, in metres.
+#[derive(Clone, Copy, Debug, PartialEq, Eq)]
+pub struct Way {
+    pub level: i16,
+    pub to: u32,
+}
+
+/// The links between the rim points of all tiles, asked for node by node. Node 0 is the outlet node: a way to it says that
+/// the node is an outlet, and at which level. The others are the rim points, from 1, tile by tile and by rim number.
+///
+/// A tile has many valid labellings, so that its summary isn't known before it was made. So what is answered is said of
+/// each list of summaries of all tiles that agrees with what is known so far.
+pub trait Ways {
+    /// The summaries of all tiles, of this side, agree with what is known.
+    ghost fits: { Self → ℕ → List Summary → Type 0 };
+
+    /// What calls keep, whatever they answer: the new may have come from the old by calls alone.
+    ghost keeps: { Self → Self → Type 0 };
+
+    /// The tiles that were asked for, by their place.
+    ghost told: { Self → ℕ → Type 0 };
+
+    /// Calls that led from the old to the new may have been refused so.
+    ghost refuses: { Self → Self → Refusal → Type 0 };
+
+    /// All ways from the node, into the empty list, and None. Or, where it is known already, the node's least level over
+    /// the whole graph: the list then means nothing.
+    fn ways_from(
+        &mut self,
+        alloc: Global,
+        node: u32,
+        into: &mut Vec<Way>,
+    ) -> Result<Option<i16>, Refusal>
+        requires node { 0 < node }
+        requires empty { into.old.items ≡ [] }
+        ensures answer { (n : ℕ) (summaries : List Summary) → fits self.new n summaries
+            → IfOk result (λ known. MatchOption known (AreWays (IsPlacedLink n summaries) node into.new.items) (IsJoinedLevel (IsPlacedLink n summaries) 0 node)) }
+        ensures refusal { IfErr result (refuses self.old self.new) }
+        ensures told { (n : ℕ) (summaries : List Summary) → fits self.new n summaries → (t : ℕ) → told self.new t → told self.old t ⊎ IsOfTile n t node }
+
+        // What agrees with all that is known then agreed with what was known before.
+        ensures fits { (n : ℕ) (summaries : List Summary) → fits self.new n summaries → fits self.old n summaries }
+        ensures keeps { keeps self.old self.new };
+
+    /// No level is below the void.
+    ghost levels_fit: { (s : Self) (n : ℕ) (summaries : List Summary) (x y : ℕ) (level : ℤ) → fits s n summaries → IsPlacedLink n summaries x y level → void ≤ℤ level };
+
+    /// To do nothing keeps it.
+    ghost keeps_itself: { (s : Self) → keeps s s };
+
+    /// Calls one after another keep it.
+    ghost keeps_on: { (a b c : Self) → keeps a b → keeps b c → keeps a c };
+
+    /// A refusal in the last of several calls is one in all of them.
+    ghost refuses_on: { (a b c : Self) (r : Refusal) → keeps a b → refuses b c r → refuses a c r };
+}

@@ -1,0 +1,40 @@
+use Rattle.std.proofs.Common.{ℕ, List, inl, inr, sym, subst}
+use Rattle.edits.specs.declared.command.Command.TheVariants.{Import}
+use Rattle.server.specs.OnDisks.{HasApplied, IsTileRead, given_by}
+use Rattle.server.proofs.OnStores.{IsOpened, has_applied}
+use Rattle.server.proofs.disks.import_tile.Goals as goal
+
+pub returns-in-Err : goal.returns-in-Err
+returns-in-Err g c =
+    inl (
+      c.in-Err.refused.refusal,
+      record {
+        read = record { size = c.in-Err.ensures.size; writes = c.in-Err.ensures.writes; later = c.in-Err.ensures.later; nothing = c.in-Err.ensures.nothing };
+        device = c.in-Err.ensures.device;
+        reason = c.in-Err.ensures.refused;
+        sure = c.in-Err.ensures.sure;
+      },
+      (c.refuse.ensures.line, c.refuse.ensures.status),
+    )
+
+pub returns : goal.returns
+returns g c =
+    let opened : IsOpened g.D.Disk c.args.disk c.in-Ok.store = record {
+      size = c.in-Ok.ensures.size;
+      writes = c.in-Ok.ensures.writes;
+      later = c.in-Ok.ensures.later;
+      nothing = c.in-Ok.ensures.nothing;
+      works = c.in-Ok.ensures.works;
+      at = c.in-Ok.ensures.at;
+    } in
+    let bytes = c.new-bytes.result in
+    let read = subst (λ (b : List ℕ). IsTileRead c.tile_side.result (given_by g.R.Read.remaining c.args.reader) b) (sym c.new-bytes.ensures) c.in-Ok-read_tile.ensures in
+    let applied = has_applied g.D.Disk c.args.disk c.in-Ok.store c.apply-applied.new.self (Import c.args.corner bytes) c.apply-applied.result opened c.apply-applied.ensures in
+    inr (inr (inr (
+      c.tile_side.result,
+      bytes,
+      c.apply-applied.result,
+      read,
+      subst (λ d. HasApplied g.D.Disk c.args.disk d (Import c.args.corner bytes) c.apply-applied.result) (sym c.into_disk-2.ensures) applied,
+      c.end_command.ensures,
+    )))

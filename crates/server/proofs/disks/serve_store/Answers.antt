@@ -1,0 +1,43 @@
+use Rattle.std.proofs.Common.{inl, inr, refl, sym, ◌∙◌, ap, subst}
+use Rattle.store.specs.Stores.{disk_of}
+use Rattle.server.specs.OnDisks.{HasServed}
+use Rattle.server.proofs.OnStores.{IsOpened, has_served}
+use Rattle.server.proofs.disks.serve_store.Goals as goal
+
+pub returns-in-Err : goal.returns-in-Err
+returns-in-Err g c =
+    inl (
+      refl,
+      (
+        c.in-Err.refused.refusal,
+        record {
+          read = record { size = c.in-Err.ensures.size; writes = c.in-Err.ensures.writes; later = c.in-Err.ensures.later; nothing = c.in-Err.ensures.nothing };
+          device = c.in-Err.ensures.device;
+          reason = c.in-Err.ensures.refused;
+          sure = c.in-Err.ensures.sure;
+        },
+        (c.refuse.ensures.line, c.refuse.ensures.status),
+      ),
+    )
+
+pub returns : goal.returns
+returns g c =
+    let opened : IsOpened g.D.Disk c.args.disk c.in-Ok.store = record {
+      size = c.in-Ok.ensures.size;
+      writes = c.in-Ok.ensures.writes;
+      later = c.in-Ok.ensures.later;
+      nothing = c.in-Ok.ensures.nothing;
+      works = c.in-Ok.ensures.works;
+      at = c.in-Ok.ensures.at;
+    } in
+    let (stores, (last, serves)) = c.serve-served.ensures in
+    let served = has_served g.D.Disk c.args.disk c.in-Ok.store stores (g.R.Read.remaining c.args.reader.now) (g.R.Read.remaining c.serve-served.new.reader) (g.W.Write.contents c.args.writer.now)
+    (g.W.Write.contents c.serve-served.new.writer) c.serve-served.result opened serves.told serves.honest serves.failures
+    (λ honest s at. let run = serves.states honest s at in (run.0, (run.1.outcome, run.1.later))) in
+    inr (
+      c.serve-served.result,
+      g.W.Write.contents c.serve-served.new.writer,
+      subst (λ d. HasServed g.D.Disk c.args.disk d (g.R.Read.remaining c.args.reader.now) (g.R.Read.remaining c.serve-served.new.reader) (g.W.Write.contents c.args.writer.now) (g.W.Write.contents c.serve-served.new.writer) c.serve-served.result)
+          (ap disk_of last ∙ sym c.into_disk.ensures) served,
+      c.end_session.ensures,
+    )

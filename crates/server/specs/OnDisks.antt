@@ -1,0 +1,158 @@
+-- What a subcommand does on the disk of a store: what it finds there, what it does, and what a stop (a power cut) at any
+-- moment leaves (this product's own profile).
+use Rattle.std.specs.Prelude.{◌≡◌, ◌⊎◌, ◌≤◌, ◌+◌, ◌*◌, ℕ, Bool, false, List, [], ◌∷◌, codes, ◌++◌, take, Option, Some, None, IfSome, Result, Ok, Err, IsErrOf, OnOk, IfOk}
+use Rattle.disk.specs.Disk.{Image, HasRisen}
+use Rattle.disk.specs.Stops.{AddsNothing}
+use Rattle.disk.specs.declared.disk.Disk.{Ghosts}
+use Rattle.lattice.specs.Corners.{Corner}
+use Rattle.lattice.specs.declared.refusal.Refusal.{Refusal}
+use Rattle.lattice.specs.declared.refusal.Refusal.TheVariants.{Device, NoMemory}
+use Rattle.edits.specs.declared.command.Command.{Command}
+use Rattle.edits.specs.declared.command.Command.TheVariants.{Import}
+use Rattle.calls.specs.Events.{Happens}
+use Rattle.calls.specs.Outcomes.{Applies}
+use Rattle.calls.specs.Runs.{last_of}
+use Rattle.calls.specs.State.{Contents, State, working, fresh}
+use Rattle.calls.specs.Told.{IsTold}
+use Rattle.cow_tree.specs.Trees.{MayRefuse}
+use Rattle.serving.specs.Answers.{Replied}
+use Rattle.serving.specs.Promises.{side_in}
+use Rattle.serving.specs.Served.{Outcome}
+use Rattle.serving.specs.declared.session.ServeFault.{ServeFault}
+use Rattle.store.specs.Standing.{StandsFor}
+use Rattle.store.specs.StoreState.{StandsForOne}
+use Rattle.server.specs.Endings.{EndsAnswering, EndsSession, Tells, TellsRefusal, count_line}
+use Rattle.server.specs.Report.{IsReportText, Reports}
+
+-- the bytes that a reader has, if there is one and they are known
+abbrev pub given_by : {R : Type 0} → (R → Option (List ℕ)) → Option R → Option (List ℕ)
+given_by remaining None = None
+given_by remaining (Some reader) = remaining reader
+
+-- what is taken of a tile's file: as much as a tile has, and one byte more where there are more
+abbrev pub IsTileRead : (side : ℕ) → (given : Option (List ℕ)) → List ℕ → Type 0
+IsTileRead side given bytes = IfSome given (λ all. bytes ≡ take (2 * (side * side) + 1) all)
+
+module _ {D : Type 0} (g : Ghosts D) where
+  -- each image that a stop may leave stands for one of two contents, as after a stop inside a commit
+  abbrev pub StandsForEither : D → (side capacity : ℕ) → (a b : Contents) → Image → Type 0
+  StandsForEither disk side capacity a b image = StandsFor (g.size disk) side capacity image a ⊎ StandsFor (g.size disk) side capacity image b
+
+  abbrev pub HoldsEither : D → (side capacity : ℕ) → (a b : Contents) → Type 0
+  HoldsEither disk side capacity a b = (image : Image) → g.may disk image → StandsForEither disk side capacity a b image
+
+  -- it was read at most
+  pub record WasRead (old new : D) : Type 0 where
+    pub size : g.size new ≡ g.size old
+    pub writes : g.writes new ≡ g.writes old
+    pub later : g.failures old ≤ g.failures new
+    pub nothing : g.honest new → AddsNothing g old new
+
+  -- It can't be opened as a store, for this reason.
+  pub record IsClosed (old new : D) (r : Refusal) : Type 0 where
+    pub read : WasRead old new
+    pub device : r ≡ Device → HasRisen (g.failures old) (g.failures new)
+    pub reason : g.honest new → MayRefuse (g.size old) (g.seen old) r
+    -- a store is refused only for the disk or for memory
+    pub sure : g.honest new → (side capacity : ℕ) (a b : Contents) → HoldsEither old side capacity a b → (r ≡ Device) ⊎ (r ≡ NoMemory)
+
+  -- nothing was done but to tell why
+  abbrev pub TellsClosed : D → D → Option (List ℕ) → Option (List ℕ) → ℕ → Type 0
+  TellsClosed old new written now status = (r : Refusal) × IsClosed old new r × TellsRefusal r written now status
+
+  -- The store was found at one of the two contents and went from there through these states, of which the last is what
+  -- the disk holds now.
+  pub record GoesFrom (old new : D) (side capacity : ℕ) (a b first : Contents) (states : List State) : Type 0 where
+    pub size : g.size new ≡ g.size old
+    pub found : (first ≡ a) ⊎ (first ≡ b)
+    -- a stop at any moment
+    pub any_moment : (image : Image) → g.since new (g.moment old) image
+        → StandsForEither new side capacity a b image ⊎ StandsForOne (g.size new) side capacity (working first ∷ states) image
+    pub ends : (image : Image) → g.may new image → StandsForOne (g.size new) side capacity (last_of (working first) states ∷ []) image
+
+  -- ---- serving lines
+
+  -- since these moments of the disk a stop leaves the contents of these states or of later ones, or the commit that was in
+  -- doubt then
+  abbrev pub LeavesLater : D → (side capacity : ℕ) → List ℕ → List State → Type 0
+  LeavesLater disk side capacity [] [] = Unit {0}
+  LeavesLater disk side capacity (t ∷ moments) (s ∷ states) =
+      ((image : Image) → g.since disk t image → StandsForOne (g.size disk) side capacity (s ∷ states) image) × LeavesLater disk side capacity moments states
+  LeavesLater disk side capacity _ _ = ⊥
+
+  -- The replies are right in the states that the store went through, and what was told stays: since the moment at which
+  -- an item was answered a stop leaves the state after it or a later one.
+  pub record IsSession (old new : D) (side capacity : ℕ) (before after written now : Option (List ℕ)) (result : Result (Unit {0}) ServeFault) (a b : Contents) : Type 0 where
+    pub first : Contents
+    pub states : List State
+    pub goes : GoesFrom old new side capacity a b first states
+    pub outcome : Outcome (Replied (Happens capacity) side_in) before after written now (working first) states result
+    pub opened : ℕ
+    pub moments : List ℕ
+    pub later : LeavesLater new side capacity (opened ∷ moments) (working first ∷ states)
+
+  pub record HasServed (old new : D) (before after written now : Option (List ℕ)) (result : Result (Unit {0}) ServeFault) : Type 0 where
+    pub later : g.failures old ≤ g.failures new
+    pub honest : g.honest new → g.honest old
+    -- on any disk: what each reply tells of whether the store has failed
+    pub side : ℕ
+    pub fails : List Bool
+    pub told : Outcome (Replied IsTold (λ _. side)) before after written now false fails result
+    -- on an honest one that holds a store
+    pub session : g.honest new → (n capacity : ℕ) (a b : Contents) → HoldsEither old n capacity a b → IsSession old new n capacity before after written now result a b
+
+  -- lines are served on the disk's store, where there is one
+  abbrev pub ServesLines : D → D → (before after written now : Option (List ℕ)) → ℕ → Type 0
+  ServesLines old new before after written now status =
+      ((after ≡ before) × TellsClosed old new written now status)
+      ⊎ ((result : Result (Unit {0}) ServeFault) × (mid : Option (List ℕ)) × HasServed old new before after written mid result × EndsSession result mid now status)
+
+  -- ---- one command
+
+  -- the command was applied where the store was found
+  pub record IsApplied (old new : D) (side capacity : ℕ) (command : Command) (result : Result ℕ Refusal) (a b : Contents) : Type 0 where
+    pub first : Contents
+    pub left : State
+    pub goes : GoesFrom old new side capacity a b first (left ∷ [])
+    pub applies : Applies capacity (working first) command result left
+
+  pub record HasApplied (old new : D) (command : Command) (result : Result ℕ Refusal) : Type 0 where
+    pub later : g.failures old ≤ g.failures new
+    pub device : IsErrOf result Device → HasRisen (g.failures old) (g.failures new)
+    pub honest : g.honest new → g.honest old
+    pub applied : g.honest new → (side capacity : ℕ) (a b : Contents) → HoldsEither old side capacity a b → IsApplied old new side capacity command result a b
+
+  -- the tile is imported, where there is a store and the tile's file can be read
+  abbrev pub ImportsTile : Corner → (tile : List ℕ) → (given : Option (List ℕ)) → D → D → (written now : Option (List ℕ)) → ℕ → Type 0
+  ImportsTile corner tile given old new written now status =
+      TellsClosed old new written now status
+      ⊎ (WasRead old new × Tells (codes "mosaic: cannot read " ++ tile) written now status)
+      ⊎ (WasRead old new × TellsRefusal NoMemory written now status)
+      ⊎ ((side : ℕ) × (bytes : List ℕ) × (result : Result ℕ Refusal) × IsTileRead side given bytes × HasApplied old new (Import corner bytes) result
+      × EndsAnswering count_line result written now status)
+
+  -- ---- making a store, and reporting on it
+
+  pub record HasFormatted (old new : D) (side capacity : ℕ) (result : Result (Unit {0}) Refusal) : Type 0 where
+    pub size : g.size new ≡ g.size old
+    pub later : g.failures old ≤ g.failures new
+    pub device : IsErrOf result Device → HasRisen (g.failures old) (g.failures new)
+    pub honest : g.honest new → g.honest old
+    pub formatted : g.honest new → OnOk result ((image : Image) → g.may new image → StandsFor (g.size new) side capacity image (fresh side))
+
+  -- the disk is made a store without tiles
+  abbrev pub MakesStore : (side capacity : ℕ) → D → D → (written now : Option (List ℕ)) → ℕ → Type 0
+  MakesStore side capacity old new written now status =
+      (result : Result (Unit {0}) Refusal) × HasFormatted old new side capacity result × EndsAnswering (λ _. count_line 0) result written now status
+
+  pub record HasReported (old new : D) (result : Result (List ℕ) Refusal) : Type 0 where
+    pub read : WasRead old new
+    pub lines : IfOk result IsReportText
+    pub report : g.honest new → (side capacity : ℕ) (a b : Contents) → HoldsEither old side capacity a b
+        → (first : Contents) × (((first ≡ a) ⊎ (first ≡ b)) × ((left : State) × Reports (working first) result left))
+
+  -- the store is reported on, where there is one
+  abbrev pub ChecksStore : D → D → (written now : Option (List ℕ)) → ℕ → Type 0
+  ChecksStore old new written now status =
+      TellsClosed old new written now status
+      ⊎ ((result : Result (List ℕ) Refusal) × HasReported old new result × EndsAnswering (λ text. text) result written now status)

@@ -1,0 +1,27 @@
+-- Why there is no disk at a path (this product's own profile).
+use Rattle.std.specs.Prelude.{◌≡◌, ◌⊎◌, ◌<◌, ◌≤◌, ℕ, List, ◌++◌, codes, Option}
+use Rattle.lattice.specs.Limits.{most_tiles}
+use Rattle.lattice.specs.declared.refusal.Refusal.TheVariants.{BadSide, BadCapacity}
+use Rattle.server.specs.Endings.{Tells, TellsRefusal}
+use Rattle.server.specs.declared.files.PathFault.{PathFault}
+use Rattle.server.specs.declared.files.PathFault.TheVariants.{Refused, Exists, Closed}
+
+-- a store of this side and capacity is made
+pub record IsTaken (side capacity : ℕ) : Type 0 where
+  pub side_low : 3 ≤ side
+  pub side_high : side ≤ 1201
+  pub capacity_low : 1 ≤ capacity
+  pub capacity_high : capacity ≤ most_tiles
+
+-- no file of a store is made: the side is tested first, then the capacity, then the path
+abbrev pub MakesNone : (side capacity : ℕ) → PathFault → Type 0
+MakesNone side capacity fault =
+    (((side < 3) ⊎ (1201 < side)) × (fault ≡ Refused BadSide))
+    ⊎ ((3 ≤ side) × (side ≤ 1201) × ((capacity < 1) ⊎ (most_tiles < capacity)) × (fault ≡ Refused BadCapacity))
+    ⊎ (IsTaken side capacity × ((fault ≡ Exists) ⊎ (fault ≡ Closed)))
+
+-- a line tells why
+abbrev pub TellsFault : (path : List ℕ) → PathFault → (written new : Option (List ℕ)) → ℕ → Type 0
+TellsFault path (Refused r) written new status = TellsRefusal r written new status
+TellsFault path Exists written new status = Tells (codes "mosaic: exists " ++ path) written new status
+TellsFault path Closed written new status = Tells (codes "mosaic: cannot open " ++ path) written new status

@@ -1,0 +1,88 @@
+-- What the program does with its words: what it writes, what it does on a store's file, and its exit status (this
+-- product's own profile).
+use Rattle.std.specs.Prelude.{◌≡◌, ◌⊎◌, ◌<◌, ◌≤◌, ℕ, List, [], Option, Result}
+use Rattle.std.specs.declared.marker.Brand.{Brand}
+use Rattle.disk.specs.Disk.{Image}
+use Rattle.disk.specs.FileDisk.{calls_of}
+use Rattle.disk.specs.FileWorlds.{giving}
+use Rattle.disk.specs.declared.disk.Disk.{Ghosts}
+use Rattle.disk.specs.declared.file.FileDisk.{FileDisk}
+use Rattle.lattice.specs.Corners.{Corner}
+use Rattle.lattice.specs.Limits.{most_tiles}
+use Rattle.lattice.specs.declared.refusal.Refusal.TheVariants.{NoMemory, BadName, BadSide, BadCapacity}
+use Rattle.hgt.specs.Names.{IsFileName}
+use Rattle.page_codec.specs.Sizes.{sectors_of}
+use Rattle.calls.specs.Events.{Happens}
+use Rattle.calls.specs.State.{State, fresh, working}
+use Rattle.serving.specs.Answers.{Replied}
+use Rattle.serving.specs.Promises.{side_in}
+use Rattle.serving.specs.Served.{Outcome}
+use Rattle.serving.specs.declared.session.ServeFault.{ServeFault}
+use Rattle.server.specs.CommandLine.{AskedBy, AskNothing}
+use Rattle.server.specs.Endings.{Begins, EndsSession, TellsRefusal, bad_words}
+use Rattle.server.specs.OnDisks.{ServesLines, ImportsTile, MakesStore, ChecksStore}
+use Rattle.server.specs.Paths.{IsTaken, MakesNone, TellsFault}
+use Rattle.server.specs.declared.arguments.Arguments.{Arguments}
+use Rattle.server.specs.declared.arguments.Arguments.TheVariants.{Format, Import, Serve, Table, Check}
+use Rattle.server.specs.declared.files.PathFault.{PathFault}
+use Rattle.server.specs.declared.files.PathFault.TheVariants.{Closed}
+
+-- ---- on an empty table
+
+-- an empty table of this side is served: all was served and has left, or a stream failed and a line tells which
+abbrev pub EndsServing : (side capacity : ℕ) → (before after written new : Option (List ℕ)) → ℕ → Type 0
+EndsServing side capacity before after written new status =
+    (states : List State) × (mid : Option (List ℕ)) × (result : Result (Unit {0}) ServeFault)
+    × Outcome (Replied (Happens capacity) side_in) before after written mid (working (fresh side)) states result × EndsSession result mid new status
+
+-- the side is tested first, then the capacity
+abbrev pub RunsTable : (side capacity : ℕ) → (before after written new : Option (List ℕ)) → ℕ → Type 0
+RunsTable side capacity before after written new status =
+    (((side < 3) ⊎ (1201 < side)) × TellsRefusal BadSide written new status)
+    ⊎ ((3 ≤ side) × (side ≤ 1201) × ((capacity < 1) ⊎ (most_tiles < capacity)) × TellsRefusal BadCapacity written new status)
+    ⊎ (IsTaken side capacity × EndsServing side capacity before after written new status)
+
+-- ---- on a file, whose reads give these images as time goes on
+
+module _ (images : ℕ → Image) where
+  -- a file was opened as a disk, and this was done to it
+  abbrev pub OnFile : (Ghosts (FileDisk Brand) → FileDisk Brand → FileDisk Brand → Type 0) → Type 0
+  OnFile Did = (old new : FileDisk Brand) × ((calls_of old ≡ []) × Did (giving images) old new)
+
+  -- a file of the least size is made, or why it isn't is told
+  abbrev pub RunsFormat : (path : List ℕ) → (side capacity : ℕ) → (written new : Option (List ℕ)) → ℕ → Type 0
+  RunsFormat path side capacity written new status =
+      ((fault : PathFault) × MakesNone side capacity fault × TellsFault path fault written new status)
+      ⊎ (IsTaken side capacity × OnFile (λ g old made. (g.size old ≡ sectors_of side capacity) × MakesStore g side capacity old made written new status))
+
+  -- the name of the tile's file is tested first
+  abbrev pub RunsImport : (path tile : List ℕ) → (written new : Option (List ℕ)) → ℕ → Type 0
+  RunsImport path tile written new status =
+      (((c : Corner) → ¬ IsFileName tile c) × TellsRefusal BadName written new status)
+      ⊎ ((c : Corner) × IsFileName tile c × (
+      TellsFault path Closed written new status
+      ⊎ OnFile (λ g old left. (given : Option (List ℕ)) × ImportsTile g c tile given old left written new status)))
+
+  abbrev pub RunsServe : (path : List ℕ) → (before after written new : Option (List ℕ)) → ℕ → Type 0
+  RunsServe path before after written new status =
+      ((after ≡ before) × TellsFault path Closed written new status) ⊎ OnFile (λ g old left. ServesLines g old left before after written new status)
+
+  abbrev pub RunsCheck : (path : List ℕ) → (written new : Option (List ℕ)) → ℕ → Type 0
+  RunsCheck path written new status = TellsFault path Closed written new status ⊎ OnFile (λ g old left. ChecksStore g old left written new status)
+
+  -- ---- by its words
+
+  abbrev pub RunsAs : Arguments → (before after written new : Option (List ℕ)) → ℕ → Type 0
+  RunsAs (Format path side capacity) before after written new status = (after ≡ before) × RunsFormat path.now side capacity written new status
+  RunsAs (Import path tile) before after written new status = (after ≡ before) × RunsImport path.now tile.now written new status
+  RunsAs (Serve path) before after written new status = RunsServe path.now before after written new status
+  RunsAs (Table side capacity) before after written new status = RunsTable side capacity before after written new status
+  RunsAs (Check path) before after written new status = (after ≡ before) × RunsCheck path.now written new status
+
+  -- What the program with these words makes of what the reader and the writer had before and have after, and its exit
+  -- status: other words than it takes are told, and so is want of memory for them; else it does what they ask for.
+  abbrev pub Runs : (words : List (List ℕ)) → (before after written new : Option (List ℕ)) → ℕ → Type 0
+  Runs words before after written new status =
+      (AskNothing words × Begins written new bad_words × (status ≡ 2))
+      ⊎ TellsRefusal NoMemory written new status
+      ⊎ ((a : Arguments) × AskedBy words a × RunsAs a before after written new status)

@@ -1,0 +1,115 @@
+//! The subcommands on the disk of a store, whatever disk it is.
+ghost use Rattle.std.specs.Prelude.{IfOk};
+ghost use Rattle.server.specs.OnDisks.{ChecksStore, ImportsTile, IsTileRead, MakesStore, ServesLines, TellsClosed, given_by};
+
+use crate::endings::{end_command, end_format, end_report, end_session, refuse, tell};
+use crate::reporting::report;
+use disk::Disk;
+use edits::{Bytes, Command};
+use engine::Engine;
+use lattice::{Corner, Refusal, Side};
+use serving::serve;
+use std::alloc::Global;
+use std::io::{ErrorKind, Read, Write};
+use store::Store;
+
+/// Why there are no bytes of a tile.
+enum TileFault {
+    Unreadable,
+    NoMemory,
+}
+
+/// Makes a disk a store without tiles. It hands the disk back, with the exit status.
+pub fn make_store<D: Disk, W: Write>(disk: D, side: u32, capacity: u32, writer: &mut W) -> (D, u8)
+    ensures { MakesStore D.Disk side capacity disk result.0 (W.contents writer.old) (W.contents writer.new) result.1 }
+{
+    let mut disk = disk;
+    let formatted = Store::format(&mut disk, side, capacity);
+    (disk, end_format(writer, formatted))
+}
+
+/// Imports the HGT bytes that the reader of the file at `tile` gives, if there is one, into the store on a disk. It hands
+/// the disk back, with the exit status.
+pub fn import_tile<D: Disk, R: Read + Drop, W: Write>(
+    alloc: Global,
+    disk: D,
+    corner: Corner,
+    tile: &[u8],
+    reader: Option<R>,
+    writer: &mut W,
+) -> (D, u8)
+    ensures { ImportsTile D.Disk corner tile.now (given_by R.remaining reader) disk result.0 (W.contents writer.old) (W.contents writer.new) result.1 }
+{
+    let mut store = match Store::open(alloc, disk) {
+        Ok(store) => store,
+        Err(refused) => return (refused.disk, refuse(writer, refused.refusal)),
+    };
+    let bytes = match read_tile(alloc, reader, store.tile_side()) {
+        Ok(bytes) => Bytes::new(bytes),
+        Err(TileFault::Unreadable) => {
+            let status = tell(alloc, writer, b"mosaic: cannot read ", tile);
+            return (store.into_disk(), status);
+        }
+        Err(TileFault::NoMemory) => {
+            let status = refuse(writer, Refusal::NoMemory);
+            return (store.into_disk(), status);
+        }
+    };
+    let applied = Engine::apply(&mut store, &Command::Import { corner, bytes });
+    (store.into_disk(), end_command(writer, applied))
+}
+
+// The bytes of a tile's file, or as many as a tile has and one more where there are more.
+fn read_tile<R: Read + Drop>(
+    alloc: Global,
+    reader: Option<R>,
+    side: Side,
+) -> Result<Vec<u8>, TileFault>
+    ensures { IfOk result (λ bytes. IsTileRead side (given_by R.remaining reader) bytes.items) }
+{
+    let Some(reader) = reader else {
+        return Err(TileFault::Unreadable);
+    };
+    let most = side.file_bytes() + 1;
+    let Ok(mut bytes) = Vec::with_capacity(alloc, most as usize) else {
+        return Err(TileFault::NoMemory);
+    };
+    match reader.take(u64::from(most)).read_to_end(&mut bytes) {
+        Ok(_) => Ok(bytes),
+        Err(error) if error.kind() == ErrorKind::OutOfMemory => Err(TileFault::NoMemory),
+        Err(_) => Err(TileFault::Unreadable),
+    }
+}
+
+/// Serves lines on the store on a disk. It hands the disk back, with the exit status.
+///
+/// What was told stays through a stop (a power cut): at any moment since the reply to an item it leaves the contents that
+/// the store had after it or after a later one, or the commit that was then in doubt.
+pub fn serve_store<D: Disk, R: Read, W: Write>(
+    alloc: Global,
+    disk: D,
+    reader: &mut R,
+    writer: &mut W,
+) -> (D, u8)
+    ensures { ServesLines D.Disk disk result.0 (R.remaining reader.old) (R.remaining reader.new) (W.contents writer.old) (W.contents writer.new) result.1 }
+{
+    let mut store = match Store::open(alloc, disk) {
+        Ok(store) => store,
+        Err(refused) => return (refused.disk, refuse(writer, refused.refusal)),
+    };
+    let served = serve(alloc, reader, writer, &mut store);
+    (store.into_disk(), end_session(writer, served))
+}
+
+/// Reports on the store on a disk: how many commands it accepted and commits it made, its tiles, and how many points of
+/// seams disagree. It hands the disk back, with the exit status.
+pub fn check_store<D: Disk, W: Write>(alloc: Global, disk: D, writer: &mut W) -> (D, u8)
+    ensures { ChecksStore D.Disk disk result.0 (W.contents writer.old) (W.contents writer.new) result.1 }
+{
+    let mut store = match Store::open(alloc, disk) {
+        Ok(store) => store,
+        Err(refused) => return (refused.disk, refuse(writer, refused.refusal)),
+    };
+    let reported = report(alloc, &mut store);
+    (store.into_disk(), end_report(writer, reported))
+}

@@ -1,0 +1,66 @@
+use Rattle.std.proofs.Common.{◌≡◌, ⊎_elim, ℕ, List, refl, sym, ap, ◌∙◌, subst}
+use Rattle.std.specs.Prelude.{Result, Ok, Err}
+use Rattle.lattice.specs.declared.point.Point.{Point}
+use Rattle.lattice.specs.declared.refusal.Refusal.{Refusal}
+use Rattle.lattice.specs.declared.refusal.Refusal.TheVariants.{Device, Worn}
+use Rattle.page_codec.specs.Roots.{RootValue}
+use Rattle.catalogue.specs.Tiles.{with_sinks}
+use Rattle.cow_tree.specs.Trees.{root_of}
+use Rattle.cow_tree.proofs.ReadOnly.{never_refused}
+use Rattle.store.specs.Applied.{IsApplied}
+use Rattle.store.proofs.Committed.{fails_before, quiet, may_end_it}
+use Rattle.store.proofs.EditingReads.{device_or_not}
+use Rattle.store.proofs.EditingSteps.{in_memory, uncommitted_on, refused_as}
+use Rattle.store.proofs.InMemory.{worn_at}
+use Rattle.store.proofs.SinksHeld.{sinks_hold}
+use Rattle.store.proofs.store.Store.change_sinks.Goals as goal
+
+pub returns-in_err-sinks-clause-applied : goal.returns-in_err-sinks-clause-applied
+returns-in_err-sinks-clause-applied g c =
+    let d = g.D.Disk in
+    let old = c.args.self.now.tree in
+    let new = c.plan_sinks.new.tree in
+    let command = c.args.command.now in
+    let r : Refusal = c.in_err-sinks.field-0.0 in
+    let is = c.in_err-sinks.ensures in
+    subst (λ (result : Result ℕ Refusal). IsApplied d command result old new) (sym (refused_as c.from_residual.result r c.from_residual.ensures.1))
+    (⊎_elim
+    (λ device.
+    subst (λ (x : Refusal). IsApplied d command (Err x) old new) (sym device) (fails_before d old new command c.requires.not_failed (Err r) is.reads (ap (λ (x : Refusal). Err x) device)))
+    (λ other.
+    let goes_on = is.quiet other in
+    quiet d old new command c.requires.not_failed (Err r) is.reads goes_on.1 (λ honest s at. (is.staged honest, is.sinks)) r other goes_on.0 goes_on.1 (may_end_it command r is.causes) is.writes
+    (λ honest s at. is.refused honest s at other))
+    (device_or_not r))
+
+pub returns-then-number-clause-applied : goal.returns-then-number-clause-applied
+returns-then-number-clause-applied g c =
+    let d = g.D.Disk in
+    let old = c.args.self.now.tree in
+    let new = c.plan_sinks.new.tree in
+    let command = c.args.command.now in
+    let sinks = c.in_ok-sinks.sinks in
+    let is = c.in_ok-sinks.ensures in
+    quiet d old new command c.requires.not_failed (Ok sinks) is.reads is.reads.works (λ honest s at. (is.staged honest, is.sinks)) Worn (λ e. cc) (λ e. cc) is.reads.works refl is.writes
+    (λ honest s at. worn_at d old c.requires.not_failed s at command (with_sinks sinks.items s.contents.mosaic) (is.made honest s at)
+    (sym (ap (λ (r : RootValue). r.number) (c.current.ensures ∙ is.reads.root)) ∙ sym c.number.ensures ∙ c.if-number.true))
+
+pub returns-clause-applied : goal.returns-clause-applied
+returns-clause-applied g c =
+    let d = g.D.Disk in
+    let old = c.args.self.now.tree in
+    let planned = c.plan_sinks.new.tree in
+    let mid = c.declare.new.self in
+    let command = c.args.command.now in
+    let sinks = c.in_ok-sinks.sinks in
+    let is = c.in_ok-sinks.ensures in
+    let does = c.declare.ensures in
+    let declared = in_memory d planned mid (Ok tt) g.met.D.Disk.only_now does.disk does.root (does.failed ∙ is.reads.works) does.at (λ refused. never_refused tt Device refused) in
+    c.commit_staged.ensures.command old command (record {
+      working = c.requires.not_failed;
+      uncommitted = uncommitted_on d old planned mid sinks (Ok tt) is.reads declared;
+      refused = tt;
+      next = λ honest s at.
+          let planned_honest = subst d.honest does.disk honest in
+          sinks_hold d old mid c.requires.not_failed command s at sinks.items is.valid (is.made planned_honest s at) (does.sinks ∙ c.deref.ensures.0) (does.staged ∙ is.staged planned_honest);
+    })
