@@ -1,5 +1,5 @@
 -- What is known of a command that isn't refused, and of what it makes.
-use Rattle.std.proofs.Common.{◌≡◌, ℕ, ℤ, ◌*◌, pos, Bool, true, false, cond, not, nat_eq, nat_lt, length, refl}
+use Rattle.std.proofs.Common.{◌≡◌, ℕ, ◌*◌, pos, Bool, true, false, cond, not, nat_eq, nat_lt, length, refl}
 use Rattle.std.specs.Prelude.{Option, Some, None, Result, Ok, Err}
 use Rattle.lattice.specs.declared.refusal.Refusal.{Refusal}
 use Rattle.lattice.specs.declared.refusal.Refusal.TheVariants.{NoSink}

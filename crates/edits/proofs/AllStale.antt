@@ -80,7 +80,7 @@ listed_at (c ∷ cs) (suc k) d within = or_right (same_corner (get_or cs k d) c)
 no_way : (z : ℤ) → nat_lt (nat_abs (z -ℤ z)) 2 ≡ true
 no_way z = let e : z -ℤ z ≡ pos 0 = omega (arith, ints) in rw e refl
 
-near_itself : (c : Corner) → are_neighbours c c ≡ true
+pub near_itself : (c : Corner) → are_neighbours c c ≡ true
 near_itself c = rw (no_way c.lat, no_way c.lon) refl
 
 -- tests that let through

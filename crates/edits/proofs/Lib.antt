@@ -3,6 +3,7 @@ pub mod AllStale
 mod Beside
 mod CarryingOut
 mod FreshBlocks
+pub mod FreshSinks
 mod NamedCommands
 mod NewMosaics
 mod Once

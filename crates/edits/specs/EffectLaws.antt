@@ -3,6 +3,8 @@ use Rattle.std.specs.Prelude.{◌≡◌, ℕ, ◌<◌, ◌≤◌, IsTrue, IsFals
 use Rattle.std.specs.List.{AllAdjacentBelow}
 use Rattle.lattice.specs.Corners.{Corner, is_corner}
 use Rattle.lattice.specs.declared.point.Point.{Point}
+use Rattle.lattice.specs.Block.{Block, IsBlockOf}
+use Rattle.lattice.specs.Ground.{is_sink}
 use Rattle.lattice.specs.Height.{height_of}
 use Rattle.lattice.specs.Lattice.{IsBefore, holds}
 use Rattle.lattice.specs.Mosaic.{Tile, Mosaic, IsMosaic}
@@ -46,3 +48,13 @@ StaleTilesAreInOrder = (m : Mosaic) (c : Command) (stale : List Corner) (new : M
 abbrev pub FreshHeightsStay : Type 0
 FreshHeightsStay = (capacity : ℕ) (m : Mosaic) (c : Command) (new : Mosaic) (p : Corner) (q : Point) → IsMosaic m → effect capacity m c ≡ Ok new →
     IsFalse (goes_stale m c p) → IsTrue (holds m.side p q) → height_of new q ≡ height_of m q
+
+-- and a present one the sinks among them
+abbrev pub FreshSinksStay : Type 0
+FreshSinksStay = (capacity : ℕ) (m : Mosaic) (c : Command) (new : Mosaic) (p : Corner) (q : Point) → IsMosaic m → effect capacity m c ≡ Ok new →
+    Contains (corners_of m) p → IsFalse (goes_stale m c p) → IsTrue (holds m.side p q) → is_sink new q ≡ is_sink m q
+
+-- so it keeps its block, and a labelling of it stays valid
+abbrev pub FreshBlocksStay : Type 0
+FreshBlocksStay = (capacity : ℕ) (m : Mosaic) (c : Command) (new : Mosaic) (p : Corner) (b : Block) → IsMosaic m → effect capacity m c ≡ Ok new →
+    Contains (corners_of m) p → IsFalse (goes_stale m c p) → IsBlockOf m p b → IsBlockOf new p b

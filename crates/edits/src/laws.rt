@@ -1,5 +1,5 @@
 //! Laws of the effect of a command. Each function says its law in its contract, and does nothing.
-ghost use Rattle.edits.specs.EffectLaws.{CommandsMakeMosaics, CommandsKeepTheSide, CommandsKeepTheCapacity, UntouchedTilesStay, StaleTilesArePresent, StaleTilesAreInOrder, FreshHeightsStay};
+ghost use Rattle.edits.specs.EffectLaws.{CommandsMakeMosaics, CommandsKeepTheSide, CommandsKeepTheCapacity, UntouchedTilesStay, StaleTilesArePresent, StaleTilesAreInOrder, FreshHeightsStay, FreshSinksStay, FreshBlocksStay};
 ghost use Rattle.edits.specs.Sinks.{SinksMakeMosaics, SinksLeaveMosaics};
 
 /// A command that isn't refused makes a mosaic of the same side, of no more tiles than may be present.
@@ -20,9 +20,11 @@ pub fn stale_tiles_are_present()
     ensures in_order { StaleTilesAreInOrder }
 {}
 
-/// A tile that a command doesn't make stale keeps the heights of its points.
-pub fn fresh_heights_stay()
-    ensures { FreshHeightsStay }
+/// A tile that a command doesn't make stale keeps its block: the heights of its points, and which of them are sinks.
+pub fn fresh_blocks_stay()
+    ensures heights { FreshHeightsStay }
+    ensures sinks { FreshSinksStay }
+    ensures blocks { FreshBlocksStay }
 {}
 
 /// A sink that is declared, or taken back, makes a mosaic with the same tiles.

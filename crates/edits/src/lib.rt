@@ -10,6 +10,7 @@ mod command;
 mod growth;
 mod laws;
 mod named;
+mod neighbours;
 mod patching;
 mod planning;
 mod room;
@@ -21,8 +22,9 @@ pub use carrying::carry_out;
 pub use change::{Change, TileSamples};
 pub use command::{Bytes, Command};
 pub use laws::{
-    commands_make_mosaics, fresh_heights_stay, sinks_make_mosaics, stale_tiles_are_present,
+    commands_make_mosaics, fresh_blocks_stay, sinks_make_mosaics, stale_tiles_are_present,
     untouched_tiles_stay,
 };
+pub use neighbours::are_neighbours;
 pub use planning::plan;
 pub use sinks::{with_sink, without_sink};
