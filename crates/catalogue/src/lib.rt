@@ -16,7 +16,7 @@ mod table;
 pub use adjacency::{adjacent, degree, outlet};
 pub use listing::tiles;
 pub use samples::Samples;
-pub use sealing::sealed;
+pub use sealing::{block_heights, sealed};
 pub use sealing_laws::{blocks_are_local, sealed_tiles_agree, sealing_keeps_the_terrain};
 pub use seam_rule::height;
 pub use seams_between::seams;

@@ -1,10 +1,10 @@
 //! The mosaic sealed by the seam rule.
-ghost use Rattle.std.specs.Prelude.{◌≡◌, ◌<◌, ◌*◌, ◌-◌, ◌⊎◌, IfOk, IfErr, OnOk, length, vec_len, slice_index_or, slice_set, Contains};
+ghost use Rattle.std.specs.Prelude.{◌≡◌, ◌<◌, ◌*◌, ◌-◌, ◌⊎◌, IfOk, IfErr, OnOk, length, vec_len, slice_index_or, slice_set, Contains, All};
 ghost use Rattle.lattice.specs.Block.{AreHeightsOf};
 ghost use Rattle.lattice.specs.Ground.{metres as metres_of};
 ghost use Rattle.lattice.specs.Height.{height_of};
 ghost use Rattle.lattice.specs.Lattice.{point_of};
-ghost use Rattle.lattice.specs.Mosaic.{IsMosaic, void};
+ghost use Rattle.lattice.specs.Mosaic.{IsMosaic, IsSample, void};
 ghost use Rattle.lattice.specs.declared.refusal.Refusal.TheVariants.{NoMemory};
 ghost use Rattle.catalogue.specs.Readers.{OnlyReads, reads_of};
 ghost use Rattle.catalogue.specs.Reading.{AreSamplesOf, MayRefuse};
@@ -13,6 +13,7 @@ ghost use Rattle.catalogue.specs.Tiles.{corners_of};
 
 use crate::listing::tiles;
 use crate::seam_rule::height;
+use crate::table::read_all;
 use crate::{Samples, Table};
 use lattice::{Corner, Height, Point, Refusal, VOID, holders, point_at, rim_index};
 use std::alloc::Global;
@@ -42,8 +43,11 @@ pub fn sealed<S: Samples>(alloc: Global, samples: &mut S) -> Result<Table, Refus
     Ok(table)
 }
 
-// The heights of the points of the corner's tile by the seam rule, by index, void where a point has none.
-fn block_heights<S: Samples>(
+/// The heights of the points of the corner's tile by the seam rule, by index, void where a point has none.
+///
+/// It reads the tile's samples in one read, and further ones only for the points of the rim that another tile holds too.
+/// It is refused with NoMemory, or as a read of samples is.
+pub fn block_heights<S: Samples>(
     alloc: Global,
     samples: &mut S,
     corner: Corner,
@@ -51,12 +55,15 @@ fn block_heights<S: Samples>(
     requires { Contains (S.corners samples.old) corner }
     ensures heights { S.is_honest samples.new → IfOk result (λ heights. AreHeightsOf (S.mosaic samples.old) corner heights.items) }
     ensures whole { IfOk result (λ heights. vec_len heights ≡ S.side_of samples.old * S.side_of samples.old) }
+    ensures samples { IfOk result (λ heights. All IsSample heights.items) }
     ensures refusal { IfErr result (λ r. (r ≡ NoMemory) ⊎ MayRefuse (S.failures samples.old) (S.failures samples.new) r) }
     ensures reads { OnlyReads S.Samples samples.old samples.new (reads_of result) }
 {
     let mut heights = vec![in alloc; 0; samples.side().area() as usize]?;
     samples.read_samples(corner, 0, heights.as_mut_slice())?;
     seal_rim(samples, corner, heights.as_mut_slice())?;
+    // Each height is known to be a number of 16 bits once it was read.
+    read_all(&heights);
     Ok(heights)
 }
 

@@ -116,8 +116,8 @@ impl Table {
     }
 }
 
-// Reads each sample, after which each is known to be a number of 16 bits. A compiler leaves nothing of it.
-fn read_all(samples: &[i16])
+/// Reads each sample, after which each is known to be a number of 16 bits. A compiler leaves nothing of it.
+pub(crate) fn read_all(samples: &[i16])
     ensures { All IsSample samples.now }
 {
     for sample in samples {

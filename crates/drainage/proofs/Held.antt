@@ -62,3 +62,7 @@ module _ (m : Mosaic) (p : Point) (is : IsMosaic m) where
 -- a height makes a point ground
 pub ground_at : (m : Mosaic) (p : Point) (h : ℤ) → At h ≡ height_of m p → IsTrue (is_ground m p)
 ground_at m p h e = sym (ap is_height e)
+
+-- some present tile holds a ground point
+pub held_by_some : (m : Mosaic) (p : Point) → IsMosaic m → IsTrue (is_ground m p) → IsHeldByNone m.side (corners_of m) p → ⊥
+held_by_some m p is on none = false≢true (sym (ap is_height (outside_from m p is none)) ∙ on)

@@ -1,6 +1,7 @@
 pub mod Held
-pub mod Tiles
 pub mod Summed
+pub mod OfSealed
+pub mod Questioned
 pub mod Joined
 pub mod Sealing
 pub mod Asked

@@ -11,7 +11,6 @@ use Rattle.lattice.specs.Mosaic.{Mosaic, IsMosaic, is_present, void}
 use Rattle.lattice.specs.Ground.{is_ground, terrain}
 use Rattle.lattice.specs.Block.{Block, IsBlockOf, block_terrain, is_solid, is_rim, rim_number}
 use Rattle.lattice.proofs.Lawful.{terrain_is_lawful, block_is_lawful}
-use Rattle.catalogue.specs.Sealed.{IsSealed}
 use Rattle.catalogue.proofs.Presence.{present_iff}
 use Rattle.tile_flood.specs.Blocks.{LabelledGround, block_of, bare_block}
 use Rattle.tile_flood.specs.Labelling.{IsLabelling, OUT}
@@ -93,7 +92,7 @@ module _ (m : Mosaic) (is : IsMosaic m) (c : Corner) (present : IsTrue (is_prese
   level_over n v fill = level_of_part (block_terrain (block_of m.side heights sinks)) (terrain m) (λ i. point_of m.side c i) (is_rim m.side) (block_is_part m is c present heights sinks of) (block_is_lawful (block_of m.side heights sinks)) (terrain_is_lawful m)
       e (slice_index_or levels e void) v n.rest solid (labelling.level e solid) n.path n.at_level (subst (λ q. IsFilledLevel (terrain m) (point_of m.side c q) v) (sym n.ends) fill)
 
-module _ (m : Mosaic) (is : IsMosaic m) (table : Mosaic) (sealed : IsSealed m table) (corners : List Corner) (told : List (Option TileWays)) (ready : AreReady table corners told) (t : ℕ) (small : t < length corners)
+module _ (m : Mosaic) (is : IsMosaic m) (side : ℕ) (corners : List Corner) (told : List (Option TileWays)) (ready : AreReady m side corners told) (t : ℕ) (small : t < length corners)
     (labelled : LabelledGround) (flooded : IsFlooded m (corner_at corners t) labelled) (e : ℕ) (inside : e < m.side * m.side) (on : IsTrue (is_ground m (point_of m.side (corner_at corners t) e))) where
   b : Block
   b = flooded.valid.0
@@ -105,16 +104,16 @@ module _ (m : Mosaic) (is : IsMosaic m) (table : Mosaic) (sealed : IsSealed m ta
   labelling = subst (λ n. IsLabelling (record { side = n; heights = flooded.valid.0.heights; sinks = flooded.valid.0.sinks }) labelled.levels labelled.labels) flooded.valid.1.0.side flooded.valid.1.1
 
   present : IsTrue (is_present m (corner_at corners t))
-  present = (present_iff m (corner_at corners t)).1 (subst (λ (cs : List Corner). Contains cs (corner_at corners t)) (ready.all ∙ sealed.corners) (t, small, get_or_default corners t (corner_at corners t) (record { lat = pos 0; lon = pos 0 }) small))
+  present = (present_iff m (corner_at corners t)).1 (subst (λ (cs : List Corner). Contains cs (corner_at corners t)) ready.all (t, small, get_or_default corners t (corner_at corners t) (record { lat = pos 0; lon = pos 0 }) small))
 
   pub out_level : slice_index labelled.labels e ≡ OUT → IsFilledLevel (terrain m) (point_of m.side (corner_at corners t) e) (slice_index_or labelled.levels e void)
   out_level out = level_out m is (corner_at corners t) present flooded.valid.0.heights flooded.valid.0.sinks of labelled.levels labelled.labels labelling e inside on out
 
   all_summaries : List Summary
-  all_summaries = summaries m is table sealed corners told ready
+  all_summaries = summaries m is side corners told ready
 
-  small_there : t < length (summaries m is table sealed corners told ready)
-  small_there = subst (λ k. t < k) (sym (as_many m is table sealed corners told ready)) small
+  small_there : t < length (summaries m is side corners told ready)
+  small_there = subst (λ k. t < k) (sym (as_many m is side corners told ready)) small
 
   module _ (some : slice_index labelled.labels e ≢ OUT) where
     n : Named m is (corner_at corners t) present flooded.valid.0.heights flooded.valid.0.sinks of labelled.levels labelled.labels labelling e inside on
@@ -126,26 +125,26 @@ module _ (m : Mosaic) (is : IsMosaic m) (table : Mosaic) (sealed : IsSealed m ta
     inside_r : n.r < m.side * m.side
     inside_r = solid_below m.side flooded.valid.0.heights n.r n.solid_r
 
-    corner_is : (summary_at (summaries m is table sealed corners told ready) t).corner ≡ corner_at corners t
-    corner_is = corner_of_summary m is table sealed corners told ready t small
+    corner_is : (summary_at (summaries m is side corners told ready) t).corner ≡ corner_at corners t
+    corner_is = corner_of_summary m is side corners told ready t small
 
-    ground_r : IsTrue (is_ground m (point_of m.side (summary_at (summaries m is table sealed corners told ready) t).corner n.r))
+    ground_r : IsTrue (is_ground m (point_of m.side (summary_at (summaries m is side corners told ready) t).corner n.r))
     ground_r = subst (λ (c : Corner). IsTrue (is_ground m (point_of m.side c n.r))) (sym corner_is) (ground_of m is (corner_at corners t) present flooded.valid.0.heights flooded.valid.0.sinks of labelled.levels labelled.labels labelling e inside on n.r n.solid_r)
 
-    there : IsThere m.side (summaries m is table sealed corners told ready) t (slice_index labelled.labels e)
-    there = subst (λ k. IsThere m.side (summaries m is table sealed corners told ready) t k) n.number
-        (there_at m is (summaries m is table sealed corners told ready) (are_summaries m is table sealed corners told ready) t small_there n.r inside_r n.rim
-        (solid_at m is (summaries m is table sealed corners told ready) (are_summaries m is table sealed corners told ready) t small_there n.r inside_r ground_r))
+    there : IsThere m.side (summaries m is side corners told ready) t (slice_index labelled.labels e)
+    there = subst (λ k. IsThere m.side (summaries m is side corners told ready) t k) n.number
+        (there_at m is (summaries m is side corners told ready) (are_summaries m is side corners told ready) t small_there n.r inside_r n.rim
+        (solid_at m is (summaries m is side corners told ready) (are_summaries m is side corners told ready) t small_there n.r inside_r ground_r))
 
-    pub over_level : (v : ℤ) → IsJoinedLevel (IsPlacedLink m.side (summaries m is table sealed corners told ready)) 0 (node_number m.side (Rim t (slice_index labelled.labels e))) v
+    pub over_level : (v : ℤ) → IsJoinedLevel (IsPlacedLink m.side (summaries m is side corners told ready)) 0 (node_number m.side (Rim t (slice_index labelled.labels e))) v
         → IsFilledLevel (terrain m) (point_of m.side (corner_at corners t) e) (int_max (slice_index_or labelled.levels e void) v)
     over_level v joined =
-        let fill : IsFilledLevel (terrain m) (point_of m.side (corner_at corners t) n.r) v = joined_is_filled m is (summaries m is table sealed corners told ready) (are_summaries m is table sealed corners told ready) t (slice_index labelled.labels e) there v
-        (joined_over_links m.side (summaries m is table sealed corners told ready) t (slice_index labelled.labels e) v there joined) (point_of m.side (corner_at corners t) n.r)
+        let fill : IsFilledLevel (terrain m) (point_of m.side (corner_at corners t) n.r) v = joined_is_filled m is (summaries m is side corners told ready) (are_summaries m is side corners told ready) t (slice_index labelled.labels e) there v
+        (joined_over_links m.side (summaries m is side corners told ready) t (slice_index labelled.labels e) v there joined) (point_of m.side (corner_at corners t) n.r)
         (record { index = n.r; small = inside_r; rim = n.rim; number = n.number; point = ap (λ (c : Corner). point_of m.side c n.r) corner_is }) in
         level_over m is (corner_at corners t) present flooded.valid.0.heights flooded.valid.0.sinks of labelled.levels labelled.labels labelling e inside on n v fill
 
-    pub some_way : ((level : ℤ) (rest : List ℕ) → IsWayBelow (IsPlacedLink m.side (summaries m is table sealed corners told ready)) 0 level (node_number m.side (Rim t (slice_index labelled.labels e))) rest → ⊥) → ⊥
+    pub some_way : ((level : ℤ) (rest : List ℕ) → IsWayBelow (IsPlacedLink m.side (summaries m is side corners told ready)) 0 level (node_number m.side (Rim t (slice_index labelled.labels e))) rest → ⊥) → ⊥
     some_way none =
-        let way = is_joined m is (summaries m is table sealed corners told ready) (are_summaries m is table sealed corners told ready) t (slice_index labelled.labels e) there in
-        none way.0 (map (node_number m.side) way.1.rest) (to_placed m.side (summaries m is table sealed corners told ready) way.0 (Rim t (slice_index labelled.labels e)) way.1.rest way.1.way)
+        let way = is_joined m is (summaries m is side corners told ready) (are_summaries m is side corners told ready) t (slice_index labelled.labels e) there in
+        none way.0 (map (node_number m.side) way.1.rest) (to_placed m.side (summaries m is side corners told ready) way.0 (Rim t (slice_index labelled.labels e)) way.1.rest way.1.way)

@@ -1,11 +1,9 @@
 -- What the answers over sealed tiles come to, as questions over samples.
 use Rattle.std.proofs.Common.{◌≡◌, ◌≢◌, ◌⊎◌, inl, inr, Result, Ok, Err}
-use Rattle.std.specs.Prelude.{IfErr, IsTrue}
+use Rattle.std.specs.Prelude.{IfErr}
 use Rattle.lattice.specs.declared.refusal.Refusal.{Refusal}
 use Rattle.lattice.specs.declared.refusal.Refusal.TheVariants.{NoMemory, Damaged}
-use Rattle.lattice.specs.declared.point.Point.{Point}
 use Rattle.lattice.specs.Mosaic.{Mosaic, IsMosaic}
-use Rattle.lattice.specs.Ground.{is_ground}
 use Rattle.catalogue.specs.Asked.{Asked, IsOwnRefusal}
 use Rattle.catalogue.specs.Sealed.{IsSealed}
 use Rattle.catalogue.specs.declared.samples.Samples.{Ghosts}
@@ -32,14 +30,6 @@ pub asked_of_sealed : {S T : Type 0} (g : Ghosts S) (is_mosaic : (s : S) → g.i
 asked_of_sealed g is_mosaic a b table result h sealed causes sound =
     asked_answer g a b table result h (own_refusal result causes)
     (λ honest ready. never_damaged result (sound (g.mosaic a) (is_mosaic a (h.reads.honest honest)) (sealed honest)))
-
--- the same of a ground point
-pub asked_of_ground : {S T : Type 0} (g : Ghosts S) (is_mosaic : (s : S) → g.is_honest s → IsMosaic (g.mosaic s)) (a b : S) (table : Mosaic) (p : Point) (result : Result T Refusal)
-    → Asked g a b (Ok table) → (g.is_honest b → IsSealed (g.mosaic a) table) → (g.is_honest b → IsTrue (is_ground (g.mosaic a) p)) → IfErr result (λ r. (r ≡ NoMemory) ⊎ (r ≡ Damaged))
-    → ((m : Mosaic) → IsMosaic m → IsSealed m table → IsTrue (is_ground m p) → IfErr result (λ r. r ≡ NoMemory)) → Asked g a b result
-asked_of_ground g is_mosaic a b table p result h sealed on causes sound =
-    asked_answer g a b table result h (own_refusal result causes)
-    (λ honest ready. never_damaged result (sound (g.mosaic a) (is_mosaic a (h.reads.honest honest)) (sealed honest) (on honest)))
 
 -- nor is one that only memory was wanting for
 pub asked_of_memory : {S T : Type 0} (g : Ghosts S) (a b : S) (table : Mosaic) (result : Result T Refusal) → Asked g a b (Ok table) → IfErr result (λ r. r ≡ NoMemory) → Asked g a b result

@@ -6,22 +6,22 @@ use Rattle.std.proofs.lemmas.Bool.Decides.{eqb_tells}
 use Rattle.std.proofs.lemmas.Int.{to_z-of_z}
 use Rattle.std.proofs.lemmas.List.{get_or_default, get_or-set_other, get_or-set_same, length-set}
 use Rattle.lattice.specs.Corners.{Corner}
-use Rattle.lattice.specs.Mosaic.{Mosaic, IsMosaic, void}
-use Rattle.catalogue.specs.Sealed.{IsSealed}
+use Rattle.lattice.specs.Mosaic.{Mosaic, void}
+use Rattle.catalogue.specs.declared.samples.Samples.{Ghosts}
 use Rattle.border_graph.specs.Summaries.{Summary}
 use Rattle.border_graph.specs.Joining.{IsSummaryOf}
 use Rattle.rising.specs.Others.{corner_at}
 use Rattle.rising.specs.TileWays.{TileWays}
 use Rattle.drainage.specs.Shores.{told_at, Fits, AreTold, AreKept}
 
-pub fits_before : (table : Mosaic) (corners : List Corner) (told : List (Option TileWays)) (table' : Mosaic) (corners' : List Corner) (told' : List (Option TileWays)) (n : ℕ) (summaries : List Summary)
-    → AreKept table corners told table' corners' told' → Fits table'.side corners' told' n summaries → Fits table.side corners told n summaries
-fits_before table corners told table' corners' told' n summaries kept fits = record {
+pub fits_before : {S : Type 0} (g : Ghosts S) (a b : S) (side : ℕ) (corners : List Corner) (told : List (Option TileWays)) (side' : ℕ) (corners' : List Corner) (told' : List (Option TileWays)) (n : ℕ) (summaries : List Summary)
+    → AreKept g a b side corners told side' corners' told' → Fits side' corners' told' n summaries → Fits side corners told n summaries
+fits_before g a b side corners told side' corners' told' n summaries kept fits = record {
   mosaic = fits.mosaic;
   is = fits.is;
   all = fits.all;
   whole = fits.whole;
-  same_side = fits.same_side ∙ ap (λ (s : Mosaic). s.side) kept.same_table;
+  same_side = fits.same_side ∙ kept.same_side;
   same_corners = fits.same_corners ∙ kept.same_corners;
   low = fits.low;
   tells = λ t ways is. fits.tells t ways (kept.still t ways is);
@@ -57,43 +57,41 @@ none_more told new is none t = ap (λ (l : List (Option TileWays)). told_at l t)
     by (o ∷ rest) none zero = none 0
     by (o ∷ rest) none (suc t) = by rest (λ u. none (suc u)) t
 
-pub none_told : (table : Mosaic) (corners : List Corner) (told : List (Option TileWays)) → length told ≡ length corners → ((t : ℕ) → told_at told t ≡ None) → AreTold table corners told
-none_told table corners told whole none = record {
+pub none_told : (m : Mosaic) (side : ℕ) (corners : List Corner) (told : List (Option TileWays)) → length told ≡ length corners → ((t : ℕ) → told_at told t ≡ None) → AreTold m side corners told
+none_told m side corners told whole none = record {
   whole = whole;
   sides = λ t ways is. absurd (not_both ways (sym (none t) ∙ is));
   places = λ t ways is. absurd (not_both ways (sym (none t) ∙ is));
-  summaries = λ m mosaic sealed t ways is. absurd (not_both ways (sym (none t) ∙ is));
+  summaries = λ t ways is. absurd (not_both ways (sym (none t) ∙ is));
 }
 
 -- one tile more
-module _ (table table' : Mosaic) (corners : List Corner) (told : List (Option TileWays)) (t : ℕ) (c : Corner) (ways : TileWays) (inside : t < length told) (was : told_at told t ≡ None) (same : table' ≡ table) where
+module _ (side : ℕ) (corners : List Corner) (told : List (Option TileWays)) (t : ℕ) (c : Corner) (ways : TileWays) (inside : t < length told) (was : told_at told t ≡ None) where
   other_still : (u : ℕ) (w : TileWays) → told_at told u ≡ Some w → u ≢ t
   other_still u w is equal = not_both w (sym was ∙ (ap (told_at told) (sym equal) ∙ is))
 
-  pub told_more : corner_at corners t ≡ c → ways.side ≡ table.side → ways.summary.corner ≡ c → ((m : Mosaic) → IsMosaic m → IsSealed m table → IsSummaryOf m ways.summary) → AreKept table corners told table' corners (slice_set told t (Some ways))
-  told_more place side corner summary = record {
-    same_table = same;
-    same_corners = refl;
-    still = λ u w is. get_or-set_other told t u (Some ways) None (other_still u w is) ∙ is;
-    right = λ r. record {
-      whole = length-set told t (Some ways) ∙ r.whole;
-      sides = λ u w is. elim (cases_eq u t) [
-        | inl here ↦ ap (λ (x : TileWays). x.side) (sym (this u w here is)) ∙ side
-        | inr other ↦ r.sides u w (sym (get_or-set_other told t u (Some ways) None other) ∙ is)
-      ];
-      places = λ u w is. elim (cases_eq u t) [
-        | inl here ↦ ap (λ (x : TileWays). x.summary.corner) (sym (this u w here is)) ∙ (corner ∙ (sym place ∙ ap (corner_at corners) (sym here)))
-        | inr other ↦ r.places u w (sym (get_or-set_other told t u (Some ways) None other) ∙ is)
-      ];
-      summaries = λ m mosaic sealed u w is. elim (cases_eq u t) [
-        | inl here ↦ subst (λ (x : TileWays). IsSummaryOf m x.summary) (this u w here is) (summary m mosaic sealed)
-        | inr other ↦ r.summaries m mosaic sealed u w (sym (get_or-set_other told t u (Some ways) None other) ∙ is)
-      ];
-    };
+  this : (u : ℕ) (w : TileWays) → u ≡ t → told_at (slice_set told t (Some ways)) u ≡ Some w → ways ≡ w
+  this u w here is = some_is ways w (sym (get_or-set_same told t (Some ways) None inside) ∙ (ap (told_at (slice_set told t (Some ways))) (sym here) ∙ is))
+
+  pub still_told : (u : ℕ) (w : TileWays) → told_at told u ≡ Some w → told_at (slice_set told t (Some ways)) u ≡ Some w
+  still_told u w is = get_or-set_other told t u (Some ways) None (other_still u w is) ∙ is
+
+  pub told_more : (m : Mosaic) → corner_at corners t ≡ c → ways.side ≡ side → ways.summary.corner ≡ c → IsSummaryOf m ways.summary → AreTold m side corners told → AreTold m side corners (slice_set told t (Some ways))
+  told_more m place same corner summary r = record {
+    whole = length-set told t (Some ways) ∙ r.whole;
+    sides = λ u w is. elim (cases_eq u t) [
+      | inl here ↦ ap (λ (x : TileWays). x.side) (sym (this u w here is)) ∙ same
+      | inr other ↦ r.sides u w (sym (get_or-set_other told t u (Some ways) None other) ∙ is)
+    ];
+    places = λ u w is. elim (cases_eq u t) [
+      | inl here ↦ ap (λ (x : TileWays). x.summary.corner) (sym (this u w here is)) ∙ (corner ∙ (sym place ∙ ap (corner_at corners) (sym here)))
+      | inr other ↦ r.places u w (sym (get_or-set_other told t u (Some ways) None other) ∙ is)
+    ];
+    summaries = λ u w is. elim (cases_eq u t) [
+      | inl here ↦ subst (λ (x : TileWays). IsSummaryOf m x.summary) (this u w here is) summary
+      | inr other ↦ r.summaries u w (sym (get_or-set_other told t u (Some ways) None other) ∙ is)
+    ];
   }
-    where
-      this : (u : ℕ) (w : TileWays) → u ≡ t → told_at (slice_set told t (Some ways)) u ≡ Some w → ways ≡ w
-      this u w here is = some_is ways w (sym (get_or-set_same told t (Some ways) None inside) ∙ (ap (told_at (slice_set told t (Some ways))) (sym here) ∙ is))
 
 -- numbers and heights as they were computed
 pub same_side : (a b : ℕ) → false ≡ not (a == b) → a ≡ b

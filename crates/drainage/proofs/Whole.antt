@@ -7,7 +7,6 @@ use Rattle.std.proofs.Math.ListN.{get_or-map}
 use Rattle.lattice.specs.Corners.{Corner, is_corner}
 use Rattle.lattice.specs.Mosaic.{Mosaic, Tile, IsMosaic}
 use Rattle.catalogue.specs.Tiles.{corners_of}
-use Rattle.catalogue.specs.Sealed.{IsSealed}
 use Rattle.border_graph.specs.Summaries.{Summary}
 use Rattle.border_graph.specs.Joining.{Rim, summary_at, IsSummaryOf, AreSummaries}
 use Rattle.border_graph.proofs.Tabulated.{tabulated, length-tabulated, at_number}
@@ -27,9 +26,9 @@ same_list d (x ∷ xs) (y ∷ ys) whole each = ap₂ (λ a b. a ∷ b) (each 0 (
 abbrev no_tile : Summary
 no_tile = record { corner = record { lat = pos 0; lon = pos 0 }; rim = []; spills = [] }
 
-module _ (m : Mosaic) (is : IsMosaic m) (table : Mosaic) (sealed : IsSealed m table) (corners : List Corner) (told : List (Option TileWays)) (ready : AreReady table corners told) where
+module _ (m : Mosaic) (is : IsMosaic m) (side : ℕ) (corners : List Corner) (told : List (Option TileWays)) (ready : AreReady m side corners told) where
   corners_are : corners ≡ corners_of m
-  corners_are = ready.all ∙ sealed.corners
+  corners_are = ready.all
 
   corner_valid : (t : ℕ) → t < length corners → IsTrue (is_corner (corner_at corners t))
   corner_valid t small =
@@ -47,7 +46,7 @@ module _ (m : Mosaic) (is : IsMosaic m) (table : Mosaic) (sealed : IsSealed m ta
   picked_by t small (Some ways) at = (
     ways.summary,
     record {
-      of = ready.tiles.summaries m is sealed t ways at;
+      of = ready.tiles.summaries t ways at;
       place = ready.tiles.places t ways at;
       tells = λ w also. ap (λ (x : TileWays). x.summary) (some_is ways w (sym at ∙ also));
     },
@@ -99,18 +98,18 @@ module _ (m : Mosaic) (is : IsMosaic m) (table : Mosaic) (sealed : IsSealed m ta
     | inr past ↦ absurd (not_both ways (sym (get_or_past told t None past) ∙ at))
   ]
 
-  pub all_fit : Fits table.side corners told m.side summaries
+  pub all_fit : Fits side corners told m.side summaries
   all_fit = record {
     mosaic = m;
     is = is;
     all = are_summaries;
     whole = refl;
-    same_side = sym sealed.side;
+    same_side = sym ready.same_side;
     same_corners = same_corners;
     low = λ x y level link. low_link m is summaries are_summaries (Rim link.tile link.number) link.to level link.link;
     tells = λ t ways at.
         let below = told_below t ways at in
-        (ready.tiles.sides t ways at ∙ sealed.side, at_place t (record { corner = record { lat = pos 0; lon = pos 0 }; rim = []; spills = [] }) below ∙ (pick_is t below).tells ways at);
+        (ready.tiles.sides t ways at ∙ ready.same_side, at_place t (record { corner = record { lat = pos 0; lon = pos 0 }; rim = []; spills = [] }) below ∙ (pick_is t below).tells ways at);
   }
 
   pub as_many : length summaries ≡ length corners

@@ -1,11 +1,11 @@
 -- Tiles flooded each by itself, and what their summaries say (this product's own profile, after the tiled flooding of
 -- Barnes 2016).
-use Rattle.std.specs.Prelude.{◌≡◌, ℕ, ◌<◌, ℤ, pos, List, [], All, Some, length, map, take, slice_index, slice_index_or}
+use Rattle.std.specs.Prelude.{◌≡◌, ℕ, ◌<◌, ℤ, pos, List, [], All, length, map, take, slice_index, slice_index_or}
 use Rattle.lattice.specs.Corners.{Corner}
 use Rattle.lattice.specs.Lattice.{point_of}
-use Rattle.lattice.specs.Mosaic.{Mosaic, void, samples_of}
+use Rattle.lattice.specs.Mosaic.{Mosaic, void}
 use Rattle.lattice.specs.Ground.{is_outlet}
-use Rattle.lattice.specs.Block.{Block, IsBlockOf, sinks_in}
+use Rattle.lattice.specs.Block.{Block, IsBlockOf}
 use Rattle.catalogue.specs.Tiles.{corners_of}
 use Rattle.tile_flood.specs.Blocks.{LabelledGround}
 use Rattle.tile_flood.specs.Labelling.{IsLabelling}
@@ -15,24 +15,18 @@ use Rattle.border_graph.specs.Summaries.{Summary}
 use Rattle.border_graph.specs.Joining.{nowhere, IsSummaryOf}
 use Rattle.lattice.specs.RimPoints.{IsRimPoint}
 
--- the side, the samples and the sinks of the corner's tile
-pub record IsGroundIn (table : Mosaic) (c : Corner) (block : Block) : Type 0 where
-  pub side : block.side ≡ table.side
-  pub heights : samples_of table c ≡ Some block.heights
-  pub sinks : block.sinks ≡ sinks_in table.side c table.sinks
-
--- what a summary says of the rim point with this number, where each tile of the table is its block
-pub record IsRimPointIn (table : Mosaic) (c : Corner) (heights : List ℤ) (labels : List ℕ) (k : ℕ) (p : RimPoint) : Type 0 where
+-- what a summary says of the rim point with this number, from the heights and labels of its block
+pub record IsRimPointIn (m : Mosaic) (c : Corner) (heights : List ℤ) (labels : List ℕ) (k : ℕ) (p : RimPoint) : Type 0 where
   pub index : ℕ
-  pub number : IsRimPoint table.side k index
+  pub number : IsRimPoint m.side k index
   pub height : p.height ≡ slice_index_or heights index void
   pub label : p.label ≡ slice_index labels index
-  pub outlet : p.outlet ≡ is_outlet table (point_of table.side c index)
+  pub outlet : p.outlet ≡ is_outlet m (point_of m.side c index)
 
 -- the first rim points, by rim number
-pub record AreRimPointsIn (table : Mosaic) (c : Corner) (heights : List ℤ) (labels : List ℕ) (rim : List RimPoint) (count : ℕ) : Type 0 where
+pub record AreRimPointsIn (m : Mosaic) (c : Corner) (heights : List ℤ) (labels : List ℕ) (rim : List RimPoint) (count : ℕ) : Type 0 where
   pub whole : length rim ≡ count
-  pub each : (k : ℕ) → k < count → IsRimPointIn table c heights labels k (slice_index_or rim k nowhere)
+  pub each : (k : ℕ) → k < count → IsRimPointIn m c heights labels k (slice_index_or rim k nowhere)
 
 -- a valid labelling of the block of the corner's tile
 pub record IsFlooded (m : Mosaic) (c : Corner) (labelled : LabelledGround) : Type 0 where

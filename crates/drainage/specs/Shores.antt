@@ -1,12 +1,16 @@
 -- What is known of tiles, of which each is flooded once water comes to its rim (this product's own profile, after the
 -- tiled flooding of Barnes 2016).
-use Rattle.std.specs.Prelude.{◌≡◌, ◌≢◌, ℕ, ◌+◌, ◌-◌, ◌*◌, ◌^◌, ◌<◌, ℤ, ◌≤ℤ◌, List, Option, Some, None, length, map, slice_index_or}
+use Rattle.std.specs.Prelude.{◌≡◌, ◌≢◌, ℕ, ◌+◌, ◌-◌, ◌*◌, ◌^◌, ◌<◌, ℤ, ◌≤ℤ◌, List, Option, Some, None, Ok, Err, IsTrue, length, map, slice_index_or}
 use Rattle.lattice.specs.Corners.{Corner}
 use Rattle.lattice.specs.Lattice.{point_of}
 use Rattle.lattice.specs.Mosaic.{Mosaic, IsMosaic, void}
 use Rattle.lattice.specs.RimPoints.{IsRimPoint}
+use Rattle.lattice.specs.declared.refusal.Refusal.{Refusal}
+use Rattle.catalogue.specs.Asked.{Asked}
+use Rattle.catalogue.specs.Endings.{ends_any}
+use Rattle.catalogue.specs.Readers.{OnlyReads}
 use Rattle.catalogue.specs.Tiles.{corners_of}
-use Rattle.catalogue.specs.Sealed.{IsSealed}
+use Rattle.catalogue.specs.declared.samples.Samples.{Ghosts}
 use Rattle.border_graph.specs.Summaries.{Summary}
 use Rattle.border_graph.specs.Joining.{summary_at, rim_point, IsSummaryOf, AreSummaries}
 use Rattle.rising.specs.Placed.{IsPlacedLink}
@@ -41,23 +45,38 @@ pub record AreTileWays (n : ℕ) (corners : List Corner) (ways : TileWays) (t k 
   pub nothing : (rim_point ways.summary k).height ≡ void → new ≡ second
   pub others : (rim_point ways.summary k).height ≢ void → AreOthersTold n corners t (point_of n (corner_at corners t) index) (rim_point ways.summary k).height second new
 
--- each tile that is told has the side of the table, and a summary of its corner's tile in each mosaic of which the table
--- is the blocks
-pub record AreTold (table : Mosaic) (corners : List Corner) (told : List (Option TileWays)) : Type 0 where
+-- each tile that is told has this side, the corner of its place, and a summary of its corner's tile in the mosaic
+pub record AreTold (m : Mosaic) (side : ℕ) (corners : List Corner) (told : List (Option TileWays)) : Type 0 where
   pub whole : length told ≡ length corners
-  pub sides : (t : ℕ) (ways : TileWays) → told_at told t ≡ Some ways → ways.side ≡ table.side
+  pub sides : (t : ℕ) (ways : TileWays) → told_at told t ≡ Some ways → ways.side ≡ side
   pub places : (t : ℕ) (ways : TileWays) → told_at told t ≡ Some ways → ways.summary.corner ≡ corner_at corners t
-  pub summaries : (m : Mosaic) → IsMosaic m → IsSealed m table → (t : ℕ) (ways : TileWays) → told_at told t ≡ Some ways → IsSummaryOf m ways.summary
+  pub summaries : (t : ℕ) (ways : TileWays) → told_at told t ≡ Some ways → IsSummaryOf m ways.summary
 
--- all tiles of the table have their places, and each rim point its number
-pub record AreReady (table : Mosaic) (corners : List Corner) (told : List (Option TileWays)) : Type 0 where
-  pub all : corners ≡ corners_of table
-  pub room : 1 + length corners * (4 * (table.side - 1)) < 2 ^ 32
-  pub tiles : AreTold table corners told
+-- all tiles of the mosaic have their places, and each rim point its number
+pub record AreReady (m : Mosaic) (side : ℕ) (corners : List Corner) (told : List (Option TileWays)) : Type 0 where
+  pub same_side : side ≡ m.side
+  pub all : corners ≡ corners_of m
+  pub room : 1 + length corners * (4 * (side - 1)) < 2 ^ 32
+  pub tiles : AreTold m side corners told
 
--- the table and the places stay, what was told is told still, and what is told then is as right as it was
-pub record AreKept (table : Mosaic) (corners : List Corner) (told : List (Option TileWays)) (table' : Mosaic) (corners' : List Corner) (told' : List (Option TileWays)) : Type 0 where
-  pub same_table : table' ≡ table
-  pub same_corners : corners' ≡ corners
-  pub still : (t : ℕ) (ways : TileWays) → told_at told t ≡ Some ways → told_at told' t ≡ Some ways
-  pub right : AreTold table corners told → AreTold table corners told'
+module _ {S : Type 0} (g : Ghosts S) (a b : S) (side : ℕ) (corners : List Corner) (told : List (Option TileWays)) (side' : ℕ) (corners' : List Corner) (told' : List (Option TileWays)) where
+  -- the samples stand for what they stood for, the places stay, what was told is told still, and what is told then is as
+  -- right as it was
+  pub record AreKept : Type 0 where
+    pub honest : g.is_honest b → g.is_honest a
+    pub mosaic : g.is_honest b → g.mosaic b ≡ g.mosaic a
+    pub same_side : side' ≡ side
+    pub same_corners : corners' ≡ corners
+    pub still : (t : ℕ) (ways : TileWays) → told_at told t ≡ Some ways → told_at told' t ≡ Some ways
+    pub right : g.is_honest b → AreTold (g.mosaic a) side corners told → AreTold (g.mosaic a) side corners told'
+
+  -- tiles were told, and each read was answered
+  pub record AreCarried : Type 0 where
+    pub kept : AreKept
+    pub reads : OnlyReads {T = Unit {0}} g a b (Ok tt)
+
+  -- tiles were told until a call was refused: as a question over samples is, where what was told before is right
+  pub record AreRefused (r : Refusal) : Type 0 where
+    pub kept : AreKept
+    pub cause : IsTrue (ends_any r)
+    pub asked : (g.is_honest b → AreReady (g.mosaic a) side corners told) → Asked {T = Unit {0}} g a b (Err r)

@@ -31,12 +31,24 @@ pub(crate) fn survey<S: Samples>(
     ensures causes { IfErr result (λ r. IsTrue (may_refuse r)) }
     ensures asked { Asked S.Samples samples.old samples.new result }
 {
+    check_ground(samples, point)?;
+    sealed_tiles(alloc, samples)
+}
+
+/// Refused where the point isn't ground, as the questions about water are. It reads the point alone.
+pub(crate) fn check_ground<S: Samples>(samples: &mut S, point: Point) -> Result<(), Refusal>
+    ensures on_ground { S.is_honest samples.new → IsOk result → IsTrue (is_ground (S.mosaic samples.old) point) }
+    ensures outside { IsErrOf result Outside ↔ IsHeldByNone (S.side_of samples.old) (S.corners samples.old) point }
+    ensures void { S.is_honest samples.new → IsErrOf result Void → height_of (S.mosaic samples.old) point ≡ height_is.Void }
+    ensures causes { IfErr result (λ r. IsTrue (may_refuse r)) }
+    ensures asked { Asked S.Samples samples.old samples.new result }
+{
     if !is_held(samples, point) {
         return Err(Refusal::Outside);
     }
     match height(samples, point)? {
         Height::Void => Err(Refusal::Void),
-        Height::Outside | Height::At(_) => sealed_tiles(alloc, samples),
+        Height::Outside | Height::At(_) => Ok(()),
     }
 }
 

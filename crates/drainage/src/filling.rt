@@ -1,27 +1,28 @@
 //! The filled level of a point.
-ghost use Rattle.std.specs.Prelude.{◌≡◌, ◌*◌, ◌<◌, ◌≤◌, ◌⊎◌, ◌↔◌, IsTrue, IfOk, IfErr, IsErrOf, IfSome, IfNone, length, slice_index, slice_index_or};
+ghost use Rattle.std.specs.Prelude.{◌≡◌, ◌*◌, ◌<◌, ◌≤◌, ◌↔◌, IsTrue, IfOk, IfErr, IsErrOf, IfSome, IfNone, length, slice_index, slice_index_or};
 ghost use Rattle.lattice.specs.Lattice.{IsIndexOf};
-ghost use Rattle.lattice.specs.Mosaic.{Mosaic, IsMosaic, void};
+ghost use Rattle.lattice.specs.Mosaic.{void};
 ghost use Rattle.lattice.specs.Height.{height_of};
 ghost use Rattle.lattice.specs.Ground.{is_ground, terrain};
 ghost use Rattle.lattice.specs.Terrain.{IsFilledLevel};
 ghost use Rattle.lattice.specs.declared.height.Height.TheVariants as height_is;
-ghost use Rattle.lattice.specs.declared.refusal.Refusal.TheVariants.{Outside, Void, NoMemory, Damaged};
+ghost use Rattle.lattice.specs.declared.refusal.Refusal.TheVariants.{Outside, Void};
 ghost use Rattle.catalogue.specs.Asked.{Asked};
-ghost use Rattle.catalogue.specs.Tiles.{corners_of};
-ghost use Rattle.catalogue.specs.Sealed.{IsSealed};
+ghost use Rattle.catalogue.specs.Endings.{ends_any};
 ghost use Rattle.drainage.specs.Asking.{IsHeldByNone, may_refuse};
 ghost use Rattle.drainage.specs.Flooded.{corner_at};
+ghost use Rattle.drainage.specs.Shores.{AreReady, AreKept};
 
-use crate::asking::survey;
+use crate::asking::check_ground;
 use crate::shores::Shores;
-use catalogue::{Samples, Table};
+use catalogue::Samples;
 use lattice::{Corner, Point, Refusal, Side, index_in};
 use rising::{level_from, node_at};
 use std::alloc::Global;
 use tile_flood::{Labelled, OUT};
 
 /// The filled level of the point, in metres: the least, over all paths to an outlet, of the greatest height on the path.
+/// Only the tiles on the water's way out are read.
 ///
 /// Outside where no present tile holds the point, then Void where its height is void. Otherwise it is refused only for
 /// want of memory, as a read may be, or with Damaged where what was read is no mosaic's.
@@ -32,26 +33,32 @@ pub fn fill<S: Samples>(alloc: Global, samples: &mut S, point: Point) -> Result<
     ensures causes { IfErr result (λ r. IsTrue (may_refuse r)) }
     ensures asked { Asked S.Samples samples.old samples.new result }
 {
-    let table = survey(alloc, samples, point)?;
-    level_at(alloc, table, point)
+    check_ground(samples, point)?;
+    let mut shores = Shores::new(alloc, samples)?;
+    level_at(alloc, samples, &mut shores, point)
 }
 
-// The filled level of a ground point, where each tile of the table is its block: the greater of its level in its own tile
-// and that of the rim point which its label names. Only the tiles on the water's way out are flooded.
-fn level_at(alloc: Global, table: Table, point: Point) -> Result<i16, Refusal>
-    requires valid { IsMosaic table }
-    requires held { IsHeldByNone table.side (corners_of table) point → ⊥ }
-    ensures level { (m : Mosaic) → IsMosaic m → IsSealed m table → IsTrue (is_ground m point) → IfOk result (λ level. IsFilledLevel (terrain m) point level) }
-    ensures not_damaged { (m : Mosaic) → IsMosaic m → IsSealed m table → IsTrue (is_ground m point) → IfErr result (λ r. r ≡ NoMemory) }
-    ensures causes { IfErr result (λ r. (r ≡ NoMemory) ⊎ (r ≡ Damaged)) }
+// The filled level of a ground point: the greater of its level in its own tile and that of the rim point which its label
+// names. Only the tiles on the water's way out are flooded.
+fn level_at<S: Samples>(
+    alloc: Global,
+    samples: &mut S,
+    shores: &mut Shores,
+    point: Point,
+) -> Result<i16, Refusal>
+    ensures level { S.is_honest samples.new → AreReady (S.mosaic samples.old) shores.old.side shores.old.corners.items shores.old.told.items
+        → IsTrue (is_ground (S.mosaic samples.old) point) → IfOk result (λ level. IsFilledLevel (terrain (S.mosaic samples.old)) point level) }
+    ensures asked { (S.is_honest samples.new → AreReady (S.mosaic samples.old) shores.old.side shores.old.corners.items shores.old.told.items × IsTrue (is_ground (S.mosaic samples.old) point))
+        → Asked S.Samples samples.old samples.new result }
+    ensures kept { AreKept S.Samples samples.old samples.new shores.old.side shores.old.corners.items shores.old.told.items shores.new.side shores.new.corners.items shores.new.told.items }
+    ensures causes { IfErr result (λ r. IsTrue (ends_any r)) }
 {
-    let side = table.side();
-    let mut shores = Shores::new(alloc, table)?;
+    let side = shores.side;
     let Some((number, index)) = first_holder(side, &shores.corners, point) else {
         return Err(Refusal::Damaged);
     };
     let corner = shores.corners[number];
-    let labelled = shores.enter(alloc, number, corner)?;
+    let labelled = shores.enter(alloc, samples, number, corner)?;
     let Some((level, label)) = spot_of(&labelled, index) else {
         return Err(Refusal::Damaged);
     };
@@ -61,7 +68,7 @@ fn level_at(alloc: Global, table: Table, point: Point) -> Result<i16, Refusal>
     let Some(start) = node_at(side, number, u32::from(label)) else {
         return Err(Refusal::Damaged);
     };
-    match level_from(alloc, &mut shores, start)? {
+    match level_from(alloc, shores, samples, start)? {
         Some(over) => Ok(level.max(over)),
         None => Err(Refusal::Damaged),
     }

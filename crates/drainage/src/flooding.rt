@@ -12,7 +12,7 @@ ghost use Rattle.drainage.specs.Flooded.{corner_at, AreRimsFilled};
 ghost use Rattle.drainage.specs.Draining.{AreTilesFilled};
 
 use crate::growth::push;
-use crate::summing::flood_tile;
+use crate::summing::flood_sealed;
 use border_graph::join;
 use catalogue::Table;
 use lattice::{Corner, Refusal};
@@ -40,7 +40,7 @@ pub(crate) fn flood(alloc: Global, table: &mut Table) -> Result<Flooded, Refusal
     let mut labelled = Vec::new(alloc);
     let mut summaries = Vec::new(alloc);
     for corner in &corners {
-        let (levels, summary) = flood_tile(alloc, table, *corner)?;
+        let (levels, summary) = flood_sealed(alloc, table, *corner)?;
         push(&mut labelled, levels)?;
         push(&mut summaries, summary)?;
     }

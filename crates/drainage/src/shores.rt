@@ -1,39 +1,42 @@
 //! The ways between rim points, of tiles that are flooded once water comes to their rims.
-ghost use Rattle.std.specs.Prelude.{◌≡◌, ◌≢◌, ◌+◌, ◌-◌, ◌*◌, ◌<◌, ◌≤◌, ◌⊎◌, ℕ, IfOk, IfErr, OnOk, IfSome, IfNone, Some, None, length};
-ghost use Rattle.lattice.specs.Mosaic.{Mosaic, IsMosaic};
-ghost use Rattle.catalogue.specs.Sealed.{IsSealed};
+ghost use Rattle.std.specs.Prelude.{◌≡◌, ◌≢◌, ◌+◌, ◌-◌, ◌*◌, ◌<◌, ◌≤◌, ◌⊎◌, ℕ, IfOk, IfErr, OnOk, IfSome, IfNone, IsTrue, Ok, Some, None, length};
+ghost use Rattle.catalogue.specs.Asked.{Asked};
+ghost use Rattle.catalogue.specs.Endings.{ends_any};
+ghost use Rattle.catalogue.specs.Readers.{OnlyReads};
 ghost use Rattle.drainage.specs.Flooded.{IsFlooded};
+ghost use Rattle.border_graph.specs.Joining.{IsSummaryOf};
+ghost use Rattle.lattice.specs.Mosaic.{Mosaic};
 ghost use Rattle.lattice.specs.declared.refusal.Refusal.TheVariants.{NoMemory, Damaged};
 ghost use Rattle.rising.specs.TileWays.{TileWays as TileWaysOf};
 ghost use Rattle.rising.specs.Others.{corner_at, AreTooMany};
-ghost use Rattle.drainage.specs.Shores.{told_at, AreTileWays, AreReady, AreKept};
+ghost use Rattle.drainage.specs.Shores.{told_at, AreTileWays, AreTold, AreReady, AreKept};
 
 use crate::growth::push;
 use crate::summing::flood_tile;
-use catalogue::{Samples, Table};
+use border_graph::Summary;
+use catalogue::Samples;
 use lattice::{Corner, Refusal, Side, VOID, point_at, rim_index};
 use rising::{TileWays, Way, Ways, node_at, ways_to_others};
 use std::alloc::Global;
 use tile_flood::Labelled;
 
-/// The tiles of a mosaic, in order, each of which is its block, and the ways of those that water has come to.
+/// The corners of a mosaic's tiles, in order, and the ways of those tiles that water has come to.
 #[derive(Drop)]
 pub(crate) struct Shores {
-    pub(crate) table: Table,
+    pub(crate) side: Side,
     pub(crate) corners: Vec<Corner>,
     pub(crate) told: Vec<Option<TileWays>>,
 }
 
 impl Shores {
     /// Water has come to none of the tiles. NoMemory is the only refusal.
-    pub(crate) fn new(alloc: Global, table: Table) -> Result<Shores, Refusal>
-        ensures table { IfOk result (λ s. s.table ≡ table) }
-        ensures ready { IfOk result (λ s. AreReady s.table s.corners.items s.told.items) }
-        ensures none { IfOk result (λ s. (t : ℕ) → told_at s.told.items t ≡ None) }
+    pub(crate) fn new<S: Samples>(alloc: Global, samples: &S) -> Result<Shores, Refusal>
+        ensures ready { S.is_honest samples.now → IfOk result (λ s. AreReady (S.mosaic samples.now) s.side s.corners.items s.told.items) }
         ensures refusal { IfErr result (λ r. r ≡ NoMemory) }
     {
-        let corners = table.corners(alloc)?;
-        let Some(_) = node_at(table.side(), corners.len(), 0) else {
+        let side = samples.side();
+        let corners = samples.present_corners(alloc)?;
+        let Some(_) = node_at(side, corners.len(), 0) else {
             return Err(Refusal::NoMemory);
         };
         let mut told = Vec::new(alloc);
@@ -41,7 +44,7 @@ impl Shores {
             push(&mut told, None)?;
         }
         Ok(Shores {
-            table,
+            side,
             corners,
             told,
         })
@@ -57,13 +60,21 @@ impl Shores {
     }
 
     // Floods the tile with this place and corner, unless that was done.
-    fn tell(&mut self, alloc: Global, t: usize, corner: Corner) -> Result<(), Refusal>
+    fn tell<S: Samples>(
+        &mut self,
+        alloc: Global,
+        samples: &mut S,
+        t: usize,
+        corner: Corner,
+    ) -> Result<(), Refusal>
+        requires place { t < length self.old.corners.items }
+        requires corner { corner_at self.old.corners.items t ≡ corner }
         ensures told { OnOk result ((ways : TileWaysOf) × (told_at self.new.told.items t ≡ Some ways)) }
         ensures only { (u : ℕ) (ways : TileWaysOf) → u ≢ t → told_at self.new.told.items u ≡ Some ways → told_at self.old.told.items u ≡ Some ways }
-        ensures kept { t < length self.old.corners.items → corner_at self.old.corners.items t ≡ corner
-            → AreKept self.old.table self.old.corners.items self.old.told.items self.new.table self.new.corners.items self.new.told.items }
-        ensures refusal { IfErr result (λ r. (r ≡ NoMemory) ⊎ ((r ≡ Damaged)
-            × (t < length self.old.corners.items → corner_at self.old.corners.items t ≡ corner → AreReady self.old.table self.old.corners.items self.old.told.items → ⊥))) }
+        ensures kept { AreKept S.Samples samples.old samples.new self.old.side self.old.corners.items self.old.told.items self.new.side self.new.corners.items self.new.told.items }
+        ensures reads { OnOk result (OnlyReads {T = Unit {0}} S.Samples samples.old samples.new (Ok tt)) }
+        ensures asked { (S.is_honest samples.new → AreReady (S.mosaic samples.old) self.old.side self.old.corners.items self.old.told.items) → Asked S.Samples samples.old samples.new result }
+        ensures causes { IfErr result (λ r. IsTrue (ends_any r)) }
     {
         if t >= self.told.len() {
             return Err(Refusal::Damaged);
@@ -71,48 +82,66 @@ impl Shores {
         if self.told[t].is_some() {
             return Ok(());
         }
-        let _ = self.enter(alloc, t, corner)?;
+        let _ = self.enter(alloc, samples, t, corner)?;
         Ok(())
     }
 
-    /// Floods the tile with this place and corner, to which no water has come.
+    /// Floods the tile with this place and corner, and has its ways from then on.
     ///
-    /// Damaged where there is no such tile. Otherwise NoMemory is the only refusal.
-    pub(crate) fn enter(
+    /// Damaged where there is no such tile. Otherwise it is refused for want of memory, or as a read is.
+    pub(crate) fn enter<S: Samples>(
         &mut self,
         alloc: Global,
+        samples: &mut S,
         t: usize,
         corner: Corner,
     ) -> Result<Labelled, Refusal>
-        ensures flooded { IfOk result (λ labelled. (m : Mosaic) → IsMosaic m → IsSealed m self.old.table → IsFlooded m corner labelled) }
+        requires place { t < length self.old.corners.items }
+        requires corner { corner_at self.old.corners.items t ≡ corner }
+        ensures flooded { S.is_honest samples.new → IfOk result (λ labelled. IsFlooded (S.mosaic samples.old) corner labelled) }
         ensures told { OnOk result ((ways : TileWaysOf) × (told_at self.new.told.items t ≡ Some ways)) }
         ensures only { (u : ℕ) (ways : TileWaysOf) → u ≢ t → told_at self.new.told.items u ≡ Some ways → told_at self.old.told.items u ≡ Some ways }
-        ensures kept { corner_at self.old.corners.items t ≡ corner → told_at self.old.told.items t ≡ None
-            → AreKept self.old.table self.old.corners.items self.old.told.items self.new.table self.new.corners.items self.new.told.items }
-        ensures refusal { IfErr result (λ r. (r ≡ NoMemory) ⊎ ((r ≡ Damaged)
-            × (t < length self.old.corners.items → corner_at self.old.corners.items t ≡ corner → AreReady self.old.table self.old.corners.items self.old.told.items → ⊥))) }
+        ensures kept { AreKept S.Samples samples.old samples.new self.old.side self.old.corners.items self.old.told.items self.new.side self.new.corners.items self.new.told.items }
+        ensures reads { OnOk result (OnlyReads {T = Unit {0}} S.Samples samples.old samples.new (Ok tt)) }
+        ensures asked { (S.is_honest samples.new → AreReady (S.mosaic samples.old) self.old.side self.old.corners.items self.old.told.items) → Asked S.Samples samples.old samples.new result }
+        ensures causes { IfErr result (λ r. IsTrue (ends_any r)) }
     {
-        if t >= self.told.len() {
+        if t >= self.told.len() || !samples.present(corner) {
             return Err(Refusal::Damaged);
         }
-        if !self.table.present(corner) {
-            return Err(Refusal::Damaged);
-        }
-        let side = self.table.side();
-        let (labelled, summary) = flood_tile(alloc, &mut self.table, corner)?;
-        let ways = TileWays::new(alloc, side, summary)?;
-        self.told[t] = Some(ways);
+        let (labelled, summary) = flood_tile(alloc, samples, corner)?;
+        self.learn(alloc, t, summary)?;
         Ok(labelled)
+    }
+
+    // Has the ways of the tile with this place and summary from then on, unless it had them.
+    fn learn(&mut self, alloc: Global, t: usize, summary: Summary) -> Result<(), Refusal>
+        requires inside { t < length self.old.told.items }
+        ensures told { OnOk result ((ways : TileWaysOf) × (told_at self.new.told.items t ≡ Some ways)) }
+        ensures only { (u : ℕ) (ways : TileWaysOf) → u ≢ t → told_at self.new.told.items u ≡ Some ways → told_at self.old.told.items u ≡ Some ways }
+        ensures side { self.new.side ≡ self.old.side }
+        ensures corners { self.new.corners.items ≡ self.old.corners.items }
+        ensures still { (u : ℕ) (ways : TileWaysOf) → told_at self.old.told.items u ≡ Some ways → told_at self.new.told.items u ≡ Some ways }
+        ensures right { (m : Mosaic) → corner_at self.old.corners.items t ≡ summary.corner → IsSummaryOf m summary
+            → AreTold m self.old.side self.old.corners.items self.old.told.items → AreTold m self.old.side self.old.corners.items self.new.told.items }
+        ensures refusal { IfErr result (λ r. r ≡ NoMemory) }
+    {
+        if self.told[t].is_some() {
+            return Ok(());
+        }
+        let ways = TileWays::new(alloc, self.side, summary)?;
+        self.told[t] = Some(ways);
+        Ok(())
     }
 
     // Lists the ways from the rim point with this number in the tile with this place, where the tile is told.
     fn list(&self, t: usize, k: u32, into: &mut Vec<Way>) -> Result<(), Refusal>
-        requires number { k < 4 * (self.now.table.side - 1) }
+        requires number { k < 4 * (self.now.side - 1) }
         requires place { t < length self.now.corners.items }
         ensures ways { OnOk result ((ways : TileWaysOf) → told_at self.now.told.items t ≡ Some ways
-            → AreTileWays self.now.table.side self.now.corners.items ways t k into.old.items into.new.items) }
+            → AreTileWays self.now.side self.now.corners.items ways t k into.old.items into.new.items) }
         ensures refusal { IfErr result (λ r. (r ≡ NoMemory) ⊎ ((r ≡ Damaged) × ((ways : TileWaysOf) → told_at self.now.told.items t ≡ Some ways
-            → (ways.side ≢ self.now.table.side) ⊎ AreTooMany self.now.table.side self.now.corners.items))) }
+            → (ways.side ≢ self.now.side) ⊎ AreTooMany self.now.side self.now.corners.items))) }
     {
         let Some(told) = self.told.get(t) else {
             return Err(Refusal::Damaged);
@@ -120,7 +149,7 @@ impl Shores {
         let Some(ways) = told else {
             return Err(Refusal::Damaged);
         };
-        list_ways(self.table.side(), &self.corners, ways, t, k, into)?;
+        list_ways(self.side, &self.corners, ways, t, k, into)?;
         Ok(())
     }
 }
@@ -157,43 +186,44 @@ fn list_ways(
     Ok(())
 }
 
-impl Ways for Shores {
-    ghost use Rattle.std.specs.Prelude.{◌≡◌, ◌⊎◌};
-    ghost use Rattle.lattice.specs.declared.refusal.Refusal.TheVariants.{NoMemory, Damaged};
-    ghost use Rattle.std.specs.Prelude.{Some};
+impl<S: Samples> Ways<S> for Shores {
+    ghost use Rattle.std.specs.Prelude.{◌≡◌, Some};
     ghost use Rattle.rising.specs.TileWays.{TileWays};
-    ghost use Rattle.drainage.specs.Shores.{told_at, Fits, AreReady, AreKept};
-    ghost use Rattle.drainage.specs.Kept.{kept_itself, kept_on, refused_on};
+    ghost use Rattle.drainage.specs.Shores.{told_at, Fits, AreCarried, AreRefused};
+    ghost use Rattle.drainage.specs.Kept.{carried_itself, carried_on, refused_on, ran_out};
 
-    ghost fits = { λ s n summaries. Fits s.table.side s.corners.items s.told.items n summaries };
+    ghost fits = { λ s n summaries. Fits s.side s.corners.items s.told.items n summaries };
 
-    ghost keeps = { λ old new. AreKept old.table old.corners.items old.told.items new.table new.corners.items new.told.items };
+    ghost keeps = { λ s a s' b. AreCarried S.Samples a b s.side s.corners.items s.told.items s'.side s'.corners.items s'.told.items };
 
     ghost told = { λ s t. (ways : TileWays) × (told_at s.told.items t ≡ Some ways) };
 
-    ghost refuses = { λ old new r. (r ≡ NoMemory) ⊎ ((r ≡ Damaged) × (AreReady old.table old.corners.items old.told.items → ⊥)) };
+    ghost refuses = { λ s a s' b r. AreRefused S.Samples a b s.side s.corners.items s.told.items s'.side s'.corners.items s'.told.items r };
 
     ghost levels_fit = { λ s n summaries x y level fits link. fits.low x y level link };
 
-    ghost keeps_itself = { λ s. kept_itself s.table s.corners.items s.told.items };
+    ghost keeps_itself = { λ s a. carried_itself _ S.keeps_itself a s.side s.corners.items s.told.items };
 
-    ghost keeps_on = { λ a b c one two. kept_on a.table a.corners.items a.told.items b.table b.corners.items b.told.items c.table c.corners.items c.told.items one two };
+    ghost keeps_on = { λ s s' s'' a b c one two. carried_on _ S.keeps_on a b s.side s.corners.items s.told.items s'.side s'.corners.items s'.told.items one c s''.side s''.corners.items s''.told.items two };
 
-    ghost refuses_on = { λ a b c r kept refused. refused_on a.table a.corners.items a.told.items b.table b.corners.items b.told.items r kept refused };
+    ghost refuses_on = { λ s s' s'' a b c r kept refused. refused_on _ S.keeps_on a b s.side s.corners.items s.told.items s'.side s'.corners.items s'.told.items kept c s''.side s''.corners.items s''.told.items r refused };
+
+    ghost runs_out = { λ s s' a b kept. ran_out _ S.keeps_on a b s.side s.corners.items s.told.items s'.side s'.corners.items s'.told.items kept };
 
     fn ways_from(
         &mut self,
         alloc: Global,
+        source: &mut S,
         node: u32,
         into: &mut Vec<Way>,
     ) -> Result<Option<i16>, Refusal> {
-        let side = self.table.side();
+        let side = self.side;
         let t = ((node - 1) / side.rim()) as usize;
         let k = (node - 1) % side.rim();
         let Some(corner) = self.corner(t) else {
             return Ok(None);
         };
-        self.tell(alloc, t, corner)?;
+        self.tell(alloc, source, t, corner)?;
         self.list(t, k, into)?;
         Ok(None)
     }

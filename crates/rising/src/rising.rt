@@ -1,6 +1,5 @@
 //! Water rising from one node, over the lowest links first.
 ghost use Rattle.std.specs.Prelude.{◌≡◌, ℕ, ℤ, ◌<◌, ◌⊎◌, List, IfOk, IfErr, OnOk, IfSome, IfNone, length};
-ghost use Rattle.lattice.specs.declared.refusal.Refusal.TheVariants.{NoMemory};
 ghost use Rattle.border_graph.specs.Links.{IsJoinedLevel, IsWayBelow};
 ghost use Rattle.border_graph.specs.Summaries.{Summary};
 ghost use Rattle.rising.specs.Answers.{IsTileReached};
@@ -21,8 +20,13 @@ use std::alloc::{AllocError, Global};
 ///
 /// Where it answers a level, it asked only for tiles with a rim point that the start reaches at no more than that level.
 ///
-/// The only refusals are those of the graph's answers, and NoMemory.
-pub fn level_from<W: Ways>(alloc: Global, ways: &mut W, start: u32) -> Result<Option<i16>, Refusal>
+/// It is refused as the graph's answers are, where want of memory is such a refusal.
+pub fn level_from<S, W: Ways<S>>(
+    alloc: Global,
+    ways: &mut W,
+    source: &mut S,
+    start: u32,
+) -> Result<Option<i16>, Refusal>
     requires { 0 < start }
     ensures level { (n : ℕ) (summaries : List Summary) → W.fits ways.new n summaries
         → IfOk result (λ found. IfSome found (IsLeastCrest (IsPlacedLink n summaries) start)) }
@@ -34,9 +38,9 @@ pub fn level_from<W: Ways>(alloc: Global, ways: &mut W, start: u32) -> Result<Op
         → IfOk result (λ found. IfNone found ((level : ℤ) (rest : List ℕ) → IsWayBelow (IsPlacedLink n summaries) 0 level start rest → ⊥)) }
     ensures told { (n : ℕ) (summaries : List Summary) → W.fits ways.new n summaries
         → IfOk result (λ found. IfSome found (λ level. (t : ℕ) → W.told ways.new t → W.told ways.old t ⊎ IsTileReached n (IsPlacedLink n summaries) start level t)) }
-    ensures refusal { IfErr result (λ refusal. (refusal ≡ NoMemory) ⊎ W.refuses ways.old ways.new refusal) }
+    ensures refusal { IfErr result (W.refuses ways.old source.old ways.new source.new) }
     ensures fits { (n : ℕ) (summaries : List Summary) → W.fits ways.new n summaries → W.fits ways.old n summaries }
-    ensures keeps { W.keeps ways.old ways.new }
+    ensures keeps { OnOk result (W.keeps ways.old source.old ways.new source.new) }
 {
     let mut taken = Taken::new(alloc);
     let mut waiting = Waiting::new(alloc);
@@ -49,7 +53,7 @@ pub fn level_from<W: Ways>(alloc: Global, ways: &mut W, start: u32) -> Result<Op
         if seat.node == 0 {
             return Ok(Some(seat.crest));
         }
-        follow(alloc, ways, seat, &taken, &mut waiting)?;
+        follow(alloc, ways, source, seat, &taken, &mut waiting)?;
     }
     Ok(None)
 }
@@ -69,9 +73,10 @@ fn take_next(waiting: &mut Waiting, taken: &mut Taken) -> Result<Option<Seat>, A
 
 // Lets each node wait to which a way leads from the seat's node, unless it is taken. Where the level of the seat's node
 // is known, only the outlet node waits.
-fn follow<W: Ways>(
+fn follow<S, W: Ways<S>>(
     alloc: Global,
     ways: &mut W,
+    source: &mut S,
     seat: Seat,
     taken: &Taken,
     waiting: &mut Waiting,
@@ -80,12 +85,12 @@ fn follow<W: Ways>(
     ensures followed { (n : ℕ) (summaries : List Summary) → W.fits ways.new n summaries
         → OnOk result (IsFollowed (IsPlacedLink n summaries) taken.now waiting.old waiting.new seat) }
     ensures told { (n : ℕ) (summaries : List Summary) → W.fits ways.new n summaries → (t : ℕ) → W.told ways.new t → W.told ways.old t ⊎ IsOfTile n t seat.node }
-    ensures refusal { IfErr result (λ refusal. (refusal ≡ NoMemory) ⊎ W.refuses ways.old ways.new refusal) }
+    ensures refusal { IfErr result (W.refuses ways.old source.old ways.new source.new) }
     ensures fits { (n : ℕ) (summaries : List Summary) → W.fits ways.new n summaries → W.fits ways.old n summaries }
-    ensures keeps { W.keeps ways.old ways.new }
+    ensures keeps { OnOk result (W.keeps ways.old source.old ways.new source.new) }
 {
     let mut found = Vec::new(alloc);
-    match ways.ways_from(alloc, seat.node, &mut found)? {
+    match ways.ways_from(alloc, source, seat.node, &mut found)? {
         Some(level) => waiting.push(raised(seat, Way { level, to: 0 }))?,
         None => push_all(seat, &found, taken, waiting)?,
     }

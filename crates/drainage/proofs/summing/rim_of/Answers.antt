@@ -1,20 +1,22 @@
-use Rattle.std.proofs.Common.{◌+◌, sym, ◌∙◌, subst, List}
-use Rattle.std.proofs.lemmas.Result.{err_from_is_err_and}
+use Rattle.std.proofs.Common.{◌+◌, Ok, sym, subst, List}
+use Rattle.lattice.specs.Mosaic.{Mosaic}
 use Rattle.border_graph.specs.declared.summary.RimPoint.{RimPoint}
+use Rattle.catalogue.proofs.Reading.{reads_on, reads_as}
 use Rattle.drainage.specs.Flooded.{IsRimPointIn, AreRimPointsIn}
 use Rattle.drainage.proofs.Summed.{one_more_point}
 use Rattle.drainage.proofs.summing.rim_of.Goals as goal
 
 pub loop-number-preserved : goal.loop-number-preserved
-loop-number-preserved c = record {
-  same = c.in_ok-point.ensures.same ∙ c.loop-number.invariant.same;
-  points = subst (λ (l : List RimPoint). AreRimPointsIn c.args.table.now c.args.corner c.args.block.now.heights c.args.labelled.now.labels l (c.loop-number.number + 1)) (sym c.in_ok-push.ensures.pushed)
-      (one_more_point c.args.table.now c.args.corner c.args.block.now.heights c.args.labelled.now.labels c.loop-number.rim.items c.loop-number.number c.in_ok-point.point
-      (subst (λ s. IsRimPointIn s c.args.corner c.args.block.now.heights c.args.labelled.now.labels c.loop-number.number c.in_ok-point.point) c.loop-number.invariant.same c.in_ok-point.ensures.point)
-      c.loop-number.invariant.points);
-}
-
-pub returns-in_err-push-clause-refusal : goal.returns-in_err-push-clause-refusal
-returns-in_err-push-clause-refusal c =
-    let p = err_from_is_err_and c.from_residual-in_err-push.result c.from_residual-in_err-push.ensures.1 in
-    rw p.1 (p.2 ∙ c.in_err-push.ensures.refusal)
+loop-number-preserved g c =
+    let now = c.args.samples.now in
+    let so = c.loop-number.invariant in
+    let read = c.in_ok-point.ensures.reads in
+    record {
+      reads = reads_on g.S.Samples g.met.S.Samples.keeps_on now c.loop-number.samples c.rim_point.new.samples tt (Ok tt) so.reads (reads_as g.S.Samples c.loop-number.samples c.rim_point.new.samples c.in_ok-point.point tt read);
+      points = λ honest.
+          let mid = read.honest honest in
+          subst (λ (l : List RimPoint). AreRimPointsIn (g.S.Samples.mosaic now) c.args.corner c.args.block.now.heights c.args.labelled.now.labels l (c.loop-number.number + 1)) (sym c.in_ok-push.ensures.pushed)
+          (one_more_point (g.S.Samples.mosaic now) c.args.corner c.args.block.now.heights c.args.labelled.now.labels c.loop-number.rim.items c.loop-number.number c.in_ok-point.point
+          (subst (λ (m : Mosaic). IsRimPointIn m c.args.corner c.args.block.now.heights c.args.labelled.now.labels c.loop-number.number c.in_ok-point.point) (so.reads.mosaic mid) (c.in_ok-point.ensures.point honest))
+          (so.points mid));
+    }

@@ -1,9 +1,10 @@
-use Rattle.std.proofs.Common.{◌≡◌}
+use Rattle.std.specs.Prelude.{Ok}
+use Rattle.catalogue.specs.Readers.{OnlyReads}
 use Rattle.drainage.specs.Flooded.{AreRimPointsIn}
 use Rattle.drainage.proofs.summing.rim_of.Given as goal
 
 abbrev pub invariant-loop-number : goal.invariant-loop-number
-invariant-loop-number l = record {
-  same : l.table ≡ l.fn.table;
-  points : AreRimPointsIn l.fn.table l.corner l.block.heights l.labelled.labels l.rim.items l.number;
+invariant-loop-number g l = record {
+  reads : OnlyReads {T = Unit {0}} g.S.Samples l.fn.samples l.samples (Ok tt);
+  points : g.S.Samples.is_honest l.samples → AreRimPointsIn (g.S.Samples.mosaic l.fn.samples) l.corner l.block.heights l.labelled.labels l.rim.items l.number;
 }

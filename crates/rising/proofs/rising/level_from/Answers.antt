@@ -1,13 +1,13 @@
 use Rattle.std.proofs.Common.{rules, true, ◌≡◌, ◌<◌, ◌^◌, ◌⊎◌, inl, inr, SFits, w16, refl, sym, subst, arith, to_z, of_z, List, [], ◌∷◌, map}
 use Rattle.std.specs.Prelude.{IfSome, IfNone}
 use Rattle.std.proofs.lemmas.Int.{to_z-of_z}
+use Rattle.std.proofs.lemmas.Result.{err_from_is_err_and}
 use Rattle.lattice.specs.Mosaic.{void}
 use Rattle.border_graph.specs.Links.{IsJoinedLevel}
 use Rattle.border_graph.specs.Joining.{Rim}
 use Rattle.border_graph.specs.Linking.{node_number}
 use Rattle.rising.specs.Answers.{IsReachedBelow}
 use Rattle.rising.specs.Placed.{IsPlacedLink}
-use Rattle.lattice.specs.declared.refusal.Refusal.TheVariants.{NoMemory}
 use Rattle.rising.specs.Waiting.{is_among, IsAdded, IsNext, NoneLeft}
 use Rattle.rising.specs.declared.ways.Way.{Way}
 use Rattle.rising.specs.Crests.{crest, LeadsOut}
@@ -20,7 +20,7 @@ use Rattle.rising.proofs.rising.level_from.Goals as goal
 pub rise-init : goal.rise-init
 rise-init g c = record {
   fits = λ n summaries fits. fits;
-  keeps = g.met.W.Ways.keeps_itself c.args.ways.now;
+  keeps = g.met.W.Ways.keeps_itself c.args.ways.now c.args.source.now;
   told = λ n summaries fits t told. inl told;
   rising = λ n summaries fits. rising_first (IsPlacedLink n summaries) c.args.start (λ x y level. g.met.W.Ways.levels_fit c.args.ways.now n summaries x y level fits) c.requires c.new-taken.result c.new-taken.ensures c.push.new.self (record { crest = void; level = void; node = c.args.start })
       (subst (λ old. IsAdded old c.push.new.self (record { crest = void; level = void; node = c.args.start })) c.new-waiting.ensures c.in_ok-push.ensures) refl refl;
@@ -66,7 +66,7 @@ rise-preserved g c =
     subst (λ found. IfSome found (IsNext c.rise.waiting c.rise.taken c.take_next.new.waiting c.take_next.new.taken)) c.in-Some.is c.in_ok-seat.ensures.next in
     record {
       fits = λ n summaries fits. c.rise.invariant.fits n summaries (c.in_ok-follow.ensures.fits n summaries fits);
-      keeps = g.met.W.Ways.keeps_on c.args.ways.now c.rise.ways c.follow.new.ways c.rise.invariant.keeps c.in_ok-follow.ensures.keeps;
+      keeps = g.met.W.Ways.keeps_on c.args.ways.now c.rise.ways c.follow.new.ways c.args.source.now c.rise.source c.follow.new.source c.rise.invariant.keeps c.in_ok-follow.ensures.keeps;
       told = λ n summaries fits t told. elim (c.in_ok-follow.ensures.told n summaries fits t told) [
         | inr here ↦ inr (here.0, subst (λ y. is_among c.take_next.new.taken y ≡ true) here.1 (taken_now c.rise.taken c.take_next.new.taken c.in-Some.seat.node next.takes))
         | inl before ↦ elim (c.rise.invariant.told n summaries (c.in_ok-follow.ensures.fits n summaries fits) t before) [
@@ -83,11 +83,9 @@ rise-preserved g c =
 
 pub returns-in_err-follow-clause-refusal : goal.returns-in_err-follow-clause-refusal
 returns-in_err-follow-clause-refusal g c =
-    let refused : (c.in_err-follow.field-0.0 ≡ NoMemory) ⊎ g.W.Ways.refuses c.args.ways.now c.follow.new.ways c.in_err-follow.field-0.0 = elim c.in_err-follow.ensures.refusal [
-      | inl memory ↦ inl memory
-      | inr refused ↦ inr (g.met.W.Ways.refuses_on c.args.ways.now c.rise.ways c.follow.new.ways c.in_err-follow.field-0.0 c.rise.invariant.keeps refused)
-    ] in
-    search (rules, refused)
+    let p = err_from_is_err_and c.from_residual-in_err-follow.result c.from_residual-in_err-follow.ensures.1 in
+    rw p.1 (subst (g.W.Ways.refuses c.args.ways.now c.args.source.now c.follow.new.ways c.follow.new.source) (sym p.2)
+    (g.met.W.Ways.refuses_on c.args.ways.now c.rise.ways c.follow.new.ways c.args.source.now c.rise.source c.follow.new.source c.in_err-follow.field-0.0 c.rise.invariant.keeps c.in_err-follow.ensures.refusal))
 
 pub returns-clause-not_joined : goal.returns-clause-not_joined
 returns-clause-not_joined g c n summaries fits =

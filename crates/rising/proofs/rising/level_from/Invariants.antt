@@ -11,7 +11,7 @@ use Rattle.rising.proofs.rising.level_from.Given as goal
 abbrev pub invariant-rise : goal.invariant-rise
 invariant-rise g l = record {
   fits : (n : ℕ) (summaries : List Summary) → g.W.Ways.fits l.ways n summaries → g.W.Ways.fits l.fn.ways n summaries;
-  keeps : g.W.Ways.keeps l.fn.ways l.ways;
+  keeps : g.W.Ways.keeps l.fn.ways l.fn.source l.ways l.source;
   told : (n : ℕ) (summaries : List Summary) → g.W.Ways.fits l.ways n summaries → (t : ℕ) → g.W.Ways.told l.ways t → g.W.Ways.told l.fn.ways t ⊎ ((k : ℕ) × (is_among l.taken (node_number n (Rim t k)) ≡ true));
   rising : (n : ℕ) (summaries : List Summary) → g.W.Ways.fits l.ways n summaries → IsRising (IsPlacedLink n summaries) l.start l.taken l.waiting;
 }

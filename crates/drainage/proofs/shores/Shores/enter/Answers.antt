@@ -1,27 +1,52 @@
-use Rattle.std.proofs.Common.{◌<◌, ◌∙◌, inr, true≢false, List, Contains, length, refl, sym, ap, subst, rules}
+use Rattle.std.proofs.Common.{◌≤◌, ◌∙◌, true≢false, List, Contains, length, sym, subst, arith, rules}
 use Rattle.std.proofs.lemmas.List.{get_or_default}
 use Rattle.lattice.specs.Corners.{Corner}
-use Rattle.rising.specs.TileWays.{TileWays}
-use Rattle.border_graph.specs.Joining.{IsSummaryOf}
-use Rattle.drainage.proofs.Telling.{told_more, only_told}
+use Rattle.catalogue.proofs.Reading.{reads_nothing}
+use Rattle.drainage.proofs.Questioned.{answered, stopped}
 use Rattle.drainage.proofs.shores.Shores.enter.Goals as goal
+use Rattle.drainage.proofs.shores.Shores.enter.Goals.{then-t-len-via-then-t-len, then-t-len-via-else-t-len+then-not-present}
+
+pub returns-then-t-len-clause-asked : goal.returns-then-t-len-clause-asked
+returns-then-t-len-clause-asked g c ready =
+    let a = c.args.samples.now in
+    let corners = c.args.self.now.corners.items in
+    stopped g.S.Samples a a (reads_nothing g.S.Samples g.met.S.Samples.keeps_itself a (tt {0})) (λ honest. elim c.then-t-len.branch [
+      | then-t-len-via-then-t-len w ↦
+          let past : length c.args.self.now.told.items ≤ c.args.t = (let size = c.len.ensures in let h = w.if-t-len.true in search rules) in
+          let whole = (ready honest).tiles.whole in
+          let place = c.requires.place in
+          absurd (omega arith)
+      | then-t-len-via-else-t-len+then-not-present w ↦
+          let has : Contains corners c.args.corner = (c.args.t, c.requires.place, get_or_default corners c.args.t c.args.corner _ c.requires.place ∙ c.requires.corner) in
+          let there = subst (λ (cs : List Corner). Contains cs c.args.corner) ((ready honest).all ∙ g.met.S.Samples.same_corners a honest) has in
+          absurd (true≢false (sym (w.present.ensures.answer.1 there) ∙ w.if-not-present.true))
+    ])
 
 pub returns-clause-kept : goal.returns-clause-kept
-returns-clause-kept c at none =
-    let ways = c.in_ok-ways.ways in
-    let inside : c.args.t < length c.args.self.now.told.items = (let size = c.len.ensures in search rules) in
-    told_more c.args.self.now.table c.flood_tile.new.table c.args.self.now.corners.items c.args.self.now.told.items c.args.t c.args.corner ways inside none c.in_ok-labelled.ensures.same at
-    (ap (λ (w : TileWays). w.side) c.in_ok-ways.ensures.value ∙ c.side-side.ensures) (ap (λ (w : TileWays). w.summary.corner) c.in_ok-ways.ensures.value ∙ c.in_ok-labelled.ensures.corner)
-    (λ m is sealed. subst (λ (w : TileWays). IsSummaryOf m w.summary) (sym c.in_ok-ways.ensures.value) (c.in_ok-labelled.ensures.border m is sealed))
+returns-clause-kept g c =
+    let reads = c.in_ok-labelled.ensures.reads in
+    let learned = c.in_ok-learn.ensures in
+    record {
+      honest = reads.honest;
+      mosaic = reads.mosaic;
+      same_side = learned.side;
+      same_corners = learned.corners;
+      still = learned.still;
+      right = λ honest told. learned.right (g.S.Samples.mosaic c.args.samples.now) (c.requires.corner ∙ sym c.in_ok-labelled.ensures.corner) (c.in_ok-labelled.ensures.border honest) told;
+    }
 
-pub returns-then-not-present-clause-refusal : goal.returns-then-not-present-clause-refusal
-returns-then-not-present-clause-refusal c = inr (
-  refl,
-  λ small at ready.
-      let corners = c.args.self.now.corners.items in
-      let has : Contains corners c.args.corner = (c.args.t, small, get_or_default corners c.args.t c.args.corner _ small ∙ at) in
-      true≢false (sym (c.present.ensures.answer.1 (subst (λ (cs : List Corner). Contains cs c.args.corner) ready.all has)) ∙ c.if-not-present.true),
-)
+pub returns-in_err-learn-clause-kept : goal.returns-in_err-learn-clause-kept
+returns-in_err-learn-clause-kept g c =
+    let reads = c.in_ok-labelled.ensures.reads in
+    let learned = c.in_err-learn.ensures in
+    record {
+      honest = reads.honest;
+      mosaic = reads.mosaic;
+      same_side = learned.side;
+      same_corners = learned.corners;
+      still = learned.still;
+      right = λ honest told. learned.right (g.S.Samples.mosaic c.args.samples.now) (c.requires.corner ∙ sym c.in_ok-labelled.ensures.corner) (c.in_ok-labelled.ensures.border honest) told;
+    }
 
-pub returns-clause-only : goal.returns-clause-only
-returns-clause-only c u w other is = only_told c.args.self.now.told.items c.args.t c.in_ok-ways.ways u w other is
+pub returns-clause-asked : goal.returns-clause-asked
+returns-clause-asked g c ready = answered g.S.Samples c.args.samples.now c.flood_tile.new.samples c.in_ok-labelled.labelled c.in_ok-labelled.ensures.reads

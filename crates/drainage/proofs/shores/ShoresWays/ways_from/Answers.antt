@@ -1,45 +1,59 @@
-use Rattle.std.proofs.Common.{◌*◌, ◌/◌, ◌-◌, ◌<◌, ◌≤◌, List, length, sym, subst, ◌∙◌, ap}
+use Rattle.std.proofs.Common.{inl, inr, ◌*◌, ◌/◌, ◌-◌, ◌<◌, ◌≤◌, List, length, sym, subst, ◌∙◌, ap, arith}
 use Rattle.lattice.specs.Corners.{Corner}
-use Rattle.lattice.specs.Mosaic.{Mosaic}
+use Rattle.std.proofs.lemmas.Result.{err_from_is_err_and}
+use Rattle.drainage.specs.Kept.{ready_later}
+use Rattle.drainage.specs.Shores.{AreRefused}
+use Rattle.drainage.proofs.Questioned.{own_refused}
 use Rattle.drainage.proofs.Numbered.{no_ways, told_ways, told_of}
 use Rattle.drainage.proofs.shores.ShoresWays.ways_from.Goals as goal
 
 pub returns-in_default-clause-answer : goal.returns-in_default-clause-answer
-returns-in_default-clause-answer c n summaries fits =
-    let same = c.side-side.ensures in
-    no_ways c.args.self.now.table.side c.args.self.now.corners.items c.args.self.now.told.items n summaries fits c.args.node c.rim.result c.rim-2.result c.requires.node
-    (subst (λ s. 3 ≤ s) same c.rim.ensures.low) (c.rim.ensures.value ∙ ap (λ s. 4 * (s - 1)) same) (c.rim-2.ensures.value ∙ ap (λ s. 4 * (s - 1)) same) c.in_default.ensures.none c.args.into.now.items c.requires.empty
+returns-in_default-clause-answer g c n summaries fits =
+    no_ways c.args.self.now.side c.args.self.now.corners.items c.args.self.now.told.items n summaries fits c.args.node c.rim.result c.rim-2.result c.requires.node
+    c.rim.ensures.low c.rim.ensures.value c.rim-2.ensures.value c.in_default.ensures.none c.args.into.now.items c.requires.empty
 
 pub returns-clause-answer : goal.returns-clause-answer
-returns-clause-answer c n summaries fits =
+returns-clause-answer g c n summaries fits =
     let told = c.in_ok-tell.ensures.told in
     let at = c.in-Some.ensures.some in
-    let kept = c.in_ok-tell.ensures.kept at.0 at.1 in
-    let same = c.side-side.ensures ∙ sym (ap (λ (s : Mosaic). s.side) kept.same_table) in
-    told_ways c.tell.new.self.table.side c.tell.new.self.corners.items c.tell.new.self.told.items n summaries fits c.args.node c.rim.result c.rim-2.result c.requires.node
+    let kept = c.in_ok-tell.ensures.kept in
+    let same = sym kept.same_side in
+    told_ways c.tell.new.self.side c.tell.new.self.corners.items c.tell.new.self.told.items n summaries fits c.args.node c.rim.result c.rim-2.result c.requires.node
     (subst (λ s. 3 ≤ s) same c.rim.ensures.low) (c.rim.ensures.value ∙ ap (λ s. 4 * (s - 1)) same) (c.rim-2.ensures.value ∙ ap (λ s. 4 * (s - 1)) same)
     told.0 told.1 (subst (λ (cs : List Corner). (c.args.node - 1) / c.rim.result < length cs) (sym kept.same_corners) at.0) c.args.into.now.items c.list.new.into.items c.requires.empty (c.in_ok-list.ensures.ways told.0 told.1)
 
 pub returns-in_err-tell-clause-told : goal.returns-in_err-tell-clause-told
-returns-in_err-tell-clause-told c n summaries fits =
-    let at = c.in-Some.ensures.some in
-    let kept = c.in_err-tell.ensures.kept at.0 at.1 in
-    let same = c.side-side.ensures ∙ sym (ap (λ (s : Mosaic). s.side) kept.same_table) in
-    told_of c.tell.new.self.table.side c.tell.new.self.corners.items c.tell.new.self.told.items n summaries fits c.args.node c.rim.result c.rim-2.result c.requires.node
+returns-in_err-tell-clause-told g c n summaries fits =
+    let same = sym c.in_err-tell.ensures.kept.same_side in
+    told_of c.tell.new.self.side c.tell.new.self.corners.items c.tell.new.self.told.items n summaries fits c.args.node c.rim.result c.rim-2.result c.requires.node
     (subst (λ s. 3 ≤ s) same c.rim.ensures.low) (c.rim.ensures.value ∙ ap (λ s. 4 * (s - 1)) same) (c.rim-2.ensures.value ∙ ap (λ s. 4 * (s - 1)) same) c.args.self.now.told.items c.in_err-tell.ensures.only
 
 pub returns-in_err-list-clause-told : goal.returns-in_err-list-clause-told
-returns-in_err-list-clause-told c n summaries fits =
-    let at = c.in-Some.ensures.some in
-    let kept = c.in_ok-tell.ensures.kept at.0 at.1 in
-    let same = c.side-side.ensures ∙ sym (ap (λ (s : Mosaic). s.side) kept.same_table) in
-    told_of c.tell.new.self.table.side c.tell.new.self.corners.items c.tell.new.self.told.items n summaries fits c.args.node c.rim.result c.rim-2.result c.requires.node
+returns-in_err-list-clause-told g c n summaries fits =
+    let same = sym c.in_ok-tell.ensures.kept.same_side in
+    told_of c.tell.new.self.side c.tell.new.self.corners.items c.tell.new.self.told.items n summaries fits c.args.node c.rim.result c.rim-2.result c.requires.node
     (subst (λ s. 3 ≤ s) same c.rim.ensures.low) (c.rim.ensures.value ∙ ap (λ s. 4 * (s - 1)) same) (c.rim-2.ensures.value ∙ ap (λ s. 4 * (s - 1)) same) c.args.self.now.told.items c.in_ok-tell.ensures.only
 
 pub returns-clause-told : goal.returns-clause-told
-returns-clause-told c n summaries fits =
-    let at = c.in-Some.ensures.some in
-    let kept = c.in_ok-tell.ensures.kept at.0 at.1 in
-    let same = c.side-side.ensures ∙ sym (ap (λ (s : Mosaic). s.side) kept.same_table) in
-    told_of c.tell.new.self.table.side c.tell.new.self.corners.items c.tell.new.self.told.items n summaries fits c.args.node c.rim.result c.rim-2.result c.requires.node
+returns-clause-told g c n summaries fits =
+    let same = sym c.in_ok-tell.ensures.kept.same_side in
+    told_of c.tell.new.self.side c.tell.new.self.corners.items c.tell.new.self.told.items n summaries fits c.args.node c.rim.result c.rim-2.result c.requires.node
     (subst (λ s. 3 ≤ s) same c.rim.ensures.low) (c.rim.ensures.value ∙ ap (λ s. 4 * (s - 1)) same) (c.rim-2.ensures.value ∙ ap (λ s. 4 * (s - 1)) same) c.args.self.now.told.items c.in_ok-tell.ensures.only
+
+pub returns-in_err-list-clause-refusal : goal.returns-in_err-list-clause-refusal
+returns-in_err-list-clause-refusal g c =
+    let p = err_from_is_err_and c.from_residual-in_err-list.result c.from_residual-in_err-list.ensures.1 in
+    let a = c.args.source.now in
+    let b = c.tell.new.samples in
+    let s = c.args.self.now in
+    let s' = c.tell.new.self in
+    let kept = c.in_ok-tell.ensures.kept in
+    let told = c.in_ok-tell.ensures.told in
+    rw p.1 (subst (AreRefused g.S.Samples a b s.side s.corners.items s.told.items s'.side s'.corners.items s'.told.items) (sym p.2)
+    (own_refused g.S.Samples a b s.side s.corners.items s.told.items s'.side s'.corners.items s'.told.items c.in_err-list.field-0.0 _ kept c.in_ok-tell.ensures.reads c.in_err-list.ensures.refusal
+    (λ honest ready never.
+    let then_ = ready_later g.S.Samples a b s.side s.corners.items s.told.items s'.side s'.corners.items s'.told.items kept honest ready in
+    elim (never told.0 told.1) [
+      | inl apart ↦ apart (then_.tiles.sides _ told.0 told.1)
+      | inr many ↦ let room = then_.room in omega arith
+    ])))

@@ -1,0 +1,23 @@
+use Rattle.std.proofs.Common.{◌∙◌, sym, ap, subst}
+use Rattle.border_graph.specs.Joining.{IsSummaryOf}
+use Rattle.rising.specs.TileWays.{TileWays}
+use Rattle.drainage.proofs.Telling.{some_there, none_there, still_told, only_told, told_more}
+use Rattle.drainage.proofs.shores.Shores.learn.Goals as goal
+
+pub returns-then-is_some-clause-told : goal.returns-then-is_some-clause-told
+returns-then-is_some-clause-told c = some_there c.args.self.now.told.items c.args.t c.index.result.now c.requires.inside c.index.ensures (sym c.is_some.ensures ∙ c.if-is_some.true)
+
+pub returns-clause-only : goal.returns-clause-only
+returns-clause-only c u w other is = only_told c.args.self.now.told.items c.args.t c.in_ok-ways.ways u w other is
+
+pub returns-clause-still : goal.returns-clause-still
+returns-clause-still c u w is =
+    let none = none_there c.args.self.now.told.items c.args.t c.index.result.now c.requires.inside c.index.ensures (sym c.is_some.ensures ∙ c.if-is_some.false) in
+    still_told c.args.self.now.side c.args.self.now.corners.items c.args.self.now.told.items c.args.t c.args.summary.corner c.in_ok-ways.ways c.requires.inside none u w is
+
+pub returns-clause-right : goal.returns-clause-right
+returns-clause-right c m place summary told =
+    let none = none_there c.args.self.now.told.items c.args.t c.index.result.now c.requires.inside c.index.ensures (sym c.is_some.ensures ∙ c.if-is_some.false) in
+    let value = c.in_ok-ways.ensures.value in
+    told_more c.args.self.now.side c.args.self.now.corners.items c.args.self.now.told.items c.args.t c.args.summary.corner c.in_ok-ways.ways c.requires.inside none m place
+    (ap (λ (w : TileWays). w.side) value) (ap (λ (w : TileWays). w.summary.corner) value) (subst (λ (w : TileWays). IsSummaryOf m w.summary) (sym value) summary) told
