@@ -106,6 +106,13 @@ impl Chart {
         })
     }
 
+    /// The format of the chart's store.
+    pub fn format(&self) -> Format
+        ensures { result ≡ self.now.format }
+    {
+        self.format
+    }
+
     /// What is known of every chart.
     pub fn rules(&self)
         ensures { IsChart self.now }

@@ -8,7 +8,7 @@ use Rattle.lattice.specs.declared.point.Point.{Point}
 use Rattle.page_codec.specs.Entries.{EntryValue}
 use Rattle.page_codec.specs.Formats.{Format}
 use Rattle.page_codec.specs.Roots.{RootValue, format_of}
-use Rattle.page_codec.specs.Sizes.{pages_of, index_pages_by, sectors_asked}
+use Rattle.page_codec.specs.Sizes.{sectors_asked}
 use Rattle.roots.specs.Slots.{SamePages, KeepsAll, HasMoved}
 use Rattle.charts.specs.TileLocations.{TileLocation, pages_of_kept, pages_of_tile, KeepsPageRule}
 use Rattle.cow_tree.specs.Entries.{entry_of}

@@ -1,20 +1,25 @@
--- Which heights are staged, and how many records a commit writes for them.
-use Rattle.std.proofs.Common.{◌≡◌, ℕ, zero, suc, ◌+◌, ◌<◌, ◌≤◌, ◌==◌, ◌&&◌, Bool, true, false, cond, not, if◌then◌else◌, List, [], ◌∷◌, ◌++◌, All, Contains, length, get_or, map, refl, sym, ap, ◌∙◌, subst, arith}
+-- Which heights are staged, and how many records and index pages a commit writes for them.
+use Rattle.std.proofs.Common.{◌≡◌, ⊎_elim, ℕ, zero, suc, ◌+◌, ◌/◌, ◌<◌, ◌≤◌, ◌==◌, Bool, true, false, cond, not, if◌then◌else◌, List, [], ◌∷◌, ◌++◌, All, Contains, length, get_or, map, refl, sym, ap, ap₂, ◌∙◌, subst, arith}
 use Rattle.std.specs.Prelude.{None}
-use Rattle.std.specs.List.{filter}
+use Rattle.std.specs.List.{filter, flat_map, slice_set}
 use Rattle.std.proofs.lemmas.Bool.Decides.{nat_tests}
-use Rattle.std.proofs.lemmas.List.{length-map}
+use Rattle.std.proofs.lemmas.List.{length-append}
 use Rattle.std.proofs.lemmas.List.Folds.{list_any_at}
-use Rattle.std.proofs.lemmas.List.Elements.{All-nil, All-cons, All-head, All-tail, All-weaker, All-contains_itself}
+use Rattle.std.proofs.lemmas.List.Elements.{All-nil, All-cons, All-head, All-tail, All-contains, All-weaker, All-contains_itself}
+use Rattle.layout.specs.declared.version.Version.{Version}
+use Rattle.layout.specs.declared.version.Version.TheVariants.{One, Two}
 use Rattle.lattice.specs.Corners.{Corner, is_before}
 use Rattle.lattice.proofs.CornerOrder.{same_says, same_from, after_not_same}
 use Rattle.lattice.proofs.Rising.{AllAfter, Rising, rising_from}
-use Rattle.charts.specs.Locations.{moved_plane, pages_behind}
+use Rattle.page_codec.specs.Sizes.{pages_of, index_pages_by, index_pages_of}
+use Rattle.charts.specs.Locations.{PlaneLocation, moved_plane, pages_behind, pages_of_plane}
 use Rattle.charts.specs.TileLocations.{TileLocation, pages_of_kept, pages_of_tile, reached}
-use Rattle.charts.specs.Charts.{ChartValue, IsChart, IsFresh, IsLocated, IsRewritten, IsPrepared, IsAdded, HasFreshHeights, is_at, is_changed, fresh_corners, corners_of_locations, with_tile_location, with_page_location_in, with_record_in, without_location}
+use Rattle.charts.specs.Charts.{ChartValue, IsChart, IsFresh, IsLocated, IsRewritten, IsPrepared, IsAdded, HasFreshHeights, IsStagedIn, IsWholeTile, is_at, is_changed, is_unreached, corners_of_locations, with_tile_location, with_page_location_in, with_record_in, without_location}
+use Rattle.cow_tree.specs.Staged.{due_of, index_page_by, pages_due}
 use Rattle.cow_tree.specs.Stored.{with_corner}
 use Rattle.cow_tree.proofs.Adding.{added_there, contains-map}
 use Rattle.cow_tree.proofs.Staging.{unreached_test}
+use Rattle.cow_tree.proofs.Standing.{All-front}
 use Rattle.cow_tree.proofs.Tiles.{corner_of, each_tile, one_at_corner}
 
 pub changed_from : (committed : List TileLocation) (t : TileLocation) → ¬ Contains (reached committed) t.heights.record_page → is_changed committed t ≡ true
@@ -25,72 +30,115 @@ filter_none : {X : Type 0} (test : X → Bool) (xs : List X) → All (λ x. test
 filter_none test [] none = refl
 filter_none {X} test (x ∷ xs) none = ap (λ (b : Bool). cond b (x ∷ filter test xs) (filter test xs)) (All-head (λ x. test x ≡ false) x xs none) ∙ filter_none test xs (All-tail (λ x. test x ≡ false) x xs none)
 
-unchanged : (committed : List TileLocation) (t : TileLocation) → Contains (reached committed) t.heights.record_page → is_changed committed t ≡ false
-unchanged committed t has = ap not (list_any_at (λ q. q == t.heights.record_page) (reached committed) has.0 t.heights.record_page has.1 (equal _ _ has.2))
+reached_from : (committed : List TileLocation) (page : ℕ) → Contains (reached committed) page → is_unreached committed page ≡ false
+reached_from committed page has = ap not (list_any_at (λ q. q == page) (reached committed) has.0 page has.1 (equal _ _ has.2))
   where
     equal : (p q : ℕ) → p ≡ q → (p == q) ≡ true
     equal p q same = grind (arith, nat_tests)
 
+own_reached : (committed : List TileLocation) → All (λ t. All (Contains (reached committed)) (pages_of_tile t)) committed
+own_reached committed = each_tile (Contains (reached committed)) committed (All-contains_itself (reached committed))
+
 none_changed : (committed : List TileLocation) → All (λ t. is_changed committed t ≡ false) committed
 none_changed committed =
     All-weaker (λ t. All (Contains (reached committed)) (pages_of_tile t)) (λ t. is_changed committed t ≡ false)
-    (λ t all. unchanged committed t (All-head (Contains (reached committed)) t.heights.record_page (pages_behind t.heights ++ pages_of_kept t.kept) all)) committed
-    (each_tile (Contains (reached committed)) committed (All-contains_itself (reached committed)))
+    (λ t all. reached_from committed t.heights.record_page (All-head (Contains (reached committed)) t.heights.record_page (pages_behind t.heights ++ pages_of_kept t.kept) all)) committed
+    (own_reached committed)
 
-pub none_due : (chart : ChartValue) → chart.staged ≡ chart.committed → length (fresh_corners chart) ≡ 0
+pub none_due : (chart : ChartValue) → chart.staged ≡ chart.committed → length (pages_due chart) ≡ 0
 none_due chart clean =
-    ap (λ (tiles : List TileLocation). length (corners_of_locations tiles))
+    ap (λ (tiles : List TileLocation). length (flat_map (due_of chart.committed) tiles))
     (ap (filter (is_changed chart.committed)) clean ∙ filter_none (is_changed chart.committed) chart.committed (none_changed chart.committed))
+
+-- ---- what is due of one tile after another
+abbrev fresh_index : List TileLocation → TileLocation → List ℕ
+fresh_index committed t = filter (is_unreached committed) t.heights.index_pages
+
+due_here : List TileLocation → TileLocation → ℕ
+due_here committed t = if is_changed committed t then suc (length (fresh_index committed t)) else 0
+
+due_changed : (committed : List TileLocation) (t : TileLocation) → is_changed committed t ≡ true → due_here committed t ≡ suc (length (fresh_index committed t))
+unfolding due_here
+due_changed committed t changed = ap (λ (v : Bool). if v then suc (length (fresh_index committed t)) else 0) changed
+
+due_unchanged : (committed : List TileLocation) (t : TileLocation) → is_changed committed t ≡ false → due_here committed t ≡ 0
+unfolding due_here
+due_unchanged committed t same = ap (λ (v : Bool). if v then suc (length (fresh_index committed t)) else 0) same
+
+count_due : List TileLocation → List TileLocation → ℕ
+count_due committed tiles = length (flat_map (due_of committed) (filter (is_changed committed) tiles))
+
+count_is : (chart : ChartValue) → length (pages_due chart) ≡ count_due chart.committed chart.staged
+unfolding count_due
+count_is chart = refl
+
+count_cons : (committed : List TileLocation) (t : TileLocation) (rest : List TileLocation) → count_due committed (t ∷ rest) ≡ due_here committed t + count_due committed rest
+unfolding count_due due_here
+count_cons committed t rest =
+    elim (is_changed committed t) as (λ (v : Bool). length (flat_map (due_of committed) (cond v (t ∷ filter (is_changed committed) rest) (filter (is_changed committed) rest)))
+    ≡ (if v then suc (length (fresh_index committed t)) else 0) + length (flat_map (due_of committed) (filter (is_changed committed) rest))) [
+      | true ↦ length-append (due_of committed t) (flat_map (due_of committed) (filter (is_changed committed) rest))
+      | false ↦ omega arith
+    ]
+
+-- the index pages of heights that aren't staged are committed
+mapped_from : {X Y : Type 0} (f : X → Y) (xs : List X) (y : Y) → Contains (map f xs) y → (x : X) × (Contains xs x × (f x ≡ y))
+mapped_from f [] y (k, lt, here) = absurd (omega (arith, lt))
+mapped_from f (x ∷ xs) y (zero, lt, here) = (x, ((0, omega arith, refl), here))
+mapped_from f (x ∷ xs) y (suc k, lt, here) = let later = mapped_from f xs y (k, omega arith, here) in (later.0, ((suc later.1.0.0, omega (arith, later.1.0.1), later.1.0.2), later.1.1))
+
+index_reached : (committed : List TileLocation) (t u : TileLocation) → Contains committed u → u.heights ≡ t.heights → fresh_index committed t ≡ []
+index_reached committed t u among same =
+    let all : All (Contains (reached committed)) (pages_of_plane u.heights) = All-front (Contains (reached committed)) (pages_of_plane u.heights) (pages_of_kept u.kept)
+    (All-contains (λ v. All (Contains (reached committed)) (pages_of_tile v)) committed u (own_reached committed) among) in
+    let index : All (Contains (reached committed)) u.heights.index_pages = All-front (Contains (reached committed)) u.heights.index_pages u.heights.pages (All-tail (Contains (reached committed)) u.heights.record_page (pages_behind u.heights) all) in
+    subst (λ (h : PlaneLocation). filter (is_unreached committed) h.index_pages ≡ []) same
+    (filter_none (is_unreached committed) u.heights.index_pages (All-weaker (Contains (reached committed)) (λ q. is_unreached committed q ≡ false) (reached_from committed) u.heights.index_pages index))
+
+index_committed : (chart : ChartValue) → IsChart chart → (t : TileLocation) → Contains chart.staged t → is_changed chart.committed t ≡ false → fresh_index chart.committed t ≡ []
+index_committed chart rules t among same =
+    ⊎_elim
+    (λ had. let found = mapped_from (λ (u : TileLocation). record u { kept = t.kept }) chart.committed t had in index_reached chart.committed t found.0 found.1.0 (ap (λ (v : TileLocation). v.heights) found.1.1))
+    (λ fresh. absurd (let no : true ≡ false = sym (changed_from chart.committed t fresh.unreached) ∙ same in cc))
+    (All-contains (IsStagedIn chart) chart.staged t rules.each among).settled
 
 -- ---- the tiles at a corner
 after_other : (c : Corner) (tiles : List TileLocation) → AllAfter corner_of c tiles → All (λ t. is_at c t ≡ false) tiles
 after_other c [] after = All-nil (λ t. is_at c t ≡ false)
 after_other c (t ∷ rest) after = All-cons (λ t. is_at c t ≡ false) t rest (after_not_same c t.corner after.0) (after_other c rest after.1)
 
-module _ (c : Corner) (test : TileLocation → Bool) where
-  at_most_one : (tiles : List TileLocation) → Rising corner_of tiles → length (filter (λ t. is_at c t && test t) tiles) ≤ 1
-  at_most_one [] rising = omega arith
-  at_most_one (t ∷ rest) rising =
-      let later = at_most_one rest rising.1 in
-      elim (is_at c t) as (λ (v : Bool). is_at c t ≡ v → length (cond (v && test t) (t ∷ filter (λ t. is_at c t && test t) rest) (filter (λ t. is_at c t && test t) rest)) ≤ 1) [
-        | true ↦ λ here. alone here
-        | false ↦ λ other. later
-      ] refl
-    where
-      alone : is_at c t ≡ true → length (cond (test t) (t ∷ filter (λ t. is_at c t && test t) rest) (filter (λ t. is_at c t && test t) rest)) ≤ 1
-      alone here =
-          let none : filter (λ t. is_at c t && test t) rest ≡ [] =
-          filter_none (λ t. is_at c t && test t) rest
-          (All-weaker (λ t. is_at c t ≡ false) (λ t. (is_at c t && test t) ≡ false) (λ u other. ap (λ (v : Bool). v && test u) other) rest
-          (after_other c rest (subst (λ (d : Corner). AllAfter corner_of d rest) (same_says t.corner c here) rising.0))) in
-          subst (λ (l : List TileLocation). length (cond (test t) (t ∷ l) l) ≤ 1) (sym none) (few (test t))
-        where
-          few : (v : Bool) → length (cond v (t ∷ []) []) ≤ 1
-          few true = omega arith
-          few false = omega arith
+-- tiles of which those at the corner are changed
+module _ (committed : List TileLocation) (c : Corner) (f : TileLocation → TileLocation) (others : (t : TileLocation) → is_at c t ≡ false → f t ≡ t) where
+  same_after : (tiles : List TileLocation) → All (λ t. is_at c t ≡ false) tiles → map f tiles ≡ tiles
+  same_after [] none = refl
+  same_after (t ∷ rest) none =
+      ap₂ (λ (u : TileLocation) (us : List TileLocation). u ∷ us) (others t (All-head (λ t. is_at c t ≡ false) t rest none)) (same_after rest (All-tail (λ t. is_at c t ≡ false) t rest none))
 
--- tiles of which those at the corner pass the test once they are changed
-module _ (c : Corner) (test : TileLocation → Bool) (f : TileLocation → TileLocation) (others : (t : TileLocation) → is_at c t ≡ false → f t ≡ t) (here : (t : TileLocation) → is_at c t ≡ true → test (f t) ≡ true) where
-  count_changed : (tiles : List TileLocation) → length (filter test (map f tiles)) ≡ length (filter test tiles) + length (filter (λ t. is_at c t && not (test t)) tiles)
-  count_changed [] = refl
-  count_changed (t ∷ rest) =
-      let later = count_changed rest in
-      elim (is_at c t) as (λ (v : Bool). is_at c t ≡ v
-      → length (cond (test (f t)) (f t ∷ filter test (map f rest)) (filter test (map f rest)))
-      ≡ length (cond (test t) (t ∷ filter test rest) (filter test rest)) + length (cond (v && not (test t)) (t ∷ filter (λ t. is_at c t && not (test t)) rest) (filter (λ t. is_at c t && not (test t)) rest))) [
-        | true ↦ λ at. ap (λ (b : Bool). length (cond b (f t ∷ filter test (map f rest)) (filter test (map f rest)))) (here t at) ∙ changed later (test t)
-        | false ↦ λ at. ap (λ (u : TileLocation). length (cond (test u) (u ∷ filter test (map f rest)) (filter test (map f rest)))) (others t at) ∙ other later (test t)
+  count_at_most : (extra : ℕ) (tiles : List TileLocation) → Rising corner_of tiles → All (λ t. is_at c t ≡ true → due_here committed (f t) ≤ due_here committed t + extra) tiles
+      → count_due committed (map f tiles) ≤ count_due committed tiles + extra
+  count_at_most extra [] rising each = omega arith
+  count_at_most extra (t ∷ rest) rising each =
+      let later = count_at_most extra rest rising.1 (All-tail (λ t. is_at c t ≡ true → due_here committed (f t) ≤ due_here committed t + extra) t rest each) in
+      let was = count_cons committed t rest in
+      let now = count_cons committed (f t) (map f rest) in
+      elim (is_at c t) as (λ (v : Bool). is_at c t ≡ v → count_due committed (f t ∷ map f rest) ≤ count_due committed (t ∷ rest) + extra) [
+        | true ↦ λ at.
+            let here = All-head (λ t. is_at c t ≡ true → due_here committed (f t) ≤ due_here committed t + extra) t rest each at in
+            let same = ap (count_due committed) (same_after rest (after_other c rest (subst (λ (d : Corner). AllAfter corner_of d rest) (same_says t.corner c at) rising.0))) in
+            omega (arith, was, now, here, same)
+        | false ↦ λ at. let same = ap (due_here committed) (others t at) in omega (arith, was, now, later, same)
       ] refl
-    where
-      changed : length (filter test (map f rest)) ≡ length (filter test rest) + length (filter (λ t. is_at c t && not (test t)) rest)
-          → (w : Bool) → suc (length (filter test (map f rest))) ≡ length (cond w (t ∷ filter test rest) (filter test rest)) + length (cond (not w) (t ∷ filter (λ t. is_at c t && not (test t)) rest) (filter (λ t. is_at c t && not (test t)) rest))
-      changed later true = omega (arith, later)
-      changed later false = omega (arith, later)
 
-      other : length (filter test (map f rest)) ≡ length (filter test rest) + length (filter (λ t. is_at c t && not (test t)) rest)
-          → (w : Bool) → length (cond w (t ∷ filter test (map f rest)) (filter test (map f rest))) ≡ length (cond w (t ∷ filter test rest) (filter test rest)) + length (filter (λ t. is_at c t && not (test t)) rest)
-      other later true = omega (arith, later)
-      other later false = omega (arith, later)
+  count_at_least : (tiles : List TileLocation) → All (λ t. is_at c t ≡ true → due_here committed t ≤ due_here committed (f t)) tiles → count_due committed tiles ≤ count_due committed (map f tiles)
+  count_at_least [] each = omega arith
+  count_at_least (t ∷ rest) each =
+      let later = count_at_least rest (All-tail (λ t. is_at c t ≡ true → due_here committed t ≤ due_here committed (f t)) t rest each) in
+      let was = count_cons committed t rest in
+      let now = count_cons committed (f t) (map f rest) in
+      elim (is_at c t) as (λ (v : Bool). is_at c t ≡ v → count_due committed (t ∷ rest) ≤ count_due committed (f t ∷ map f rest)) [
+        | true ↦ λ at. let here = All-head (λ t. is_at c t ≡ true → due_here committed t ≤ due_here committed (f t)) t rest each at in omega (arith, was, now, here, later)
+        | false ↦ λ at. let same = ap (due_here committed) (others t at) in omega (arith, was, now, later, same)
+      ] refl
 
 pub located_tile : (c : Corner) (tiles : List TileLocation) → IsLocated c tiles → (t : TileLocation) × (Contains tiles t × (t.corner ≡ c))
 located_tile c [] (k, lt, here) = absurd (omega (arith, lt))
@@ -113,31 +161,56 @@ module _ (old new : ChartValue) (c : Corner) (record_page : ℕ) (f : TileLocati
   passes : (t : TileLocation) → is_at c t ≡ true → is_changed old.committed (f t) ≡ true
   passes t at = changed_from old.committed (f t) (subst (λ (p : ℕ). ¬ Contains (reached old.committed) p) (sym (moved t at)) unreached)
 
-  counted : length (fresh_corners new) ≡ length (fresh_corners old) + length (filter (λ t. is_at c t && not (is_changed old.committed t)) old.staged)
-  counted =
-      let mapped : length (fresh_corners new) ≡ length (corners_of_locations (filter (is_changed old.committed) (map f old.staged))) = ap (λ (x : ChartValue). length (fresh_corners x)) changed in
-      let one : length (corners_of_locations (filter (is_changed old.committed) (map f old.staged))) ≡ length (filter (is_changed old.committed) (map f old.staged)) = length-map (filter (is_changed old.committed) (map f old.staged)) corner_of in
-      let two : length (fresh_corners old) ≡ length (filter (is_changed old.committed) old.staged) = length-map (filter (is_changed old.committed) old.staged) corner_of in
-      let three = count_changed c (is_changed old.committed) f others passes old.staged in
-      omega (arith, mapped, one, two, three)
+  counted : length (pages_due new) ≡ count_due old.committed (map f old.staged)
+  unfolding count_due
+  counted = ap (λ (x : ChartValue). length (pages_due x)) changed
 
-  pub due_at_most : length (fresh_corners new) ≤ length (fresh_corners old) + 1
-  due_at_most = omega (arith, counted, at_most_one c (λ t. not (is_changed old.committed t)) old.staged (rising_from corner_of old.staged rules.staged.in_order))
+  -- where so many more of the corner's index pages are reached by no committed tile
+  module _ (extra : ℕ) (more : (t : TileLocation) → Contains old.staged t → is_at c t ≡ true → length (fresh_index old.committed (f t)) ≤ length (fresh_index old.committed t) + extra) where
+    pub due_at_most : length (pages_due new) ≤ length (pages_due old) + (1 + extra)
+    due_at_most =
+        let few = count_at_most old.committed c f others (1 + extra) old.staged (rising_from corner_of old.staged rules.staged.in_order) (λ k d lt at. one (get_or old.staged k d) (All-contains_itself old.staged k d lt) at) in
+        omega (arith, counted, count_is old, few)
+      where
+        one : (t : TileLocation) → Contains old.staged t → is_at c t ≡ true → due_here old.committed (f t) ≤ due_here old.committed t + (1 + extra)
+        one t among at =
+            let now = due_changed old.committed (f t) (passes t at) in
+            let long = more t among at in
+            elim (is_changed old.committed t) as (λ (v : Bool). is_changed old.committed t ≡ v → due_here old.committed (f t) ≤ due_here old.committed t + (1 + extra)) [
+              | true ↦ λ was. let before = due_changed old.committed t was in omega (arith, now, long, before)
+              | false ↦ λ was. let none = ap (λ (l : List ℕ). length l) (index_committed old rules t among was) in omega (arith, now, long, none)
+            ] refl
 
-  pub due_same : HasFreshHeights c old → length (fresh_corners new) ≡ length (fresh_corners old)
-  due_same (t, (staged, here, was_fresh)) =
-      let none : filter (λ u. is_at c u && not (is_changed old.committed u)) old.staged ≡ [] =
-      filter_none (λ u. is_at c u && not (is_changed old.committed u)) old.staged
-      (λ k d lt. not_due (get_or old.staged k d) (All-contains_itself old.staged k d lt)) in
-      omega (arith, counted, ap (λ (l : List TileLocation). length l) none)
+    pub due_same : HasFreshHeights c old → length (pages_due new) ≤ length (pages_due old) + extra
+    due_same (t, (staged, here, was_fresh)) =
+        let few = count_at_most old.committed c f others extra old.staged (rising_from corner_of old.staged rules.staged.in_order) (λ k d lt at. one (get_or old.staged k d) (All-contains_itself old.staged k d lt) at) in
+        omega (arith, counted, count_is old, few)
+      where
+        was_changed : (u : TileLocation) → Contains old.staged u → is_at c u ≡ true → is_changed old.committed u ≡ true
+        was_changed u among at =
+            changed_from old.committed u
+            (subst (λ (v : TileLocation). ¬ Contains (reached old.committed) v.heights.record_page) (one_at_corner old.staged t u rules.staged.in_order staged among (here ∙ sym (same_says u.corner c at))) was_fresh.unreached)
+
+        one : (u : TileLocation) → Contains old.staged u → is_at c u ≡ true → due_here old.committed (f u) ≤ due_here old.committed u + extra
+        one u among at =
+            let now = due_changed old.committed (f u) (passes u at) in
+            let before = due_changed old.committed u (was_changed u among at) in
+            let long = more u among at in
+            omega (arith, now, long, before)
+
+  -- where no fewer are
+  pub due_at_least : ((t : TileLocation) → Contains old.staged t → is_at c t ≡ true → length (fresh_index old.committed t) ≤ length (fresh_index old.committed (f t))) → length (pages_due old) ≤ length (pages_due new)
+  due_at_least fewer =
+      let many = count_at_least old.committed c f others old.staged (λ k d lt at. one (get_or old.staged k d) (All-contains_itself old.staged k d lt) at) in
+      omega (arith, counted, count_is old, many)
     where
-      not_due : (u : TileLocation) → Contains old.staged u → (is_at c u && not (is_changed old.committed u)) ≡ false
-      not_due u among =
-          elim (is_at c u) as (λ (v : Bool). is_at c u ≡ v → (v && not (is_changed old.committed u)) ≡ false) [
-            | true ↦ λ at.
-                ap not (changed_from old.committed u
-                (subst (λ (v : TileLocation). ¬ Contains (reached old.committed) v.heights.record_page) (one_at_corner old.staged t u rules.staged.in_order staged among (here ∙ sym (same_says u.corner c at))) was_fresh.unreached))
-            | false ↦ λ _. refl
+      one : (t : TileLocation) → Contains old.staged t → is_at c t ≡ true → due_here old.committed t ≤ due_here old.committed (f t)
+      one t among at =
+          let now = due_changed old.committed (f t) (passes t at) in
+          let long = fewer t among at in
+          elim (is_changed old.committed t) as (λ (v : Bool). is_changed old.committed t ≡ v → due_here old.committed t ≤ due_here old.committed (f t)) [
+            | true ↦ λ was. let before = due_changed old.committed t was in omega (arith, now, long, before)
+            | false ↦ λ was. let before = due_unchanged old.committed t was in omega (arith, before)
           ] refl
 
   pub staged_here : IsLocated c old.staged → HasFreshHeights c new
@@ -174,6 +247,41 @@ module _ (old new : ChartValue) (c : Corner) (record_page : ℕ) (f : TileLocati
         unreached = subst (λ (tiles : List TileLocation). ¬ Contains (reached tiles) p) (sym committed_same) was.unreached;
       }
 
+-- one index page elsewhere
+set_at_most : (test : ℕ → Bool) (xs : List ℕ) (j y : ℕ) → length (filter test (slice_set xs j y)) ≤ length (filter test xs) + 1
+set_at_most test [] j y = omega arith
+set_at_most test (x ∷ xs) zero y = by_test (test y) (test x)
+  where
+    by_test : (v w : Bool) → length (cond v (y ∷ filter test xs) (filter test xs)) ≤ length (cond w (x ∷ filter test xs) (filter test xs)) + 1
+    by_test true true = omega arith
+    by_test true false = omega arith
+    by_test false true = omega arith
+    by_test false false = omega arith
+set_at_most test (x ∷ xs) (suc j) y = by_test (test x) (set_at_most test xs j y)
+  where
+    by_test : (v : Bool) → length (filter test (slice_set xs j y)) ≤ length (filter test xs) + 1 → length (cond v (x ∷ filter test (slice_set xs j y)) (filter test (slice_set xs j y))) ≤ length (cond v (x ∷ filter test xs) (filter test xs)) + 1
+    by_test true later = omega (arith, later)
+    by_test false later = later
+
+set_at_least : (test : ℕ → Bool) (xs : List ℕ) (j y : ℕ) → (j < length xs → test y ≡ true) → length (filter test xs) ≤ length (filter test (slice_set xs j y))
+set_at_least test [] j y passes = omega arith
+set_at_least test (x ∷ xs) zero y passes = by_test (test y) (test x) (passes (omega arith))
+  where
+    by_test : (v w : Bool) → v ≡ true → length (cond w (x ∷ filter test xs) (filter test xs)) ≤ length (cond v (y ∷ filter test xs) (filter test xs))
+    by_test true true is = omega arith
+    by_test true false is = omega arith
+    by_test false w is = cc
+set_at_least test (x ∷ xs) (suc j) y passes = by_test (test x) (set_at_least test xs j y (λ below. passes (omega (arith, below))))
+  where
+    by_test : (v : Bool) → length (filter test xs) ≤ length (filter test (slice_set xs j y)) → length (cond v (x ∷ filter test xs) (filter test xs)) ≤ length (cond v (x ∷ filter test (slice_set xs j y)) (filter test (slice_set xs j y)))
+    by_test true later = omega (arith, later)
+    by_test false later = later
+
+set_by : (test : ℕ → Bool) (j y : ℕ) (version : Version) (pages : ℕ) (xs : List ℕ) → length xs ≡ index_pages_by version pages → length (filter test (slice_set xs j y)) ≤ length (filter test xs) + index_page_by version
+set_by test j y One pages [] long = omega arith
+set_by test j y One pages (x ∷ xs) long = absurd (omega (arith, long))
+set_by test j y Two pages xs long = set_at_most test xs j y
+
 -- a page written
 module _ (old new : ChartValue) (c : Corner) (i page : ℕ) (rules : IsChart old) (written : IsRewritten c i page old new) where
   abbrev rewrite : TileLocation → TileLocation
@@ -188,11 +296,38 @@ module _ (old new : ChartValue) (c : Corner) (i page : ℕ) (rules : IsChart old
   rewrite_corner : (t : TileLocation) → (rewrite t).corner ≡ t.corner
   rewrite_corner t = elim (is_at c t) as (λ (v : Bool). (if v then record t { heights = moved_plane i page written.index_page written.record_page t.heights } else t).corner ≡ t.corner) [ true ↦ refl | false ↦ refl ]
 
-  pub written_due : length (fresh_corners new) ≤ length (fresh_corners old) + 1
-  written_due = due_at_most old new c written.record_page rewrite rewrite_other rewrite_here rewrite_corner rules written.fresh_record written.changed
+  abbrev index_of : TileLocation → List ℕ
+  index_of t = t.heights.index_pages
 
-  pub written_due_same : HasFreshHeights c old → length (fresh_corners new) ≡ length (fresh_corners old)
-  written_due_same had = due_same old new c written.record_page rewrite rewrite_other rewrite_here rewrite_corner rules written.fresh_record written.changed had
+  rewrite_index : (t : TileLocation) → is_at c t ≡ true → index_of (rewrite t) ≡ slice_set (index_of t) (i / 1024) written.index_page
+  rewrite_index t at = ap (λ (v : Bool). (if v then record t { heights = moved_plane i page written.index_page written.record_page t.heights } else t).heights.index_pages) at
+
+  whole_index : (t : TileLocation) → Contains old.staged t → length (index_of t) ≡ index_pages_of old.format
+  whole_index t among = (All-contains (IsWholeTile old.format) old.staged t rules.staged.whole among).heights.index_pages
+
+  more_index : (t : TileLocation) → Contains old.staged t → is_at c t ≡ true → length (fresh_index old.committed (rewrite t)) ≤ length (fresh_index old.committed t) + index_page_by old.format.version
+  more_index t among at =
+      subst (λ (l : List ℕ). length (filter (is_unreached old.committed) l) ≤ length (fresh_index old.committed t) + index_page_by old.format.version) (sym (rewrite_index t at))
+      (set_by (is_unreached old.committed) (i / 1024) written.index_page old.format.version (pages_of old.format.side) (index_of t) (whole_index t among))
+
+  fewer_index : (t : TileLocation) → Contains old.staged t → is_at c t ≡ true → length (fresh_index old.committed t) ≤ length (fresh_index old.committed (rewrite t))
+  fewer_index t among at =
+      subst (λ (l : List ℕ). length (fresh_index old.committed t) ≤ length (filter (is_unreached old.committed) l)) (sym (rewrite_index t at))
+      (set_at_least (is_unreached old.committed) (index_of t) (i / 1024) written.index_page (λ below. fresh_there (omega (arith, below, whole_index t among))))
+    where
+      fresh_there : i / 1024 < index_pages_of old.format → is_unreached old.committed written.index_page ≡ true
+      fresh_there below =
+          ap not (unreached_test written.index_page (reached old.committed)
+          (subst (λ (tiles : List TileLocation). ¬ Contains (reached tiles) written.index_page) (ap (λ (x : ChartValue). x.committed) written.changed) (written.fresh_index below).unreached))
+
+  pub written_due : length (pages_due new) ≤ length (pages_due old) + (1 + index_page_by old.format.version)
+  written_due = due_at_most old new c written.record_page rewrite rewrite_other rewrite_here rewrite_corner rules written.fresh_record written.changed (index_page_by old.format.version) more_index
+
+  pub written_due_same : HasFreshHeights c old → length (pages_due new) ≤ length (pages_due old) + index_page_by old.format.version
+  written_due_same had = due_same old new c written.record_page rewrite rewrite_other rewrite_here rewrite_corner rules written.fresh_record written.changed (index_page_by old.format.version) more_index had
+
+  pub written_due_before : length (pages_due old) ≤ length (pages_due new)
+  written_due_before = due_at_least old new c written.record_page rewrite rewrite_other rewrite_here rewrite_corner rules written.fresh_record written.changed fewer_index
 
   pub written_here : IsLocated c old.staged → HasFreshHeights c new
   written_here located = staged_here old new c written.record_page rewrite rewrite_other rewrite_here rewrite_corner rules written.fresh_record written.changed located
@@ -214,11 +349,26 @@ module _ (old new : ChartValue) (c : Corner) (rules : IsChart old) (prepared : I
   prepare_corner : (t : TileLocation) → (prepare t).corner ≡ t.corner
   prepare_corner t = elim (is_at c t) as (λ (v : Bool). (if v then record t { heights = record (t.heights) { record_page = prepared.record_page } } else t).corner ≡ t.corner) [ true ↦ refl | false ↦ refl ]
 
-  pub prepared_due : length (fresh_corners new) ≤ length (fresh_corners old) + 1
-  prepared_due = due_at_most old new c prepared.record_page prepare prepare_other prepare_here prepare_corner rules prepared.fresh_record prepared.changed
+  same_index : (t : TileLocation) → (prepare t).heights.index_pages ≡ t.heights.index_pages
+  same_index t = elim (is_at c t) as (λ (v : Bool). (if v then record t { heights = record (t.heights) { record_page = prepared.record_page } } else t).heights.index_pages ≡ t.heights.index_pages) [ true ↦ refl | false ↦ refl ]
 
-  pub prepared_due_same : HasFreshHeights c old → length (fresh_corners new) ≡ length (fresh_corners old)
-  prepared_due_same had = due_same old new c prepared.record_page prepare prepare_other prepare_here prepare_corner rules prepared.fresh_record prepared.changed had
+  same_fresh : (t : TileLocation) → length (fresh_index old.committed (prepare t)) ≡ length (fresh_index old.committed t)
+  same_fresh t = ap (λ (l : List ℕ). length (filter (is_unreached old.committed) l)) (same_index t)
+
+  no_more : (t : TileLocation) → Contains old.staged t → is_at c t ≡ true → length (fresh_index old.committed (prepare t)) ≤ length (fresh_index old.committed t) + 0
+  no_more t among at = omega (arith, same_fresh t)
+
+  no_fewer : (t : TileLocation) → Contains old.staged t → is_at c t ≡ true → length (fresh_index old.committed t) ≤ length (fresh_index old.committed (prepare t))
+  no_fewer t among at = omega (arith, same_fresh t)
+
+  pub prepared_due : length (pages_due new) ≤ length (pages_due old) + 1
+  prepared_due = due_at_most old new c prepared.record_page prepare prepare_other prepare_here prepare_corner rules prepared.fresh_record prepared.changed 0 no_more
+
+  pub prepared_due_same : HasFreshHeights c old → length (pages_due new) ≡ length (pages_due old)
+  prepared_due_same had =
+      let most = due_same old new c prepared.record_page prepare prepare_other prepare_here prepare_corner rules prepared.fresh_record prepared.changed 0 no_more had in
+      let least = due_at_least old new c prepared.record_page prepare prepare_other prepare_here prepare_corner rules prepared.fresh_record prepared.changed no_fewer in
+      omega (arith, most, least)
 
   pub prepared_located : IsLocated c old.staged → HasFreshHeights c new
   prepared_located located = staged_here old new c prepared.record_page prepare prepare_other prepare_here prepare_corner rules prepared.fresh_record prepared.changed located
@@ -227,17 +377,21 @@ module _ (old new : ChartValue) (c : Corner) (rules : IsChart old) (prepared : I
   prepared_still other had = staged_still old new c prepared.record_page prepare prepare_other prepare_here prepare_corner rules prepared.fresh_record prepared.changed other had
 
 -- ---- a tile added
-count_added : (test : TileLocation → Bool) (t : TileLocation) → test t ≡ true → (tiles : List TileLocation) → length (filter test (with_tile_location t tiles)) ≡ suc (length (filter test tiles))
-count_added test t passes [] = ap (λ (v : Bool). length (cond v (t ∷ []) [])) passes
-count_added test t passes (u ∷ rest) = by_test (is_before t.corner u.corner) (count_added test t passes rest)
-  where
-    behind : length (filter test (with_tile_location t rest)) ≡ suc (length (filter test rest)) → (w : Bool) → length (cond w (u ∷ filter test (with_tile_location t rest)) (filter test (with_tile_location t rest))) ≡ suc (length (cond w (u ∷ filter test rest) (filter test rest)))
-    behind later true = ap suc later
-    behind later false = later
+count_added : (committed : List TileLocation) (t : TileLocation) (tiles : List TileLocation) → count_due committed (with_tile_location t tiles) ≡ due_here committed t + count_due committed tiles
+count_added committed t [] = count_cons committed t []
+count_added committed t (u ∷ rest) =
+    let later = count_added committed t rest in
+    let was = count_cons committed u rest in
+    let behind = count_cons committed u (with_tile_location t rest) in
+    let front = count_cons committed t (u ∷ rest) in
+    elim (is_before t.corner u.corner) as (λ (v : Bool). count_due committed (if v then t ∷ (u ∷ rest) else u ∷ with_tile_location t rest) ≡ due_here committed t + count_due committed (u ∷ rest)) [
+      | true ↦ front
+      | false ↦ omega (arith, later, was, behind)
+    ]
 
-    by_test : (v : Bool) → length (filter test (with_tile_location t rest)) ≡ suc (length (filter test rest)) → length (filter test (if v then t ∷ (u ∷ rest) else u ∷ with_tile_location t rest)) ≡ suc (length (filter test (u ∷ rest)))
-    by_test true later = ap (λ (v : Bool). length (cond v (t ∷ filter test (u ∷ rest)) (filter test (u ∷ rest)))) passes
-    by_test false later = behind later (test u)
+filter_all : (test : ℕ → Bool) (xs : List ℕ) → All (λ x. test x ≡ true) xs → length (filter test xs) ≡ length xs
+filter_all test [] all = refl
+filter_all test (x ∷ xs) all = ap (λ (v : Bool). length (cond v (x ∷ filter test xs) (filter test xs))) (All-head (λ x. test x ≡ true) x xs all) ∙ ap suc (filter_all test xs (All-tail (λ x. test x ≡ true) x xs all))
 
 pub corners_added : (t : TileLocation) (tiles : List TileLocation) → corners_of_locations (with_tile_location t tiles) ≡ with_corner t.corner (corners_of_locations tiles)
 corners_added t [] = refl
@@ -257,13 +411,22 @@ module _ (old new : ChartValue) (c : Corner) (added : IsAdded c old new) where
   added_committed : new.committed ≡ old.committed
   added_committed = ap (λ (x : ChartValue). x.committed) added.changed
 
-  pub added_due : length (fresh_corners new) ≡ length (fresh_corners old) + 1
+  all_fresh : All (λ q. is_unreached old.committed q ≡ true) added.location.index_pages
+  all_fresh =
+      All-weaker (IsFresh new) (λ q. is_unreached old.committed q ≡ true)
+      (λ q fresh. ap not (unreached_test q (reached old.committed) (subst (λ (tiles : List TileLocation). ¬ Contains (reached tiles) q) added_committed fresh.unreached))) added.location.index_pages
+      (All-front (IsFresh new) added.location.index_pages added.location.pages (All-tail (IsFresh new) added.location.record_page (pages_behind added.location) added.fresh))
+
+  added_count : length (pages_due new) ≡ count_due old.committed (with_tile_location tile old.staged)
+  unfolding count_due
+  added_count = ap (λ (x : ChartValue). length (pages_due x)) added.changed
+
+  pub added_due : length (pages_due new) ≡ length (pages_due old) + (1 + index_pages_of old.format)
   added_due =
-      let mapped : length (fresh_corners new) ≡ length (corners_of_locations (filter (is_changed old.committed) (with_tile_location tile old.staged))) = ap (λ (x : ChartValue). length (fresh_corners x)) added.changed in
-      let one : length (corners_of_locations (filter (is_changed old.committed) (with_tile_location tile old.staged))) ≡ length (filter (is_changed old.committed) (with_tile_location tile old.staged)) = length-map (filter (is_changed old.committed) (with_tile_location tile old.staged)) corner_of in
-      let two : length (fresh_corners old) ≡ length (filter (is_changed old.committed) old.staged) = length-map (filter (is_changed old.committed) old.staged) corner_of in
-      let three = count_added (is_changed old.committed) tile (changed_from old.committed tile (subst (λ (tiles : List TileLocation). ¬ Contains (reached tiles) added.location.record_page) added_committed added_record.unreached)) old.staged in
-      omega (arith, mapped, one, two, three)
+      let more = count_added old.committed tile old.staged in
+      let here = due_changed old.committed tile (changed_from old.committed tile (subst (λ (tiles : List TileLocation). ¬ Contains (reached tiles) added.location.record_page) added_committed added_record.unreached)) in
+      let all = filter_all (is_unreached old.committed) added.location.index_pages all_fresh in
+      omega (arith, added_count, count_is old, more, here, all, added.whole.index_pages)
 
   pub added_here : HasFreshHeights c new
   added_here = (
@@ -279,27 +442,20 @@ module _ (old new : ChartValue) (c : Corner) (added : IsAdded c old new) where
   added_corners = ap (λ (x : ChartValue). corners_of_locations x.staged) added.changed ∙ corners_added tile old.staged
 
 -- ---- a tile taken out
-count_filtered : (test p : TileLocation → Bool) (tiles : List TileLocation) → length (filter test (filter p tiles)) ≤ length (filter test tiles)
-count_filtered test p [] = omega arith
-count_filtered test p (t ∷ rest) =
-    let later = count_filtered test p rest in
-    elim (p t) as (λ (v : Bool). length (filter test (cond v (t ∷ filter p rest) (filter p rest))) ≤ length (filter test (t ∷ rest))) [
-      | true ↦ stays later (test t)
-      | false ↦ goes later (test t)
+count_filtered : (committed : List TileLocation) (p : TileLocation → Bool) (tiles : List TileLocation) → count_due committed (filter p tiles) ≤ count_due committed tiles
+count_filtered committed p [] = omega arith
+count_filtered committed p (t ∷ rest) =
+    let later = count_filtered committed p rest in
+    let was = count_cons committed t rest in
+    let stays = count_cons committed t (filter p rest) in
+    elim (p t) as (λ (v : Bool). count_due committed (cond v (t ∷ filter p rest) (filter p rest)) ≤ count_due committed (t ∷ rest)) [
+      | true ↦ omega (arith, later, was, stays)
+      | false ↦ omega (arith, later, was)
     ]
-  where
-    stays : length (filter test (filter p rest)) ≤ length (filter test rest) → (w : Bool) → length (cond w (t ∷ filter test (filter p rest)) (filter test (filter p rest))) ≤ length (cond w (t ∷ filter test rest) (filter test rest))
-    stays later true = omega (arith, later)
-    stays later false = later
 
-    goes : length (filter test (filter p rest)) ≤ length (filter test rest) → (w : Bool) → length (filter test (filter p rest)) ≤ length (cond w (t ∷ filter test rest) (filter test rest))
-    goes later true = omega (arith, later)
-    goes later false = later
-
-pub without_due : (old new : ChartValue) (c : Corner) → new ≡ record old { staged = without_location c old.staged } → length (fresh_corners new) ≤ length (fresh_corners old)
+pub without_due : (old new : ChartValue) (c : Corner) → new ≡ record old { staged = without_location c old.staged } → length (pages_due new) ≤ length (pages_due old)
+unfolding count_due
 without_due old new c removed =
-    let mapped : length (fresh_corners new) ≡ length (corners_of_locations (filter (is_changed old.committed) (without_location c old.staged))) = ap (λ (x : ChartValue). length (fresh_corners x)) removed in
-    let one : length (corners_of_locations (filter (is_changed old.committed) (without_location c old.staged))) ≡ length (filter (is_changed old.committed) (without_location c old.staged)) = length-map (filter (is_changed old.committed) (without_location c old.staged)) corner_of in
-    let two : length (fresh_corners old) ≡ length (filter (is_changed old.committed) old.staged) = length-map (filter (is_changed old.committed) old.staged) corner_of in
-    let three = count_filtered (is_changed old.committed) (λ t. not (is_at c t)) old.staged in
-    omega (arith, mapped, one, two, three)
+    let mapped = ap (λ (x : ChartValue). length (pages_due x)) removed in
+    let few : length (flat_map (due_of old.committed) (filter (is_changed old.committed) (without_location c old.staged))) ≤ length (pages_due old) = count_filtered old.committed (λ t. not (is_at c t)) old.staged in
+    omega (arith, mapped, few)

@@ -1,7 +1,7 @@
 -- A tile staged without its levels and labels.
-use Rattle.std.proofs.Common.{◌≡◌, Bool, true, false, cond, if◌then◌else◌, List, [], ◌∷◌, map, refl, sym, ap, ap₂, ◌∙◌, subst}
+use Rattle.std.proofs.Common.{◌≡◌, Bool, true, false, cond, if◌then◌else◌, ℕ, List, [], ◌∷◌, ◌++◌, map, refl, sym, ap, ap₂, ◌∙◌, subst}
 use Rattle.std.specs.Prelude.{None, IfSome}
-use Rattle.std.specs.List.{filter}
+use Rattle.std.specs.List.{filter, flat_map}
 use Rattle.std.proofs.lemmas.List.Elements.{All-map, All-weaker}
 use Rattle.disk.specs.Disk.{Image}
 use Rattle.lattice.specs.Corners.{Corner}
@@ -9,7 +9,7 @@ use Rattle.page_codec.specs.Formats.{Format}
 use Rattle.charts.specs.TileLocations.{TileLocation}
 use Rattle.charts.specs.Charts.{ChartValue, HasFreshHeights, IsFresh, is_at, is_changed, corners_of_locations, without_kept_in, without_kept}
 use Rattle.cow_tree.specs.Layout.{tile_in, HasRecord, HaveKeptRecords}
-use Rattle.cow_tree.specs.Staged.{AreStaged, SharesIndex}
+use Rattle.cow_tree.specs.Staged.{AreStaged, SharesIndex, due_of}
 use Rattle.cow_tree.specs.Stored.{StoredTile, stale_tile, made_stale}
 use Rattle.cow_tree.proofs.Adding.{contains-map}
 
@@ -32,8 +32,8 @@ pub bared_corners : (c : Corner) (tiles : List TileLocation) → corners_of_loca
 bared_corners c [] = refl
 bared_corners c (t ∷ rest) = ap₂ (λ (x : Corner) (xs : List Corner). x ∷ xs) (same_corner_bared c t) (bared_corners c rest)
 
--- the tiles whose heights are staged are the same
-pub bared_due : (committed : List TileLocation) (c : Corner) (tiles : List TileLocation) → corners_of_locations (filter (is_changed committed) (without_kept c tiles)) ≡ corners_of_locations (filter (is_changed committed) tiles)
+-- the same pages are due
+pub bared_due : (committed : List TileLocation) (c : Corner) (tiles : List TileLocation) → flat_map (due_of committed) (filter (is_changed committed) (without_kept c tiles)) ≡ flat_map (due_of committed) (filter (is_changed committed) tiles)
 bared_due committed c [] = refl
 bared_due committed c (t ∷ rest) = by_test (is_at c t) (bared_due committed c rest)
   where
@@ -43,14 +43,14 @@ bared_due committed c (t ∷ rest) = by_test (is_at c t) (bared_due committed c 
     were : List TileLocation
     were = filter (is_changed committed) rest
 
-    by_test : (v : Bool) → corners_of_locations others ≡ corners_of_locations were
-        → corners_of_locations (filter (is_changed committed) ((if v then record t { kept = None } else t) ∷ without_kept c rest)) ≡ corners_of_locations (filter (is_changed committed) (t ∷ rest))
-    by_test true later = elim (is_changed committed t) as (λ (w : Bool). corners_of_locations (cond w (record t { kept = None } ∷ others) others) ≡ corners_of_locations (cond w (t ∷ were) were)) [
-      | true ↦ ap (λ (cs : List Corner). t.corner ∷ cs) later
+    by_test : (v : Bool) → flat_map (due_of committed) others ≡ flat_map (due_of committed) were
+        → flat_map (due_of committed) (filter (is_changed committed) ((if v then record t { kept = None } else t) ∷ without_kept c rest)) ≡ flat_map (due_of committed) (filter (is_changed committed) (t ∷ rest))
+    by_test true later = elim (is_changed committed t) as (λ (w : Bool). flat_map (due_of committed) (cond w (record t { kept = None } ∷ others) others) ≡ flat_map (due_of committed) (cond w (t ∷ were) were)) [
+      | true ↦ ap (λ (pages : List ℕ). due_of committed t ++ pages) later
       | false ↦ later
     ]
-    by_test false later = elim (is_changed committed t) as (λ (w : Bool). corners_of_locations (cond w (t ∷ others) others) ≡ corners_of_locations (cond w (t ∷ were) were)) [
-      | true ↦ ap (λ (cs : List Corner). t.corner ∷ cs) later
+    by_test false later = elim (is_changed committed t) as (λ (w : Bool). flat_map (due_of committed) (cond w (t ∷ others) others) ≡ flat_map (due_of committed) (cond w (t ∷ were) were)) [
+      | true ↦ ap (λ (pages : List ℕ). due_of committed t ++ pages) later
       | false ↦ later
     ]
 

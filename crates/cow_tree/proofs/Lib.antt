@@ -7,6 +7,8 @@ pub mod WrittenPages
 pub mod Tiles
 pub mod Recording
 pub mod Steps
+pub mod PageWrites
+pub mod DuePages
 pub mod Commits
 pub mod Dropping
 pub mod EntryTiles

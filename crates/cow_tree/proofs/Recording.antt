@@ -7,19 +7,16 @@ use Rattle.std.proofs.lemmas.List.{length-map, get_or_default}
 use Rattle.std.proofs.lemmas.List.Folds.{list_any_at}
 use Rattle.std.proofs.lemmas.List.Elements.{All-nil, All-cons, All-head, All-tail, All-contains, All-contains_itself, All-filter, All-append, filter_passes}
 use Rattle.disk.specs.Disk.{Image}
-use Rattle.layout.specs.declared.version.Version.TheVariants.{One}
-use Rattle.page_codec.specs.Records.{record_bytes}
-use Rattle.page_codec.specs.Sizes.{pages_of, index_pages_by}
 use Rattle.lattice.specs.Corners.{Corner}
 use Rattle.page_codec.specs.Formats.{Format}
 use Rattle.charts.specs.Locations.{PlaneLocation, IsWholePlane, pages_behind, pages_of_plane, times}
 use Rattle.charts.specs.TileLocations.{TileLocation, pages_of_kept, pages_of_tile, reached}
-use Rattle.cow_tree.specs.Layout.{HasRecord, HaveKeptRecords, HasRecords, IsIndexed, listed_by, tile_in}
+use Rattle.cow_tree.specs.Layout.{HasRecord, HaveKeptRecords, HasRecords, IsIndexed, tile_in}
 use Rattle.cow_tree.specs.Stored.{StoredTile, PlanePages, KeptPlanes}
 use Rattle.charts.specs.Charts.{ChartValue, IsChart, HasHeights, IsLocated, is_changed, is_unreached, fresh_corners}
-use Rattle.cow_tree.specs.Staged.{SharesIndex, IsRecorded, changed_tiles, record_pages, due_of}
+use Rattle.cow_tree.specs.Staged.{SharesIndex, IsRecorded, changed_tiles, due_of}
 use Rattle.cow_tree.proofs.Standing.{SameOn, All-front, All-back, map_same, kept_same, record_same, kept_records_same}
-use Rattle.charts.proofs.Occurrences.{times-append, times_other, stands_there, once_apart}
+use Rattle.charts.proofs.Occurrences.{times-append, times_other, stands_there}
 use Rattle.cow_tree.proofs.Tiles.{each_tile, unfiltered, one_at_corner}
 
 -- the index pages of a tile that committed tiles reach
@@ -42,7 +39,7 @@ pub all_at_times : (P : ℕ → Type 0) (xs : List ℕ) → ((q : ℕ) → 1 ≤
 all_at_times P xs each k d lt = each _ (stands_there _ xs (All-contains_itself xs k d lt))
 
 -- the numbers that pass a test, and the others
-times_parted : (q : ℕ) (test : ℕ → Bool) (xs : List ℕ) → times q (filter test xs) + times q (filter (λ x. not (test x)) xs) ≡ times q xs
+pub times_parted : (q : ℕ) (test : ℕ → Bool) (xs : List ℕ) → times q (filter test xs) + times q (filter (λ x. not (test x)) xs) ≡ times q xs
 times_parted q test [] = omega arith
 times_parted q test (x ∷ xs) =
     let later = times_parted q test xs in
@@ -81,16 +78,6 @@ split_reached committed (t ∷ rest) q =
     by_test : (v : Bool) → times q (flat_map (due_of committed) (cond v (t ∷ filter (is_changed committed) rest) (filter (is_changed committed) rest))) ≡ times q (if v then due_of committed t else []) + times q (flat_map (due_of committed) (filter (is_changed committed) rest))
     by_test true = times-append q (due_of committed t) (flat_map (due_of committed) (filter (is_changed committed) rest))
     by_test false = omega arith
-
--- the records are among what is written
-pub records_due_too : (committed xs : List TileLocation) (q : ℕ) → times q (record_pages xs) ≤ times q (flat_map (due_of committed) xs)
-records_due_too committed [] q = omega arith
-records_due_too committed (t ∷ rest) q =
-    let later = records_due_too committed rest q in
-    let here = times-append q (due_of committed t) (flat_map (due_of committed) rest) in
-    let due = times-append q (t.heights.record_page ∷ []) (filter (is_unreached committed) t.heights.index_pages) in
-    let records = times-append q (t.heights.record_page ∷ []) (record_pages rest) in
-    omega (arith, later, here, due, records)
 
 -- pages that stay where only what is due is written
 module _ (committed tiles : List TileLocation) (a b : Image) where
@@ -169,18 +156,7 @@ recorded format committed (t ∷ rest) a b same was shares kept written fits =
     (All-tail (λ t. IfSome t.kept (HaveKeptRecords format a)) t rest kept)
     (All-tail (λ t. is_changed committed t ≡ true → IsRecorded format committed b t.heights) t rest written) (All-tail (λ t. CanBeSpelt format t.heights) t rest fits))
 
--- in the first version the record is all that is due
-pub first_recorded : (chart : ChartValue) → IsChart chart → chart.format.version ≡ One → (image : Image) → All (λ t. is_changed chart.committed t ≡ true → image t.heights.record_page ≡ record_bytes t.heights.pages) chart.staged
-    → All (λ t. is_changed chart.committed t ≡ true → IsRecorded chart.format chart.committed image t.heights) chart.staged
-first_recorded chart rules one image wrote k d lt changed =
-    let t : TileLocation = get_or chart.staged k d in
-    let none : length t.heights.index_pages ≡ 0 = (rules.staged.whole k d lt).heights.index_pages ∙ ap (λ v. index_pages_by v (pages_of chart.format.side)) one in
-    record {
-      listed = wrote k d lt changed ∙ sym (ap (λ v. record_bytes (listed_by v t.heights)) one);
-      indexed = λ j below fresh. absurd (omega (arith, below, none));
-    }
-
--- the k-th of the tiles whose records are written
+-- the k-th of the changed tiles
 get_or-map : {X Y : Type 0} (f : X → Y) (xs : List X) (k : ℕ) (x : X) (d : Y) → k < length xs → get_or xs k x ≡ x → get_or (map f xs) k d ≡ f x
 get_or-map f [] k x d lt e = absurd (omega arith)
 get_or-map f (y ∷ ys) zero x d lt e = ap f e
@@ -215,42 +191,14 @@ changed_at chart rules k c plane lt is_c had =
 pub record_page_of : (chart : ChartValue) → IsChart chart → (P : ℕ → Type 0) (t : TileLocation) → All P (reached chart.staged) → Contains chart.staged t → P t.heights.record_page
 record_page_of chart rules P t all staged = All-head P t.heights.record_page (pages_behind t.heights ++ pages_of_kept t.kept) (All-contains (λ u. All P (pages_of_tile u)) chart.staged t (each_tile P chart.staged all) staged)
 
-pub changed_unreached : (committed : List TileLocation) (t : TileLocation) → is_changed committed t ≡ true → ¬ Contains (reached committed) t.heights.record_page
-changed_unreached committed t changed has =
-    let some : list_any (λ q. q == t.heights.record_page) (reached committed) ≡ true = list_any_at (λ q. q == t.heights.record_page) (reached committed) has.0 t.heights.record_page has.1 (equal _ _ has.2) in
-    let no : not true ≡ true = sym (ap not some) ∙ changed in
+pub unreached_from : (committed : List TileLocation) (page : ℕ) → is_unreached committed page ≡ true → ¬ Contains (reached committed) page
+unreached_from committed page passes has =
+    let some : list_any (λ q. q == page) (reached committed) ≡ true = list_any_at (λ q. q == page) (reached committed) has.0 page has.1 (equal _ _ has.2) in
+    let no : not true ≡ true = sym (ap not some) ∙ passes in
     cc
   where
     equal : (p q : ℕ) → p ≡ q → (p == q) ≡ true
     equal p q same = grind (arith, nat_tests)
-
-pub records_once : (chart : ChartValue) → IsChart chart → (p : ℕ) → times p (record_pages (changed_tiles chart)) ≤ 1
-records_once chart rules p =
-    let split = split_reached chart.committed chart.staged p in
-    let one = rules.staged.page_rule.once p in
-    omega (arith, split, one, records_due_too chart.committed (changed_tiles chart) p)
-
-pub among_records : (chart : ChartValue) (k : ℕ) (t : TileLocation) → k < length (fresh_corners chart) → get_or (changed_tiles chart) k t ≡ t → 1 ≤ times t.heights.record_page (record_pages (changed_tiles chart))
-among_records chart k t lt here =
-    let within : k < length (changed_tiles chart) = omega (arith, lt, length-map (changed_tiles chart) (λ (t : TileLocation). t.corner)) in
-    stands_there t.heights.record_page (record_pages (changed_tiles chart)) (k, omega (arith, within, length-map (changed_tiles chart) (λ (t : TileLocation). t.heights.record_page)), get_or-map (λ (v : TileLocation). v.heights.record_page) (changed_tiles chart) k t t.heights.record_page within here)
-
-pub records_apart : (chart : ChartValue) → IsChart chart → (k j : ℕ) (t u : TileLocation) → k < length (fresh_corners chart) → j < length (fresh_corners chart) → k ≢ j → get_or (changed_tiles chart) k t ≡ t → get_or (changed_tiles chart) j u ≡ u
-    → t.heights.record_page ≢ u.heights.record_page
-records_apart chart rules k j t u in_k in_j apart here there same =
-    let f : TileLocation → ℕ = λ v. v.heights.record_page in
-    let tiles : List TileLocation = changed_tiles chart in
-    let within_k : k < length tiles = omega (arith, in_k, length-map tiles (λ (t : TileLocation). t.corner)) in
-    let within_j : j < length tiles = omega (arith, in_j, length-map tiles (λ (t : TileLocation). t.corner)) in
-    once_apart (record_pages tiles) (records_once chart rules) k j (omega (arith, within_k, length-map tiles f)) (omega (arith, within_j, length-map tiles f)) apart
-    (get_or-map f tiles k t 0 within_k here ∙ same ∙ sym (get_or-map f tiles j u 0 within_j there))
-
--- all that were written
-pub all_recorded : (chart : ChartValue) (image : Image) → ((k : ℕ) → k < length (fresh_corners chart) → (t : TileLocation) → get_or (changed_tiles chart) k t ≡ t → image t.heights.record_page ≡ record_bytes t.heights.pages)
-    → All (λ t. is_changed chart.committed t ≡ true → image t.heights.record_page ≡ record_bytes t.heights.pages) chart.staged
-all_recorded chart image each =
-    unfiltered (is_changed chart.committed) (λ t. image t.heights.record_page ≡ record_bytes t.heights.pages) chart.staged
-    (λ k d lt. each k (omega (arith, lt, length-map (changed_tiles chart) (λ (t : TileLocation). t.corner))) (get_or (changed_tiles chart) k d) (get_or_default (changed_tiles chart) k (get_or (changed_tiles chart) k d) d lt))
 
 -- the k-th as a loop over the corners reads it
 pub record IsNext (chart : ChartValue) (k : ℕ) (plane : PlaneLocation) : Type 0 where
@@ -271,18 +219,8 @@ next_changed chart rules k c plane xs ys same listed lt is_c had =
       within = within;
       low = subst (λ (p : ℕ). 4 ≤ p) at (record_page_of chart rules (λ p. 4 ≤ p) among.tile rules.staged.page_rule.low among.staged);
       high = subst (λ (p : ℕ). p < chart.sectors) at (record_page_of chart rules (λ p. p < chart.sectors) among.tile rules.staged.page_rule.high among.staged);
-      unreached = subst (λ (p : ℕ). ¬ Contains (reached chart.committed) p) at (changed_unreached chart.committed among.tile among.changed);
+      unreached = subst (λ (p : ℕ). ¬ Contains (reached chart.committed) p) at (unreached_from chart.committed among.tile.heights.record_page among.changed);
     }
-
-pub staged_at : (chart : ChartValue) (k : ℕ) (t : TileLocation) → k < length (fresh_corners chart) → get_or (changed_tiles chart) k t ≡ t → Contains chart.staged t
-staged_at chart k t lt here =
-    let within : k < length (changed_tiles chart) = omega (arith, lt, length-map (changed_tiles chart) (λ (t : TileLocation). t.corner)) in
-    subst (Contains chart.staged) here (All-filter (is_changed chart.committed) (Contains chart.staged) chart.staged (All-contains_itself chart.staged) k t within)
-
-pub same_at : (chart : ChartValue) (k : ℕ) (t u : TileLocation) → k < length (fresh_corners chart) → get_or (changed_tiles chart) k t ≡ t → get_or (changed_tiles chart) k u ≡ u → t ≡ u
-same_at chart k t u lt here there =
-    let within : k < length (changed_tiles chart) = omega (arith, lt, length-map (changed_tiles chart) (λ (t : TileLocation). t.corner)) in
-    sym here ∙ get_or_default (changed_tiles chart) k t u within ∙ there
 
 unfiltered_corner : (test : TileLocation → Bool) (tiles : List TileLocation) (c : Corner) → Contains (map (λ (t : TileLocation). t.corner) (filter test tiles)) c → Contains (map (λ (t : TileLocation). t.corner) tiles) c
 unfiltered_corner test [] c has = has

@@ -1,14 +1,15 @@
 -- What a tree says of its roots.
-use Rattle.std.specs.Prelude.{◌≡◌, ◌⊎◌, ◌≤◌, false, List, Result, IsErrOf}
+use Rattle.std.specs.Prelude.{◌≡◌, ◌⊎◌, ℕ, ◌+◌, ◌≤◌, true, false, List, length, Result, OnOk, OnErr, IfErr, IsErrOf, if◌then◌else◌}
 use Rattle.disk.specs.declared.disk.Disk.{Ghosts}
 use Rattle.roots.specs.Opening.{IsRefusalOfOpening}
 use Rattle.roots.specs.Roots.{IsReady, disk_of, root_of, has_begun, has_failed}
 use Rattle.roots.specs.declared.roots.Roots.{Roots}
+use Rattle.charts.specs.Locations.{times}
 use Rattle.charts.specs.TileLocations.{TileLocation}
 use Rattle.cow_tree.specs.Layout.{StoresAt}
 use Rattle.cow_tree.specs.Stored.{Stored}
 use Rattle.disk.specs.Disk.{Image, HasRisen}
-use Rattle.disk.specs.Stops.{AddsNothing}
+use Rattle.disk.specs.Stops.{AddsNothing, LeavesOnly, HasCause}
 use Rattle.lattice.specs.declared.refusal.Refusal.{Refusal}
 use Rattle.lattice.specs.declared.refusal.Refusal.TheVariants.{Device, NoMemory, Damaged}
 
@@ -29,6 +30,23 @@ pub record OnlyReads {D T : Type 0} (g : Ghosts D) (old new : Roots D g) (result
   pub seen : g.honest (disk_of new) → g.seen (disk_of new) ≡ g.seen (disk_of old)
   pub nothing : g.honest (disk_of new) → AddsNothing g (disk_of old) (disk_of new)
   pub ready : g.honest (disk_of new) → IsReady g old → has_failed new ≡ false → IsReady g new
+
+-- A call that wrote these pages and no others, or was refused by the disk. A stop at any moment leaves what each image
+-- stood for with these tiles.
+pub record WritesPages {D T : Type 0} (g : Ghosts D) (tiles : List TileLocation) (pages : List ℕ) (old new : Roots D g) (result : Result T Refusal) : Type 0 where
+  pub size : g.size (disk_of new) ≡ g.size (disk_of old)
+  pub cause : HasCause (g.failures (disk_of old)) (g.failures (disk_of new)) result
+  pub refused : IfErr result (λ why. why ≡ Device)
+  pub few : g.writes (disk_of new) ≤ g.writes (disk_of old) + length pages + (if has_begun old then 0 else 1)
+  pub writes : OnOk result (g.writes (disk_of new) + (if has_begun new then 0 else 1) ≤ g.writes (disk_of old) + length pages + (if has_begun old then 0 else 1))
+  pub honest : g.honest (disk_of new) → g.honest (disk_of old)
+  pub root : root_of new ≡ root_of old
+  pub works : OnOk result (has_failed new ≡ false)
+  pub failed : OnErr result (has_failed new ≡ true)
+  pub ready : g.honest (disk_of new) → IsReady g old → OnOk result (IsReady g new)
+  pub others : g.honest (disk_of new) → OnOk result ((p : ℕ) → 4 ≤ p → times p pages ≡ 0 → g.seen (disk_of old) p ≡ g.seen (disk_of new) p)
+  pub any_moment : g.honest (disk_of new) → IsReady g old → (s : Stored) → EachStores g old tiles s
+      → LeavesOnly g (disk_of old) (disk_of new) (StoresAt (g.size (disk_of old)) (root_of old) tiles s)
 
 -- refused for the disk, for memory, or as Damaged for this reason
 abbrev pub IsRefusedFor : Type 0 → Refusal → Type 0

@@ -1,7 +1,9 @@
 -- What of the staged tiles stands on the disk already.
-use Rattle.std.specs.Prelude.{◌≡◌, ℕ, ◌*◌, ◌<◌, true, false, List, ◌∷◌, All, IfSome, length, slice_index, take, drop, map, filter}
+use Rattle.std.specs.Prelude.{◌≡◌, ℕ, ◌*◌, ◌<◌, true, false, List, ◌∷◌, All, IfSome, length, slice_index, take, drop, filter}
 use Rattle.std.specs.List.{flat_map}
 use Rattle.disk.specs.Disk.{Image}
+use Rattle.layout.specs.declared.version.Version.{Version}
+use Rattle.layout.specs.declared.version.Version.TheVariants.{One, Two}
 use Rattle.page_codec.specs.Formats.{Format}
 use Rattle.page_codec.specs.Numbers.{padded}
 use Rattle.page_codec.specs.Records.{record_bytes}
@@ -29,17 +31,27 @@ page_of_bytes bytes i = padded 4096 (take 4096 (drop (4096 * i) bytes))
 abbrev pub changed_tiles : ChartValue → List TileLocation
 changed_tiles chart = filter (is_changed chart.committed) chart.staged
 
-abbrev pub record_pages : List TileLocation → List ℕ
-record_pages tiles = map (λ t. t.heights.record_page) tiles
+-- what a commit writes of a plane that is staged: its record, and those of its index pages that no committed tile reaches
+abbrev pub plane_due : List TileLocation → PlaneLocation → List ℕ
+plane_due committed p = p.record_page ∷ filter (is_unreached committed) p.index_pages
 
--- what a commit writes besides the root: for each of them the record, and the index pages that no committed tile reaches
+-- what it writes besides the root: that of the heights of each changed tile
 abbrev pub due_of : List TileLocation → TileLocation → List ℕ
-due_of committed t = t.heights.record_page ∷ filter (is_unreached committed) t.heights.index_pages
+due_of committed t = plane_due committed t.heights
 
 abbrev pub pages_due : ChartValue → List ℕ
 pages_due chart = flat_map (due_of chart.committed) (changed_tiles chart)
 
+-- how many index pages a page of a plane has to have written with it
+abbrev pub index_page_by : Version → ℕ
+index_page_by One = 0
+index_page_by Two = 1
+
+-- on this image the first so many index pages of the plane, but those that committed tiles reach, list its pages
+abbrev pub AreIndexed : List TileLocation → Image → PlaneLocation → ℕ → Type 0
+AreIndexed committed image p count = (t : ℕ) → t < count → is_unreached committed (slice_index p.index_pages t) ≡ true → IsIndexed image p t
+
 -- on this image the record of the plane, and those of its index pages that no committed tile reaches, list its pages
 pub record IsRecorded (format : Format) (committed : List TileLocation) (image : Image) (p : PlaneLocation) : Type 0 where
   pub listed : image p.record_page ≡ record_bytes (listed_by format.version p)
-  pub indexed : (t : ℕ) → t < length p.index_pages → is_unreached committed (slice_index p.index_pages t) ≡ true → IsIndexed image p t
+  pub indexed : AreIndexed committed image p (length p.index_pages)

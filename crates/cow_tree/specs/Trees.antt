@@ -13,9 +13,9 @@ use Rattle.charts.specs.declared.plane.Plane.{Plane}
 use Rattle.cow_tree.specs.Stored.{StoredTile, Stored}
 use Rattle.charts.specs.TileLocations.{TileLocation}
 use Rattle.cow_tree.specs.Layout.{tile_in, IsLaidOut}
-use Rattle.charts.specs.Charts.{ChartValue, corners_of_locations, fresh_corners, HasFreshHeights}
+use Rattle.charts.specs.Charts.{ChartValue, corners_of_locations, HasFreshHeights}
 use Rattle.charts.specs.Planes.{HasPlane}
-use Rattle.cow_tree.specs.Staged.{AreStaged}
+use Rattle.cow_tree.specs.Staged.{AreStaged, pages_due}
 use Rattle.roots.specs.Roots.{IsReady, disk_of as disk_under, has_begun as have_begun, has_failed as have_failed}
 use Rattle.cow_tree.specs.OverRoots.{EachStores}
 use Rattle.cow_tree.specs.declared.tree.Tree.{Tree}
@@ -56,9 +56,10 @@ module _ {D : Type 0} {g : Ghosts D} where
   abbrev pub HasStaged : Tree D g → Corner → Type 0
   HasStaged tree c = HasFreshHeights c tree.chart
 
-  -- how many records the next commit writes: one a tile whose heights were staged
+  -- how many records and index pages the next commit writes: of each tile whose heights were staged the record, and the index
+  -- pages that no committed tile reaches
   abbrev pub records_due : Tree D g → ℕ
-  records_due tree = length (fresh_corners tree.chart)
+  records_due tree = length (pages_due tree.chart)
 
   -- the disk, opened or handed back
   abbrev pub disk_after : Result (Tree D g) (NotOpened D) → D

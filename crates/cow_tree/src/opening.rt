@@ -1,7 +1,7 @@
 //! The chart of a disk, from its records.
 ghost use Rattle.std.specs.Prelude.{◌≡◌, ◌≤◌, ◌<◌, ◌⊎◌, ◌^◌, ℕ, List, All, length, map, IfSome, false, true, Ok, Err, OnOk, OnErr, IfOk, IfErr, IsErrOf, Some, None};
 ghost use Rattle.lattice.specs.declared.refusal.Refusal.TheVariants.{Device, NoMemory, Damaged};
-ghost use Rattle.layout.specs.declared.version.Version.TheVariants.{One, Two};
+ghost use Rattle.layout.specs.declared.version.Version.TheVariants.{Two};
 ghost use Rattle.page_codec.specs.Records.{IsRecord, record_bytes};
 ghost use Rattle.page_codec.specs.Roots.{RootValue, format_of};
 ghost use Rattle.page_codec.specs.Entries.{EntryValue};
@@ -161,7 +161,6 @@ pub(crate) fn read_chart<D: Disk>(
     ensures rules { IfOk result IsChart }
     ensures sectors { IfOk result (λ chart. chart.sectors ≡ D.size (disk_of roots.old)) }
     ensures format { IfOk result (λ chart. chart.format ≡ format_of root.now) }
-    ensures first { IfOk result (λ chart. chart.format.version ≡ One) }
     ensures fits { IfOk result (λ chart. chart.sectors < 2 ^ 32) }
     ensures entries { IfOk result (λ chart. map entry_of chart.committed ≡ root.now.entries) }
     ensures clean { IfOk result IsClean }

@@ -8,9 +8,8 @@ ghost use Rattle.lattice.specs.Limits.{most_tiles};
 ghost use Rattle.lattice.specs.Mosaic.{AreSinks};
 ghost use Rattle.std.specs.List.{AllAdjacentBelow};
 ghost use Rattle.lattice.specs.declared.refusal.Refusal.TheVariants.{Device, NoMemory, Failed};
-ghost use Rattle.layout.specs.declared.version.Version.TheVariants.{One};
 ghost use Rattle.page_codec.specs.Roots.{RootValue, format_of};
-ghost use Rattle.page_codec.specs.Sizes.{pages_of, sectors_of};
+ghost use Rattle.page_codec.specs.Sizes.{pages_of, index_pages_of, sectors_of};
 ghost use Rattle.charts.specs.declared.plane.Plane.TheVariants.{Heights};
 ghost use Rattle.cow_tree.specs.Caches.{Agrees};
 ghost use Rattle.cow_tree.specs.Entries.{entry_of};
@@ -18,6 +17,7 @@ ghost use Rattle.cow_tree.specs.Layout.{Stands, tile_in};
 ghost use Rattle.roots.specs.Roots.{disk_of as disk_under, root_of as root_under, has_failed as have_failed};
 ghost use Rattle.cow_tree.specs.OverRoots.{IsRefusalOfTree};
 ghost use Rattle.cow_tree.specs.Planes.{HasPage};
+ghost use Rattle.cow_tree.specs.Staged.{index_page_by};
 ghost use Rattle.cow_tree.specs.Stored.{Stored, made_stale, no_tiles, next_commit, pages_of_bytes, stale_tile, with_corner, with_page, with_tile, without_tile};
 
 use crate::cache::PageCache;
@@ -51,7 +51,6 @@ pub struct Tree<D: Disk> {
     ghost sectors: { chart.sectors ≡ D.Disk.size (disk_under roots) },
     ghost fits: { chart.sectors < 2 ^ 32 },
     ghost format: { chart.format ≡ format_of root },
-    ghost first: { root.version ≡ One },
     ghost entries: { map entry_of chart.committed ≡ root.entries },
     ghost known: { have_failed roots ≡ false → root_under roots ≡ root },
     ghost declared: { sinks.side ≡ root.side },
@@ -340,10 +339,12 @@ impl<D: Disk> Tree<D> {
         ensures same { IsErrOf result NoMemory → staged_in D.Disk self.new ≡ staged_in D.Disk self.old }
         ensures device { IsErrOf result Device → has_failed self.new ≡ true }
 
-        // Heights that were staged before ask for no memory, and for no further record.
+        // Heights that were staged before ask for no memory, and for no further record. By the second version one more index
+        // page may be due.
         ensures sure { HasStaged self.old c → ¬ IsErrOf result NoMemory }
-        ensures due { records_due self.new ≤ records_due self.old + 1 }
-        ensures due_same { HasStaged self.old c → records_due self.new ≡ records_due self.old }
+        ensures due { records_due self.new ≤ records_due self.old + (1 + index_page_by (root_of self.old).version) }
+        ensures due_same { HasStaged self.old c → records_due self.new ≤ records_due self.old + index_page_by (root_of self.old).version }
+        ensures due_before { records_due self.old ≤ records_due self.new }
         ensures has_staged { OnOk result (HasStaged self.new c) }
         ensures still_staged { (other : Corner) → HasStaged self.old other → HasStaged self.new other }
 
@@ -413,7 +414,7 @@ impl<D: Disk> Tree<D> {
         ensures sinks { sinks_of self.new ≡ sinks_of self.old }
         ensures begun { OnOk result (D.writes (disk_of self.new) + (if has_begun self.new then 0 else 1)
             ≤ D.writes (disk_of self.old) + pages_of (root_of self.old).side + (if has_begun self.old then 0 else 1)) }
-        ensures due { OnOk result (records_due self.new ≡ records_due self.old + 1) }
+        ensures due { OnOk result (records_due self.new ≡ records_due self.old + (1 + index_pages_of (format_of (root_of self.old)))) }
         ensures has_staged { OnOk result (HasStaged self.new c) }
 
         // The tile is staged, and nothing else.
@@ -454,6 +455,7 @@ impl<D: Disk> Tree<D> {
         ensures last_known { OnErr result (root_of self.new ≡ root_of self.old) }
         ensures number { OnOk result ((root_of self.new).number ≡ (root_of self.old).number + 1) }
         ensures count { OnOk result ((root_of self.new).count ≡ count) }
+        ensures version { (root_of self.new).version ≡ (root_of self.old).version }
         ensures side { (root_of self.new).side ≡ (root_of self.old).side }
         ensures capacity { (root_of self.new).capacity ≡ (root_of self.old).capacity }
         ensures not_begun { OnOk result (has_begun self.new ≡ false) }

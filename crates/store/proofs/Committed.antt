@@ -51,6 +51,7 @@ module _ {D : Type 0} (g : Ghosts D) (old new : Tree D g) (command : Command) (w
       → IsApplied g command (Err Device) old new
   fails_so size later honest root failed risen run = record {
     size = size;
+    version = ap (λ (x : RootValue). x.version) root;
     side = ap (λ (x : RootValue). x.side) root;
     capacity = ap (λ (x : RootValue). x.capacity) root;
     later = later;
@@ -120,6 +121,7 @@ module _ {D : Type 0} (g : Ghosts D) (old new : Tree D g) (command : Command) (w
           → (g.honest (disk_of new) → (s : State) → IsInState g old s → AppliesNot (root_of old).capacity s command r s) → IsApplied g command (Err r) old new
       quiet r other not_failed still_works cause unwritten refused = record {
         size = done.size;
+        version = ap (λ (x : RootValue). x.version) done.root;
         side = ap (λ (x : RootValue). x.side) done.root;
         capacity = ap (λ (x : RootValue). x.capacity) done.root;
         later = done.later;
@@ -215,14 +217,15 @@ module _ {D : Type 0} (g : Ghosts D) (old mid new : Tree D g) (command : Command
       (omega (arith, risen, staged.uncommitted.later)) run_through
 
   -- it was done
-  pub commits_it : has_failed new ≡ false → (root_of new).side ≡ (root_of mid).side → (root_of new).capacity ≡ (root_of mid).capacity → (root_of new).count ≡ count → (root_of new).number ≡ (root_of mid).number + 1
+  pub commits_it : has_failed new ≡ false → (root_of new).version ≡ (root_of mid).version → (root_of new).side ≡ (root_of mid).side → (root_of new).capacity ≡ (root_of mid).capacity → (root_of new).count ≡ count → (root_of new).number ≡ (root_of mid).number + 1
       → (g.honest (disk_of new) → g.may (disk_of new) (g.seen (disk_of new)))
       → (g.honest (disk_of new) → (stored : Stored) → IsTreeAt g mid stored → IsTreeAt g new (next_commit stored (sinks_of mid) (staged_in g mid) count))
       → (g.honest (disk_of new) → (stored : Stored) → IsTreeAt g mid stored → staged_in g new ≡ staged_in g mid)
       → sinks_of new ≡ (root_of new).sinks
       → IsApplied g command (Ok count) old new
-  commits_it works side capacity new_count new_number seen now clean declared = record {
+  commits_it works version side capacity new_count new_number seen now clean declared = record {
     size = size ∙ staged.uncommitted.size;
+    version = version ∙ ap (λ (r : RootValue). r.version) staged.uncommitted.root;
     side = side ∙ ap (λ (r : RootValue). r.side) staged.uncommitted.root;
     capacity = capacity ∙ ap (λ (r : RootValue). r.capacity) staged.uncommitted.root;
     later = omega (arith, later, staged.uncommitted.later);

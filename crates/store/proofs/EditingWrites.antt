@@ -1,12 +1,15 @@
 -- How many writes an edit makes.
-use Rattle.std.proofs.Common.{◌≡◌, ℕ, ◌+◌, ◌*◌, ◌≤◌, Bool, true, false, if◌then◌else◌, arith}
+use Rattle.std.proofs.Common.{◌≡◌, ℕ, ◌+◌, ◌*◌, ◌<◌, ◌≤◌, Bool, true, false, if◌then◌else◌, arith}
 use Rattle.std.specs.Prelude.{Result, Ok, Err, OnOk, OnErr}
 use Rattle.lattice.specs.declared.refusal.Refusal.{Refusal}
+use Rattle.layout.specs.declared.version.Version.{Version}
+use Rattle.layout.specs.declared.version.Version.TheVariants.{One, Two}
+use Rattle.cow_tree.specs.Staged.{index_page_by}
 use Rattle.edits.specs.declared.command.Command.{Command}
 use Rattle.edits.specs.declared.command.Command.TheVariants.{Import, Remove, Patch, Burn, Wall, Sink, Unsink}
 use Rattle.edits.specs.Plans.{IsFew}
 use Rattle.store.specs.Applied.{SetsSamples}
-use Rattle.store.specs.Editing.{WritesFew}
+use Rattle.store.specs.Editing.{WritesFew, index_pages_due}
 
 -- one page more, which may begin a commit
 pub page_written : (begun : Bool) (before now : ℕ) → now ≤ before + (if begun then 1 else 2) → now ≤ before + (if begun then 0 else 1) + 1
@@ -24,23 +27,34 @@ begun_written true before = omega arith
 begun_written false before = omega arith
 
 -- by the number of changes
-few_written : (command : Command) (changes before now : ℕ) → SetsSamples command → IsFew command changes → now ≤ before + (2 * changes + 3) → WritesFew command before now
-few_written (Import c bytes) changes before now sets few most = tt
-few_written (Remove c) changes before now sets few most = tt
-few_written (Patch from to h) changes before now sets few most = tt
-few_written (Burn depth points) changes before now sets few most = omega (arith, few, most)
-few_written (Wall h points) changes before now sets few most = omega (arith, few, most)
-few_written (Sink p) changes before now sets few most = absurd sets
-few_written (Unsink p) changes before now sets few most = absurd sets
+few_written : (version : Version) (command : Command) (changes before now : ℕ) → SetsSamples command → IsFew command changes → now ≤ before + (2 * changes + index_pages_due version changes + 3) → WritesFew version command before now
+few_written version (Import c bytes) changes before now sets few most = tt
+few_written version (Remove c) changes before now sets few most = tt
+few_written version (Patch from to h) changes before now sets few most = tt
+few_written One (Burn depth points) changes before now sets few most = omega (arith, few, most)
+few_written Two (Burn depth points) changes before now sets few most = omega (arith, few, most)
+few_written One (Wall h points) changes before now sets few most = omega (arith, few, most)
+few_written Two (Wall h points) changes before now sets few most = omega (arith, few, most)
+few_written version (Sink p) changes before now sets few most = absurd sets
+few_written version (Unsink p) changes before now sets few most = absurd sets
+
+-- the index pages of one page more, and of all
+pub index_due_on : (version : Version) (start mid end done next : ℕ) → mid ≤ start + index_pages_due version done → end ≤ mid + index_page_by version → done < next → end ≤ start + index_pages_due version next
+index_due_on One start mid end done next so_far more further = omega (arith, so_far, more)
+index_due_on Two start mid end done next so_far more further = omega (arith, so_far, more, further)
+
+pub index_due_all : (version : Version) (start end done all : ℕ) → end ≤ start + index_pages_due version done → done ≤ all → end ≤ start + index_pages_due version all
+index_due_all One start end done all so_far within = so_far
+index_due_all Two start end done all so_far within = omega (arith, so_far, within)
 
 -- so much is written where staging was refused, and where it wasn't
-pub staged_written : {T : Type 0} (staged : Result T Refusal) (command : Command) (changes due before mid now : ℕ) (begun begins : Bool) → SetsSamples command → IsFew command changes
-    → mid ≤ before + (if begun then 0 else 1) + changes → OnOk staged (mid + (if begins then 0 else 1) ≤ before + (if begun then 0 else 1) + changes) → OnOk staged (due ≤ changes)
-    → OnOk staged (now ≤ mid + due + (if begins then 2 else 3)) → OnErr staged (now ≡ mid) → WritesFew command before now
-staged_written (Ok x) command changes due before mid now begun begins sets few most pages records commits none =
+pub staged_written : {T : Type 0} (version : Version) (staged : Result T Refusal) (command : Command) (changes due before mid now : ℕ) (begun begins : Bool) → SetsSamples command → IsFew command changes
+    → mid ≤ before + (if begun then 0 else 1) + changes → OnOk staged (mid + (if begins then 0 else 1) ≤ before + (if begun then 0 else 1) + changes) → OnOk staged (due ≤ changes + index_pages_due version changes)
+    → OnOk staged (now ≤ mid + due + (if begins then 2 else 3)) → OnErr staged (now ≡ mid) → WritesFew version command before now
+staged_written version (Ok x) command changes due before mid now begun begins sets few most pages records commits none =
     let first = begun_written begun before in
     let last = commit_written begins mid now due commits in
-    few_written command changes before now sets few (omega (arith, first, last, pages, records))
-staged_written (Err r) command changes due before mid now begun begins sets few most pages records commits none =
+    few_written version command changes before now sets few (omega (arith, first, last, pages, records))
+staged_written version (Err r) command changes due before mid now begun begins sets few most pages records commits none =
     let first = begun_written begun before in
-    few_written command changes before now sets few (omega (arith, first, most, none))
+    few_written version command changes before now sets few (omega (arith, first, most, none))

@@ -12,7 +12,8 @@ use Rattle.calls.specs.Outcomes.{Stays, StaysFailed, Fails}
 use Rattle.calls.specs.State.{State, failing}
 use Rattle.cow_tree.specs.Reading.{mosaic_of, IsReadable, HasOnlyRead}
 use Rattle.cow_tree.specs.Stored.{StoredTile, Stored, AreWhole, mosaic_of_tiles}
-use Rattle.charts.specs.Charts.{ChartValue, HasFreshHeights, fresh_corners}
+use Rattle.charts.specs.Charts.{ChartValue, HasFreshHeights}
+use Rattle.cow_tree.specs.Staged.{pages_due}
 use Rattle.cow_tree.specs.Trees.{disk_of, root_of, has_failed, sinks_of, staged_in, IsAt as IsTreeAt}
 use Rattle.cow_tree.specs.declared.tree.Tree.{Tree}
 use Rattle.store.specs.Queried.{IsQueried}
@@ -80,7 +81,7 @@ module _ {D : Type 0} (g : Ghosts D) (old new : Tree D g) (works : has_failed ol
   pub still_clean : (has_failed old ≡ false → IsClean old) → has_failed new ≡ false → IsClean new
   still_clean clean _ = let was = clean works in record {
     none_staged = λ c staged. was.none_staged c (subst (λ chart. HasFreshHeights c chart) keeps.chart staged);
-    none_due = ap (λ (chart : ChartValue). length (fresh_corners chart)) keeps.chart ∙ was.none_due;
+    none_due = ap (λ (chart : ChartValue). length (pages_due chart)) keeps.chart ∙ was.none_due;
     corners = keeps.corners ∙ was.corners ∙ ap (λ (r : RootValue). map (λ e. e.corner) r.entries) (sym keeps.root);
   }
 

@@ -7,6 +7,9 @@ use Rattle.disk.specs.Stops.{LeavesOnly, weaker as weaker_on, nothing_done as no
 use Rattle.disk.specs.declared.disk.Disk.{Ghosts}
 use Rattle.lattice.specs.declared.refusal.Refusal.{Refusal}
 use Rattle.lattice.specs.declared.refusal.Refusal.TheVariants.{Device, NoMemory, Failed}
+use Rattle.layout.specs.declared.version.Version.{Version}
+use Rattle.layout.specs.declared.version.Version.TheVariants.{One, Two}
+use Rattle.page_codec.specs.Formats.{number_of}
 use Rattle.page_codec.specs.Roots.{RootValue}
 use Rattle.edits.specs.declared.command.Command.{Command}
 use Rattle.edits.specs.declared.command.Command.TheVariants.{Import, Remove, Patch, Burn, Wall, Sink, Unsink}
@@ -131,7 +134,7 @@ module _ {D : Type 0} (g : Ghosts D) (old new : Store D g) {T : Type 0} (event :
         capacity = λ _. ap (λ (root : RootValue). root.capacity) reads.root;
         told = told event tell so (has_failed old) (has_failed new) result causes (λ had. ((reads.failed had).0, reads.still_failed had)) reads.works reads.fails reads.quiet;
         failures = counted_so event tell so (g.failures (disk_of old)) (g.failures (disk_of new)) result reads.later reads.device;
-        writes = written_so event tell so 1 before now result (few_as event tell Answers is 1 before now reads.writes) (always_err result (λ _. reads.writes));
+        writes = written_so event tell so (number_of (root_of old).version) before now result (few_as event tell Answers is (number_of (root_of old).version) before now reads.writes) (always_err result (λ _. reads.writes));
         known = knows_as event tell Answers is (known_by (root_of old)) (known_by (root_of new)) result (ap known_by reads.root);
         honest = λ h. (reads.nothing h).honest;
         takes = λ h s at. (ap (λ (root : RootValue). root.side) reads.root, ap (λ (root : RootValue). root.capacity) reads.root);
@@ -187,20 +190,26 @@ counts g only_now store k known state = record {
 
 -- a command
 
-known_done : (old new : RootValue) (c : Command) (result : Result ℕ Refusal) → IfOk result (λ k. (k ≡ old.count + 1) × (new.count ≡ k) × (new.number ≡ old.number + 1)) → OnErr result (new ≡ old)
+known_done : (old new : RootValue) (c : Command) (result : Result ℕ Refusal) → new.version ≡ old.version → IfOk result (λ k. (k ≡ old.count + 1) × (new.count ≡ k) × (new.number ≡ old.number + 1)) → OnErr result (new ≡ old)
     → Knows (known_by old) (ask.Do c) (answered reply.Done result) (known_by new)
-known_done old new c (Ok k) counted last =
-    (counted.0, ap (λ (n : ℕ). record { version = 1; count = n; number = new.number }) counted.1 ∙ ap (λ (n : ℕ). record { version = 1; count = k; number = n }) counted.2)
-known_done old new c (Err r) counted last = ap known_by last
+known_done old new c (Ok k) same counted last = (
+  counted.0,
+  ap (λ (v : Version). record { version = number_of v; count = new.count; number = new.number }) same
+      ∙ ap (λ (n : ℕ). record { version = number_of old.version; count = n; number = new.number }) counted.1
+      ∙ ap (λ (n : ℕ). record { version = number_of old.version; count = k; number = n }) counted.2,
+)
+known_done old new c (Err r) same counted last = ap known_by last
 
-writes_few : (c : Command) (before now : ℕ) → WritesFew c before now → FewWrites 1 (ask.Do c) before now
-writes_few (Import corner bytes) before now few = tt
-writes_few (Remove corner) before now few = tt
-writes_few (Patch from to h) before now few = tt
-writes_few (Burn depth points) before now few = few
-writes_few (Wall h points) before now few = few
-writes_few (Sink p) before now few = few
-writes_few (Unsink p) before now few = few
+writes_few : (version : Version) (c : Command) (before now : ℕ) → WritesFew version c before now → FewWrites (number_of version) (ask.Do c) before now
+writes_few version (Import corner bytes) before now few = tt
+writes_few version (Remove corner) before now few = tt
+writes_few version (Patch from to h) before now few = tt
+writes_few One (Burn depth points) before now few = few
+writes_few Two (Burn depth points) before now few = few
+writes_few One (Wall h points) before now few = few
+writes_few Two (Wall h points) before now few = few
+writes_few version (Sink p) before now few = few
+writes_few version (Unsink p) before now few = few
 
 right_command : (capacity : ℕ) (s t : State) (c : Command) (result : Result ℕ Refusal) → Applies capacity s c result t → Happens capacity s (ask.Do c) (answered reply.Done result) t
 right_command capacity s t c (Ok k) is = is
@@ -214,15 +223,15 @@ is_command c = record { matches = λ k. tt; says = refl; goes_on = λ b k. refl;
     passes_on b r other = refl
 
 pub commands : {D : Type 0} (g : Ghosts D) → ((disk : D) (image : Image) → g.honest disk → g.since disk (g.moment disk) image → g.may disk image) → (old new : Store D g) (c : Command) (result : Result ℕ Refusal)
-    → HasApplied g old new c result → WritesFew c (g.writes (disk_of old)) (g.writes (disk_of new)) → (has_failed old ≡ true → (result ≡ Err Failed) × (disk_of new ≡ disk_of old)) → (has_failed old ≡ true → has_failed new ≡ true)
+    → HasApplied g old new c result → WritesFew (root_of old).version c (g.writes (disk_of old)) (g.writes (disk_of new)) → (has_failed old ≡ true → (result ≡ Err Failed) × (disk_of new ≡ disk_of old)) → (has_failed old ≡ true → has_failed new ≡ true)
     → IsCall (members g) old (ask.Do c) (answered reply.Done result) new
 commands g only_now old new c result is few failed still_failed = record {
   side = λ _. is.side;
   capacity = λ _. is.capacity;
   told = told (ask.Do c) reply.Done (is_command c) (has_failed old) (has_failed new) result is.causes (λ had. ((failed had).0, still_failed had)) is.works is.fails is.quiet;
   failures = counted_so (ask.Do c) reply.Done (is_command c) (g.failures (disk_of old)) (g.failures (disk_of new)) result is.later is.device;
-  writes = written_so (ask.Do c) reply.Done (is_command c) 1 (g.writes (disk_of old)) (g.writes (disk_of new)) result (writes_few c (g.writes (disk_of old)) (g.writes (disk_of new)) few) is.unwritten;
-  known = known_done (root_of old) (root_of new) c result is.counted is.last_known;
+  writes = written_so (ask.Do c) reply.Done (is_command c) (number_of (root_of old).version) (g.writes (disk_of old)) (g.writes (disk_of new)) result (writes_few (root_of old).version c (g.writes (disk_of old)) (g.writes (disk_of new)) few) is.unwritten;
+  known = known_done (root_of old) (root_of new) c result is.version is.counted is.last_known;
   honest = is.honest;
   takes = λ h s at. (is.side, is.capacity);
   happens = λ h s at.

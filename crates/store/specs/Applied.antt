@@ -44,6 +44,7 @@ SetsSinks _ = ⊥
 -- the command was done, and answered so
 pub record IsApplied {D : Type 0} (g : Ghosts D) (command : Command) (result : Result ℕ Refusal) (old new : Tree D g) : Type 0 where
   pub size : g.size (disk_of new) ≡ g.size (disk_of old)
+  pub version : (root_of new).version ≡ (root_of old).version
   pub side : (root_of new).side ≡ (root_of old).side
   pub capacity : (root_of new).capacity ≡ (root_of old).capacity
   pub later : g.failures (disk_of old) ≤ g.failures (disk_of new)

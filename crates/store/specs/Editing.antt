@@ -2,9 +2,12 @@
 use Rattle.std.specs.Prelude.{◌≡◌, ◌≤◌, ◌<◌, ◌+◌, ◌*◌, ℕ, ℤ, List, length, Result, if◌then◌else◌}
 use Rattle.std.specs.List.{AllZip}
 use Rattle.disk.specs.declared.disk.Disk.{Ghosts}
+use Rattle.layout.specs.declared.version.Version.{Version}
+use Rattle.layout.specs.declared.version.Version.TheVariants.{One, Two}
 use Rattle.lattice.specs.Corners.{Corner}
 use Rattle.lattice.specs.Mosaic.{Mosaic, IsSample, IsMosaic}
 use Rattle.lattice.specs.declared.refusal.Refusal.{Refusal}
+use Rattle.page_codec.specs.Sizes.{most_writes}
 use Rattle.edits.specs.declared.change.Change.{Change}
 use Rattle.edits.specs.declared.change.Change.TheVariants.{Set}
 use Rattle.edits.specs.declared.command.Command.{Command}
@@ -19,13 +22,19 @@ use Rattle.store.specs.Standing.{HoldsTile, KeepNone}
 abbrev pub writes_begun : {D : Type 0} (g : Ghosts D) → Tree D g → ℕ
 writes_begun g tree = g.writes (disk_of tree) + (if has_begun tree then 0 else 1)
 
--- a burn or a wall makes at most four pages and four records a point, the root, and twice a gate; a sink the last three
-abbrev pub WritesFew : Command → ℕ → ℕ → Type 0
-WritesFew (Burn depth points) before now = now ≤ before + (8 * length points.items + 3)
-WritesFew (Wall h points) before now = now ≤ before + (8 * length points.items + 3)
-WritesFew (Sink p) before now = now ≤ before + 3
-WritesFew (Unsink p) before now = now ≤ before + 3
-WritesFew _ before now = Unit {0}
+-- how many index pages so many written pages may have due, by the version of the store
+abbrev pub index_pages_due : Version → ℕ → ℕ
+index_pages_due One pages = 0
+index_pages_due Two pages = pages
+
+-- a burn or a wall makes at most four pages and four records a point, by the second version as many index pages, the root,
+-- and twice a gate; a sink the last three
+abbrev pub WritesFew : Version → Command → ℕ → ℕ → Type 0
+WritesFew version (Burn depth points) before now = now ≤ before + most_writes version (length points.items)
+WritesFew version (Wall h points) before now = now ≤ before + most_writes version (length points.items)
+WritesFew version (Sink p) before now = now ≤ before + 3
+WritesFew version (Unsink p) before now = now ≤ before + 3
+WritesFew version _ before now = Unit {0}
 
 -- the stored tiles are the tiles of the mosaic, with this side
 pub record HoldsMosaic (side : ℕ) (tiles : List StoredTile) (m : Mosaic) : Type 0 where

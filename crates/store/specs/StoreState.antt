@@ -4,6 +4,7 @@ use Rattle.std.specs.Prelude.{◌≡◌, ℕ, List, Contains}
 use Rattle.disk.specs.Disk.{Image}
 use Rattle.disk.specs.Stops.{LeavesOnly}
 use Rattle.disk.specs.declared.disk.Disk.{Ghosts}
+use Rattle.page_codec.specs.Formats.{number_of}
 use Rattle.page_codec.specs.Roots.{RootValue}
 use Rattle.calls.specs.Engines.{Members}
 use Rattle.calls.specs.State.{State}
@@ -31,7 +32,7 @@ pub record LeavesStates {D : Type 0} (g : Ghosts D) (old new : Store D g) (state
 
 -- what is known of a store without a disk, by its root
 abbrev pub known_by : RootValue → Known
-known_by root = record { version = 1; count = root.count; number = root.number }
+known_by root = record { version = number_of root.version; count = root.count; number = root.number }
 
 -- what is seen of a store
 abbrev pub members : {D : Type 0} (g : Ghosts D) → Members (Store D g)

@@ -32,8 +32,9 @@ impl<D: Disk> Store<D> {
     pub fn apply(&mut self, command: &Command) -> Result<u64, Refusal>
         ensures applied { HasApplied D.Disk self.old self.new command.now result }
 
-        // A burn or a wall of q points makes at most 8 q + 3 writes, on any disk, and a sink that comes or goes at most 3.
-        ensures writes { WritesFew command.now (D.writes (disk_of self.old)) (D.writes (disk_of self.new)) }
+        // A burn or a wall of q points makes at most 8 q + 3 writes, on any disk, and 12 q + 3 by the second version; a sink that
+        // comes or goes at most 3.
+        ensures writes { WritesFew (root_of self.old).version command.now (D.writes (disk_of self.old)) (D.writes (disk_of self.new)) }
 
         // A store that failed makes no call of the disk, and stays failed.
         ensures failed { has_failed self.old ≡ true → (result ≡ Err Failed) × (disk_of self.new ≡ disk_of self.old) }
@@ -80,7 +81,7 @@ impl<D: Disk> Store<D> {
         requires not_failed { has_failed self.old ≡ false }
         requires samples { SetsSamples command.now }
         ensures applied { IsApplied D.Disk command.now result self.old.tree self.new.tree }
-        ensures writes { WritesFew command.now (D.writes (disk_of self.old)) (D.writes (disk_of self.new)) }
+        ensures writes { WritesFew (root_of self.old).version command.now (D.writes (disk_of self.old)) (D.writes (disk_of self.new)) }
     {
         let changes = plan_changes(self.alloc, &mut self.tree, command)?;
         if self.tree.current().number() == u64::MAX {

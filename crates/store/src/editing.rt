@@ -11,10 +11,11 @@ ghost use Rattle.edits.specs.LeftStale.{tile_of};
 ghost use Rattle.calls.specs.Outcomes.{AppliesNot};
 ghost use Rattle.edits.specs.Plans.{IsFew, may_end};
 ghost use Rattle.calls.specs.State.{State};
+ghost use Rattle.cow_tree.specs.Staged.{index_page_by};
 ghost use Rattle.cow_tree.specs.Stored.{StoredTile, Stored, with_page};
 ghost use Rattle.cow_tree.specs.Trees.{disk_of, root_of, has_failed, has_begun, corners_of, sinks_of, records_due, HasStaged, staged_in, IsAt};
 ghost use Rattle.store.specs.Applied.{SetsSamples, IsApplied};
-ghost use Rattle.store.specs.Editing.{HoldsMosaic, SetsInPage, StagesOnly, WritesFew, writes_begun};
+ghost use Rattle.store.specs.Editing.{HoldsMosaic, SetsInPage, StagesOnly, index_pages_due, writes_begun};
 ghost use Rattle.store.specs.Staging.{CommitsNothing};
 ghost use Rattle.store.specs.TreeStates.{IsInState, IsClean};
 
@@ -63,7 +64,7 @@ pub(crate) fn stage_changes<D: Disk>(tree: &mut Tree<D>, changes: &[Change]) -> 
     ensures refused { IfErr result (λ r. (r ≡ Device) ⊎ ((r ≡ NoMemory) × (has_failed tree.new ≡ false) × (D.writes (disk_of tree.new) ≡ D.writes (disk_of tree.old)))) }
     ensures writes { D.writes (disk_of tree.new) ≤ writes_begun D.Disk tree.old + length changes.now }
     ensures pages { OnOk result (writes_begun D.Disk tree.new ≤ writes_begun D.Disk tree.old + length changes.now) }
-    ensures due { OnOk result (records_due tree.new ≤ records_due tree.old + length changes.now) }
+    ensures due { OnOk result (records_due tree.new ≤ records_due tree.old + (length changes.now + index_pages_due (root_of tree.old).version (length changes.now))) }
     ensures set { D.honest (disk_of tree.new) → (s : Stored) (m : Mosaic) → IsAt D.Disk tree.old s
         → HoldsMosaic (root_of tree.old).side (staged_in D.Disk tree.old) m
         → OnOk result (HoldsMosaic (root_of tree.old).side (staged_in D.Disk tree.new) (all_changed changes.now m)) }
@@ -103,7 +104,7 @@ fn stage_pages<D: Disk>(tree: &mut Tree<D>, changes: &[Change]) -> Result<(), Re
     ensures refused { IfErr result (λ r. r ≡ Device) }
     ensures writes { D.writes (disk_of tree.new) ≤ writes_begun D.Disk tree.old + length changes.now }
     ensures pages { OnOk result (writes_begun D.Disk tree.new ≤ writes_begun D.Disk tree.old + length changes.now) }
-    ensures due { OnOk result (records_due tree.new ≡ records_due tree.old) }
+    ensures due { OnOk result (records_due tree.new ≤ records_due tree.old + index_pages_due (root_of tree.old).version (length changes.now)) }
     ensures set { D.honest (disk_of tree.new) → (s : Stored) (m : Mosaic) → IsAt D.Disk tree.old s
         → HoldsMosaic (root_of tree.old).side (staged_in D.Disk tree.old) m
         → OnOk result (HoldsMosaic (root_of tree.old).side (staged_in D.Disk tree.new) (all_changed changes.now m)) }
@@ -130,7 +131,7 @@ fn stage_page<D: Disk>(
     ensures refused { IfErr result (λ r. r ≡ Device) }
     ensures writes { D.writes (disk_of tree.new) ≤ writes_begun D.Disk tree.old + 1 }
     ensures pages { OnOk result (writes_begun D.Disk tree.new ≤ writes_begun D.Disk tree.old + 1) }
-    ensures due { OnOk result (records_due tree.new ≡ records_due tree.old) }
+    ensures due { OnOk result (records_due tree.new ≤ records_due tree.old + index_page_by (root_of tree.old).version) }
     ensures next { IfOk result (λ next. (first < next) × (next ≤ length changes.now)) }
     ensures set { D.honest (disk_of tree.new) → (s : Stored) (m : Mosaic) → IsAt D.Disk tree.old s
         → HoldsMosaic (root_of tree.old).side (staged_in D.Disk tree.old) (all_changed (take first changes.now) m)

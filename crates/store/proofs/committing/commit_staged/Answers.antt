@@ -50,6 +50,6 @@ returns-clause-command g c old command staged =
     (ap (λ (k : ℕ). k + 1) (c.count-count.ensures.value ∙ ap (λ (r : RootValue). r.count) c.current.ensures))
     c.commit.ensures.size c.commit.ensures.cause.later c.commit.ensures.honest c.commit.ensures.any_moment
     (subst (λ (answer : Result (Unit {0}) Refusal). OnOk answer ((root_of mid).number + 1 < 2 ^ 64)) c.in_default.is c.requires.number)
-    c.in_ok-commit.ensures.not_failed c.commit.ensures.side c.commit.ensures.capacity
+    c.in_ok-commit.ensures.not_failed c.commit.ensures.version c.commit.ensures.side c.commit.ensures.capacity
     c.in_ok-commit.ensures.count c.in_ok-commit.ensures.number (g.met.D.Disk.seen_may new.roots.disk)
     c.in_ok-commit.ensures.at c.in_ok-commit.ensures.staged (c.commit.ensures.sinks ∙ sym c.in_ok-commit.ensures.declared)

@@ -2,8 +2,8 @@ use Rattle.std.proofs.Common.{◌≡◌, ◌≤◌, ◌+◌, ℕ, Bool, if◌the
 use Rattle.page_codec.specs.Roots.{RootValue}
 use Rattle.edits.specs.Changes.{all_changed}
 use Rattle.cow_tree.specs.Stored.{StoredTile}
-use Rattle.cow_tree.specs.Trees.{disk_of, root_of, staged_in}
-use Rattle.store.specs.Editing.{HoldsMosaic, writes_begun}
+use Rattle.cow_tree.specs.Trees.{disk_of, root_of, records_due, staged_in}
+use Rattle.store.specs.Editing.{HoldsMosaic, index_pages_due, writes_begun}
 use Rattle.store.proofs.EditingSteps.{stages_on}
 use Rattle.cow_tree.proofs.Steps.{on_ok}
 use Rattle.store.proofs.editing.stage_changes.Goals as goal
@@ -40,4 +40,14 @@ returns-clause-pages g c =
     subst (λ (n : ℕ). OnOk c.stage_pages.result (writes_begun g.D.Disk c.stage_pages.new.tree ≤ n + length c.args.changes.now)) same c.stage_pages.ensures.pages
 
 pub returns-clause-due : goal.returns-clause-due
-returns-clause-due g c = on_ok c.stage_pages.result (λ same. let few = c.in_ok-prepare_tiles.ensures.due in omega (arith, same, few)) c.stage_pages.ensures.due
+returns-clause-due g c =
+    let old = c.args.tree.now in
+    let mid = c.prepare_tiles.new.tree in
+    let new = c.stage_pages.new.tree in
+    let count : ℕ = length c.args.changes.now in
+    on_ok c.stage_pages.result
+    (λ more. let few = c.in_ok-prepare_tiles.ensures.due in
+    let here : records_due new ≤ records_due mid + index_pages_due (root_of old).version count =
+    subst (λ (r : RootValue). records_due new ≤ records_due mid + index_pages_due r.version count) c.in_ok-prepare_tiles.ensures.stages.uncommitted.root more in
+    omega (arith, here, few))
+    c.stage_pages.ensures.due

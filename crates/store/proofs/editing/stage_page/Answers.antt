@@ -8,9 +8,11 @@ use Rattle.edits.specs.declared.change.Change.{Change}
 use Rattle.edits.specs.declared.change.Change.TheVariants.{Set}
 use Rattle.edits.specs.Changes.{CanBeSet, all_changed}
 use Rattle.edits.specs.LeftStale.{tile_of}
-use Rattle.charts.specs.Charts.{ChartValue, fresh_corners}
+use Rattle.charts.specs.Charts.{ChartValue}
+use Rattle.page_codec.specs.Roots.{RootValue}
+use Rattle.cow_tree.specs.Staged.{index_page_by, pages_due}
 use Rattle.cow_tree.specs.Stored.{StoredTile, with_page}
-use Rattle.cow_tree.specs.Trees.{disk_of, root_of, has_begun, corners_of, HasStaged, staged_in}
+use Rattle.cow_tree.specs.Trees.{disk_of, root_of, has_begun, corners_of, records_due, HasStaged, staged_in}
 use Rattle.store.specs.Editing.{HoldsMosaic, StagesOnly, writes_begun}
 use Rattle.store.proofs.EditingPages.{page_as_read}
 use Rattle.store.proofs.EditingReads.{page_read, heights_held}
@@ -135,4 +137,5 @@ returns-clause-due g c =
     let prepared : HasStaged mid c.in-Set.corner =
     (page_read g.D.Disk c.args.tree.now mid (Ok tt) read).still_staged c.in-Set.corner
     (subst (λ (o : Option Corner). IfSome o (HasStaged c.args.tree.now)) (ap tile_of (sym c.index-changes-first.is ∙ c.in-Set.is)) (c.requires.prepared c.args.first c.index-changes-first.result c.requires.within)) in
-    c.in_ok-stage.ensures.due_same prepared ∙ ap (λ (chart : ChartValue). length (fresh_corners chart)) read.keeps.chart
+    subst (λ (r : RootValue). records_due c.stage.new.self ≤ records_due c.args.tree.now + index_page_by r.version) read.keeps.root
+    (subst (λ (chart : ChartValue). records_due c.stage.new.self ≤ length (pages_due chart) + index_page_by (root_of mid).version) read.keeps.chart (c.in_ok-stage.ensures.due_same prepared))

@@ -21,9 +21,6 @@ use Rattle.cow_tree.proofs.Steps.{stands, stores_along}
 use Rattle.cow_tree.proofs.tree.Tree.commit.Goals as goal
 use Rattle.cow_tree.proofs.tree.Tree.commit.Goals.{After-commit}
 
-pub write_records-requires-clause-first : goal.write_records-requires-clause-first
-write_records-requires-clause-first g c = ap (λ (f : Format). f.version) c.args.self.now.format ∙ c.args.self.now.first
-
 pub with_sinks-root-requires : goal.with_sinks-root-requires
 with_sinks-root-requires g c =
     subst (λ (r : RootValue). AreSinks r.side c.points.result.now) (sym c.next.ensures)
@@ -36,7 +33,7 @@ returns-in_err-write_records-clause-any_moment g c honest s is =
     let size = d.size old.roots.disk in
     let target : Stored = next_commit s old.sinks.points (map (tile_in (d.seen old.roots.disk)) old.chart.staged) c.args.count in
     weaker d old.roots.disk c.write_records.new.roots.disk (StoresAt size old.roots.root old.chart.committed s) (λ image. Stands size image s ⊎ Stands size image target)
-    (λ image stores. inl (stands size old.roots.root old.chart.committed s image stores)) (c.write_records.ensures.any_moment honest is.ready s is.each)
+    (λ image stores. inl (stands size old.roots.root old.chart.committed s image stores)) (c.write_records.ensures.writes.any_moment honest is.ready s is.each)
 
 -- the records are written
 module _ (g : _) (c : After-commit g) (honest : g.D.Disk.honest c.commit.new.self.disk) (s : Stored) (is : IsAt g.D.Disk c.args.self.now s) where
@@ -51,7 +48,7 @@ module _ (g : _) (c : After-commit g) (honest : g.D.Disk.honest c.commit.new.sel
 
   stored : s ≡ stored_in seen c.args.self.now.root c.args.self.now.chart.committed
   stored =
-      (is.each seen (g.met.D.Disk.seen_may c.args.self.now.roots.disk (c.write_records.ensures.honest mid_honest))).stands
+      (is.each seen (g.met.D.Disk.seen_may c.args.self.now.roots.disk (c.write_records.ensures.writes.honest mid_honest))).stands
       ∙ ap (λ (r : RootValue). stored_in seen r c.args.self.now.chart.committed) (c.args.self.now.known c.requires.not_failed)
 
   abbrev target : Stored
@@ -73,10 +70,10 @@ module _ (g : _) (c : After-commit g) (honest : g.D.Disk.honest c.commit.new.sel
       let old = c.args.self.now in
       subst (λ (r : RootValue). (image : Image) → HasMoved r (g.D.Disk.seen c.write_records.new.roots.disk) image → StoresAt size r old.chart.staged target image) (sym is_next)
       (lands old.chart c.rules.ensures old.root size c.args.count old.sinks.points s seen stored old.sectors old.fits old.format seen (g.D.Disk.seen c.write_records.new.roots.disk) is.staged
-      recorded (c.in_ok-write_records.ensures.others mid_honest))
+      recorded (c.in_ok-write_records.ensures.writes.others mid_honest))
 
   ready : IsReady g.D.Disk c.write_records.new.roots
-  ready = c.in_ok-write_records.ensures.ready mid_honest is.ready
+  ready = c.in_ok-write_records.ensures.writes.ready mid_honest is.ready
 
   leaves : LeavesOnly g.D.Disk c.args.self.now.roots.disk c.commit.new.self.disk (λ image. Stands size image s ⊎ Stands size image target)
   leaves =
@@ -84,9 +81,9 @@ module _ (g : _) (c : After-commit g) (honest : g.D.Disk.honest c.commit.new.sel
       let old = c.args.self.now in
       let mid = c.write_records.new.roots in
       committing d old.roots.disk mid.disk c.commit.new.self.disk size old.roots.root c.with_sinks-root.result old.chart.committed old.chart.staged s target
-      (c.write_records.ensures.any_moment mid_honest is.ready s is.each) land
+      (c.write_records.ensures.writes.any_moment mid_honest is.ready s is.each) land
       (subst (λ (r : RootValue). LeavesOnly d mid.disk c.commit.new.self.disk (λ image. KeepsAll r (d.may mid.disk) image ⊎ HasMoved c.with_sinks-root.result (d.seen mid.disk) image))
-      c.write_records.ensures.root (c.commit.ensures.any_moment honest ready))
+      c.write_records.ensures.writes.root (c.commit.ensures.any_moment honest ready))
 
 pub returns-in_err-commit-clause-any_moment : goal.returns-in_err-commit-clause-any_moment
 returns-in_err-commit-clause-any_moment g c honest s is = leaves g (goal.at.returns-in_err-commit-clause-any_moment g c).After-commit honest s is
@@ -111,7 +108,7 @@ returns-clause-at g c honest s is =
     record {
       ready = ready_now;
       each = λ image may. stores_along n (d.size new.disk) c.with_sinks-root.result new.root chart.staged c.settle.new.self.committed (target g after honest s is) image
-          (c.commit.ensures.size ∙ c.write_records.ensures.size) c.in_ok-commit.ensures.root (ap (λ (x : ChartValue). x.committed) settled) (each image may);
+          (c.commit.ensures.size ∙ c.write_records.ensures.writes.size) c.in_ok-commit.ensures.root (ap (λ (x : ChartValue). x.committed) settled) (each image may);
       staged = subst (λ (x : ChartValue). AreStaged (format_of c.with_sinks-root.result) x.committed x.staged (d.seen new.disk)) (sym settled)
           (nothing_staged n c.with_sinks-root.result chart.staged (target g after honest s is) (d.seen new.disk) (each (d.seen new.disk) (g.met.D.Disk.seen_may new.disk honest)));
     }
@@ -123,7 +120,7 @@ returns-clause-staged g c honest s is =
     let old = c.args.self.now in
     ap (λ (x : ChartValue). map (tile_in (d.seen c.commit.new.self.disk)) x.staged) c.settle.ensures.settled
     ∙ sym (same_tiles old.chart c.rules.ensures old.root (d.size old.roots.disk) c.args.count old.sinks.points s (d.seen old.roots.disk) (stored g after honest s is) old.sectors old.fits old.format (d.seen old.roots.disk) (d.seen c.write_records.new.roots.disk) is.staged
-    (recorded g after honest s is) (c.in_ok-write_records.ensures.others (mid_honest g after honest s is)) (d.seen c.commit.new.self.disk) (c.in_ok-commit.ensures.pages honest))
+    (recorded g after honest s is) (c.in_ok-write_records.ensures.writes.others (mid_honest g after honest s is)) (d.seen c.commit.new.self.disk) (c.in_ok-commit.ensures.pages honest))
 
 pub returns-clause-none_staged : goal.returns-clause-none_staged
 returns-clause-none_staged g c =

@@ -1,10 +1,9 @@
-use Rattle.std.proofs.Common.{List, length, map, sym, ap, ◌∙◌, subst}
-use Rattle.lattice.specs.Corners.{Corner}
+use Rattle.std.proofs.Common.{ℕ, List, length, map, sym, ap, ◌∙◌, subst}
 use Rattle.page_codec.specs.Roots.{format_of}
-use Rattle.charts.specs.Charts.{ChartValue, corners_of_locations, fresh_corners}
+use Rattle.charts.specs.Charts.{ChartValue, corners_of_locations}
 use Rattle.charts.specs.TileLocations.{TileLocation}
 use Rattle.cow_tree.specs.Layout.{tile_in, StoresAt}
-use Rattle.cow_tree.specs.Staged.{AreStaged}
+use Rattle.cow_tree.specs.Staged.{AreStaged, pages_due}
 use Rattle.cow_tree.proofs.KeptDrops.{bared_tiles, bared_corners, bared_due, bared_still, bared_stays}
 use Rattle.cow_tree.proofs.tree.Tree.drop_kept.Goals as goal
 
@@ -19,7 +18,7 @@ returns-clause-staged g c =
 pub returns-clause-due : goal.returns-clause-due
 returns-clause-due g c =
     let old = c.args.self.now.chart in
-    ap (λ (x : ChartValue). length (fresh_corners x)) c.drop_kept.ensures.dropped ∙ ap (λ (cs : List Corner). length cs) (bared_due old.committed c.args.c old.staged)
+    ap (λ (x : ChartValue). length (pages_due x)) c.drop_kept.ensures.dropped ∙ ap (λ (pages : List ℕ). length pages) (bared_due old.committed c.args.c old.staged)
 
 pub returns-clause-still_staged : goal.returns-clause-still_staged
 returns-clause-still_staged g c other = bared_still c.args.self.now.chart c.drop_kept.new.self c.args.c other c.drop_kept.ensures.dropped

@@ -1,9 +1,9 @@
 use Rattle.std.proofs.Common.{◌≡◌, List, length, map, ap, sym, ◌∙◌, subst, arith}
 use Rattle.page_codec.specs.Roots.{format_of}
-use Rattle.charts.specs.Charts.{ChartValue, HasFreshHeights, corners_of_locations, fresh_corners}
+use Rattle.charts.specs.Charts.{ChartValue, HasFreshHeights, corners_of_locations}
 use Rattle.charts.specs.TileLocations.{TileLocation}
 use Rattle.cow_tree.specs.Layout.{tile_in, StoresAt}
-use Rattle.cow_tree.specs.Staged.{AreStaged}
+use Rattle.cow_tree.specs.Staged.{AreStaged, pages_due}
 use Rattle.cow_tree.proofs.Due.{prepared_due, prepared_due_same, prepared_located, prepared_still}
 use Rattle.cow_tree.proofs.Prepared.{prepared_tiles, prepared_corners, still_prepared}
 use Rattle.cow_tree.proofs.Steps.{on_ok, either_way}
@@ -31,14 +31,14 @@ returns-clause-due g c =
     let old = c.args.self.now.chart in
     either_way c.prepare.result c.prepare.ensures.prepared c.prepare.ensures.unchanged
     (λ prepared. prepared_due old c.prepare.new.self c.args.c c.rules.ensures prepared)
-    (λ same. (let due = ap (λ (x : ChartValue). length (fresh_corners x)) same in omega (arith, due)))
+    (λ same. (let due = ap (λ (x : ChartValue). length (pages_due x)) same in omega (arith, due)))
 
 pub returns-clause-due_same : goal.returns-clause-due_same
 returns-clause-due_same g c had =
     let old = c.args.self.now.chart in
     either_way c.prepare.result c.prepare.ensures.prepared c.prepare.ensures.unchanged
     (λ prepared. prepared_due_same old c.prepare.new.self c.args.c c.rules.ensures prepared had)
-    (λ same. ap (λ (x : ChartValue). length (fresh_corners x)) same)
+    (λ same. ap (λ (x : ChartValue). length (pages_due x)) same)
 
 pub returns-clause-has_staged : goal.returns-clause-has_staged
 returns-clause-has_staged g c =

@@ -1,13 +1,14 @@
-use Rattle.std.proofs.Common.{◌<◌, ℕ, length, map, arith, sym, ap, ◌∙◌, subst}
+use Rattle.std.proofs.Common.{◌<◌, ◌≤◌, ◌+◌, ℕ, length, map, arith, sym, ap, ◌∙◌, subst}
 use Rattle.page_codec.specs.Sizes.{pages_of}
 use Rattle.std.proofs.lemmas.Bool.{false≢true}
 use Rattle.page_codec.specs.Formats.{Format}
 use Rattle.page_codec.specs.Roots.{format_of}
-use Rattle.charts.specs.Charts.{ChartValue, HasFreshHeights, corners_of_locations, fresh_corners}
+use Rattle.charts.specs.Charts.{ChartValue, HasFreshHeights, corners_of_locations}
 use Rattle.cow_tree.specs.Entries.{entry_of}
+use Rattle.cow_tree.specs.Staged.{index_page_by, pages_due}
 use Rattle.cow_tree.proofs.Steps.{corners_same, stage_pages, stage_stays, page_unreached, still_stands, each_still, stores_along, ok_where_works, on_ok_both, ok_where, failed_where, only_device}
 use Rattle.cow_tree.proofs.Cached.{written_agrees}
-use Rattle.cow_tree.proofs.Due.{written_due, written_due_same, written_here, written_still}
+use Rattle.cow_tree.proofs.Due.{written_due, written_due_same, written_due_before, written_here, written_still}
 use Rattle.cow_tree.proofs.tree.Tree.stage.Goals as goal
 
 pub returns-clause-corners : goal.returns-clause-corners
@@ -59,10 +60,13 @@ pub returns-in_err-number-clause-sure : goal.returns-in_err-number-clause-sure
 returns-in_err-number-clause-sure g c had _ = false≢true (c.in_err-number.ensures.sure had)
 
 pub returns-in_err-number-clause-due : goal.returns-in_err-number-clause-due
-returns-in_err-number-clause-due g c = let due = ap (λ (x : ChartValue). length (fresh_corners x)) c.in_err-number.ensures.unchanged in omega (arith, due)
+returns-in_err-number-clause-due g c = let due = ap (λ (x : ChartValue). length (pages_due x)) c.in_err-number.ensures.unchanged in omega (arith, due)
 
 pub returns-in_err-number-clause-due_same : goal.returns-in_err-number-clause-due_same
-returns-in_err-number-clause-due_same g c had = ap (λ (x : ChartValue). length (fresh_corners x)) c.in_err-number.ensures.unchanged
+returns-in_err-number-clause-due_same g c had = let due = ap (λ (x : ChartValue). length (pages_due x)) c.in_err-number.ensures.unchanged in omega (arith, due)
+
+pub returns-in_err-number-clause-due_before : goal.returns-in_err-number-clause-due_before
+returns-in_err-number-clause-due_before g c = let due = ap (λ (x : ChartValue). length (pages_due x)) c.in_err-number.ensures.unchanged in omega (arith, due)
 
 pub returns-in_err-number-clause-still_staged : goal.returns-in_err-number-clause-still_staged
 returns-in_err-number-clause-still_staged g c other had = subst (HasFreshHeights other) (sym c.in_err-number.ensures.unchanged) had
@@ -74,10 +78,19 @@ pub returns-clause-sure : goal.returns-clause-sure
 returns-clause-sure g c had = only_device c.write.result c.write.ensures.refused
 
 pub returns-clause-due : goal.returns-clause-due
-returns-clause-due g c = written_due c.args.self.now.chart c.page_for_writing.new.self c.args.c c.args.i c.in_ok-number.number c.rules.ensures c.in_ok-number.ensures.written
+returns-clause-due g c =
+    let old = c.args.self.now in
+    subst (λ (f : Format). length (pages_due c.page_for_writing.new.self) ≤ length (pages_due old.chart) + (1 + index_page_by f.version)) old.format
+    (written_due old.chart c.page_for_writing.new.self c.args.c c.args.i c.in_ok-number.number c.rules.ensures c.in_ok-number.ensures.written)
 
 pub returns-clause-due_same : goal.returns-clause-due_same
-returns-clause-due_same g c = written_due_same c.args.self.now.chart c.page_for_writing.new.self c.args.c c.args.i c.in_ok-number.number c.rules.ensures c.in_ok-number.ensures.written
+returns-clause-due_same g c had =
+    let old = c.args.self.now in
+    subst (λ (f : Format). length (pages_due c.page_for_writing.new.self) ≤ length (pages_due old.chart) + index_page_by f.version) old.format
+    (written_due_same old.chart c.page_for_writing.new.self c.args.c c.args.i c.in_ok-number.number c.rules.ensures c.in_ok-number.ensures.written had)
+
+pub returns-clause-due_before : goal.returns-clause-due_before
+returns-clause-due_before g c = written_due_before c.args.self.now.chart c.page_for_writing.new.self c.args.c c.args.i c.in_ok-number.number c.rules.ensures c.in_ok-number.ensures.written
 
 pub returns-clause-has_staged : goal.returns-clause-has_staged
 returns-clause-has_staged g c = ok_where c.write.result (written_here c.args.self.now.chart c.page_for_writing.new.self c.args.c c.args.i c.in_ok-number.number c.rules.ensures c.in_ok-number.ensures.written c.requires.present)

@@ -1,4 +1,4 @@
-use Rattle.std.proofs.Common.{◌≡◌, ℕ, ◌≤◌, ◌<◌, List, All, Contains, length, map, sym, ap, ◌∙◌, subst}
+use Rattle.std.proofs.Common.{◌≡◌, ℕ, ◌+◌, ◌≤◌, ◌<◌, List, All, Contains, length, map, sym, ap, ◌∙◌, subst}
 use Rattle.page_codec.specs.Formats.{Format}
 use Rattle.page_codec.specs.Roots.{format_of}
 use Rattle.disk.specs.Disk.{Image}
@@ -7,7 +7,9 @@ use Rattle.charts.specs.Charts.{ChartValue, IsAdded}
 use Rattle.charts.specs.TileLocations.{reached}
 use Rattle.cow_tree.specs.Layout.{StoresAt, Stands}
 use Rattle.charts.specs.Locations.{times}
+use Rattle.cow_tree.specs.Staged.{pages_due}
 use Rattle.cow_tree.specs.Stored.{pages_of_bytes}
+use Rattle.page_codec.specs.Sizes.{index_pages_of}
 use Rattle.cow_tree.proofs.Adding.{added_located, pages_low, pages_high, pages_unreached, pages_once, plane_staged, plane_stays}
 use Rattle.cow_tree.proofs.Due.{added_corners, added_due, added_here}
 use Rattle.cow_tree.proofs.Steps.{stands, stores_along, ok_where_works, on_ok, on_ok_both, ok_where, failed_where}
@@ -104,7 +106,12 @@ pub returns-clause-corners : goal.returns-clause-corners
 returns-clause-corners g c = ok_where c.write_plane.result (added_corners c.args.self.now.chart c.tile_for_writing.new.self c.args.c c.in_ok-tile_for_writing.ensures.added)
 
 pub returns-clause-due : goal.returns-clause-due
-returns-clause-due g c = ok_where c.write_plane.result (added_due c.args.self.now.chart c.tile_for_writing.new.self c.args.c c.in_ok-tile_for_writing.ensures.added)
+returns-clause-due g c =
+    let old = c.args.self.now in
+    let new = c.tile_for_writing.new.self in
+    ok_where c.write_plane.result
+    (subst (λ (f : Format). length (pages_due new) ≡ length (pages_due old.chart) + (1 + index_pages_of f)) old.format
+    (added_due old.chart new c.args.c c.in_ok-tile_for_writing.ensures.added))
 
 pub returns-clause-has_staged : goal.returns-clause-has_staged
 returns-clause-has_staged g c = ok_where c.write_plane.result (added_here c.args.self.now.chart c.tile_for_writing.new.self c.args.c c.in_ok-tile_for_writing.ensures.added)

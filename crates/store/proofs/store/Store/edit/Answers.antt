@@ -10,7 +10,7 @@ use Rattle.cow_tree.specs.Stored.{StoredTile}
 use Rattle.cow_tree.specs.Trees.{root_of, corners_of, has_begun, records_due, staged_in}
 use Rattle.cow_tree.proofs.Steps.{on_ok}
 use Rattle.store.specs.Applied.{IsApplied}
-use Rattle.store.specs.Editing.{HoldsMosaic}
+use Rattle.store.specs.Editing.{HoldsMosaic, index_pages_due}
 use Rattle.store.proofs.Committed.{fails_before, quiet, may_end_it}
 use Rattle.store.proofs.EditingHeld.{holds_contents, edit_holds}
 use Rattle.store.proofs.EditingReads.{device_or_not}
@@ -96,10 +96,15 @@ returns-clause-writes g c =
     let mid = c.stage_changes-staged.new.tree in
     let none = c.in_ok-changes.ensures.clean c.in_ok-changes.ensures.reads.works (c.args.self.now.clean c.requires.not_failed) in
     let stages = c.stage_changes-staged.ensures in
-    staged_written c.stage_changes-staged.result c.args.command.now (vec_len c.in_ok-changes.changes) (records_due mid) (d.writes old.roots.disk) (d.writes mid.roots.disk)
+    staged_written (root_of old).version c.stage_changes-staged.result c.args.command.now (vec_len c.in_ok-changes.changes) (records_due mid) (d.writes old.roots.disk) (d.writes mid.roots.disk)
     (d.writes c.commit_staged.new.tree.roots.disk) (has_begun planned) (has_begun mid) c.requires.samples c.in_ok-changes.ensures.few
     (subst (λ (n : ℕ). d.writes mid.roots.disk ≤ n + (if has_begun planned then 0 else 1) + vec_len c.in_ok-changes.changes) c.in_ok-changes.ensures.writes
     (subst (λ (k : ℕ). d.writes mid.roots.disk ≤ d.writes planned.roots.disk + (if has_begun planned then 0 else 1) + k) c.deref.ensures.len stages.writes))
     (on_ok c.stage_changes-staged.result (λ few. let same = c.in_ok-changes.ensures.writes in let len = c.deref.ensures.len in omega (arith, few, same, len)) stages.pages)
-    (on_ok c.stage_changes-staged.result (λ few. let clean = none.none_due in let len = c.deref.ensures.len in omega (arith, few, clean, len)) stages.due)
+    (on_ok c.stage_changes-staged.result
+    (λ few. let clean = none.none_due in
+    let here : records_due mid ≤ records_due planned + (vec_len c.in_ok-changes.changes + index_pages_due (root_of old).version (vec_len c.in_ok-changes.changes)) =
+    subst (λ (r : RootValue). records_due mid ≤ records_due planned + (vec_len c.in_ok-changes.changes + index_pages_due r.version (vec_len c.in_ok-changes.changes))) c.in_ok-changes.ensures.reads.root
+    (subst (λ (k : ℕ). records_due mid ≤ records_due planned + (k + index_pages_due (root_of planned).version k)) c.deref.ensures.len few) in
+    omega (arith, here, clean)) stages.due)
     c.commit_staged.ensures.writes c.commit_staged.ensures.unwritten
