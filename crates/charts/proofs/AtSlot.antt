@@ -7,21 +7,23 @@ use Rattle.lattice.specs.Corners.{Corner}
 use Rattle.lattice.specs.declared.refusal.Refusal.{Refusal}
 use Rattle.lattice.proofs.Rising.{Rising, rising_from}
 use Rattle.page_alloc.specs.Pages.{PageSet}
-use Rattle.layout.specs.Sizes.{pages_of}
+use Rattle.std.specs.FinSet.{len}
+use Rattle.layout.specs.Sizes.{pages_of, plane_pages_of}
 use Rattle.layout.specs.Formats.{Format}
 use Rattle.charts.specs.declared.locations.TilePlanes.{TilePlanes}
 use Rattle.charts.specs.declared.slot.Slot.{Slot}
 use Rattle.charts.specs.declared.staged.Staged.{Staged}
 use Rattle.charts.specs.declared.staged.HeightsStaged.TheVariants as of_heights
 use Rattle.charts.specs.declared.staged.Staged.TheVariants.{Tile, Removed}
-use Rattle.charts.specs.Locations.{times, pages_behind}
-use Rattle.charts.specs.FreePages.{free_times, heights_pages}
+use Rattle.charts.specs.Locations.{times, pages_behind, pages_of_plane}
+use Rattle.charts.specs.FreePages.{free_times, heights_pages, AreInUse}
 use Rattle.charts.specs.TileLocations.{TileLocation, reached, pages_of_kept}
 use Rattle.charts.specs.Charts.{IsLocated, HasFreshHeights, IsFresh, IsWholeTile, IsRewritten, tile_at, is_at, without_location}
-use Rattle.charts.specs.Slots.{committed_tile, staged_as, staged_tile, committed_tiles, staged_tiles, fresh_pages, pages_of_location, is_filled_as, stages_heights, stages_heights_as, fresh_as, IsSound, IsSlotAt, IsRoomAt, IsKept, chart_of, IsRestaged, IsPageRestaged}
+use Rattle.charts.specs.Slots.{committed_tile, staged_as, staged_tile, committed_tiles, staged_tiles, fresh_heights, fresh_kept, fresh_pages, used_pages, pages_of_location, is_filled_as, stages_heights, stages_heights_as, fresh_as, HasRoom, IsSound, IsSlotAt, IsRoomAt, IsKept, chart_of, IsRestaged, IsPageRestaged}
 use Rattle.charts.specs.StagedPlanes.{kept_as}
 use Rattle.charts.proofs.Times.{one-self, times-append, member_of_times}
 use Rattle.charts.proofs.FreeTimes.{page_le}
+use Rattle.charts.proofs.Room.{plane_few, room_for_heights}
 use Rattle.charts.proofs.SlotLists.{corner_of, times-split, reached_all, slot_in_use}
 use Rattle.charts.proofs.SlotChanges.{all_middle, kept_change, same_committed, chart_changed, staged_without, slot_fresh, rewritten, rewritten_kept}
 use Rattle.charts.proofs.Lookup.{split_of, not_located, located_here, tile_is, tile_here, room_other}
@@ -96,6 +98,20 @@ module _ (format : Format) (slots : List Slot) (free : PageSet) (kept : IsKept f
       by d o (Tile (of_heights.Fresh location) k) had unreached reaches = refl
       by d o Removed had unreached reaches = cc
 
+  pub filled : is_filled_as s.committed s.staged ≡ true
+  filled = sound.filled
+
+  pub room : HasRoom s (len free.free)
+  room = by (staged_tile s) sound.staged (room_for_heights format before s after free kept_there)
+    where
+      by : (o : Option TileLocation) → IfSome o (IsWholeTile format) → (IsSome o → plane_pages_of format ≤ length (fresh_heights s) + len free.free)
+          → IfSome o (λ t. length (pages_of_plane t.heights) ≤ length (fresh_heights s) + len free.free)
+      by None whole left = tt
+      by (Some t) whole left = omega (arith, plane_few format t.heights whole.heights, left refl)
+
+  pub in_use : AreInUse (used_pages s) free
+  in_use = slot_in_use before s after free kept_there.counted
+
   -- ---- a page that may be written
   module _ (new : Slot) (now : PageSet) where
     pub set_is : set slots at new ≡ before ++ new ∷ after
@@ -104,17 +120,17 @@ module _ (format : Format) (slots : List Slot) (free : PageSet) (kept : IsKept f
     kept_as_set : IsKept format (before ++ new ∷ after) now → IsKept format (set slots at new) now
     kept_as_set k = subst (λ (l : List Slot). IsKept format l now) (sym set_is) k
 
-    module _ (i : ℕ) (r : Result ℕ Refusal) (staged : IfOk r (λ page. IsPageRestaged i page s new)) (restaged : IsRestaged s new free now) (unchanged : OnErr r (new ≡ s)) where
+    module _ (i : ℕ) (r : Result ℕ Refusal) (staged : IfOk r (λ page. IsPageRestaged i page s new)) (restaged : IsRestaged s new free now) (same_kept : fresh_kept new ≡ fresh_kept s) (unchanged : OnErr r (new ≡ s)) where
       pub kept_rewritten : IsKept format (set slots at new) now
       kept_rewritten = kept_as_set (by r staged unchanged)
         where
           by : (q : Result ℕ Refusal) → IfOk q (λ page. IsPageRestaged i page s new) → OnErr q (new ≡ s) → IsKept format (before ++ new ∷ after) now
-          by (Ok page) staged same = rewritten_kept format before s new after free now kept_there i page staged restaged
+          by (Ok page) staged same = rewritten_kept format before s new after free now kept_there i page staged restaged same_kept
           by (Err refusal) staged same =
               kept_change format before s new after free now kept_there restaged.corner (same_committed s new restaged.corner restaged.committed)
               (subst (λ (x : Slot). IsSound format x) (sym same) sound)
               (subst (λ (x : Slot). length (staged_tiles (before ++ x ∷ after)) ≤ format.capacity) (sym same) kept_there.staged_room)
-              restaged.same_total restaged.each
+              (let alike = ap length same_kept in omega (arith, alike)) restaged.same_total restaged.each
 
       pub is_rewritten : IfOk r (λ page. IsRewritten c i page (chart_of format slots free) (chart_of format (set slots at new) now))
       is_rewritten = by r staged
@@ -124,19 +140,19 @@ module _ (format : Format) (slots : List Slot) (free : PageSet) (kept : IsKept f
               subst (λ (l : List Slot). IsRewritten c i page (chart_of format l free) (chart_of format (set slots at new) now)) (sym split)
               (subst (λ (l : List Slot). IsRewritten c i page (chart_of format (before ++ s ∷ after) free) (chart_of format l now)) (sym set_is)
               (subst (λ (d : Corner). IsRewritten d i page (chart_of format (before ++ s ∷ after) free) (chart_of format (before ++ new ∷ after) now)) corner
-              (rewritten format before s new after free now kept_there i page staged restaged)))
+              (rewritten format before s new after free now kept_there i page staged restaged same_kept)))
           by (Err refusal) staged = tt
 
   -- ---- a tile taken out
-  module _ (located : IsLocated c (staged_tiles slots)) (settled : ¬ HasFreshHeights c (chart_of format slots free)) where
+  module _ (located : IsLocated c (staged_tiles slots)) (settled : ¬ HasFreshHeights c (chart_of format slots free)) (now : PageSet) (restaged : IsRestaged s (record s { staged = Removed }) free now) where
     abbrev without : Slot
     without = record s { staged = Removed }
 
-    none_fresh : (fresh_pages s ≡ []) × (is_filled_as s.committed Removed ≡ true)
-    none_fresh = by s.staged refl sound.filled
+    filled_without : is_filled_as s.committed Removed ≡ true
+    filled_without = by s.staged refl sound.filled
       where
-        by : (g : Staged) → s.staged ≡ g → is_filled_as s.committed g ≡ true → (fresh_pages s ≡ []) × (is_filled_as s.committed Removed ≡ true)
-        by (Tile of_heights.AsCommitted k) same filled = (ap (fresh_as s.committed) same, filled)
+        by : (g : Staged) → s.staged ≡ g → is_filled_as s.committed g ≡ true → is_filled_as s.committed Removed ≡ true
+        by (Tile of_heights.AsCommitted k) same filled = filled
         by (Tile (of_heights.Fresh location) k) same filled =
             let t : TileLocation = record { corner = s.corner; heights = location; kept = kept_as s.committed k } in
             let had : staged_tile s ≡ Some t = ap (staged_as s.corner s.committed) same in
@@ -159,20 +175,19 @@ module _ (format : Format) (slots : List Slot) (free : PageSet) (kept : IsKept f
         by None had some = absurd (false≢true some)
         by (Some t) had some = staged_without before s after rising_there t had without refl
 
-    pub kept_removed : IsKept format (set slots at without) free
+    pub kept_removed : IsKept format (set slots at without) now
     kept_removed =
-        subst (λ (l : List Slot). IsKept format l free) (sym (set_is without free))
-        (kept_change format before s without after free free kept_there refl refl
-        (record { corner = sound.corner; committed = sound.committed; staged = tt; filled = none_fresh.1 })
-        (rw removed_tiles (fewer (staged_tiles (before ++ s ∷ after)) kept_there.staged_room)) refl
-        (λ p. (let none = ap (times p) none_fresh.0 in omega (arith, none))))
+        subst (λ (l : List Slot). IsKept format l now) (sym (set_is without now))
+        (kept_change format before s without after free now kept_there refl refl
+        (record { corner = sound.corner; committed = sound.committed; staged = tt; filled = filled_without })
+        (rw removed_tiles (fewer (staged_tiles (before ++ s ∷ after)) kept_there.staged_room)) (omega arith) restaged.same_total restaged.each)
       where
         fewer : (tiles : List TileLocation) → length tiles ≤ format.capacity → length (without_location s.corner tiles) ≤ format.capacity
         fewer tiles few = omega (arith, length-filter-le (λ t. not (is_at s.corner t)) tiles)
 
-    pub is_removed : chart_of format (set slots at without) free ≡ record (chart_of format slots free) { staged = without_location c (staged_tiles slots) }
+    pub is_removed : chart_of format (set slots at without) now ≡ record (chart_of format slots free) { staged = without_location c (staged_tiles slots) }
     is_removed =
-        ap (λ (l : List Slot). chart_of format l free) (set_is without free)
-        ∙ (chart_changed format before s without after free free refl refl _ removed_tiles
+        ap (λ (l : List Slot). chart_of format l now) (set_is without now)
+        ∙ (chart_changed format before s without after free now restaged.same_total refl _ removed_tiles
         ∙ (ap (λ (d : Corner). record (chart_of format (before ++ s ∷ after) free) { staged = without_location d (staged_tiles (before ++ s ∷ after)) }) corner
         ∙ ap (λ (l : List Slot). record (chart_of format l free) { staged = without_location c (staged_tiles l) }) (sym split)))

@@ -1,5 +1,5 @@
 -- What is known of every chart.
-use Rattle.std.proofs.Common.{◌≡◌, ℕ, zero, suc, ◌+◌, ◌<◌, ◌≤◌, inl, inr, List, [], ◌∷◌, ◌++◌, map, refl, sym, ap, subst, ◌∙◌, arith}
+use Rattle.std.proofs.Common.{◌≡◌, ℕ, zero, suc, ◌+◌, ◌<◌, ◌≤◌, ◌⊎◌, inl, inr, List, [], ◌∷◌, ◌++◌, map, refl, sym, ap, subst, ◌∙◌, arith}
 use Rattle.std.specs.Prelude.{IsTrue, Option, Some, None, IsSome, IfSome, All, Contains, option_map}
 use Rattle.std.specs.List.{filter_map, flat_map, cons_option, AllByRecursion}
 use Rattle.std.proofs.lemmas.Bool.{false≢true}
@@ -12,16 +12,17 @@ use Rattle.layout.specs.Formats.{Format}
 use Rattle.charts.specs.declared.locations.TilePlanes.{TilePlanes}
 use Rattle.charts.specs.declared.slot.Slot.{Slot}
 use Rattle.charts.specs.declared.staged.Staged.{Staged}
+use Rattle.charts.specs.declared.staged.HeightsStaged.{HeightsStaged}
 use Rattle.charts.specs.declared.staged.HeightsStaged.TheVariants as of_heights
 use Rattle.charts.specs.declared.staged.KeptStaged.{KeptStaged}
 use Rattle.charts.specs.declared.staged.KeptStaged.TheVariants as of_kept
 use Rattle.charts.specs.declared.staged.Staged.TheVariants.{Tile, Removed}
 use Rattle.charts.specs.Locations.{times}
 use Rattle.charts.specs.FreePages.{page_times}
-use Rattle.charts.specs.TileLocations.{TileLocation, KeepsPageRule, reached}
+use Rattle.charts.specs.TileLocations.{TileLocation, KeepsPageRule, pages_of_kept, reached}
 use Rattle.charts.specs.Charts.{ChartValue, IsChart, IsFresh, IsStagedIn, IsWholeTile, tile_at}
 use Rattle.charts.specs.Slots.{committed_tile, staged_as, staged_tile, committed_tiles, staged_tiles, fresh_as, fresh_pages, pages_of_location, IsSound, AreCounted, IsKept, chart_of}
-use Rattle.charts.specs.StagedPlanes.{kept_as}
+use Rattle.charts.specs.StagedPlanes.{kept_as, fresh_heights_as, fresh_kept_as}
 use Rattle.charts.proofs.Times.{one-self, times-append, times_of_member, all_numbers}
 use Rattle.charts.proofs.FreeTimes.{page_at, page_le}
 use Rattle.charts.proofs.Slotting.{replaced_count}
@@ -40,7 +41,7 @@ pub staged_le : (p : ℕ) (s : Slot) → times p (pages_of_location (staged_tile
 staged_le p s = by s.corner s.committed s.staged
   where
     by : (c : Corner) (o : Option TilePlanes) (g : Staged) → times p (pages_of_location (staged_as c o g)) ≤ times p (pages_of_location (option_map (tile_at c) o)) + times p (fresh_as o g)
-    by c o (Tile h k) = omega (arith, replaced_count p c o h k)
+    by c o (Tile h k) = omega (arith, replaced_count p c o h k, times-append p (fresh_heights_as o h) (fresh_kept_as k))
     by c o Removed = omega arith
 
 all_staged_le : (p : ℕ) (slots : List Slot)
@@ -121,19 +122,23 @@ is_in format slots free counted =
 staged_in_chart : (chart : ChartValue) (s : Slot) → IsIn chart s → IfSome (staged_tile s) (IsStagedIn chart)
 staged_in_chart chart s is = by s.corner s.committed s.staged is.committed is.fresh
   where
-    kept_by : (c : Corner) (o : Option TilePlanes) (k : KeptStaged) → IfSome (option_map (tile_at c) o) (Contains chart.committed) → IsSome (kept_as o k) → Contains (map (λ (u : TileLocation). u.kept) chart.committed) (kept_as o k)
-    kept_by c None of_kept.AsCommitted there some = absurd (false≢true some)
-    kept_by c None of_kept.Dropped there some = absurd (false≢true some)
-    kept_by c (Some planes) of_kept.AsCommitted there some = contains_map (λ (u : TileLocation). u.kept) chart.committed (tile_at c planes) there
-    kept_by c (Some planes) of_kept.Dropped there some = absurd (false≢true some)
+    kept_by : (c : Corner) (o : Option TilePlanes) (k : KeptStaged) → IfSome (option_map (tile_at c) o) (Contains chart.committed) → ((p : ℕ) → 1 ≤ times p (fresh_kept_as k) → IsFresh chart p)
+        → IsSome (kept_as o k) → Contains (map (λ (u : TileLocation). u.kept) chart.committed) (kept_as o k) ⊎ All (IsFresh chart) (pages_of_kept (kept_as o k))
+    kept_by c None of_kept.AsCommitted there fresh some = absurd (false≢true some)
+    kept_by c o of_kept.Dropped there fresh some = absurd (false≢true some)
+    kept_by c (Some planes) of_kept.AsCommitted there fresh some = inl (contains_map (λ (u : TileLocation). u.kept) chart.committed (tile_at c planes) there)
+    kept_by c o (of_kept.Fresh locations) there fresh some = inr (all_numbers (IsFresh chart) (pages_of_kept (Some locations)) fresh)
+
+    kept_fresh : (o : Option TilePlanes) (h : HeightsStaged) (k : KeptStaged) → ((p : ℕ) → 1 ≤ times p (fresh_as o (Tile h k)) → IsFresh chart p) → (p : ℕ) → 1 ≤ times p (fresh_kept_as k) → IsFresh chart p
+    kept_fresh o h k fresh p some = fresh p (omega (arith, some, times-append p (fresh_heights_as o h) (fresh_kept_as k)))
 
     by : (c : Corner) (o : Option TilePlanes) (g : Staged) → IfSome (option_map (tile_at c) o) (Contains chart.committed) → ((p : ℕ) → 1 ≤ times p (fresh_as o g) → IsFresh chart p) → IfSome (staged_as c o g) (IsStagedIn chart)
     by c None (Tile of_heights.AsCommitted k) there fresh = tt
     by c (Some planes) (Tile of_heights.AsCommitted k) there fresh = record {
       settled = inl (contains_map (λ (u : TileLocation). record u { kept = kept_as (Some planes) k }) chart.committed (tile_at c planes) there);
-      kept = kept_by c (Some planes) k there;
+      kept = kept_by c (Some planes) k there (kept_fresh (Some planes) of_heights.AsCommitted k fresh);
     }
-    by c o (Tile (of_heights.Fresh location) k) there fresh = record { settled = inr (fresh location.record_page (omega (arith, one-self location.record_page))); kept = kept_by c o k there }
+    by c o (Tile (of_heights.Fresh location) k) there fresh = record { settled = inr (fresh location.record_page (omega (arith, one-self location.record_page))); kept = kept_by c o k there (kept_fresh o (of_heights.Fresh location) k fresh) }
     by c o Removed there fresh = tt
 
 own_corner : (s : Slot) (o : Option TileLocation) → IfSome o (λ t. t.corner ≡ s.corner) → IsTrue (is_corner s.corner) → IfSome o (λ t. IsTrue (is_corner t.corner))

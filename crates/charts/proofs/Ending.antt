@@ -3,7 +3,7 @@ use Rattle.std.proofs.Common.{◌≡◌, ◌≢◌, ℕ, suc, ◌+◌, ◌<◌, 
 use Rattle.std.specs.Prelude.{Option, Some, None, is_some, IfSome, option_map, filter}
 use Rattle.std.specs.List.{filter_map, cons_option, AllByRecursion, flat_map}
 use Rattle.std.proofs.Math.Seq.{split_at}
-use Rattle.std.proofs.lemmas.List.{set_split, length-set, get_or-set_other, get_or-set_same, get_or_default}
+use Rattle.std.proofs.lemmas.List.{set_split, length-append, length-set, get_or-set_other, get_or-set_same, get_or_default}
 use Rattle.std.proofs.lemmas.Bool.{cases_eq}
 use Rattle.lattice.specs.Corners.{Corner, is_before, is_corner}
 use Rattle.lattice.proofs.Rising.{AllAfter, Rising, rising_from, adjacent_from, rising-filter}
@@ -19,7 +19,7 @@ use Rattle.charts.specs.Locations.{times}
 use Rattle.charts.specs.FreePages.{AreInUse}
 use Rattle.charts.specs.TileLocations.{TileLocation, reached}
 use Rattle.charts.specs.Charts.{ChartValue, IsWholeTile, tile_at}
-use Rattle.charts.specs.Slots.{committed_tile, staged_as, staged_tile, committed_tiles, staged_tiles, fresh_as, fresh_pages, used_pages, pages_of_location, is_filled_as, IsSound, IsKept, AreCounted, chart_of, ended_tile, ended_chart, HasEndedAs, IsEndedAs, AreEndedAs}
+use Rattle.charts.specs.Slots.{committed_tile, staged_as, staged_tile, committed_tiles, staged_tiles, fresh_kept_in, fresh_kept, fresh_as, fresh_pages, used_pages, pages_of_location, is_filled_as, IsSound, IsKept, AreCounted, chart_of, ended_tile, ended_chart, HasEndedAs, IsEndedAs, AreEndedAs}
 use Rattle.charts.proofs.Times.{times-append}
 use Rattle.charts.proofs.SlotLists.{corner_of, slot_in_use, counted_change}
 
@@ -160,6 +160,12 @@ no_fresh format p (s ∷ rest) all =
     let none = ap (λ g. times p (fresh_as s.committed g)) all.0.staged in
     omega (arith, none, times-append p (fresh_pages s) (flat_map fresh_pages rest), no_fresh format p rest all.1)
 
+no_fresh_kept : (format : Format) (slots : List Slot) → AllByRecursion (IsSettledSlot format) slots → length (flat_map fresh_kept slots) ≡ 0
+no_fresh_kept format [] all = refl
+no_fresh_kept format (s ∷ rest) all =
+    let none = ap (λ g. length (fresh_kept_in g)) all.0.staged in
+    omega (arith, none, length-append (fresh_kept s) (flat_map fresh_kept rest), no_fresh_kept format rest all.1)
+
 settled_filter : (format : Format) (slots : List Slot) → AllByRecursion (IsSettledSlot format) slots → AllByRecursion (IsSettledSlot format) (filter is_left slots)
 settled_filter format [] all = tt
 settled_filter format (s ∷ rest) all = elim (is_left s) as (λ b. AllByRecursion (IsSettledSlot format) (cond b (s ∷ filter is_left rest) (filter is_left rest))) [
@@ -218,6 +224,7 @@ module _ (format : Format) (ending : Ending) (slots new : List Slot) (free now :
     sound = sound_filter format new settled;
     committed_room = rw now_committed room;
     staged_room = rw now_staged room;
+    kept_room = omega (arith, no_fresh_kept format left (settled_filter format new settled));
     counted = λ p.
         (let committed = ap (λ (l : List TileLocation). times p (reached l)) (left_committed new) in
         omega (arith, committed, no_fresh format p new settled, no_fresh format p left (settled_filter format new settled), ended.counted p));

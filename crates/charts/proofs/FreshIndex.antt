@@ -17,8 +17,8 @@ use Rattle.charts.specs.FreePages.{differing, heights_pages}
 use Rattle.charts.specs.TileLocations.{TileLocation, reached}
 use Rattle.charts.specs.Charts.{HasHeights, IsWholeTile, is_unreached}
 use Rattle.charts.specs.Slots.{committed_tile, committed_tiles, staged_as, staged_tile, staged_tiles, fresh_as, fresh_pages, pages_of_location, IsSlotAt, IsKept}
-use Rattle.charts.specs.StagedPlanes.{kept_as}
-use Rattle.charts.proofs.Times.{has_at, member_of_times, differing-has}
+use Rattle.charts.specs.StagedPlanes.{kept_as, fresh_kept_as}
+use Rattle.charts.proofs.Times.{has_at, times-append, member_of_times, differing-has}
 use Rattle.charts.proofs.SlotLists.{times-split, reached_all}
 use Rattle.charts.proofs.SlotChanges.{all_middle, slot_fresh}
 use Rattle.charts.proofs.Listing.{any_none, any_some}
@@ -103,7 +103,7 @@ module _ (format : Format) (slots : List Slot) (free : PageSet) (kept : IsKept f
         by d o (Tile (of_heights.Fresh h) k) had nowhere =
             let own : record { corner = d; heights = h; kept = kept_as o k } ≡ u = cc in
             let here = differs o h (ap (λ (v : TileLocation). v.heights) own ∙ heights) nowhere in
-            omega (arith, here)
+            omega (arith, here, times-append page (differing (pages_behind h) (heights_pages o)) (fresh_kept_as k))
         by d o Removed had nowhere = cc
 
     pub fresh_index : HasHeights c location (staged_tiles slots) → (result : Bool)

@@ -6,6 +6,7 @@ pub mod Slotting
 pub mod SlotLists
 pub mod ChartRules
 pub mod Room
+pub mod Clean
 pub mod SlotChanges
 pub mod Lookup
 pub mod PlaneLookup
@@ -16,5 +17,5 @@ pub mod Listing
 pub mod FreshIndex
 pub mod Loading
 pub mod Preparing
-pub mod KeptDropping
+pub mod KeptChanging
 pub mod Occurrences

@@ -1,5 +1,5 @@
 -- What a chart is with one more committed tile, and with a tile added where a search says.
-use Rattle.std.proofs.Common.{◌≡◌, ℕ, zero, suc, ◌<◌, ◌≤◌, true, false, List, [], ◌∷◌, ◌++◌, length, take, drop, get_or, set, refl, sym, ap, subst, ◌∙◌, arith}
+use Rattle.std.proofs.Common.{◌≡◌, ℕ, zero, suc, ◌<◌, ◌≤◌, true, List, [], ◌∷◌, ◌++◌, length, take, drop, get_or, set, refl, sym, ap, subst, ◌∙◌, arith}
 use Rattle.std.specs.Prelude.{IsTrue, Option, Some, None, IfSome, Contains, All, option_map, insert}
 use Rattle.std.specs.List.{filter_map, cons_option, AllByRecursion, flat_map}
 use Rattle.std.proofs.lemmas.List.{length-append, append-nil, take-append-drop}
@@ -20,12 +20,13 @@ use Rattle.charts.specs.Locations.{PlaneLocation, IsWholePlane, times, pages_of_
 use Rattle.charts.specs.FreePages.{free_times, pages_of_planes, AreTaken}
 use Rattle.charts.specs.TileLocations.{TileLocation, KeepsPageRule, reached, pages_of_tile}
 use Rattle.charts.specs.Charts.{ChartValue, IsWholeTile, IsAdded, IsLocated, tile_at}
-use Rattle.charts.specs.Slots.{committed_tile, staged_as, staged_tile, committed_tiles, staged_tiles, fresh_as, fresh_pages, is_filled_as, stages_heights, stages_heights_as, IsSound, IsSlotAt, IsRoomAt, IsKept, AreCounted, chart_of}
+use Rattle.charts.specs.Slots.{committed_tile, staged_as, staged_tile, committed_tiles, staged_tiles, fresh_pages, is_filled_as, IsSound, IsSlotAt, IsRoomAt, IsKept, chart_of}
 use Rattle.charts.specs.StagedPlanes.{as_committed, kept_as}
 use Rattle.charts.proofs.Times.{one, one-self, times-append, member_of_times}
 use Rattle.charts.proofs.FreeTimes.{page_one}
 use Rattle.charts.proofs.SlotLists.{corner_of, AllBefore}
-use Rattle.charts.proofs.SlotChanges.{all_middle, slot_fresh}
+use Rattle.charts.proofs.SlotChanges.{all_middle}
+use Rattle.charts.proofs.Clean.{none_fresh}
 use Rattle.charts.proofs.ChartRules.{each_slot, contains_at}
 use Rattle.charts.proofs.SlotInserts.{kept_insert, kept_added, is_added, kept_again, is_added_again, new_slot, with_fresh}
 use Rattle.charts.proofs.Lookup.{located_there}
@@ -66,30 +67,8 @@ module _ (format : Format) (slots : List Slot) (free : PageSet) (kept : IsKept f
       by d None (Tile (of_heights.Fresh location) k) filled there staged = all_member (λ (t : TileLocation). IsBefore t.corner c) (committed_tiles slots) (record { corner = d; heights = location; kept = kept_as None k }) later staged
       by d None Removed filled there staged = absurd (false≢true filled)
 
-  none_staged : AllByRecursion (λ s. stages_heights s ≡ false) slots
-  none_staged =
-      each_slot (λ s. stages_heights s ≡ false) [] slots (λ before s after is.
-      by s.corner s.committed s.staged
-      (λ r some. subst (λ (l : List Slot). Contains (reached (committed_tiles l)) r → ⊥) (sym is) (slot_fresh format before s after free (subst (λ (l : List Slot). AreCounted l free) is kept.counted) r some).unreached)
-      (subst (λ (l : List TileLocation). IfSome (staged_tile s) (Contains l)) clean (subst (λ (l : List Slot). IfSome (staged_tile s) (Contains (staged_tiles l))) (sym is) (contains_at staged_tile before s after))))
-    where
-      by : (d : Corner) (o : Option TilePlanes) (g : Staged) → ((r : ℕ) → 1 ≤ times r (fresh_as o g) → Contains (reached (committed_tiles slots)) r → ⊥) → IfSome (staged_as d o g) (Contains (committed_tiles slots)) → stages_heights_as g ≡ false
-      by d o (Tile of_heights.AsCommitted k) un there = refl
-      by d o (Tile (of_heights.Fresh location) k) un there =
-          absurd (un location.record_page (omega (arith, one-self location.record_page)) (member_of_times (reached (committed_tiles slots)) location.record_page (reached_member (committed_tiles slots) (record { corner = d; heights = location; kept = kept_as o k }) there)))
-      by d o Removed un there = refl
-
-  none_fresh : (p : ℕ) → times p (flat_map fresh_pages slots) ≡ 0
-  none_fresh p = all slots none_staged
-    where
-      one_none : (o : Option TilePlanes) (g : Staged) → stages_heights_as g ≡ false → times p (fresh_as o g) ≡ 0
-      one_none o (Tile of_heights.AsCommitted k) none = refl
-      one_none o (Tile (of_heights.Fresh location) k) none = absurd (false≢true (sym none))
-      one_none o Removed none = refl
-
-      all : (l : List Slot) → AllByRecursion (λ s. stages_heights s ≡ false) l → times p (flat_map fresh_pages l) ≡ 0
-      all [] none = refl
-      all (s ∷ rest) none = omega (arith, one_none s.committed s.staged none.0, all rest none.1, times-append p (fresh_pages s) (flat_map fresh_pages rest))
+  no_page_fresh : flat_map fresh_pages slots ≡ []
+  no_page_fresh = none_fresh format slots free kept clean
 
   now_tiles : (tile_of : Slot → Option TileLocation) → tile_of loaded ≡ Some (tile_at c planes) → filter_map tile_of (slots ++ loaded ∷ []) ≡ filter_map tile_of slots ++ tile_at c planes ∷ []
   now_tiles tile_of has = filter_map-append tile_of slots (loaded ∷ []) ∙ ap (λ (o : Option TileLocation). filter_map tile_of slots ++ cons_option o []) has
@@ -100,7 +79,7 @@ module _ (format : Format) (slots : List Slot) (free : PageSet) (kept : IsKept f
       (record { corner = degrees; committed = whole; staged = whole; filled = refl })
       (rw (now_tiles committed_tile refl) (omega (arith, length-append tiles (tile_at c planes ∷ []))))
       (rw (now_tiles staged_tile refl) (let same = ap length clean in omega (arith, same, length-append (staged_tiles slots) (tile_at c planes ∷ []))))
-      taken.same_total
+      refl taken.same_total
       (λ p. omega (arith, taken.each p, times-append p (pages_of_planes planes) []))
 
   pub chart_loaded : (now : PageSet) → AreTaken (pages_of_planes planes) free now
@@ -115,10 +94,11 @@ module _ (format : Format) (slots : List Slot) (free : PageSet) (kept : IsKept f
   rule_broken (p, less) rule =
       let all = ap (times p) (flat_map-append pages_of_tile tiles (tile_at c planes ∷ [])) ∙ times-append p (reached tiles) (reached (tile_at c planes ∷ [])) in
       let own = times-append p (pages_of_planes planes) [] in
+      let none = ap (times p) no_page_fresh in
       let there : 1 ≤ times p (reached (tiles ++ tile_at c planes ∷ [])) = omega (arith, all, own) in
       let member = member_of_times (reached (tiles ++ tile_at c planes ∷ [])) p there in
       let page = page_one free.total p (all_member (λ q. 4 ≤ q) (reached (tiles ++ tile_at c planes ∷ [])) p rule.low member, all_member (λ q. q < free.total) (reached (tiles ++ tile_at c planes ∷ [])) p rule.high member) in
-      omega (arith, all, own, rule.once p, page, kept.counted p, none_fresh p)
+      omega (arith, all, own, rule.once p, page, kept.counted p, none)
 
 -- ---- a tile added where the search says
 all_take : (P : Slot → Type 0) (slots : List Slot) (at : ℕ) → ((k : ℕ) (d : Slot) → k < at → k < length slots → P (get_or slots k d)) → AllByRecursion P (take at slots)

@@ -1,27 +1,40 @@
 -- A page of a plane that is moved to a free page.
 use Rattle.std.proofs.Common.{◌≡◌, ◌≢◌, ℕ, ◌+◌, ◌/◌, ◌<◌, ◌≤◌, List, [], ◌∷◌, ◌++◌, length, take, drop, get_or, set, refl, sym, ap, ◌∙◌, arith}
 use Rattle.std.specs.Prelude.{slice_set}
+use Rattle.std.specs.FinSet.{len}
 use Rattle.std.proofs.Math.Seq.{take-append_seam, drop-append_seam}
 use Rattle.std.proofs.lemmas.List.{length-set, set_past, set-append_left, set-append_right}
 use Rattle.page_alloc.specs.Pages.{PageSet}
 use Rattle.charts.specs.Locations.{PlaneLocation, pages_behind, IsMovedBehind, times}
-use Rattle.charts.specs.FreePages.{free_times, AreTaken, IsOwned, IsOwnedPage}
-use Rattle.charts.proofs.Times.{one, one-self, differing-has, differing-set, times-has}
+use Rattle.charts.specs.FreePages.{free_times, differing, AreTaken, IsOwned, IsOwnedPage}
+use Rattle.charts.proofs.Times.{one, one-self, differing-has, differing-set, length-differing-set, times-has}
 
 pub owned_already : (committed pages : List ℕ) (i : ℕ) (free : PageSet) → i < length pages → (i < length committed → get_or pages i 0 ≢ get_or committed i 0)
     → IsOwned committed (get_or pages i 0) pages pages free free
 owned_already committed pages i free below apart = record { fresh = differing-has pages committed i below apart; same_total = refl; fewer = λ p. omega arith; each = λ p. refl }
 
+-- a page that was free isn't one of the committed plane's
+pub not_committed : (committed : List ℕ) (i page : ℕ) (was now : PageSet) → i < length committed → ((p : ℕ) → times p committed + free_times was p ≤ 1) → AreTaken (page ∷ []) was now
+    → page ≢ get_or committed i 0
+not_committed committed i page was now within apart taken e =
+    let free : one page page + 0 + free_times now page ≡ free_times was page = taken.each page in
+    let has : 1 ≤ times (get_or committed i 0) committed = times-has committed i within in
+    let has_page : 1 ≤ times page committed = rw e has in
+    omega (arith, apart page, free, one-self page)
+
+-- there is as much room for pages that the committed plane doesn't have
+pub room_after : (committed pages : List ℕ) (i page : ℕ) (was now : PageSet) → i < length pages → i < length committed → get_or pages i 0 ≡ get_or committed i 0
+    → ((p : ℕ) → times p committed + free_times was p ≤ 1) → AreTaken (page ∷ []) was now → len now.free + 1 ≡ len was.free
+    → length pages ≤ length (differing pages committed) + len was.free
+    → length (slice_set pages i page) ≤ length (differing (slice_set pages i page) committed) + len now.free
+room_after committed pages i page was now below within same apart taken left room =
+    omega (arith, left, room, length-set pages i page, length-differing-set pages committed i page below within same (not_committed committed i page was now within apart taken))
+
 pub owned_now : (committed pages : List ℕ) (i page : ℕ) (was now : PageSet) → i < length pages → i < length committed → get_or pages i 0 ≡ get_or committed i 0
     → ((p : ℕ) → times p committed + free_times was p ≤ 1) → AreTaken (page ∷ []) was now
     → IsOwned committed page pages (slice_set pages i page) was now
 owned_now committed pages i page was now below within same apart taken =
-    let free : one page page + 0 + free_times now page ≡ free_times was page = taken.each page in
-    let other : page ≢ get_or committed i 0 =
-    λ e. (
-    let has : 1 ≤ times (get_or committed i 0) committed = times-has committed i within in
-    let has_page : 1 ≤ times page committed = rw e has in
-    omega (arith, apart page, free, one-self page)) in
+    let other : page ≢ get_or committed i 0 = not_committed committed i page was now within apart taken in
     record {
       fresh = omega (arith, differing-set page pages committed i page below within same other, one-self page);
       same_total = taken.same_total;

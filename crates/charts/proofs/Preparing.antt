@@ -17,11 +17,11 @@ use Rattle.charts.specs.Locations.{PlaneLocation, pages_behind, times}
 use Rattle.charts.specs.FreePages.{differing, heights_pages, AreTaken}
 use Rattle.charts.specs.TileLocations.{TileLocation}
 use Rattle.charts.specs.Charts.{IsWholeTile, IsPrepared, is_at, with_record_in, with_record}
-use Rattle.charts.specs.Slots.{staged_as, staged_tile, staged_tiles, fresh_as, fresh_pages, IsSound, IsSlotAt, IsKept, chart_of, IsRestaged, IsRecordRestaged}
+use Rattle.charts.specs.Slots.{staged_as, staged_tile, staged_tiles, fresh_kept, fresh_as, IsSound, IsSlotAt, IsKept, chart_of, IsRestaged, IsRecordRestaged}
 use Rattle.charts.specs.StagedPlanes.{kept_as}
 use Rattle.charts.proofs.Times.{one-self, differing-self}
 use Rattle.charts.proofs.SlotLists.{corner_of}
-use Rattle.charts.proofs.Slotting.{at_heights}
+use Rattle.charts.proofs.Slotting.{at_heights, fresh_at}
 use Rattle.charts.proofs.SlotChanges.{all_middle, kept_change, same_committed, chart_changed, staged_at, staged_mapped, slot_fresh, filled_from}
 use Rattle.charts.proofs.AtSlot.{split, corner, kept_there, set_is}
 
@@ -48,8 +48,7 @@ module _ (s : Slot) (planes : TilePlanes) (location : PlaneLocation) (k : KeptSt
         same_total = taken.same_total;
         each = λ p.
             let none : times p (differing (pages_behind location) (heights_pages s.committed)) ≡ 0 = ap (λ l. times p (differing l (heights_pages s.committed))) behind ∙ ap (times p) (differing-self (heights_pages s.committed)) in
-            let before : times p (fresh_pages s) ≡ 0 = ap (λ (g : Staged). times p (fresh_as s.committed g)) is in
-            omega (arith, none, before, taken.each p);
+            omega (arith, none, fresh_at p s of_heights.AsCommitted k is, fresh_at p (at_heights s location k) (of_heights.Fresh location) k refl, taken.each p);
       }
 
   pub record_restaged : IsRecordRestaged s (at_heights s location k)
@@ -65,7 +64,7 @@ module _ (s : Slot) (planes : TilePlanes) (location : PlaneLocation) (k : KeptSt
 
 -- ---- the chart
 module _ (format : Format) (before : List Slot) (s new : Slot) (after : List Slot) (free now : PageSet) (is : IsKept format (before ++ s ∷ after) free)
-    (staged : IsRecordRestaged s new) (restaged : IsRestaged s new free now) where
+    (staged : IsRecordRestaged s new) (restaged : IsRestaged s new free now) (same_kept : fresh_kept new ≡ fresh_kept s) where
   rising : Rising corner_of (before ++ s ∷ after)
   rising = rising_from corner_of (before ++ s ∷ after) is.in_order
 
@@ -95,7 +94,7 @@ module _ (format : Format) (before : List Slot) (s new : Slot) (after : List Slo
   prepared_slots : IsKept format (before ++ new ∷ after) now
   prepared_slots =
       kept_change format before s new after free now is restaged.corner (same_committed s new restaged.corner restaged.committed) sound_now
-      (rw moved_tiles (rw (length-map (staged_tiles (before ++ s ∷ after)) moved) is.staged_room)) restaged.same_total restaged.each
+      (rw moved_tiles (rw (length-map (staged_tiles (before ++ s ∷ after)) moved) is.staged_room)) (let same = ap length same_kept in omega (arith, same)) restaged.same_total restaged.each
 
   prepared_there : IsPrepared s.corner (chart_of format (before ++ s ∷ after) free) (chart_of format (before ++ new ∷ after) now)
   prepared_there = record {
@@ -105,7 +104,7 @@ module _ (format : Format) (before : List Slot) (s new : Slot) (after : List Slo
   }
 
 module _ (format : Format) (slots : List Slot) (free : PageSet) (kept : IsKept format slots free) (c : Corner) (at : ℕ) (found : IsSlotAt c at slots) (s : Slot) (is : s ≡ get_or slots at s)
-    (new : Slot) (now : PageSet) (r : Result (Unit {0}) Refusal) (staged : OnOk r (IsRecordRestaged s new)) (restaged : IsRestaged s new free now) (unchanged : OnErr r (new ≡ s)) where
+    (new : Slot) (now : PageSet) (r : Result (Unit {0}) Refusal) (staged : OnOk r (IsRecordRestaged s new)) (restaged : IsRestaged s new free now) (same_kept : fresh_kept new ≡ fresh_kept s) (unchanged : OnErr r (new ≡ s)) where
   abbrev before : List Slot
   before = take at slots
 
@@ -119,12 +118,12 @@ module _ (format : Format) (slots : List Slot) (free : PageSet) (kept : IsKept f
   kept_prepared = subst (λ (l : List Slot). IsKept format l now) (sym (set_is format slots free kept c at found s is new now)) (by r staged unchanged)
     where
       by : (q : Result (Unit {0}) Refusal) → OnOk q (IsRecordRestaged s new) → OnErr q (new ≡ s) → IsKept format (before ++ new ∷ after) now
-      by (Ok done) staged same = prepared_slots format before s new after free now there staged restaged
+      by (Ok done) staged same = prepared_slots format before s new after free now there staged restaged same_kept
       by (Err refusal) staged same =
           kept_change format before s new after free now there restaged.corner (same_committed s new restaged.corner restaged.committed)
           (subst (λ (x : Slot). IsSound format x) (sym same) (all_middle (IsSound format) before s after there.sound))
           (subst (λ (x : Slot). length (staged_tiles (before ++ x ∷ after)) ≤ format.capacity) (sym same) there.staged_room)
-          restaged.same_total restaged.each
+          (let alike = ap length same_kept in omega (arith, alike)) restaged.same_total restaged.each
 
   pub is_prepared : OnOk r (IsPrepared c (chart_of format slots free) (chart_of format (set slots at new) now))
   is_prepared = by r staged
@@ -134,5 +133,5 @@ module _ (format : Format) (slots : List Slot) (free : PageSet) (kept : IsKept f
           subst (λ (l : List Slot). IsPrepared c (chart_of format l free) (chart_of format (set slots at new) now)) (sym (split format slots free kept c at found s is))
           (subst (λ (l : List Slot). IsPrepared c (chart_of format (before ++ s ∷ after) free) (chart_of format l now)) (sym (set_is format slots free kept c at found s is new now))
           (subst (λ (d : Corner). IsPrepared d (chart_of format (before ++ s ∷ after) free) (chart_of format (before ++ new ∷ after) now)) (corner format slots free kept c at found s is)
-          (prepared_there format before s new after free now there staged restaged)))
+          (prepared_there format before s new after free now there staged restaged same_kept)))
       by (Err refusal) staged = tt

@@ -1,7 +1,7 @@
 -- A free page is always left: the committed tiles and the fresh pages take fewer than the disk has.
 use Rattle.std.proofs.Common.{◌≡◌, ◌≢◌, ℕ, zero, suc, ◌+◌, ◌-◌, ◌*◌, ◌<◌, ◌≤◌, true, cond, inl, inr, List, [], ◌∷◌, ◌++◌, length, refl, sym, ap, ◌∙◌, arith}
 use Rattle.std.proofs.Math.Nat.{mul-add, mul-le-mul_left, mul_comm, mul_assoc, mul_left_comm}
-use Rattle.std.specs.Prelude.{Option, Some, None, IfSome, not, ◌&&◌}
+use Rattle.std.specs.Prelude.{Option, Some, None, IsSome, IfSome, not, ◌&&◌}
 use Rattle.std.specs.List.{filter_map, flat_map, cons_option, AllByRecursion}
 use Rattle.std.specs.Ordering.{nat_cmp}
 use Rattle.std.specs.FinSet.{FinSet, empty, contains, remove, len, empty_of_len, contains-empty}
@@ -21,7 +21,7 @@ use Rattle.charts.specs.Locations.{PlaneLocation, IsWholePlane, times, pages_beh
 use Rattle.charts.specs.FreePages.{page_times, heights_pages}
 use Rattle.charts.specs.TileLocations.{TileLocation, pages_of_tile, pages_of_kept, reached}
 use Rattle.charts.specs.Charts.{IsWholeTile, AreWholeKept}
-use Rattle.charts.specs.Slots.{committed_tile, staged_as, staged_tile, committed_tiles, staged_tiles, fresh_as, fresh_pages, pages_of_location, IsSound, IsKept}
+use Rattle.charts.specs.Slots.{committed_tile, staged_as, staged_tile, committed_tiles, staged_tiles, fresh_heights_in, fresh_heights, fresh_kept, fresh_pages, pages_of_location, IsSound, IsKept}
 use Rattle.charts.proofs.Times.{one, one-other, times-append, length-differing}
 use Rattle.charts.proofs.FreeTimes.{contains-without, len-without, page_one}
 use Rattle.charts.proofs.SlotLists.{reached_all}
@@ -90,10 +90,10 @@ module _ (format : Format) where
   abbrev plane_size : ℕ
   plane_size = plane_pages_of format
 
-  plane_few : (p : PlaneLocation) → IsWholePlane format p → length (pages_of_plane p) ≡ plane_size
+  pub plane_few : (p : PlaneLocation) → IsWholePlane format p → length (pages_of_plane p) ≡ plane_size
   plane_few p whole = omega (arith, length-append p.index_pages p.pages, whole.index_pages, whole.pages)
 
-  kept_few : (kept : Option KeptLocations) → IfSome kept (AreWholeKept format) → length (pages_of_kept kept) ≤ 2 * plane_size
+  pub kept_few : (kept : Option KeptLocations) → IfSome kept (AreWholeKept format) → length (pages_of_kept kept) ≤ 2 * plane_size
   kept_few None whole = omega arith
   kept_few (Some k) whole = omega (arith, length-append (pages_of_plane k.levels) (pages_of_plane k.labels), plane_few k.levels whole.levels, plane_few k.labels whole.labels)
 
@@ -107,33 +107,82 @@ module _ (format : Format) where
       by None whole = omega arith
       by (Some t) whole = omega (arith, tile_few t whole)
 
-  fresh_few : (s : Slot) → IsSound format s → length (fresh_pages s) ≤ plane_size * count (staged_tile s)
-  fresh_few s sound = by s.corner s.committed s.staged sound.staged
+  heights_few : (s : Slot) → IsSound format s → length (fresh_heights s) ≤ plane_size * count (staged_tile s)
+  heights_few s sound = by s.corner s.committed s.staged sound.staged
     where
-      by : (c : Corner) (o : Option TilePlanes) (g : Staged) → IfSome (staged_as c o g) (IsWholeTile format) → length (fresh_as o g) ≤ plane_size * count (staged_as c o g)
+      by : (c : Corner) (o : Option TilePlanes) (g : Staged) → IfSome (staged_as c o g) (IsWholeTile format) → length (fresh_heights_in o g) ≤ plane_size * count (staged_as c o g)
       by c o (Tile of_heights.AsCommitted k) whole = omega arith
       by c o (Tile (of_heights.Fresh location) k) whole = omega (arith, length-differing (pages_behind location) (heights_pages o), plane_few location whole.heights)
       by c o Removed whole = omega arith
 
-left_over : (total used left m c nc ns lc lf : ℕ) → 4 + (4 * c + 2) * m ≤ total → total - 4 ≤ used + left → used ≡ lc + lf → lc ≤ 3 * m * nc → lf ≤ m * ns → m * nc ≤ m * c → m * ns ≤ m * c → 2 * m ≤ left
-left_over total used left m c nc ns lc lf size all joined committed fresh committed_most staged_most =
+  all_heights_few : (slots : List Slot) → AllByRecursion (IsSound format) slots → length (flat_map fresh_heights slots) ≤ plane_size * length (staged_tiles slots)
+  all_heights_few = pages_few fresh_heights staged_tile plane_size (IsSound format) heights_few
+
+  -- all but those of one slot's tile
+  other_heights_few : (before : List Slot) (s : Slot) (after : List Slot) → AllByRecursion (IsSound format) (before ++ s ∷ after) → IsSome (staged_tile s)
+      → length (flat_map fresh_heights (before ++ s ∷ after)) + plane_size ≤ plane_size * length (staged_tiles (before ++ s ∷ after)) + length (fresh_heights s)
+  other_heights_few [] s after all some = by (staged_tile s) some
+    where
+      by : (o : Option TileLocation) → IsSome o → length (fresh_heights s ++ flat_map fresh_heights after) + plane_size ≤ plane_size * length (cons_option o (staged_tiles after)) + length (fresh_heights s)
+      by None some = absurd (false≢true some)
+      by (Some t) some = omega (arith, length-append (fresh_heights s) (flat_map fresh_heights after), mul-add plane_size 1 (length (staged_tiles after)), all_heights_few after all.1)
+  other_heights_few (b ∷ before) s after all some = by (staged_tile b) (heights_few b all.0) (other_heights_few before s after all.1 some)
+    where
+      by : (o : Option TileLocation) → length (fresh_heights b) ≤ plane_size * count o
+          → length (flat_map fresh_heights (before ++ s ∷ after)) + plane_size ≤ plane_size * length (staged_tiles (before ++ s ∷ after)) + length (fresh_heights s)
+          → length (fresh_heights b ++ flat_map fresh_heights (before ++ s ∷ after)) + plane_size ≤ plane_size * length (cons_option o (staged_tiles (before ++ s ∷ after))) + length (fresh_heights s)
+      by None here later = omega (arith, length-append (fresh_heights b) (flat_map fresh_heights (before ++ s ∷ after)))
+      by (Some t) here later = omega (arith, length-append (fresh_heights b) (flat_map fresh_heights (before ++ s ∷ after)), mul-add plane_size 1 (length (staged_tiles (before ++ s ∷ after))))
+
+-- the fresh pages are those of heights and those of kept planes
+pub fresh_parts : (slots : List Slot) → length (flat_map fresh_pages slots) ≡ length (flat_map fresh_heights slots) + length (flat_map fresh_kept slots)
+fresh_parts [] = refl
+fresh_parts (s ∷ rest) =
+    let parts = fresh_parts rest in
+    let all = length-append (fresh_pages s) (flat_map fresh_pages rest) in
+    let here = length-append (fresh_heights s) (fresh_kept s) in
+    let heights = length-append (fresh_heights s) (flat_map fresh_heights rest) in
+    let kept = length-append (fresh_kept s) (flat_map fresh_kept rest) in
+    omega arith
+
+left_over : (total used left m c nc lc lf : ℕ) → 4 + (4 * c + 2) * m ≤ total → total - 4 ≤ used + left → used ≡ lc + lf → lc ≤ 3 * m * nc → m * nc ≤ m * c → m * c + 2 * m ≤ lf + left
+left_over total used left m c nc lc lf size all joined committed committed_most =
     let needed : (4 * c + 2) * m ≡ 4 * (m * c) + m * 2 = mul_comm (4 * c + 2) m ∙ (mul-add m (4 * c) 2 ∙ ap (λ n. n + m * 2) (mul_left_comm m 4 c)) in
     let three : 3 * m * nc ≡ 3 * (m * nc) = mul_assoc 3 m nc in
     omega arith
 
--- two planes more than the slots use, at the least
-pub room_left : (format : Format) (slots : List Slot) (free : PageSet) → IsKept format slots free → 2 * plane_pages_of format ≤ len free.free
-room_left format slots free is =
-    let used = reached (committed_tiles slots) ++ flat_map fresh_pages slots in
+module _ (format : Format) (slots : List Slot) (free : PageSet) (is : IsKept format slots free) where
+  -- what the committed tiles leave: a plane for each tile that there is room for, and two more
+  all_left : plane_pages_of format * format.capacity + 2 * plane_pages_of format ≤ length (flat_map fresh_pages slots) + len free.free
+  all_left =
+      let used = reached (committed_tiles slots) ++ flat_map fresh_pages slots in
+      let m = plane_pages_of format in
+      let all : free.total - 4 ≤ length used + len free.free =
+      pages_le (free.total - 4) used free.free (λ p low high. (
+      let page : page_times free.total p ≡ 1 = page_one free.total p (low, omega (arith, is.size)) in
+      omega (arith, is.counted p, page, times-append p (reached (committed_tiles slots)) (flat_map fresh_pages slots)))) in
+      let committed : length (reached (committed_tiles slots)) ≤ 3 * m * length (committed_tiles slots) =
+      rw (reached_all committed_tile slots) (pages_few (λ s. pages_of_location (committed_tile s)) committed_tile (3 * m) (IsSound format) (committed_few format) slots is.sound) in
+      let committed_most : m * length (committed_tiles slots) ≤ m * format.capacity = mul-le-mul_left m is.committed_room in
+      let joined = length-append (reached (committed_tiles slots)) (flat_map fresh_pages slots) in
+      left_over free.total (length used) (len free.free) m format.capacity (length (committed_tiles slots)) _ _ is.size all joined committed committed_most
+
+  -- where no page is fresh there are two planes
+  pub room_to_keep : flat_map fresh_pages slots ≡ [] → 2 * plane_pages_of format ≤ len free.free
+  room_to_keep none = let nothing = ap length none in omega (arith, all_left, nothing)
+
+  -- for one tile more there is a plane
+  pub room_for_tile : length (staged_tiles slots) < format.capacity → plane_pages_of format ≤ len free.free
+  room_for_tile room =
+      let m = plane_pages_of format in
+      let tiles : m * (length (staged_tiles slots) + 1) ≤ m * format.capacity = mul-le-mul_left m (omega arith) in
+      omega (arith, all_left, fresh_parts slots, all_heights_few format slots is.sound, is.kept_room, tiles, mul-add m (length (staged_tiles slots)) 1)
+
+-- for a staged tile there is one, with those pages of its heights that are fresh already
+pub room_for_heights : (format : Format) (before : List Slot) (s : Slot) (after : List Slot) (free : PageSet) → IsKept format (before ++ s ∷ after) free → IsSome (staged_tile s)
+    → plane_pages_of format ≤ length (fresh_heights s) + len free.free
+room_for_heights format before s after free is some =
+    let slots = before ++ s ∷ after in
     let m = plane_pages_of format in
-    let all : free.total - 4 ≤ length used + len free.free =
-    pages_le (free.total - 4) used free.free (λ p low high. (
-    let page : page_times free.total p ≡ 1 = page_one free.total p (low, omega (arith, is.size)) in
-    omega (arith, is.counted p, page, times-append p (reached (committed_tiles slots)) (flat_map fresh_pages slots)))) in
-    let committed : length (reached (committed_tiles slots)) ≤ 3 * m * length (committed_tiles slots) =
-    rw (reached_all committed_tile slots) (pages_few (λ s. pages_of_location (committed_tile s)) committed_tile (3 * m) (IsSound format) (committed_few format) slots is.sound) in
-    let fresh : length (flat_map fresh_pages slots) ≤ m * length (staged_tiles slots) = pages_few fresh_pages staged_tile m (IsSound format) (fresh_few format) slots is.sound in
-    let committed_most : m * length (committed_tiles slots) ≤ m * format.capacity = mul-le-mul_left m is.committed_room in
-    let staged_most : m * length (staged_tiles slots) ≤ m * format.capacity = mul-le-mul_left m is.staged_room in
-    let joined = length-append (reached (committed_tiles slots)) (flat_map fresh_pages slots) in
-    left_over free.total (length used) (len free.free) m format.capacity (length (committed_tiles slots)) (length (staged_tiles slots)) _ _ is.size all joined committed fresh committed_most staged_most
+    let tiles : m * length (staged_tiles slots) ≤ m * format.capacity = mul-le-mul_left m is.staged_room in
+    omega (arith, all_left format slots free is, fresh_parts slots, other_heights_few format before s after is.sound some, is.kept_room, tiles)

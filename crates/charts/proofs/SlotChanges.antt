@@ -1,14 +1,15 @@
 -- What a chart is once one slot has changed.
-use Rattle.std.proofs.Common.{◌≡◌, ℕ, suc, ◌+◌, ◌/◌, ◌≤◌, true, false, cond, not, IsTrue, List, [], ◌∷◌, ◌++◌, length, map, refl, sym, ap, subst, ◌∙◌, arith}
+use Rattle.std.proofs.Common.{◌≡◌, ℕ, suc, ◌+◌, ◌*◌, ◌/◌, ◌≤◌, true, false, cond, not, IsTrue, List, [], ◌∷◌, ◌++◌, length, map, refl, sym, ap, subst, ◌∙◌, arith}
 use Rattle.std.specs.Prelude.{Option, Some, None, IfSome, option_map}
-use Rattle.std.specs.List.{cons_option, AllByRecursion}
-use Rattle.std.proofs.lemmas.List.{length-set}
+use Rattle.std.specs.List.{cons_option, flat_map, AllByRecursion}
+use Rattle.std.proofs.lemmas.List.{length-append, length-set}
 use Rattle.std.proofs.lemmas.List.Elements.{filter_map-append}
 use Rattle.lattice.specs.Corners.{Corner, same_corner, is_corner}
 use Rattle.lattice.proofs.CornerOrder.{before_not_same, after_not_same, same_from}
 use Rattle.lattice.proofs.Rising.{AllAfter, Rising, rising_from, adjacent_from}
 use Rattle.page_alloc.specs.Pages.{PageSet}
 use Rattle.layout.specs.Formats.{Format}
+use Rattle.layout.specs.Sizes.{plane_pages_of}
 use Rattle.charts.specs.declared.locations.TilePlanes.{TilePlanes}
 use Rattle.charts.specs.declared.slot.Slot.{Slot}
 use Rattle.charts.specs.declared.staged.Staged.{Staged}
@@ -18,7 +19,7 @@ use Rattle.charts.specs.Locations.{times}
 use Rattle.charts.specs.FreePages.{free_times}
 use Rattle.charts.specs.TileLocations.{TileLocation}
 use Rattle.charts.specs.Charts.{ChartValue, IsFresh, IsWholeTile, IsRewritten, is_at, tile_at, with_page_location_in, with_page_location, without_location}
-use Rattle.charts.specs.Slots.{committed_tile, staged_as, staged_tile, committed_tiles, staged_tiles, fresh_pages, pages_of_location, is_filled_as, IsSound, AreCounted, IsKept, chart_of, IsRestaged, IsPageRestaged}
+use Rattle.charts.specs.Slots.{committed_tile, staged_as, staged_tile, committed_tiles, staged_tiles, fresh_kept, fresh_pages, pages_of_location, is_filled_as, IsSound, AreCounted, IsKept, chart_of, IsRestaged, IsPageRestaged}
 use Rattle.charts.proofs.Times.{times-append}
 use Rattle.charts.proofs.SlotLists.{times-split, counted_change, corner_of, rising_change, AllBefore, rising_before, rising_after, staged_own}
 use Rattle.charts.proofs.ChartRules.{fresh_page}
@@ -32,12 +33,19 @@ pub all_middle : (P : Slot → Type 0) (before : List Slot) (s : Slot) (after : 
 all_middle P [] s after all = all.0
 all_middle P (b ∷ before) s after all = all_middle P before s after all.1
 
-pub kept_change : (format : Format) (before : List Slot) (s new : Slot) (after : List Slot) (free now : PageSet)
+-- no more pages of kept planes are fresh where no more of the slot are
+pub no_more_kept : (before : List Slot) (s new : Slot) (after : List Slot) → length (fresh_kept new) ≤ length (fresh_kept s)
+    → length (flat_map fresh_kept (before ++ new ∷ after)) ≤ length (flat_map fresh_kept (before ++ s ∷ after))
+no_more_kept [] s new after fewer = omega (arith, fewer, length-append (fresh_kept new) (flat_map fresh_kept after), length-append (fresh_kept s) (flat_map fresh_kept after))
+no_more_kept (b ∷ before) s new after fewer =
+    omega (arith, no_more_kept before s new after fewer, length-append (fresh_kept b) (flat_map fresh_kept (before ++ new ∷ after)), length-append (fresh_kept b) (flat_map fresh_kept (before ++ s ∷ after)))
+
+pub kept_change_within : (format : Format) (before : List Slot) (s new : Slot) (after : List Slot) (free now : PageSet)
     → IsKept format (before ++ s ∷ after) free → new.corner ≡ s.corner → committed_tile new ≡ committed_tile s → IsSound format new
-    → length (staged_tiles (before ++ new ∷ after)) ≤ format.capacity → now.total ≡ free.total
+    → length (staged_tiles (before ++ new ∷ after)) ≤ format.capacity → length (flat_map fresh_kept (before ++ new ∷ after)) ≤ 2 * plane_pages_of format → now.total ≡ free.total
     → ((p : ℕ) → times p (fresh_pages new) + free_times now p ≡ times p (fresh_pages s) + free_times free p)
     → IsKept format (before ++ new ∷ after) now
-kept_change format before s new after free now is same_corner same_committed sound room same_total each = record {
+kept_change_within format before s new after free now is same_corner same_committed sound room kept_room same_total each = record {
   size = rw same_total is.size;
   fits = rw same_total is.fits;
   few = is.few;
@@ -50,10 +58,19 @@ kept_change format before s new after free now is same_corner same_committed sou
       ∙ sym (filter_map-append committed_tile before (s ∷ after))) in
       rw same is.committed_room);
   staged_room = room;
+  kept_room = kept_room;
   counted = counted_change before s after free is.counted new now same_total (λ p.
       (let committed = ap (λ (o : Option TileLocation). times p (pages_of_location o)) same_committed in
       omega (arith, committed, each p, times-append p (pages_of_location (committed_tile new)) (fresh_pages new), times-append p (pages_of_location (committed_tile s)) (fresh_pages s))));
 }
+
+pub kept_change : (format : Format) (before : List Slot) (s new : Slot) (after : List Slot) (free now : PageSet)
+    → IsKept format (before ++ s ∷ after) free → new.corner ≡ s.corner → committed_tile new ≡ committed_tile s → IsSound format new
+    → length (staged_tiles (before ++ new ∷ after)) ≤ format.capacity → length (fresh_kept new) ≤ length (fresh_kept s) → now.total ≡ free.total
+    → ((p : ℕ) → times p (fresh_pages new) + free_times now p ≡ times p (fresh_pages s) + free_times free p)
+    → IsKept format (before ++ new ∷ after) now
+kept_change format before s new after free now is same_corner same_committed sound room fewer same_total each =
+    kept_change_within format before s new after free now is same_corner same_committed sound room (omega (arith, is.kept_room, no_more_kept before s new after fewer)) same_total each
 
 pub same_committed : (s new : Slot) → new.corner ≡ s.corner → new.committed ≡ s.committed → committed_tile new ≡ committed_tile s
 same_committed s new corner committed = ap (λ (c : Corner). option_map (tile_at c) new.committed) corner ∙ ap (option_map (tile_at s.corner)) committed
@@ -166,7 +183,7 @@ chart_changed format before s new after free now total same tiles staged =
 
 -- ---- a page that may be written
 module _ (format : Format) (before : List Slot) (s new : Slot) (after : List Slot) (free now : PageSet) (is : IsKept format (before ++ s ∷ after) free)
-    (i page : ℕ) (staged : IsPageRestaged i page s new) (restaged : IsRestaged s new free now) where
+    (i page : ℕ) (staged : IsPageRestaged i page s new) (restaged : IsRestaged s new free now) (same_kept : fresh_kept new ≡ fresh_kept s) where
   rising : Rising corner_of (before ++ s ∷ after)
   rising = rising_from corner_of (before ++ s ∷ after) is.in_order
 
@@ -206,7 +223,7 @@ module _ (format : Format) (before : List Slot) (s new : Slot) (after : List Slo
   pub rewritten_kept : IsKept format (before ++ new ∷ after) now
   rewritten_kept =
       kept_change format before s new after free now is restaged.corner (same_committed s new restaged.corner restaged.committed) sound_now
-      (rw rewritten_tiles (rw (length-map rewrite (staged_tiles (before ++ s ∷ after))) is.staged_room)) restaged.same_total restaged.each
+      (rw rewritten_tiles (rw (length-map rewrite (staged_tiles (before ++ s ∷ after))) is.staged_room)) (let same = ap length same_kept in omega (arith, same)) restaged.same_total restaged.each
 
   pub rewritten : IsRewritten s.corner i page (chart_of format (before ++ s ∷ after) free) (chart_of format (before ++ new ∷ after) now)
   rewritten = record {

@@ -2,7 +2,8 @@
 use Rattle.std.proofs.Common.{◌≡◌, ℕ, suc, ◌+◌, ◌<◌, ◌≤◌, true, false, cond, List, [], ◌∷◌, ◌++◌, length, refl, sym, ap, subst, ◌∙◌, arith}
 use Rattle.std.specs.Prelude.{IsTrue, Option, Some, None, IfSome, All}
 use Rattle.std.specs.List.{cons_option, AllByRecursion, flat_map}
-use Rattle.std.proofs.lemmas.List.{length-append}
+use Rattle.std.proofs.lemmas.Bool.{false≢true}
+use Rattle.std.proofs.lemmas.List.{length-append, append-nil}
 use Rattle.std.proofs.lemmas.List.Elements.{filter_map-append}
 use Rattle.std.proofs.lemmas.Grind.{flat_map-append}
 use Rattle.lattice.specs.Corners.{Corner, is_before, is_corner}
@@ -17,10 +18,10 @@ use Rattle.charts.specs.declared.staged.HeightsStaged.TheVariants as of_heights
 use Rattle.charts.specs.declared.staged.KeptStaged.TheVariants as of_kept
 use Rattle.charts.specs.declared.staged.Staged.TheVariants.{Tile, Removed}
 use Rattle.charts.specs.Locations.{PlaneLocation, IsWholePlane, times, pages_behind, pages_of_plane}
-use Rattle.charts.specs.FreePages.{free_times, page_times, heights_pages, AreTaken}
+use Rattle.charts.specs.FreePages.{free_times, page_times, differing, heights_pages, AreTaken}
 use Rattle.charts.specs.TileLocations.{TileLocation, reached}
 use Rattle.charts.specs.Charts.{ChartValue, IsFresh, IsAdded, with_tile_location}
-use Rattle.charts.specs.Slots.{committed_tile, staged_as, staged_tile, committed_tiles, staged_tiles, fresh_as, fresh_pages, used_pages, pages_of_location, IsSound, IsKept, AreCounted, chart_of}
+use Rattle.charts.specs.Slots.{committed_tile, staged_as, staged_tile, committed_tiles, staged_tiles, fresh_kept, fresh_as, fresh_pages, used_pages, pages_of_location, is_filled_as, IsSound, IsKept, AreCounted, chart_of}
 use Rattle.charts.proofs.Times.{one, times-append, all_numbers, differing-apart, differing-nil}
 use Rattle.charts.proofs.SlotLists.{corner_of, AllBefore, rising_insert, rising_before, rising_after, reached_all, counted_at, staged_own}
 use Rattle.charts.proofs.SlotChanges.{all_middle, kept_change, chart_changed, slot_fresh}
@@ -40,12 +41,18 @@ all_insert : (P : Slot → Type 0) (before : List Slot) (new : Slot) (after : Li
 all_insert P [] new after here all = (here, all)
 all_insert P (b ∷ before) new after here all = (all.0, all_insert P before new after here all.1)
 
+-- no more pages of kept planes are fresh by a slot of which none are
+no_more_inserted : (before : List Slot) (new : Slot) (after : List Slot) → fresh_kept new ≡ [] → length (flat_map fresh_kept (before ++ new ∷ after)) ≡ length (flat_map fresh_kept (before ++ after))
+no_more_inserted [] new after none = ap (λ (l : List ℕ). length (l ++ flat_map fresh_kept after)) none
+no_more_inserted (b ∷ before) new after none =
+    omega (arith, no_more_inserted before new after none, length-append (fresh_kept b) (flat_map fresh_kept (before ++ new ∷ after)), length-append (fresh_kept b) (flat_map fresh_kept (before ++ after)))
+
 pub kept_insert : (format : Format) (before : List Slot) (new : Slot) (after : List Slot) (free now : PageSet)
     → IsKept format (before ++ after) free → AllBefore new.corner before → AllAfter corner_of new.corner after → IsSound format new
-    → length (committed_tiles (before ++ new ∷ after)) ≤ format.capacity → length (staged_tiles (before ++ new ∷ after)) ≤ format.capacity → now.total ≡ free.total
+    → length (committed_tiles (before ++ new ∷ after)) ≤ format.capacity → length (staged_tiles (before ++ new ∷ after)) ≤ format.capacity → fresh_kept new ≡ [] → now.total ≡ free.total
     → ((p : ℕ) → times p (used_pages new) + free_times now p ≡ free_times free p)
     → IsKept format (before ++ new ∷ after) now
-kept_insert format before new after free now is earlier later sound committed_room staged_room same_total each = record {
+kept_insert format before new after free now is earlier later sound committed_room staged_room none same_total each = record {
   size = rw same_total is.size;
   fits = rw same_total is.fits;
   few = is.few;
@@ -53,6 +60,7 @@ kept_insert format before new after free now is earlier later sound committed_ro
   sound = all_insert (IsSound format) before new after sound is.sound;
   committed_room = committed_room;
   staged_room = staged_room;
+  kept_room = omega (arith, is.kept_room, no_more_inserted before new after none);
   counted = λ p. (let total = ap (λ n. page_times n p) same_total in omega (arith, total, each p, counted_at p before new after, counted_joined p before after, is.counted p));
 }
 
@@ -120,7 +128,7 @@ module _ (format : Format) (before after : List Slot) (free now : PageSet) (is :
   new = new_slot c location
 
   new_pages : (p : ℕ) → times p (fresh_pages new) ≡ times p (pages_of_plane location)
-  new_pages p = ap (λ l. times p (location.record_page ∷ l)) (differing-nil (pages_behind location))
+  new_pages p = ap (λ l. times p (location.record_page ∷ l)) (append-nil (differing (pages_behind location) []) ∙ differing-nil (pages_behind location))
 
   apart_tiles : staged_tiles (before ++ after) ≡ staged_tiles before ++ staged_tiles after
   apart_tiles = filter_map-append staged_tile before after
@@ -131,7 +139,7 @@ module _ (format : Format) (before after : List Slot) (free now : PageSet) (is :
       (record { corner = degrees; committed = tt; staged = record { heights = whole; kept = tt }; filled = refl })
       (rw (filter_map-append committed_tile before (new ∷ after)) (rw (sym (filter_map-append committed_tile before after)) is.committed_room))
       (let more = added_length before new after earlier later (new_tile c location) refl refl in let same = ap length apart_tiles in omega arith)
-      taken.same_total
+      refl taken.same_total
       (λ p. omega (arith, new_pages p, taken.each p))
 
   pub is_added : IsTrue (is_corner c) → IsAdded c (chart_of format (before ++ after) free) (chart_of format (before ++ new ∷ after) now)
@@ -163,16 +171,17 @@ module _ (format : Format) (before : List Slot) (s : Slot) (after : List Slot) (
   later = rising_after before s after rising
 
   was_fresh : (p : ℕ) → times p (fresh_pages s) ≡ 0
-  was_fresh p = by s.corner s.committed s.staged none
+  was_fresh p = by s.corner s.committed s.staged none (all_middle (IsSound format) before s after is.sound).filled
     where
-      by : (d : Corner) (o : Option TilePlanes) (g : Staged) → staged_as d o g ≡ None → times p (fresh_as o g) ≡ 0
-      by d o (Tile of_heights.AsCommitted k) none = refl
-      by d o (Tile (of_heights.Fresh location) k) none = cc
-      by d o Removed none = refl
+      by : (d : Corner) (o : Option TilePlanes) (g : Staged) → staged_as d o g ≡ None → is_filled_as o g ≡ true → times p (fresh_as o g) ≡ 0
+      by d None (Tile of_heights.AsCommitted k) none filled = absurd (false≢true filled)
+      by d (Some planes) (Tile of_heights.AsCommitted k) none filled = cc
+      by d o (Tile (of_heights.Fresh location) k) none filled = cc
+      by d o Removed none filled = refl
 
   again_pages : (p : ℕ) → times p (fresh_pages again) ≡ times p (pages_of_plane location)
   again_pages p =
-      ap (λ l. times p (location.record_page ∷ l)) (differing-apart (pages_behind location) (heights_pages s.committed) (λ q. (
+      ap (λ l. times p (location.record_page ∷ l)) (append-nil (differing (pages_behind location) (heights_pages s.committed)) ∙ differing-apart (pages_behind location) (heights_pages s.committed) (λ q. (
       let here : one q location.record_page + times q (pages_behind location) + free_times now q ≡ free_times free q = taken.each q in
       omega (arith, apart q, here))))
 
@@ -184,7 +193,7 @@ module _ (format : Format) (before : List Slot) (s : Slot) (after : List Slot) (
       kept_change format before s again after free now is refl refl
       (record { corner = (all_middle (IsSound format) before s after is.sound).corner; committed = (all_middle (IsSound format) before s after is.sound).committed; staged = record { heights = whole; kept = tt }; filled = refl })
       (let more = added_length before again after earlier later (new_tile s.corner location) refl refl in let same = ap length old_tiles in omega arith)
-      taken.same_total
+      (omega arith) taken.same_total
       (λ p. omega (arith, again_pages p, was_fresh p, taken.each p))
 
   pub is_added_again : IsAdded s.corner (chart_of format (before ++ s ∷ after) free) (chart_of format (before ++ again ∷ after) now)

@@ -1,6 +1,6 @@
 -- One slot changed.
 use Rattle.std.proofs.Common.{◌≡◌, ℕ, ◌+◌, ◌/◌, ◌<◌, length, [], ◌∷◌, refl, sym, ap, subst, ◌∙◌, arith}
-use Rattle.std.specs.Prelude.{Option, Some, None, IsSome, is_some, option_map}
+use Rattle.std.specs.Prelude.{◌≤◌, Option, Some, None, IfSome, true, option_map, option_and_then}
 use Rattle.std.proofs.lemmas.Bool.{false≢true}
 use Rattle.lattice.specs.Corners.{Corner}
 use Rattle.page_alloc.specs.Pages.{PageSet}
@@ -11,14 +11,14 @@ use Rattle.charts.specs.declared.staged.HeightsStaged.TheVariants as of_heights
 use Rattle.charts.specs.declared.staged.KeptStaged.{KeptStaged}
 use Rattle.charts.specs.declared.staged.KeptStaged.TheVariants as of_kept
 use Rattle.charts.specs.declared.staged.Staged.{Staged}
-use Rattle.charts.specs.declared.staged.Staged.TheVariants.{Tile}
+use Rattle.charts.specs.declared.staged.Staged.TheVariants.{Tile, Removed}
 use Rattle.charts.specs.declared.locations.KeptLocations.{KeptLocations}
-use Rattle.charts.specs.Locations.{PlaneLocation, pages_behind, moved_plane, times}
+use Rattle.charts.specs.Locations.{PlaneLocation, pages_behind, pages_of_plane, moved_plane, times}
 use Rattle.charts.specs.FreePages.{free_times, page_times, differing, heights_pages, AreTaken, AreGiven, AreInUse, IsOwnedPage}
-use Rattle.charts.specs.StagedPlanes.{as_committed, heights_as, kept_as, with_heights, with_kept, fresh_heights_as, replaced_heights, replaced_kept}
+use Rattle.charts.specs.StagedPlanes.{as_committed, kept_as, with_heights, with_kept, fresh_heights_as, fresh_kept_as, replaced_heights, replaced_kept}
 use Rattle.charts.specs.TileLocations.{TileLocation, pages_of_kept}
 use Rattle.charts.specs.Charts.{tile_at}
-use Rattle.charts.specs.Slots.{committed_tile, staged_as, staged_tile, fresh_as, fresh_pages, pages_of_location, used_pages, IsRestaged, IsPageRestaged, IsKeptDropped, IsEndedAs}
+use Rattle.charts.specs.Slots.{committed_tile, staged_as, staged_tile, fresh_heights_in, fresh_heights, fresh_kept_in, fresh_kept, fresh_as, fresh_pages, pages_of_location, used_pages, is_filled_as, HasRoom, IsRestaged, IsPageRestaged, IsEndedAs}
 use Rattle.charts.proofs.Times.{one, one-self, times-append, differing-self, differing-swap, differing-nil}
 
 abbrev pub at_heights : Slot → PlaneLocation → KeptStaged → Slot
@@ -26,6 +26,13 @@ at_heights old location k = record { corner = old.corner; committed = old.commit
 
 abbrev pub unstaged : Slot → Slot
 unstaged old = record { corner = old.corner; committed = old.committed; staged = as_committed }
+
+-- the fresh pages are those of heights and those of kept planes
+pub fresh_split : (p : ℕ) (s : Slot) → times p (fresh_pages s) ≡ times p (fresh_heights s) + times p (fresh_kept s)
+fresh_split p s = times-append p (fresh_heights s) (fresh_kept s)
+
+pub fresh_at : (p : ℕ) (s : Slot) (h : HeightsStaged) (k : KeptStaged) → s.staged ≡ Tile h k → times p (fresh_pages s) ≡ times p (fresh_heights_as s.committed h) + times p (fresh_kept_as k)
+fresh_at p s h k is = ap (λ g. times p (fresh_as s.committed g)) is ∙ times-append p (fresh_heights_as s.committed h) (fresh_kept_as k)
 
 -- nothing has changed
 pub none_restaged : (old new : Slot) (was now : PageSet) → new ≡ old → now ≡ was → IsRestaged old new was now
@@ -48,8 +55,8 @@ page_restaged old location k new i page was now is owned =
       had = ap (staged_as old.corner old.committed) is;
       has = ap (λ (h : PlaneLocation). Some (record { corner = old.corner; heights = h; kept = kept_as old.committed k })) owned.moved;
       fresh_record = (let same : one location.record_page new.record_page ≡ one location.record_page location.record_page = ap (λ (h : PlaneLocation). one location.record_page h.record_page) owned.moved in omega (arith, same, one-self location.record_page));
-      fresh_index = λ below. omega (arith, owned.fresh_index below);
-      fresh_page = omega (arith, owned.fresh_page);
+      fresh_index = λ below. omega (arith, owned.fresh_index below, fresh_at owned.index_page (at_heights old new k) (of_heights.Fresh new) k refl);
+      fresh_page = omega (arith, owned.fresh_page, fresh_at page (at_heights old new k) (of_heights.Fresh new) k refl);
     }
 
 pub heights_restaged : (old : Slot) (location : PlaneLocation) (k : KeptStaged) (new : PlaneLocation) (i page : ℕ) (was now : PageSet)
@@ -60,9 +67,10 @@ heights_restaged old location k new i page was now is owned = record {
   committed = refl;
   same_total = owned.same_total;
   each = λ p.
-      let before : times p (fresh_pages old) ≡ times p (fresh_as old.committed (Tile (of_heights.Fresh location) k)) = ap (λ s. times p (fresh_as old.committed s)) is in
+      let before = fresh_at p old (of_heights.Fresh location) k is in
+      let after = fresh_at p (at_heights old new k) (of_heights.Fresh new) k refl in
       let same : one p new.record_page ≡ one p location.record_page = ap (λ (h : PlaneLocation). one p h.record_page) owned.moved in
-      omega (arith, before, same, owned.each p);
+      omega (arith, before, after, same, owned.each p);
 }
 
 -- the first page of committed heights: they are copied first
@@ -81,9 +89,10 @@ module _ (old : Slot) (planes : TilePlanes) (copy location : PlaneLocation) (k :
         let behind : pages_behind copy ≡ heights_pages old.committed = ap pages_behind copied ∙ sym (ap heights_pages some) in
         let none : times p (differing (pages_behind copy) (heights_pages old.committed)) ≡ 0 =
         ap (λ l. times p (differing l (heights_pages old.committed))) behind ∙ ap (times p) (differing-self (heights_pages old.committed)) in
-        let before : times p (fresh_pages old) ≡ 0 = ap (λ s. times p (fresh_as old.committed s)) is in
+        let before = fresh_at p old of_heights.AsCommitted k is in
+        let after = fresh_at p (at_heights old location k) (of_heights.Fresh location) k refl in
         let same : one p location.record_page ≡ one p copy.record_page = ap (one p) record_is in
-        omega (arith, none, before, same, owned.each p, taken.each p);
+        omega (arith, none, before, after, same, owned.each p, taken.each p);
   }
 
   pub first_page : IsPageRestaged i page old (at_heights old location k)
@@ -96,22 +105,52 @@ module _ (old : Slot) (planes : TilePlanes) (copy location : PlaneLocation) (k :
         ap (λ (h : PlaneLocation). Some (record { corner = old.corner; heights = h; kept = kept_as old.committed k })) (owned.moved ∙ ap (moved_plane i page owned.index_page copy.record_page) copied)
         ∙ ap (λ (o : Option TilePlanes). Some (record { corner = old.corner; heights = moved_plane i page owned.index_page copy.record_page planes.heights; kept = kept_as o k })) some;
     fresh_record = (let same = ap (one copy.record_page) record_is in omega (arith, same, one-self copy.record_page));
-    fresh_index = λ below. omega (arith, owned.fresh_index (subst (λ (h : PlaneLocation). i / 1024 < length h.index_pages) (sym copied) below));
-    fresh_page = omega (arith, owned.fresh_page);
+    fresh_index = λ below. omega (arith, owned.fresh_index (subst (λ (h : PlaneLocation). i / 1024 < length h.index_pages) (sym copied) below), fresh_at owned.index_page (at_heights old location k) (of_heights.Fresh location) k refl);
+    fresh_page = omega (arith, owned.fresh_page, fresh_at page (at_heights old location k) (of_heights.Fresh location) k refl);
   }
+
+-- ---- room for pages of heights
+pub fresh_room : (s : Slot) (location : PlaneLocation) (k : KeptStaged) (left : ℕ) → s.staged ≡ Tile (of_heights.Fresh location) k → HasRoom s left
+    → length (pages_behind location) ≤ length (differing (pages_behind location) (heights_pages s.committed)) + left
+fresh_room s location k left is room =
+    let there : IfSome (staged_as s.corner s.committed (Tile (of_heights.Fresh location) k)) (λ t. length (pages_of_plane t.heights) ≤ length (fresh_heights_in s.committed (Tile (of_heights.Fresh location) k)) + left) =
+    subst (λ (g : Staged). IfSome (staged_as s.corner s.committed g) (λ t. length (pages_of_plane t.heights) ≤ length (fresh_heights_in s.committed g) + left)) is room in
+    omega (arith, there)
+
+module _ (s : Slot) (planes : TilePlanes) (k : KeptStaged) (left : ℕ) (is : s.staged ≡ Tile of_heights.AsCommitted k) (some : s.committed ≡ Some planes) (room : HasRoom s left) where
+  pub first_room : length (pages_of_plane planes.heights) ≤ left
+  first_room =
+      let there : IfSome (staged_as s.corner s.committed (Tile of_heights.AsCommitted k)) (λ t. length (pages_of_plane t.heights) ≤ 0 + left) =
+      subst (λ (g : Staged). IfSome (staged_as s.corner s.committed g) (λ t. length (pages_of_plane t.heights) ≤ length (fresh_heights_in s.committed g) + left)) is room in
+      let here : IfSome (staged_as s.corner (Some planes) (Tile of_heights.AsCommitted k)) (λ t. length (pages_of_plane t.heights) ≤ 0 + left) =
+      subst (λ (o : Option TilePlanes). IfSome (staged_as s.corner o (Tile of_heights.AsCommitted k)) (λ t. length (pages_of_plane t.heights) ≤ 0 + left)) some there in
+      omega (arith, here)
+
+  pub copy_room : (copy : PlaneLocation) (after : ℕ) → copy ≡ record (planes.heights) { record_page = copy.record_page } → after + 1 ≡ left
+      → length (pages_behind copy) ≤ length (differing (pages_behind copy) (heights_pages s.committed)) + after
+  copy_room copy after copied fewer = let behind : length (pages_behind copy) ≡ length (pages_behind planes.heights) = ap (λ (h : PlaneLocation). length (pages_behind h)) copied in omega (arith, behind, first_room, fewer)
 
 -- ---- what is staged ends
 -- the pages of the staged tile, with those that it does without, are the committed ones and the fresh ones
 pub replaced_count : (p : ℕ) (c : Corner) (committed : Option TilePlanes) (h : HeightsStaged) (k : KeptStaged)
-    → times p (pages_of_location (staged_as c committed (Tile h k))) + times p (replaced_heights committed h) + times p (replaced_kept committed k)
-    ≡ times p (pages_of_location (option_map (tile_at c) committed)) + times p (fresh_heights_as committed h)
+    → times p (pages_of_location (staged_as c committed (Tile h k))) + times p (replaced_heights committed h) + times p (replaced_kept (with_heights committed h) k)
+    ≡ times p (pages_of_location (option_map (tile_at c) committed)) + (times p (fresh_heights_as committed h) + times p (fresh_kept_as k))
 replaced_count p c None of_heights.AsCommitted of_kept.AsCommitted = refl
 replaced_count p c None of_heights.AsCommitted of_kept.Dropped = refl
+replaced_count p c None of_heights.AsCommitted (of_kept.Fresh kept) = omega arith
 replaced_count p c None (of_heights.Fresh location) of_kept.AsCommitted = let whole = ap (times p) (differing-nil (pages_behind location)) in let joined = times-append p (pages_behind location) [] in omega arith
 replaced_count p c None (of_heights.Fresh location) of_kept.Dropped = let whole = ap (times p) (differing-nil (pages_behind location)) in let joined = times-append p (pages_behind location) [] in omega arith
+replaced_count p c None (of_heights.Fresh location) (of_kept.Fresh kept) =
+    let whole = ap (times p) (differing-nil (pages_behind location)) in
+    let joined = times-append p (pages_behind location) (pages_of_kept (Some kept)) in
+    omega arith
 replaced_count p c (Some was) of_heights.AsCommitted of_kept.AsCommitted = omega arith
 replaced_count p c (Some was) of_heights.AsCommitted of_kept.Dropped =
     let new = times-append p (pages_behind was.heights) [] in
+    let old = times-append p (pages_behind was.heights) (pages_of_kept was.kept) in
+    omega arith
+replaced_count p c (Some was) of_heights.AsCommitted (of_kept.Fresh kept) =
+    let new = times-append p (pages_behind was.heights) (pages_of_kept (Some kept)) in
     let old = times-append p (pages_behind was.heights) (pages_of_kept was.kept) in
     omega arith
 replaced_count p c (Some was) (of_heights.Fresh location) of_kept.AsCommitted =
@@ -124,17 +163,11 @@ replaced_count p c (Some was) (of_heights.Fresh location) of_kept.Dropped =
     let old = times-append p (pages_behind was.heights) (pages_of_kept was.kept) in
     let swap = differing-swap p (pages_behind location) (pages_behind was.heights) in
     omega arith
-
--- the kept planes of the tile are those that it had, whatever its heights
-kept_with : (committed : Option TilePlanes) (h : HeightsStaged) (k : KeptStaged) → replaced_kept (with_heights committed h) k ≡ replaced_kept committed k
-kept_with None of_heights.AsCommitted of_kept.AsCommitted = refl
-kept_with None of_heights.AsCommitted of_kept.Dropped = refl
-kept_with None (of_heights.Fresh location) of_kept.AsCommitted = refl
-kept_with None (of_heights.Fresh location) of_kept.Dropped = refl
-kept_with (Some was) of_heights.AsCommitted of_kept.AsCommitted = refl
-kept_with (Some was) of_heights.AsCommitted of_kept.Dropped = refl
-kept_with (Some was) (of_heights.Fresh location) of_kept.AsCommitted = refl
-kept_with (Some was) (of_heights.Fresh location) of_kept.Dropped = refl
+replaced_count p c (Some was) (of_heights.Fresh location) (of_kept.Fresh kept) =
+    let new = times-append p (pages_behind location) (pages_of_kept (Some kept)) in
+    let old = times-append p (pages_behind was.heights) (pages_of_kept was.kept) in
+    let swap = differing-swap p (pages_behind location) (pages_behind was.heights) in
+    omega arith
 
 pub kept_stay : (planes : Option TilePlanes) → with_kept planes of_kept.AsCommitted ≡ planes
 kept_stay None = refl
@@ -145,23 +178,25 @@ tile_with : (c : Corner) (committed : Option TilePlanes) (h : HeightsStaged) (k 
 tile_with c None of_heights.AsCommitted k = refl
 tile_with c None (of_heights.Fresh location) of_kept.AsCommitted = refl
 tile_with c None (of_heights.Fresh location) of_kept.Dropped = refl
+tile_with c None (of_heights.Fresh location) (of_kept.Fresh kept) = refl
 tile_with c (Some was) of_heights.AsCommitted of_kept.AsCommitted = refl
 tile_with c (Some was) of_heights.AsCommitted of_kept.Dropped = refl
+tile_with c (Some was) of_heights.AsCommitted (of_kept.Fresh kept) = refl
 tile_with c (Some was) (of_heights.Fresh location) of_kept.AsCommitted = refl
 tile_with c (Some was) (of_heights.Fresh location) of_kept.Dropped = refl
+tile_with c (Some was) (of_heights.Fresh location) (of_kept.Fresh kept) = refl
 
 module _ (old : Slot) (h : HeightsStaged) (k : KeptStaged) (is : old.staged ≡ Tile h k) where
-  used_is : (p : ℕ) → times p (used_pages old) ≡ times p (pages_of_location (committed_tile old)) + times p (fresh_heights_as old.committed h)
-  used_is p = times-append p (pages_of_location (committed_tile old)) (fresh_pages old) ∙ ap (λ s. times p (pages_of_location (committed_tile old)) + times p (fresh_as old.committed s)) is
+  used_is : (p : ℕ) → times p (used_pages old) ≡ times p (pages_of_location (committed_tile old)) + (times p (fresh_heights_as old.committed h) + times p (fresh_kept_as k))
+  used_is p = times-append p (pages_of_location (committed_tile old)) (fresh_pages old) ∙ ap (λ n. times p (pages_of_location (committed_tile old)) + n) (fresh_at p old h k is)
 
   pub heights_in_use : (was : PageSet) → AreInUse (used_pages old) was → AreInUse (replaced_heights old.committed h) was
   heights_in_use was in_use p = omega (arith, in_use p, used_is p, replaced_count p old.corner old.committed h k)
 
   pub kept_in_use : (was mid : PageSet) → AreInUse (used_pages old) was → AreGiven (replaced_heights old.committed h) was mid → AreInUse (replaced_kept (with_heights old.committed h) k) mid
   kept_in_use was mid in_use given p =
-      let same = ap (times p) (kept_with old.committed h k) in
       let total = ap (λ n. page_times n p) given.same_total in
-      omega (arith, same, total, given.each p, in_use p, used_is p, replaced_count p old.corner old.committed h k)
+      omega (arith, total, given.each p, in_use p, used_is p, replaced_count p old.corner old.committed h k)
 
   pub settled : (planes : Option TilePlanes) (was mid now : PageSet) → planes ≡ with_kept (with_heights old.committed h) k
       → AreGiven (replaced_heights old.committed h) was mid → AreGiven (replaced_kept (with_heights old.committed h) k) mid now
@@ -173,37 +208,68 @@ module _ (old : Slot) (h : HeightsStaged) (k : KeptStaged) (is : old.staged ≡ 
     same_total = second.same_total ∙ first.same_total;
     each = λ p.
         let tile = ap (λ s. times p (pages_of_location (staged_as old.corner old.committed s))) is in
-        let same = ap (times p) (kept_with old.committed h k) in
-        omega (arith, tile, same, first.each p, second.each p, used_is p, replaced_count p old.corner old.committed h k);
+        omega (arith, tile, first.each p, second.each p, used_is p, replaced_count p old.corner old.committed h k);
   }
 
   pub fresh_in_use : (was : PageSet) → AreInUse (used_pages old) was → AreInUse (fresh_heights_as old.committed h) was
   fresh_in_use was in_use p = omega (arith, in_use p, used_is p)
 
-  pub given_up : (was now : PageSet) → AreGiven (fresh_heights_as old.committed h) was now → IsEndedAs (committed_tile old) old (unstaged old) was now
-  given_up was now given = record {
+  pub fresh_kept_in_use : (was mid : PageSet) → AreInUse (used_pages old) was → AreGiven (fresh_heights_as old.committed h) was mid → AreInUse (fresh_kept_as k) mid
+  fresh_kept_in_use was mid in_use given p = let total = ap (λ n. page_times n p) given.same_total in omega (arith, total, in_use p, used_is p, given.each p)
+
+  pub given_up : (was mid now : PageSet) → AreGiven (fresh_heights_as old.committed h) was mid → AreGiven (fresh_kept_as k) mid now → IsEndedAs (committed_tile old) old (unstaged old) was now
+  given_up was mid now first second = record {
     corner = refl;
     committed = refl;
     staged = refl;
-    same_total = given.same_total;
-    each = λ p. omega (arith, given.each p, used_is p);
+    same_total = second.same_total ∙ first.same_total;
+    each = λ p. omega (arith, first.each p, second.each p, used_is p);
   }
 
--- ---- the kept planes are dropped
-pub kept_dropped : (old : Slot) (h : HeightsStaged) (k : KeptStaged) → old.staged ≡ Tile h k → IsSome (staged_tile old)
-    → IsKeptDropped old (record { corner = old.corner; committed = old.committed; staged = Tile h of_kept.Dropped })
-kept_dropped old h k is some = by (heights_as old.committed h) refl
-  where
-    with_planes : Option KeptLocations → PlaneLocation → TileLocation
-    with_planes kept location = record { corner = old.corner; heights = location; kept = kept }
+  -- the kept planes are staged otherwise
+  abbrev pub at_kept : KeptStaged → Slot
+  at_kept j = record { corner = old.corner; committed = old.committed; staged = Tile h j }
 
-    by : (o : Option PlaneLocation) → heights_as old.committed h ≡ o → IsKeptDropped old (record { corner = old.corner; committed = old.committed; staged = Tile h of_kept.Dropped })
-    by None at = absurd (false≢true (sym (ap (λ (g : Staged). is_some (staged_as old.corner old.committed g)) is ∙ ap (λ (l : Option PlaneLocation). is_some (option_map (with_planes (kept_as old.committed k)) l)) at) ∙ some))
-    by (Some location) at = record {
-      tile = with_planes (kept_as old.committed k) location;
-      corner = refl;
-      committed = refl;
-      had = ap (staged_as old.corner old.committed) is ∙ ap (option_map (with_planes (kept_as old.committed k))) at;
-      has = ap (option_map (with_planes None)) at;
-      same_fresh = sym (ap (fresh_as old.committed) is);
-    }
+  pub staged_kept_in_use : (was : PageSet) → AreInUse (used_pages old) was → AreInUse (fresh_kept_as k) was
+  staged_kept_in_use was in_use p = omega (arith, in_use p, used_is p)
+
+  pub dropped_restaged : (was now : PageSet) → AreGiven (fresh_kept_as k) was now → IsRestaged old (at_kept of_kept.Dropped) was now
+  dropped_restaged was now given = record {
+    corner = refl;
+    committed = refl;
+    same_total = given.same_total;
+    each = λ p. omega (arith, given.each p, fresh_at p old h k is, fresh_at p (at_kept of_kept.Dropped) h of_kept.Dropped refl);
+  }
+
+  pub anew_restaged : (locations : KeptLocations) (was now : PageSet) → fresh_kept old ≡ [] → AreTaken (pages_of_kept (Some locations)) was now → IsRestaged old (at_kept (of_kept.Fresh locations)) was now
+  anew_restaged locations was now none taken = record {
+    corner = refl;
+    committed = refl;
+    same_total = taken.same_total;
+    each = λ p.
+        let before = ap (times p) none in
+        let same = ap (λ g. times p (fresh_kept_in g)) is in
+        omega (arith, before, same, taken.each p, fresh_at p old h k is, fresh_at p (at_kept (of_kept.Fresh locations)) h (of_kept.Fresh locations) refl);
+  }
+
+-- the kept planes that are staged are the tile's
+pub kept_is_staged : (s : Slot) (h : HeightsStaged) (locations : KeptLocations) → s.staged ≡ Tile h (of_kept.Fresh locations) → is_filled_as s.committed s.staged ≡ true
+    → Some locations ≡ option_and_then (λ (t : TileLocation). t.kept) (staged_tile s)
+kept_is_staged s h locations is filled =
+    by s.committed h (subst (λ (g : Staged). is_filled_as s.committed g ≡ true) is filled)
+    ∙ sym (ap (λ (g : Staged). option_and_then (λ (t : TileLocation). t.kept) (staged_as s.corner s.committed g)) is)
+  where
+    by : (o : Option TilePlanes) (h : HeightsStaged) → is_filled_as o (Tile h (of_kept.Fresh locations)) ≡ true
+        → Some locations ≡ option_and_then (λ (t : TileLocation). t.kept) (staged_as s.corner o (Tile h (of_kept.Fresh locations)))
+    by None of_heights.AsCommitted filled = absurd (false≢true filled)
+    by (Some planes) of_heights.AsCommitted filled = refl
+    by o (of_heights.Fresh location) filled = refl
+
+-- a slot that was given up stages no tile
+pub removed_restaged : (old mid : Slot) (was now : PageSet) → IsEndedAs (committed_tile old) old mid was now → mid.committed ≡ old.committed → IsRestaged old (record mid { staged = Removed }) was now
+removed_restaged old mid was now ended committed = record {
+  corner = ended.corner;
+  committed = committed;
+  same_total = ended.same_total;
+  each = λ p. omega (arith, ended.each p, times-append p (pages_of_location (committed_tile old)) (fresh_pages old));
+}

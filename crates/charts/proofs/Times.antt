@@ -77,6 +77,39 @@ differing-set p (a ∷ xs) (b ∷ ys) (suc i) x below within same other = elim (
   | inr apart ↦ rw (ne_eqb a b apart) (let rest = differing-set p xs ys i x (omega arith) (omega arith) same other in omega arith)
 ]
 
+pub length-differing-set : (xs ys : List ℕ) (i x : ℕ) → i < length xs → i < length ys → get_or xs i 0 ≡ get_or ys i 0 → x ≢ get_or ys i 0
+    → length (differing (slice_set xs i x) ys) ≡ length (differing xs ys) + 1
+length-differing-set [] ys i x below within same other = absurd (omega arith)
+length-differing-set (a ∷ xs) [] i x below within same other = absurd (omega arith)
+length-differing-set (a ∷ xs) (b ∷ ys) zero x below within same other = rw (ne_eqb x b other, eq-eqb a b same) (omega arith)
+length-differing-set (a ∷ xs) (b ∷ ys) (suc i) x below within same other = elim (cases_eq a b) [
+  | inl alike ↦ rw (eq-eqb a b alike) (length-differing-set xs ys i x (omega arith) (omega arith) same other)
+  | inr apart ↦ rw (ne_eqb a b apart) (let rest = length-differing-set xs ys i x (omega arith) (omega arith) same other in omega arith)
+]
+
+-- where the lists have the same number at an index, fewer differ than there are
+pub differing-less : (xs ys : List ℕ) (i : ℕ) → i < length xs → i < length ys → get_or xs i 0 ≡ get_or ys i 0 → length (differing xs ys) < length xs
+differing-less [] ys i below within same = absurd (omega arith)
+differing-less (a ∷ xs) [] i below within same = absurd (omega arith)
+differing-less (a ∷ xs) (b ∷ ys) zero below within same = rw (eq-eqb a b same) (let rest = length-differing xs ys in omega arith)
+differing-less (a ∷ xs) (b ∷ ys) (suc i) below within same =
+    let rest = differing-less xs ys i (omega arith) (omega arith) same in
+    elim (cases_eq a b) [
+      | inl alike ↦ rw (eq-eqb a b alike) (omega arith)
+      | inr apart ↦ rw (ne_eqb a b apart) (omega arith)
+    ]
+
+-- those that differ are among all
+pub differing-le : (p : ℕ) (xs ys : List ℕ) → times p (differing xs ys) ≤ times p xs
+differing-le p [] ys = omega arith
+differing-le p (x ∷ xs) [] = omega arith
+differing-le p (x ∷ xs) (y ∷ ys) =
+    let rest = differing-le p xs ys in
+    elim (cases_eq x y) [
+      | inl same ↦ rw (eq-eqb x y same) (omega arith)
+      | inr other ↦ rw (ne_eqb x y other) (omega arith)
+    ]
+
 -- a number that stands at different locations is one of those that differ
 pub differing-has : (xs ys : List ℕ) (i : ℕ) → i < length xs → (i < length ys → get_or xs i 0 ≢ get_or ys i 0) → 1 ≤ times (get_or xs i 0) (differing xs ys)
 differing-has [] ys i below apart = absurd (omega arith)
@@ -135,6 +168,10 @@ times_of_member xs p (i, below, here) = let P : ℕ → Type 0 = λ q. 1 ≤ tim
 
 pub all_numbers : (P : ℕ → Type 0) (xs : List ℕ) → ((p : ℕ) → 1 ≤ times p xs → P p) → All P xs
 all_numbers P xs each i d below = each (get_or xs i d) (has_at xs i d below)
+
+pub empty_of_times : (xs : List ℕ) → ((p : ℕ) → times p xs ≡ 0) → xs ≡ []
+empty_of_times [] none = refl
+empty_of_times (x ∷ xs) none = let here : one x x + times x xs ≡ 0 = none x in absurd (omega (arith, here, one-self x))
 
 pub member_of_times : (xs : List ℕ) (p : ℕ) → 1 ≤ times p xs → Contains xs p
 member_of_times [] p some = absurd (omega arith)

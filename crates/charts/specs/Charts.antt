@@ -8,7 +8,7 @@ use Rattle.layout.specs.Sizes.{index_pages_of, sectors_asked}
 use Rattle.charts.specs.declared.locations.KeptLocations.{KeptLocations}
 use Rattle.charts.specs.declared.locations.TilePlanes.{TilePlanes}
 use Rattle.charts.specs.Locations.{PlaneLocation, IsWholePlane, moved_plane, pages_of_plane}
-use Rattle.charts.specs.TileLocations.{TileLocation, KeepsPageRule, reached}
+use Rattle.charts.specs.TileLocations.{TileLocation, KeepsPageRule, pages_of_kept, reached}
 
 -- the disk's sectors and the format of its store; the tiles as committed and as staged
 pub record ChartValue : Type 0 where
@@ -64,10 +64,10 @@ pub record IsFresh (chart : ChartValue) (p : ℕ) : Type 0 where
   pub unreached : ¬ Contains (reached chart.committed) p
 
 -- what a staged tile is: a committed one but for its kept planes, or with a fresh record of its heights; and any kept
--- planes are a committed tile's
+-- planes are a committed tile's, or on fresh pages alone
 pub record IsStagedIn (chart : ChartValue) (t : TileLocation) : Type 0 where
   pub settled : Contains (map (λ (u : TileLocation). record u { kept = t.kept }) chart.committed) t ⊎ IsFresh chart t.heights.record_page
-  pub kept : IsSome t.kept → Contains (map (λ u. u.kept) chart.committed) t.kept
+  pub kept : IsSome t.kept → Contains (map (λ u. u.kept) chart.committed) t.kept ⊎ All (IsFresh chart) (pages_of_kept t.kept)
 
 pub record IsChart (chart : ChartValue) : Type 0 where
   pub size : sectors_asked chart.format ≤ chart.sectors
@@ -114,6 +114,13 @@ without_kept_in c t = if is_at c t then record t { kept = None } else t
 abbrev pub without_kept : Corner → List TileLocation → List TileLocation
 without_kept c tiles = map (without_kept_in c) tiles
 
+-- the tile with these kept planes, if it is the corner's
+abbrev pub with_kept_locations_in : Corner → KeptLocations → TileLocation → TileLocation
+with_kept_locations_in c locations t = if is_at c t then record t { kept = Some locations } else t
+
+abbrev pub with_kept_locations : Corner → KeptLocations → List TileLocation → List TileLocation
+with_kept_locations c locations tiles = map (with_kept_locations_in c locations) tiles
+
 -- the tile with page i of its heights there, and its index page and their record too, if it is the corner's
 abbrev pub with_page_location_in : (c : Corner) (i page index_page record_page : ℕ) → TileLocation → TileLocation
 with_page_location_in c i page index_page record_page t =
@@ -151,3 +158,10 @@ pub record IsAdded (c : Corner) (old new : ChartValue) : Type 0 where
   pub whole : IsWholePlane old.format location
   pub fresh : All (IsFresh new) (pages_of_plane location)
   pub changed : new ≡ record old { staged = with_tile_location (record { corner = c; heights = location; kept = None }) old.staged }
+
+-- the corner's tile has its levels and labels on fresh pages, and nothing else has changed
+pub record AreKept (c : Corner) (old new : ChartValue) : Type 0 where
+  pub locations : KeptLocations
+  pub whole : AreWholeKept old.format locations
+  pub fresh : All (IsFresh new) (pages_of_kept (Some locations))
+  pub changed : new ≡ record old { staged = with_kept_locations c locations old.staged }

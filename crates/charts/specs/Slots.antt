@@ -1,23 +1,24 @@
 -- How a chart is kept: a slot for each corner that has a committed or a staged tile.
-use Rattle.std.specs.Prelude.{◌≡◌, ℕ, ◌+◌, ◌≤◌, ◌<◌, ◌/◌, ◌^◌, true, false, Bool, ◌||◌, IsTrue, List, [], ◌++◌, length, Option, Some, None, IfSome, is_some, slice_index_or}
+use Rattle.std.specs.Prelude.{◌≡◌, ℕ, ◌+◌, ◌*◌, ◌≤◌, ◌<◌, ◌/◌, ◌^◌, true, false, Bool, ◌||◌, IsTrue, List, [], ◌++◌, length, Option, Some, None, IfSome, is_some, slice_index_or}
 use Rattle.std.specs.Option.{option_map}
 use Rattle.std.specs.List.{HoldsAt, AllWithin, filter_map, flat_map, AllByRecursion, AllAdjacentBelow}
 use Rattle.lattice.specs.Corners.{Corner, is_corner}
 use Rattle.lattice.specs.Lattice.{IsBefore}
 use Rattle.page_alloc.specs.Pages.{PageSet}
 use Rattle.layout.specs.Formats.{Format}
-use Rattle.layout.specs.Sizes.{sectors_asked}
+use Rattle.layout.specs.Sizes.{plane_pages_of, sectors_asked}
+use Rattle.charts.specs.declared.locations.KeptLocations.{KeptLocations}
 use Rattle.charts.specs.declared.locations.TilePlanes.{TilePlanes}
 use Rattle.charts.specs.declared.slot.Slot.{Slot}
 use Rattle.charts.specs.declared.slot.Ending.{Ending}
 use Rattle.charts.specs.declared.slot.Ending.TheVariants.{Committed, GivenUp}
 use Rattle.charts.specs.declared.staged.Staged.{Staged}
 use Rattle.charts.specs.declared.staged.Staged.TheVariants.{Tile, Removed}
-use Rattle.charts.specs.Locations.{moved_plane, times}
+use Rattle.charts.specs.Locations.{moved_plane, pages_of_plane, times}
 use Rattle.charts.specs.FreePages.{free_times, page_times}
-use Rattle.charts.specs.StagedPlanes.{as_committed, heights_as, kept_as, fresh_heights_as, has_fresh_heights}
-use Rattle.charts.specs.TileLocations.{TileLocation, pages_of_tile, reached}
-use Rattle.charts.specs.Charts.{ChartValue, tile_at, IsWholeTile}
+use Rattle.charts.specs.StagedPlanes.{as_committed, heights_as, kept_as, fresh_heights_as, fresh_kept_as, has_fresh_heights}
+use Rattle.charts.specs.TileLocations.{TileLocation, pages_of_kept, pages_of_tile, reached}
+use Rattle.charts.specs.Charts.{ChartValue, tile_at, AreWholeKept, IsWholeTile}
 
 -- the slot's tile as committed, and as staged
 abbrev pub committed_tile : Slot → Option TileLocation
@@ -36,10 +37,23 @@ committed_tiles slots = filter_map committed_tile slots
 abbrev pub staged_tiles : List Slot → List TileLocation
 staged_tiles slots = filter_map staged_tile slots
 
--- the slot's pages that only its staged tile reaches
+-- the slot's pages that only its staged tile reaches: those of heights and those of kept planes
+abbrev pub fresh_heights_in : Option TilePlanes → Staged → List ℕ
+fresh_heights_in committed (Tile h k) = fresh_heights_as committed h
+fresh_heights_in committed Removed = []
+
+abbrev pub fresh_kept_in : Staged → List ℕ
+fresh_kept_in (Tile h k) = fresh_kept_as k
+fresh_kept_in Removed = []
+
+abbrev pub fresh_heights : Slot → List ℕ
+fresh_heights s = fresh_heights_in s.committed s.staged
+
+abbrev pub fresh_kept : Slot → List ℕ
+fresh_kept s = fresh_kept_in s.staged
+
 abbrev pub fresh_as : Option TilePlanes → Staged → List ℕ
-fresh_as committed (Tile h k) = fresh_heights_as committed h
-fresh_as committed Removed = []
+fresh_as committed g = fresh_heights_in committed g ++ fresh_kept_in g
 
 abbrev pub fresh_pages : Slot → List ℕ
 fresh_pages s = fresh_as s.committed s.staged
@@ -51,6 +65,10 @@ pages_of_location (Some t) = pages_of_tile t
 -- the pages of its committed and of its fresh ones
 abbrev pub used_pages : Slot → List ℕ
 used_pages s = pages_of_location (committed_tile s) ++ fresh_pages s
+
+-- with so many free pages there is room for all of its heights on pages of their own
+abbrev pub HasRoom : Slot → ℕ → Type 0
+HasRoom s left = IfSome (staged_tile s) (λ t. length (pages_of_plane t.heights) ≤ length (fresh_heights s) + left)
 
 -- its heights are staged
 abbrev pub stages_heights_as : Staged → Bool
@@ -87,14 +105,21 @@ pub record IsRecordRestaged (old new : Slot) : Type 0 where
   pub has : staged_tile new ≡ Some (record tile { heights = record (tile.heights) { record_page = record_page } })
   pub fresh_record : 1 ≤ times record_page (fresh_pages new)
 
--- the slot's tile has no kept planes; it is the same otherwise, and so are its fresh pages
+-- the slot's tile has no kept planes; it is the same otherwise
 pub record IsKeptDropped (old new : Slot) : Type 0 where
   pub tile : TileLocation
-  pub corner : new.corner ≡ old.corner
-  pub committed : new.committed ≡ old.committed
   pub had : staged_tile old ≡ Some tile
   pub has : staged_tile new ≡ Some (record tile { kept = None })
-  pub same_fresh : fresh_pages new ≡ fresh_pages old
+  pub none_fresh : fresh_kept new ≡ []
+
+-- the slot's tile has kept planes on fresh pages; it is the same otherwise
+pub record IsKeptAnew (format : Format) (old new : Slot) : Type 0 where
+  pub tile : TileLocation
+  pub locations : KeptLocations
+  pub whole : AreWholeKept format locations
+  pub had : staged_tile old ≡ Some tile
+  pub has : staged_tile new ≡ Some (record tile { kept = Some locations })
+  pub fresh : fresh_kept new ≡ pages_of_kept (Some locations)
 
 -- what is committed once what is staged has ended so
 abbrev pub ended_tile : Ending → Slot → Option TileLocation
@@ -139,6 +164,7 @@ pub record IsKept (format : Format) (slots : List Slot) (free : PageSet) : Type 
   pub sound : AllByRecursion (IsSound format) slots
   pub committed_room : length (committed_tiles slots) ≤ format.capacity
   pub staged_room : length (staged_tiles slots) ≤ format.capacity
+  pub kept_room : length (flat_map fresh_kept slots) ≤ 2 * plane_pages_of format
   pub counted : AreCounted slots free
 
 -- what a chart of these slots is

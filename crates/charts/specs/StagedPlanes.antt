@@ -27,6 +27,7 @@ heights_as committed (heights.Fresh location) = Some location
 abbrev pub kept_as : Option TilePlanes → KeptStaged → Option KeptLocations
 kept_as committed kept.AsCommitted = kept_of committed
 kept_as committed kept.Dropped = None
+kept_as committed (kept.Fresh locations) = Some locations
 
 -- the planes with these heights, and then with these kept planes
 abbrev pub with_heights : Option TilePlanes → HeightsStaged → Option TilePlanes
@@ -40,16 +41,28 @@ abbrev pub fresh_heights_as : Option TilePlanes → HeightsStaged → List ℕ
 fresh_heights_as committed heights.AsCommitted = []
 fresh_heights_as committed (heights.Fresh location) = location.record_page ∷ differing (pages_behind location) (heights_pages committed)
 
+-- the pages of the staged kept planes, of which no committed tile has any
+abbrev pub fresh_kept_as : KeptStaged → List ℕ
+fresh_kept_as kept.AsCommitted = []
+fresh_kept_as kept.Dropped = []
+fresh_kept_as (kept.Fresh locations) = pages_of_kept (Some locations)
+
 -- the pages that the committed heights have and the staged ones do without
 abbrev pub replaced_heights : Option TilePlanes → HeightsStaged → List ℕ
 replaced_heights None h = []
 replaced_heights (Some was) heights.AsCommitted = []
 replaced_heights (Some was) (heights.Fresh location) = was.heights.record_page ∷ differing (pages_behind was.heights) (pages_behind location)
 
--- the same of the kept planes
+-- the pages of kept planes that are done without where these are staged: those that the tile has or, without a tile, the
+-- staged ones themselves
+abbrev pub replaced_by : Option TilePlanes → Option KeptLocations → List ℕ
+replaced_by None staged = pages_of_kept staged
+replaced_by (Some was) staged = pages_of_kept was.kept
+
 abbrev pub replaced_kept : Option TilePlanes → KeptStaged → List ℕ
-replaced_kept committed kept.AsCommitted = []
-replaced_kept committed kept.Dropped = pages_of_kept (kept_of committed)
+replaced_kept planes kept.AsCommitted = []
+replaced_kept planes kept.Dropped = replaced_by planes None
+replaced_kept planes (kept.Fresh locations) = replaced_by planes (Some locations)
 
 abbrev pub has_fresh_heights : HeightsStaged → Bool
 has_fresh_heights heights.AsCommitted = false

@@ -49,7 +49,7 @@ impl Model for Chart {
 impl Chart {
     ghost use Rattle.charts.specs.Locations.{PlaneLocation};
     ghost use Rattle.charts.specs.TileLocations.{TileLocation, KeepsPageRule};
-    ghost use Rattle.charts.specs.Charts.{no_tiles_charted, IsChart, IsClean, IsLocated, HasHeights, HasKept, HasFreshHeights, is_unreached, IsRewritten, IsPrepared, IsAdded, IsWholeTile, tile_at, without_location, without_kept, corners_of_locations, fresh_corners};
+    ghost use Rattle.charts.specs.Charts.{no_tiles_charted, IsChart, IsClean, IsLocated, HasHeights, HasKept, HasFreshHeights, is_unreached, IsRewritten, IsPrepared, IsAdded, AreKept, IsWholeTile, tile_at, without_location, without_kept, corners_of_locations, fresh_corners};
     ghost use Rattle.charts.specs.Slots.{ended_chart};
     ghost use Rattle.charts.specs.Planes.{HasPlane, HasPlaneAt};
 
@@ -260,7 +260,7 @@ impl Chart {
         }
     }
 
-    /// Takes the corner's tile out. Its pages stay in use until the commit.
+    /// Takes the corner's tile out. The pages of the committed one stay in use until the commit.
     pub fn remove_tile(&mut self, c: Corner)
         requires present { IsLocated c self.old.staged }
         requires settled { ¬ HasFreshHeights c self.old }
@@ -270,13 +270,33 @@ impl Chart {
         match find(&self.slots, c) {
             Ok(at) => {
                 let slot = &mut self.slots[at];
-                slot.restage(Staged::Removed);
+                slot.remove(&mut self.free);
             }
             Err(_) => unreachable!(),
         }
     }
 
-    /// Stages the corner's tile without its kept planes. Their pages stay in use until the commit. Takes no memory.
+    /// Stages fresh pages for the levels and the labels of the corner's tile, where nothing is staged yet. Refused with
+    /// NoMemory.
+    pub fn keep(&mut self, c: Corner) -> Result<(), Refusal>
+        requires clean { IsClean self.old }
+        requires present { IsLocated c self.old.staged }
+        ensures kept { OnOk result (AreKept c self.old self.new) }
+        ensures refused { IfErr result (λ refusal. refusal ≡ NoMemory) }
+        ensures unchanged { OnErr result (self.new ≡ self.old) }
+        ensures rules { IsChart self.new }
+    {
+        match find(&self.slots, c) {
+            Ok(at) => {
+                let slot = &mut self.slots[at];
+                slot.keep(self.alloc, self.format, &mut self.free)
+            }
+            Err(_) => unreachable!(),
+        }
+    }
+
+    /// Stages the corner's tile without its kept planes. The pages of committed ones stay in use until the commit. Takes no
+    /// memory.
     pub fn drop_kept(&mut self, c: Corner)
         requires { IsLocated c self.old.staged }
         ensures dropped { self.new ≡ record (self.old) { staged = without_kept c self.old.staged } }
@@ -285,7 +305,7 @@ impl Chart {
         match find(&self.slots, c) {
             Ok(at) => {
                 let slot = &mut self.slots[at];
-                slot.drop_kept();
+                slot.drop_kept(&mut self.free);
             }
             Err(_) => unreachable!(),
         }

@@ -1,12 +1,13 @@
 //! Pages taken and given back, many at once.
-ghost use Rattle.std.specs.Prelude.{◌≡◌, ◌+◌, ◌<◌, ◌≤◌, ℕ, [], ◌∷◌, length, slice_index, IsTrue, ◌↔◌, IfOk, IfErr, OnErr};
+ghost use Rattle.std.specs.Prelude.{◌≡◌, ◌+◌, ◌*◌, ◌<◌, ◌≤◌, ℕ, [], ◌∷◌, length, slice_index, Some, IsTrue, ◌↔◌, IfOk, IfErr, OnErr};
 ghost use Rattle.std.specs.Bool.{OnTrue, OnFalse};
 ghost use Rattle.std.specs.FinSet as set;
 ghost use Rattle.lattice.specs.declared.refusal.Refusal.TheVariants.{NoMemory};
 ghost use Rattle.charts.specs.Locations.{times, pages_behind, pages_of_plane};
-ghost use Rattle.charts.specs.FreePages.{free_times, differing, pages_of_planes, AreTaken, AreGiven, AreInUse};
+ghost use Rattle.charts.specs.FreePages.{free_times, page_times, differing, pages_of_planes, AreTaken, AreGiven, AreInUse};
+ghost use Rattle.charts.specs.TileLocations.{pages_of_kept};
 
-use crate::locations::{PagedPlane, TilePlanes};
+use crate::locations::{KeptLocations, PagedPlane, TilePlanes};
 use lattice::Refusal;
 use page_alloc::Pages;
 use std::alloc::Global;
@@ -29,6 +30,7 @@ pub(crate) fn fresh_plane(
 ) -> Result<PagedPlane, Refusal>
     requires { index_pages + pages + 1 ≤ set.len free.old.free }
     ensures taken { IfOk result (λ plane. AreTaken (pages_of_plane plane) free.old free.new) }
+    ensures left { IfOk result (λ plane. set.len free.new.free + (index_pages + pages + 1) ≡ set.len free.old.free) }
     ensures index_pages { IfOk result (λ plane. length plane.index_pages ≡ index_pages) }
     ensures pages { IfOk result (λ plane. length plane.pages ≡ pages) }
     ensures refused { IfErr result (λ refusal. refusal ≡ NoMemory) }
@@ -40,6 +42,31 @@ pub(crate) fn fresh_plane(
         *page = take_page(free);
     }
     Ok(PagedPlane::new(take_page(free), behind, index_count))
+}
+
+/// Levels and labels of so many free index pages and so many free pages each.
+pub(crate) fn fresh_kept(
+    alloc: Global,
+    free: &mut Pages,
+    index_pages: u32,
+    pages: u32,
+) -> Result<KeptLocations, Refusal>
+    requires room { 2 * (index_pages + pages + 1) ≤ set.len free.old.free }
+    requires in_range { (p : ℕ) → free_times free.old p ≤ page_times free.old.total p }
+    ensures taken { IfOk result (λ kept. AreTaken (pages_of_kept (Some kept)) free.old free.new) }
+    ensures levels { IfOk result (λ kept. (length kept.levels.index_pages ≡ index_pages) × (length kept.levels.pages ≡ pages)) }
+    ensures labels { IfOk result (λ kept. (length kept.labels.index_pages ≡ index_pages) × (length kept.labels.pages ≡ pages)) }
+    ensures refused { IfErr result (λ refusal. refusal ≡ NoMemory) }
+    ensures unchanged { OnErr result (AreTaken [] free.old free.new) }
+{
+    let levels = fresh_plane(alloc, free, index_pages, pages)?;
+    match fresh_plane(alloc, free, index_pages, pages) {
+        Ok(labels) => Ok(KeptLocations { levels, labels }),
+        Err(refusal) => {
+            give_plane(free, &levels);
+            Err(refusal)
+        }
+    }
 }
 
 /// Gives back the pages that don't stand at the same index among the others.
@@ -68,6 +95,15 @@ pub(crate) fn give_plane(free: &mut Pages, plane: &PagedPlane)
 {
     free.give(plane.record_page());
     give_differing(free, plane.behind(), &[]);
+}
+
+/// Gives back all pages of the kept planes of a tile.
+pub(crate) fn give_kept(free: &mut Pages, kept: &KeptLocations)
+    requires { AreInUse (pages_of_kept (Some kept.now)) free.old }
+    ensures { AreGiven (pages_of_kept (Some kept.now)) free.old free.new }
+{
+    give_plane(free, &kept.levels);
+    give_plane(free, &kept.labels);
 }
 
 /// Takes the pages of a plane out of the free ones. False where they aren't all free, or not all distinct.

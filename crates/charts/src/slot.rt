@@ -1,17 +1,19 @@
 //! One tile of a chart.
-ghost use Rattle.std.specs.Prelude.{◌≡◌, ◌+◌, ◌<◌, ◌≤◌, ◌==◌, ◌↔◌, ℕ, [], ◌∷◌, length, take, true, IsSome, IsOk, IfOk, IfErr, IfSome, OnOk, OnErr, IsTrue, option_map, option_copied, option_and_then, slice_index};
+ghost use Rattle.std.specs.Prelude.{◌≡◌, ◌+◌, ◌*◌, ◌<◌, ◌≤◌, ◌==◌, ◌↔◌, ℕ, [], ◌∷◌, length, take, true, IsSome, IsOk, IfOk, IfErr, IfSome, OnOk, OnErr, IsTrue, option_map, option_copied, option_and_then, slice_index};
 ghost use Rattle.std.specs.FinSet as set;
+ghost use Rattle.layout.specs.Sizes.{plane_pages_of};
+ghost use Rattle.charts.specs.declared.staged.Staged.TheVariants.{Removed};
 ghost use Rattle.lattice.specs.declared.refusal.Refusal.TheVariants.{NoMemory};
 ghost use Rattle.charts.specs.Locations.{times, pages_behind, IsMovedBehind};
-ghost use Rattle.charts.specs.FreePages.{free_times, all_pages, heights_pages, AreTaken, AreGiven, AreInUse, IsOwned, IsOwnedPage};
-ghost use Rattle.charts.specs.StagedPlanes.{with_heights, with_kept, replaced_heights, replaced_kept};
+ghost use Rattle.charts.specs.FreePages.{free_times, page_times, all_pages, differing, heights_pages, AreTaken, AreGiven, AreInUse, IsOwned, IsOwnedPage};
+ghost use Rattle.charts.specs.StagedPlanes.{with_heights, with_kept, fresh_heights_as, fresh_kept_as, replaced_heights, replaced_kept};
 ghost use Rattle.charts.specs.TileLocations.{pages_of_kept};
 
 use crate::locations::{KeptLocations, PagedPlane, TilePlanes};
-use crate::pages::{give_differing, give_plane, stands_at, take_page};
+use crate::pages::{fresh_kept, give_differing, give_kept, give_plane, stands_at, take_page};
 use crate::staged::{HeightsStaged, KeptStaged, Staged};
 use lattice::{Corner, Refusal};
-use layout::RECORD_PAGES;
+use layout::{Format, RECORD_PAGES};
 use page_alloc::Pages;
 use std::alloc::Global;
 use std::mem;
@@ -34,7 +36,7 @@ pub(crate) enum Ending {
 }
 
 impl Slot {
-    ghost use Rattle.charts.specs.Slots.{committed_tile, staged_tile, fresh_pages, used_pages, pages_of_location, stages_heights, IsRestaged, IsPageRestaged, IsRecordRestaged, IsKeptDropped, IsEndedAs, ended_tile};
+    ghost use Rattle.charts.specs.Slots.{committed_tile, staged_tile, fresh_kept, used_pages, stages_heights, is_filled_as, HasRoom, IsRestaged, IsPageRestaged, IsRecordRestaged, IsKeptDropped, IsKeptAnew, IsEndedAs, ended_tile};
 
     /// Where the heights of its staged tile lie.
     pub(crate) fn heights(&self) -> Option<&PagedPlane>
@@ -67,6 +69,7 @@ impl Slot {
 
     /// Where the kept planes of its staged tile lie.
     pub(crate) fn kept(&self) -> Option<&KeptLocations>
+        requires { is_filled_as self.now.committed self.now.staged ≡ true }
         ensures { option_copied result ≡ option_and_then (λ t. t.kept) (staged_tile self.now) }
     {
         match &self.staged {
@@ -76,6 +79,7 @@ impl Slot {
                     None => None,
                 },
                 KeptStaged::Dropped => None,
+                KeptStaged::Fresh(locations) => Some(locations),
             },
             Staged::Removed => None,
         }
@@ -89,12 +93,13 @@ impl Slot {
         i: usize,
         free: &mut Pages,
     ) -> Result<u32, Refusal>
-        requires room { 3 ≤ set.len free.old.free }
+        requires room { HasRoom self.old (set.len free.old.free) }
         requires present { IsSome (staged_tile self.old) }
         requires index { IfSome (staged_tile self.old) (λ t. i < length t.heights.pages) }
         requires apart { (p : ℕ) → times p (heights_pages self.old.committed) + free_times free.old p ≤ 1 }
         ensures staged { IfOk result (λ page. IsPageRestaged i page self.old self.new) }
         ensures restaged { IsRestaged self.old self.new free.old free.new }
+        ensures same_kept { fresh_kept self.new ≡ fresh_kept self.old }
         ensures sure { stages_heights self.old ≡ true → IsOk result }
         ensures refused { IfErr result (λ refusal. refusal ≡ NoMemory) }
         ensures unchanged { OnErr result (self.new ≡ self.old) }
@@ -119,10 +124,11 @@ impl Slot {
 
     /// Stages the heights as they are, where they aren't staged yet: their record goes to a free page.
     pub(crate) fn prepare(&mut self, alloc: Global, free: &mut Pages) -> Result<(), Refusal>
-        requires room { 0 < set.len free.old.free }
+        requires room { HasRoom self.old (set.len free.old.free) }
         requires present { IsSome (staged_tile self.old) }
         ensures staged { OnOk result (IsRecordRestaged self.old self.new) }
         ensures restaged { IsRestaged self.old self.new free.old free.new }
+        ensures same_kept { fresh_kept self.new ≡ fresh_kept self.old }
         ensures refused { IfErr result (λ refusal. refusal ≡ NoMemory) }
         ensures unchanged { OnErr result (self.new ≡ self.old) }
     {
@@ -155,15 +161,52 @@ impl Slot {
         }
     }
 
-    /// Stages the tile without kept planes.
-    pub(crate) fn drop_kept(&mut self)
-        requires { IsSome (staged_tile self.old) }
-        ensures { IsKeptDropped self.old self.new }
+    /// Stages the tile with kept planes on free pages, where none are staged yet.
+    pub(crate) fn keep(
+        &mut self,
+        alloc: Global,
+        format: Format,
+        free: &mut Pages,
+    ) -> Result<(), Refusal>
+        requires room { 2 * plane_pages_of format ≤ set.len free.old.free }
+        requires present { IsSome (staged_tile self.old) }
+        requires none { fresh_kept self.old ≡ [] }
+        requires in_range { (p : ℕ) → free_times free.old p ≤ page_times free.old.total p }
+        ensures kept { OnOk result (IsKeptAnew format self.old self.new) }
+        ensures restaged { IsRestaged self.old self.new free.old free.new }
+        ensures refused { IfErr result (λ refusal. refusal ≡ NoMemory) }
+        ensures unchanged { OnErr result (self.new ≡ self.old) }
     {
-        match &mut self.staged {
-            Staged::Tile { kept, .. } => *kept = KeptStaged::Dropped,
-            Staged::Removed => unreachable!(),
-        }
+        let Staged::Tile { kept, .. } = &mut self.staged else {
+            unreachable!()
+        };
+        let locations = fresh_kept(alloc, free, format.index_pages(), format.data_pages())?;
+        *kept = KeptStaged::Fresh(locations);
+        Ok(())
+    }
+
+    /// Stages the tile without kept planes. Gives back the pages of those that were staged.
+    pub(crate) fn drop_kept(&mut self, free: &mut Pages)
+        requires present { IsSome (staged_tile self.old) }
+        requires in_use { AreInUse (used_pages self.old) free.old }
+        ensures dropped { IsKeptDropped self.old self.new }
+        ensures restaged { IsRestaged self.old self.new free.old free.new }
+    {
+        let Staged::Tile { kept, .. } = &mut self.staged else {
+            unreachable!()
+        };
+        let staged = mem::replace(kept, KeptStaged::Dropped);
+        give_staged_kept(free, &staged);
+    }
+
+    /// Stages no tile. Gives back the pages of what was staged.
+    pub(crate) fn remove(&mut self, free: &mut Pages)
+        requires { AreInUse (used_pages self.old) free.old }
+        ensures removed { self.new ≡ record (self.old) { staged = Removed } }
+        ensures restaged { IsRestaged self.old self.new free.old free.new }
+    {
+        self.give_up(free);
+        self.staged = Staged::Removed;
     }
 
     /// Stages the tile otherwise.
@@ -207,13 +250,10 @@ impl Slot {
         ensures committed { self.new.committed ≡ self.old.committed }
     {
         match mem::replace(&mut self.staged, Staged::none()) {
-            Staged::Tile { heights, .. } => match heights {
-                HeightsStaged::AsCommitted => (),
-                HeightsStaged::Fresh(location) => {
-                    free.give(location.record_page());
-                    give_differing(free, location.behind(), heights_in(&self.committed));
-                }
-            },
+            Staged::Tile { heights, kept } => {
+                give_staged_heights(free, &heights, &self.committed);
+                give_staged_kept(free, &kept);
+            }
             Staged::Removed => (),
         }
     }
@@ -226,6 +266,32 @@ fn heights_in(committed: &Option<TilePlanes>) -> &[u32]
     match committed {
         Some(planes) => planes.heights.behind(),
         None => &[],
+    }
+}
+
+/// Gives back the pages of staged heights that no committed tile has.
+fn give_staged_heights(free: &mut Pages, heights: &HeightsStaged, committed: &Option<TilePlanes>)
+    requires { AreInUse (fresh_heights_as committed.now heights.now) free.old }
+    ensures { AreGiven (fresh_heights_as committed.now heights.now) free.old free.new }
+{
+    match heights {
+        HeightsStaged::AsCommitted => (),
+        HeightsStaged::Fresh(location) => {
+            free.give(location.record_page());
+            give_differing(free, location.behind(), heights_in(committed));
+        }
+    }
+}
+
+/// Gives back the pages of staged kept planes.
+fn give_staged_kept(free: &mut Pages, kept: &KeptStaged)
+    requires { AreInUse (fresh_kept_as kept.now) free.old }
+    ensures { AreGiven (fresh_kept_as kept.now) free.old free.new }
+{
+    match kept {
+        KeptStaged::AsCommitted => (),
+        KeptStaged::Dropped => (),
+        KeptStaged::Fresh(locations) => give_kept(free, locations),
     }
 }
 
@@ -249,7 +315,7 @@ fn with_fresh_record(
 /// Page `i` of the plane, and the index page that lists it where there is one: each is moved to a free page where the
 /// committed plane has it at the same index.
 fn own_listed(location: &mut PagedPlane, committed: &[u32], i: usize, free: &mut Pages) -> u32
-    requires room { 2 ≤ set.len free.old.free }
+    requires room { length (pages_behind location.old) ≤ length (differing (pages_behind location.old) committed.now) + set.len free.old.free }
     requires index { i < length location.old.pages }
     requires apart { (p : ℕ) → times p committed.now + free_times free.old p ≤ 1 }
     ensures { IsOwnedPage committed.now i result location.old location.new free.old free.new }
@@ -264,12 +330,12 @@ fn own_listed(location: &mut PagedPlane, committed: &[u32], i: usize, free: &mut
 
 /// One of the pages behind a record, which is moved to a free page where the committed plane has it at the same index.
 fn own_page(location: &mut PagedPlane, committed: &[u32], at: usize, free: &mut Pages) -> u32
-    requires room { 0 < set.len free.old.free }
+    requires room { length (pages_behind location.old) ≤ length (differing (pages_behind location.old) committed.now) + set.len free.old.free }
     requires index { at < length (pages_behind location.old) }
     requires apart { (p : ℕ) → times p committed.now + free_times free.old p ≤ 1 }
     ensures moved { IsMovedBehind at result location.old location.new }
     ensures owned { IsOwned committed.now result (pages_behind location.old) (pages_behind location.new) free.old free.new }
-    ensures left { set.len free.old.free ≤ set.len free.new.free + 1 }
+    ensures left { length (pages_behind location.new) ≤ length (differing (pages_behind location.new) committed.now) + set.len free.new.free }
 {
     let page = location.behind()[at];
     if !stands_at(page, at, committed) {
@@ -307,25 +373,27 @@ fn settle_heights(
     })
 }
 
-/// The planes with the staged kept ones. Gives back the pages of the kept planes that it does without.
+/// The planes with the staged kept ones. Gives back the pages of the kept planes that it does without: without planes, those
+/// of the staged ones.
 fn settle_kept(planes: Option<TilePlanes>, kept: KeptStaged, free: &mut Pages) -> Option<TilePlanes>
     requires { AreInUse (replaced_kept planes kept) free.old }
     ensures planes { result ≡ with_kept planes kept }
     ensures given { AreGiven (replaced_kept planes kept) free.old free.new }
 {
-    match kept {
-        KeptStaged::AsCommitted => planes,
-        KeptStaged::Dropped => match planes {
-            Some(was) => {
-                give_kept(free, &was.kept);
-                Some(TilePlanes {
-                    heights: was.heights,
-                    kept: None,
-                })
-            }
-            None => None,
-        },
-    }
+    let kept = match kept {
+        KeptStaged::AsCommitted => return planes,
+        KeptStaged::Dropped => None,
+        KeptStaged::Fresh(locations) => Some(locations),
+    };
+    let Some(was) = planes else {
+        give_any_kept(free, &kept);
+        return None;
+    };
+    give_any_kept(free, &was.kept);
+    Some(TilePlanes {
+        heights: was.heights,
+        kept,
+    })
 }
 
 fn give_planes(free: &mut Pages, planes: &Option<TilePlanes>)
@@ -336,16 +404,15 @@ fn give_planes(free: &mut Pages, planes: &Option<TilePlanes>)
         return;
     };
     give_plane(free, &planes.heights);
-    give_kept(free, &planes.kept);
+    give_any_kept(free, &planes.kept);
 }
 
-fn give_kept(free: &mut Pages, kept: &Option<KeptLocations>)
+fn give_any_kept(free: &mut Pages, kept: &Option<KeptLocations>)
     requires { AreInUse (pages_of_kept kept.now) free.old }
     ensures { AreGiven (pages_of_kept kept.now) free.old free.new }
 {
-    let Some(kept) = kept else {
-        return;
-    };
-    give_plane(free, &kept.levels);
-    give_plane(free, &kept.labels);
+    match kept {
+        Some(kept) => give_kept(free, kept),
+        None => (),
+    }
 }

@@ -1,6 +1,6 @@
 //! What the next commit makes of a tile and of its planes.
 
-use crate::locations::PagedPlane;
+use crate::locations::{KeptLocations, PagedPlane};
 
 /// What the next commit makes of a tile's heights.
 #[derive(Drop)]
@@ -18,6 +18,8 @@ pub(crate) enum KeptStaged {
     AsCommitted,
     /// None are kept.
     Dropped,
+    /// They lie there, on pages that no committed tile reaches.
+    Fresh(KeptLocations),
 }
 
 /// What the next commit makes of a tile.

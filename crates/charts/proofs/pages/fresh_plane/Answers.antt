@@ -25,3 +25,7 @@ returns-clause-taken c =
     let items = with_items_is c.in_ok-behind.behind c.loop-page.page-items (omega (arith, c.loop-page.auto.page-items, c.deref_mut-page-items.ensures.len)) in
     rw (c.new.ensures, items, take-append-drop c.args.index_pages c.loop-page.page-items)
     (taken_plane _ _ _ _ _ _ (omega (arith, c.loop-page-test.false, c.loop-page.auto.page-items)) c.loop-page.invariant.0 c.take_page-2.ensures.taken)
+
+pub returns-clause-left : goal.returns-clause-left
+returns-clause-left c =
+    omega (arith, c.requires, c.loop-page.invariant.1, c.loop-page.invariant.2, c.take_page-2.ensures.left, c.loop-page-test.false, c.loop-page.auto.page-index-end, c.loop-page.auto.page-items)

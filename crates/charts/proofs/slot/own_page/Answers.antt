@@ -1,8 +1,9 @@
-use Rattle.std.proofs.Common.{◌≡◌, ◌≢◌, ◌<◌, length, get_or, refl, sym, ◌∙◌}
+use Rattle.std.proofs.Common.{◌≡◌, ◌≢◌, ◌<◌, length, get_or, refl, sym, ◌∙◌, arith}
 use Rattle.std.proofs.lemmas.Bool.{false≢true}
 use Rattle.std.proofs.lemmas.List.{set-get_or}
 use Rattle.charts.specs.Locations.{pages_behind}
-use Rattle.charts.proofs.Owning.{owned_already, owned_now}
+use Rattle.charts.proofs.Times.{differing-less}
+use Rattle.charts.proofs.Owning.{owned_already, owned_now, room_after}
 use Rattle.charts.proofs.slot.own_page.Goals as goal
 
 pub returns-then-not-stands_at-clause-moved : goal.returns-then-not-stands_at-clause-moved
@@ -25,3 +26,17 @@ returns-clause-owned c =
     let same : get_or (pages_behind c.args.location.now) c.args.at 0 ≡ get_or c.args.committed.now c.args.at 0 = rw (← c.behind.ensures) (sym there.1) in
     rw c.set_behind.ensures.moved
     (owned_now c.args.committed.now (pages_behind c.args.location.now) c.args.at c.take_page-page.result c.args.free.now c.take_page-page.new.free c.requires.index there.0 same c.requires.apart c.take_page-page.ensures.taken)
+
+pub take_page-page-requires : goal.take_page-page-requires
+take_page-page-requires c =
+    let there = c.stands_at.ensures.0 c.if-not-stands_at.false in
+    let same : get_or (pages_behind c.args.location.now) c.args.at 0 ≡ get_or c.args.committed.now c.args.at 0 = rw (← c.behind.ensures) (sym there.1) in
+    omega (arith, c.requires.room, differing-less (pages_behind c.args.location.now) c.args.committed.now c.args.at c.requires.index there.0 same)
+
+pub returns-clause-left : goal.returns-clause-left
+returns-clause-left c =
+    let there = c.stands_at.ensures.0 c.if-not-stands_at.false in
+    let same : get_or (pages_behind c.args.location.now) c.args.at 0 ≡ get_or c.args.committed.now c.args.at 0 = rw (← c.behind.ensures) (sym there.1) in
+    rw c.set_behind.ensures.moved
+    (room_after c.args.committed.now (pages_behind c.args.location.now) c.args.at c.take_page-page.result c.args.free.now c.take_page-page.new.free c.requires.index there.0 same c.requires.apart
+    c.take_page-page.ensures.taken c.take_page-page.ensures.left c.requires.room)

@@ -1,18 +1,15 @@
-use Rattle.std.proofs.Common.{ap, sym, subst, arith, set}
+use Rattle.std.proofs.Common.{ap, sym, subst, set}
 use Rattle.std.specs.Prelude.{IfOk}
-use Rattle.layout.specs.Sizes.{pages_of}
 use Rattle.charts.specs.Charts.{ChartValue, IsLocated, HasFreshHeights, IsRewritten}
 use Rattle.charts.specs.Slots.{IsSlotAt, IsRoomAt, chart_of, staged_tiles}
-use Rattle.charts.proofs.Room.{room_left}
 use Rattle.charts.proofs.ChartRules.{charted}
-use Rattle.charts.proofs.AtSlot.{present, index_within, apart, staged_before, kept_rewritten, is_rewritten, no_slot}
+use Rattle.charts.proofs.AtSlot.{present, room, index_within, apart, staged_before, kept_rewritten, is_rewritten, no_slot}
 use Rattle.charts.proofs.chart.Chart.page_for_writing.Goals as goal
 
 pub page_for_writing-requires-clause-room : goal.page_for_writing-requires-clause-room
 page_for_writing-requires-clause-room c =
-    let sides = ap (λ (v : ChartValue). pages_of v.format.side) c.self.view_is in
-    let left = room_left c.self.inside.format c.self.inside.slots.items c.self.inside.free c.self.invariant in
-    omega (arith, left, sides, c.requires.index)
+    let found : IsSlotAt c.args.c c.in-Ok.at c.self.inside.slots.items = rw c.deref.ensures.value at c.in-Ok.ensures.found in
+    room c.self.inside.format c.self.inside.slots.items c.self.inside.free c.self.invariant c.args.c c.in-Ok.at found c.index_mut-slot.result.now c.index_mut-slot.ensures.value
 
 pub page_for_writing-requires-clause-present : goal.page_for_writing-requires-clause-present
 page_for_writing-requires-clause-present c =
@@ -35,20 +32,20 @@ pub invariant_of-self : goal.invariant_of-self
 invariant_of-self c =
     let found : IsSlotAt c.args.c c.in-Ok.at c.self.inside.slots.items = rw c.deref.ensures.value at c.in-Ok.ensures.found in
     kept_rewritten c.self.inside.format c.self.inside.slots.items c.self.inside.free c.self.invariant c.args.c c.in-Ok.at found c.index_mut-slot.result.now c.index_mut-slot.ensures.value
-    c.page_for_writing.new.self c.page_for_writing.new.free c.args.i c.page_for_writing.result c.page_for_writing.ensures.staged c.page_for_writing.ensures.restaged c.page_for_writing.ensures.unchanged
+    c.page_for_writing.new.self c.page_for_writing.new.free c.args.i c.page_for_writing.result c.page_for_writing.ensures.staged c.page_for_writing.ensures.restaged c.page_for_writing.ensures.same_kept c.page_for_writing.ensures.unchanged
 
 pub unreachable-requires : goal.unreachable-requires
 unreachable-requires c =
-    let room : IsRoomAt c.args.c c.in-Err.field-0 c.self.inside.slots.items = rw c.deref.ensures.value at c.in-Err.ensures.absent in
+    let nowhere : IsRoomAt c.args.c c.in-Err.field-0 c.self.inside.slots.items = rw c.deref.ensures.value at c.in-Err.ensures.absent in
     let located : IsLocated c.args.c (staged_tiles c.self.inside.slots.items) = subst (λ (v : ChartValue). IsLocated c.args.c v.staged) (sym c.self.view_is) c.requires.present in
-    no_slot c.args.c c.in-Err.field-0 c.self.inside.slots.items room located
+    no_slot c.args.c c.in-Err.field-0 c.self.inside.slots.items nowhere located
 
 pub returns-clause-written : goal.returns-clause-written
 returns-clause-written c =
     let found : IsSlotAt c.args.c c.in-Ok.at c.self.inside.slots.items = rw c.deref.ensures.value at c.in-Ok.ensures.found in
     subst (λ (v : ChartValue). IfOk c.page_for_writing.result (λ page. IsRewritten c.args.c c.args.i page v (chart_of c.self.inside.format (set c.self.inside.slots.items c.in-Ok.at c.page_for_writing.new.self) c.page_for_writing.new.free))) c.self.view_is
     (is_rewritten c.self.inside.format c.self.inside.slots.items c.self.inside.free c.self.invariant c.args.c c.in-Ok.at found c.index_mut-slot.result.now c.index_mut-slot.ensures.value
-    c.page_for_writing.new.self c.page_for_writing.new.free c.args.i c.page_for_writing.result c.page_for_writing.ensures.staged c.page_for_writing.ensures.restaged c.page_for_writing.ensures.unchanged)
+    c.page_for_writing.new.self c.page_for_writing.new.free c.args.i c.page_for_writing.result c.page_for_writing.ensures.staged c.page_for_writing.ensures.restaged c.page_for_writing.ensures.same_kept c.page_for_writing.ensures.unchanged)
 
 pub returns-clause-sure : goal.returns-clause-sure
 returns-clause-sure c =
@@ -62,4 +59,4 @@ returns-clause-rules c =
     let found : IsSlotAt c.args.c c.in-Ok.at c.self.inside.slots.items = rw c.deref.ensures.value at c.in-Ok.ensures.found in
     charted c.self.inside.format (set c.self.inside.slots.items c.in-Ok.at c.page_for_writing.new.self) c.page_for_writing.new.free
     (kept_rewritten c.self.inside.format c.self.inside.slots.items c.self.inside.free c.self.invariant c.args.c c.in-Ok.at found c.index_mut-slot.result.now c.index_mut-slot.ensures.value
-    c.page_for_writing.new.self c.page_for_writing.new.free c.args.i c.page_for_writing.result c.page_for_writing.ensures.staged c.page_for_writing.ensures.restaged c.page_for_writing.ensures.unchanged)
+    c.page_for_writing.new.self c.page_for_writing.new.free c.args.i c.page_for_writing.result c.page_for_writing.ensures.staged c.page_for_writing.ensures.restaged c.page_for_writing.ensures.same_kept c.page_for_writing.ensures.unchanged)

@@ -1,8 +1,7 @@
 use Rattle.std.proofs.Common.{subst}
 use Rattle.charts.specs.Charts.{ChartValue, IsChart}
 use Rattle.charts.proofs.ChartRules.{charted}
-use Rattle.charts.proofs.Room.{room_left}
 use Rattle.charts.proofs.chart.Chart.rules.Goals as goal
 
 pub returns : goal.returns
-returns c = let h = room_left in subst (λ (v : ChartValue). IsChart v) c.self.view_is (charted c.self.inside.format c.self.inside.slots.items c.self.inside.free c.self.invariant)
+returns c = subst (λ (v : ChartValue). IsChart v) c.self.view_is (charted c.self.inside.format c.self.inside.slots.items c.self.inside.free c.self.invariant)

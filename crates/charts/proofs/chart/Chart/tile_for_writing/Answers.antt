@@ -5,7 +5,7 @@ use Rattle.charts.specs.declared.slot.Slot.{Slot}
 use Rattle.page_alloc.specs.Pages.{PageSet}
 use Rattle.charts.specs.Charts.{ChartValue, IsLocated, IsAdded}
 use Rattle.charts.specs.Slots.{IsKept, chart_of}
-use Rattle.charts.proofs.Room.{room_left}
+use Rattle.charts.proofs.Room.{room_for_tile}
 use Rattle.charts.proofs.ChartRules.{charted}
 use Rattle.charts.proofs.SlotInserts.{with_fresh, new_slot}
 use Rattle.charts.proofs.Loading.{kept_inserted, is_inserted, kept_restaged, is_restaged}
@@ -17,7 +17,8 @@ ok_from (Err e) none = absurd (false≢true (sym none))
 
 pub fresh_plane-requires : goal.fresh_plane-requires
 fresh_plane-requires c =
-    let left = room_left c.self.inside.format c.self.inside.slots.items c.self.inside.free c.self.invariant in
+    let below = subst (λ (v : ChartValue). length v.staged < v.format.capacity) (sym c.self.view_is) c.requires.room in
+    let left = room_for_tile c.self.inside.format c.self.inside.slots.items c.self.inside.free c.self.invariant below in
     omega (arith, left, c.index_pages.ensures, c.data_pages.ensures.value)
 
 pub returns-in_err-reserve-clause-rules : goal.returns-in_err-reserve-clause-rules

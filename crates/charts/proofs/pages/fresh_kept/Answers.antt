@@ -1,0 +1,20 @@
+use Rattle.std.proofs.Common.{ap, arith}
+use Rattle.page_alloc.specs.Pages.{PageSet}
+use Rattle.charts.specs.Locations.{pages_of_plane}
+use Rattle.charts.specs.FreePages.{free_times, page_times}
+use Rattle.charts.proofs.FreeTimes.{taken-append}
+use Rattle.charts.proofs.pages.fresh_kept.Goals as goal
+
+pub fresh_plane-requires-2 : goal.fresh_plane-requires-2
+fresh_plane-requires-2 c = omega (arith, c.requires.room, c.in_ok-levels.ensures.left)
+
+pub give_plane-requires : goal.give_plane-requires
+give_plane-requires c = λ p.
+    let taken = c.in_ok-levels.ensures.taken in
+    let free = ap (λ (s : PageSet). free_times s p) c.in-Err.ensures.unchanged in
+    let total = ap (λ (s : PageSet). page_times s.total p) c.in-Err.ensures.unchanged in
+    let first = ap (λ n. page_times n p) taken.same_total in
+    omega (arith, taken.each p, free, total, first, c.requires.in_range p)
+
+pub returns-in-Ok-clause-taken : goal.returns-in-Ok-clause-taken
+returns-in-Ok-clause-taken c = taken-append (pages_of_plane c.in_ok-levels.levels) (pages_of_plane c.in-Ok.labels) c.args.free.now c.fresh_plane.new.free _ c.in_ok-levels.ensures.taken c.in-Ok.ensures.taken
