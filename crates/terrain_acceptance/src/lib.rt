@@ -21,4 +21,6 @@ mod questions;
 #[cfg(test)]
 mod runs;
 #[cfg(test)]
+mod script;
+#[cfg(test)]
 mod tile_files;

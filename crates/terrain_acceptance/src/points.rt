@@ -125,35 +125,43 @@ fn diagonal_steps_are_longer(rt: HostRuntime) {
     assert!(rt; steeper(Dir::North, 65_534, Dir::NorthEast, 65_534));
 }
 
-// Whether replies name the refusal so.
-fn is_named(refusal: Refusal, number: u8, word: &str) -> bool {
-    refusal.number() == number && refusal.word() == word
-}
+const REFUSALS: [(Refusal, u8, &str); 27] = [
+    (Refusal::BadLine, 1, "BadLine"),
+    (Refusal::BadName, 2, "BadName"),
+    (Refusal::BadLength, 3, "BadLength"),
+    (Refusal::TileThere, 4, "TileThere"),
+    (Refusal::NoTile, 5, "NoTile"),
+    (Refusal::Full, 6, "Full"),
+    (Refusal::Outside, 7, "Outside"),
+    (Refusal::Void, 8, "Void"),
+    (Refusal::NothingVoid, 9, "NothingVoid"),
+    (Refusal::BadHeight, 10, "BadHeight"),
+    (Refusal::BadDepth, 11, "BadDepth"),
+    (Refusal::BadBox, 12, "BadBox"),
+    (Refusal::Repeated, 13, "Repeated"),
+    (Refusal::TooDeep, 14, "TooDeep"),
+    (Refusal::SinkThere, 15, "SinkThere"),
+    (Refusal::SinksFull, 16, "SinksFull"),
+    (Refusal::NoSink, 17, "NoSink"),
+    (Refusal::Device, 20, "Device"),
+    (Refusal::NoMemory, 21, "NoMemory"),
+    (Refusal::Failed, 22, "Failed"),
+    (Refusal::Damaged, 23, "Damaged"),
+    (Refusal::Worn, 24, "Worn"),
+    (Refusal::NotAStore, 30, "NotAStore"),
+    (Refusal::Version, 31, "Version"),
+    (Refusal::BadSide, 32, "BadSide"),
+    (Refusal::BadCapacity, 33, "BadCapacity"),
+    (Refusal::TooSmall, 34, "TooSmall"),
+];
 
+// The number and the word by which replies name each.
 #[test]
 fn refusals_have_these_numbers_and_words(rt: HostRuntime) {
-    assert!(rt; is_named(Refusal::BadLine, 1, "BadLine"));
-    assert!(rt; is_named(Refusal::BadName, 2, "BadName"));
-    assert!(rt; is_named(Refusal::BadLength, 3, "BadLength"));
-    assert!(rt; is_named(Refusal::TileThere, 4, "TileThere"));
-    assert!(rt; is_named(Refusal::NoTile, 5, "NoTile"));
-    assert!(rt; is_named(Refusal::Full, 6, "Full"));
-    assert!(rt; is_named(Refusal::Outside, 7, "Outside"));
-    assert!(rt; is_named(Refusal::Void, 8, "Void"));
-    assert!(rt; is_named(Refusal::NothingVoid, 9, "NothingVoid"));
-    assert!(rt; is_named(Refusal::BadHeight, 10, "BadHeight"));
-    assert!(rt; is_named(Refusal::BadDepth, 11, "BadDepth"));
-    assert!(rt; is_named(Refusal::BadBox, 12, "BadBox"));
-    assert!(rt; is_named(Refusal::Repeated, 13, "Repeated"));
-    assert!(rt; is_named(Refusal::TooDeep, 14, "TooDeep"));
-    assert!(rt; is_named(Refusal::Device, 20, "Device"));
-    assert!(rt; is_named(Refusal::NoMemory, 21, "NoMemory"));
-    assert!(rt; is_named(Refusal::Failed, 22, "Failed"));
-    assert!(rt; is_named(Refusal::Damaged, 23, "Damaged"));
-    assert!(rt; is_named(Refusal::Worn, 24, "Worn"));
-    assert!(rt; is_named(Refusal::NotAStore, 30, "NotAStore"));
-    assert!(rt; is_named(Refusal::Version, 31, "Version"));
-    assert!(rt; is_named(Refusal::BadSide, 32, "BadSide"));
-    assert!(rt; is_named(Refusal::BadCapacity, 33, "BadCapacity"));
-    assert!(rt; is_named(Refusal::TooSmall, 34, "TooSmall"));
+    for (refusal, number, word) in REFUSALS {
+        assert!(rt;
+            refusal.number() == number && refusal.word() == word,
+            "number {number}"
+        );
+    }
 }

@@ -1,61 +1,66 @@
+//! Watersheds over filled levels, by rows worked by hand.
+use crate::script::{are_runs, at};
 use flow_d8::Filled;
-use lattice::{Corner, Point, Side};
+use lattice::{Corner, Side};
 use std::alloc::Global;
-use watershed::{Run, watershed};
+use std::process::Abort;
+use std::test::Fail;
 
 const VOID: i16 = i16::MIN;
 
-// The watershed of a point of tiles of side 3 with these corners and levels, where they are filled levels.
-fn drained(
+/// A point, and the runs of its watershed: y, the first x and the last.
+type Row<'a> = (i32, i32, &'a [(i32, i32, i32)]);
+
+// Checks the watersheds of points of tiles of side 3 with these corners and filled levels.
+fn check(
+    rt: &impl Abort,
     alloc: Global,
     corners: &[(i16, i16)],
     levels: &[i16],
-    y: i32,
-    x: i32,
-) -> Option<Vec<Run>> {
+    rows: &[Row],
+) -> Result<(), Fail> {
     let mut tiles = Vec::new(alloc);
     for (lat, lon) in corners {
-        tiles.push(Corner::new(*lat, *lon)?).ok()?;
+        tiles.push(Corner::new(*lat, *lon).ok_or("no corner")?)?;
     }
-    let levels = Vec::from_slice(alloc, levels).ok()?;
-    let filled = Filled::new(Side::new(3)?, tiles, levels, Vec::new(alloc))?;
-    let directions = filled.directions(alloc).ok()?;
-    watershed(alloc, &directions, Point { y, x }).ok()
-}
-
-fn run(y: i32, first: i32, last: i32) -> Run {
-    Run { y, first, last }
+    let side = Side::new(3).ok_or("no side")?;
+    let levels = Vec::from_slice(alloc, levels)?;
+    let filled = Filled::new(side, tiles, levels, Vec::new(alloc)).ok_or("no levels")?;
+    let directions = filled.directions(alloc)?;
+    for (y, x, wanted) in rows {
+        let found = watershed::watershed(alloc, &directions, at(*y, *x))?;
+        assert!(rt; are_runs(&found, wanted), "at {y} {x}");
+    }
+    Ok(())
 }
 
 #[test]
-fn an_outlet_drains_the_whole_tile(rt: HostRuntime) {
+fn an_outlet_drains_the_whole_tile(rt: HostRuntime) -> Result<(), Fail> {
     let levels = [9, 9, 9, 9, 5, 9, 9, 9, 5];
-    let runs = drained(rt.alloc(), &[(0, 0)], &levels, 0, 2).expect(&rt, "runs");
-    assert!(rt; runs.as_slice() == &[run(2, 0, 2), run(1, 0, 2), run(0, 0, 2)][..]);
-    let runs = drained(rt.alloc(), &[(0, 0)], &levels, 1, 1).expect(&rt, "runs");
-    assert!(rt; runs.as_slice() == &[run(2, 0, 2), run(1, 0, 1), run(0, 0, 0)][..]);
-    let runs = drained(rt.alloc(), &[(0, 0)], &levels, 0, 1).expect(&rt, "runs");
-    assert!(rt; runs.as_slice() == &[run(0, 1, 1)][..]);
+    let rows: [Row; 3] = [
+        (0, 2, &[(2, 0, 2), (1, 0, 2), (0, 0, 2)]),
+        (1, 1, &[(2, 0, 2), (1, 0, 1), (0, 0, 0)]),
+        (0, 1, &[(0, 1, 1)]),
+    ];
+    check(&rt, rt.alloc(), &[(0, 0)], &levels, &rows)
 }
 
 #[test]
-fn water_comes_from_beyond_a_seam(rt: HostRuntime) {
+fn water_comes_from_beyond_a_seam(rt: HostRuntime) -> Result<(), Fail> {
     let levels = [9, 9, 9, 9, 3, 3, 9, 9, 9, 9, 9, 9, 3, 3, 3, 9, 9, 9];
-    let runs = drained(rt.alloc(), &[(0, 0), (0, 1)], &levels, 1, 4).expect(&rt, "runs");
-    assert!(rt; runs.as_slice() == &[run(2, 0, 4), run(1, 0, 4), run(0, 0, 4)][..]);
+    let rows: [Row; 1] = [(1, 4, &[(2, 0, 4), (1, 0, 4), (0, 0, 4)])];
+    check(&rt, rt.alloc(), &[(0, 0), (0, 1)], &levels, &rows)
 }
 
 #[test]
-fn a_flat_drains_to_the_first_way_out(rt: HostRuntime) {
-    let runs = drained(rt.alloc(), &[(0, 0)], &[5; 9], 1, 2).expect(&rt, "runs");
-    assert!(rt; runs.as_slice() == &[run(1, 1, 2)][..]);
+fn a_flat_drains_to_the_first_way_out(rt: HostRuntime) -> Result<(), Fail> {
+    let rows: [Row; 1] = [(1, 2, &[(1, 1, 2)])];
+    check(&rt, rt.alloc(), &[(0, 0)], &[5; 9], &rows)
 }
 
 #[test]
-fn nothing_drains_through_a_void(rt: HostRuntime) {
+fn nothing_drains_through_a_void(rt: HostRuntime) -> Result<(), Fail> {
     let levels = [9, 9, 9, 9, VOID, 9, 9, 9, 5];
-    let runs = drained(rt.alloc(), &[(0, 0)], &levels, 1, 1).expect(&rt, "runs");
-    assert!(rt; runs.is_empty());
-    let runs = drained(rt.alloc(), &[(0, 0)], &levels, 3, 3).expect(&rt, "runs");
-    assert!(rt; runs.is_empty());
+    let rows: [Row; 2] = [(1, 1, &[]), (3, 3, &[])];
+    check(&rt, rt.alloc(), &[(0, 0)], &levels, &rows)
 }
