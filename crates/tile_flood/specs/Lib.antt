@@ -5,3 +5,4 @@ pub mod Raising
 pub mod Waiting
 pub mod Blocks
 pub mod Flooding
+pub mod Kept
