@@ -197,9 +197,10 @@ impl<D: Disk> Tree<D> {
     }
 
     /// The corners of the tiles, in order, as the next commit will have them.
-    pub(crate) fn corners(&self) -> ArrayVec<Corner, TILES>
+    pub fn corners(&self) -> ArrayVec<Corner, TILES>
         ensures corners { result.items ≡ corners_of self.now }
         ensures in_order { AllAdjacentBelow IsBefore (corners_of self.now) (length (corners_of self.now)) }
+        ensures whole_degrees { All (λ d. IsTrue (is_corner d)) (corners_of self.now) }
     {
         self.chart.rules();
         self.chart.corners()

@@ -1,12 +1,14 @@
 //! Images with one change, row by row.
 use crate::checking::check;
 use crate::good_images::{
-    EAST, HERE, one_tile, pages_of_tile, two_tiles, wall, with_kept_planes, with_sinks,
+    A, EAST, HERE, image_after, import, one_tile, pages_of_tile, two_tiles, wall, with_kept_planes,
+    with_sinks,
 };
 use crate::image::{Change, Image};
+use crate::opening::expected_opening;
 use disk::MemDisk;
 use edits::Command;
-use lattice::{Height, Point, Refusal};
+use lattice::{Corner, Height, Point, Refusal};
 use std::alloc::Global;
 use std::process::Abort;
 use std::test::Fail;
@@ -319,6 +321,62 @@ fn kept_planes_change_no_answer(rt: HostRuntime) -> Result<(), Fail> {
             },
         ])?;
         assert!(rt; answers(alloc, &hostile)?.as_slice() == plain.as_slice());
+    }
+    Ok(())
+}
+
+// The pages of the records of a tile's levels and labels, as a store leaves them.
+fn kept_records(alloc: Global, store: Store<MemDisk>, number: usize) -> Result<(u32, u32), Fail> {
+    let left = Image::of(alloc, &mut store.into_disk())?;
+    let root = expected_opening(alloc, &left.sectors)?;
+    let entry = root.entries.get(number).ok_or("no tile")?;
+    let [_, levels, labels] = entry.records;
+    Ok((levels, labels))
+}
+
+#[test]
+fn a_command_drops_kept_planes(rt: HostRuntime) -> Result<(), Fail> {
+    let alloc = rt.alloc();
+    for command in [wall(12, MIDDLE), Command::Sink { point: MIDDLE }] {
+        let mut store = opened(alloc, &with_kept_planes(alloc)?)?;
+        assert!(rt; !store.stale(HERE));
+        assert!(rt; !store.stale(EAST));
+        assert_eq!(rt; store.apply(&command), Ok(2));
+        assert!(rt; store.stale(HERE));
+        assert_eq!(rt; kept_records(alloc, store, 0)?, (0, 0));
+    }
+    Ok(())
+}
+
+// Planes are kept of a second tile, and the first is edited in its middle.
+#[test]
+fn planes_of_neighbours_are_dropped(rt: HostRuntime) -> Result<(), Fail> {
+    let alloc = rt.alloc();
+    let far = Corner { lat: 0, lon: 2 };
+    for (second, expected) in [(EAST, (0, 0)), (far, (20, 22))] {
+        let commands = [import(alloc, HERE, &A)?, import(alloc, second, &A)?];
+        let image = image_after(alloc, 2, &commands)?.with(&[
+            Change {
+                sector: ROOT_A,
+                at: 88,
+                bytes: &[20, 0, 0, 0, 22],
+            },
+            Change {
+                sector: 20,
+                at: 0,
+                bytes: &[21],
+            },
+            Change {
+                sector: 22,
+                at: 0,
+                bytes: &[23],
+            },
+        ])?;
+        let mut store = opened(alloc, &image)?;
+        assert!(rt; !store.stale(second));
+        assert_eq!(rt; store.apply(&wall(12, MIDDLE)), Ok(3));
+        assert_eq!(rt; store.stale(second), second == EAST);
+        assert_eq!(rt; kept_records(alloc, store, 1)?, expected);
     }
     Ok(())
 }

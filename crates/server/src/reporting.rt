@@ -1,9 +1,10 @@
 //! What there is to report on a store.
-ghost use Rattle.std.specs.Prelude.{◌≡◌, ◌++◌, IfOk, OnOk, decimal, flat_map};
+ghost use Rattle.std.specs.Prelude.{◌≡◌, ◌++◌, IfOk, OnOk, codes, decimal, flat_map, if◌then◌else◌};
 ghost use Rattle.calls.specs.State.{State};
+ghost use Rattle.store.specs.Kept.{stale_in};
 ghost use Rattle.store.specs.Queried.{Queries};
 ghost use Rattle.calls.specs.Engines.{items_in};
-ghost use Rattle.store.specs.Stores.{disk_of, IsAt};
+ghost use Rattle.store.specs.Stores.{disk_of, root_of, IsAt};
 ghost use Rattle.server.specs.Report.{IsReportText, Reports, report_text, tile_line};
 
 use disk::Disk;
@@ -24,43 +25,47 @@ pub fn report<D: Disk>(alloc: Global, store: &mut Store<D>) -> Result<Vec<u8>, R
 {
     let seams = store.seams()?;
     let corners = store.tiles()?;
-    let text = lines(
-        alloc,
-        store.count(),
-        store.commits(),
-        corners.as_slice(),
-        seams,
-    )?;
+    let text = lines(alloc, store, corners.as_slice(), seams)?;
     Ok(text)
 }
 
-/// The lines of a report. No planes are kept yet, so that every tile is stale.
-fn lines(
+/// The lines of a report, by what the store knows without its disk.
+fn lines<D: Disk>(
     alloc: Global,
-    count: u64,
-    commits: u64,
+    store: &Store<D>,
     corners: &[Corner],
     seams: u64,
 ) -> Result<Vec<u8>, AllocError>
-    ensures { IfOk result (λ text. text.items ≡ report_text count commits corners.now corners.now seams) }
+    ensures { IfOk result (λ text. text.items ≡ report_text (root_of store.now).count (root_of store.now).number (stale_in (root_of store.now)) corners.now seams) }
 {
     let mut text = Vec::new(alloc);
-    extend_number(&mut text, b"count ", count, b" ")?;
-    extend_number(&mut text, b"commits ", commits, b"\n")?;
-    extend_tiles(&mut text, corners)?;
+    extend_number(&mut text, b"count ", store.count(), b" ")?;
+    extend_number(&mut text, b"commits ", store.commits(), b"\n")?;
+    extend_tiles(&mut text, store, corners)?;
     extend_number(&mut text, b"seams ", seams, b"\n")?;
     Ok(text)
 }
 
-/// The text goes on by a line for each tile, all of them stale.
-fn extend_tiles(text: &mut Vec<u8>, corners: &[Corner]) -> Result<(), AllocError>
-    ensures { OnOk result (text.new.items ≡ text.old.items ++ flat_map (tile_line corners.now) corners.now) }
+/// The text goes on by a line for each tile.
+fn extend_tiles<D: Disk>(
+    text: &mut Vec<u8>,
+    store: &Store<D>,
+    corners: &[Corner],
+) -> Result<(), AllocError>
+    ensures { OnOk result (text.new.items ≡ text.old.items ++ flat_map (tile_line (stale_in (root_of store.now))) corners.now) }
 {
     for corner in corners {
         text.extend_from_slice(name_text(*corner).as_bytes())?;
-        text.extend_from_slice(b" stale\n")?;
+        text.extend_from_slice(end_of_line(store.stale(*corner)))?;
     }
     Ok(())
+}
+
+/// What stands behind a tile's name.
+fn end_of_line(stale: bool) -> &'static [u8]
+    ensures { result.now ≡ (if stale then codes " stale\n" else codes " fresh\n") }
+{
+    if stale { b" stale\n" } else { b" fresh\n" }
 }
 
 /// The text goes on by a number between two words.

@@ -1,6 +1,5 @@
 -- Stored tiles as the tiles of a mosaic: what holds contents, and what staging makes of it.
 use Rattle.std.proofs.Common.{◌≡◌, ℕ, ◌*◌, ◌<◌, ◌≤◌, ℤ, Bool, true, false, cond, not, List, [], ◌∷◌, length, map, filter, All, refl, sym, ap, ap₂, ◌∙◌, subst, arith}
-use Rattle.std.specs.Prelude.{None}
 use Rattle.std.specs.List.{AllZip}
 use Rattle.std.proofs.lemmas.List.Elements.{All-nil, All-cons, All-head, All-tail, All-filter}
 use Rattle.lattice.specs.Corners.{Corner, is_before, same_corner}
@@ -13,14 +12,13 @@ use Rattle.catalogue.specs.Tiles as mosaics
 use Rattle.catalogue.proofs.Mosaics.{corner_of}
 use Rattle.cow_tree.specs.Stored.{IsPage, StoredTile, AreWhole, plane_bytes, pages_of_bytes, samples_of_plane, mosaic_of_tiles, without_tile, with_tile, stale_tile, corners_of_stored}
 use Rattle.cow_tree.proofs.Planes.{plane_read_back, length-pages_of_bytes, whole_pages}
-use Rattle.store.specs.Standing.{HoldsTile, KeepNone}
+use Rattle.store.specs.Standing.{HoldsTile}
 use Rattle.store.proofs.Pages.{bytes_of_plane, length_plane, long_enough}
 
--- the tile has whole pages enough for its heights, and none kept
+-- the tile has whole pages enough for its heights
 pub record IsFilled (n : ℕ) (t : StoredTile) : Type 0 where
   pub pages : All IsPage t.heights
   pub enough : 2 * (n * n) ≤ 4096 * length t.heights
-  pub none_kept : t.kept ≡ None
 
 -- these stored tiles are the tiles of the mosaic
 pub record AreTilesOf (n : ℕ) (tiles : List StoredTile) (m : Mosaic) : Type 0 where
@@ -45,16 +43,15 @@ tiles_held n (s ∷ stored) (t ∷ tiles) valid holds =
     ap₂ (λ (x : Tile) (xs : List Tile). x ∷ xs) (tile_held n s t (All-head (IsTile n) t tiles valid) holds.0)
     (tiles_held n stored tiles (All-tail (IsTile n) t tiles valid) holds.1)
 
-pub tiles_filled : (n : ℕ) (stored : List StoredTile) (tiles : List Tile) → AllZip (HoldsTile n) stored tiles → KeepNone stored → All (IsFilled n) stored
-tiles_filled n [] [] holds none = All-nil (IsFilled n)
-tiles_filled n [] (t ∷ tiles) holds none = absurd holds
-tiles_filled n (s ∷ stored) [] holds none = absurd holds
-tiles_filled n (s ∷ stored) (t ∷ tiles) holds none =
+pub tiles_filled : (n : ℕ) (stored : List StoredTile) (tiles : List Tile) → AllZip (HoldsTile n) stored tiles → All (IsFilled n) stored
+tiles_filled n [] [] holds = All-nil (IsFilled n)
+tiles_filled n [] (t ∷ tiles) holds = absurd holds
+tiles_filled n (s ∷ stored) [] holds = absurd holds
+tiles_filled n (s ∷ stored) (t ∷ tiles) holds =
     All-cons (IsFilled n) s stored (record {
       pages = holds.0.pages;
       enough = long_enough n s.heights holds.0.pages holds.0.heights.two_each;
-      none_kept = All-head (λ (u : StoredTile). u.kept ≡ None) s stored none;
-    }) (tiles_filled n stored tiles holds.1 (All-tail (λ (u : StoredTile). u.kept ≡ None) s stored none))
+    }) (tiles_filled n stored tiles holds.1)
 
 -- and the other way
 filled_holds : (n : ℕ) (s : StoredTile) → IsFilled n s → HoldsTile n s (as_tile n s)
@@ -67,9 +64,6 @@ filled_holds n s filled = record {
 pub filled_hold : (n : ℕ) (stored : List StoredTile) → All (IsFilled n) stored → AllZip (HoldsTile n) stored (map (as_tile n) stored)
 filled_hold n [] filled = tt
 filled_hold n (s ∷ stored) filled = (filled_holds n s (All-head (IsFilled n) s stored filled), filled_hold n stored (All-tail (IsFilled n) s stored filled))
-
-pub none_kept_filled : (n : ℕ) (stored : List StoredTile) → All (IsFilled n) stored → KeepNone stored
-none_kept_filled n stored filled k d within = (filled k d within).none_kept
 
 pub whole_filled : (n : ℕ) (stored : List StoredTile) → All (IsFilled n) stored → AreWhole stored
 whole_filled n stored filled k d within = (filled k d within).pages
@@ -109,7 +103,6 @@ pub file_filled : (n : ℕ) (c : Corner) (bytes : List ℕ) → length bytes ≡
 file_filled n c bytes whole each = record {
   pages = whole_pages (pages_of n) bytes each;
   enough = subst (λ (m : ℕ). 2 * (n * n) ≤ 4096 * m) (sym (length-pages_of_bytes (pages_of n) bytes)) (omega arith);
-  none_kept = refl;
 }
 
 pub imported : (n : ℕ) (tiles : List StoredTile) (m : Mosaic) (c : Corner) (bytes : List ℕ) → AreTilesOf n tiles m → length bytes ≡ 2 * (n * n) → All (λ b. b < 256) bytes

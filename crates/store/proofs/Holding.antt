@@ -5,22 +5,23 @@ use Rattle.std.specs.List.{AllZip}
 use Rattle.lattice.specs.Corners.{Corner}
 use Rattle.lattice.specs.declared.point.Point.{Point}
 use Rattle.lattice.specs.Mosaic.{Tile, Mosaic, IsTile, IsMosaic}
-use Rattle.catalogue.specs.Tiles.{corners_of}
 use Rattle.edits.specs.declared.command.Command.{Command}
 use Rattle.edits.specs.Effect.{effect}
 use Rattle.calls.specs.State.{Contents, made_by}
 use Rattle.edits.specs.Touched.{stale_after}
 use Rattle.cow_tree.specs.Stored.{StoredTile, Stored, next_commit, mosaic_of_tiles}
 use Rattle.cow_tree.proofs.OneStored.{one_stored}
+use Rattle.store.specs.Kept.{KeepRight, stale_corners}
+use Rattle.store.specs.Staling.{KeepFresh}
 use Rattle.store.specs.Standing.{HoldsTile, Holds, AreSame, StandsForOneContents}
-use Rattle.store.proofs.HeldTiles.{AreTilesOf, tiles_held, tiles_filled, filled_hold, none_kept_filled}
-use Rattle.edits.proofs.AllStale.{all_stale}
+use Rattle.store.proofs.HeldTiles.{AreTilesOf, tiles_held, tiles_filled, filled_hold}
+use Rattle.store.proofs.Keeping.{right_next, stale_next}
 
 -- the mosaic is that of the stored tiles
 pub held : (side capacity : ℕ) (stored : Stored) (c : Contents) → Holds side capacity stored c → AreTilesOf side stored.tiles c.mosaic
 held side capacity stored c holds = record {
   mosaic = ap₂ (λ (n : ℕ) (ts : List Tile). record { side = n; sinks = c.mosaic.sinks; tiles = ts }) holds.side_is (tiles_held side stored.tiles c.mosaic.tiles tiles holds.tiles);
-  filled = tiles_filled side stored.tiles c.mosaic.tiles holds.tiles holds.none_kept;
+  filled = tiles_filled side stored.tiles c.mosaic.tiles holds.tiles;
 }
   where
     tiles : All (IsTile side) c.mosaic.tiles
@@ -28,8 +29,8 @@ held side capacity stored c holds = record {
 
 -- and tiles of the mosaic hold it
 pub holds_from : (side capacity : ℕ) (stored : Stored) (c : Contents) → stored.side ≡ side → stored.capacity ≡ capacity → c.version ≡ 1 → stored.number ≡ c.number → stored.count ≡ c.count
-    → stored.sinks ≡ c.mosaic.sinks → IsMosaic c.mosaic → AreTilesOf side stored.tiles c.mosaic → c.stale ≡ corners_of c.mosaic → Holds side capacity stored c
-holds_from side capacity stored c stored_side stored_capacity version number count sinks valid are stale = record {
+    → stored.sinks ≡ c.mosaic.sinks → IsMosaic c.mosaic → AreTilesOf side stored.tiles c.mosaic → KeepRight c.mosaic stored.tiles → c.stale ≡ stale_corners stored.tiles → Holds side capacity stored c
+holds_from side capacity stored c stored_side stored_capacity version number count sinks valid are kept stale = record {
   stored_side = stored_side;
   stored_capacity = stored_capacity;
   version = version;
@@ -39,25 +40,27 @@ holds_from side capacity stored c stored_side stored_capacity version number cou
   side_is = ap (λ (m : Mosaic). m.side) are.mosaic;
   sinks = sinks;
   tiles = subst (λ (m : Mosaic). AllZip (HoldsTile side) stored.tiles m.tiles) (sym are.mosaic) (filled_hold side stored.tiles are.filled);
-  none_kept = none_kept_filled side stored.tiles are.filled;
+  kept = kept;
   stale = stale;
 }
 
 -- the next commit, by a command that isn't refused and makes these the sinks
 pub holds_with : (side capacity : ℕ) (stored : Stored) (c : Contents) (command : Command) (new : Mosaic) (sinks : List Point) (tiles : List StoredTile) → Holds side capacity stored c
-    → effect capacity c.mosaic command ≡ Ok new → sinks ≡ new.sinks → IsMosaic new → AreTilesOf side tiles new
+    → effect capacity c.mosaic command ≡ Ok new → sinks ≡ new.sinks → IsMosaic new → AreTilesOf side tiles new → KeepFresh c.mosaic command stored.tiles tiles
     → Holds side capacity (next_commit stored sinks tiles (c.count + 1)) (made_by c command new)
-holds_with side capacity stored c command new sinks tiles holds makes are_sinks valid are =
+holds_with side capacity stored c command new sinks tiles holds makes are_sinks valid are keep =
     holds_from side capacity (next_commit stored sinks tiles (c.count + 1)) (made_by c command new) holds.stored_side holds.stored_capacity holds.version
     (ap (λ (k : ℕ). k + 1) holds.number) refl are_sinks valid are
-    (ap (λ (l : List Corner). stale_after c.mosaic command l new) holds.stale ∙ all_stale capacity c.mosaic new command makes)
+    (right_next side capacity c.mosaic new command stored.tiles tiles holds.valid makes (held side capacity stored c holds) are keep holds.kept)
+    (ap (λ (l : List Corner). stale_after c.mosaic command l new) holds.stale
+    ∙ stale_next side capacity c.mosaic new command stored.tiles tiles holds.valid makes (held side capacity stored c holds) are keep)
 
 -- .. and one that leaves them
 pub holds_next : (side capacity : ℕ) (stored : Stored) (c : Contents) (command : Command) (new : Mosaic) (tiles : List StoredTile) → Holds side capacity stored c
-    → effect capacity c.mosaic command ≡ Ok new → new.sinks ≡ c.mosaic.sinks → IsMosaic new → AreTilesOf side tiles new
+    → effect capacity c.mosaic command ≡ Ok new → new.sinks ≡ c.mosaic.sinks → IsMosaic new → AreTilesOf side tiles new → KeepFresh c.mosaic command stored.tiles tiles
     → Holds side capacity (next_commit stored stored.sinks tiles (c.count + 1)) (made_by c command new)
-holds_next side capacity stored c command new tiles holds makes kept valid are =
-    holds_with side capacity stored c command new stored.sinks tiles holds makes (holds.sinks ∙ sym kept) valid are
+holds_next side capacity stored c command new tiles holds makes sinks valid are keep =
+    holds_with side capacity stored c command new stored.sinks tiles holds makes (holds.sinks ∙ sym sinks) valid are keep
 
 -- ---- an image stands for at most one
 
@@ -78,7 +81,7 @@ one_held side capacity other_side other_capacity stored a b p q =
     record {
       sides = sides;
       capacities = sym p.stored_capacity ∙ q.stored_capacity;
-      contents = same_contents a b (p.version ∙ sym q.version) mosaic (sym p.count ∙ q.count) (sym p.number ∙ q.number) (p.stale ∙ ap corners_of mosaic ∙ sym q.stale);
+      contents = same_contents a b (p.version ∙ sym q.version) mosaic (sym p.count ∙ q.count) (sym p.number ∙ q.number) (p.stale ∙ sym q.stale);
     }
 
 pub one_contents : StandsForOneContents

@@ -15,6 +15,7 @@ use Rattle.page_codec.specs.Sizes.{pages_of}
 use Rattle.edits.specs.declared.command.Command.{Command}
 use Rattle.edits.specs.declared.command.Command.TheVariants.{Import, Remove}
 use Rattle.edits.specs.Effect.{effect}
+use Rattle.edits.specs.Touched.{are_neighbours}
 use Rattle.calls.specs.Outcomes.{Refuses, IsWorn}
 use Rattle.calls.specs.State.{State, last_number, made_by}
 use Rattle.edits.specs.EffectLaws.{CommandsMakeMosaics}
@@ -24,6 +25,7 @@ use Rattle.charts.specs.Charts.{corners_of_locations}
 use Rattle.cow_tree.specs.Stored.{Stored, next_commit, corners_of_stored, pages_of_bytes, stale_tile, with_tile, without_tile}
 use Rattle.cow_tree.specs.Trees.{disk_of, root_of, has_failed, sinks_of, staged_in, corners_of as corners_under, IsAt as IsTreeAt}
 use Rattle.cow_tree.specs.declared.tree.Tree.{Tree}
+use Rattle.store.specs.Staling.{staled}
 use Rattle.store.specs.Standing.{Holds}
 use Rattle.store.specs.States.{IsSound}
 use Rattle.store.specs.TreeStates.{IsInState}
@@ -35,7 +37,7 @@ use Rattle.store.proofs.WholeTiles.{no_tile, removes, bad_length, tile_there, fu
 pub entries_counted : (entries : List EntryValue) → length (map (λ (e : EntryValue). e.corner) entries) ≡ length entries
 entries_counted entries = length-map entries (λ (e : EntryValue). e.corner)
 
-corners_kept : (image : Image) (tiles : List TileLocation) → corners_of_locations tiles ≡ corners_of_stored (map (tile_in image) tiles)
+pub corners_kept : (image : Image) (tiles : List TileLocation) → corners_of_locations tiles ≡ corners_of_stored (map (tile_in image) tiles)
 corners_kept image [] = refl
 corners_kept image (t ∷ rest) = ap (λ (cs : List Corner). t.corner ∷ cs) (corners_kept image rest)
 
@@ -92,7 +94,7 @@ module _ {D : Type 0} (g : Ghosts D) (tree : Tree D g) (works : has_failed tree 
     removes_at has = removes s.contents.mosaic c capacity (there c has)
 
     pub removed_at : CommandsMakeMosaics → Contains (corners_under tree) c
-        → Holds n capacity (next_commit sound_at.stored sound_at.stored.sinks (without_tile c sound_at.stored.tiles) (s.contents.count + 1)) (made_by s.contents (Remove c) (without c s.contents.mosaic))
+        → Holds n capacity (next_commit sound_at.stored sound_at.stored.sinks (staled (are_neighbours c) (without_tile c sound_at.stored.tiles)) (s.contents.count + 1)) (made_by s.contents (Remove c) (without c s.contents.mosaic))
     removed_at valid has =
         let makes = removes_at has in
         holds_removed n capacity sound_at.stored s.contents sound_at.holds (without c s.contents.mosaic)
@@ -122,7 +124,7 @@ module _ {D : Type 0} (g : Ghosts D) (tree : Tree D g) (works : has_failed tree 
                 imports s.contents.mosaic c capacity bytes whole_there (absent c none) (subst (λ (cs : List Corner). length cs < capacity) corners_are room)
 
             pub imported_at : CommandsMakeMosaics → IsTrue (is_corner c) → All (λ b. b < 256) bytes
-                → Holds n capacity (next_commit sound_at.stored sound_at.stored.sinks (with_tile (stale_tile c (pages_of_bytes (pages_of n) bytes)) sound_at.stored.tiles) (s.contents.count + 1))
+                → Holds n capacity (next_commit sound_at.stored sound_at.stored.sinks (with_tile (stale_tile c (pages_of_bytes (pages_of n) bytes)) (staled (are_neighbours c) sound_at.stored.tiles)) (s.contents.count + 1))
                 (made_by s.contents (Import c bytes) (added (record { corner = c; samples = samples_in bytes }) s.contents.mosaic))
             imported_at valid corner each =
                 let new : Mosaic = added (record { corner = c; samples = samples_in bytes }) s.contents.mosaic in

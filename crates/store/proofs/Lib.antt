@@ -11,6 +11,8 @@ pub mod HeldTiles
 pub mod Holding
 pub mod Importing
 pub mod InMemory
+pub mod Keeping
+pub mod Nearby
 pub mod Opened
 pub mod Openings
 pub mod Pages
@@ -20,6 +22,7 @@ pub mod QueryingPages
 pub mod Runs
 pub mod Sets
 pub mod SinksHeld
+pub mod Staled
 pub mod States
 pub mod StoreLemmas
 pub mod StoredCommands

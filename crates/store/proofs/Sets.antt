@@ -65,7 +65,6 @@ module _ (n : ℕ) (c : Corner) (i j e : ℕ) (page : List ℕ) (s : ℤ) (here 
       record {
         pages = subst (λ (pages : PlanePages). All IsPage pages) (set-set t.heights i page (with_bytes j s page)) (All-set IsPage old i (with_bytes j s page) (page_with_bytes j s page page_is) filled.pages);
         enough = subst (λ m. 2 * (n * n) ≤ 4096 * m) (length-set t.heights i page ∙ sym (length-set t.heights i (with_bytes j s page))) filled.enough;
-        none_kept = filled.none_kept;
       },
     )
       where

@@ -1,18 +1,30 @@
 -- The states of a store, by what is seen of its tree.
-use Rattle.std.proofs.Common.{◌≡◌, ◌⊎◌, inl, inr, ℕ, Bool, true, false, List, refl, sym, ap, ◌∙◌, subst, true≢false}
-use Rattle.std.specs.Prelude.{Option, Some, None}
+use Rattle.std.proofs.Common.{◌≡◌, ◌⊎◌, inl, inr, ℕ, Bool, true, false, List, [], ◌∷◌, map, refl, sym, ap, ◌∙◌, subst, true≢false}
+use Rattle.std.specs.Prelude.{Option, Some, None, filter}
+use Rattle.std.specs.Option.{is_none}
 use Rattle.std.proofs.lemmas.Option.{none-some}
 use Rattle.disk.specs.Disk.{Image}
 use Rattle.disk.specs.declared.disk.Disk.{Ghosts}
 use Rattle.lattice.specs.declared.point.Point.{Point}
+use Rattle.lattice.specs.Corners.{Corner}
+use Rattle.page_codec.specs.Entries.{EntryValue}
 use Rattle.page_codec.specs.Roots.{RootValue}
 use Rattle.edits.specs.declared.command.Command.{Command}
 use Rattle.calls.specs.State.{Contents, State, in_doubt, failing, working}
 use Rattle.cow_tree.specs.Stored.{StoredTile, Stored}
 use Rattle.charts.specs.TileLocations.{TileLocation}
-use Rattle.cow_tree.specs.Layout.{StoresAt, Stands}
+use Rattle.charts.specs.declared.locations.KeptLocations.{KeptLocations}
+use Rattle.cow_tree.specs.Entries.{entry_of}
+use Rattle.cow_tree.specs.Layout.{StoresAt, Stands, tile_in}
+use Rattle.store.specs.Kept.{stale_in, stale_corners}
 use Rattle.store.specs.Standing.{Holds, StandsFor}
 use Rattle.store.specs.States.{StandsForState, EachStandsFor, StandsForMade, IsStateOf}
+
+abbrev entry_corner : EntryValue → Corner
+entry_corner e = e.corner
+
+abbrev keeps_none : EntryValue → Bool
+keeps_none e = is_none e.kept
 
 -- the known root's numbers are those of what is stored
 module _ (sectors : ℕ) (root : RootValue) (tiles : List TileLocation) (stored : Stored) (image : Image) (stores : StoresAt sectors root tiles stored image) where
@@ -37,6 +49,20 @@ module _ (sectors : ℕ) (root : RootValue) (tiles : List TileLocation) (stored 
       subst (λ (n : ℕ). Holds n root.capacity stored c) (sym holds.stored_side ∙ root_side)
       (subst (λ (n : ℕ). Holds side n stored c) (sym holds.stored_capacity ∙ root_capacity) holds)
 
+-- the stale tiles by the entries are those by what is stored
+stale_entries : (image : Image) (tiles : List TileLocation) → map entry_corner (filter keeps_none (map entry_of tiles)) ≡ stale_corners (map (tile_in image) tiles)
+stale_entries image [] = refl
+stale_entries image (t ∷ rest) = by t.kept (stale_entries image rest)
+  where
+    by : (kept : Option KeptLocations) → map entry_corner (filter keeps_none (map entry_of rest)) ≡ stale_corners (map (tile_in image) rest)
+        → map entry_corner (filter keeps_none (map entry_of (record t { kept = kept } ∷ rest))) ≡ stale_corners (map (tile_in image) (record t { kept = kept } ∷ rest))
+    by None later = ap (λ (cs : List Corner). t.corner ∷ cs) later
+    by (Some k) later = later
+
+pub root_stale : (sectors : ℕ) (root : RootValue) (tiles : List TileLocation) (stored : Stored) (image : Image) → StoresAt sectors root tiles stored image → stale_in root ≡ stale_corners stored.tiles
+root_stale sectors root tiles stored image stores =
+    ap (λ (entries : List EntryValue). map entry_corner (filter keeps_none entries)) (sym stores.laid_out.entries) ∙ stale_entries image tiles ∙ ap (λ (s : Stored). stale_corners s.tiles) (sym stores.stands)
+
 module _ {D : Type 0} (g : Ghosts D) (disk : D) (root : RootValue) (failed : Bool) (IsTreeAt : Stored → Type 0) (staged : List StoredTile) (sinks : List Point) where
   -- a tree that hasn't failed and has nothing staged, at what holds the contents
   pub at_contents : (tiles : List TileLocation) (stored : Stored) (c : Contents) → failed ≡ false → ((image : Image) → g.may disk image → StoresAt (g.size disk) root tiles stored image) → g.may disk (g.seen disk)
@@ -46,6 +72,7 @@ module _ {D : Type 0} (g : Ghosts D) (disk : D) (root : RootValue) (failed : Boo
     side_is = holds.side_is;
     count = sym (root_count (g.size disk) root tiles stored (g.seen disk) (each (g.seen disk) seen)) ∙ holds.count;
     number = sym (root_number (g.size disk) root tiles stored (g.seen disk) (each (g.seen disk) seen)) ∙ holds.number;
+    stale = root_stale (g.size disk) root tiles stored (g.seen disk) (each (g.seen disk) seen) ∙ sym holds.stale;
     failed_is = works;
     sound = λ _. record {
       stored = stored;
@@ -58,13 +85,14 @@ module _ {D : Type 0} (g : Ghosts D) (disk : D) (root : RootValue) (failed : Boo
   }
 
   -- one that failed
-  pub at_failure : (s : State) → failed ≡ true → s.failed ≡ true → s.contents.mosaic.side ≡ root.side → root.count ≡ s.contents.count → root.number ≡ s.contents.number → EachStandsFor g disk root.side root.capacity s
+  pub at_failure : (s : State) → failed ≡ true → s.failed ≡ true → s.contents.mosaic.side ≡ root.side → root.count ≡ s.contents.count → root.number ≡ s.contents.number → stale_in root ≡ s.contents.stale → EachStandsFor g disk root.side root.capacity s
       → IsStateOf g disk root failed IsTreeAt staged sinks s
-  at_failure s fails is side count number images = record {
+  at_failure s fails is side count number stale images = record {
     images = images;
     side_is = side;
     count = count;
     number = number;
+    stale = stale;
     failed_is = fails ∙ sym is;
     sound = λ works. absurd (true≢false (sym fails ∙ works));
   }
@@ -108,6 +136,7 @@ module _ {D : Type 0} (g : Ghosts D) (old new : D) (size : g.size new ≡ g.size
         side_is = at.side_is;
         count = at.count;
         number = at.number;
+        stale = at.stale;
         failed_is = same ∙ at.failed_is;
         sound = λ works.
             let sound = at.sound (sym same ∙ works) in
@@ -118,9 +147,9 @@ module _ {D : Type 0} (g : Ghosts D) (old new : D) (size : g.size new ≡ g.size
   pub reads_fail : (doubt : Option Contents) → fails ≡ true → s.failed ≡ false → IsStateOf g new now fails IsNew still declared (failing s doubt)
   reads_fail doubt fail working_before =
       let none : s.doubt ≡ None = (at.sound (at.failed_is ∙ working_before)).no_doubt in
-      by_root (failing s doubt) (at_failure g new was fails IsNew still declared (failing s doubt) fail refl at.side_is at.count at.number
+      by_root (failing s doubt) (at_failure g new was fails IsNew still declared (failing s doubt) fail refl at.side_is at.count at.number at.stale
       (still_contents g new was.side was.capacity s doubt (λ image may. subst (λ (n : ℕ). StandsFor n was.side was.capacity image s.contents) (sym size) (leaves_contents g old was failed IsOld staged sinks s at none image (none_new image may)))))
 
   -- where an opening is refused, the state stays but for the failure
   pub stays_failed : fails ≡ true → IsStateOf g new now fails IsNew still declared (record s { failed = true })
-  stays_failed fail = by_root (record s { failed = true }) (at_failure g new was fails IsNew still declared (record s { failed = true }) fail refl at.side_is at.count at.number images_kept)
+  stays_failed fail = by_root (record s { failed = true }) (at_failure g new was fails IsNew still declared (record s { failed = true }) fail refl at.side_is at.count at.number at.stale images_kept)

@@ -16,7 +16,8 @@ use Rattle.cow_tree.specs.Stored.{StoredTile}
 use Rattle.cow_tree.specs.Trees.{disk_of, has_begun, corners_of, sinks_of, HasStaged}
 use Rattle.cow_tree.specs.declared.tree.Tree.{Tree}
 use Rattle.store.specs.Staging.{CommitsNothing}
-use Rattle.store.specs.Standing.{HoldsTile, KeepNone}
+use Rattle.store.specs.Staling.{keepers}
+use Rattle.store.specs.Standing.{HoldsTile}
 
 -- the writes so far, and the one that begins a commit where none was begun
 abbrev pub writes_begun : {D : Type 0} (g : Ghosts D) → Tree D g → ℕ
@@ -36,12 +37,12 @@ WritesFew version (Sink p) before now = now ≤ before + 3
 WritesFew version (Unsink p) before now = now ≤ before + 3
 WritesFew version _ before now = Unit {0}
 
--- the stored tiles are the tiles of the mosaic, with this side
-pub record HoldsMosaic (side : ℕ) (tiles : List StoredTile) (m : Mosaic) : Type 0 where
+-- the stored tiles are the tiles of the mosaic, with this side, and keep what those before kept
+pub record HoldsMosaic (side : ℕ) (before tiles : List StoredTile) (m : Mosaic) : Type 0 where
   pub valid : IsMosaic m
   pub side_is : m.side ≡ side
   pub tiles_are : AllZip (HoldsTile side) tiles m.tiles
-  pub none_kept : KeepNone tiles
+  pub kept : keepers tiles ≡ keepers before
 
 -- the change sets sample j of page i of the corner's heights
 pub record SetsInPage (c : Corner) (i : ℕ) (change : Change) (j : ℕ) (s : ℤ) : Type 0 where

@@ -1,8 +1,10 @@
 pub mod Applied
 pub mod Calls
 pub mod Editing
+pub mod Kept
 pub mod Queried
 pub mod Staging
+pub mod Staling
 pub mod Standing
 pub mod States
 pub mod StoreRuns

@@ -1,13 +1,13 @@
 -- What an image of a store's disk stands for (this product's own profile; SRTM documentation for the bytes of a tile).
-use Rattle.std.specs.Prelude.{◌≡◌, ℕ, List, All, None}
+use Rattle.std.specs.Prelude.{◌≡◌, ℕ, All}
 use Rattle.std.specs.List.{AllZip}
 use Rattle.disk.specs.Disk.{Image}
 use Rattle.lattice.specs.Mosaic.{Tile, IsMosaic}
 use Rattle.hgt.specs.Bytes.{AreHgtBytes}
-use Rattle.catalogue.specs.Tiles.{corners_of}
 use Rattle.calls.specs.State.{Contents}
 use Rattle.cow_tree.specs.Stored.{IsPage, plane_bytes, StoredTile, Stored}
 use Rattle.cow_tree.specs.Layout.{Stands}
+use Rattle.store.specs.Kept.{KeepRight, stale_corners}
 
 -- this stored tile is the tile: its heights are whole pages, which joined and cut are the HGT bytes of the samples
 pub record HoldsTile (n : ℕ) (stored : StoredTile) (t : Tile) : Type 0 where
@@ -15,12 +15,7 @@ pub record HoldsTile (n : ℕ) (stored : StoredTile) (t : Tile) : Type 0 where
   pub pages : All IsPage stored.heights
   pub heights : AreHgtBytes n (plane_bytes n stored.heights) t.samples
 
--- no levels and labels are kept
-abbrev pub KeepNone : List StoredTile → Type 0
-KeepNone tiles = All (λ t. t.kept ≡ None) tiles
-
--- What is stored, with tiles of this side and room for so many, are these contents. The one format so far is version 1, and
--- no planes are kept yet, so every present tile is stale.
+-- What is stored, with tiles of this side and room for so many, are these contents. The one format so far is version 1.
 pub record Holds (side capacity : ℕ) (stored : Stored) (c : Contents) : Type 0 where
   pub stored_side : stored.side ≡ side
   pub stored_capacity : stored.capacity ≡ capacity
@@ -31,8 +26,8 @@ pub record Holds (side capacity : ℕ) (stored : Stored) (c : Contents) : Type 0
   pub side_is : c.mosaic.side ≡ side
   pub sinks : stored.sinks ≡ c.mosaic.sinks
   pub tiles : AllZip (HoldsTile side) stored.tiles c.mosaic.tiles
-  pub none_kept : KeepNone stored.tiles
-  pub stale : c.stale ≡ corners_of c.mosaic
+  pub kept : KeepRight c.mosaic stored.tiles
+  pub stale : c.stale ≡ stale_corners stored.tiles
 
 -- on a disk of so many sectors this image stands for the contents of a store of this side and capacity
 abbrev pub StandsFor : (sectors side capacity : ℕ) → Image → Contents → Type 0

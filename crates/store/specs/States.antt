@@ -8,6 +8,7 @@ use Rattle.page_codec.specs.Roots.{RootValue}
 use Rattle.edits.specs.declared.command.Command.{Command}
 use Rattle.calls.specs.State.{Contents, State, in_doubt}
 use Rattle.cow_tree.specs.Stored.{StoredTile, Stored}
+use Rattle.store.specs.Kept.{stale_in}
 use Rattle.store.specs.Standing.{Holds, StandsFor}
 
 -- the image stands for the contents known last, or for those of the commit in doubt
@@ -42,5 +43,6 @@ pub record IsStateOf {D : Type 0} (g : Ghosts D) (disk : D) (root : RootValue) (
   pub side_is : s.contents.mosaic.side ≡ root.side
   pub count : root.count ≡ s.contents.count
   pub number : root.number ≡ s.contents.number
+  pub stale : stale_in root ≡ s.contents.stale
   pub failed_is : failed ≡ s.failed
   pub sound : failed ≡ false → IsSound root.side root.capacity IsTreeAt staged sinks s

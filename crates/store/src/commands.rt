@@ -21,6 +21,7 @@ use crate::Store;
 use crate::committing::commit_staged;
 use crate::editing::{plan_changes, stage_changes};
 use crate::sinking::plan_sinks;
+use crate::staling::{drop_near, drop_near_changes, drop_near_sink};
 use cow_tree::Plane;
 use disk::Disk;
 use edits::{Command, commands_make_mosaics};
@@ -61,6 +62,7 @@ impl<D: Disk> Store<D> {
         self.can_import(corner, bytes)?;
         // What is made is a mosaic.
         commands_make_mosaics();
+        drop_near(&mut self.tree, corner);
         let staged = self.tree.stage_plane(corner, Plane::Heights, bytes);
         commit_staged(&mut self.tree, staged)
     }
@@ -73,6 +75,7 @@ impl<D: Disk> Store<D> {
         self.can_remove(corner)?;
         commands_make_mosaics();
         self.tree.drop_plane(corner, Plane::Heights);
+        drop_near(&mut self.tree, corner);
         commit_staged(&mut self.tree, Ok(()))
     }
 
@@ -87,6 +90,7 @@ impl<D: Disk> Store<D> {
         if self.tree.current().number() == u64::MAX {
             return Err(Refusal::Worn);
         }
+        drop_near_changes(&mut self.tree, &changes);
         let staged = stage_changes(&mut self.tree, &changes);
         commit_staged(&mut self.tree, staged)
     }
@@ -103,6 +107,7 @@ impl<D: Disk> Store<D> {
             return Err(Refusal::Worn);
         }
         self.tree.declare(&sinks);
+        drop_near_sink(&mut self.tree, command);
         commit_staged(&mut self.tree, Ok(()))
     }
 

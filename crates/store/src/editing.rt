@@ -7,9 +7,10 @@ ghost use Rattle.page_codec.specs.Sizes.{pages_of};
 ghost use Rattle.edits.specs.declared.change.Change.TheVariants.{Set};
 ghost use Rattle.edits.specs.Changes.{CanBeSet, all_changed};
 ghost use Rattle.edits.specs.Effect.{effect};
-ghost use Rattle.edits.specs.LeftStale.{tile_of};
+ghost use Rattle.edits.specs.LeftStale.{tile_of, is_beside};
 ghost use Rattle.calls.specs.Outcomes.{AppliesNot};
 ghost use Rattle.edits.specs.Plans.{IsFew, may_end};
+ghost use Rattle.edits.specs.Touched.{goes_stale};
 ghost use Rattle.calls.specs.State.{State};
 ghost use Rattle.cow_tree.specs.Staged.{index_page_by};
 ghost use Rattle.cow_tree.specs.Stored.{StoredTile, Stored, with_page};
@@ -48,6 +49,8 @@ pub(crate) fn plan_changes<D: Disk>(
     ensures sets { IfOk result (λ changes. All (CanBeSet (root_of tree.old).side (corners_of tree.old)) changes.items) }
     ensures changes { D.honest (disk_of tree.new) → (s : State) → IsInState D.Disk tree.old s
         → IfOk result (λ changes. effect (root_of tree.old).capacity s.contents.mosaic command.now ≡ Ok (all_changed changes.items s.contents.mosaic)) }
+    ensures beside { D.honest (disk_of tree.new) → (s : State) → IsInState D.Disk tree.old s
+        → IfOk result (λ changes. (p : Corner) → is_beside s.contents.mosaic changes.items p ≡ goes_stale s.contents.mosaic command.now p) }
     ensures refused { D.honest (disk_of tree.new) → (s : State) → IsInState D.Disk tree.old s
         → IfErr result (λ r. r ≢ Device → AppliesNot (root_of tree.old).capacity s command.now r s) }
 {
@@ -65,9 +68,9 @@ pub(crate) fn stage_changes<D: Disk>(tree: &mut Tree<D>, changes: &[Change]) -> 
     ensures writes { D.writes (disk_of tree.new) ≤ writes_begun D.Disk tree.old + length changes.now }
     ensures pages { OnOk result (writes_begun D.Disk tree.new ≤ writes_begun D.Disk tree.old + length changes.now) }
     ensures due { OnOk result (records_due tree.new ≤ records_due tree.old + (length changes.now + index_pages_due (root_of tree.old).version (length changes.now))) }
-    ensures set { D.honest (disk_of tree.new) → (s : Stored) (m : Mosaic) → IsAt D.Disk tree.old s
-        → HoldsMosaic (root_of tree.old).side (staged_in D.Disk tree.old) m
-        → OnOk result (HoldsMosaic (root_of tree.old).side (staged_in D.Disk tree.new) (all_changed changes.now m)) }
+    ensures set { D.honest (disk_of tree.new) → (s : Stored) (before : List StoredTile) (m : Mosaic) → IsAt D.Disk tree.old s
+        → HoldsMosaic (root_of tree.old).side before (staged_in D.Disk tree.old) m
+        → OnOk result (HoldsMosaic (root_of tree.old).side before (staged_in D.Disk tree.new) (all_changed changes.now m)) }
 {
     prepare_tiles(tree, changes)?;
     stage_pages(tree, changes)
@@ -105,9 +108,9 @@ fn stage_pages<D: Disk>(tree: &mut Tree<D>, changes: &[Change]) -> Result<(), Re
     ensures writes { D.writes (disk_of tree.new) ≤ writes_begun D.Disk tree.old + length changes.now }
     ensures pages { OnOk result (writes_begun D.Disk tree.new ≤ writes_begun D.Disk tree.old + length changes.now) }
     ensures due { OnOk result (records_due tree.new ≤ records_due tree.old + index_pages_due (root_of tree.old).version (length changes.now)) }
-    ensures set { D.honest (disk_of tree.new) → (s : Stored) (m : Mosaic) → IsAt D.Disk tree.old s
-        → HoldsMosaic (root_of tree.old).side (staged_in D.Disk tree.old) m
-        → OnOk result (HoldsMosaic (root_of tree.old).side (staged_in D.Disk tree.new) (all_changed changes.now m)) }
+    ensures set { D.honest (disk_of tree.new) → (s : Stored) (before : List StoredTile) (m : Mosaic) → IsAt D.Disk tree.old s
+        → HoldsMosaic (root_of tree.old).side before (staged_in D.Disk tree.old) m
+        → OnOk result (HoldsMosaic (root_of tree.old).side before (staged_in D.Disk tree.new) (all_changed changes.now m)) }
 {
     let mut done = 0;
     while done < changes.len() {
@@ -133,9 +136,9 @@ fn stage_page<D: Disk>(
     ensures pages { OnOk result (writes_begun D.Disk tree.new ≤ writes_begun D.Disk tree.old + 1) }
     ensures due { OnOk result (records_due tree.new ≤ records_due tree.old + index_page_by (root_of tree.old).version) }
     ensures next { IfOk result (λ next. (first < next) × (next ≤ length changes.now)) }
-    ensures set { D.honest (disk_of tree.new) → (s : Stored) (m : Mosaic) → IsAt D.Disk tree.old s
-        → HoldsMosaic (root_of tree.old).side (staged_in D.Disk tree.old) (all_changed (take first changes.now) m)
-        → IfOk result (λ next. HoldsMosaic (root_of tree.old).side (staged_in D.Disk tree.new) (all_changed (take next changes.now) m)) }
+    ensures set { D.honest (disk_of tree.new) → (s : Stored) (before : List StoredTile) (m : Mosaic) → IsAt D.Disk tree.old s
+        → HoldsMosaic (root_of tree.old).side before (staged_in D.Disk tree.old) (all_changed (take first changes.now) m)
+        → IfOk result (λ next. HoldsMosaic (root_of tree.old).side before (staged_in D.Disk tree.new) (all_changed (take next changes.now) m)) }
 {
     let (corner, index) = match &changes[first] {
         Change::Set { corner, index, .. } => (*corner, *index / SAMPLES_IN_PAGE),
@@ -161,9 +164,9 @@ fn set_in_page(
     ensures low { first ≤ result }
     ensures high { result ≤ length changes.now }
     ensures first { (e : ℕ) (s : ℤ) → first < length changes.now → get_or changes.now first (Set corner e s) ≡ Set corner e s → e / 2048 ≡ index → first < result }
-    ensures set { (side : ℕ) (corners : List Corner) (tiles : List StoredTile) (m : Mosaic) → All (CanBeSet side corners) changes.now
-        → HoldsMosaic side (with_page corner index page.old tiles) (all_changed (take first changes.now) m)
-        → HoldsMosaic side (with_page corner index page.new tiles) (all_changed (take result changes.now) m) }
+    ensures set { (side : ℕ) (corners : List Corner) (before tiles : List StoredTile) (m : Mosaic) → All (CanBeSet side corners) changes.now
+        → HoldsMosaic side before (with_page corner index page.old tiles) (all_changed (take first changes.now) m)
+        → HoldsMosaic side before (with_page corner index page.new tiles) (all_changed (take result changes.now) m) }
 {
     let mut next = first;
     while next < changes.len() {

@@ -3,8 +3,9 @@
 //! The layer above rests on this, where the disk is honest: each call answers what its definition asks of the state that
 //! the store was in, and leaves the state that goes with the answer; a stop at any moment inside a command leaves the
 //! contents as they were or as the command makes them, whole; after an Ok it leaves nothing else. An image stands for at
-//! most one contents. `specs/Standing.antt` says when an image stands for contents, `specs/States.antt` when a store is in a
-//! state, and the crate calls has the states and answers.
+//! most one contents. `specs/Standing.antt` says when an image stands for contents, `specs/Kept.antt` when the planes
+//! that it keeps are right, `specs/States.antt` when a store is in a state, and the crate calls has the states and
+//! answers.
 #![tactic(auto)]
 
 mod commands;
@@ -14,6 +15,7 @@ mod laws;
 mod queries;
 mod running;
 mod sinking;
+mod staling;
 mod store;
 mod store_engine;
 

@@ -1,19 +1,24 @@
 //! The store.
-ghost use Rattle.std.specs.Prelude.{◌≡◌, ◌≢◌, ◌≤◌, ◌<◌, ◌⊎◌, ◌↔◌, ℕ, true, false, Some, Ok, Err, OnOk, IfOk, IfErr, IsErrOf};
+ghost use Rattle.std.specs.Prelude.{◌≡◌, ◌≢◌, ◌≤◌, ◌<◌, ◌⊎◌, ◌↔◌, ◌&&◌, ℕ, true, false, Some, Ok, Err, OnOk, IfOk, IfErr, IsErrOf};
+ghost use Rattle.std.specs.List.{list_any};
+ghost use Rattle.std.specs.Option.{is_none};
 ghost use Rattle.disk.specs.Disk.{Image, HasRisen};
 ghost use Rattle.disk.specs.Stops.{AddsNothing};
+ghost use Rattle.lattice.specs.Corners.{same_corner};
 ghost use Rattle.lattice.specs.declared.refusal.Refusal.TheVariants.{Device, NoMemory, BadSide, BadCapacity, TooSmall};
 ghost use Rattle.page_codec.specs.Sizes.{sectors_of};
+ghost use Rattle.catalogue.specs.Tiles.{is_listed};
 ghost use Rattle.calls.specs.State.{Contents, State, fresh, working};
 ghost use Rattle.cow_tree.specs.OverRoots.{IsRefusalOfTree};
 ghost use Rattle.cow_tree.specs.Trees.{MayRefuse, has_failed as have_failed};
+ghost use Rattle.store.specs.Kept.{stale_in};
 ghost use Rattle.store.specs.Standing.{StandsFor};
 ghost use Rattle.store.specs.TreeStates.{IsClean};
 
 use cow_tree::{NotOpened, Tree};
 use disk::Disk;
-use lattice::{Refusal, Side};
-use page_codec::{MAX_CAPACITY, MAX_SIDE, sectors_needed};
+use lattice::{Corner, Refusal, Side};
+use page_codec::{Entry, MAX_CAPACITY, MAX_SIDE, sectors_needed};
 use std::alloc::Global;
 
 /// A store of elevation tiles on a disk.
@@ -144,6 +149,14 @@ impl<D: Disk> Store<D> {
         self.tree.current().number()
     }
 
+    /// Whether the corner has a tile of which no levels and labels are kept, as last known.
+    pub fn stale(&self, corner: Corner) -> bool
+        ensures value { result ≡ is_listed corner (stale_in (root_of self.now)) }
+        ensures state { (s : State) → IsAt D.Disk self.now s → result ≡ is_listed corner s.contents.stale }
+    {
+        is_stale(self.tree.current().entries(), corner)
+    }
+
     /// Samples along an edge of its tiles.
     pub fn side(&self) -> u32
         ensures { result ≡ side_of self.now }
@@ -164,4 +177,13 @@ impl<D: Disk> Store<D> {
     {
         self.tree.current().capacity()
     }
+}
+
+// Whether some entry is the corner's and keeps nothing.
+fn is_stale(entries: &[Entry], corner: Corner) -> bool
+    ensures { result ≡ list_any (λ e. same_corner e.corner corner && is_none e.kept) entries.now }
+{
+    entries
+        .iter()
+        .any(|entry| entry.corner == corner && entry.kept.is_none())
 }

@@ -1,20 +1,18 @@
-use Rattle.std.proofs.Common.{◌≡◌, ◌≢◌, ℕ, false, Result, Ok, Err, ap, ◌∙◌, subst}
+use Rattle.std.proofs.Common.{◌≡◌, ℕ, List, Ok, Err, ap, ◌∙◌, subst}
 use Rattle.std.specs.Prelude.{IsTrue, IfErr}
 use Rattle.std.proofs.lemmas.Result.{IfOk-weaker}
+use Rattle.lattice.specs.Corners.{Corner}
 use Rattle.lattice.specs.Mosaic.{Mosaic}
-use Rattle.lattice.specs.declared.refusal.Refusal.{Refusal}
-use Rattle.lattice.specs.declared.refusal.Refusal.TheVariants.{Device}
 use Rattle.page_codec.specs.Roots.{RootValue}
-use Rattle.catalogue.specs.Readers.{reads_of}
-use Rattle.edits.specs.declared.command.Command.{Command}
 use Rattle.edits.specs.Changes.{all_changed}
 use Rattle.edits.specs.Effect.{effect}
-use Rattle.edits.specs.Plans.{is_own, may_end}
-use Rattle.calls.specs.Outcomes.{AppliesNot}
-use Rattle.calls.specs.State.{State}
+use Rattle.edits.specs.LeftStale.{left_stale}
+use Rattle.edits.specs.Plans.{is_own}
+use Rattle.edits.specs.Touched.{stale_after}
 use Rattle.cow_tree.specs.Trees.{root_of, has_failed}
 use Rattle.store.proofs.EditingReads.{reading, mosaic_is, readable, refused_so, risen_read, works_read, fails_read, quiet_read}
 use Rattle.store.proofs.InMemory.{is_working}
+use Rattle.store.proofs.Nearby.{goes_beside}
 use Rattle.store.proofs.Querying.{still_clean, true_where}
 use Rattle.store.proofs.editing.plan_changes.Goals as goal
 
@@ -56,3 +54,15 @@ returns-clause-refused g c honest s at =
     (subst (λ (n : ℕ). IfErr c.plan.result (λ r. IsTrue (is_own command r) → effect n s.contents.mosaic command ≡ Err r)) capacity
     (subst (λ (m : Mosaic). IfErr c.plan.result (λ r. IsTrue (is_own command r) → effect c.capacity-capacity.result m command ≡ Err r)) (mosaic_is d old new keeps c.requires.works s at)
     (c.plan.ensures.refused (readable d old new keeps c.requires.works s at honest))))
+
+pub returns-clause-beside : goal.returns-clause-beside
+returns-clause-beside g c honest s at =
+    let d = g.D.Disk in
+    let old = c.args.tree.now in
+    let new = c.plan.new.samples in
+    let keeps = c.plan.ensures.reads.keeps in
+    let command = c.args.command.now in
+    IfOk-weaker c.plan.result _ _
+    (λ changes same. goes_beside s.contents.mosaic changes.items command
+    (subst (λ (m : Mosaic). (stale : List Corner) (made : Mosaic) → stale_after m command stale made ≡ left_stale m changes.items stale made) (mosaic_is d old new keeps c.requires.works s at) same))
+    (c.plan.ensures.stale (readable d old new keeps c.requires.works s at honest))

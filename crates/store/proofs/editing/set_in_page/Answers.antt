@@ -13,9 +13,9 @@ loop-next-preserved c =
     record {
       low = omega (arith, here.low);
       high = omega (arith, c.loop-next-test.true);
-      set = λ side corners tiles m each start.
-          subst (λ (page : List ℕ). HoldsMosaic side (with_page c.args.corner c.args.index page tiles) (all_changed (take (k + 1) c.args.changes.now) m))
+      set = λ side corners before tiles m each start.
+          subst (λ (page : List ℕ). HoldsMosaic side before (with_page c.args.corner c.args.index page tiles) (all_changed (take (k + 1) c.args.changes.now) m))
           (sym (c.put_sample.ensures.bytes ∙ ap (λ (s : ℤ). with_bytes c.in-Some.at s c.loop-next.page) (sample_passed c.in-Some.sample c.in-Some.ensures.some.sample)))
-          (sample_set side corners c.args.changes.now m tiles k c.args.corner c.args.index c.loop-next.page c.index-changes-next.result c.in-Some.at c.in-Some.sample
-          each c.loop-next-test.true c.index-changes-next.is c.in-Some.ensures.some (here.set side corners tiles m each start));
+          (sample_set side corners c.args.changes.now before m tiles k c.args.corner c.args.index c.loop-next.page c.index-changes-next.result c.in-Some.at c.in-Some.sample
+          each c.loop-next-test.true c.index-changes-next.is c.in-Some.ensures.some (here.set side corners before tiles m each start));
     }

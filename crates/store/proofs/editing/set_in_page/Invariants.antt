@@ -10,9 +10,9 @@ abbrev pub invariant-loop-next : goal.invariant-loop-next
 invariant-loop-next l = record {
   low : l.first ≤ l.next;
   high : l.next ≤ length l.changes;
-  set : (side : ℕ) (corners : List Corner) (tiles : List StoredTile) (m : Mosaic) → All (CanBeSet side corners) l.changes
-      → HoldsMosaic side (with_page l.corner l.index l.fn.page tiles) (all_changed (take l.first l.changes) m)
-      → HoldsMosaic side (with_page l.corner l.index l.page tiles) (all_changed (take l.next l.changes) m);
+  set : (side : ℕ) (corners : List Corner) (before tiles : List StoredTile) (m : Mosaic) → All (CanBeSet side corners) l.changes
+      → HoldsMosaic side before (with_page l.corner l.index l.fn.page tiles) (all_changed (take l.first l.changes) m)
+      → HoldsMosaic side before (with_page l.corner l.index l.page tiles) (all_changed (take l.next l.changes) m);
 }
 
 abbrev pub decreases-loop-next : goal.decreases-loop-next

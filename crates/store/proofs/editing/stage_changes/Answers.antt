@@ -14,7 +14,7 @@ returns-clause-stages g c =
     stages_on g.D.Disk c.args.tree.now c.prepare_tiles.new.tree c.stage_pages.new.tree tt c.stage_pages.result c.in_ok-prepare_tiles.ensures.stages c.stage_pages.ensures.stages
 
 pub returns-clause-set : goal.returns-clause-set
-returns-clause-set g c honest s m at start =
+returns-clause-set g c honest s before m at start =
     let d = g.D.Disk in
     let old = c.args.tree.now in
     let mid = c.prepare_tiles.new.tree in
@@ -22,9 +22,9 @@ returns-clause-set g c honest s m at start =
     let first = c.in_ok-prepare_tiles.ensures.stages.uncommitted in
     let side = ap (λ (r : RootValue). r.side) first.root in
     let mid_at = first.at (c.stage_pages.ensures.stages.uncommitted.honest honest) s at first.works in
-    subst (λ (n : ℕ). OnOk c.stage_pages.result (HoldsMosaic n (staged_in d new) (all_changed c.args.changes.now m))) side
-    (c.stage_pages.ensures.set honest s m mid_at
-    (subst (λ (n : ℕ). HoldsMosaic n (staged_in d mid) m) (sym side) (subst (λ (tiles : List StoredTile). HoldsMosaic (root_of old).side tiles m) (sym c.prepare_tiles.ensures.staged) start)))
+    subst (λ (n : ℕ). OnOk c.stage_pages.result (HoldsMosaic n before (staged_in d new) (all_changed c.args.changes.now m))) side
+    (c.stage_pages.ensures.set honest s before m mid_at
+    (subst (λ (n : ℕ). HoldsMosaic n before (staged_in d mid) m) (sym side) (subst (λ (tiles : List StoredTile). HoldsMosaic (root_of old).side before tiles m) (sym c.prepare_tiles.ensures.staged) start)))
 
 same_begun : (g : _) (c : After-stage_pages g) → writes_begun g.D.Disk c.prepare_tiles.new.tree ≡ writes_begun g.D.Disk c.args.tree.now
 same_begun g c = ap₂ (λ (n : ℕ) (b : Bool). n + (if b then 0 else 1)) c.in_ok-prepare_tiles.ensures.writes c.in_ok-prepare_tiles.ensures.begun

@@ -80,7 +80,7 @@ returns-clause-next g c =
     )
 
 pub returns-clause-set : goal.returns-clause-set
-returns-clause-set g c honest s m at start =
+returns-clause-set g c honest s before m at start =
     let d = g.D.Disk in
     let old = c.args.tree.now in
     let mid = c.read_page.new.self in
@@ -91,9 +91,9 @@ returns-clause-set g c honest s m at start =
     let mid_honest = c.stage.ensures.honest honest in
     let mid_at = read.reads.keeps.at mid_honest s at read.reads.not_failed in
     let staged = c.in_ok-stage.ensures.staged honest s mid_at ∙ ap (with_page corner index c.set_in_page-next.new.page) (read.reads.keeps.staged mid_honest) in
-    subst (λ (tiles : List StoredTile). HoldsMosaic (root_of old).side tiles (all_changed (take c.set_in_page-next.result changes) m)) (sym staged)
-    (c.set_in_page-next.ensures.set (root_of old).side (corners_of old) (staged_in d old) m c.requires.sets
-    (page_as_read (root_of old).side changes m (staged_in d old) c.args.first corner index c.read_page.new.into (read.page mid_honest) start))
+    subst (λ (tiles : List StoredTile). HoldsMosaic (root_of old).side before tiles (all_changed (take c.set_in_page-next.result changes) m)) (sym staged)
+    (c.set_in_page-next.ensures.set (root_of old).side (corners_of old) before (staged_in d old) m c.requires.sets
+    (page_as_read (root_of old).side changes before m (staged_in d old) c.args.first corner index c.read_page.new.into (read.page mid_honest) start))
 
 pub returns-in_err-stage-clause-refused : goal.returns-in_err-stage-clause-refused
 returns-in_err-stage-clause-refused g c =

@@ -35,12 +35,12 @@ loop-done-preserved g c =
           subst (λ (r : RootValue). records_due new ≤ records_due mid + index_page_by r.version) here.stages.uncommitted.root c.in_ok-done.ensures.due in
           index_due_on (root_of old).version (records_due old) (records_due mid) (records_due new) c.loop-done.done c.in_ok-done.done here.due more_due c.in_ok-done.ensures.next.0;
       within = c.in_ok-done.ensures.next.1;
-      set = λ honest s m at start.
+      set = λ honest s before m at start.
           let mid_honest = more.uncommitted.honest honest in
           let mid_at = here.stages.uncommitted.at mid_honest s at here.stages.uncommitted.works in
-          subst (λ (n : ℕ). HoldsMosaic n (staged_in d new) (all_changed (take c.in_ok-done.done c.args.changes.now) m)) side
-          (c.in_ok-done.ensures.set honest s m mid_at
-          (subst (λ (n : ℕ). HoldsMosaic n (staged_in d mid) (all_changed (take c.loop-done.done c.args.changes.now) m)) (sym side) (here.set mid_honest s m at start)));
+          subst (λ (n : ℕ). HoldsMosaic n before (staged_in d new) (all_changed (take c.in_ok-done.done c.args.changes.now) m)) side
+          (c.in_ok-done.ensures.set honest s before m mid_at
+          (subst (λ (n : ℕ). HoldsMosaic n before (staged_in d mid) (all_changed (take c.loop-done.done c.args.changes.now) m)) (sym side) (here.set mid_honest s before m at start)));
     }
 
 pub returns-clause-due : goal.returns-clause-due
@@ -49,6 +49,6 @@ returns-clause-due g c =
     index_due_all (root_of old).version (records_due old) (records_due c.loop-done.tree) c.loop-done.done (length c.args.changes.now) c.loop-done.invariant.due c.loop-done.invariant.within
 
 pub returns-clause-set : goal.returns-clause-set
-returns-clause-set g c honest s m at start =
+returns-clause-set g c honest s before m at start =
     let old = c.args.tree.now in
-    all_changes old.root.side c.args.changes.now m (staged_in g.D.Disk c.loop-done.tree) c.loop-done.done c.loop-done-test.false (c.loop-done.invariant.set honest s m at start)
+    all_changes old.root.side c.args.changes.now before m (staged_in g.D.Disk c.loop-done.tree) c.loop-done.done c.loop-done-test.false (c.loop-done.invariant.set honest s before m at start)

@@ -1,12 +1,10 @@
-use Rattle.std.proofs.Common.{◌≡◌, ◌∙◌, ℕ, false, Result, Ok, Err, refl, sym, subst}
+use Rattle.std.proofs.Common.{◌≡◌, Result, Ok, Err, refl, sym, subst}
 use Rattle.std.specs.Prelude.{IsTrue, IfOk, IfErr}
 use Rattle.std.proofs.lemmas.Result.{IfErr-weaker}
-use Rattle.disk.specs.declared.disk.Disk.{Ghosts}
 use Rattle.lattice.specs.Mosaic.{Mosaic}
 use Rattle.lattice.specs.declared.point.Point.{Point}
 use Rattle.lattice.specs.declared.refusal.Refusal.{Refusal}
 use Rattle.lattice.specs.declared.refusal.Refusal.TheVariants.{Device, NoSink}
-use Rattle.arrayvec.specs.ArrayVec.{ArrayVec}
 use Rattle.catalogue.specs.Readers.{reads_of}
 use Rattle.catalogue.specs.Tiles.{with_sinks}
 use Rattle.edits.specs.declared.command.Command.{Command}
@@ -14,7 +12,7 @@ use Rattle.edits.specs.declared.command.Command.TheVariants.{Sink, Unsink}
 use Rattle.edits.specs.Effect.{effect}
 use Rattle.edits.specs.Plans.{is_own, may_end}
 use Rattle.cow_tree.specs.Reading.{read_nothing}
-use Rattle.cow_tree.specs.Trees.{root_of, has_failed}
+use Rattle.cow_tree.specs.Trees.{root_of}
 use Rattle.store.proofs.EditingReads.{mosaic_is, readable, refused_so}
 use Rattle.store.proofs.InMemory.{is_working}
 use Rattle.store.proofs.Querying.{still_clean}

@@ -1,5 +1,11 @@
-use Rattle.cow_tree.proofs.Tiles.{corners_adjacent}
+use Rattle.std.proofs.lemmas.List.Elements.{All-map}
+use Rattle.std.specs.Prelude.{IsTrue}
+use Rattle.lattice.specs.Corners.{is_corner}
+use Rattle.cow_tree.proofs.Tiles.{corner_of, corners_adjacent}
 use Rattle.cow_tree.proofs.tree.Tree.corners.Goals as goal
 
 pub returns-clause-in_order : goal.returns-clause-in_order
 returns-clause-in_order g c = corners_adjacent c.args.self.now.chart.staged c.rules.ensures.staged.in_order
+
+pub returns-clause-whole_degrees : goal.returns-clause-whole_degrees
+returns-clause-whole_degrees g c = All-map (λ d. IsTrue (is_corner d)) corner_of c.args.self.now.chart.staged c.rules.ensures.staged.corners

@@ -1,17 +1,23 @@
-use Rattle.std.proofs.Common.{◌≡◌, ⊎_elim, ℕ, List, refl, sym, ap, ◌∙◌, subst}
+use Rattle.std.proofs.Common.{◌≡◌, ⊎_elim, ℕ, map, refl, sym, ap, ◌∙◌, subst}
 use Rattle.std.specs.Prelude.{Result, Ok, Err}
-use Rattle.lattice.specs.declared.point.Point.{Point}
+use Rattle.lattice.specs.Corners.{Corner}
+use Rattle.lattice.specs.Mosaic.{Mosaic}
+use Rattle.edits.specs.Touched.{goes_stale}
 use Rattle.lattice.specs.declared.refusal.Refusal.{Refusal}
 use Rattle.lattice.specs.declared.refusal.Refusal.TheVariants.{Device, Worn}
 use Rattle.page_codec.specs.Roots.{RootValue}
 use Rattle.catalogue.specs.Tiles.{with_sinks}
-use Rattle.cow_tree.specs.Trees.{root_of}
+use Rattle.charts.specs.Charts.{ChartValue, corners_of_locations}
+use Rattle.cow_tree.specs.Trees.{disk_of, root_of, corners_of, staged_in}
 use Rattle.cow_tree.proofs.ReadOnly.{never_refused}
 use Rattle.store.specs.Applied.{IsApplied}
+use Rattle.store.specs.Staling.{near_sink, staled}
 use Rattle.store.proofs.Committed.{fails_before, quiet, may_end_it}
 use Rattle.store.proofs.EditingReads.{device_or_not}
 use Rattle.store.proofs.EditingSteps.{in_memory, uncommitted_on, refused_as}
-use Rattle.store.proofs.InMemory.{worn_at}
+use Rattle.store.proofs.InMemory.{worn_at, corners_are}
+use Rattle.store.proofs.Nearby.{sink_stale}
+use Rattle.store.proofs.Staled.{staled_as}
 use Rattle.store.proofs.SinksHeld.{sinks_hold}
 use Rattle.store.proofs.store.Store.change_sinks.Goals as goal
 
@@ -50,17 +56,29 @@ returns-clause-applied g c =
     let d = g.D.Disk in
     let old = c.args.self.now.tree in
     let planned = c.plan_sinks.new.tree in
-    let mid = c.declare.new.self in
+    let mid = c.drop_near_sink.new.tree in
     let command = c.args.command.now in
     let sinks = c.in_ok-sinks.sinks in
     let is = c.in_ok-sinks.ensures in
     let does = c.declare.ensures in
-    let declared = in_memory d planned mid (Ok tt) g.met.D.Disk.only_now does.disk does.root (does.failed ∙ is.reads.works) does.at (λ refused. never_refused tt Device refused) in
+    let drops = c.drop_near_sink.ensures in
+    let same : disk_of mid ≡ disk_of planned = drops.disk ∙ does.disk in
+    let declared = in_memory d planned mid (Ok tt) g.met.D.Disk.only_now same (drops.root ∙ does.root) (drops.failed ∙ does.failed ∙ is.reads.works) (λ s at. drops.at s (does.at s at)) (λ refused. never_refused tt Device refused) in
     c.commit_staged.ensures.command old command (record {
       working = c.requires.not_failed;
       uncommitted = uncommitted_on d old planned mid sinks (Ok tt) is.reads declared;
       refused = tt;
       next = λ honest s at.
-          let planned_honest = subst d.honest does.disk honest in
-          sinks_hold d old mid c.requires.not_failed command s at sinks.items is.valid (is.made planned_honest s at) (does.sinks ∙ c.deref.ensures.0) (does.staged ∙ is.staged planned_honest);
+          let planned_honest = subst d.honest same honest in
+          let m : Mosaic = s.contents.mosaic in
+          let root : root_of c.declare.new.self ≡ root_of old = does.root ∙ is.reads.root in
+          let corners : corners_of c.declare.new.self ≡ corners_of old =
+          ap (λ (x : ChartValue). corners_of_locations x.staged) does.chart ∙ (is.clean is.reads.works (c.args.self.now.clean c.requires.not_failed)).corners
+          ∙ ap (λ (r : RootValue). map (λ e. e.corner) r.entries) is.reads.root ∙ sym (c.args.self.now.clean c.requires.not_failed).corners in
+          let test : (p : Corner) → near_sink (root_of c.declare.new.self).side (corners_of c.declare.new.self) command p ≡ goes_stale m command p =
+          sink_stale m (root_of c.declare.new.self).side (corners_of c.declare.new.self) command c.requires.sinks ((at.sound c.requires.not_failed).holds.side_is ∙ ap (λ (r : RootValue). r.side) (sym root))
+          (sym (corners ∙ corners_are d old c.requires.not_failed s at)) in
+          sinks_hold d old mid c.requires.not_failed command s at sinks.items is.valid (is.made planned_honest s at) (drops.sinks ∙ does.sinks ∙ c.deref.ensures.0)
+          (drops.staged ∙ staled_as (near_sink (root_of c.declare.new.self).side (corners_of c.declare.new.self) command) (goes_stale m command) (staged_in d c.declare.new.self) (λ t there. test t.corner)
+          ∙ ap (staled (goes_stale m command)) (does.staged ∙ is.staged planned_honest));
     })

@@ -1,20 +1,13 @@
-use Rattle.std.proofs.Common.{◌≡◌, ℕ, ℤ, IsTrue, Result}
-use Rattle.std.specs.Prelude.{IsOk, IfOk, IsErrOf}
-use Rattle.lattice.specs.Ground.{is_ground, terrain}
-use Rattle.lattice.specs.Height.{height_of}
+use Rattle.std.proofs.Common.{ℕ, Result}
+use Rattle.lattice.specs.Ground.{terrain}
 use Rattle.lattice.specs.Mosaic.{Mosaic}
-use Rattle.lattice.specs.declared.height.Height.TheVariants as height
-use Rattle.lattice.specs.declared.point.Point.{Point}
 use Rattle.lattice.specs.declared.refusal.Refusal.{Refusal}
-use Rattle.lattice.specs.declared.refusal.Refusal.TheVariants.{Outside, Void}
 use Rattle.calls.specs.State.{State}
-use Rattle.flow_d8.specs.Drainage.{AreFilledLevels}
 use Rattle.watershed.specs.Questions.{DrainsBy}
 use Rattle.calls.specs.Outcomes.{Directs}
 use Rattle.calls.proofs.Answered.{directs}
 use Rattle.catalogue.proofs.Asking.{asked_risen, asked_works, asked_fails, asked_quiet}
-use Rattle.drainage.proofs.Answered.{told_of_levels}
-use Rattle.store.proofs.Querying.{valid_at, stays_at, still_clean, still_readable, queried, fails_so}
+use Rattle.store.proofs.Querying.{stays_at, still_clean, still_readable, queried, fails_so}
 use Rattle.store.proofs.QueryingDrainage.{read_answered, told_here}
 use Rattle.store.proofs.store.Store.direction.Goals as goal
 

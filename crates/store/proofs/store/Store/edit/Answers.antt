@@ -1,22 +1,30 @@
-use Rattle.std.proofs.Common.{◌≡◌, ⊎_elim, inl, inr, ℕ, ◌+◌, ◌≤◌, if◌then◌else◌, List, vec_len, refl, sym, ap, ◌∙◌, subst, arith}
+use Rattle.std.proofs.Common.{◌≡◌, ⊎_elim, inl, inr, ℕ, ◌+◌, ◌≤◌, Bool, if◌then◌else◌, List, All, length, map, vec_len, refl, sym, ap, ap₂, ◌∙◌, subst, arith}
 use Rattle.std.specs.Prelude.{Result, Ok, Err}
 use Rattle.std.proofs.lemmas.Result.{IfErr-weaker}
 use Rattle.lattice.specs.declared.refusal.Refusal.{Refusal}
-use Rattle.lattice.specs.declared.refusal.Refusal.TheVariants.{Worn}
+use Rattle.lattice.specs.Corners.{Corner}
+use Rattle.lattice.specs.Mosaic.{Mosaic, empty_mosaic}
+use Rattle.lattice.specs.declared.refusal.Refusal.TheVariants.{Device, Worn}
 use Rattle.page_codec.specs.Roots.{RootValue}
-use Rattle.edits.specs.Changes.{all_changed}
+use Rattle.edits.specs.Changes.{CanBeSet, all_changed}
 use Rattle.edits.specs.declared.change.Change.{Change}
+use Rattle.edits.specs.LeftStale.{is_beside}
+use Rattle.edits.specs.Touched.{goes_stale}
 use Rattle.cow_tree.specs.Stored.{StoredTile}
 use Rattle.cow_tree.specs.Trees.{root_of, corners_of, has_begun, records_due, staged_in}
+use Rattle.cow_tree.proofs.ReadOnly.{never_refused}
 use Rattle.cow_tree.proofs.Steps.{on_ok}
 use Rattle.store.specs.Applied.{IsApplied}
-use Rattle.store.specs.Editing.{HoldsMosaic, index_pages_due}
+use Rattle.store.specs.Editing.{HoldsMosaic, index_pages_due, writes_begun}
+use Rattle.store.specs.Staging.{CommitsNothing}
+use Rattle.store.specs.Staling.{staled}
 use Rattle.store.proofs.Committed.{fails_before, quiet, may_end_it}
 use Rattle.store.proofs.EditingHeld.{holds_contents, edit_holds}
 use Rattle.store.proofs.EditingReads.{device_or_not}
-use Rattle.store.proofs.EditingSteps.{uncommitted_on, refused_as}
+use Rattle.store.proofs.EditingSteps.{in_memory, uncommitted_on, refused_as}
 use Rattle.store.proofs.EditingWrites.{staged_written}
 use Rattle.store.proofs.InMemory.{worn_at}
+use Rattle.store.proofs.Staled.{staled_as}
 use Rattle.store.proofs.store.Store.edit.Goals as goal
 
 pub invariant_of-self : goal.invariant_of-self
@@ -60,32 +68,46 @@ returns-clause-applied g c =
     let d = g.D.Disk in
     let old = c.args.self.now.tree in
     let planned = c.plan_changes.new.tree in
+    let dropped = c.drop_near_changes.new.tree in
     let mid = c.stage_changes-staged.new.tree in
     let command = c.args.command.now in
     let changes : List Change = c.in_ok-changes.changes.items in
     let is = c.in_ok-changes.ensures in
     let reads = is.reads in
+    let drops = c.drop_near_changes.ensures.stales (empty_mosaic 3) in
     let stages = c.stage_changes-staged.ensures.stages.uncommitted in
+    let nothing : Unit {0} = tt in
+    let gives_up : CommitsNothing d old dropped (Ok nothing) =
+    uncommitted_on d old planned dropped c.in_ok-changes.changes (Ok nothing) reads
+    (in_memory d planned dropped (Ok nothing) g.met.D.Disk.only_now drops.disk drops.root (drops.failed ∙ reads.works) drops.at (λ refused. never_refused nothing Device refused)) in
     c.commit_staged.ensures.command old command (record {
       working = c.requires.not_failed;
-      uncommitted = uncommitted_on d old planned mid c.in_ok-changes.changes c.stage_changes-staged.result reads stages;
-      refused = IfErr-weaker c.stage_changes-staged.result _ _ (λ r. ⊎_elim (λ device. inl device) (λ no_room. inr (no_room.0, no_room.1, no_room.2 ∙ is.writes))) c.stage_changes-staged.ensures.refused;
+      uncommitted = uncommitted_on d old dropped mid nothing c.stage_changes-staged.result gives_up stages;
+      refused = IfErr-weaker c.stage_changes-staged.result _ _ (λ r. ⊎_elim (λ device. inl device) (λ no_room. inr (no_room.0, no_room.1, no_room.2 ∙ ap d.writes drops.disk ∙ is.writes))) c.stage_changes-staged.ensures.refused;
       next = λ honest s at.
           let sound = at.sound c.requires.not_failed in
-          let side : (root_of planned).side ≡ (root_of old).side = ap (λ (r : RootValue). r.side) reads.root in
-          let planned_honest = stages.honest honest in
-          let planned_at = reads.at planned_honest sound.stored sound.tree reads.works in
-          let held : HoldsMosaic (root_of planned).side (staged_in d planned) s.contents.mosaic =
-          subst (λ (n : ℕ). HoldsMosaic n (staged_in d planned) s.contents.mosaic) (sym side)
-          (subst (λ (tiles : List StoredTile). HoldsMosaic (root_of old).side tiles s.contents.mosaic) (sym (is.staged planned_honest ∙ sound.nothing_staged))
-          (holds_contents (root_of old).side (root_of old).capacity sound.stored s sound.holds)) in
+          let m : Mosaic = s.contents.mosaic in
+          let side : (root_of dropped).side ≡ (root_of old).side = ap (λ (r : RootValue). r.side) (drops.root ∙ reads.root) in
+          let dropped_honest = stages.honest honest in
+          let planned_honest = subst d.honest drops.disk dropped_honest in
+          let dropped_at = drops.at sound.stored (reads.at planned_honest sound.stored sound.tree reads.works) in
+          let test : (p : Corner) → is_beside m c.deref.result.now p ≡ goes_stale m command p =
+          λ p. ap (λ (xs : List Change). is_beside m xs p) c.deref.ensures.value ∙ is.beside planned_honest s at p in
+          let before : List StoredTile = staled (goes_stale m command) sound.stored.tiles in
+          let now : staged_in d dropped ≡ before =
+          (c.drop_near_changes.ensures.stales m).staged ∙ staled_as (is_beside m c.deref.result.now) (goes_stale m command) (staged_in d planned) (λ t there. test t.corner)
+          ∙ ap (staled (goes_stale m command)) (is.staged planned_honest ∙ sound.nothing_staged) in
+          let held : HoldsMosaic (root_of dropped).side before (staged_in d dropped) m =
+          subst (λ (n : ℕ). HoldsMosaic n before (staged_in d dropped) m) (sym side)
+          (subst (λ (tiles : List StoredTile). HoldsMosaic (root_of old).side before tiles m) (sym now)
+          (holds_contents (root_of old).side (root_of old).capacity sound.stored s (goes_stale m command) sound.holds)) in
           on_ok c.stage_changes-staged.result
           (λ set.
           edit_holds d old mid c.requires.not_failed command s at (root_of old).side (corners_of old) changes is.sets (is.changes planned_honest s at)
-          (subst (λ (n : ℕ). HoldsMosaic n (staged_in d mid) (all_changed changes s.contents.mosaic)) side
-          (subst (λ (xs : List Change). HoldsMosaic (root_of planned).side (staged_in d mid) (all_changed xs s.contents.mosaic)) c.deref.ensures.value set))
-          (c.stage_changes-staged.ensures.stages.sinks ∙ is.sinks))
-          (c.stage_changes-staged.ensures.set honest sound.stored s.contents.mosaic planned_at held);
+          (subst (λ (n : ℕ). HoldsMosaic n before (staged_in d mid) (all_changed changes m)) side
+          (subst (λ (xs : List Change). HoldsMosaic (root_of dropped).side before (staged_in d mid) (all_changed xs m)) c.deref-2.ensures.value set))
+          (c.stage_changes-staged.ensures.stages.sinks ∙ drops.sinks ∙ is.sinks))
+          (c.stage_changes-staged.ensures.set honest sound.stored before m dropped_at held);
     })
 
 pub returns-clause-writes : goal.returns-clause-writes
@@ -93,18 +115,36 @@ returns-clause-writes g c =
     let d = g.D.Disk in
     let old = c.args.self.now.tree in
     let planned = c.plan_changes.new.tree in
+    let dropped = c.drop_near_changes.new.tree in
+    let drops = c.drop_near_changes.ensures.stales (empty_mosaic 3) in
+    let same_begun : writes_begun d dropped ≡ writes_begun d planned = ap₂ (λ (n : ℕ) (b : Bool). n + (if b then 0 else 1)) (ap d.writes drops.disk) drops.begun in
     let mid = c.stage_changes-staged.new.tree in
     let none = c.in_ok-changes.ensures.clean c.in_ok-changes.ensures.reads.works (c.args.self.now.clean c.requires.not_failed) in
     let stages = c.stage_changes-staged.ensures in
     staged_written (root_of old).version c.stage_changes-staged.result c.args.command.now (vec_len c.in_ok-changes.changes) (records_due mid) (d.writes old.roots.disk) (d.writes mid.roots.disk)
     (d.writes c.commit_staged.new.tree.roots.disk) (has_begun planned) (has_begun mid) c.requires.samples c.in_ok-changes.ensures.few
     (subst (λ (n : ℕ). d.writes mid.roots.disk ≤ n + (if has_begun planned then 0 else 1) + vec_len c.in_ok-changes.changes) c.in_ok-changes.ensures.writes
-    (subst (λ (k : ℕ). d.writes mid.roots.disk ≤ d.writes planned.roots.disk + (if has_begun planned then 0 else 1) + k) c.deref.ensures.len stages.writes))
-    (on_ok c.stage_changes-staged.result (λ few. let same = c.in_ok-changes.ensures.writes in let len = c.deref.ensures.len in omega (arith, few, same, len)) stages.pages)
+    (subst (λ (k : ℕ). d.writes mid.roots.disk ≤ d.writes planned.roots.disk + (if has_begun planned then 0 else 1) + k) c.deref-2.ensures.len
+    (subst (λ (n : ℕ). d.writes mid.roots.disk ≤ n + length c.deref-2.result.now) same_begun stages.writes)))
+    (on_ok c.stage_changes-staged.result (λ few. let same = c.in_ok-changes.ensures.writes in let len = c.deref-2.ensures.len in let begun = same_begun in omega (arith, few, same, len, begun)) stages.pages)
     (on_ok c.stage_changes-staged.result
-    (λ few. let clean = none.none_due in
-    let here : records_due mid ≤ records_due planned + (vec_len c.in_ok-changes.changes + index_pages_due (root_of old).version (vec_len c.in_ok-changes.changes)) =
-    subst (λ (r : RootValue). records_due mid ≤ records_due planned + (vec_len c.in_ok-changes.changes + index_pages_due r.version (vec_len c.in_ok-changes.changes))) c.in_ok-changes.ensures.reads.root
-    (subst (λ (k : ℕ). records_due mid ≤ records_due planned + (k + index_pages_due (root_of planned).version k)) c.deref.ensures.len few) in
-    omega (arith, here, clean)) stages.due)
+    (λ few. let clean = none.none_due in let due = drops.due in
+    let here : records_due mid ≤ records_due dropped + (vec_len c.in_ok-changes.changes + index_pages_due (root_of old).version (vec_len c.in_ok-changes.changes)) =
+    subst (λ (r : RootValue). records_due mid ≤ records_due dropped + (vec_len c.in_ok-changes.changes + index_pages_due r.version (vec_len c.in_ok-changes.changes))) (drops.root ∙ c.in_ok-changes.ensures.reads.root)
+    (subst (λ (k : ℕ). records_due mid ≤ records_due dropped + (k + index_pages_due (root_of dropped).version k)) c.deref-2.ensures.len few) in
+    omega (arith, here, clean, due)) stages.due)
     c.commit_staged.ensures.writes c.commit_staged.ensures.unwritten
+
+pub stage_changes-staged-requires-clause-sets : goal.stage_changes-staged-requires-clause-sets
+stage_changes-staged-requires-clause-sets g c =
+    let old = c.args.self.now.tree in
+    let dropped = c.drop_near_changes.new.tree in
+    let changes : List Change = c.in_ok-changes.changes.items in
+    let is = c.in_ok-changes.ensures in
+    let was = c.args.self.now.clean c.requires.not_failed in
+    let drops = c.drop_near_changes.ensures in
+    let side : (root_of dropped).side ≡ (root_of old).side = ap (λ (r : RootValue). r.side) (drops.root ∙ is.reads.root) in
+    let corners : corners_of dropped ≡ corners_of old =
+    drops.corners ∙ (is.clean is.reads.works was).corners ∙ ap (λ (r : RootValue). map (λ e. e.corner) r.entries) is.reads.root ∙ sym was.corners in
+    subst (λ (xs : List Change). All (CanBeSet (root_of dropped).side (corners_of dropped)) xs) (sym c.deref-2.ensures.value)
+    (subst (λ (cs : List Corner). All (CanBeSet (root_of dropped).side cs) changes) (sym corners) (subst (λ (n : ℕ). All (CanBeSet n (corners_of old)) changes) (sym side) is.sets))

@@ -1,7 +1,9 @@
-use Rattle.std.proofs.Common.{Ok}
+use Rattle.std.proofs.Common.{Ok, ap, ◌∙◌}
 use Rattle.edits.specs.declared.command.Command.TheVariants.{Remove}
+use Rattle.edits.specs.Touched.{are_neighbours}
 use Rattle.lattice.specs.declared.refusal.Refusal.TheVariants.{Device}
 use Rattle.cow_tree.proofs.ReadOnly.{never_refused}
+use Rattle.store.specs.Staling.{staled}
 use Rattle.store.proofs.Committed.{refused_first}
 use Rattle.store.proofs.EditingSteps.{in_memory, refused_as}
 use Rattle.store.proofs.Importing.{remove_holds}
@@ -19,11 +21,13 @@ pub returns : goal.returns
 returns g c =
     let d = g.D.Disk in
     let old = c.args.self.now.tree in
-    let mid = c.drop_plane.new.self in
+    let mid = c.drop_near.new.tree in
     let is = c.drop_plane.ensures in
+    let drops = c.drop_near.ensures in
     c.commit_staged.ensures.command old (Remove c.args.corner) (record {
       working = c.requires;
-      uncommitted = in_memory d old mid (Ok tt) g.met.D.Disk.only_now is.disk is.root is.not_failed is.at (λ refused. never_refused tt Device refused);
+      uncommitted = in_memory d old mid (Ok tt) g.met.D.Disk.only_now (drops.disk ∙ is.disk) (drops.root ∙ is.root) (drops.failed ∙ is.not_failed) (λ s at. drops.at s (is.at s at)) (λ refused. never_refused tt Device refused);
       refused = tt;
-      next = λ honest s at. remove_holds d old mid c.requires s at c.commands_make_mosaics.ensures.mosaic c.args.corner c.in_ok-can_remove.ensures.present is.staged is.sinks;
+      next = λ honest s at. remove_holds d old mid c.requires s at c.commands_make_mosaics.ensures.mosaic c.args.corner c.in_ok-can_remove.ensures.present
+          (drops.staged ∙ ap (staled (are_neighbours c.args.corner)) is.staged) (drops.sinks ∙ is.sinks);
     })

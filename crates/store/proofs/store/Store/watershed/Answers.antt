@@ -1,24 +1,17 @@
-use Rattle.std.proofs.Common.{◌≡◌, ℤ, IsTrue, Result}
-use Rattle.std.specs.Prelude.{IsOk, IfOk, IsErrOf}
+use Rattle.std.proofs.Common.{Result}
 use Rattle.std.specs.Global.{Vec}
-use Rattle.lattice.specs.Ground.{is_ground, terrain}
-use Rattle.lattice.specs.Height.{height_of}
+use Rattle.lattice.specs.Ground.{terrain}
 use Rattle.lattice.specs.Mosaic.{Mosaic}
-use Rattle.lattice.specs.declared.height.Height.TheVariants as height
-use Rattle.lattice.specs.declared.point.Point.{Point}
 use Rattle.lattice.specs.declared.refusal.Refusal.{Refusal}
-use Rattle.lattice.specs.declared.refusal.Refusal.TheVariants.{Outside, Void}
 use Rattle.calls.specs.State.{State}
-use Rattle.flow_d8.specs.Drainage.{AreFilledLevels}
 use Rattle.flow_d8.specs.FlowPath.{IsInWatershed}
 use Rattle.watershed.specs.Runs.{AreRuns}
 use Rattle.watershed.specs.declared.runs.Run.{Run}
 use Rattle.calls.specs.Outcomes.{Sheds}
 use Rattle.calls.proofs.Answered.{sheds}
 use Rattle.catalogue.proofs.Asking.{asked_risen, asked_works, asked_fails, asked_quiet}
-use Rattle.drainage.proofs.Answered.{told_of_levels}
 use Rattle.calls.specs.Engines.{items_in}
-use Rattle.store.proofs.Querying.{valid_at, stays_at, still_clean, still_readable, queried, fails_so}
+use Rattle.store.proofs.Querying.{stays_at, still_clean, still_readable, queried, fails_so}
 use Rattle.store.proofs.QueryingDrainage.{listed, read_answered, told_here}
 use Rattle.store.proofs.store.Store.watershed.Goals as goal
 

@@ -1,0 +1,70 @@
+-- Trees of which kept planes were given up.
+use Rattle.std.proofs.Common.{◌≡◌, suc, Bool, true, false, cond, ◌||◌, List, [], ◌∷◌, Contains, refl, ap, ap₂, ◌∙◌, arith}
+use Rattle.disk.specs.declared.disk.Disk.{Ghosts}
+use Rattle.lattice.specs.Corners.{Corner}
+use Rattle.cow_tree.specs.Stored.{StoredTile, stale_tile}
+use Rattle.cow_tree.specs.Trees.{staged_in}
+use Rattle.cow_tree.specs.declared.tree.Tree.{Tree}
+use Rattle.store.specs.Staling.{staled_in, staled, Stales}
+
+none_staled : (tiles : List StoredTile) → tiles ≡ staled (λ p. false) tiles
+none_staled [] = refl
+none_staled (t ∷ rest) = ap (λ (ts : List StoredTile). t ∷ ts) (none_staled rest)
+
+pub staled_as : (f h : Corner → Bool) (tiles : List StoredTile) → ((t : StoredTile) → Contains tiles t → f t.corner ≡ h t.corner) → staled f tiles ≡ staled h tiles
+staled_as f h [] same = refl
+staled_as f h (t ∷ rest) same =
+    ap₂ (λ (x : StoredTile) (xs : List StoredTile). x ∷ xs) (ap (λ b. cond b (stale_tile t.corner t.heights) t) (same t (0, omega arith, refl)))
+    (staled_as f h rest (λ u there. same u (suc there.0, omega (arith, there.1), there.2)))
+
+twice_in : (f h : Corner → Bool) (t : StoredTile) → staled_in h (staled_in f t) ≡ staled_in (λ p. f p || h p) t
+twice_in f h t = elim (f t.corner) as (λ b. staled_in h (cond b (stale_tile t.corner t.heights) t) ≡ cond (b || h t.corner) (stale_tile t.corner t.heights) t) [
+  | true ↦ elim (h t.corner) as (λ b. cond b (stale_tile t.corner t.heights) (stale_tile t.corner t.heights) ≡ stale_tile t.corner t.heights) [ true ↦ refl | false ↦ refl ]
+  | false ↦ refl
+]
+
+staled_twice : (f h : Corner → Bool) (tiles : List StoredTile) → staled h (staled f tiles) ≡ staled (λ p. f p || h p) tiles
+staled_twice f h [] = refl
+staled_twice f h (t ∷ rest) = ap₂ (λ (x : StoredTile) (xs : List StoredTile). x ∷ xs) (twice_in f h t) (staled_twice f h rest)
+
+module _ {D : Type 0} (g : Ghosts D) where
+  pub stales_none : (tree : Tree D g) → Stales g (λ p. false) tree tree
+  stales_none tree = record {
+    disk = refl;
+    root = refl;
+    failed = refl;
+    begun = refl;
+    corners = refl;
+    sinks = refl;
+    due = refl;
+    staged = none_staled (staged_in g tree);
+    at = λ s at. at;
+  }
+
+  -- once more
+  pub stales_on : (f h : Corner → Bool) (a b c : Tree D g) → Stales g f a b → Stales g h b c → Stales g (λ p. f p || h p) a c
+  stales_on f h a b c first second = record {
+    disk = second.disk ∙ first.disk;
+    root = second.root ∙ first.root;
+    failed = second.failed ∙ first.failed;
+    begun = second.begun ∙ first.begun;
+    corners = second.corners ∙ first.corners;
+    sinks = second.sinks ∙ first.sinks;
+    due = second.due ∙ first.due;
+    staged = second.staged ∙ ap (staled h) first.staged ∙ staled_twice f h (staged_in g a);
+    at = λ s at. second.at s (first.at s at);
+  }
+
+  -- by a test that says the same of the tiles that are there
+  pub stales_as : (f h : Corner → Bool) (a b : Tree D g) → ((t : StoredTile) → Contains (staged_in g a) t → f t.corner ≡ h t.corner) → Stales g f a b → Stales g h a b
+  stales_as f h a b same stales = record {
+    disk = stales.disk;
+    root = stales.root;
+    failed = stales.failed;
+    begun = stales.begun;
+    corners = stales.corners;
+    sinks = stales.sinks;
+    due = stales.due;
+    staged = stales.staged ∙ staled_as f h (staged_in g a) same;
+    at = stales.at;
+  }

@@ -1,0 +1,56 @@
+-- Kept planes that are given up in memory, before a commit (this product's own profile).
+use Rattle.std.specs.Prelude.{◌≡◌, ℕ, Bool, ◌&&◌, true, false, if◌then◌else◌, List, map, Contains, Option, None}
+use Rattle.std.specs.List.{list_any}
+use Rattle.disk.specs.declared.disk.Disk.{Ghosts}
+use Rattle.lattice.specs.Corners.{Corner}
+use Rattle.lattice.specs.declared.point.Point.{Point}
+use Rattle.lattice.specs.Lattice.{holds}
+use Rattle.lattice.specs.Mosaic.{Mosaic}
+use Rattle.edits.specs.declared.command.Command.{Command}
+use Rattle.edits.specs.declared.command.Command.TheVariants.{Sink, Unsink}
+use Rattle.edits.specs.Touched.{are_neighbours, goes_stale}
+use Rattle.cow_tree.specs.Stored.{KeptPlanes, StoredTile, Stored, stale_tile}
+use Rattle.cow_tree.specs.Trees.{disk_of, root_of, has_failed, has_begun, corners_of, sinks_of, records_due, staged_in, IsAt}
+use Rattle.cow_tree.specs.declared.tree.Tree.{Tree}
+
+-- the tiles, of which those whose corners pass the test are stale
+abbrev pub staled_in : (Corner → Bool) → StoredTile → StoredTile
+staled_in test t = if test t.corner then stale_tile t.corner t.heights else t
+
+abbrev pub staled : (Corner → Bool) → List StoredTile → List StoredTile
+staled test tiles = map (staled_in test) tiles
+
+-- some of the corners' tiles holds the point and is this corner's, or a neighbour of it
+abbrev pub near_holders : ℕ → List Corner → Point → Corner → Bool
+near_holders n corners q p = list_any (λ c. holds n c q && are_neighbours c p) corners
+
+-- the same for the point of a command that declares a sink, or takes one back
+abbrev pub near_sink : ℕ → List Corner → Command → Corner → Bool
+near_sink n corners (Sink q) p = near_holders n corners q p
+near_sink n corners (Unsink q) p = near_holders n corners q p
+near_sink n corners _ p = false
+
+-- the tiles whose corners pass the test will keep nothing, and nothing else has changed
+pub record Stales {D : Type 0} (g : Ghosts D) (test : Corner → Bool) (old new : Tree D g) : Type 0 where
+  pub disk : disk_of new ≡ disk_of old
+  pub root : root_of new ≡ root_of old
+  pub failed : has_failed new ≡ has_failed old
+  pub begun : has_begun new ≡ has_begun old
+  pub corners : corners_of new ≡ corners_of old
+  pub sinks : sinks_of new ≡ sinks_of old
+  pub due : records_due new ≡ records_due old
+  pub staged : staged_in g new ≡ staled test (staged_in g old)
+  pub at : (s : Stored) → IsAt g old s → IsAt g new s
+
+-- Of what the tiles kept before the command, those that don't go stale by it keep theirs, and the others nothing.
+pub record KeepFresh (m : Mosaic) (command : Command) (was now : List StoredTile) : Type 0 where
+  pub fresh : (t : StoredTile) → Contains now t → goes_stale m command t.corner ≡ false
+      → (u : StoredTile) × (Contains was u × ((u.corner ≡ t.corner) × (u.kept ≡ t.kept)))
+  pub stale : (t : StoredTile) → Contains now t → goes_stale m command t.corner ≡ true → t.kept ≡ None
+
+-- the corner of a tile, and what it keeps
+abbrev pub keeper : StoredTile → Corner × Option KeptPlanes
+keeper t = (t.corner, t.kept)
+
+abbrev pub keepers : List StoredTile → List (Corner × Option KeptPlanes)
+keepers tiles = map keeper tiles
