@@ -75,7 +75,7 @@ others_same t tiles a b low once unwritten =
     (λ has. let there = stands_there q t.heights.pages has in let whole = times-append q (pages_of_plane t.heights) (pages_of_kept t.kept) in let front = times-append q (t.heights.record_page ∷ []) (pages_behind t.heights) in let behind = times-append q t.heights.index_pages t.heights.pages in absurd (omega (arith, split, one, some, there, whole, front, behind))))
 
 -- what was on the disk of the staged tiles is there still
-still_records : (format : Format) (committed tiles : List TileLocation) (a b : Image) → SameOn (reached tiles) a b → AreStaged format committed tiles a → AreStaged format committed tiles b
+pub still_records : (format : Format) (committed tiles : List TileLocation) (a b : Image) → SameOn (reached tiles) a b → AreStaged format committed tiles a → AreStaged format committed tiles b
 still_records format committed [] a b same had = record { heights = All-nil (λ t. is_changed committed t ≡ false → HasRecord format b t.heights); shared = All-nil (λ t. SharesIndex committed b t.heights); kept = All-nil (λ t. IfSome t.kept (HaveKeptRecords format b)) }
 still_records format committed (t ∷ rest) a b same had =
     let here = All-front (λ q. a q ≡ b q) (pages_of_tile t) (reached rest) same in

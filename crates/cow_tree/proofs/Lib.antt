@@ -9,6 +9,7 @@ pub mod Recording
 pub mod Steps
 pub mod PageWrites
 pub mod DuePages
+pub mod KeptWriting
 pub mod Commits
 pub mod Dropping
 pub mod EntryTiles
@@ -21,6 +22,7 @@ pub mod Adding
 pub mod Due
 pub mod Prepared
 pub mod KeptDrops
+pub mod KeptStaging
 pub mod PageReads
 pub mod SampleReads
 pub mod TreeReads

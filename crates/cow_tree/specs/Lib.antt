@@ -1,6 +1,7 @@
 pub mod Caches
 pub mod Entries
 pub mod Found
+pub mod Kept
 pub mod Layout
 pub mod OverRoots
 pub mod Planes

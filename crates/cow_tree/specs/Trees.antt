@@ -13,7 +13,7 @@ use Rattle.charts.specs.declared.plane.Plane.{Plane}
 use Rattle.cow_tree.specs.Stored.{StoredTile, Stored}
 use Rattle.charts.specs.TileLocations.{TileLocation}
 use Rattle.cow_tree.specs.Layout.{tile_in, IsLaidOut}
-use Rattle.charts.specs.Charts.{ChartValue, corners_of_locations, HasFreshHeights}
+use Rattle.charts.specs.Charts.{ChartValue, corners_of_locations, IsClean, HasFreshHeights}
 use Rattle.charts.specs.Planes.{HasPlane}
 use Rattle.cow_tree.specs.Staged.{AreStaged, pages_due}
 use Rattle.roots.specs.Roots.{IsReady, disk_of as disk_under, has_begun as have_begun, has_failed as have_failed}
@@ -55,6 +55,10 @@ module _ {D : Type 0} {g : Ghosts D} where
   -- heights of the corner were staged since the last commit
   abbrev pub HasStaged : Tree D g → Corner → Type 0
   HasStaged tree c = HasFreshHeights c tree.chart
+
+  -- nothing is staged
+  abbrev pub IsUnstaged : Tree D g → Type 0
+  IsUnstaged tree = IsClean tree.chart
 
   -- how many records and index pages the next commit writes: of each tile whose heights were staged the record, and the index
   -- pages that no committed tile reaches

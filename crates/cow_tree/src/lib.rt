@@ -9,6 +9,7 @@
 
 mod cache;
 mod entries;
+mod keeping;
 mod laws;
 mod opening;
 mod samples;

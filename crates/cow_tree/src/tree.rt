@@ -9,10 +9,12 @@ ghost use Rattle.lattice.specs.Mosaic.{AreSinks};
 ghost use Rattle.std.specs.List.{AllAdjacentBelow};
 ghost use Rattle.lattice.specs.declared.refusal.Refusal.TheVariants.{Device, NoMemory, Failed};
 ghost use Rattle.page_codec.specs.Roots.{RootValue, format_of};
+ghost use Rattle.layout.specs.Sizes.{plane_pages_of};
 ghost use Rattle.page_codec.specs.Sizes.{pages_of, index_pages_of, sectors_of};
 ghost use Rattle.charts.specs.declared.plane.Plane.TheVariants.{Heights};
 ghost use Rattle.cow_tree.specs.Caches.{Agrees};
 ghost use Rattle.cow_tree.specs.Entries.{entry_of};
+ghost use Rattle.cow_tree.specs.Kept.{planes_of_bytes, with_kept};
 ghost use Rattle.cow_tree.specs.Layout.{Stands, tile_in};
 ghost use Rattle.roots.specs.Roots.{disk_of as disk_under, root_of as root_under, has_failed as have_failed};
 ghost use Rattle.cow_tree.specs.OverRoots.{IsRefusalOfTree};
@@ -22,6 +24,7 @@ ghost use Rattle.cow_tree.specs.Stored.{Stored, made_stale, no_tiles, next_commi
 
 use crate::cache::PageCache;
 use crate::entries::staged_entries;
+use crate::keeping::write_kept;
 use crate::opening::read_chart;
 use crate::sinks::Sinks;
 use crate::writing::{write_plane, write_records};
@@ -59,7 +62,7 @@ pub struct Tree<D: Disk> {
 
 impl<D: Disk> Tree<D> {
     ghost use Rattle.cow_tree.specs.Reading.{Reads};
-    ghost use Rattle.cow_tree.specs.Trees.{disk_of, root_of, chart_of, has_failed, has_begun, corners_of, sinks_of, Holds, HasStaged, records_due, disk_after, staged_in, IsAt, MayRefuse};
+    ghost use Rattle.cow_tree.specs.Trees.{disk_of, root_of, chart_of, has_failed, has_begun, corners_of, sinks_of, Holds, HasStaged, IsUnstaged, records_due, disk_after, staged_in, IsAt, MayRefuse};
 
     /// Makes an empty store of this side and capacity (in tiles) on a disk. A fault before the Ok may leave anything.
     pub fn format(disk: &mut D, side: Side, capacity: u32) -> Result<(), Refusal>
@@ -101,6 +104,7 @@ impl<D: Disk> Tree<D> {
         ensures not_failed { IfOk result (λ tree. has_failed tree ≡ false) }
         ensures not_begun { IfOk result (λ tree. has_begun tree ≡ false) }
         ensures clean { IfOk result (λ tree. (c : Corner) → ¬ HasStaged tree c) }
+        ensures unstaged { IfOk result IsUnstaged }
         ensures none_due { IfOk result (λ tree. records_due tree ≡ 0) }
         ensures corners { IfOk result (λ tree. corners_of tree ≡ map (λ e. e.corner) (root_of tree).entries) }
         ensures sinks { IfOk result (λ tree. sinks_of tree ≡ (root_of tree).sinks) }
@@ -151,6 +155,7 @@ impl<D: Disk> Tree<D> {
         ensures failed { OnErr result (has_failed self.new ≡ true) }
         ensures last_known { OnErr result (root_of self.new ≡ root_of self.old) }
         ensures clean { OnOk result ((c : Corner) → ¬ HasStaged self.new c) }
+        ensures unstaged { OnOk result (IsUnstaged self.new) }
         ensures none_due { OnOk result (records_due self.new ≡ 0) }
         ensures corners { OnOk result (corners_of self.new ≡ map (λ e. e.corner) (root_of self.new).entries) }
         ensures sinks { OnOk result (sinks_of self.new ≡ (root_of self.new).sinks) }
@@ -437,6 +442,51 @@ impl<D: Disk> Tree<D> {
         }
     }
 
+    /// Stages these levels and labels of the corner's tile, two bytes a point, where nothing is staged. They are written whole
+    /// at once, and the next commit makes them current. Refused with NoMemory, and then nothing was done, or with Device.
+    pub fn stage_kept(&mut self, c: Corner, levels: &[u8], labels: &[u8]) -> Result<(), Refusal>
+        requires not_failed { has_failed self.old ≡ false }
+        requires present { Contains (corners_of self.old) c }
+        requires unstaged { IsUnstaged self.old }
+        requires levels { length levels.now ≡ 2 * ((root_of self.old).side * (root_of self.old).side) }
+        requires labels { length labels.now ≡ 2 * ((root_of self.old).side * (root_of self.old).side) }
+        ensures size { D.size (disk_of self.new) ≡ D.size (disk_of self.old) }
+        ensures cause { IsErrOf result Device → HasRisen (D.failures (disk_of self.old)) (D.failures (disk_of self.new)) }
+        ensures later { D.failures (disk_of self.old) ≤ D.failures (disk_of self.new) }
+        ensures refused { IfErr result (λ refusal. (refusal ≡ Device) ⊎ (refusal ≡ NoMemory)) }
+        ensures writes { D.writes (disk_of self.new) ≤ D.writes (disk_of self.old) + 2 * plane_pages_of (format_of (root_of self.old)) + (if has_begun self.old then 0 else 1) }
+        ensures begun { OnOk result (D.writes (disk_of self.new) + (if has_begun self.new then 0 else 1)
+            ≤ D.writes (disk_of self.old) + 2 * plane_pages_of (format_of (root_of self.old)) + (if has_begun self.old then 0 else 1)) }
+        ensures honest { D.honest (disk_of self.new) → D.honest (disk_of self.old) }
+        ensures root { root_of self.new ≡ root_of self.old }
+        ensures corners { corners_of self.new ≡ corners_of self.old }
+        ensures sinks { sinks_of self.new ≡ sinks_of self.old }
+        ensures works { has_failed self.new ≡ false ⊎ IsErrOf result Device }
+        ensures not_failed { OnOk result (has_failed self.new ≡ false) }
+        ensures unchanged { IsErrOf result NoMemory → disk_of self.new ≡ disk_of self.old }
+        ensures same { IsErrOf result NoMemory → chart_of self.new ≡ chart_of self.old }
+        ensures device { IsErrOf result Device → has_failed self.new ≡ true }
+        ensures due { records_due self.new ≡ records_due self.old }
+
+        // The levels and labels are staged, and nothing else.
+        ensures staged { D.honest (disk_of self.new) → (s : Stored) → IsAt D.Disk self.old s
+            → OnOk result (staged_in D.Disk self.new ≡ with_kept c (planes_of_bytes (root_of self.old).side levels.now labels.now) (staged_in D.Disk self.old)) }
+        ensures at { D.honest (disk_of self.new) → (s : Stored) → IsAt D.Disk self.old s
+            → has_failed self.new ≡ false → IsAt D.Disk self.new s }
+
+        // A stop at any moment leaves what is committed.
+        ensures any_moment { D.honest (disk_of self.new) → (s : Stored) → IsAt D.Disk self.old s
+            → LeavesOnly D.Disk (disk_of self.old) (disk_of self.new) (λ image. Stands (D.size (disk_of self.old)) image s) }
+    {
+        self.chart.rules();
+        self.chart.keep(c)?;
+        self.cache.clear();
+        match self.chart.kept(c) {
+            Some(kept) => write_kept(&mut self.roots, &self.chart, kept, levels, labels),
+            None => unreachable!(),
+        }
+    }
+
     /// Makes all that was staged current, at this count of accepted commands, with the commit number raised by one. A stop
     /// at any moment leaves what was current or, once the new root is written, all that was staged. After Ok a stop
     /// leaves nothing else. The only refusal is Device.
@@ -461,6 +511,7 @@ impl<D: Disk> Tree<D> {
         ensures capacity { (root_of self.new).capacity ≡ (root_of self.old).capacity }
         ensures not_begun { OnOk result (has_begun self.new ≡ false) }
         ensures none_staged { OnOk result ((c : Corner) → ¬ HasStaged self.new c) }
+        ensures unstaged { OnOk result (IsUnstaged self.new) }
         ensures none_due { OnOk result (records_due self.new ≡ 0) }
         ensures entries { OnOk result (corners_of self.new ≡ map (λ e. e.corner) (root_of self.new).entries) }
         ensures declared { OnOk result ((root_of self.new).sinks ≡ sinks_of self.old) }
@@ -498,6 +549,7 @@ impl<D: Disk> Tree<D> {
         ensures corners { corners_of self.new ≡ map (λ e. e.corner) (root_of self.new).entries }
         ensures sinks { sinks_of self.new ≡ (root_of self.new).sinks }
         ensures none_staged { (c : Corner) → ¬ HasStaged self.new c }
+        ensures unstaged { IsUnstaged self.new }
         ensures none_due { records_due self.new ≡ 0 }
         ensures at { D.honest (disk_of self.old) → (s : Stored) → IsAt D.Disk self.old s → IsAt D.Disk self.new s }
         ensures committed { D.honest (disk_of self.old) → (s : Stored) → IsAt D.Disk self.old s → staged_in D.Disk self.new ≡ s.tiles }

@@ -68,7 +68,7 @@ fn listed(format: Format, plane: &PagedPlane) -> &[u32]
 }
 
 // The record of a plane.
-fn record_of(format: Format, plane: &PagedPlane) -> [u8; 4096]
+pub(crate) fn record_of(format: Format, plane: &PagedPlane) -> [u8; 4096]
     requires { IsWholePlane format plane.now }
     ensures { result ≡ record_bytes (listed_by format.version plane.now) }
 {
@@ -88,7 +88,7 @@ fn part(plane: &PagedPlane, t: usize) -> &[u32]
 }
 
 // Index page `t` of a plane.
-fn index_page_of(plane: &PagedPlane, t: usize) -> [u8; 4096]
+pub(crate) fn index_page_of(plane: &PagedPlane, t: usize) -> [u8; 4096]
     requires { 1024 * t < length plane.now.pages }
     ensures { result ≡ record_bytes (part_of t plane.now.pages) }
 {

@@ -25,3 +25,6 @@ returns-clause-undeclared g c honest s is =
     let old = c.args.self.now in
     let stores = is.each (d.seen old.roots.disk) (g.met.D.Disk.seen_may old.roots.disk honest) in
     ap (λ (x : SinksValue). x.points) c.of-self.ensures ∙ ap (λ (r : RootValue). r.sinks) (sym (old.known is.ready.works)) ∙ sym (ap (λ (x : Stored). x.sinks) stores.stands)
+
+pub returns-clause-unstaged : goal.returns-clause-unstaged
+returns-clause-unstaged g c = ap (λ (x : ChartValue). x.staged) c.undo.ensures.undone ∙ sym (ap (λ (x : ChartValue). x.committed) c.undo.ensures.undone)

@@ -134,3 +134,6 @@ pub returns-clause-entries : goal.returns-clause-entries
 returns-clause-entries g c =
     ap (λ (x : ChartValue). corners_of_locations x.staged) c.settle.ensures.settled ∙ corners_of_entries c.args.self.now.chart.staged
     ∙ ap (map (λ (e : EntryValue). e.corner)) (sym c.staged_entries-entries.ensures.value) ∙ ap (λ (r : RootValue). map (λ (e : EntryValue). e.corner) r.entries) (sym (c.with_sinks-root.ensures ∙ ap (λ (r : RootValue). record r { sinks = c.points.result.now }) c.next.ensures))
+
+pub returns-clause-unstaged : goal.returns-clause-unstaged
+returns-clause-unstaged g c = ap (λ (x : ChartValue). x.staged) c.settle.ensures.settled ∙ sym (ap (λ (x : ChartValue). x.committed) c.settle.ensures.settled)

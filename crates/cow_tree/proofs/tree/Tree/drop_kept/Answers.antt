@@ -1,14 +1,14 @@
-use Rattle.std.proofs.Common.{ℕ, List, length, map, sym, ap, ◌∙◌, subst}
+use Rattle.std.proofs.Common.{ℕ, List, None, length, map, sym, ap, ◌∙◌, subst}
 use Rattle.page_codec.specs.Roots.{format_of}
 use Rattle.charts.specs.Charts.{ChartValue, corners_of_locations}
 use Rattle.charts.specs.TileLocations.{TileLocation}
 use Rattle.cow_tree.specs.Layout.{tile_in, StoresAt}
 use Rattle.cow_tree.specs.Staged.{AreStaged, pages_due}
-use Rattle.cow_tree.proofs.KeptDrops.{bared_tiles, bared_corners, bared_due, bared_still, bared_stays}
+use Rattle.cow_tree.proofs.KeptDrops.{bared_tiles, other_corners, other_due, other_still, other_stays}
 use Rattle.cow_tree.proofs.tree.Tree.drop_kept.Goals as goal
 
 pub returns-clause-corners : goal.returns-clause-corners
-returns-clause-corners g c = ap (λ (x : ChartValue). corners_of_locations x.staged) c.drop_kept.ensures.dropped ∙ bared_corners c.args.c c.args.self.now.chart.staged
+returns-clause-corners g c = ap (λ (x : ChartValue). corners_of_locations x.staged) c.drop_kept.ensures.dropped ∙ other_corners c.args.c None c.args.self.now.chart.staged
 
 pub returns-clause-staged : goal.returns-clause-staged
 returns-clause-staged g c =
@@ -18,10 +18,10 @@ returns-clause-staged g c =
 pub returns-clause-due : goal.returns-clause-due
 returns-clause-due g c =
     let old = c.args.self.now.chart in
-    ap (λ (x : ChartValue). length (pages_due x)) c.drop_kept.ensures.dropped ∙ ap (λ (pages : List ℕ). length pages) (bared_due old.committed c.args.c old.staged)
+    ap (λ (x : ChartValue). length (pages_due x)) c.drop_kept.ensures.dropped ∙ ap (λ (pages : List ℕ). length pages) (other_due old.committed c.args.c None old.staged)
 
 pub returns-clause-still_staged : goal.returns-clause-still_staged
-returns-clause-still_staged g c other = bared_still c.args.self.now.chart c.drop_kept.new.self c.args.c other c.drop_kept.ensures.dropped
+returns-clause-still_staged g c other = other_still c.args.self.now.chart c.drop_kept.new.self c.args.c None other c.drop_kept.ensures.dropped
 
 pub returns-clause-at : goal.returns-clause-at
 returns-clause-at g c s is =
@@ -32,5 +32,5 @@ returns-clause-at g c s is =
       ready = is.ready;
       each = λ image may. subst (λ (tiles : List TileLocation). StoresAt (g.D.Disk.size old.roots.disk) old.roots.root tiles s image) (sym (ap (λ (x : ChartValue). x.committed) dropped)) (is.each image may);
       staged = subst (λ (x : ChartValue). AreStaged (format_of old.root) x.committed x.staged seen) (sym dropped)
-          (bared_stays (format_of old.root) old.chart.committed c.args.c seen old.chart.staged is.staged);
+          (other_stays (format_of old.root) old.chart.committed c.args.c None seen tt old.chart.staged is.staged);
     }

@@ -43,3 +43,6 @@ returns-in-Ok-read_chart-clause-none_due g c = none_due c.in-Ok-read_chart.chart
 
 pub returns-in-Err-clause-sure : goal.returns-in-Err-clause-sure
 returns-in-Err-clause-sure g c honest s is = stands_opens (g.D.Disk.size c.args.disk) (g.D.Disk.seen c.args.disk) s c.in-Err.refusal is (returns-in-Err-clause-refused g c honest)
+
+pub returns-in-Ok-read_chart-clause-unstaged : goal.returns-in-Ok-read_chart-clause-unstaged
+returns-in-Ok-read_chart-clause-unstaged g c = c.in-Ok-read_chart.ensures.clean

@@ -48,3 +48,6 @@ pub returns-in-Err-clause-sure : goal.returns-in-Err-clause-sure
 returns-in-Err-clause-sure g c honest s is =
     let start = c.args.self.now.roots in
     stands_opens (g.D.Disk.size start.disk) (g.D.Disk.seen start.disk) s c.in-Err.refusal is (returns-in-Err-clause-refused g c honest)
+
+pub returns-in-Ok-clause-unstaged : goal.returns-in-Ok-clause-unstaged
+returns-in-Ok-clause-unstaged g c = c.in-Ok.ensures.clean

@@ -1,0 +1,118 @@
+-- Levels and labels of a tile that were written whole are staged.
+use Rattle.std.proofs.Common.{◌≡◌, ℕ, zero, suc, ◌≤◌, Bool, true, false, inl, inr, if◌then◌else◌, List, [], ◌∷◌, All, Contains, map, refl, sym, ap, ap₂, ◌∙◌, subst, arith}
+use Rattle.std.specs.Prelude.{Option, Some, None}
+use Rattle.std.proofs.lemmas.Bool.{cases_eq}
+use Rattle.disk.specs.Disk.{Image}
+use Rattle.lattice.specs.Corners.{Corner}
+use Rattle.lattice.proofs.CornerOrder.{same_from}
+use Rattle.page_codec.specs.Formats.{Format}
+use Rattle.charts.specs.declared.locations.KeptLocations.{KeptLocations}
+use Rattle.charts.specs.Charts.{ChartValue, IsChart, IsClean, IsFresh, IsLocated, HasKept, AreKept, AreWholeKept, is_at, with_kept_locations}
+use Rattle.charts.specs.Locations.{pages_of_plane, times}
+use Rattle.charts.specs.TileLocations.{TileLocation, pages_of_kept, pages_of_tile, reached}
+use Rattle.charts.proofs.Occurrences.{times-append}
+use Rattle.charts.proofs.Times.{member_of_times}
+use Rattle.cow_tree.specs.Kept.{AreFreshKept, with_kept}
+use Rattle.cow_tree.specs.Layout.{HaveKeptRecords, kept_in, tile_in}
+use Rattle.cow_tree.specs.Staged.{AreStaged}
+use Rattle.cow_tree.specs.Stored.{KeptPlanes, PlanePages, StoredTile}
+use Rattle.cow_tree.proofs.Adding.{still_records}
+use Rattle.cow_tree.proofs.DuePages.{times_among}
+use Rattle.cow_tree.proofs.KeptDrops.{other_stays}
+use Rattle.cow_tree.proofs.Recording.{all_at_times, at_times}
+use Rattle.cow_tree.proofs.Standing.{SameOn, All-front, All-back, tile_same, plane_same}
+use Rattle.cow_tree.proofs.Tiles.{one_at_corner}
+
+-- the corner's tile has them
+kept_tile : (c : Corner) (k : KeptLocations) (tiles : List TileLocation) → IsLocated c tiles → HasKept c k (with_kept_locations c k tiles)
+kept_tile c k [] (i, lt, here) = absurd (omega (arith, lt))
+kept_tile c k (t ∷ rest) (zero, lt, here) = (
+  record t { kept = Some k },
+  (
+    (0, omega arith, ap (λ (v : Bool). if v then record t { kept = Some k } else t) (same_from t.corner c here)),
+    here,
+    refl,
+  ),
+)
+kept_tile c k (t ∷ rest) (suc i, lt, here) =
+    let later = kept_tile c k rest (i, omega arith, here) in
+    (later.0, ((suc later.1.0.0, omega (arith, later.1.0.1), later.1.0.2), later.1.1, later.1.2))
+
+-- what stands there
+kept_tiles : (c : Corner) (k : KeptLocations) (planes : KeptPlanes) (a b : Image) (tiles : List TileLocation) → kept_in b (Some k) ≡ Some planes → SameOn (reached tiles) a b
+    → map (tile_in b) (with_kept_locations c k tiles) ≡ with_kept c planes (map (tile_in a) tiles)
+kept_tiles c k planes a b [] wrote same = refl
+kept_tiles c k planes a b (t ∷ rest) wrote same =
+    ap₂ (λ (x : StoredTile) (xs : List StoredTile). x ∷ xs) (by_test (is_at c t)) (kept_tiles c k planes a b rest wrote (All-back (λ q. a q ≡ b q) (pages_of_tile t) (reached rest) same))
+  where
+    here : SameOn (pages_of_tile t) a b
+    here = All-front (λ q. a q ≡ b q) (pages_of_tile t) (reached rest) same
+
+    by_test : (v : Bool) → tile_in b (if v then record t { kept = Some k } else t) ≡ (if v then record (tile_in a t) { kept = Some planes } else tile_in a t)
+    by_test true = ap₂ (λ (x : PlanePages) (y : Option KeptPlanes). record { corner = t.corner; heights = x; kept = y }) (sym (plane_same t.heights a b (All-front (λ q. a q ≡ b q) (pages_of_plane t.heights) (pages_of_kept t.kept) here))) wrote
+    by_test false = sym (tile_same t a b here)
+
+module _ (old new : ChartValue) (c : Corner) (rules : IsChart new) (was : IsChart old) (anew : AreKept c old new) (clean : IsClean old) (located : IsLocated c old.staged) where
+  staged_is : new.staged ≡ with_kept_locations c anew.locations old.staged
+  staged_is = ap (λ (x : ChartValue). x.staged) anew.changed
+
+  committed_is : new.committed ≡ old.committed
+  committed_is = ap (λ (x : ChartValue). x.committed) anew.changed
+
+  has_kept : HasKept c anew.locations new.staged
+  has_kept = subst (HasKept c anew.locations) (sym staged_is) (kept_tile c anew.locations old.staged located)
+
+  pub some_kept : ((t : TileLocation) → Contains new.staged t → t.corner ≡ c → t.kept ≡ None) → ⊥
+  some_kept none = let no : Some anew.locations ≡ None = sym has_kept.1.2 ∙ none has_kept.0 has_kept.1.0 has_kept.1.1 in cc
+
+  pub locations_are : (k : KeptLocations) → HasKept c k new.staged → anew.locations ≡ k
+  locations_are k had =
+      let same : has_kept.0 ≡ had.0 = one_at_corner new.staged has_kept.0 had.0 rules.staged.in_order has_kept.1.0 had.1.0 (has_kept.1.1 ∙ sym had.1.1) in
+      let both : Some anew.locations ≡ Some k = sym has_kept.1.2 ∙ ap (λ (t : TileLocation). t.kept) same ∙ had.1.2 in
+      cc
+
+  fresh_there : AreFreshKept new anew.locations
+  fresh_there = record {
+    whole = subst (λ (f : Format). AreWholeKept f anew.locations) (sym (ap (λ (x : ChartValue). x.format) anew.changed)) anew.whole;
+    fresh = anew.fresh;
+    once = λ q.
+        (let t : TileLocation = has_kept.0 in
+        let among = times_among pages_of_tile q new.staged t has_kept.1.0 in
+        let split = times-append q (pages_of_plane t.heights) (pages_of_kept t.kept) in
+        let own = ap (λ (o : Option KeptLocations). times q (pages_of_kept o)) has_kept.1.2 in
+        omega (arith, among, split, own, rules.staged.page_rule.once q));
+  }
+
+  pub fresh_kept : (k : KeptLocations) → HasKept c k new.staged → AreFreshKept new k
+  fresh_kept k had = subst (AreFreshKept new) (locations_are k had) fresh_there
+
+  -- what was staged wasn't written
+  module _ (k : KeptLocations) (had : HasKept c k new.staged) (a b : Image) (others : (q : ℕ) → 4 ≤ q → times q (pages_of_kept (Some k)) ≡ 0 → a q ≡ b q) where
+    low : All (λ q. 4 ≤ q) (reached old.staged)
+    low = was.staged.page_rule.low
+
+    same : SameOn (reached old.staged) a b
+    same =
+        all_at_times (λ q. a q ≡ b q) (reached old.staged)
+        (λ q some. others q (at_times (λ p. 4 ≤ p) q (reached old.staged) low some) (none q some))
+      where
+        none : (q : ℕ) → 1 ≤ times q (reached old.staged) → times q (pages_of_kept (Some k)) ≡ 0
+        none q some = elim (cases_eq (times q (pages_of_kept (Some k))) 0) [
+          | inl zero_times ↦ zero_times
+          | inr more ↦
+              let fresh = at_times (IsFresh new) q (pages_of_kept (Some k)) (fresh_kept k had).fresh (omega (arith, more)) in
+              let committed = ap (λ (tiles : List TileLocation). times q (reached tiles)) (committed_is ∙ sym clean) in
+              absurd (fresh.unreached (member_of_times (reached new.committed) q (omega (arith, some, committed))))
+        ]
+
+    pub kept_staged : (planes : KeptPlanes) → kept_in b (Some k) ≡ Some planes → map (tile_in b) new.staged ≡ with_kept c planes (map (tile_in a) old.staged)
+    kept_staged planes wrote =
+        ap (map (tile_in b)) staged_is
+        ∙ kept_tiles c anew.locations planes a b old.staged (ap (λ (l : KeptLocations). kept_in b (Some l)) (locations_are k had) ∙ wrote) same
+
+    pub kept_stays : (format : Format) → HaveKeptRecords format b k → AreStaged format old.committed old.staged a → AreStaged format new.committed new.staged b
+    kept_stays format records staged =
+        subst (λ (tiles : List TileLocation). AreStaged format tiles new.staged b) (sym committed_is)
+        (subst (λ (tiles : List TileLocation). AreStaged format old.committed tiles b) (sym staged_is)
+        (other_stays format old.committed c (Some anew.locations) b (subst (HaveKeptRecords format b) (sym (locations_are k had)) records) old.staged
+        (still_records format old.committed old.staged a b same staged)))
