@@ -1,5 +1,5 @@
 -- What a call's result tells as the answer to its event, of any engine.
-use Rattle.std.proofs.Common.{◌≡◌, ◌≢◌, ◌⊎◌, inl, inr, ⊎_elim, ℕ, ℤ, List, ◌≤◌, Bool, true, false, IsTrue, true≢false, refl, sym, ap, ◌∙◌, subst}
+use Rattle.std.proofs.Common.{◌≡◌, ◌≢◌, ◌⊎◌, inl, inr, ⊎_elim, ℕ, ℤ, ◌≤◌, Bool, true, false, IsTrue, true≢false, refl, sym, ap, ◌∙◌, subst}
 use Rattle.std.specs.Prelude.{Result, Ok, Err, OnOk, IfErr, IsErrOf}
 use Rattle.std.specs.Global.{Vec}
 use Rattle.lattice.specs.Corners.{Corner}
@@ -36,6 +36,7 @@ pub record IsAnswered {T : Type 0} (event : Event) (tell : T → Reply) : Type 0
 -- the event only asks: it reads, and may be refused for a read
 abbrev pub asks : Event → Bool
 asks (ask.Do c) = false
+asks ask.Step = false
 asks ask.Count = false
 asks ask.Reopen = false
 asks event = true
@@ -69,9 +70,10 @@ knows_refused : (before after : Known) (event : Event) (r : Refusal) → after �
 knows_refused before after ask.Count r same = same
 knows_refused before after event r same = same
 
-writes_nothing : (event : Event) → asks event ≡ true → (version before now : ℕ) → now ≡ before → WritesFew version event before now
-writes_nothing (ask.Do c) asked version before now same = absurd (true≢false (sym asked))
-writes_nothing event asked version before now same = same
+writes_nothing : (event : Event) → asks event ≡ true → (version side before now : ℕ) → now ≡ before → WritesFew version side event before now
+writes_nothing (ask.Do c) asked version side before now same = absurd (true≢false (sym asked))
+writes_nothing ask.Step asked version side before now same = absurd (true≢false (sym asked))
+writes_nothing event asked version side before now same = same
 
 module _ {T : Type 0} (event : Event) (tell : T → Reply) (Answers : State → Result T Refusal → State → Type 0) (is : IsQuestion event tell Answers) where
   pub answers_so : IsAnswered event tell
@@ -92,7 +94,7 @@ module _ {T : Type 0} (event : Event) (tell : T → Reply) (Answers : State → 
   right_as capacity s t (Ok x) right = is.right capacity s t x right
   right_as capacity s t (Err r) right = is.refused capacity s t r right
 
-  pub few_as : (version before now : ℕ) → now ≡ before → WritesFew version event before now
+  pub few_as : (version side before now : ℕ) → now ≡ before → WritesFew version side event before now
   few_as = writes_nothing event is.asks_it
 
 module _ {T : Type 0} (event : Event) (tell : T → Reply) where
@@ -147,9 +149,9 @@ module _ {T : Type 0} (event : Event) (tell : T → Reply) where
   unwritten_as is (Ok x) none r e other = absurd (is.no_refusal x r e)
   unwritten_as is (Err why) none r e other = none (λ device. other (let same : why ≡ r = cc in sym same ∙ device))
 
-  pub written_so : IsAnswered event tell → (version before now : ℕ) (result : Result T Refusal) → WritesFew version event before now → IfErr result (λ r. r ≢ Device → now ≡ before)
-      → IsWritten version event (answered tell result) before now
-  written_so is version before now result few none = record { few = few; refused = unwritten_as is result none }
+  pub written_so : IsAnswered event tell → (version side before now : ℕ) (result : Result T Refusal) → WritesFew version side event before now → IfErr result (λ r. r ≢ Device → now ≡ before)
+      → IsWritten version side event (answered tell result) before now
+  written_so is version side before now result few none = record { few = few; refused = unwritten_as is result none }
 
 -- ---- the questions
 

@@ -43,7 +43,7 @@ module _ {E : Type 0} (of : Members E) where
     pub capacity : answer ≢ reply.Reopened → of.capacity_of new ≡ of.capacity_of old
     pub told : IsTold (of.has_failed old) event answer (of.has_failed new)
     pub failures : IsCounted (of.failures old) answer (of.failures new)
-    pub writes : IsWritten (of.known old).version event answer (of.writes old) (of.writes new)
+    pub writes : IsWritten (of.known old).version (of.side_of old) event answer (of.writes old) (of.writes new)
     pub known : Knows (of.known old) event answer (of.known new)
     -- no call makes a dishonest disk honest
     pub honest : of.is_honest new → of.is_honest old

@@ -4,6 +4,7 @@ use Rattle.lattice.specs.declared.refusal.Refusal.{Refusal}
 use Rattle.lattice.specs.declared.refusal.Refusal.TheVariants.{Device, NoMemory, Failed}
 use Rattle.calls.specs.Outcomes.{Applies, Elevates, Exports, Lists, ListsSinks, Fills, Directs, Traces, Sheds}
 use Rattle.calls.specs.State.{Contents, State, working}
+use Rattle.calls.specs.Steps.{Steps}
 use Rattle.calls.specs.declared.event.Event.{Event}
 use Rattle.calls.specs.declared.event.Event.TheVariants as ask
 use Rattle.calls.specs.declared.event.Reply.{Reply}
@@ -39,6 +40,8 @@ Happens capacity s ask.Tiles (reply.Tiles corners) t = Lists s (Ok corners.items
 Happens capacity s ask.Tiles (reply.Refused r) t = Lists s (Err r) t
 Happens capacity s ask.Sinks (reply.Sinks points) t = ListsSinks s (Ok points.items) t
 Happens capacity s ask.Sinks (reply.Refused r) t = ListsSinks s (Err r) t
+Happens capacity s ask.Step (reply.Stepped tile) t = Steps s (Ok tile) t
+Happens capacity s ask.Step (reply.Refused r) t = Steps s (Err r) t
 Happens capacity s ask.Count (reply.Count count) t = (count ≡ s.contents.count) × (t ≡ s)
 Happens capacity s ask.Reopen reply.Reopened t = Reopens s t
 Happens capacity s ask.Reopen (reply.Refused r) t = ReopensNot s r t

@@ -1,5 +1,5 @@
--- What a step and an upgrade may answer, and the version, and the state that is left (this product's own profile). No call
--- answers them yet.
+-- What a step and an upgrade may answer, and the version, and the state that is left (this product's own profile). A step is
+-- an event; no call answers the other two yet.
 use Rattle.std.specs.Prelude.{◌≡◌, ◌≢◌, ℕ, ◌+◌, ◌<◌, Bool, not, IsTrue, IsFalse, [], filter, Contains, Option, Some, None, Result, Ok, Err}
 use Rattle.lattice.specs.Corners.{Corner, same_corner}
 use Rattle.lattice.specs.declared.refusal.Refusal.{Refusal}

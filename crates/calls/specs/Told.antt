@@ -1,11 +1,13 @@
 -- What the answer to an event tells on any disk, honest or not (this product's own profile).
-use Rattle.std.specs.Prelude.{◌≡◌, ◌≢◌, ◌≤◌, ◌+◌, ◌*◌, ℕ, min, length, Bool, true, false, ◌||◌, IsTrue, if◌then◌else◌, nat_eq, List, [], ◌∷◌}
+use Rattle.std.specs.Prelude.{◌≡◌, ◌≢◌, ◌≤◌, ◌+◌, ◌*◌, ℕ, min, length, Bool, true, false, IsTrue, if◌then◌else◌, nat_eq, List, [], ◌∷◌, Some}
 use Rattle.lattice.specs.declared.refusal.Refusal.{Refusal}
 use Rattle.lattice.specs.declared.refusal.Refusal.TheVariants.{NoTile, Outside, Void, Device, NoMemory, Failed, Damaged, Worn, NotAStore, Version, TooSmall}
 use Rattle.catalogue.specs.Reading.{HasRisen}
 use Rattle.edits.specs.declared.command.Command.{Command}
 use Rattle.edits.specs.declared.command.Command.TheVariants.{Burn, Wall, Sink, Unsink}
 use Rattle.edits.specs.Plans.{may_end}
+use Rattle.layout.specs.Sizes.{pages_of, index_pages_by}
+use Rattle.layout.specs.declared.version.Version.TheVariants.{One, Two}
 use Rattle.calls.specs.Events.{SaysFailed, fails_after}
 use Rattle.calls.specs.declared.event.Event.{Event}
 use Rattle.calls.specs.declared.event.Event.TheVariants as ask
@@ -42,6 +44,12 @@ may_refuse_list NoMemory = true
 may_refuse_list Failed = true
 may_refuse_list r = false
 
+-- a step may be refused for a read or for want of memory, or as no commit has a number left
+abbrev pub may_refuse_step : Refusal → Bool
+may_refuse_step NoMemory = true
+may_refuse_step Worn = true
+may_refuse_step r = is_of_read r
+
 abbrev pub may_refuse_reopening : Refusal → Bool
 may_refuse_reopening Device = true
 may_refuse_reopening NoMemory = true
@@ -61,6 +69,7 @@ may_refuse (ask.Watershed p) r = may_refuse_question r
 may_refuse (ask.Export c) r = may_refuse_export r
 may_refuse ask.Tiles r = may_refuse_list r
 may_refuse ask.Sinks r = may_refuse_list r
+may_refuse ask.Step r = may_refuse_step r
 may_refuse ask.Count r = false
 may_refuse ask.Reopen r = may_refuse_reopening r
 
@@ -76,6 +85,7 @@ Matches (ask.Watershed p) (reply.Watershed runs) = Unit {0}
 Matches (ask.Export c) (reply.Export bytes) = Unit {0}
 Matches ask.Tiles (reply.Tiles corners) = Unit {0}
 Matches ask.Sinks (reply.Sinks points) = Unit {0}
+Matches ask.Step (reply.Stepped tile) = Unit {0}
 Matches ask.Count (reply.Count k) = Unit {0}
 Matches ask.Reopen reply.Reopened = Unit {0}
 Matches event answer = ⊥
@@ -108,19 +118,24 @@ failures_after before (replied ∷ replies) = failures_after before replies
 abbrev pub writes_a_point : ℕ → ℕ
 writes_a_point version = if nat_eq version 1 then 8 else 12
 
--- At most so many writes, in this version of the format: a commit's other three are the root and its two gates, and a sink
--- takes no more. Of a command that may set any number of samples nothing is said.
-abbrev pub WritesFew : ℕ → Event → ℕ → ℕ → Type 0
-WritesFew version (ask.Do (Burn depth points)) before now = now ≤ before + (writes_a_point version * length points.items + 3)
-WritesFew version (ask.Do (Wall height points)) before now = now ≤ before + (writes_a_point version * length points.items + 3)
-WritesFew version (ask.Do (Sink p)) before now = now ≤ before + 3
-WritesFew version (ask.Do (Unsink p)) before now = now ≤ before + 3
-WritesFew version (ask.Do command) before now = Unit {0}
-WritesFew version asked before now = now ≡ before
+-- A step keeps two planes of this side: of each its pages and its record, and in the later format its index pages.
+abbrev pub writes_a_step : (version side : ℕ) → ℕ
+writes_a_step version side = 2 * (1 + index_pages_by (if nat_eq version 1 then One else Two) (pages_of side) + pages_of side)
+
+-- At most so many writes, in this version of the format and of tiles of this side: a commit's other three are the root and
+-- its two gates, and a sink takes no more. Of a command that may set any number of samples nothing is said.
+abbrev pub WritesFew : (version side : ℕ) → Event → ℕ → ℕ → Type 0
+WritesFew version side (ask.Do (Burn depth points)) before now = now ≤ before + (writes_a_point version * length points.items + 3)
+WritesFew version side (ask.Do (Wall height points)) before now = now ≤ before + (writes_a_point version * length points.items + 3)
+WritesFew version side (ask.Do (Sink p)) before now = now ≤ before + 3
+WritesFew version side (ask.Do (Unsink p)) before now = now ≤ before + 3
+WritesFew version side (ask.Do command) before now = Unit {0}
+WritesFew version side ask.Step before now = now ≤ before + (writes_a_step version side + 3)
+WritesFew version side asked before now = now ≡ before
 
 -- how many writes an event with this answer makes
-pub record IsWritten (version : ℕ) (event : Event) (answer : Reply) (before now : ℕ) : Type 0 where
-  pub few : WritesFew version event before now
+pub record IsWritten (version side : ℕ) (event : Event) (answer : Reply) (before now : ℕ) : Type 0 where
+  pub few : WritesFew version side event before now
   -- what is refused for another reason than the disk writes nothing
   pub refused : (r : Refusal) → answer ≡ reply.Refused r → r ≢ Device → now ≡ before
 
@@ -130,9 +145,11 @@ pub record Known : Type 0 where
   pub count : ℕ
   pub number : ℕ
 
--- an accepted command is one more, and the next commit; opening anew may find another; nothing else changes it
+-- an accepted command is one more, and the next commit; a step is a commit alone; opening anew may find another; nothing
+-- else changes it
 abbrev pub Knows : Known → Event → Reply → Known → Type 0
 Knows before (ask.Do command) (reply.Done k) after = (k ≡ before.count + 1) × (after ≡ record before { count = k; number = before.number + 1 })
 Knows before ask.Count (reply.Count k) after = (k ≡ before.count) × (after ≡ before)
+Knows before ask.Step (reply.Stepped (Some c)) after = after ≡ record before { number = before.number + 1 }
 Knows before ask.Reopen reply.Reopened after = Unit {0}
 Knows before asked replied after = after ≡ before

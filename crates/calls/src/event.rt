@@ -25,6 +25,8 @@ pub enum Event {
     Tiles,
     /// The declared sinks.
     Sinks,
+    /// To keep the planes of one stale tile.
+    Step,
     /// How many commands were accepted.
     Count,
     /// To open its disk again.
@@ -52,6 +54,8 @@ pub enum Reply {
     Tiles(Vec<Corner>),
     /// In the order of points.
     Sinks(Vec<Point>),
+    /// The tile whose planes are kept from now on, or none where no tile was stale.
+    Stepped(Option<Corner>),
     /// As last known.
     Count(u64),
     /// The store is open again.

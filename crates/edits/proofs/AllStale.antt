@@ -1,4 +1,4 @@
--- Where all present tiles are stale, all are stale after a command too; changes keep the side.
+-- After a command each present tile was present before or goes stale; changes keep the side.
 use Rattle.std.proofs.Common.{◌≡◌, ℕ, zero, suc, ◌*◌, ◌<◌, ℤ, pos, ◌-ℤ◌, Bool, true, false, cond, ◌||◌, ◌&&◌, List, [], ◌∷◌, length, map, filter, nat_eq, nat_lt, nat_abs, get_or, refl, sym, ◌∙◌, ap, subst, arith, not}
 use Rattle.std.specs.Prelude.{Result, Ok, Err, Option, Some, None, if◌then◌else◌}
 use Rattle.std.specs.Int.{int_max}
@@ -105,19 +105,20 @@ module _ (a b : Bool) (p q : Refusal) (f : Option Refusal) (made new : Mosaic) w
   passes_faults e = no_fault f made new (passes b q (unless_fault f made) new (passes a p (if b then Err q else unless_fault f made) new e))
 
 module _ (m : Mosaic) (c : Command) where
-  abbrev stays_stale : Corner → Type 0
+  abbrev pub stays_stale : Corner → Type 0
   stays_stale p = (list_any (same_corner p) (corners_of m) || goes_stale m c p) ≡ true
 
   old_stale : All stays_stale (corners_of m)
   old_stale k d within = or_left (list_any (same_corner (get_or (corners_of m) k d)) (corners_of m)) (goes_stale m c (get_or (corners_of m) k d)) (listed_at (corners_of m) k d within)
 
-  abbrev AllStale : Mosaic → Type 0
+  abbrev pub AllStale : Mosaic → Type 0
   AllStale new = All stays_stale (corners_of new)
 
   same_stale : (made new : Mosaic) → corners_of made ≡ corners_of m → made ≡ new → AllStale new
   same_stale made new same is = subst (λ (cs : List Corner). All stays_stale cs) (sym same ∙ ap corners_of is) old_stale
 
-new_stale : (capacity : ℕ) (m new : Mosaic) (c : Command) → effect capacity m c ≡ Ok new → AllStale m c new
+-- each present tile was present, or goes stale
+pub new_stale : (capacity : ℕ) (m new : Mosaic) (c : Command) → effect capacity m c ≡ Ok new → AllStale m c new
 new_stale capacity m new (Import c bytes) e =
     let tile : Tile = record { corner = c; samples = samples_in bytes } in
     subst (AllStale m (Import c bytes))

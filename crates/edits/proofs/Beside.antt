@@ -32,7 +32,7 @@ some_edge : (n : ℕ) → 3 ≤ n → 0 < n
 some_edge n side = omega arith
 
 -- the corner of a tile is that of a present one
-listed : (m : Mosaic) (t : Tile) → Contains m.tiles t → Contains (corners_of m) t.corner
+pub listed : (m : Mosaic) (t : Tile) → Contains m.tiles t → Contains (corners_of m) t.corner
 listed m t (k, below, here) = (k, omega (arith, below, length-map m.tiles (λ (u : Tile). u.corner)), get_or-map (λ (u : Tile). u.corner) m.tiles k t t.corner below ∙ ap (λ (u : Tile). u.corner) here)
 
 -- the tile has a sample whose point passes the test

@@ -15,6 +15,7 @@ mod Putting
 mod Repeats
 mod SamePoints
 pub mod SinkLists
+pub mod StaleTiles
 mod Treating
 mod Untouched
 mod Voids

@@ -1,7 +1,7 @@
 //! Commands that change a mosaic, and the changes of samples and tiles that they come to.
 //!
 //! The layer above rests on this: the changes that `plan` answers are the effect of the command, or its refusal, and say
-//! which tiles go stale; `carry_out` makes them in a table, all of them or none.
+//! which tiles go stale, tile by tile by `leave_stale`; `carry_out` makes them in a table, all of them or none.
 #![tactic(auto)]
 
 mod carrying;
@@ -16,6 +16,7 @@ mod planning;
 mod room;
 mod sinking;
 mod sinks;
+mod stale;
 mod tiles;
 
 pub use carrying::carry_out;
@@ -28,3 +29,4 @@ pub use laws::{
 pub use neighbours::are_neighbours;
 pub use planning::plan;
 pub use sinks::{with_sink, without_sink};
+pub use stale::leave_stale;

@@ -90,6 +90,10 @@ pub trait Engine {
     fn sinks(&self) -> Result<Vec<Point>, Refusal>
         ensures { called self.now ask.Sinks (answered reply.Sinks result) self.now };
 
+    /// Keeps the planes of one stale tile and names it, or answers none where no tile is stale.
+    fn step(&mut self) -> Result<Option<Corner>, Refusal>
+        ensures { called self.old ask.Step (answered reply.Stepped result) self.new };
+
     /// How many commands were accepted, as last known.
     fn count(&self) -> u64
         ensures { called self.now ask.Count (reply.Count result) self.now };

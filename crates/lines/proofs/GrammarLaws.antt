@@ -9,7 +9,7 @@ use Rattle.hgt.proofs.NameLemmas.{IsName-same}
 use Rattle.calls.specs.declared.event.Event.{Event}
 use Rattle.calls.specs.declared.event.Event.TheVariants as ask
 use Rattle.lines.specs.declared.keyword.Keyword.{Keyword}
-use Rattle.lines.specs.declared.keyword.Keyword.TheVariants.{Import, Remove, Patch, Burn, Wall, Sink, Unsink, Elev, Fill, Dir, Trace, Watershed, Export, Tiles, Sinks, Count, Quit}
+use Rattle.lines.specs.declared.keyword.Keyword.TheVariants.{Import, Remove, Patch, Burn, Wall, Sink, Unsink, Elev, Fill, Dir, Trace, Watershed, Export, Tiles, Sinks, Step, Count, Quit}
 use Rattle.lines.specs.Grammar.{Asked, AskImport, AskEvent, AskNoTile, NamesNone, AsksImport, AsksOf, AsksBox, AsksAlong, AsksAt, AsksAlone, Takes, AreInts, IsNat, IsInt, coordinates, spelling, LineAsks}
 use Rattle.lines.specs.declared.request.Request.{Request}
 use Rattle.lines.specs.Requests.{asked, IsRequestOf}
@@ -134,6 +134,7 @@ same_asked Watershed = same_at _
 same_asked Export = same_of _
 same_asked Tiles = same_alone _
 same_asked Sinks = same_alone _
+same_asked Step = same_alone _
 same_asked Count = same_alone _
 same_asked Quit = same_alone _
 
@@ -165,6 +166,7 @@ not_reopened Export args (name, e, word, inl (none, is)) = cc
 not_reopened Export args (name, e, word, inr (c, named, is)) = cc
 not_reopened Tiles args (e, is) = cc
 not_reopened Sinks args (e, is) = cc
+not_reopened Step args (e, is) = cc
 not_reopened Count args (e, is) = cc
 not_reopened Quit args (e, is) = cc
 

@@ -5,7 +5,7 @@ use Rattle.std.proofs.lemmas.Str.Parse.{digit_from_value}
 use Rattle.std.specs.Str.Parse.{AllDigits}
 use Rattle.lattice.specs.declared.point.Point.{Point}
 use Rattle.lines.specs.declared.keyword.Keyword.{Keyword}
-use Rattle.lines.specs.declared.keyword.Keyword.TheVariants.{Import, Remove, Patch, Burn, Wall, Sink, Unsink, Elev, Fill, Dir, Trace, Watershed, Export, Tiles, Sinks, Count, Quit}
+use Rattle.lines.specs.declared.keyword.Keyword.TheVariants.{Import, Remove, Patch, Burn, Wall, Sink, Unsink, Elev, Fill, Dir, Trace, Watershed, Export, Tiles, Sinks, Step, Count, Quit}
 use Rattle.lines.specs.declared.request.Request.{Request}
 use Rattle.lattice.specs.Corners.{Corner}
 use Rattle.calls.specs.declared.event.Event.{Event}
@@ -73,6 +73,7 @@ takes_free Watershed = at_free _
 takes_free Export = of_free _
 takes_free Tiles = alone_free _
 takes_free Sinks = alone_free _
+takes_free Step = alone_free _
 takes_free Count = alone_free _
 takes_free Quit = alone_free _
 

@@ -9,7 +9,7 @@ use Rattle.edits.specs.declared.command.Command.TheVariants as command
 use Rattle.calls.specs.declared.event.Event.{Event}
 use Rattle.calls.specs.declared.event.Event.TheVariants as ask
 use Rattle.lines.specs.declared.keyword.Keyword.{Keyword}
-use Rattle.lines.specs.declared.keyword.Keyword.TheVariants.{Import, Remove, Patch, Burn, Wall, Sink, Unsink, Elev, Fill, Dir, Trace, Watershed, Export, Tiles, Sinks, Count, Quit}
+use Rattle.lines.specs.declared.keyword.Keyword.TheVariants.{Import, Remove, Patch, Burn, Wall, Sink, Unsink, Elev, Fill, Dir, Trace, Watershed, Export, Tiles, Sinks, Step, Count, Quit}
 
 -- WORD: one or more bytes from 0x21 to 0x7E
 abbrev pub IsWord : List ℕ → Type 0
@@ -62,6 +62,7 @@ spelling Watershed = codes "watershed"
 spelling Export = codes "export"
 spelling Tiles = codes "tiles"
 spelling Sinks = codes "sinks"
+spelling Step = codes "step"
 spelling Count = codes "count"
 spelling Quit = codes "quit"
 
@@ -115,6 +116,7 @@ Takes Watershed args asked = AsksAt ask.Watershed args asked
 Takes Export args asked = AsksOf ask.Export args asked
 Takes Tiles args asked = AsksAlone (AskEvent ask.Tiles) args asked
 Takes Sinks args asked = AsksAlone (AskEvent ask.Sinks) args asked
+Takes Step args asked = AsksAlone (AskEvent ask.Step) args asked
 Takes Count args asked = AsksAlone (AskEvent ask.Count) args asked
 Takes Quit args asked = AsksAlone AskQuit args asked
 

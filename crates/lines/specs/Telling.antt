@@ -1,13 +1,15 @@
 -- The text of an answer (this product's own profile).
-use Rattle.std.specs.Prelude.{◌≡◌, ◌⊎◌, ℕ, Bool, true, false, IsTrue, List, ◌++◌, length, codes, decimal}
+use Rattle.std.specs.Prelude.{◌≡◌, ◌⊎◌, ℕ, Bool, true, false, IsTrue, List, ◌++◌, length, codes, decimal, Some, None}
 use Rattle.std.specs.Fmt.{signed_decimal}
 use Rattle.lattice.specs.declared.height.Height.TheVariants as height
 use Rattle.lattice.specs.declared.refusal.Refusal.TheVariants as refusal
+use Rattle.hgt.specs.Names.{name_bytes}
 use Rattle.calls.specs.declared.event.Reply.{Reply}
 use Rattle.calls.specs.declared.event.Reply.TheVariants as reply
 use Rattle.lines.specs.Replies.{ok_line, done_text, names_line, path_text, runs_text, refusal_text}
 
--- what is written for an answer: metres or `void` for a height, which outside is a refusal
+-- what is written for an answer: metres or `void` for a height, which outside is a refusal; the tile that a step named, or
+-- `none`
 abbrev pub text_of : Reply → List ℕ
 text_of (reply.Done count) = ok_line (decimal count)
 text_of (reply.Elevation height.Outside) = refusal_text refusal.Outside
@@ -20,6 +22,8 @@ text_of (reply.Watershed runs) = runs_text runs.items
 text_of (reply.Export bytes) = ok_line (decimal (length bytes.items)) ++ bytes.items
 text_of (reply.Tiles corners) = names_line corners.items
 text_of (reply.Sinks points) = path_text points.items
+text_of (reply.Stepped (Some c)) = ok_line (name_bytes c)
+text_of (reply.Stepped None) = ok_line (codes "none")
 text_of (reply.Count count) = ok_line (decimal count)
 text_of reply.Reopened = done_text
 text_of (reply.Refused r) = refusal_text r

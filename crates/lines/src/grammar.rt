@@ -75,6 +75,7 @@ fn with_arguments<'a>(command: Keyword, arguments: Words<'a>) -> Option<Request<
         Keyword::Watershed => Event::Watershed(point(arguments)?),
         Keyword::Tiles => return alone(arguments, Request::Ask(Event::Tiles)),
         Keyword::Sinks => return alone(arguments, Request::Ask(Event::Sinks)),
+        Keyword::Step => return alone(arguments, Request::Ask(Event::Step)),
         Keyword::Count => return alone(arguments, Request::Ask(Event::Count)),
         Keyword::Quit => return alone(arguments, Request::Quit),
     };

@@ -20,11 +20,12 @@ pub enum Keyword {
     Export,
     Tiles,
     Sinks,
+    Step,
     Count,
     Quit,
 }
 
-const KEYWORDS: [Keyword; 17] = [
+const KEYWORDS: [Keyword; 18] = [
     Keyword::Import,
     Keyword::Remove,
     Keyword::Patch,
@@ -40,6 +41,7 @@ const KEYWORDS: [Keyword; 17] = [
     Keyword::Export,
     Keyword::Tiles,
     Keyword::Sinks,
+    Keyword::Step,
     Keyword::Count,
     Keyword::Quit,
 ];
@@ -76,6 +78,7 @@ impl Keyword {
             Keyword::Export => b"export",
             Keyword::Tiles => b"tiles",
             Keyword::Sinks => b"sinks",
+            Keyword::Step => b"step",
             Keyword::Count => b"count",
             Keyword::Quit => b"quit",
         }

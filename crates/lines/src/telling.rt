@@ -6,7 +6,7 @@ ghost use Rattle.lines.specs.Telling.{Tells, text_of};
 
 use crate::text::Text;
 use calls::Reply;
-use lattice::{Height, Refusal};
+use lattice::{Corner, Height, Refusal};
 use std::alloc::{AllocError, Global};
 
 /// The text of this reply, or of `ERR 21 NoMemory` where there is no memory for it.
@@ -25,6 +25,7 @@ pub fn tell(alloc: Global, reply: Reply) -> Text
         Reply::Watershed(runs) => or_no_memory(Text::runs(alloc, runs.as_slice())),
         Reply::Export(bytes) => or_no_memory(Text::bytes(alloc, bytes.as_slice())),
         Reply::Tiles(corners) => or_no_memory(Text::names(alloc, corners.as_slice())),
+        Reply::Stepped(tile) => tell_step(tile),
         Reply::Reopened => Text::done(),
         Reply::Refused(refusal) => Text::refused(refusal),
     }
@@ -38,6 +39,16 @@ fn tell_height(height: Height) -> Text
         Height::Outside => Text::refused(Refusal::Outside),
         Height::Void => Text::void(),
         Height::At(metres) => Text::number(metres),
+    }
+}
+
+/// The name of the tile that a step named, if it named one.
+fn tell_step(tile: Option<Corner>) -> Text
+    ensures { result ≡ text_of (answers.Stepped tile) }
+{
+    match tile {
+        Some(corner) => Text::name(corner),
+        None => Text::none(),
     }
 }
 

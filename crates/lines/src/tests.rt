@@ -130,6 +130,7 @@ fn words_of_lines(rt: HostRuntime) {
     );
     assert!(rt; matches!(request_of(b"tiles"), Some(Request::Ask(Event::Tiles))));
     assert!(rt; matches!(request_of(b"sinks"), Some(Request::Ask(Event::Sinks))));
+    assert!(rt; matches!(request_of(b"step"), Some(Request::Ask(Event::Step))));
     assert!(rt; matches!(request_of(b"count\r"), Some(Request::Ask(Event::Count))));
     assert!(rt; matches!(request_of(b"quit"), Some(Request::Quit)));
 }

@@ -2,10 +2,12 @@
 //! reply ends in an LF.
 ghost use Rattle.std.specs.Prelude.{◌≡◌, ◌+◌, ◌≤◌, ℕ, List, [], ◌++◌, length, IfErr, IfOk, OnOk, OnErr, take, codes, decimal};
 ghost use Rattle.std.specs.Io.KnownBytes.{Appends};
+ghost use Rattle.hgt.specs.Names.{name_bytes};
 ghost use Rattle.lines.specs.Replies.{ok_line, done_text, names_line, path_text, refusal_text, runs_text};
 
 use crate::lists::{extend_names, extend_points, extend_runs, point_count};
 use arrayvec::ArrayVec;
+use hgt::name_text;
 use itoa::{Buffer, Integer};
 use lattice::{Corner, Point, Refusal};
 use std::alloc::{AllocError, Global};
@@ -79,6 +81,20 @@ impl Text {
         ensures { result ≡ ok_line (codes "void") }
     {
         Text::line(joined(b"OK ", b"void", b"\n"))
+    }
+
+    /// `OK` and the tile's name.
+    pub fn name(corner: Corner) -> Text
+        ensures { result ≡ ok_line (name_bytes corner) }
+    {
+        Text::line(joined(b"OK ", name_text(corner).as_bytes(), b"\n"))
+    }
+
+    /// `OK none`, where there is no tile to name.
+    pub fn none() -> Text
+        ensures { result ≡ ok_line (codes "none") }
+    {
+        Text::line(joined(b"OK ", b"none", b"\n"))
     }
 
     /// `ERR`, the refusal's number and its word.

@@ -1,7 +1,7 @@
 -- What the text of a reply tells of the answer.
 use Rattle.std.proofs.Common.{◌≡◌, ℕ, get_or, Bool, true, false, true≢false, List, refl, sym, ap, ◌∙◌, arith, inl, inr}
 use Rattle.std.specs.Fmt.{digits}
-use Rattle.std.specs.Prelude.{◌==◌, ◌&&◌, Result, Ok, Err, MatchResult}
+use Rattle.std.specs.Prelude.{◌==◌, ◌&&◌, Some, None, Result, Ok, Err, MatchResult}
 use Rattle.lattice.specs.declared.height.Height.TheVariants as height
 use Rattle.lattice.specs.declared.refusal.Refusal.{Refusal}
 use Rattle.lattice.specs.declared.refusal.Refusal.TheVariants.{Device, NoMemory}
@@ -44,6 +44,8 @@ blames (reply.Refused r) text (inl is) e = ap (λ (q : Refusal). reply.Refused q
 blames (reply.Elevation height.Outside) text (inl is) e = absurd (another text _ is refl e)
 blames (reply.Elevation height.Void) text (inl is) e = absurd (another text _ is refl e)
 blames (reply.Elevation (height.At metres)) text (inl is) e = absurd (another text _ is refl e)
+blames (reply.Stepped (Some c)) text (inl is) e = absurd (another text _ is refl e)
+blames (reply.Stepped None) text (inl is) e = absurd (another text _ is refl e)
 blames answer text (inl is) e = absurd (another text _ is refl e)
 
 -- a refusal is told as it is

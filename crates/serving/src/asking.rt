@@ -32,6 +32,7 @@ pub(crate) fn ask<E: Engine>(engine: &mut E, event: &Event) -> Reply
             .map_or_else(Reply::Refused, Reply::Export),
         Event::Tiles => engine.tiles().map_or_else(Reply::Refused, Reply::Tiles),
         Event::Sinks => engine.sinks().map_or_else(Reply::Refused, Reply::Sinks),
+        Event::Step => engine.step().map_or_else(Reply::Refused, Reply::Stepped),
         Event::Count => Reply::Count(engine.count()),
         Event::Reopen => unreachable!(),
     }

@@ -1,1 +1,2 @@
+pub mod FreshTiles
 pub mod TableCalls

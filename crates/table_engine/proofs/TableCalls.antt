@@ -1,6 +1,6 @@
 -- What is known of a call of the mosaic in memory, which never fails.
-use Rattle.std.proofs.Common.{◌≡◌, ℕ, ℤ, ◌<◌, ◌+◌, Bool, true, false, true≢false, IsTrue, IsFalse, List, refl, sym, ap, ◌∙◌, subst, arith}
-use Rattle.std.specs.Prelude.{Result, Ok, Err, IsOk, IfOk, IfErr, MatchResult, Some, None, ⊤}
+use Rattle.std.proofs.Common.{◌≡◌, ℕ, ℤ, ◌<◌, ◌+◌, false, true≢false, IsTrue, List, [], ◌∷◌, ◌++◌, refl, sym, ap, subst, arith}
+use Rattle.std.specs.Prelude.{Result, Ok, Err, IsOk, IfOk, IfErr, MatchResult, Some, None, Contains}
 use Rattle.std.specs.Global.{Vec}
 use Rattle.lattice.specs.Corners.{Corner}
 use Rattle.lattice.specs.Height.{height_of}
@@ -18,7 +18,6 @@ use Rattle.edits.specs.declared.command.Command.{Command}
 use Rattle.edits.specs.declared.command.Command.TheVariants.{Import, Remove, Patch, Burn, Wall, Sink, Unsink}
 use Rattle.edits.specs.Effect.{effect}
 use Rattle.edits.specs.Plans.{is_own, may_end}
-use Rattle.edits.proofs.AllStale.{all_changed_side, all_stale}
 use Rattle.flow_d8.specs.FlowPath.{IsFlowPath, IsInWatershed}
 use Rattle.watershed.specs.declared.runs.Run.{Run}
 use Rattle.watershed.specs.Runs.{AreRuns}
@@ -29,20 +28,26 @@ use Rattle.calls.specs.declared.event.Reply.{Reply}
 use Rattle.calls.specs.declared.event.Reply.TheVariants as reply
 use Rattle.calls.specs.Engines.{IsCall, answered}
 use Rattle.calls.specs.Events.{Happens, fails_after}
-use Rattle.calls.specs.Outcomes.{Stays, AnswersNot, Accepts, Applies, AppliesNot, IsWorn}
-use Rattle.calls.specs.State.{Contents, State, last_number, made_by, working}
+use Rattle.calls.specs.Outcomes.{Stays, AnswersNot, Accepts, Applies, AppliesNot}
+use Rattle.calls.specs.State.{State, last_number, working}
+use Rattle.calls.specs.Steps.{Commits, Steps, stepped}
 use Rattle.calls.specs.Told.{Matches, Knows, WritesFew, may_refuse, may_refuse_question}
 use Rattle.calls.proofs.Applying.{plan_refused}
-use Rattle.table_engine.specs.TableState.{Held, held_of, contents_of, table}
+use Rattle.edits.specs.Touched.{stale_after}
+use Rattle.table_engine.specs.TableState.{Held, held_of, contents_of, stale_among, table}
+use Rattle.table_engine.proofs.FreshTiles.{one_less}
 
-few_writes : (c : Command) → WritesFew 1 (ask.Do c) 0 0
-few_writes (Import c bytes) = tt
-few_writes (Remove c) = tt
-few_writes (Patch from to height) = tt
-few_writes (Burn depth points) = omega arith
-few_writes (Wall height points) = omega arith
-few_writes (Sink p) = omega arith
-few_writes (Unsink p) = omega arith
+few_writes : (side : ℕ) (c : Command) → WritesFew 1 side (ask.Do c) 0 0
+few_writes side (Import c bytes) = tt
+few_writes side (Remove c) = tt
+few_writes side (Patch from to height) = tt
+few_writes side (Burn depth points) = omega arith
+few_writes side (Wall height points) = omega arith
+few_writes side (Sink p) = omega arith
+few_writes side (Unsink p) = omega arith
+
+nothing_within : (c : Corner) → Contains [] c → ⊥
+nothing_within c (k, below, here) = omega (arith, below)
 
 module _ (held : Held) where
   abbrev now : State
@@ -59,7 +64,7 @@ module _ (held : Held) where
   Same event answer = IsCall table held event answer held
 
   same : (event : Event) (answer : Reply) → Matches event answer → (answer ≡ reply.Refused Failed → ⊥) → (answer ≡ reply.Refused Device → ⊥) → false ≡ fails_after false event answer
-      → WritesFew 1 event 0 0 → Knows (table.known held) event answer (table.known held) → Happens held.capacity now event answer now → Same event answer
+      → WritesFew 1 here.side event 0 0 → Knows (table.known held) event answer (table.known held) → Happens held.capacity now event answer now → Same event answer
   same event answer matches not_failed not_device after few knows happens = record {
     side = λ _. refl;
     capacity = λ _. refl;
@@ -74,7 +79,7 @@ module _ (held : Held) where
 
   -- a question about the water at a point
   module _ (p : Point) (event : Event) (may : (r : Refusal) → IsTrue (may_refuse_question r) → IsTrue (may_refuse event r)) (after : (r : Refusal) → (r ≡ Device → ⊥) → false ≡ fails_after false event (reply.Refused r))
-      (few : WritesFew 1 event 0 0) (knows : (r : Refusal) → Knows (table.known held) event (reply.Refused r) (table.known held))
+      (few : WritesFew 1 here.side event 0 0) (knows : (r : Refusal) → Knows (table.known held) event (reply.Refused r) (table.known held))
       (happens : (r : Refusal) → AnswersNot now p r now → Happens held.capacity now event (reply.Refused r) now) where
     unanswered : (r : Refusal) → IsUnanswered here p r → Same event (reply.Refused r)
     unanswered Outside is = same event (reply.Refused Outside) (may Outside refl) (λ e. absurd (cc)) (λ e. absurd (cc)) (after Outside (λ e. absurd (cc))) few (knows Outside) (happens Outside (stays, is))
@@ -130,10 +135,22 @@ module _ (held : Held) where
   pub told_count : (k : ℕ) → k ≡ held.contents.count → Same ask.Count (reply.Count k)
   told_count k is = same ask.Count (reply.Count k) tt (λ e. absurd (cc)) (λ e. absurd (cc)) refl refl (is, refl) (is, refl)
 
+  -- a step that names none
+  pub none_stale : held.contents.stale ≡ [] → Same ask.Step (reply.Stepped None)
+  none_stale none = same ask.Step (reply.Stepped None) tt (λ e. absurd (cc)) (λ e. absurd (cc)) refl (omega arith) refl (stays, none)
+
+  pub no_room_to_step : Same ask.Step (reply.Refused NoMemory)
+  no_room_to_step = same ask.Step (reply.Refused NoMemory) refl (λ e. absurd (cc)) (λ e. absurd (cc)) refl (omega arith) refl stays
+
+  pub worn_to_step : (c : Corner) → Contains held.contents.stale c → held.contents.number ≡ last_number → Same ask.Step (reply.Refused Worn)
+  worn_to_step c some full =
+      same ask.Step (reply.Refused Worn) refl (λ e. absurd (cc)) (λ e. absurd (cc)) refl (omega arith) refl
+      (record { stays = stays; worn = full }, λ none. nothing_within c (subst (λ (l : List Corner). Contains l c) none some))
+
   module _ (c : Command) where
     not_done : (r : Refusal) → IsTrue (may_refuse (ask.Do c) r) → (r ≡ Failed → ⊥) → (r ≡ Device → ⊥) → AppliesNot held.capacity now c r now → Same (ask.Do c) (reply.Refused r)
     not_done r may not_failed not_device is =
-        same (ask.Do c) (reply.Refused r) may (λ e. not_failed (refusal_is e)) (λ e. not_device (refusal_is e)) (not_failing (ask.Do c) (λ e. absurd (cc)) r not_device) (few_writes c) refl is
+        same (ask.Do c) (reply.Refused r) may (λ e. not_failed (refusal_is e)) (λ e. not_device (refusal_is e)) (not_failing (ask.Do c) (λ e. absurd (cc)) r not_device) (few_writes here.side c) refl is
       where
         refusal_is : {q : Refusal} → reply.Refused r ≡ reply.Refused q → r ≡ q
         refusal_is e = cc
@@ -159,30 +176,59 @@ module _ (held : Held) where
         may_be_memory (Sink p) = refl
         may_be_memory (Unsink p) = refl
 
-module _ (m : Mosaic) (capacity k g : ℕ) where
+module _ (m : Mosaic) (capacity : ℕ) (fresh : List Corner) (k g : ℕ) where
   abbrev pub old : Held
-  old = held_of capacity m k g
+  old = held_of capacity m fresh k g
 
   -- a command that is done
-  pub done : (c : Command) (new : Mosaic) → effect capacity m c ≡ Ok new → new.side ≡ m.side → g < last_number → IsCall table old (ask.Do c) (reply.Done (k + 1)) (held_of capacity new (k + 1) (g + 1))
-  done c new makes side below = record {
+  pub done : (c : Command) (new : Mosaic) (left : List Corner) → effect capacity m c ≡ Ok new → new.side ≡ m.side → g < last_number → stale_after m c (stale_among (corners_of m) fresh) new ≡ stale_among (corners_of new) left
+      → IsCall table old (ask.Do c) (reply.Done (k + 1)) (held_of capacity new left (k + 1) (g + 1))
+  done c new left makes side below stale = record {
     side = λ _. side;
     capacity = λ _. refl;
     told = record { matches = tt; says = λ failed. absurd (true≢false (sym failed)); had_failed = λ e. absurd (cc); after_is = refl };
     failures = record { later = omega arith; device = λ e. absurd (cc) };
-    writes = record { few = few_writes c; refused = λ r is other. refl };
+    writes = record { few = few_writes m.side c; refused = λ r is other. refl };
     known = (refl, refl);
     honest = λ h. h;
     takes = λ honest s at. (side, refl);
-    happens = λ honest s at. (working (contents_of new (k + 1) (g + 1)), (refl, subst (λ (z : State). Applies capacity z c (Ok (k + 1)) (working (contents_of new (k + 1) (g + 1)))) (sym at) accepted, tt));
+    happens = λ honest s at. (then, (refl, subst (λ (z : State). Applies capacity z c (Ok (k + 1)) then) (sym at) accepted, tt));
   }
     where
-      accepted : Accepts capacity (working old.contents) c (k + 1) (working (contents_of new (k + 1) (g + 1)))
+      then : State
+      then = working (contents_of new left (k + 1) (g + 1))
+
+      accepted : Accepts capacity (working old.contents) c (k + 1) then
       accepted = record {
         working = refl;
-        effect_is = (new, (makes, ap (λ (l : List Corner). working (record { version = 1; mosaic = new; count = k + 1; number = g + 1; stale = l })) (sym (all_stale capacity m new c makes))));
+        effect_is = (new, (makes, ap (λ (l : List Corner). working (record { version = 1; mosaic = new; count = k + 1; number = g + 1; stale = l })) (sym stale)));
         counted = refl;
         room = below;
+      }
+
+  -- a step that names a tile
+  pub stepped_to : (c : Corner) → Contains (stale_among (corners_of m) fresh) c → g < last_number
+      → IsCall table old ask.Step (reply.Stepped (Some c)) (held_of capacity m (fresh ++ c ∷ []) k (g + 1))
+  stepped_to c stale below = record {
+    side = λ _. refl;
+    capacity = λ _. refl;
+    told = record { matches = tt; says = λ failed. absurd (true≢false (sym failed)); had_failed = λ e. absurd (cc); after_is = refl };
+    failures = record { later = omega arith; device = λ e. absurd (cc) };
+    writes = record { few = omega arith; refused = λ r is other. refl };
+    known = refl;
+    honest = λ h. h;
+    takes = λ honest s at. (refl, refl);
+    happens = λ honest s at. (then, (refl, subst (λ (z : State). Steps z (Ok (Some c)) then) (sym at) (stale, kept), tt));
+  }
+    where
+      then : State
+      then = working (contents_of m (fresh ++ c ∷ []) k (g + 1))
+
+      kept : Commits (working old.contents) (stepped c old.contents) then
+      kept = record {
+        working = refl;
+        room = below;
+        made_is = ap (λ (l : List Corner). working (record { version = 1; mosaic = m; count = k; number = g + 1; stale = l })) (one_less (corners_of m) fresh c);
       }
 
   -- a call of a table that holds this
@@ -191,5 +237,5 @@ module _ (m : Mosaic) (capacity k g : ℕ) where
     called next call = subst (λ (h : Held). IsCall table h event answer next) view call
 
     -- .. and then holds an equal mosaic
-    pub called_same : (new : Mosaic) → new ≡ m → IsCall table old event answer old → IsCall table held event answer (held_of capacity new k g)
-    called_same new is call = called (held_of capacity new k g) (subst (λ (x : Mosaic). IsCall table old event answer (held_of capacity x k g)) (sym is) call)
+    pub called_same : (new : Mosaic) → new ≡ m → IsCall table old event answer old → IsCall table held event answer (held_of capacity new fresh k g)
+    called_same new is call = called (held_of capacity new fresh k g) (subst (λ (x : Mosaic). IsCall table old event answer (held_of capacity x fresh k g)) (sym is) call)

@@ -1,8 +1,9 @@
 -- The state that an engine in memory is in (this product's own profile).
-use Rattle.std.specs.Prelude.{◌≡◌, ℕ, ◌<◌, ◌≤◌, false, length, ⊤}
+use Rattle.std.specs.Prelude.{◌≡◌, ℕ, ◌<◌, ◌≤◌, false, not, List, filter, length, ⊤}
+use Rattle.lattice.specs.Corners.{Corner}
 use Rattle.lattice.specs.Limits.{most_tiles}
 use Rattle.lattice.specs.Mosaic.{Mosaic, IsMosaic}
-use Rattle.catalogue.specs.Tiles.{corners_of}
+use Rattle.catalogue.specs.Tiles.{corners_of, is_listed}
 use Rattle.calls.specs.Engines.{Members}
 use Rattle.calls.specs.State.{Contents, working}
 
@@ -11,12 +12,16 @@ pub record Held : Type 0 where
   pub capacity : ℕ
   pub contents : Contents
 
--- it keeps no planes: each present tile is without them
-abbrev pub contents_of : Mosaic → ℕ → ℕ → Contents
-contents_of m k g = record { version = 1; mosaic = m; count = k; number = g; stale = corners_of m }
+-- those of the corners that aren't fresh
+abbrev pub stale_among : List Corner → List Corner → List Corner
+stale_among corners fresh = filter (λ p. not (is_listed p fresh)) corners
 
-abbrev pub held_of : ℕ → Mosaic → ℕ → ℕ → Held
-held_of capacity m k g = record { capacity = capacity; contents = contents_of m k g }
+-- It keeps no planes. A tile is fresh from the step that names it to the command that leaves it stale.
+abbrev pub contents_of : Mosaic → List Corner → ℕ → ℕ → Contents
+contents_of m fresh k g = record { version = 1; mosaic = m; count = k; number = g; stale = stale_among (corners_of m) fresh }
+
+abbrev pub held_of : ℕ → Mosaic → List Corner → ℕ → ℕ → Held
+held_of capacity m fresh k g = record { capacity = capacity; contents = contents_of m fresh k g }
 
 -- It has no disk: it never fails, and a stop leaves nothing.
 abbrev pub table : Members Held

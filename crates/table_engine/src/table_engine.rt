@@ -1,16 +1,22 @@
 //! A mosaic in memory, as an engine.
-ghost use Rattle.std.specs.Prelude.{◌≡◌, ◌≤◌};
+ghost use Rattle.std.specs.Prelude.{◌≡◌, ◌≤◌, [], ◌∷◌, ◌++◌, filter, not, IfErr, IfOk, OnOk, OnErr, MatchOption, Contains};
+ghost use Rattle.lattice.specs.Mosaic.{IsMosaic};
+ghost use Rattle.lattice.specs.declared.refusal.Refusal.TheVariants.{NoMemory};
+ghost use Rattle.catalogue.specs.Tiles.{is_listed};
+ghost use Rattle.edits.specs.LeftStale.{is_beside};
 ghost use Rattle.calls.specs.State.{fresh};
+ghost use Rattle.table_engine.specs.TableState.{stale_among};
 
 use catalogue::{Samples, Table, height};
-use edits::{Command, carry_out, commands_make_mosaics, plan};
+use edits::{Change, Command, carry_out, commands_make_mosaics, leave_stale, plan};
 use engine::Engine;
 use lattice::{Corner, Height, MOST_TILES, Point, Refusal, Side};
 use std::alloc::Global;
 use std::marker::Model;
 use watershed::Run;
 
-/// A mosaic held in memory. It refuses for want of memory, and never fails.
+/// A mosaic held in memory. It refuses for want of memory, and never fails. It keeps no planes: a step names a tile, which
+/// is fresh until a command leaves it stale again.
 #[derive(Drop)]
 pub struct TableEngine {
     alloc: Global,
@@ -18,6 +24,7 @@ pub struct TableEngine {
     capacity: u32,
     count: u64,
     number: u64,
+    fresh: Vec<Corner>,
 }
 
 impl Model for TableEngine {
@@ -25,7 +32,7 @@ impl Model for TableEngine {
 
     ghost Value = { Held };
 
-    ghost view = { λ e. held_of e.capacity e.table e.count e.number };
+    ghost view = { λ e. held_of e.capacity e.table e.fresh.items e.count e.number };
 
     ghost invariant = { λ e. IsKept e.capacity e.table e.count e.number };
 }
@@ -43,6 +50,7 @@ impl TableEngine {
             capacity,
             count: 0,
             number: 1,
+            fresh: Vec::new(alloc),
         }
     }
 }
@@ -92,9 +100,11 @@ impl Engine for TableEngine {
         if self.number == u64::MAX {
             return Err(Refusal::Worn);
         }
+        let fresh = still_fresh(self.alloc, &self.table, &changes, &self.fresh)?;
         carry_out(changes, &mut self.table)?;
         // By this law the capacity is kept.
         commands_make_mosaics();
+        self.fresh = fresh;
         self.count += 1;
         self.number += 1;
         Ok(self.count)
@@ -135,7 +145,62 @@ impl Engine for TableEngine {
         Ok(Vec::from_slice(self.alloc, self.table.sinks())?)
     }
 
+    fn step(&mut self) -> Result<Option<Corner>, Refusal> {
+        let corners = self.table.corners(self.alloc)?;
+        let Some(corner) = first_stale(&corners, &self.fresh) else {
+            return Ok(None);
+        };
+        if self.number == u64::MAX {
+            return Err(Refusal::Worn);
+        }
+        push(&mut self.fresh, corner)?;
+        self.number += 1;
+        Ok(Some(corner))
+    }
+
     fn count(&self) -> u64 {
         self.count
+    }
+}
+
+// Those of the corners whose tiles the changes, made in this table, don't leave stale.
+fn still_fresh(
+    alloc: Global,
+    table: &Table,
+    changes: &[Change],
+    corners: &[Corner],
+) -> Result<Vec<Corner>, Refusal>
+    ensures corners { IsMosaic table.now → IfOk result (λ fresh. fresh.items ≡ filter (λ p. not (is_beside table.now changes.now p)) corners.now) }
+    ensures refusal { IfErr result (λ r. r ≡ NoMemory) }
+{
+    let mut fresh = Vec::new(alloc);
+    for corner in corners {
+        if !leave_stale(table, changes, *corner) {
+            push(&mut fresh, *corner)?;
+        }
+    }
+    Ok(fresh)
+}
+
+// The first of the corners that isn't fresh.
+fn first_stale(corners: &[Corner], fresh: &[Corner]) -> Option<Corner>
+    ensures { MatchOption result (stale_among corners.now fresh.now ≡ []) (Contains (stale_among corners.now fresh.now)) }
+{
+    for corner in corners {
+        if !fresh.contains(corner) {
+            return Some(*corner);
+        }
+    }
+    None
+}
+
+fn push(corners: &mut Vec<Corner>, corner: Corner) -> Result<(), Refusal>
+    ensures pushed { OnOk result (corners.new.items ≡ corners.old.items ++ corner ∷ []) }
+    ensures refusal { IfErr result (λ r. r ≡ NoMemory) }
+    ensures unchanged { OnErr result (corners.new.items ≡ corners.old.items) }
+{
+    match corners.push(corner) {
+        Ok(()) => Ok(()),
+        Err(_) => Err(Refusal::NoMemory),
     }
 }

@@ -1,11 +1,17 @@
-use Rattle.std.proofs.Common.{rules, ◌≡◌, ◌<◌, ◌+◌, refl, sym, ap, ◌∙◌}
+use Rattle.std.proofs.Common.{rules, ◌≡◌, ◌<◌, List, filter, not, sym, ap, ap₂, ◌∙◌}
 use Rattle.std.specs.Prelude.{Result, Ok}
 use Rattle.lattice.specs.Mosaic.{Mosaic}
 use Rattle.lattice.specs.declared.refusal.Refusal.{Refusal}
-use Rattle.lattice.specs.declared.refusal.Refusal.TheVariants.{Worn}
+use Rattle.catalogue.specs.Tiles.{corners_of}
+use Rattle.lattice.specs.Corners.{Corner}
+use Rattle.edits.specs.declared.change.Change.{Change}
 use Rattle.edits.specs.Changes.{all_changed}
+use Rattle.edits.specs.Effect.{effect}
+use Rattle.edits.specs.LeftStale.{is_beside}
 use Rattle.edits.proofs.AllStale.{all_changed_side}
 use Rattle.calls.specs.declared.event.Event.TheVariants as ask
+use Rattle.table_engine.specs.TableState.{stale_among}
+use Rattle.table_engine.proofs.FreshTiles.{stale_then}
 use Rattle.table_engine.proofs.TableCalls.{called, called_same, done, old, worn}
 use Rattle.table_engine.proofs.table_engine.TableEngineEngine.apply.Goals as goal
 
@@ -14,23 +20,28 @@ returns-then-self c =
     let e = c.self.inside in
     let reads = c.in_ok-changes.ensures.reads in
     let valid = reads.never_refuses c.self.invariant.valid in
-    called_same e.table e.capacity e.count e.number c.args.self.now c.self.view_is (ask.Do c.args.command.now) _ c.plan.new.samples reads.keeps
-    (worn (old e.table e.capacity e.count e.number) c.args.command.now _ (c.in_ok-changes.ensures.changes valid) c.if-self.true)
+    called_same e.table e.capacity e.fresh.items e.count e.number c.args.self.now c.self.view_is (ask.Do c.args.command.now) _ c.plan.new.samples reads.keeps
+    (worn (old e.table e.capacity e.fresh.items e.count e.number) c.args.command.now _ (c.in_ok-changes.ensures.changes valid) c.if-self.true)
 
 pub returns : goal.returns
 returns c =
     let e = c.self.inside in
+    let command = c.args.command.now in
+    let changes = c.in_ok-changes.changes.items in
     let reads = c.in_ok-changes.ensures.reads in
     let valid = reads.never_refuses c.self.invariant.valid in
     let new = c.carry_out.new.table in
-    let is : all_changed c.in_ok-changes.changes.items e.table ≡ new =
-    ap (all_changed c.in_ok-changes.changes.items) (sym reads.keeps) ∙ sym c.in_ok-carry_out.ensures.made in
-    let side : new.side ≡ e.table.side =
-    ap (λ (m : Mosaic). m.side) (sym is) ∙ all_changed_side c.in_ok-changes.changes.items e.table in
+    let is : all_changed changes e.table ≡ new = ap (all_changed changes) (sym reads.keeps) ∙ sym c.in_ok-carry_out.ensures.made in
+    let makes : effect e.capacity e.table command ≡ Ok new = c.in_ok-changes.ensures.changes valid ∙ ap (λ (m : Mosaic). let r : Result Mosaic Refusal = Ok m in r) is in
+    let side : new.side ≡ e.table.side = ap (λ (m : Mosaic). m.side) (sym is) ∙ all_changed_side changes e.table in
     let below : e.number < 18446744073709551615 = search rules in
-    called e.table e.capacity e.count e.number c.args.self.now c.self.view_is (ask.Do c.args.command.now) _ _
-    (done e.table e.capacity e.count e.number c.args.command.now new
-    (c.in_ok-changes.ensures.changes valid ∙ ap (λ (m : Mosaic). let r : Result Mosaic Refusal = Ok m in r) is) side below)
+    let left : c.in_ok-fresh.fresh.items ≡ filter (λ p. not (is_beside e.table changes p)) e.fresh.items =
+    c.in_ok-fresh.ensures.corners valid
+    ∙ ap (λ (m : Mosaic). filter (λ p. not (is_beside m c.deref.result.now p)) c.deref-2.result.now) reads.keeps
+    ∙ ap₂ (λ (made : List Change) (was : List Corner). filter (λ p. not (is_beside e.table made p)) was) c.deref.ensures.value c.deref-2.ensures.value in
+    called e.table e.capacity e.fresh.items e.count e.number c.args.self.now c.self.view_is (ask.Do command) _ _
+    (done e.table e.capacity e.fresh.items e.count e.number command new c.in_ok-fresh.fresh.items makes side below
+    (stale_then e.capacity e.table command new changes makes (c.in_ok-changes.ensures.stale valid) e.fresh.items ∙ ap (stale_among (corners_of new)) (sym left)))
 
 pub invariant_of-self-2 : goal.invariant_of-self-2
 invariant_of-self-2 c =

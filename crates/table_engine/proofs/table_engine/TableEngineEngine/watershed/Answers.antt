@@ -13,6 +13,6 @@ returns c =
     let valid = c.self.invariant.valid in
     let found = c.watershed.ensures in
     let new_valid = found.asked.reads.never_refuses valid in
-    called_same e.table e.capacity e.count e.number c.args.self.now c.self.view_is (ask.Watershed p) _ c.watershed.new.samples found.asked.reads.keeps
-    (shed (old e.table e.capacity e.count e.number) p c.watershed.result
+    called_same e.table e.capacity e.fresh.items e.count e.number c.args.self.now c.self.view_is (ask.Watershed p) _ c.watershed.new.samples found.asked.reads.keeps
+    (shed (old e.table e.capacity e.fresh.items e.count e.number) p c.watershed.result
     (told_of_levels e.table valid p (λ runs level. AreRuns (IsInWatershed (terrain e.table) level p) runs.items) c.watershed.result (found.asked.own (found.asked.reads.answers valid)) (found.asked.sound new_valid valid) (found.runs new_valid) (found.on_ground new_valid) found.outside (found.void new_valid) found.causes))
