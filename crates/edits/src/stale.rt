@@ -3,8 +3,8 @@ ghost use Rattle.std.specs.Prelude.{◌≡◌};
 ghost use Rattle.lattice.specs.Lattice.{holds};
 ghost use Rattle.edits.specs.LeftStale.{is_beside, is_near, is_near_one};
 
-use crate::neighbours::are_neighbours;
 use crate::Change;
+use crate::neighbours::are_neighbours;
 use catalogue::Samples;
 use lattice::{Corner, Point, holders};
 

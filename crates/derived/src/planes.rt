@@ -1,0 +1,61 @@
+//! The planes of one tile.
+ghost use Rattle.std.specs.Prelude.{◌≡◌, ◌*◌, ◌⊎◌, IfOk, IfErr, Contains, vec_len};
+ghost use Rattle.lattice.specs.Block.{AreHeightsOf, IsBlockOf};
+ghost use Rattle.lattice.specs.declared.refusal.Refusal.TheVariants.{NoMemory};
+ghost use Rattle.catalogue.specs.Readers.{OnlyReads, reads_of};
+ghost use Rattle.catalogue.specs.Reading.{MayRefuse};
+ghost use Rattle.tile_flood.specs.Kept.{AreKeptOf};
+ghost use Rattle.tile_flood.specs.Labelling.{IsLabelling};
+
+use crate::bytes::{label_bytes, level_bytes};
+use catalogue::{Samples, block_heights};
+use lattice::{Corner, Refusal, sinks_in};
+use std::alloc::Global;
+use tile_flood::{Block, Flood};
+
+/// The levels and labels of a tile, as its planes hold them: two bytes a point, the least significant first.
+#[derive(Drop)]
+pub struct KeptPlanes {
+    pub levels: Vec<u8>,
+    pub labels: Vec<u8>,
+}
+
+/// Floods the block of the corner's tile, and gives its levels and labels. It reads the tile's samples, and of its
+/// neighbours those on its rim. It is refused with NoMemory, or as a read of samples is.
+pub fn kept_planes<S: Samples>(
+    alloc: Global,
+    samples: &mut S,
+    corner: Corner,
+) -> Result<KeptPlanes, Refusal>
+    requires { Contains (S.corners samples.old) corner }
+    ensures kept { S.is_honest samples.new → IfOk result (λ planes. AreKeptOf (S.mosaic samples.old) corner planes.levels.items planes.labels.items) }
+
+    // On any disk both are whole.
+    ensures levels { IfOk result (λ planes. vec_len planes.levels ≡ 2 * (S.side_of samples.old * S.side_of samples.old)) }
+    ensures labels { IfOk result (λ planes. vec_len planes.labels ≡ 2 * (S.side_of samples.old * S.side_of samples.old)) }
+    ensures refusal { IfErr result (λ r. (r ≡ NoMemory) ⊎ MayRefuse (S.failures samples.old) (S.failures samples.new) r) }
+    ensures reads { OnlyReads S.Samples samples.old samples.new (reads_of result) }
+{
+    let block = block_of(alloc, samples, corner)?;
+    let labelled = Flood::run(alloc, &block)?;
+    let levels = level_bytes(alloc, labelled.levels())?;
+    let labels = label_bytes(alloc, labelled.labels())?;
+    Ok(KeptPlanes { levels, labels })
+}
+
+// The block of the corner's tile.
+fn block_of<S: Samples>(alloc: Global, samples: &mut S, corner: Corner) -> Result<Block, Refusal>
+    requires { Contains (S.corners samples.old) corner }
+    ensures ground { S.is_honest samples.new → IfOk result (λ block. IsBlockOf (S.mosaic samples.old) corner block) }
+    ensures side { IfOk result (λ block. block.side ≡ S.side_of samples.old) }
+    ensures refusal { IfErr result (λ r. (r ≡ NoMemory) ⊎ MayRefuse (S.failures samples.old) (S.failures samples.new) r) }
+    ensures reads { OnlyReads S.Samples samples.old samples.new (reads_of result) }
+{
+    let heights = block_heights(alloc, samples, corner)?;
+    let side = samples.side();
+    let sinks = sinks_in(side, corner, samples.sinks());
+    match Block::new(side, heights, sinks) {
+        Some(block) => Ok(block),
+        None => unreachable!(),
+    }
+}
