@@ -24,6 +24,8 @@ pub mod Sets
 pub mod SinksHeld
 pub mod Staled
 pub mod States
+pub mod SteppedTiles
+pub mod SteppedTrees
 pub mod StoreLemmas
 pub mod StoredCommands
 pub mod WholeTiles

@@ -1,10 +1,11 @@
 -- What the calls of a store leave.
-use Rattle.std.proofs.Common.{◌≡◌, ◌≢◌, ◌⊎◌, ⊎_elim, ℕ, Bool, true, false, List, [], ◌∷◌, Some, arith, refl, sym, ◌∙◌, ap, subst, inl, inr}
+use Rattle.std.proofs.Common.{◌≡◌, ◌≢◌, ◌⊎◌, ⊎_elim, ℕ, Bool, true, false, List, [], ◌∷◌, Option, Some, None, ◌≤◌, arith, refl, sym, ◌∙◌, ap, subst, inl, inr}
 use Rattle.std.specs.Prelude.{◌+◌, IsTrue, Result, Ok, Err, OnOk, OnErr, IfOk, IfErr}
 use Rattle.std.proofs.lemmas.Bool.{both_ways}
 use Rattle.disk.specs.Disk.{Image}
 use Rattle.disk.specs.Stops.{LeavesOnly, weaker as weaker_on, nothing_done as nothing_done_on}
 use Rattle.disk.specs.declared.disk.Disk.{Ghosts}
+use Rattle.lattice.specs.Corners.{Corner}
 use Rattle.lattice.specs.declared.refusal.Refusal.{Refusal}
 use Rattle.lattice.specs.declared.refusal.Refusal.TheVariants.{Device, NoMemory, Failed}
 use Rattle.layout.specs.declared.version.Version.{Version}
@@ -18,7 +19,8 @@ use Rattle.calls.specs.Events.{fails_after, Happens}
 use Rattle.calls.specs.Outcomes.{Applies, Accepts, Fails}
 use Rattle.calls.specs.State.{Contents, State, made_by, in_doubt}
 use Rattle.calls.proofs.Applying.{doubt_is}
-use Rattle.calls.specs.Told.{may_refuse, Knows, WritesFew as FewWrites}
+use Rattle.calls.specs.Steps.{Steps}
+use Rattle.calls.specs.Told.{may_refuse, Knows, WritesFew as FewWrites, writes_a_step}
 use Rattle.calls.specs.declared.event.Event.{Event}
 use Rattle.calls.specs.declared.event.Event.TheVariants as ask
 use Rattle.calls.specs.declared.event.Reply.{Reply}
@@ -28,6 +30,7 @@ use Rattle.store.specs.Applied.{HasApplied}
 use Rattle.store.specs.Editing.{WritesFew}
 use Rattle.store.specs.Queried.{Queries}
 use Rattle.store.specs.Standing.{StandsFor}
+use Rattle.store.specs.Stepped.{LeavesOr, StepsOn, IsStepped}
 use Rattle.store.specs.States.{StandsForState, StandsForMade}
 use Rattle.store.specs.Stores.{IsAt, disk_of, root_of, side_of, capacity_of, has_failed}
 use Rattle.store.specs.declared.store.Store.{Store}
@@ -134,7 +137,7 @@ module _ {D : Type 0} (g : Ghosts D) (old new : Store D g) {T : Type 0} (event :
         capacity = λ _. ap (λ (root : RootValue). root.capacity) reads.root;
         told = told event tell so (has_failed old) (has_failed new) result causes (λ had. ((reads.failed had).0, reads.still_failed had)) reads.works reads.fails reads.quiet;
         failures = counted_so event tell so (g.failures (disk_of old)) (g.failures (disk_of new)) result reads.later reads.device;
-        writes = written_so event tell so (number_of (root_of old).version) before now result (few_as event tell Answers is (number_of (root_of old).version) before now reads.writes) (always_err result (λ _. reads.writes));
+        writes = written_so event tell so (number_of (root_of old).version) (side_of old) before now result (few_as event tell Answers is (number_of (root_of old).version) (side_of old) before now reads.writes) (always_err result (λ _. reads.writes));
         known = knows_as event tell Answers is (known_by (root_of old)) (known_by (root_of new)) result (ap known_by reads.root);
         honest = λ h. (reads.nothing h).honest;
         takes = λ h s at. (ap (λ (root : RootValue). root.side) reads.root, ap (λ (root : RootValue). root.capacity) reads.root);
@@ -200,16 +203,16 @@ known_done old new c (Ok k) same counted last = (
 )
 known_done old new c (Err r) same counted last = ap known_by last
 
-writes_few : (version : Version) (c : Command) (before now : ℕ) → WritesFew version c before now → FewWrites (number_of version) (ask.Do c) before now
-writes_few version (Import corner bytes) before now few = tt
-writes_few version (Remove corner) before now few = tt
-writes_few version (Patch from to h) before now few = tt
-writes_few One (Burn depth points) before now few = few
-writes_few Two (Burn depth points) before now few = few
-writes_few One (Wall h points) before now few = few
-writes_few Two (Wall h points) before now few = few
-writes_few version (Sink p) before now few = few
-writes_few version (Unsink p) before now few = few
+writes_few : (version : Version) (side : ℕ) (c : Command) (before now : ℕ) → WritesFew version c before now → FewWrites (number_of version) side (ask.Do c) before now
+writes_few version side (Import corner bytes) before now few = tt
+writes_few version side (Remove corner) before now few = tt
+writes_few version side (Patch from to h) before now few = tt
+writes_few One side (Burn depth points) before now few = few
+writes_few Two side (Burn depth points) before now few = few
+writes_few One side (Wall h points) before now few = few
+writes_few Two side (Wall h points) before now few = few
+writes_few version side (Sink p) before now few = few
+writes_few version side (Unsink p) before now few = few
 
 right_command : (capacity : ℕ) (s t : State) (c : Command) (result : Result ℕ Refusal) → Applies capacity s c result t → Happens capacity s (ask.Do c) (answered reply.Done result) t
 right_command capacity s t c (Ok k) is = is
@@ -230,7 +233,7 @@ commands g only_now old new c result is few failed still_failed = record {
   capacity = λ _. is.capacity;
   told = told (ask.Do c) reply.Done (is_command c) (has_failed old) (has_failed new) result is.causes (λ had. ((failed had).0, still_failed had)) is.works is.fails is.quiet;
   failures = counted_so (ask.Do c) reply.Done (is_command c) (g.failures (disk_of old)) (g.failures (disk_of new)) result is.later is.device;
-  writes = written_so (ask.Do c) reply.Done (is_command c) (number_of (root_of old).version) (g.writes (disk_of old)) (g.writes (disk_of new)) result (writes_few (root_of old).version c (g.writes (disk_of old)) (g.writes (disk_of new)) few) is.unwritten;
+  writes = written_so (ask.Do c) reply.Done (is_command c) (number_of (root_of old).version) (side_of old) (g.writes (disk_of old)) (g.writes (disk_of new)) result (writes_few (root_of old).version (side_of old) c (g.writes (disk_of old)) (g.writes (disk_of new)) few) is.unwritten;
   known = known_done (root_of old) (root_of new) c result is.version is.counted is.last_known;
   honest = is.honest;
   takes = λ h s at. (is.side, is.capacity);
@@ -242,6 +245,67 @@ commands g only_now old new c result is few failed still_failed = record {
           record { at = step.1.0; same_side = step.1.0.side_is },
           right_command (capacity_of old) s t c result step.1.1,
           commanded g old new s t c result is.size is.side is.capacity (only_now (disk_of old)) (is.honest h) (is.any_moment h s at.at) (is.refused_any_moment h s at.at) failed at step.1.1,
+        ),
+      );
+}
+
+-- a step
+
+known_stepped : (old new : RootValue) (result : Result (Option Corner) Refusal) → new.version ≡ old.version → IfOk result (λ tile. StepsOn old tile new) → OnErr result (new ≡ old)
+    → Knows (known_by old) ask.Step (answered reply.Stepped result) (known_by new)
+known_stepped old new (Ok None) same is last = ap known_by is
+known_stepped old new (Ok (Some c)) same is last =
+    ap (λ (v : Version). record { version = number_of v; count = new.count; number = new.number }) same
+    ∙ ap (λ (k : ℕ). record { version = number_of old.version; count = k; number = new.number }) is.0
+    ∙ ap (λ (n : ℕ). record { version = number_of old.version; count = old.count; number = n }) is.1
+known_stepped old new (Err r) same is last = ap known_by last
+
+right_step : (capacity : ℕ) (s t : State) (result : Result (Option Corner) Refusal) → Steps s result t → Happens capacity s ask.Step (answered reply.Stepped result) t
+right_step capacity s t (Ok tile) is = is
+right_step capacity s t (Err r) is = is
+
+is_step : IsAnswered ask.Step reply.Stepped
+is_step = record { matches = λ tile. tt; says = refl; goes_on = λ b tile. refl; blames = λ b. refl; passes = λ b r other. passes_on b r other; no_refusal = λ tile r e. cc }
+  where
+    passes_on : (b : Bool) (r : Refusal) → r ≢ Device → fails_after b ask.Step (reply.Refused r) ≡ b
+    passes_on b Device other = absurd (other refl)
+    passes_on b r other = refl
+
+-- it leaves the state before it or the one after it
+step_leaves : {D : Type 0} (g : Ghosts D) (old new : Store D g) (s t : State) → ((image : Image) → g.honest (disk_of old) → g.since (disk_of old) (g.moment (disk_of old)) image → g.may (disk_of old) image) → g.honest (disk_of old)
+    → (s.failed ≡ false → LeavesOnly g (disk_of old) (disk_of new) (LeavesOr g old.tree s t)) → (has_failed old ≡ true → disk_of new ≡ disk_of old) → IsStoreAt g old s
+    → LeavesOnly g (disk_of old) (disk_of new) (StandsForOne (g.size (disk_of old)) (side_of old) (capacity_of old) (s ∷ t ∷ []))
+step_leaves g old new s t only_now honest any failed is = by s.failed refl
+  where
+    Allowed : Image → Type 0
+    Allowed = StandsForOne (g.size (disk_of old)) (side_of old) (capacity_of old) (s ∷ t ∷ [])
+
+    by : (b : Bool) → s.failed ≡ b → LeavesOnly g (disk_of old) (disk_of new) Allowed
+    by false works = weaker_on g (disk_of old) (disk_of new) (LeavesOr g old.tree s t) Allowed (λ image. ⊎_elim (λ was. (s, (0, omega arith, refl), inl was)) (λ later. (t, (1, omega arith, refl), later))) (any works)
+    by true gone =
+        subst (λ (disk : _). LeavesOnly g (disk_of old) disk Allowed) (sym (failed (is.at.failed_is ∙ gone)))
+        (weaker_on g (disk_of old) (disk_of old) (g.may (disk_of old)) Allowed (allowed old s (t ∷ []) is) (nothing_done_on g (disk_of old) only_now honest).run)
+
+pub steps : {D : Type 0} (g : Ghosts D) → ((disk : D) (image : Image) → g.honest disk → g.since disk (g.moment disk) image → g.may disk image) → (old new : Store D g) (result : Result (Option Corner) Refusal)
+    → IsStepped g result old.tree new.tree → g.writes (disk_of new) ≤ g.writes (disk_of old) + (writes_a_step (number_of (root_of old).version) (side_of old) + 3)
+    → (has_failed old ≡ true → (result ≡ Err Failed) × (disk_of new ≡ disk_of old)) → (has_failed old ≡ true → has_failed new ≡ true) → IsCall (members g) old ask.Step (answered reply.Stepped result) new
+steps g only_now old new result is few failed still_failed = record {
+  side = λ _. is.side;
+  capacity = λ _. is.capacity;
+  told = told ask.Step reply.Stepped is_step (has_failed old) (has_failed new) result is.causes (λ had. ((failed had).0, still_failed had)) is.works is.fails is.quiet;
+  failures = counted_so ask.Step reply.Stepped is_step (g.failures (disk_of old)) (g.failures (disk_of new)) result is.later is.device;
+  writes = written_so ask.Step reply.Stepped is_step (number_of (root_of old).version) (side_of old) (g.writes (disk_of old)) (g.writes (disk_of new)) result few is.unwritten;
+  known = known_stepped (root_of old) (root_of new) result is.version is.known is.last_known;
+  honest = is.honest;
+  takes = λ h s at. (is.side, is.capacity);
+  happens = λ h s at.
+      let step = is.outcome h s at.at in
+      let t : State = step.0 in (
+        t,
+        (
+          record { at = step.1.0; same_side = step.1.0.side_is },
+          right_step (capacity_of old) s t result step.1.1,
+          record { size = is.size; side = is.side; capacity = is.capacity; run = step_leaves g old new s t (only_now (disk_of old)) (is.honest h) step.1.2 (λ had. (failed had).1) at },
         ),
       );
 }

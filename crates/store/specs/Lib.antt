@@ -9,5 +9,6 @@ pub mod Standing
 pub mod States
 pub mod StoreRuns
 pub mod StoreState
+pub mod Stepped
 pub mod Stores
 pub mod TreeStates

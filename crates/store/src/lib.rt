@@ -16,6 +16,7 @@ mod queries;
 mod running;
 mod sinking;
 mod staling;
+mod stepping;
 mod store;
 mod store_engine;
 

@@ -60,6 +60,7 @@ impl<D: Disk> Store<D> {
                 .map_or_else(Reply::Refused, Reply::Export),
             Event::Tiles => self.tiles().map_or_else(Reply::Refused, Reply::Tiles),
             Event::Sinks => self.sinks().map_or_else(Reply::Refused, Reply::Sinks),
+            Event::Step => self.step().map_or_else(Reply::Refused, Reply::Stepped),
             Event::Count => Reply::Count(self.count()),
             Event::Reopen => self
                 .reopen()

@@ -91,6 +91,10 @@ impl<D: Disk> Engine for Store<D> {
         Store::sinks(self)
     }
 
+    fn step(&mut self) -> Result<Option<Corner>, Refusal> {
+        Store::step(self)
+    }
+
     fn count(&self) -> u64 {
         Store::count(self)
     }

@@ -14,7 +14,7 @@ use Rattle.calls.proofs.Questions.{elevation_asked, fill_asked, direction_asked,
 use Rattle.calls.specs.Engines.{items_in}
 use Rattle.store.proofs.Answering.{told_as, reopened}
 use Rattle.store.proofs.Runs.{answers}
-use Rattle.store.proofs.StoreLemmas.{asked, unread, counts, commands}
+use Rattle.store.proofs.StoreLemmas.{asked, unread, counts, commands, steps}
 use Rattle.store.proofs.store.Store.answer.Goals as goal
 
 pub returns-in-Do : goal.returns-in-Do
@@ -131,3 +131,13 @@ returns-in-Reopen g c =
     let says : MatchResult c.reopen.result (λ u. replied ≡ reply.Reopened) (λ r. replied ≡ reply.Refused r) = search rules in
     answers d old new c.args.event.now ask.Reopen replied _ c.in-Reopen.is (told_as (λ u. reply.Reopened) c.reopen.result replied says) is.size
     (reopened d old new c.reopen.result is.size is.writes is.later is.refusals is.device is.nothing is.works is.failed is.last_known is.side is.capacity is.at is.stays is.sure)
+
+pub returns-in-Step : goal.returns-in-Step
+returns-in-Step g c =
+    let d = g.D.Disk in
+    let old = c.args.self.now in
+    let new = c.step.new.self in
+    let does = c.step.ensures in
+    let replied = c.map_or_else-in-Step in
+    answers d old new c.args.event.now ask.Step replied.result _ c.in-Step.is (told_as reply.Stepped c.step.result replied.result replied.ensures) does.stepped.size
+    (steps d g.met.D.Disk.only_now old new c.step.result does.stepped does.writes does.failed does.still_failed)

@@ -1,0 +1,55 @@
+use Rattle.std.proofs.Common.{inl, inr, ⊎_elim, ◌+◌, ◌<◌, ◌^◌, refl, sym, ap, ◌∙◌, subst}
+use Rattle.std.specs.Prelude.{Option, Result, Ok, Err, OnOk}
+use Rattle.lattice.specs.Corners.{Corner}
+use Rattle.lattice.specs.declared.refusal.Refusal.{Refusal}
+use Rattle.page_codec.specs.Roots.{RootValue}
+use Rattle.cow_tree.specs.Trees.{root_of}
+use Rattle.store.specs.Stepped.{IsStepped, IsStepStaged}
+use Rattle.store.proofs.SteppedTrees.{gives_up, fails_in_commit, commits_it}
+use Rattle.store.proofs.EditingSteps.{given_up, refused_as}
+use Rattle.store.proofs.stepping.commit_step.Goals as goal
+
+pub returns-in-Err-clause-step : goal.returns-in-Err-clause-step
+returns-in-Err-clause-step g c old staged =
+    let d = g.D.Disk in
+    let mid = c.args.tree.now in
+    let new = c.abandon.new.self in
+    let r : Refusal = c.in-Err.refusal in
+    let refused : IsStepStaged d old mid c.args.corner (Err r) = subst (λ (answer : Result (Unit {0}) Refusal). IsStepStaged d old mid c.args.corner answer) c.in-Err.is staged in
+    gives_up d old new refused.working c.args.corner refused.stale r
+    (given_up d old mid new (Err r) refused.uncommitted c.abandon.ensures.disk c.abandon.ensures.root c.abandon.ensures.failed c.abandon.ensures.at)
+    (⊎_elim (λ device. inl device) (λ no_room. inr (no_room.0, c.abandon.ensures.failed ∙ no_room.1, ap d.writes c.abandon.ensures.disk ∙ no_room.2)) refused.refused)
+    (λ honest s at works.
+    let sound = at.sound refused.working in
+    let mid_honest = subst d.honest c.abandon.ensures.disk honest in
+    let mid_at = refused.uncommitted.at mid_honest sound.stored sound.tree (sym c.abandon.ensures.failed ∙ works) in
+    (c.abandon.ensures.committed mid_honest sound.stored mid_at, c.abandon.ensures.undeclared mid_honest sound.stored mid_at))
+
+pub returns-in_err-commit-clause-step : goal.returns-in_err-commit-clause-step
+returns-in_err-commit-clause-step g c old staged =
+    let d = g.D.Disk in
+    let mid = c.args.tree.now in
+    let new = c.commit.new.self in
+    let done : IsStepStaged d old mid c.args.corner (Ok tt) = subst (λ (answer : Result (Unit {0}) Refusal). IsStepStaged d old mid c.args.corner answer) c.in_default.is staged in
+    subst (λ (result : Result (Option Corner) Refusal). IsStepped d result old new)
+    (sym (refused_as c.from_residual.result c.in_err-commit.field-0.0 c.from_residual.ensures.1 ∙ ap (λ (r : Refusal). Err r) c.in_err-commit.ensures.refused))
+    (fails_in_commit d old mid new c.args.corner done c.count-count.result
+    (c.count-count.ensures.value ∙ ap (λ (r : RootValue). r.count) c.current.ensures)
+    c.commit.ensures.size c.commit.ensures.cause.later c.commit.ensures.honest c.commit.ensures.any_moment
+    (subst (λ (answer : Result (Unit {0}) Refusal). OnOk answer ((root_of mid).number + 1 < 2 ^ 64)) c.in_default.is c.requires.number)
+    c.in_err-commit.ensures.last_known c.in_err-commit.ensures.failed
+    (c.in_err-commit.ensures.cause.failed refl))
+
+pub returns-clause-step : goal.returns-clause-step
+returns-clause-step g c old staged =
+    let d = g.D.Disk in
+    let mid = c.args.tree.now in
+    let new = c.commit.new.self in
+    let done : IsStepStaged d old mid c.args.corner (Ok tt) = subst (λ (answer : Result (Unit {0}) Refusal). IsStepStaged d old mid c.args.corner answer) c.in_default.is staged in
+    commits_it d old mid new c.args.corner done c.count-count.result
+    (c.count-count.ensures.value ∙ ap (λ (r : RootValue). r.count) c.current.ensures)
+    c.commit.ensures.size c.commit.ensures.cause.later c.commit.ensures.honest c.commit.ensures.any_moment
+    (subst (λ (answer : Result (Unit {0}) Refusal). OnOk answer ((root_of mid).number + 1 < 2 ^ 64)) c.in_default.is c.requires.number)
+    c.in_ok-commit.ensures.not_failed c.commit.ensures.version c.commit.ensures.side c.commit.ensures.capacity
+    c.in_ok-commit.ensures.count c.in_ok-commit.ensures.number (g.met.D.Disk.seen_may new.roots.disk)
+    c.in_ok-commit.ensures.at c.in_ok-commit.ensures.staged (c.commit.ensures.sinks ∙ sym c.in_ok-commit.ensures.declared)
