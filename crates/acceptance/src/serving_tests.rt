@@ -4,4 +4,5 @@ mod basins;
 mod rows;
 mod sessions;
 mod sinks;
+mod steps;
 mod stores;
