@@ -7,6 +7,8 @@ mod answers;
 #[cfg(test)]
 mod commands;
 #[cfg(test)]
+mod line_tests;
+#[cfg(test)]
 mod random;
 #[cfg(test)]
 mod region;

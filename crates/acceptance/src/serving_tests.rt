@@ -2,6 +2,7 @@
 
 mod basins;
 mod rows;
+mod script;
 mod sessions;
 mod sinks;
 mod steps;

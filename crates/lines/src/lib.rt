@@ -12,8 +12,6 @@ mod number;
 mod request;
 mod source;
 mod telling;
-#[cfg(test)]
-mod tests;
 mod text;
 mod words;
 

@@ -1,13 +1,9 @@
-use lattice::Side;
+//! Sessions by readers and writers of many kinds.
+use super::script::{bytes_of, check, table};
 use serving::{ServeFault, serve};
 use std::alloc::Global;
 use std::io::{self, Read, Write};
 use std::test::Fail;
-use table_engine::TableEngine;
-
-/// 9 9 9 / 9 1 9 / 9 9 5, rows from the north.
-pub(crate) const TILE: &[u8] =
-    b"\x00\x09\x00\x09\x00\x09\x00\x09\x00\x01\x00\x09\x00\x09\x00\x09\x00\x05";
 
 /// Gives the bytes in two reads, the first of `cut` bytes.
 #[derive(Drop)]
@@ -81,46 +77,24 @@ impl Write for Counting {
     }
 }
 
-pub(crate) fn joined(alloc: Global, parts: &[&[u8]]) -> Result<Vec<u8>, Fail> {
-    let mut all = Vec::new(alloc);
-    for part in parts {
-        all.extend_from_slice(part)?;
-    }
-    Ok(all)
-}
-
-fn empty(alloc: Global, capacity: u32) -> Result<TableEngine, Fail> {
-    let side = Side::new(3).ok_or("a side")?;
-    Ok(TableEngine::new(alloc, side, capacity.min(240)))
-}
-
-pub(crate) fn replies(alloc: Global, capacity: u32, parts: &[&[u8]]) -> Result<Vec<u8>, Fail> {
-    let input = joined(alloc, parts)?;
-    let mut engine = empty(alloc, capacity)?;
-    let mut reader = input.as_slice();
-    let mut output = Vec::new(alloc);
-    serve(alloc, &mut reader, &mut output, &mut engine)?;
-    Ok(output)
-}
-
 #[test]
 fn an_empty_mosaic(rt: HostRuntime) -> Result<(), Fail> {
-    let output = replies(rt.alloc(), 4, &[b"count\nelev 0 0\nexport N00E000\n"])?;
-    assert!(rt; output.as_slice() == b"OK 0\nERR 7 Outside\nERR 5 NoTile\n".as_slice());
-    Ok(())
+    let session = b"count\nelev 0 0\nexport N00E000\n";
+    let wanted = b"OK 0\nERR 7 Outside\nERR 5 NoTile\n";
+    check(&rt, rt.alloc(), 3, 4, session, wanted)
 }
 
 #[test]
 fn an_import(rt: HostRuntime) -> Result<(), Fail> {
-    let parts: [&[u8]; 3] = [
-        b"import N00E000 18\n",
-        TILE,
-        b"elev 0 2\nelev 2 0\nexport N00E000\n",
-    ];
-    let output = replies(rt.alloc(), 4, &parts)?;
-    let wanted = joined(rt.alloc(), &[b"OK 1\nOK 5\nOK 9\nOK 18\n", TILE])?;
-    assert!(rt; output.as_slice() == wanted.as_slice());
-    Ok(())
+    let session = b"import N00E000 18\n$Aelev 0 2\nelev 2 0\nexport N00E000\n";
+    check(
+        &rt,
+        rt.alloc(),
+        3,
+        4,
+        session,
+        b"OK 1\nOK 5\nOK 9\nOK 18\n$A",
+    )
 }
 
 #[test]
@@ -132,94 +106,69 @@ fn a_hundred_thousand_reads(rt: HostRuntime) -> Result<(), Fail> {
         input.extend_from_slice(b"count\n")?;
         wanted.extend_from_slice(b"OK 0\n")?;
     }
-    let mut engine = empty(alloc, 1)?;
     let mut reader = ByteByByte { bytes: &input };
     let mut output = Vec::new(alloc);
-    serve(alloc, &mut reader, &mut output, &mut engine)?;
+    serve(alloc, &mut reader, &mut output, &mut table(alloc, 3, 1)?)?;
     assert!(rt; output.as_slice() == wanted.as_slice());
     Ok(())
 }
 
 #[test]
 fn a_full_mosaic(rt: HostRuntime) -> Result<(), Fail> {
-    let parts: [&[u8]; 6] = [
-        b"import N00E000 18\n",
-        TILE,
-        b"import N00E001 18\n",
-        TILE,
-        b"import N00E000 18\n",
-        TILE,
-    ];
-    let output = replies(rt.alloc(), 1, &parts)?;
-    assert!(rt; output.as_slice() == b"OK 1\nERR 6 Full\nERR 4 TileThere\n".as_slice());
-    Ok(())
+    let session = b"import N00E000 18\n$Aimport N00E001 18\n$Aimport N00E000 18\n$A";
+    let wanted = b"OK 1\nERR 6 Full\nERR 4 TileThere\n";
+    check(&rt, rt.alloc(), 3, 1, session, wanted)
 }
 
 #[test]
 fn payloads_of_other_lengths(rt: HostRuntime) -> Result<(), Fail> {
-    let output = replies(
-        rt.alloc(),
-        4,
-        &[b"import S01W001 17\n", &TILE[..17], b"count\n"],
-    )?;
-    assert!(rt; output.as_slice() == b"ERR 3 BadLength\nOK 0\n".as_slice());
-    let output = replies(rt.alloc(), 4, &[b"import S01W001 18\n", &TILE[..10]])?;
-    assert!(rt; output.as_slice() == b"ERR 3 BadLength\n".as_slice());
-    let output = replies(rt.alloc(), 4, &[b"import X 6\ncount\ncount\n"])?;
-    assert!(rt; output.as_slice() == b"ERR 2 BadName\nOK 0\n".as_slice());
-    let output = replies(rt.alloc(), 4, &[b"import X 1234567890\ncount\n"])?;
-    assert!(rt; output.as_slice() == b"ERR 1 BadLine\nOK 0\n".as_slice());
+    let sessions: [(&[u8], &[u8]); 4] = [
+        (
+            b"import S01W001 17\n0123456789abcdefgcount\n",
+            b"ERR 3 BadLength\nOK 0\n",
+        ),
+        (b"import S01W001 18\n0123456789", b"ERR 3 BadLength\n"),
+        (b"import X 6\ncount\ncount\n", b"ERR 2 BadName\nOK 0\n"),
+        (b"import X 1234567890\ncount\n", b"ERR 1 BadLine\nOK 0\n"),
+    ];
+    for (session, wanted) in sessions {
+        check(&rt, rt.alloc(), 3, 4, session, wanted)?;
+    }
     Ok(())
 }
 
 #[test]
 fn voids_and_quit(rt: HostRuntime) -> Result<(), Fail> {
-    let mut tile = Vec::from_slice(rt.alloc(), TILE)?;
-    tile[8] = 0x80;
-    tile[9] = 0;
-    let parts: [&[u8]; 3] = [b"import n00e000 18\r\n", &tile, b"elev 1 1\nquit\ncount\n"];
-    let output = replies(rt.alloc(), 4, &parts)?;
-    assert!(rt; output.as_slice() == b"OK 1\nOK void\nOK\n".as_slice());
-    Ok(())
+    let session = b"import n00e000 18\r\n$Velev 1 1\nquit\ncount\n";
+    check(&rt, rt.alloc(), 3, 4, session, b"OK 1\nOK void\nOK\n")
 }
 
-const SESSION: &[u8] = b"OK 1\nOK 5\nERR 7 Outside\nERR 1 BadLine\nERR 4 TileThere\nOK 1\n";
+const SESSION: &[u8] =
+    b"import N00E000 18\n$Aelev 0 2\nelev 5 5\nhello\nimport N00E000 18\n$Acount";
 
-fn session(alloc: Global) -> Result<Vec<u8>, Fail> {
-    let parts: [&[u8]; 5] = [
-        b"import N00E000 18\n",
-        TILE,
-        b"elev 0 2\nelev 5 5\nhello\nimport N00E000 18\n",
-        TILE,
-        b"count",
-    ];
-    joined(alloc, &parts)
-}
+const REPLIES: &[u8] = b"OK 1\nOK 5\nERR 7 Outside\nERR 1 BadLine\nERR 4 TileThere\nOK 1\n";
 
 #[test]
 fn a_session_cut_anywhere(rt: HostRuntime) -> Result<(), Fail> {
-    let input = session(rt.alloc())?;
+    let alloc = rt.alloc();
+    let input = bytes_of(alloc, SESSION)?;
     for cut in 0..input.len() {
-        let mut engine = empty(rt.alloc(), 4)?;
         let mut reader = Halves { bytes: &input, cut };
-        let mut output = Vec::new(rt.alloc());
-        let served = serve(rt.alloc(), &mut reader, &mut output, &mut engine);
-        assert!(rt; served.is_ok());
-        assert!(rt; output.as_slice() == SESSION);
+        let mut output = Vec::new(alloc);
+        serve(alloc, &mut reader, &mut output, &mut table(alloc, 3, 4)?)?;
+        assert!(rt; output.as_slice() == REPLIES, "cut at {cut}");
     }
     Ok(())
 }
 
 #[test]
 fn a_reader_that_fails(rt: HostRuntime) -> Result<(), Fail> {
-    let input = session(rt.alloc())?;
-    let mut engine = empty(rt.alloc(), 4)?;
-    let end = input.len().min(50);
-    let mut reader = Broken {
-        bytes: &input[..end],
-    };
-    let mut output = Vec::new(rt.alloc());
-    let served = serve(rt.alloc(), &mut reader, &mut output, &mut engine);
+    let alloc = rt.alloc();
+    let mut input = bytes_of(alloc, SESSION)?;
+    input.truncate(50);
+    let mut reader = Broken { bytes: &input };
+    let mut output = Vec::new(alloc);
+    let served = serve(alloc, &mut reader, &mut output, &mut table(alloc, 3, 4)?);
     assert!(rt; served == Err(ServeFault::Input));
     assert!(rt; output.as_slice() == b"OK 1\nOK 5\n".as_slice());
     Ok(())
@@ -227,31 +176,28 @@ fn a_reader_that_fails(rt: HostRuntime) -> Result<(), Fail> {
 
 #[test]
 fn a_writer_that_fails_at_each_byte(rt: HostRuntime) -> Result<(), Fail> {
-    let input = session(rt.alloc())?;
-    for room in 0..SESSION.len() {
-        let mut engine = empty(rt.alloc(), 4)?;
+    let alloc = rt.alloc();
+    let input = bytes_of(alloc, SESSION)?;
+    for room in 0..REPLIES.len() {
         let mut reader = input.as_slice();
-        let mut bytes = vec![in rt.alloc(); 0; room]?;
+        let mut bytes = vec![in alloc; 0; room]?;
         let mut writer = bytes.as_mut_slice();
-        let served = serve(rt.alloc(), &mut reader, &mut writer, &mut engine);
-        assert!(rt; served == Err(ServeFault::Output));
-        assert!(rt; bytes.as_slice() == &SESSION[..room]);
+        let served = serve(alloc, &mut reader, &mut writer, &mut table(alloc, 3, 4)?);
+        assert!(rt; served == Err(ServeFault::Output), "room for {room}");
+        assert!(rt; bytes.as_slice() == &REPLIES[..room], "room for {room}");
     }
     Ok(())
 }
 
 #[test]
 fn a_write_for_each_reply(rt: HostRuntime) -> Result<(), Fail> {
-    let parts: [&[u8]; 3] = [
-        b"import N00E000 18\n",
-        TILE,
-        b"export N00E000\ntiles\ntrace 0 0\nwatershed 0 2\nelev 9 9\n",
-    ];
-    let input = joined(rt.alloc(), &parts)?;
-    let mut engine = empty(rt.alloc(), 4)?;
+    let alloc = rt.alloc();
+    let session =
+        b"import N00E000 18\n$Aexport N00E000\ntiles\ntrace 0 0\nwatershed 0 2\nelev 9 9\n";
+    let input = bytes_of(alloc, session)?;
     let mut reader = input.as_slice();
     let mut writer = Counting { writes: 0 };
-    serve(rt.alloc(), &mut reader, &mut writer, &mut engine)?;
-    assert_eq!(rt; writer.writes, 6);
+    serve(alloc, &mut reader, &mut writer, &mut table(alloc, 3, 4)?)?;
+    assert!(rt; writer.writes == 6);
     Ok(())
 }

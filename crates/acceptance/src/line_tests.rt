@@ -1,0 +1,314 @@
+//! Lines and payloads as they are read, the event that a line asks for, and the text of an answer.
+use calls::Event;
+use edits::Command;
+use lattice::{Corner, Point, Refusal};
+use lines::{
+    Ahead, Extent, Line, Request, Text, read_line, read_payload, request_of, skip_payload,
+};
+use std::io::{self, Read};
+use std::test::Fail;
+use watershed::Run;
+
+/// Gives one byte a read, and fails once `good` bytes were given.
+#[derive(Drop)]
+struct Trickle<'a> {
+    bytes: &'a [u8],
+    good: usize,
+}
+
+impl Read for Trickle<'_> {
+    fn read(&mut self, buf: &mut [u8]) -> io::Result<usize> {
+        if self.good == 0 {
+            return Err(io::Error::from(io::ErrorKind::Other));
+        }
+        self.good -= 1;
+        let count = self.bytes.len().min(buf.len()).min(1);
+        buf[..count].copy_from_slice(&self.bytes[..count]);
+        self.bytes = &self.bytes[count..];
+        Ok(count)
+    }
+}
+
+/// What the line asks for. None where it is outside the grammar, or too long.
+fn asked(line: &[u8]) -> Option<Request<'_>> {
+    if line.len() > 2048 {
+        return None;
+    }
+    request_of(line)
+}
+
+#[test]
+fn lines_outside_the_grammar(rt: HostRuntime) {
+    let lines: [&[u8]; 16] = [
+        b"",
+        b"hello",
+        b"COUNT",
+        b"count ",
+        b" count",
+        b"count\r\r",
+        b"elev 0  0",
+        b"elev\t0 0",
+        b"elev 0 \x00",
+        b"elev 0 \x80",
+        b"elev 0 +1",
+        b"elev 0 1000000000",
+        b"import N00E000 1000000000",
+        b"export N00\x7f",
+        b"burn 1 1",
+        b"burn 1",
+    ];
+    for line in lines {
+        assert!(rt; asked(line).is_none(), "{line:?}");
+    }
+}
+
+/// The point of an elevation or of a sink.
+fn point_in(line: &[u8]) -> Option<Point> {
+    match asked(line)? {
+        Request::Ask(Event::Elevation(point)) => Some(point),
+        Request::Ask(Event::Do(Command::Sink { point } | Command::Unsink { point })) => Some(point),
+        _ => None,
+    }
+}
+
+#[test]
+fn numbers_of_lines(rt: HostRuntime) {
+    let lines: [(&[u8], i32, i32); 3] = [
+        (b"elev 0 -0", 0, 0),
+        (b"elev 007 -000000009\r", 7, -9),
+        (b"elev 999999999 -999999999", 999_999_999, -999_999_999),
+    ];
+    for (line, y, x) in lines {
+        assert!(rt;
+            word_of(line) == "elev" && point_in(line) == Some(Point { y, x }),
+            "{line:?}"
+        );
+    }
+}
+
+/// What the line asks for, in a word.
+fn word_of(line: &[u8]) -> &'static str {
+    match asked(line) {
+        Some(
+            Request::Import {
+                name: b"N00E000",
+                len: 18,
+            },
+        ) => "import",
+        Some(Request::BadName) => "no name",
+        Some(Request::Quit) => "quit",
+        Some(Request::Ask(event)) => word_of_event(&event),
+        _ => "another",
+    }
+}
+
+fn word_of_event(event: &Event) -> &'static str {
+    match event {
+        Event::Do(command) => word_of_command(command),
+        Event::Elevation(_) => "elev",
+        Event::Fill(_) => "fill",
+        Event::Direction(_) => "dir",
+        Event::Trace(_) => "trace",
+        Event::Watershed(_) => "watershed",
+        Event::Export(Corner { lat: -1, lon: 0 }) => "export",
+        Event::Tiles => "tiles",
+        Event::Sinks => "sinks",
+        Event::Step => "step",
+        Event::Count => "count",
+        _ => "another",
+    }
+}
+
+fn word_of_command(command: &Command) -> &'static str {
+    match command {
+        Command::Remove {
+            corner: Corner { lat: 0, lon: -1 },
+        } => "remove",
+        Command::Patch { height: 40000, .. } => "patch",
+        Command::Sink { .. } => "sink",
+        Command::Unsink { .. } => "unsink",
+        _ => "another",
+    }
+}
+
+#[test]
+fn words_of_lines(rt: HostRuntime) {
+    let lines: [(&[u8], &str); 15] = [
+        (b"import N00E000 18", "import"),
+        (b"remove ~!", "no name"),
+        (b"export x", "no name"),
+        (b"remove n00w001", "remove"),
+        (b"export S01E000", "export"),
+        (b"patch 0 0 2 2 40000", "patch"),
+        (b"fill 1 1", "fill"),
+        (b"dir 1 1", "dir"),
+        (b"trace 1 1", "trace"),
+        (b"watershed 1 1", "watershed"),
+        (b"tiles", "tiles"),
+        (b"sinks", "sinks"),
+        (b"step", "step"),
+        (b"count\r", "count"),
+        (b"quit", "quit"),
+    ];
+    for (line, word) in lines {
+        assert!(rt; word_of(line) == word, "{line:?}");
+    }
+}
+
+#[test]
+fn sinks_of_lines(rt: HostRuntime) {
+    let lines: [(&[u8], &str, i32, i32); 2] = [
+        (b"sink 1 -2", "sink", 1, -2),
+        (b"unsink -1 2", "unsink", -1, 2),
+    ];
+    for (line, word, y, x) in lines {
+        assert!(rt; word_of(line) == word, "{line:?}");
+        assert!(rt; point_in(line) == Some(Point { y, x }), "{line:?}");
+    }
+    assert!(rt; asked(b"sink 1").is_none());
+    assert!(rt; asked(b"unsink 1 2 3").is_none());
+}
+
+fn wall_points(line: &[u8]) -> Option<usize> {
+    let request = asked(line)?;
+    match &request {
+        Request::Ask(Event::Do(Command::Wall { height: 5, points })) => Some(points.len()),
+        _ => None,
+    }
+}
+
+#[test]
+fn points_of_lines(rt: HostRuntime) -> Result<(), Fail> {
+    let mut line = Vec::from_slice(rt.alloc(), b"wall 5")?;
+    for _ in 0..64 {
+        line.extend_from_slice(b" 1 -2")?;
+    }
+    assert!(rt; wall_points(&line) == Some(64));
+    line.extend_from_slice(b" 1 -2")?;
+    assert!(rt; asked(&line).is_none());
+    Ok(())
+}
+
+/// Whether the next line is read so far, and is this one; none where it is too long.
+fn reads<R: Read>(ahead: &mut Ahead, reader: &mut R, extent: Extent, bytes: Option<&[u8]>) -> bool {
+    let mut line = Line::new();
+    read_line(ahead, reader, &mut line) == Ok(extent) && line.bytes() == bytes
+}
+
+#[test]
+fn lines_and_payloads(rt: HostRuntime) {
+    let mut reader = Trickle {
+        bytes: b"count\r\nimport N00E000 3\n\n5\nskipped\nend",
+        good: 100,
+    };
+    let mut ahead = Ahead::new(rt.alloc());
+    assert!(rt; reads(&mut ahead, &mut reader, Extent::Whole, Some(b"count\r")));
+    assert!(rt;
+        reads(
+            &mut ahead,
+            &mut reader,
+            Extent::Whole,
+            Some(b"import N00E000 3")
+        )
+    );
+    assert!(rt; skip_payload(&mut ahead, &mut reader, 3) == Ok(Extent::Whole));
+    assert!(rt; reads(&mut ahead, &mut reader, Extent::Whole, Some(b"skipped")));
+    assert!(rt; reads(&mut ahead, &mut reader, Extent::Cut, Some(b"end")));
+    assert!(rt; reads(&mut ahead, &mut reader, Extent::Cut, Some(b"")));
+}
+
+#[test]
+fn payloads(rt: HostRuntime) -> Result<(), Fail> {
+    let mut reader = b"\n\x00123".as_slice();
+    let mut ahead = Ahead::new(rt.alloc());
+    let payloads: [(&[u8], Extent); 2] = [(b"\n\x001", Extent::Whole), (b"23", Extent::Cut)];
+    for (bytes, extent) in payloads {
+        let mut payload = Vec::with_capacity(rt.alloc(), 3)?;
+        let read = read_payload(&mut ahead, &mut reader, 3, &mut payload);
+        assert!(rt; read == Ok(extent) && payload.as_slice() == bytes);
+    }
+    Ok(())
+}
+
+#[test]
+fn long_lines(rt: HostRuntime) -> Result<(), Fail> {
+    let mut input = Vec::new(rt.alloc());
+    input.resize(2048, b'a')?;
+    let longest = input.clone()?;
+    input.extend_from_slice(b"\n")?;
+    input.resize(4098, b'b')?;
+    input.extend_from_slice(b"\ncount")?;
+    let mut reader = input.as_slice();
+    let mut ahead = Ahead::new(rt.alloc());
+    assert!(rt; reads(&mut ahead, &mut reader, Extent::Whole, Some(&longest)));
+    assert!(rt; reads(&mut ahead, &mut reader, Extent::Whole, None));
+    assert!(rt; reads(&mut ahead, &mut reader, Extent::Cut, Some(b"count")));
+    Ok(())
+}
+
+#[test]
+fn a_read_that_fails(rt: HostRuntime) {
+    let mut reader = Trickle {
+        bytes: b"count\ncount\n",
+        good: 8,
+    };
+    let mut ahead = Ahead::new(rt.alloc());
+    assert!(rt; reads(&mut ahead, &mut reader, Extent::Whole, Some(b"count")));
+    for _ in 0..2_u32 {
+        assert!(rt; read_line(&mut ahead, &mut reader, &mut Line::new()).is_err());
+    }
+    assert!(rt; skip_payload(&mut ahead, &mut reader, 1).is_err());
+}
+
+/// Whether the texts are written so, one after another.
+fn are_written(output: &mut Vec<u8>, texts: &[Text], wanted: &[u8]) -> bool {
+    for text in texts {
+        if text.write(output).is_err() {
+            return false;
+        }
+    }
+    output.as_slice() == wanted
+}
+
+#[test]
+fn texts_of_replies(rt: HostRuntime) -> Result<(), Fail> {
+    let texts = [
+        Text::done(),
+        Text::void(),
+        Text::number(-32767i16),
+        Text::number(u64::MAX),
+        Text::refused(Refusal::Outside),
+        Text::refused(Refusal::BadCapacity),
+        Text::bytes(rt.alloc(), b"\x00\x0a\xff")?,
+    ];
+    let wanted =
+        b"OK\nOK void\nOK -32767\nOK 18446744073709551615\nERR 7 Outside\nERR 33 BadCapacity\nOK 3\n\x00\n\xff";
+    assert!(rt; are_written(&mut Vec::new(rt.alloc()), &texts, wanted));
+    Ok(())
+}
+
+fn run(y: i32, first: i32, last: i32) -> Run {
+    Run { y, first, last }
+}
+
+#[test]
+fn texts_of_lists(rt: HostRuntime) -> Result<(), Fail> {
+    let alloc = rt.alloc();
+    let points = [Point { y: 0, x: -3 }, Point { y: i32::MIN, x: 12 }];
+    let texts = [
+        Text::path(alloc, &points)?,
+        Text::path(alloc, &[])?,
+        Text::runs(alloc, &[run(2, 0, 2), run(-1, -4, -4)])?,
+    ];
+    let wanted = b"OK 2\n0 -3\n-2147483648 12\nOK 0\nOK 4 2\n2 0 2\n-1 -4 -4\n";
+    assert!(rt; are_written(&mut Vec::new(alloc), &texts, wanted));
+    Ok(())
+}
+
+#[test]
+fn a_writer_without_room(rt: HostRuntime) {
+    let mut room = [0; 4];
+    let mut writer = room.as_mut_slice();
+    assert!(rt; Text::number(123u64).write(&mut writer).is_err());
+    assert!(rt; room == *b"OK 1");
+}
