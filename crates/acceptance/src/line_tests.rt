@@ -279,7 +279,7 @@ fn texts_of_replies(rt: HostRuntime) -> Result<(), Fail> {
         Text::number(u64::MAX),
         Text::refused(Refusal::Outside),
         Text::refused(Refusal::BadCapacity),
-        Text::bytes(rt.alloc(), b"\x00\x0a\xff")?,
+        Text::bytes(Vec::from_slice(rt.alloc(), b"\x00\x0a\xff")?),
     ];
     let wanted =
         b"OK\nOK void\nOK -32767\nOK 18446744073709551615\nERR 7 Outside\nERR 33 BadCapacity\nOK 3\n\x00\n\xff";

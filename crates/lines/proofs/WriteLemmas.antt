@@ -1,15 +1,23 @@
 -- Bytes that are written one part after another.
-use Rattle.std.proofs.Common.{arith, ◌≡◌, ℕ, ◌+◌, ◌-◌, List, ◌++◌, take, drop, length, Option, Result, Ok, Err, OnOk, sym, ap, subst, take-add}
+use Rattle.std.proofs.Common.{arith, ◌≡◌, ◌∙◌, ℕ, ◌+◌, ◌-◌, ◌≤◌, min, List, ◌++◌, take, drop, length, Option, Result, Ok, Err, OnOk, OnErr, sym, ap, subst, take-add}
 use Rattle.std.specs.Io.KnownBytes.{Appends}
 use Rattle.std.proofs.KnownBytes.{Appends-trans}
 use Rattle.std.proofs.Math.Seq.{take-append-add}
 use Rattle.std.proofs.lemmas.Grind.{common_steps}
+use Rattle.std.proofs.lemmas.List.{take-append-le, take_min}
 
 -- a beginning of the bytes, and then a beginning of what is left of them
 pub Appends-next : (a b c : Option (List ℕ)) (bytes : List ℕ) (i n : ℕ) → Appends a b (take i bytes) → Appends b c (take n (take (length bytes - i) (drop i bytes))) → Appends a c (take (i + n) bytes)
 Appends-next a b c bytes i n p q =
     let all : take (length bytes - i) (drop i bytes) ≡ drop i bytes = grind (arith, common_steps) in
     subst (Appends a c) (sym (take-add i n bytes)) (Appends-trans a b c _ _ p (subst (Appends b c) (ap (take n) all) q))
+
+-- a beginning of the first part
+pub Appends-first : (a b : Option (List ℕ)) (x y : List ℕ) (n : ℕ) → Appends a b (take n x) → (m : ℕ) × Appends a b (take m (x ++ y))
+Appends-first a b x y n p =
+    let m = min n (length x) in
+    let inside : m ≤ length x = omega arith in
+    (m, subst (Appends a b) (sym (take-append-le m x y inside ∙ take_min n x)) p)
 
 -- the first part, and then a beginning of the second
 pub Appends-second : (a b c : Option (List ℕ)) (x y : List ℕ) (n : ℕ) → Appends a b x → Appends b c (take n y) → (m : ℕ) × Appends a c (take m (x ++ y))
@@ -19,3 +27,11 @@ Appends-second a b c x y n p q =
 pub OnOk-map : {A E P Q : Type 0} (r : Result A E) → (P → Q) → OnOk r P → OnOk r Q
 OnOk-map (Ok x) f h = f h
 OnOk-map (Err e) f h = h
+
+pub OnErr-of : {A E P : Type 0} (r : Result A E) → P → OnErr r P
+OnErr-of (Ok x) p = tt
+OnErr-of (Err e) p = p
+
+pub OnErr-map : {A E P Q : Type 0} (r : Result A E) → (P → Q) → OnErr r P → OnErr r Q
+OnErr-map (Ok x) f h = h
+OnErr-map (Err e) f h = f h

@@ -32,7 +32,6 @@ text_of (reply.Refused r) = refusal_text r
 abbrev pub takes_memory : Reply → Bool
 takes_memory (reply.Trace path) = true
 takes_memory (reply.Watershed runs) = true
-takes_memory (reply.Export bytes) = true
 takes_memory (reply.Tiles corners) = true
 takes_memory (reply.Sinks points) = true
 takes_memory answer = false

@@ -23,7 +23,7 @@ pub fn tell(alloc: Global, reply: Reply) -> Text
             points.as_slice(),
         )),
         Reply::Watershed(runs) => or_no_memory(Text::runs(alloc, runs.as_slice())),
-        Reply::Export(bytes) => or_no_memory(Text::bytes(alloc, bytes.as_slice())),
+        Reply::Export(bytes) => Text::bytes(bytes),
         Reply::Tiles(corners) => or_no_memory(Text::names(alloc, corners.as_slice())),
         Reply::Stepped(tile) => tell_step(tile),
         Reply::Reopened => Text::done(),

@@ -20,7 +20,8 @@ const LONGEST_LINE: usize = 64;
 
 /// The text of a reply, made whole before any of it is written.
 ///
-/// One line of a bounded length needs no memory; `bytes`, `names`, `path` and `runs` do.
+/// One line of a bounded length needs no memory, nor do the bytes of a tile, which are held as they came; `names`, `path`
+/// and `runs` do.
 #[derive(Drop)]
 pub struct Text {
     held: Held,
@@ -31,6 +32,7 @@ pub struct Text {
 enum Held {
     Short(ArrayVec<u8, LONGEST_LINE>),
     Long(Vec<u8>),
+    Tile(ArrayVec<u8, LONGEST_LINE>, Vec<u8>),
 }
 
 impl Model for Text {
@@ -44,19 +46,6 @@ impl Model for Text {
     ghost use Rattle.lines.specs.Held.{held_in};
 
     ghost view = { λ t. held_in t.held };
-}
-
-impl Held {
-    ghost use Rattle.lines.specs.Held.{held_in};
-
-    fn as_slice(&self) -> &[u8]
-        ensures { result.now ≡ held_in self.now }
-    {
-        match self {
-            Held::Short(line) => line.as_slice(),
-            Held::Long(text) => text.as_slice(),
-        }
-    }
 }
 
 impl Text {
@@ -109,17 +98,16 @@ impl Text {
         Text::line(line)
     }
 
-    /// `OK`, the number of bytes, and the bytes themselves, with no LF after them.
-    pub fn bytes(alloc: Global, bytes: &[u8]) -> Result<Text, AllocError>
-        ensures { IfOk result (λ r. r ≡ ok_line (decimal (length bytes.now)) ++ bytes.now) }
+    /// `OK`, the number of bytes, and the bytes themselves, with no LF after them. They aren't copied.
+    pub fn bytes(bytes: Vec<u8>) -> Text
+        ensures { result ≡ ok_line (decimal (length bytes.items)) ++ bytes.items }
     {
         let mut buffer = Buffer::new();
         let count = buffer.format(bytes.len()).as_bytes();
         let head = joined(b"OK ", count, b"\n");
-        let mut text = Vec::with_capacity(alloc, head.len() + bytes.len())?;
-        text.extend_from_slice(head.as_slice())?;
-        text.extend_from_slice(bytes)?;
-        Ok(Text::lines(text))
+        Text {
+            held: Held::Tile(head, bytes),
+        }
     }
 
     /// `OK`, the number of tiles, and their names.
@@ -204,13 +192,20 @@ fn extend(line: &mut ArrayVec<u8, LONGEST_LINE>, more: &[u8])
 pub struct WriteFault;
 
 impl Text {
-    /// Writes the text, by one call of `write` where the writer takes it whole. After a fault a beginning of it was
-    /// written.
+    /// Writes the text, by one call of `write` where the writer takes it whole; ahead of a tile's bytes goes their head by a
+    /// call of its own. After a fault a beginning of it was written.
     pub fn write<W: Write>(&self, writer: &mut W) -> Result<(), WriteFault>
         ensures ok { OnOk result (Appends (W.contents writer.old) (W.contents writer.new) self.now) }
         ensures err { OnErr result ((n : ℕ) × Appends (W.contents writer.old) (W.contents writer.new) (take n self.now)) }
     {
-        write_bytes(writer, self.held.as_slice())
+        match &self.held {
+            Held::Short(line) => write_bytes(writer, line.as_slice()),
+            Held::Long(text) => write_bytes(writer, text.as_slice()),
+            Held::Tile(head, bytes) => {
+                write_bytes(writer, head.as_slice())?;
+                write_bytes(writer, bytes.as_slice())
+            }
+        }
     }
 }
 
