@@ -63,7 +63,7 @@ module _ (chart : ChartValue) (rules : IsChart chart) (root : RootValue) (sector
           page_rule = subst (λ (n : ℕ). KeepsPageRule n chart.staged) size rules.staged.page_rule;
         };
         stands = ap (λ (x : Stored). next_commit x sinks (map (tile_in a) chart.staged) count) stored
-            ∙ ap (λ (ts : List StoredTile). record { side = root.side; capacity = root.capacity; number = root.number + 1; count = count; sinks = sinks; tiles = ts }) (recorded_tiles chart.committed chart.staged a image same);
+            ∙ ap (λ (ts : List StoredTile). record { version = root.version; side = root.side; capacity = root.capacity; number = root.number + 1; count = count; sinks = sinks; tiles = ts }) (recorded_tiles chart.committed chart.staged a image same);
       }
 
   -- the tiles are the same there

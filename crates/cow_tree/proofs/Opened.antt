@@ -8,7 +8,7 @@ use Rattle.lattice.specs.declared.refusal.Refusal.{Refusal}
 use Rattle.lattice.specs.declared.refusal.Refusal.TheVariants as refusal
 use Rattle.page_codec.specs.Roots.{RootValue, format_of, AreNumbers, empty_root, root_bytes}
 use Rattle.page_codec.specs.Entries.{IsEntry}
-use Rattle.page_codec.specs.Sizes.{sectors_of, sectors_asked}
+use Rattle.page_codec.specs.Sizes.{sectors_asked}
 use Rattle.roots.specs.Opening.{OpensAs, StoresOpen}
 use Rattle.roots.specs.Roots.{IsReady, ready_current}
 use Rattle.roots.specs.Slots.{is_open, IsCurrent}
@@ -20,7 +20,7 @@ use Rattle.cow_tree.specs.Layout.{stored_in, tile_in, HasRecords, IsLaidOut, Sto
 use Rattle.cow_tree.specs.OverRoots.{IsRefusedFor}
 use Rattle.cow_tree.specs.Staged.{AreStaged}
 use Rattle.cow_tree.specs.Stored.{Stored, no_tiles}
-use Rattle.page_codec.specs.Formats.{Format, IsFormat, format_1}
+use Rattle.page_codec.specs.Formats.{Format}
 use Rattle.lattice.specs.Mosaic.{IsHeld}
 use Rattle.roots.proofs.OneAnswer.{one_is_current, stores_open, only_root}
 use Rattle.cow_tree.specs.Trees.{IsAt, staged_in, MayRefuse}
@@ -28,15 +28,15 @@ use Rattle.cow_tree.specs.declared.tree.Tree.{Tree}
 use Rattle.cow_tree.proofs.Commits.{nothing_staged}
 use Rattle.cow_tree.proofs.Steps.{stores_along}
 
-pub formatted_stands : (n side capacity : ℕ) (root : RootValue) (seen image : Image) → root ≡ empty_root side capacity → IsCurrent root seen → image ≡ seen → sectors_of side capacity ≤ n → Stands n image (no_tiles side capacity)
-formatted_stands n side capacity root seen image is_root current same room = (
-  empty_root side capacity,
+pub formatted_stands : (n : ℕ) (format : Format) (root : RootValue) (seen image : Image) → root ≡ empty_root format → IsCurrent root seen → image ≡ seen → sectors_asked format ≤ n → Stands n image (no_tiles format)
+formatted_stands n format root seen image is_root current same room = (
+  empty_root format,
   [],
   record {
     laid_out = record {
-      store = (subst (λ (i : Image). IsCurrent (empty_root side capacity) i) (sym same) (subst (λ (r : RootValue). IsCurrent r seen) is_root current), room);
+      store = (subst (λ (i : Image). IsCurrent (empty_root format) i) (sym same) (subst (λ (r : RootValue). IsCurrent r seen) is_root current), room);
       entries = refl;
-      records = All-nil (HasRecords (format_1 side capacity) image);
+      records = All-nil (HasRecords format image);
       page_rule = record { low = All-nil (λ p. 4 ≤ p); high = All-nil (λ p. p < n); once = λ p. omega arith };
     };
     stands = refl;
@@ -113,22 +113,21 @@ stands_opens n image s why (root, tiles, stores) refused =
         none tiles (subst (λ (r : RootValue). IsLaidOut n image r tiles) same stores.laid_out)
 
 -- an image that was just formatted
-abbrev pub formatted : (side capacity : ℕ) → Image
-formatted side capacity zero = 167 ∷ []
-formatted side capacity (suc zero) = root_bytes (empty_root side capacity)
-formatted side capacity _ = []
+abbrev pub formatted : Format → Image
+formatted format zero = 167 ∷ []
+formatted format (suc zero) = root_bytes (empty_root format)
+formatted format _ = []
 
 pub no_tiles_stand : NoTilesStand
 unfolding is_open
-no_tiles_stand sectors side capacity side_low side_high capacity_low capacity_high room =
-    let format : IsFormat (format_1 side capacity) = record { side_low = side_low; side_high = side_high; capacity_low = capacity_low; capacity_high = capacity_high } in
-    let numbers : AreNumbers (format_1 side capacity) 0 1 0 0 = record { format = format; known = omega arith; room = omega arith; fits = lit< tt; before = omega arith; few = omega arith } in
-    let current : IsCurrent (empty_root side capacity) (formatted side capacity) = (
+no_tiles_stand sectors format rules known room =
+    let numbers : AreNumbers format 0 1 0 0 = record { format = rules; known = known; room = omega arith; fits = lit< tt; before = omega arith; few = omega arith } in
+    let current : IsCurrent (empty_root format) (formatted format) = (
       A,
       record {
         opened = refl;
-        here = record { rules = record { numbers = numbers; entries = All-nil IsEntry; in_order = λ k d below. absurd (omega arith); sinks = record { few = omega arith; in_order = λ k d below. absurd (omega arith); held = All-nil (IsHeld side) } }; spelled = refl };
+        here = record { rules = record { numbers = numbers; entries = All-nil IsEntry; in_order = λ k d below. absurd (omega arith); sinks = record { few = omega arith; in_order = λ k d below. absurd (omega arith); held = All-nil (IsHeld format.side) } }; spelled = refl };
         greatest = λ opened. absurd (false≢true opened);
       },
     ) in
-    (formatted side capacity, formatted_stands sectors side capacity (empty_root side capacity) (formatted side capacity) (formatted side capacity) refl current refl room)
+    (formatted format, formatted_stands sectors format (empty_root format) (formatted format) (formatted format) refl current refl room)

@@ -88,7 +88,7 @@ stores_same sectors root tiles s a b current same stores = record {
     records = records_same (format_of root) tiles a b same stores.laid_out.records;
     page_rule = stores.laid_out.page_rule;
   };
-  stands = stores.stands ∙ ap (λ (ts : List StoredTile). record { side = root.side; capacity = root.capacity; number = root.number; count = root.count; sinks = root.sinks; tiles = ts }) (tiles_same tiles a b same);
+  stands = stores.stands ∙ ap (λ (ts : List StoredTile). record { version = root.version; side = root.side; capacity = root.capacity; number = root.number; count = root.count; sinks = root.sinks; tiles = ts }) (tiles_same tiles a b same);
 }
 
 pub same_on_all : (pages : List ℕ) (a b : Image) → All (λ p. 4 ≤ p) pages → SamePages a b → SameOn pages a b

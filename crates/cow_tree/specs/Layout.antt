@@ -1,11 +1,10 @@
 -- Where on a disk the planes lie, and what an image of it stands for (this product's own profile).
 use Rattle.std.specs.Prelude.{◌≡◌, ℕ, ◌<◌, ◌≤◌, ◌^◌, List, All, length, slice_index, map, Option, Some, None, IfSome}
 use Rattle.disk.specs.Disk.{Image}
-use Rattle.lattice.specs.Limits.{most_tiles}
-use Rattle.page_codec.specs.Formats.{Format}
+use Rattle.page_codec.specs.Formats.{Format, IsFormat, IsKnown}
 use Rattle.page_codec.specs.Records.{part_of, record_bytes}
 use Rattle.page_codec.specs.Roots.{RootValue, format_of}
-use Rattle.page_codec.specs.Sizes.{sectors_of}
+use Rattle.page_codec.specs.Sizes.{sectors_asked}
 use Rattle.layout.specs.declared.version.Version.{Version}
 use Rattle.layout.specs.declared.version.Version.TheVariants.{One, Two}
 use Rattle.roots.specs.Opening.{HoldsStore}
@@ -60,6 +59,7 @@ tile_in image t = record { corner = t.corner; heights = plane_in image t.heights
 
 abbrev pub stored_in : Image → RootValue → List TileLocation → Stored
 stored_in image root tiles = record {
+  version = root.version;
   side = root.side;
   capacity = root.capacity;
   number = root.number;
@@ -83,5 +83,5 @@ StandsForOne = (sectors : ℕ) (image : Image) (a b : Stored) → Stands sectors
 
 -- some image stands for no tiles, wherever there is room for them
 abbrev pub NoTilesStand : Type 0
-NoTilesStand = (sectors side capacity : ℕ) → 3 ≤ side → side ≤ 1201 → 1 ≤ capacity → capacity ≤ most_tiles → sectors_of side capacity ≤ sectors
-    → (image : Image) × Stands sectors image (no_tiles side capacity)
+NoTilesStand = (sectors : ℕ) (format : Format) → IsFormat format → IsKnown format.version → sectors_asked format ≤ sectors
+    → (image : Image) × Stands sectors image (no_tiles format)

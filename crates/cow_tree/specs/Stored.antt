@@ -2,9 +2,11 @@
 -- own profile).
 use Rattle.std.specs.Prelude.{◌≡◌, ℕ, ℤ, ◌+◌, ◌*◌, ◌<◌, List, [], All, length, map, filter, not, take, drop, zero, suc, ◌∷◌, Option, None, if◌then◌else◌, slice_set}
 use Rattle.std.specs.List.{concat}
+use Rattle.layout.specs.declared.version.Version.{Version}
 use Rattle.lattice.specs.Corners.{Corner, same_corner, is_before}
 use Rattle.lattice.specs.declared.point.Point.{Point}
 use Rattle.lattice.specs.Mosaic.{Mosaic}
+use Rattle.page_codec.specs.Formats.{Format}
 use Rattle.page_codec.specs.Numbers.{padded}
 use Rattle.page_codec.specs.Sizes.{pages_of}
 use Rattle.hgt.specs.Bytes.{samples_in}
@@ -23,9 +25,10 @@ pub record StoredTile : Type 0 where
   pub heights : PlanePages
   pub kept : Option KeptPlanes
 
--- the side of the tiles, how many there is room for, the commit number, how many commands were accepted, the declared
--- sinks, and the tiles in order
+-- the version of the layout, the side of the tiles, how many there is room for, the commit number, how many commands were
+-- accepted, the declared sinks, and the tiles in order
 pub record Stored : Type 0 where
+  pub version : Version
   pub side : ℕ
   pub capacity : ℕ
   pub number : ℕ
@@ -34,8 +37,8 @@ pub record Stored : Type 0 where
   pub tiles : List StoredTile
 
 -- as formatted
-abbrev pub no_tiles : (side capacity : ℕ) → Stored
-no_tiles side capacity = record { side = side; capacity = capacity; number = 1; count = 0; sinks = []; tiles = [] }
+abbrev pub no_tiles : Format → Stored
+no_tiles f = record { version = f.version; side = f.side; capacity = f.capacity; number = 1; count = 0; sinks = []; tiles = [] }
 
 -- the next commit, with these sinks, these tiles and this count of commands
 abbrev pub next_commit : Stored → List Point → List StoredTile → ℕ → Stored

@@ -7,7 +7,7 @@ pub fn images_stand_for_one()
     ensures { StandsForOne }
 {}
 
-/// Some image stands for a store that was just formatted, of each side and capacity, on each disk with room for it.
+/// Some image stands for a store that was just formatted, of each format, on each disk with room for it.
 pub fn no_tiles_stand()
     ensures { NoTilesStand }
 {}

@@ -4,13 +4,13 @@ ghost use Rattle.disk.specs.Disk.{Image, Only, HasRisen};
 ghost use Rattle.disk.specs.Stops.{LeavesOnly, AddsNothing, HasCause};
 ghost use Rattle.lattice.specs.Corners.{Corner, same_corner, is_corner};
 ghost use Rattle.lattice.specs.Lattice.{IsBefore};
-ghost use Rattle.lattice.specs.Limits.{most_tiles};
 ghost use Rattle.lattice.specs.Mosaic.{AreSinks};
 ghost use Rattle.std.specs.List.{AllAdjacentBelow};
 ghost use Rattle.lattice.specs.declared.refusal.Refusal.TheVariants.{Device, NoMemory, Failed};
 ghost use Rattle.page_codec.specs.Roots.{RootValue, format_of};
 ghost use Rattle.layout.specs.Sizes.{plane_pages_of};
-ghost use Rattle.page_codec.specs.Sizes.{pages_of, index_pages_of, sectors_of};
+ghost use Rattle.page_codec.specs.Formats.{IsKnown};
+ghost use Rattle.page_codec.specs.Sizes.{pages_of, index_pages_of, sectors_asked};
 ghost use Rattle.charts.specs.declared.plane.Plane.TheVariants.{Heights};
 ghost use Rattle.cow_tree.specs.Caches.{Agrees};
 ghost use Rattle.cow_tree.specs.Entries.{entry_of};
@@ -31,8 +31,8 @@ use crate::writing::{write_plane, write_records};
 use arrayvec::ArrayVec;
 use charts::{Chart, Plane};
 use disk::Disk;
-use lattice::{Corner, MOST_TILES, Point, Refusal, Side};
-use page_codec::Root;
+use lattice::{Corner, MOST_TILES, Point, Refusal};
+use page_codec::{Format, Root};
 use roots::{NotOpened, Roots};
 use std::alloc::Global;
 
@@ -64,20 +64,18 @@ impl<D: Disk> Tree<D> {
     ghost use Rattle.cow_tree.specs.Reading.{Reads};
     ghost use Rattle.cow_tree.specs.Trees.{disk_of, root_of, chart_of, has_failed, has_begun, corners_of, sinks_of, Holds, HasStaged, IsUnstaged, records_due, disk_after, staged_in, IsAt, MayRefuse};
 
-    /// Makes an empty store of this side and capacity (in tiles) on a disk. A fault before the Ok may leave anything.
-    pub fn format(disk: &mut D, side: Side, capacity: u32) -> Result<(), Refusal>
-        requires side { side ≤ 1201 }
-        requires capacity_low { 1 ≤ capacity }
-        requires capacity_high { capacity ≤ most_tiles }
-        requires room { sectors_of side capacity ≤ D.size disk.old }
+    /// Makes an empty store of this format on a disk. A fault before the Ok may leave anything.
+    pub fn format(disk: &mut D, format: Format) -> Result<(), Refusal>
+        requires known { IsKnown format.version }
+        requires room { sectors_asked format ≤ D.size disk.old }
         ensures size { D.size disk.new ≡ D.size disk.old }
         ensures cause { HasCause (D.failures disk.old) (D.failures disk.new) result }
         ensures refused { IfErr result (λ refusal. refusal ≡ Device) }
         ensures writes { D.writes disk.new ≤ D.writes disk.old + 4 }
         ensures honest { D.honest disk.new → D.honest disk.old }
-        ensures formatted { D.honest disk.new → OnOk result ((image : Image) → D.may disk.new image → Stands (D.size disk.new) image (no_tiles side capacity)) }
+        ensures formatted { D.honest disk.new → OnOk result ((image : Image) → D.may disk.new image → Stands (D.size disk.new) image (no_tiles format)) }
     {
-        Roots::format(disk, &Root::empty(side, capacity))
+        Roots::format(disk, &Root::empty(format))
     }
 
     /// Opens a disk, which a stop may have left in the middle of a commit: the roots, and then the records and index

@@ -4,7 +4,7 @@ ghost use Rattle.roots.specs.Roots.{has_failed, disk_of};
 
 use disk::{Disk, FuseDisk, MemDisk, Torn};
 use lattice::{Refusal, Side};
-use page_codec::Root;
+use page_codec::{Format, Root};
 use roots::Roots;
 use std::alloc::Global;
 use std::test::Fail;
@@ -28,7 +28,7 @@ fn page_of(front: &[u8]) -> [u8; 4096] {
 
 fn first_root() -> Result<Root, Fail> {
     let side = Side::new(3).ok_or("no side")?;
-    Ok(Root::empty(side, 1))
+    Ok(Root::empty(Format::first(side, 1)))
 }
 
 // Commits a root without tiles.

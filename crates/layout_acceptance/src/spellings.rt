@@ -34,7 +34,7 @@ const ONE_TILE: [u8; 80] = [
 
 #[test]
 fn a_new_store(rt: HostRuntime) -> Result<(), Fail> {
-    let root = Root::empty(Side::new(3).ok_or("no side")?, 1);
+    let root = Root::empty(Format::first(Side::new(3).ok_or("no side")?, 1));
     assert!(rt; root.write() == page_of(&FORMATTED));
     let read = Root::read(&page_of(&FORMATTED))?;
     assert_eq!(rt; read.format(), format_1(3, 1)?);
@@ -86,7 +86,7 @@ fn the_next_root(rt: HostRuntime) -> Result<(), Fail> {
     };
     let mut entries = ArrayVec::new();
     entries.push(entry);
-    let root = Root::empty(Side::new(3).ok_or("no side")?, 1).next(1, entries);
+    let root = Root::empty(Format::first(Side::new(3).ok_or("no side")?, 1)).next(1, entries);
     assert!(rt; root.write() == page_of(&ONE_TILE));
     let read = Root::read(&page_of(&ONE_TILE))?;
     assert_eq!(rt; read.number(), 2);

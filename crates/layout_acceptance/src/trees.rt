@@ -6,6 +6,7 @@ use catalogue::Samples;
 use cow_tree::{Plane, Tree};
 use disk::{Disk, FaultOnceDisk, FuseDisk, MemDisk, Torn};
 use lattice::{Corner, Refusal, Side};
+use page_codec::Format;
 use std::alloc::Global;
 use std::test::Fail;
 
@@ -26,7 +27,7 @@ fn formatted(alloc: Global) -> Result<MemDisk, Fail>
 {
     let mut disk = MemDisk::new(alloc, SECTORS)?;
     let side = Side::new(3).ok_or("no side")?;
-    Tree::format(&mut disk, side, 2).map_err(|_| "not formatted")?;
+    Tree::format(&mut disk, Format::first(side, 2)).map_err(|_| "not formatted")?;
     Ok(disk)
 }
 

@@ -6,7 +6,6 @@ use Rattle.lattice.specs.Limits.{most_sinks}
 use Rattle.lattice.specs.Mosaic.{AreSinks}
 use Rattle.lattice.specs.declared.point.Point.{Point}
 use Rattle.layout.specs.declared.version.Version.{Version}
-use Rattle.layout.specs.declared.version.Version.TheVariants.{One}
 use Rattle.layout.specs.Formats.{Format, IsFormat, IsKnown, number_of}
 use Rattle.page_codec.specs.Numbers.{u32_bytes, u64_bytes, zeros, padded}
 use Rattle.page_codec.specs.Entries.{EntryValue, IsEntry, entry_bytes}
@@ -48,9 +47,9 @@ pub record IsRoot (r : RootValue) : Type 0 where
   pub in_order : AreInOrder r.entries
   pub sinks : AreSinks r.side r.sinks
 
--- a new store, by the first version: its first commit, before any command
-abbrev pub empty_root : (side capacity : ℕ) → RootValue
-empty_root side capacity = record { version = One; side = side; capacity = capacity; number = 1; count = 0; sinks = []; entries = [] }
+-- a new store of this format: its first commit, before any command
+abbrev pub empty_root : Format → RootValue
+empty_root f = record { version = f.version; side = f.side; capacity = f.capacity; number = 1; count = 0; sinks = []; entries = [] }
 
 unfoldable pub magic : List ℕ
 magic = codes "MOSAICST"

@@ -51,15 +51,15 @@ impl Model for Root {
 }
 
 impl Root {
-    /// The root of a store with no tiles and no sinks, by the first version: its first commit, before any command.
-    pub fn empty(side: Side, capacity: u32) -> Root
-        requires side { side ≤ MAX_SIDE }
-        requires capacity_low { 1 ≤ capacity }
-        requires capacity_high { capacity ≤ MAX_CAPACITY }
-        ensures { result ≡ empty_root side capacity }
+    /// The root of a store of this format with no tiles and no sinks: its first commit, before any command.
+    pub fn empty(format: Format) -> Root
+        requires { IsKnown format.version }
+        ensures { result ≡ empty_root format }
     {
+        // That the format keeps its rules is told by its side.
+        let _side = format.side();
         Root {
-            format: Format::first(side, capacity),
+            format,
             number: 1,
             count: 0,
             sinks: ArrayVec::new(),

@@ -2,6 +2,7 @@
 use Rattle.std.proofs.Common.{◌≡◌, ℕ, ◌+◌, List, All, refl, sym, ap, ap₂, ◌∙◌, subst}
 use Rattle.std.specs.Prelude.{Ok}
 use Rattle.std.specs.List.{AllZip}
+use Rattle.layout.specs.Formats.{number_of}
 use Rattle.lattice.specs.Corners.{Corner}
 use Rattle.lattice.specs.declared.point.Point.{Point}
 use Rattle.lattice.specs.Mosaic.{Tile, Mosaic, IsTile, IsMosaic}
@@ -28,7 +29,7 @@ held side capacity stored c holds = record {
     tiles = subst (λ (n : ℕ). All (IsTile n) c.mosaic.tiles) holds.side_is holds.valid.tiles
 
 -- and tiles of the mosaic hold it
-pub holds_from : (side capacity : ℕ) (stored : Stored) (c : Contents) → stored.side ≡ side → stored.capacity ≡ capacity → c.version ≡ 1 → stored.number ≡ c.number → stored.count ≡ c.count
+pub holds_from : (side capacity : ℕ) (stored : Stored) (c : Contents) → stored.side ≡ side → stored.capacity ≡ capacity → c.version ≡ number_of stored.version → stored.number ≡ c.number → stored.count ≡ c.count
     → stored.sinks ≡ c.mosaic.sinks → IsMosaic c.mosaic → AreTilesOf side stored.tiles c.mosaic → KeepRight c.mosaic stored.tiles → c.stale ≡ stale_corners stored.tiles → Holds side capacity stored c
 holds_from side capacity stored c stored_side stored_capacity version number count sinks valid are kept stale = record {
   stored_side = stored_side;

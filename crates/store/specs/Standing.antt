@@ -3,6 +3,7 @@ use Rattle.std.specs.Prelude.{◌≡◌, ℕ, All}
 use Rattle.std.specs.List.{AllZip}
 use Rattle.disk.specs.Disk.{Image}
 use Rattle.lattice.specs.Mosaic.{Tile, IsMosaic}
+use Rattle.layout.specs.Formats.{number_of}
 use Rattle.hgt.specs.Bytes.{AreHgtBytes}
 use Rattle.calls.specs.State.{Contents}
 use Rattle.cow_tree.specs.Stored.{IsPage, plane_bytes, StoredTile, Stored}
@@ -15,11 +16,11 @@ pub record HoldsTile (n : ℕ) (stored : StoredTile) (t : Tile) : Type 0 where
   pub pages : All IsPage stored.heights
   pub heights : AreHgtBytes n (plane_bytes n stored.heights) t.samples
 
--- What is stored, with tiles of this side and room for so many, are these contents. The one format so far is version 1.
+-- what is stored, with tiles of this side and room for so many, are these contents
 pub record Holds (side capacity : ℕ) (stored : Stored) (c : Contents) : Type 0 where
   pub stored_side : stored.side ≡ side
   pub stored_capacity : stored.capacity ≡ capacity
-  pub version : c.version ≡ 1
+  pub version : c.version ≡ number_of stored.version
   pub number : stored.number ≡ c.number
   pub count : stored.count ≡ c.count
   pub valid : IsMosaic c.mosaic

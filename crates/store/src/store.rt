@@ -18,7 +18,7 @@ ghost use Rattle.store.specs.TreeStates.{IsClean};
 use cow_tree::{NotOpened, Tree};
 use disk::Disk;
 use lattice::{Corner, Refusal, Side};
-use page_codec::{Entry, MAX_CAPACITY, MAX_SIDE, sectors_needed};
+use page_codec::{Entry, Format, MAX_CAPACITY, MAX_SIDE, sectors_needed};
 use std::alloc::Global;
 
 /// A store of elevation tiles on a disk.
@@ -64,7 +64,7 @@ impl<D: Disk> Store<D> {
         if disk.sectors() < sectors_needed(side, capacity) {
             return Err(Refusal::TooSmall);
         }
-        Tree::format(disk, side, capacity)
+        Tree::format(disk, Format::first(side, capacity))
     }
 
     /// Opens a disk, which a stop may have left in the middle of a commit. Nothing is written. A refusal hands the disk

@@ -1,5 +1,5 @@
 use Rattle.std.proofs.Common.{◌≤◌, ℕ, sym, subst}
-use Rattle.page_codec.specs.Sizes.{sectors_of}
+use Rattle.page_codec.specs.Sizes.{sectors_asked}
 use Rattle.cow_tree.proofs.Opened.{formatted_stands}
 use Rattle.cow_tree.proofs.Steps.{on_ok_both}
 use Rattle.cow_tree.proofs.tree.Tree.format.Goals as goal
@@ -8,5 +8,5 @@ pub returns-clause-formatted : goal.returns-clause-formatted
 returns-clause-formatted g c honest =
     let d = g.D.Disk in
     on_ok_both c.format.result
-    (λ current durable image may. formatted_stands (d.size c.format.new.disk) c.args.side c.args.capacity c.empty.result (d.seen c.format.new.disk) image c.empty.ensures current (durable image may) (subst (λ (n : ℕ). sectors_of c.args.side c.args.capacity ≤ n) (sym c.format.ensures.size) c.requires.room))
+    (λ current durable image may. formatted_stands (d.size c.format.new.disk) c.args.format c.empty.result (d.seen c.format.new.disk) image c.empty.ensures current (durable image may) (subst (λ (n : ℕ). sectors_asked c.args.format ≤ n) (sym c.format.ensures.size) c.requires.room))
     (c.format.ensures.formatted honest) (c.format.ensures.durable honest)
