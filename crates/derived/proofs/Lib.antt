@@ -1,1 +1,2 @@
 mod LittleBytes
+mod Fitting

@@ -1,5 +1,5 @@
 //! Levels and labels as bytes.
-ghost use Rattle.std.specs.Prelude.{◌≡◌, ◌*◌, ◌<◌, All, IfOk, length, vec_len};
+ghost use Rattle.std.specs.Prelude.{◌≡◌, ◌*◌, ◌<◌, ℕ, All, IfOk, length, vec_len};
 ghost use Rattle.lattice.specs.Mosaic.{IsSample};
 ghost use Rattle.tile_flood.specs.Kept.{labels_in, levels_in};
 
@@ -26,6 +26,26 @@ pub(crate) fn label_bytes(alloc: Global, labels: &[u16]) -> Result<Vec<u8>, Allo
     Ok(bytes)
 }
 
+/// The levels that these bytes are.
+pub(crate) fn levels_from(alloc: Global, bytes: &[u8]) -> Result<Vec<i16>, AllocError>
+    requires { (n : ℕ) × (length bytes.now ≡ 2 * n) }
+    ensures { IfOk result (λ levels. levels.items ≡ levels_in bytes.now) }
+{
+    let mut levels = vec![in alloc; 0; bytes.len() / 2]?;
+    fill_levels(bytes, &mut levels);
+    Ok(levels)
+}
+
+/// The labels that these bytes are.
+pub(crate) fn labels_from(alloc: Global, bytes: &[u8]) -> Result<Vec<u16>, AllocError>
+    requires { (n : ℕ) × (length bytes.now ≡ 2 * n) }
+    ensures { IfOk result (λ labels. labels.items ≡ labels_in bytes.now) }
+{
+    let mut labels = vec![in alloc; 0; bytes.len() / 2]?;
+    fill_labels(bytes, &mut labels);
+    Ok(labels)
+}
+
 fn write_levels(levels: &[i16], bytes: &mut [u8])
     requires { length bytes.old ≡ 2 * length levels.now }
     ensures { levels_in bytes.new ≡ levels.now }
@@ -40,6 +60,20 @@ fn write_labels(labels: &[u16], bytes: &mut [u8])
 {
     read_labels(labels);
     LittleEndian::write_u16_into(labels, bytes);
+}
+
+fn fill_levels(bytes: &[u8], levels: &mut [i16])
+    requires { length bytes.now ≡ 2 * length levels.old }
+    ensures { levels.new ≡ levels_in bytes.now }
+{
+    LittleEndian::read_i16_into(bytes, levels);
+}
+
+fn fill_labels(bytes: &[u8], labels: &mut [u16])
+    requires { length bytes.now ≡ 2 * length labels.old }
+    ensures { labels.new ≡ labels_in bytes.now }
+{
+    LittleEndian::read_u16_into(bytes, labels);
 }
 
 // Reads each level, after which each is known to be a number of 16 bits. A compiler leaves nothing of it.

@@ -1,10 +1,14 @@
-//! What a store keeps of the flood of one tile: the planes of its levels and labels.
+//! What a store keeps of the flood of one tile: the planes of its levels and labels; and labellings, made or kept.
 //!
-//! The layer above rests on this: the bytes that `kept_planes` answers are, as they stand on the disk, a valid labelling of
-//! the tile's block in the mosaic.
+//! The layers above rest on this: the bytes that `kept_planes` answers are, as they stand on the disk, a valid labelling of
+//! the tile's block in the mosaic; and `labelled_from` reads such bytes back, and refuses what can be no labelling.
 #![tactic(auto)]
 
 mod bytes;
+mod labellings;
 mod planes;
+mod reading;
 
+pub use labellings::{Labellings, flooded};
 pub use planes::{KeptPlanes, kept_planes};
+pub use reading::labelled_from;

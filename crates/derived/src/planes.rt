@@ -1,17 +1,15 @@
 //! The planes of one tile.
 ghost use Rattle.std.specs.Prelude.{◌≡◌, ◌*◌, ◌⊎◌, IfOk, IfErr, Contains, vec_len};
-ghost use Rattle.lattice.specs.Block.{AreHeightsOf, IsBlockOf};
 ghost use Rattle.lattice.specs.declared.refusal.Refusal.TheVariants.{NoMemory};
 ghost use Rattle.catalogue.specs.Readers.{OnlyReads, reads_of};
 ghost use Rattle.catalogue.specs.Reading.{MayRefuse};
 ghost use Rattle.tile_flood.specs.Kept.{AreKeptOf};
-ghost use Rattle.tile_flood.specs.Labelling.{IsLabelling};
 
 use crate::bytes::{label_bytes, level_bytes};
-use catalogue::{Samples, block_heights};
-use lattice::{Corner, Refusal, sinks_in};
+use crate::labellings::flooded;
+use catalogue::Samples;
+use lattice::{Corner, Refusal};
 use std::alloc::Global;
-use tile_flood::{Block, Flood};
 
 /// The levels and labels of a tile, as its planes hold them: two bytes a point, the least significant first.
 #[derive(Drop)]
@@ -36,26 +34,8 @@ pub fn kept_planes<S: Samples>(
     ensures refusal { IfErr result (λ r. (r ≡ NoMemory) ⊎ MayRefuse (S.failures samples.old) (S.failures samples.new) r) }
     ensures reads { OnlyReads S.Samples samples.old samples.new (reads_of result) }
 {
-    let block = block_of(alloc, samples, corner)?;
-    let labelled = Flood::run(alloc, &block)?;
+    let labelled = flooded(alloc, samples, corner)?;
     let levels = level_bytes(alloc, labelled.levels())?;
     let labels = label_bytes(alloc, labelled.labels())?;
     Ok(KeptPlanes { levels, labels })
-}
-
-// The block of the corner's tile.
-fn block_of<S: Samples>(alloc: Global, samples: &mut S, corner: Corner) -> Result<Block, Refusal>
-    requires { Contains (S.corners samples.old) corner }
-    ensures ground { S.is_honest samples.new → IfOk result (λ block. IsBlockOf (S.mosaic samples.old) corner block) }
-    ensures side { IfOk result (λ block. block.side ≡ S.side_of samples.old) }
-    ensures refusal { IfErr result (λ r. (r ≡ NoMemory) ⊎ MayRefuse (S.failures samples.old) (S.failures samples.new) r) }
-    ensures reads { OnlyReads S.Samples samples.old samples.new (reads_of result) }
-{
-    let heights = block_heights(alloc, samples, corner)?;
-    let side = samples.side();
-    let sinks = sinks_in(side, corner, samples.sinks());
-    match Block::new(side, heights, sinks) {
-        Some(block) => Ok(block),
-        None => unreachable!(),
-    }
 }

@@ -4,7 +4,7 @@ use Rattle.lattice.specs.Corners.{Corner}
 use Rattle.lattice.specs.Block.{IsBlockOf, sinks_in}
 use Rattle.lattice.proofs.SinkIndices.{block_from}
 use Rattle.catalogue.proofs.OneTile.{corner_is}
-use Rattle.derived.proofs.planes.block_of.Goals as goal
+use Rattle.derived.proofs.labellings.block_of.Goals as goal
 
 pub returns-clause-ground : goal.returns-clause-ground
 returns-clause-ground g c honest =

@@ -1,0 +1,26 @@
+-- Labellings of tiles, made or kept, and when the marks of what is kept fit each other (this product's own profile, after
+-- the tiled flooding of Barnes 2016).
+use Rattle.std.specs.Prelude.{◌≡◌, ◌≢◌, ℕ, ◌*◌, ◌-◌, ◌<◌, ℤ, List, None, IsTrue, length, slice_index, slice_index_or}
+use Rattle.lattice.specs.Corners.{Corner}
+use Rattle.lattice.specs.Mosaic.{Mosaic, void}
+use Rattle.lattice.specs.Block.{Block, IsBlockOf, is_rim, rim_number}
+use Rattle.tile_flood.specs.Blocks.{LabelledGround}
+use Rattle.tile_flood.specs.Labelling.{IsLabelling}
+use Rattle.tile_flood.specs.Raising.{raised_level}
+
+-- a valid labelling of the block of the corner's tile
+pub record IsFlooded (m : Mosaic) (c : Corner) (labelled : LabelledGround) : Type 0 where
+  pub side : labelled.side ≡ m.side
+  pub valid : (b : Block) × (IsBlockOf m c b × IsLabelling b labelled.levels labelled.labels)
+
+-- these are the levels of the rim, by rim number
+pub record AreLevelsOfRim (n : ℕ) (levels rim : List ℤ) : Type 0 where
+  pub whole : length rim ≡ 4 * (n - 1)
+  pub each : (e : ℕ) → e < n * n → IsTrue (is_rim n e) → slice_index_or rim (rim_number n e) void ≡ slice_index_or levels e void
+
+-- The marks fit: a label is that of a void where the level is, and no other point's; else it is OUT, or the number of a rim
+-- point that has a level.
+pub record DoMarksFit (n : ℕ) (levels : List ℤ) (labels : List ℕ) : Type 0 where
+  pub rim : List ℤ
+  pub of_rim : AreLevelsOfRim n levels rim
+  pub each : (e : ℕ) → e < n * n → raised_level rim (slice_index_or levels e void) (slice_index labels e) ≢ None

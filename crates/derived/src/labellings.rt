@@ -1,0 +1,68 @@
+//! Labellings of tiles, whether they are made or were kept.
+ghost use Rattle.std.specs.Prelude.{◌≡◌, ◌⊎◌, IsTrue, IfOk, IfErr, Contains};
+ghost use Rattle.lattice.specs.Block.{IsBlockOf};
+ghost use Rattle.lattice.specs.declared.refusal.Refusal.TheVariants.{NoMemory};
+ghost use Rattle.catalogue.specs.Asked.{Asked};
+ghost use Rattle.catalogue.specs.Endings.{ends_any};
+ghost use Rattle.catalogue.specs.Readers.{OnlyReads, reads_of};
+ghost use Rattle.catalogue.specs.Reading.{MayRefuse};
+ghost use Rattle.derived.specs.Labellings.{IsFlooded};
+
+use catalogue::{Samples, Table, block_heights};
+use lattice::{Corner, Refusal, sinks_in};
+use std::alloc::Global;
+use tile_flood::{Block, Flood, Labelled};
+
+/// Samples of which the labelling of each tile can be had: by a flood, or because it was kept.
+pub trait Labellings: Samples {
+    /// A valid labelling of the block of the corner's tile.
+    ///
+    /// Refused with NoMemory, as a read is, or with Damaged where what was kept of the tile is no labelling. After that
+    /// the samples can be read on.
+    fn labelling(&mut self, alloc: Global, corner: Corner) -> Result<Labelled, Refusal>
+        requires { Contains (Self.corners self.old) corner }
+        ensures flooded { Self.is_honest self.new → IfOk result (IsFlooded (Self.mosaic self.old) corner) }
+        ensures side { IfOk result (λ labelled. labelled.side ≡ Self.side_of self.old) }
+        ensures causes { IfErr result (λ r. IsTrue (ends_any r)) }
+        ensures asked { Asked Self.Samples self.old self.new result };
+}
+
+/// Floods the block of the corner's tile. It reads the tile's samples, and of its neighbours those on its rim. It is
+/// refused with NoMemory, or as a read of samples is.
+pub fn flooded<S: Samples>(
+    alloc: Global,
+    samples: &mut S,
+    corner: Corner,
+) -> Result<Labelled, Refusal>
+    requires { Contains (S.corners samples.old) corner }
+    ensures flooded { S.is_honest samples.new → IfOk result (IsFlooded (S.mosaic samples.old) corner) }
+    ensures side { IfOk result (λ labelled. labelled.side ≡ S.side_of samples.old) }
+    ensures refusal { IfErr result (λ r. (r ≡ NoMemory) ⊎ MayRefuse (S.failures samples.old) (S.failures samples.new) r) }
+    ensures reads { OnlyReads S.Samples samples.old samples.new (reads_of result) }
+{
+    let block = block_of(alloc, samples, corner)?;
+    Flood::run(alloc, &block)
+}
+
+// The block of the corner's tile.
+fn block_of<S: Samples>(alloc: Global, samples: &mut S, corner: Corner) -> Result<Block, Refusal>
+    requires { Contains (S.corners samples.old) corner }
+    ensures ground { S.is_honest samples.new → IfOk result (λ block. IsBlockOf (S.mosaic samples.old) corner block) }
+    ensures side { IfOk result (λ block. block.side ≡ S.side_of samples.old) }
+    ensures refusal { IfErr result (λ r. (r ≡ NoMemory) ⊎ MayRefuse (S.failures samples.old) (S.failures samples.new) r) }
+    ensures reads { OnlyReads S.Samples samples.old samples.new (reads_of result) }
+{
+    let heights = block_heights(alloc, samples, corner)?;
+    let side = samples.side();
+    let sinks = sinks_in(side, corner, samples.sinks());
+    match Block::new(side, heights, sinks) {
+        Some(block) => Ok(block),
+        None => unreachable!(),
+    }
+}
+
+impl Labellings for Table {
+    fn labelling(&mut self, alloc: Global, corner: Corner) -> Result<Labelled, Refusal> {
+        flooded(alloc, self, corner)
+    }
+}
