@@ -5,6 +5,7 @@ pub mod EditingPages
 pub mod EditingReads
 pub mod EditingSteps
 pub mod EditingWrites
+pub mod Ended
 pub mod Finding
 pub mod Grouped
 pub mod HeldTiles

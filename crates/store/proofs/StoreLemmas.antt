@@ -30,7 +30,8 @@ use Rattle.store.specs.Applied.{HasApplied}
 use Rattle.store.specs.Editing.{WritesFew}
 use Rattle.store.specs.Queried.{Queries}
 use Rattle.store.specs.Standing.{StandsFor}
-use Rattle.store.specs.Stepped.{LeavesOr, StepsOn, IsStepped}
+use Rattle.store.specs.Ended.{LeavesOr}
+use Rattle.store.specs.Stepped.{StepsOn, IsStepped}
 use Rattle.store.specs.States.{StandsForState, StandsForMade}
 use Rattle.store.specs.Stores.{IsAt, disk_of, root_of, side_of, capacity_of, has_failed}
 use Rattle.store.specs.declared.store.Store.{Store}
@@ -251,14 +252,14 @@ commands g only_now old new c result is few failed still_failed = record {
 
 -- a step
 
-known_stepped : (old new : RootValue) (result : Result (Option Corner) Refusal) → new.version ≡ old.version → IfOk result (λ tile. StepsOn old tile new) → OnErr result (new ≡ old)
+known_stepped : (old new : RootValue) (result : Result (Option Corner) Refusal) → IfOk result (λ tile. StepsOn old tile new) → OnErr result (new ≡ old)
     → Knows (known_by old) ask.Step (answered reply.Stepped result) (known_by new)
-known_stepped old new (Ok None) same is last = ap known_by is
-known_stepped old new (Ok (Some c)) same is last =
-    ap (λ (v : Version). record { version = number_of v; count = new.count; number = new.number }) same
-    ∙ ap (λ (k : ℕ). record { version = number_of old.version; count = k; number = new.number }) is.0
-    ∙ ap (λ (n : ℕ). record { version = number_of old.version; count = old.count; number = n }) is.1
-known_stepped old new (Err r) same is last = ap known_by last
+known_stepped old new (Ok None) is last = ap known_by is
+known_stepped old new (Ok (Some c)) is last =
+    ap (λ (v : Version). record { version = number_of v; count = new.count; number = new.number }) is.0
+    ∙ ap (λ (k : ℕ). record { version = number_of old.version; count = k; number = new.number }) is.1
+    ∙ ap (λ (n : ℕ). record { version = number_of old.version; count = old.count; number = n }) is.2
+known_stepped old new (Err r) is last = ap known_by last
 
 right_step : (capacity : ℕ) (s t : State) (result : Result (Option Corner) Refusal) → Steps s result t → Happens capacity s ask.Step (answered reply.Stepped result) t
 right_step capacity s t (Ok tile) is = is
@@ -295,7 +296,7 @@ steps g only_now old new result is few failed still_failed = record {
   told = told ask.Step reply.Stepped is_step (has_failed old) (has_failed new) result is.causes (λ had. ((failed had).0, still_failed had)) is.works is.fails is.quiet;
   failures = counted_so ask.Step reply.Stepped is_step (g.failures (disk_of old)) (g.failures (disk_of new)) result is.later is.device;
   writes = written_so ask.Step reply.Stepped is_step (number_of (root_of old).version) (side_of old) (g.writes (disk_of old)) (g.writes (disk_of new)) result few is.unwritten;
-  known = known_stepped (root_of old) (root_of new) result is.version is.known is.last_known;
+  known = known_stepped (root_of old) (root_of new) result is.known is.last_known;
   honest = is.honest;
   takes = λ h s at. (is.side, is.capacity);
   happens = λ h s at.

@@ -1,6 +1,7 @@
 pub mod Applied
 pub mod Calls
 pub mod Editing
+pub mod Ended
 pub mod Kept
 pub mod Queried
 pub mod Staging

@@ -1,0 +1,50 @@
+-- How a call that may commit ends, by the store's tree (this product's own profile). A step is one.
+use Rattle.std.specs.Prelude.{◌≡◌, ◌≢◌, ◌≤◌, ◌⊎◌, Bool, false, true, IsTrue, Result, OnOk, OnErr, IfOk, IfErr, IsErrOf}
+use Rattle.disk.specs.Disk.{Image, HasRisen}
+use Rattle.disk.specs.Stops.{LeavesOnly}
+use Rattle.disk.specs.declared.disk.Disk.{Ghosts}
+use Rattle.lattice.specs.declared.refusal.Refusal.{Refusal}
+use Rattle.lattice.specs.declared.refusal.Refusal.TheVariants.{Device, Failed}
+use Rattle.page_codec.specs.Roots.{RootValue}
+use Rattle.calls.specs.State.{State}
+use Rattle.cow_tree.specs.Trees.{disk_of, root_of, has_failed}
+use Rattle.cow_tree.specs.declared.tree.Tree.{Tree}
+use Rattle.store.specs.Applied.{HasContents}
+use Rattle.store.specs.States.{StandsForState}
+use Rattle.store.specs.TreeStates.{IsInState}
+
+-- an image of the tree's disk stands for the contents of the one state, or for the other state
+abbrev pub LeavesOr : {D : Type 0} (g : Ghosts D) → Tree D g → State → State → Image → Type 0
+LeavesOr g tree s t image = HasContents g tree s.contents image ⊎ StandsForState (g.size (disk_of tree)) (root_of tree).side (root_of tree).capacity image t
+
+-- What such a call may answer: which refusals it may have on any disk, which answers write nothing, which root is known once
+-- it was done, and which answers are right in which states, and leave which.
+pub record Ending (T : Type 0) : Type 1 where
+  pub may_refuse : Refusal → Bool
+  pub is_idle : T → Bool
+  pub Knows : RootValue → T → RootValue → Type 0
+  pub Happens : State → Result T Refusal → State → Type 0
+
+-- the call was made, and answered so
+pub record HasEnded {D T : Type 0} (g : Ghosts D) (ending : Ending T) (result : Result T Refusal) (old new : Tree D g) : Type 0 where
+  pub size : g.size (disk_of new) ≡ g.size (disk_of old)
+  pub side : (root_of new).side ≡ (root_of old).side
+  pub capacity : (root_of new).capacity ≡ (root_of old).capacity
+  pub later : g.failures (disk_of old) ≤ g.failures (disk_of new)
+  pub device : IsErrOf result Device → HasRisen (g.failures (disk_of old)) (g.failures (disk_of new))
+  pub works : OnOk result (has_failed new ≡ false)
+  pub fails : IsErrOf result Device → has_failed new ≡ true
+  pub causes : IfErr result (λ r. IsTrue (ending.may_refuse r))
+  -- it fails where it blames the disk, and says that it had failed only where it had
+  pub quiet : has_failed old ≡ false → IfErr result (λ r. r ≢ Device → (r ≢ Failed) × (has_failed new ≡ false))
+  -- the root that is known then, on any disk
+  pub known : IfOk result (λ answer. ending.Knows (root_of old) answer (root_of new))
+  pub last_known : OnErr result (root_of new ≡ root_of old)
+  -- where it is idle, or is refused for another reason than the disk, it writes nothing
+  pub unwritten : IfErr result (λ r. r ≢ Device → g.writes (disk_of new) ≡ g.writes (disk_of old))
+  pub idle : IfOk result (λ answer. IsTrue (ending.is_idle answer) → g.writes (disk_of new) ≡ g.writes (disk_of old))
+  pub honest : g.honest (disk_of new) → g.honest (disk_of old)
+  -- the answer, and the state that it leaves; a stop at any moment leaves the contents as they were, or what that state
+  -- stands for
+  pub outcome : g.honest (disk_of new) → (s : State) → IsInState g old s
+      → (t : State) × (IsInState g new t × ending.Happens s result t × (s.failed ≡ false → LeavesOnly g (disk_of old) (disk_of new) (LeavesOr g old s t)))
