@@ -69,7 +69,7 @@ module _ {D : Type 0} (g : Ghosts D) (old new : Tree D g) (command : Command) (w
           fault,
           (
             subst (λ (r : RootValue). IsStateOf g (disk_of new) r (has_failed new) (λ (stored : Stored). IsTreeAt g new stored) (staged_in g new) (sinks_of new) fault) (sym root)
-                (at_failure g (disk_of new) (root_of old) (has_failed new) (λ (stored : Stored). IsTreeAt g new stored) (staged_in g new) (sinks_of new) fault failed refl at.side_is at.count at.number at.stale
+                (at_failure g (disk_of new) (root_of old) (has_failed new) (λ (stored : Stored). IsTreeAt g new stored) (staged_in g new) (sinks_of new) fault failed refl at.side_is at.version at.count at.number at.stale
                 (λ image may. subst (λ (n : ℕ). StandsForState n (root_of old).side (root_of old).capacity image fault) (sym size) ((run h s at).now image may))),
             fails (root_of old).capacity s command (is_working g old works s at),
           ),
@@ -104,6 +104,7 @@ module _ {D : Type 0} (g : Ghosts D) (old new : Tree D g) (command : Command) (w
           (record {
             images = λ image may. subst (λ (n : ℕ). StandsForState n (root_of old).side (root_of old).capacity image s) (sym done.size) (inl (now.now image may));
             side_is = at.side_is;
+            version = at.version;
             count = at.count;
             number = at.number;
             stale = at.stale;

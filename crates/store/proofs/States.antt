@@ -8,6 +8,7 @@ use Rattle.disk.specs.declared.disk.Disk.{Ghosts}
 use Rattle.lattice.specs.declared.point.Point.{Point}
 use Rattle.lattice.specs.Corners.{Corner}
 use Rattle.page_codec.specs.Entries.{EntryValue}
+use Rattle.layout.specs.Formats.{number_of}
 use Rattle.page_codec.specs.Roots.{RootValue}
 use Rattle.edits.specs.declared.command.Command.{Command}
 use Rattle.calls.specs.State.{Contents, State, in_doubt, failing, working}
@@ -30,6 +31,9 @@ keeps_none e = is_none e.kept
 module _ (sectors : ℕ) (root : RootValue) (tiles : List TileLocation) (stored : Stored) (image : Image) (stores : StoresAt sectors root tiles stored image) where
   pub root_side : stored.side ≡ root.side
   root_side = ap (λ (s : Stored). s.side) stores.stands
+
+  pub root_version : stored.version ≡ root.version
+  root_version = ap (λ (s : Stored). s.version) stores.stands
 
   pub root_capacity : stored.capacity ≡ root.capacity
   root_capacity = ap (λ (s : Stored). s.capacity) stores.stands
@@ -70,6 +74,7 @@ module _ {D : Type 0} (g : Ghosts D) (disk : D) (root : RootValue) (failed : Boo
   at_contents tiles stored c works each seen tree clean declared holds = record {
     images = λ image may. inl (stored, (root, tiles, each image may), holds);
     side_is = holds.side_is;
+    version = sym (holds.version ∙ ap number_of (root_version (g.size disk) root tiles stored (g.seen disk) (each (g.seen disk) seen)));
     count = sym (root_count (g.size disk) root tiles stored (g.seen disk) (each (g.seen disk) seen)) ∙ holds.count;
     number = sym (root_number (g.size disk) root tiles stored (g.seen disk) (each (g.seen disk) seen)) ∙ holds.number;
     stale = root_stale (g.size disk) root tiles stored (g.seen disk) (each (g.seen disk) seen) ∙ sym holds.stale;
@@ -85,11 +90,12 @@ module _ {D : Type 0} (g : Ghosts D) (disk : D) (root : RootValue) (failed : Boo
   }
 
   -- one that failed
-  pub at_failure : (s : State) → failed ≡ true → s.failed ≡ true → s.contents.mosaic.side ≡ root.side → root.count ≡ s.contents.count → root.number ≡ s.contents.number → stale_in root ≡ s.contents.stale → EachStandsFor g disk root.side root.capacity s
+  pub at_failure : (s : State) → failed ≡ true → s.failed ≡ true → s.contents.mosaic.side ≡ root.side → number_of root.version ≡ s.contents.version → root.count ≡ s.contents.count → root.number ≡ s.contents.number → stale_in root ≡ s.contents.stale → EachStandsFor g disk root.side root.capacity s
       → IsStateOf g disk root failed IsTreeAt staged sinks s
-  at_failure s fails is side count number stale images = record {
+  at_failure s fails is side version count number stale images = record {
     images = images;
     side_is = side;
+    version = version;
     count = count;
     number = number;
     stale = stale;
@@ -134,6 +140,7 @@ module _ {D : Type 0} (g : Ghosts D) (old new : D) (size : g.size new ≡ g.size
       by_root s (record {
         images = images_kept;
         side_is = at.side_is;
+        version = at.version;
         count = at.count;
         number = at.number;
         stale = at.stale;
@@ -147,9 +154,9 @@ module _ {D : Type 0} (g : Ghosts D) (old new : D) (size : g.size new ≡ g.size
   pub reads_fail : (doubt : Option Contents) → fails ≡ true → s.failed ≡ false → IsStateOf g new now fails IsNew still declared (failing s doubt)
   reads_fail doubt fail working_before =
       let none : s.doubt ≡ None = (at.sound (at.failed_is ∙ working_before)).no_doubt in
-      by_root (failing s doubt) (at_failure g new was fails IsNew still declared (failing s doubt) fail refl at.side_is at.count at.number at.stale
+      by_root (failing s doubt) (at_failure g new was fails IsNew still declared (failing s doubt) fail refl at.side_is at.version at.count at.number at.stale
       (still_contents g new was.side was.capacity s doubt (λ image may. subst (λ (n : ℕ). StandsFor n was.side was.capacity image s.contents) (sym size) (leaves_contents g old was failed IsOld staged sinks s at none image (none_new image may)))))
 
   -- where an opening is refused, the state stays but for the failure
   pub stays_failed : fails ≡ true → IsStateOf g new now fails IsNew still declared (record s { failed = true })
-  stays_failed fail = by_root (record s { failed = true }) (at_failure g new was fails IsNew still declared (record s { failed = true }) fail refl at.side_is at.count at.number at.stale images_kept)
+  stays_failed fail = by_root (record s { failed = true }) (at_failure g new was fails IsNew still declared (record s { failed = true }) fail refl at.side_is at.version at.count at.number at.stale images_kept)

@@ -4,6 +4,7 @@ use Rattle.std.specs.Prelude.{◌≡◌, ◌⊎◌, ℕ, Bool, false, List, Some
 use Rattle.disk.specs.Disk.{Image}
 use Rattle.disk.specs.declared.disk.Disk.{Ghosts}
 use Rattle.lattice.specs.declared.point.Point.{Point}
+use Rattle.layout.specs.Formats.{number_of}
 use Rattle.page_codec.specs.Roots.{RootValue}
 use Rattle.edits.specs.declared.command.Command.{Command}
 use Rattle.calls.specs.State.{Contents, State, in_doubt}
@@ -41,6 +42,7 @@ pub record IsSound (side capacity : ℕ) (IsTreeAt : Stored → Type 0) (staged 
 pub record IsStateOf {D : Type 0} (g : Ghosts D) (disk : D) (root : RootValue) (failed : Bool) (IsTreeAt : Stored → Type 0) (staged : List StoredTile) (sinks : List Point) (s : State) : Type 0 where
   pub images : EachStandsFor g disk root.side root.capacity s
   pub side_is : s.contents.mosaic.side ≡ root.side
+  pub version : number_of root.version ≡ s.contents.version
   pub count : root.count ≡ s.contents.count
   pub number : root.number ≡ s.contents.number
   pub stale : stale_in root ≡ s.contents.stale

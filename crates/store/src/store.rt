@@ -6,10 +6,13 @@ ghost use Rattle.disk.specs.Disk.{Image, HasRisen};
 ghost use Rattle.disk.specs.Stops.{AddsNothing};
 ghost use Rattle.lattice.specs.Corners.{same_corner};
 ghost use Rattle.lattice.specs.declared.refusal.Refusal.TheVariants.{Device, NoMemory, BadSide, BadCapacity, TooSmall};
-ghost use Rattle.page_codec.specs.Sizes.{sectors_of};
+ghost use Rattle.layout.specs.Formats.{IsKnown, largest_side_of, number_of};
+ghost use Rattle.page_codec.specs.Sizes.{sectors_asked, sectors_of};
 ghost use Rattle.catalogue.specs.Tiles.{is_listed};
 ghost use Rattle.calls.specs.State.{Contents, State, fresh, working};
+ghost use Rattle.cow_tree.specs.Layout.{Stands};
 ghost use Rattle.cow_tree.specs.OverRoots.{IsRefusalOfTree};
+ghost use Rattle.cow_tree.specs.Stored.{no_tiles};
 ghost use Rattle.cow_tree.specs.Trees.{MayRefuse, has_failed as have_failed};
 ghost use Rattle.store.specs.Kept.{stale_in};
 ghost use Rattle.store.specs.Standing.{StandsFor};
@@ -18,7 +21,7 @@ ghost use Rattle.store.specs.TreeStates.{IsClean};
 use cow_tree::{NotOpened, Tree};
 use disk::Disk;
 use lattice::{Corner, Refusal, Side};
-use page_codec::{Entry, Format, MAX_CAPACITY, MAX_SIDE, sectors_needed};
+use page_codec::{Entry, Format, Version};
 use std::alloc::Global;
 
 /// A store of elevation tiles on a disk.
@@ -54,17 +57,7 @@ impl<D: Disk> Store<D> {
         ensures formatted { D.honest disk.new
             → OnOk result ((image : Image) → D.may disk.new image → StandsFor (D.size disk.new) side capacity image (fresh side)) }
     {
-        let side = match Side::new(side) {
-            Some(side) if side.samples() <= MAX_SIDE => side,
-            _ => return Err(Refusal::BadSide),
-        };
-        if capacity < 1 || MAX_CAPACITY < capacity {
-            return Err(Refusal::BadCapacity);
-        }
-        if disk.sectors() < sectors_needed(side, capacity) {
-            return Err(Refusal::TooSmall);
-        }
-        Tree::format(disk, Format::first(side, capacity))
+        format_as(disk, Version::One, side, capacity)
     }
 
     /// Opens a disk, which a stop may have left in the middle of a commit. Nothing is written. A refusal hands the disk
@@ -157,6 +150,14 @@ impl<D: Disk> Store<D> {
         is_stale(self.tree.current().entries(), corner)
     }
 
+    /// The version of its format, as last known.
+    pub fn version(&self) -> u32
+        ensures value { result ≡ number_of (root_of self.now).version }
+        ensures state { (s : State) → IsAt D.Disk self.now s → result ≡ s.contents.version }
+    {
+        self.tree.current().format().version().number()
+    }
+
     /// Samples along an edge of its tiles.
     pub fn side(&self) -> u32
         ensures { result ≡ side_of self.now }
@@ -186,4 +187,32 @@ fn is_stale(entries: &[Entry], corner: Corner) -> bool
     entries
         .iter()
         .any(|entry| entry.corner == corner && entry.kept.is_none())
+}
+
+// Makes an empty store by this version on a disk, where there is room for it.
+fn format_as<D: Disk>(
+    disk: &mut D,
+    version: Version,
+    side: u32,
+    capacity: u32,
+) -> Result<(), Refusal>
+    requires known { IsKnown version }
+    ensures size { D.size disk.new ≡ D.size disk.old }
+    ensures bad_side { (result ≡ Err BadSide) ↔ ((side < 3) ⊎ (largest_side_of version < side)) }
+    ensures bad_capacity { (result ≡ Err BadCapacity) ↔ ((3 ≤ side) × (side ≤ largest_side_of version) × ((capacity < 1) ⊎ (240 < capacity))) }
+    ensures too_small { (result ≡ Err TooSmall)
+        ↔ ((3 ≤ side) × (side ≤ largest_side_of version) × (1 ≤ capacity) × (capacity ≤ 240) × (D.size disk.old < sectors_asked (record { version = version; side = side; capacity = capacity }))) }
+    ensures refused { IfErr result (λ r. (r ≡ BadSide) ⊎ ((r ≡ BadCapacity) ⊎ ((r ≡ TooSmall) ⊎ (r ≡ Device)))) }
+    ensures untouched { IfErr result (λ r. r ≢ Device → disk.new ≡ disk.old) }
+    ensures later { D.failures disk.old ≤ D.failures disk.new }
+    ensures device { IsErrOf result Device → HasRisen (D.failures disk.old) (D.failures disk.new) }
+    ensures honest { D.honest disk.new → D.honest disk.old }
+    ensures formatted { D.honest disk.new
+        → OnOk result ((image : Image) → D.may disk.new image → Stands (D.size disk.new) image (no_tiles (record { version = version; side = side; capacity = capacity }))) }
+{
+    let format = Format::new(version, side, capacity)?;
+    if disk.sectors() < format.sectors() {
+        return Err(Refusal::TooSmall);
+    }
+    Tree::format(disk, format)
 }
