@@ -17,6 +17,9 @@ use Rattle.hgt.proofs.BytesLemmas.{get_or-samples_in}
 use Rattle.lattice.proofs.CornerOrder.{same_from, before_not_same}
 use Rattle.lattice.proofs.Rising.{AllAfter, Rising, rising_from}
 use Rattle.charts.specs.declared.plane.Plane.TheVariants.{Heights}
+use Rattle.layout.specs.Formats.{largest_side_of}
+use Rattle.layout.specs.declared.version.Version.{Version}
+use Rattle.layout.specs.declared.version.Version.TheVariants.{One, Two}
 use Rattle.cow_tree.specs.Planes.{HasPage}
 use Rattle.cow_tree.specs.Stored.{StoredTile, PlanePages, IsPage, AreWhole, plane_bytes, samples_of_plane, mosaic_of_tiles}
 use Rattle.cow_tree.proofs.Adding.{contains-map}
@@ -142,8 +145,13 @@ pub length_further : (into part : List ℤ) (done end : ℕ) → done ≤ end �
 length_further into part done end le within long =
     omega (arith, length-append (take done into) (part ++ drop (end - done) (drop done into)), length-append part (drop (end - done) (drop done into)), length-take done into, length-drop (end - done) (drop done into), length-drop done into)
 
-pub samples_small : (n : ℕ) → n ≤ 1201 → n * n ≤ 1442401
-samples_small n le = let square : n * n ≤ n * 1201 = mul-le-mul_left n le in omega arith
+-- a tile has few samples by either version
+pub samples_small : (version : Version) (n : ℕ) → n ≤ largest_side_of version → n * n ≤ 12967201
+samples_small version n le = let small : n ≤ 3601 = by version le in let square : n * n ≤ n * 3601 = mul-le-mul_left n small in omega arith
+  where
+    by : (v : Version) → n ≤ largest_side_of v → n ≤ 3601
+    by One below = omega (arith, below)
+    by Two below = below
 
 -- one sample
 pub one_sample : (m : Mosaic) (c : Corner) (samples : List ℤ) (i : ℕ) (into : List ℤ) (s : ℤ) → samples_of m c ≡ Some samples → i < length samples → length into ≡ 1 → s ≡ get_or into 0 s → slice_range samples i (i + length into) ≡ into → IsSomeAnd (samples_of m c) (λ all. slice_get all i ≡ Some s)

@@ -6,6 +6,7 @@ use std::alloc::Global;
 /// What a root says.
 #[derive(Drop)]
 pub(crate) struct Root {
+    pub(crate) version: u32,
     pub(crate) side: u32,
     pub(crate) capacity: u32,
     pub(crate) commits: u64,
@@ -59,10 +60,12 @@ fn root_of(alloc: Global, bytes: &Sector) -> Result<Root, Refusal> {
     if !bytes.starts_with(b"MOSAICST") {
         return Err(Refusal::NotAStore);
     }
-    if u32_at(bytes, 8) != 1 {
+    let version = u32_at(bytes, 8);
+    if !(1..=2).contains(&version) {
         return Err(Refusal::Version);
     }
     let root = Root {
+        version,
         side: u32_at(bytes, 12),
         capacity: u32_at(bytes, 16),
         commits: u64_at(bytes, 24),
@@ -78,7 +81,8 @@ fn root_of(alloc: Global, bytes: &Sector) -> Result<Root, Refusal> {
 }
 
 fn has_good_numbers(root: &Root) -> bool {
-    (3..=1201).contains(&root.side)
+    let largest = if root.version == 1 { 1201 } else { 3601 };
+    (3..=largest).contains(&root.side)
         && (1..=240).contains(&root.capacity)
         && root.entries.len() as u64 <= u64::from(root.capacity)
         && root.count < root.commits
@@ -151,13 +155,26 @@ fn sinks_of(alloc: Global, bytes: &[u8], count: u32) -> Result<Vec<Point>, Refus
 fn sectors_asked(root: &Root) -> u64 {
     let planes = u64::from(root.capacity).saturating_mul(4).saturating_add(2);
     planes
-        .saturating_mul(pages_of(root).saturating_add(1))
+        .saturating_mul(
+            pages_of(root)
+                .saturating_add(index_pages_of(root))
+                .saturating_add(1),
+        )
         .saturating_add(4)
 }
 
 // How many pages a plane fills, at two bytes a sample.
 fn pages_of(root: &Root) -> u64 {
     bytes_of_tile(root).div_ceil(4096)
+}
+
+// How many index pages stand between a record and its pages: none by the first version.
+fn index_pages_of(root: &Root) -> u64 {
+    if root.version == 1 {
+        0
+    } else {
+        pages_of(root).div_ceil(1024)
+    }
 }
 
 pub(crate) fn bytes_of_tile(root: &Root) -> u64 {
@@ -172,7 +189,7 @@ fn check_pages(alloc: Global, image: &[Sector], root: &Root) -> Result<(), Refus
         for record in entry.records {
             if record != 0 {
                 reached.push(record).map_err(|_| Refusal::NoMemory)?;
-                reached.extend_from_slice(&listed(alloc, image, root, record)?)?;
+                reached.extend_from_slice(&behind_record(alloc, image, root, record)?)?;
             }
         }
     }
@@ -193,25 +210,60 @@ fn page_at(image: &[Sector], page: u32) -> Option<&Sector> {
     image.get(page as usize)
 }
 
-/// The pages that a record lists, and zeros behind them.
+/// The pages of a plane, by its record.
 pub(crate) fn listed(
     alloc: Global,
     image: &[Sector],
     root: &Root,
     record: u32,
 ) -> Result<Vec<u32>, Refusal> {
-    let bytes = page_at(image, record).ok_or(Refusal::Damaged)?;
     let mut pages = Vec::new(alloc);
+    for (page, i) in behind_record(alloc, image, root, record)?
+        .iter()
+        .zip(0_u64..)
+    {
+        if index_pages_of(root) <= i {
+            pages.push(*page).map_err(|_| Refusal::NoMemory)?;
+        }
+    }
+    Ok(pages)
+}
+
+// What a record reaches: by the second version index pages, and then the pages that these list.
+fn behind_record(
+    alloc: Global,
+    image: &[Sector],
+    root: &Root,
+    record: u32,
+) -> Result<Vec<u32>, Refusal> {
+    if root.version == 1 {
+        return numbers_in(alloc, image, record, pages_of(root));
+    }
+    let index = numbers_in(alloc, image, record, index_pages_of(root))?;
+    let mut reached = Vec::new(alloc);
+    reached.extend_from_slice(&index)?;
+    let mut left = pages_of(root);
+    for page in &index {
+        reached.extend_from_slice(&numbers_in(alloc, image, *page, left.min(1024))?)?;
+        left = left.saturating_sub(1024);
+    }
+    Ok(reached)
+}
+
+// So many numbers of a record or an index page, and zeros behind them.
+fn numbers_in(alloc: Global, image: &[Sector], page: u32, count: u64) -> Result<Vec<u32>, Refusal> {
+    let bytes = page_at(image, page).ok_or(Refusal::Damaged)?;
+    let mut numbers = Vec::new(alloc);
     for (number, i) in bytes.chunks_exact(4).zip(0..1024_u64) {
-        if i < pages_of(root) {
-            pages
+        if i < count {
+            numbers
                 .push(u32_at(number, 0))
                 .map_err(|_| Refusal::NoMemory)?;
         } else if !is_zero(number) {
             return Err(Refusal::Damaged);
         }
     }
-    Ok(pages)
+    Ok(numbers)
 }
 
 fn is_zero(bytes: &[u8]) -> bool {

@@ -11,7 +11,7 @@ number_of Two = 2
 
 -- the newest version that stores are of
 abbrev pub newest : Version
-newest = One
+newest = Two
 
 abbrev pub IsKnown : Version → Type 0
 IsKnown version = number_of version ≤ number_of newest

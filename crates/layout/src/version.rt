@@ -15,7 +15,7 @@ pub enum Version {
 
 impl Version {
     /// The newest version that stores are of.
-    pub const NEWEST: Version = Version::One;
+    pub const NEWEST: Version = Version::Two;
 
     /// The version that this number stands for, where it is known.
     pub fn of(number: u32) -> Option<Version>

@@ -96,9 +96,10 @@ fn the_next_root(rt: HostRuntime) -> Result<(), Fail> {
 }
 
 // What two bytes of that root are changed to, and what is said of it then.
-const CHANGES: [(u8, [u8; 2], Option<Damaged>); 23] = [
+const CHANGES: [(u8, [u8; 2], Option<Damaged>); 24] = [
     (0, [0x4e, 0x4f], Some(Damaged::Magic)),
-    (8, [2, 0], Some(Damaged::Version)),
+    (8, [2, 0], None),
+    (8, [3, 0], Some(Damaged::Version)),
     (8, [9, 0], Some(Damaged::Version)),
     (12, [2, 0], Some(Damaged::Rule)),
     (12, [0xb2, 4], Some(Damaged::Rule)),
@@ -140,7 +141,7 @@ fn hostile_roots(rt: HostRuntime) {
 fn the_tests_have_an_order(rt: HostRuntime) {
     let mut page = page_of(&ONE_TILE);
     page[16] = 0;
-    page[8] = 2;
+    page[8] = 3;
     assert_eq!(rt; Root::read(&page).err(), Some(Damaged::Version));
     page[7] = 0;
     assert_eq!(rt; Root::read(&page).err(), Some(Damaged::Magic));

@@ -4,7 +4,7 @@ ghost use Rattle.std.specs.List.{flat_map};
 ghost use Rattle.page_codec.specs.declared.damaged.Damaged.TheVariants as reason;
 ghost use Rattle.layout.specs.declared.version.Version.{Version};
 ghost use Rattle.page_codec.specs.Numbers.{u32_bytes};
-ghost use Rattle.layout.specs.Formats.{IsKnown, number_of};
+ghost use Rattle.layout.specs.Formats.{IsKnown, largest_side_of, number_of};
 ghost use Rattle.page_codec.specs.Entries.{IsEntry};
 ghost use Rattle.lattice.specs.Mosaic.{AreSinks};
 ghost use Rattle.page_codec.specs.Roots.{RootValue, AreInOrder, IsRoot, empty_root, format_of, magic, header_bytes, root_bytes, HasMagic, HasKnownVersion};
@@ -15,7 +15,7 @@ use crate::header::Header;
 use crate::numbers::{is_zero, split_u32};
 use crate::sinks::{read_sinks, write_sinks};
 use crate::writer::Writer;
-use crate::{Damaged, Entry, Format, MAX_CAPACITY, MAX_SIDE, PAGE_BYTES, ROOT_ENTRIES, Version};
+use crate::{Damaged, Entry, Format, MAX_CAPACITY, PAGE_BYTES, ROOT_ENTRIES, Version};
 use arrayvec::ArrayVec;
 use lattice::{MOST_SINKS, Point, Side};
 use std::marker::Model;
@@ -122,7 +122,7 @@ impl Root {
 
     pub fn side(&self) -> Side
         ensures value { result ≡ self.now.side }
-        ensures high { result ≤ MAX_SIDE }
+        ensures high { result ≤ largest_side_of self.now.version }
     {
         self.format.side()
     }

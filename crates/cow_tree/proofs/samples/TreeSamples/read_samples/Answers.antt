@@ -2,6 +2,7 @@ use Rattle.std.proofs.Common.{◌≡◌, ℕ, ℤ, ◌+◌, ◌*◌, ◌≤◌, 
 use Rattle.std.specs.Prelude.{IsSomeAnd, slice_range}
 use Rattle.std.proofs.lemmas.List.{take_all}
 use Rattle.lattice.specs.Mosaic.{Mosaic, samples_of}
+use Rattle.layout.specs.Formats.{largest_side_of}
 use Rattle.page_codec.specs.Roots.{RootValue}
 use Rattle.cow_tree.specs.Layout.{tile_in}
 use Rattle.cow_tree.specs.Reading.{read_again}
@@ -15,17 +16,23 @@ use Rattle.cow_tree.proofs.samples.TreeSamples.read_samples.Goals as goal
 
 pub overflow_cast-at : goal.overflow_cast-at
 overflow_cast-at g c =
-    let high : c.side-side.result ≤ 1201 = c.side-side.ensures.high in
-    let same : c.side-side.result ≡ c.args.self.now.root.side = c.side-side.ensures.value ∙ ap (λ (r : RootValue). r.side) c.current.ensures in
-    let small : c.args.self.now.root.side * c.args.self.now.root.side ≤ 1442401 = samples_small c.args.self.now.root.side (omega (arith, high, same)) in
-    omega (arith, small, c.requires.range)
+    let root = c.current.result.now in
+    let side : c.side-side.result ≡ root.side = c.side-side.ensures.value in
+    let same : root.side ≡ c.args.self.now.root.side = ap (λ (r : RootValue). r.side) c.current.ensures in
+    let high : root.side ≤ largest_side_of root.version = subst (λ (n : ℕ). n ≤ largest_side_of root.version) side c.side-side.ensures.high in
+    let small : root.side * root.side ≤ 12967201 = samples_small root.version root.side high in
+    let small_here : c.args.self.now.root.side * c.args.self.now.root.side ≤ 12967201 = subst (λ (n : ℕ). n * n ≤ 12967201) same small in
+    omega (arith, small_here, c.requires.range)
 
 pub overflow_add-at : goal.overflow_add-at
 overflow_add-at g c =
-    let high : c.side-side.result ≤ 1201 = c.side-side.ensures.high in
-    let same : c.side-side.result ≡ c.args.self.now.root.side = c.side-side.ensures.value ∙ ap (λ (r : RootValue). r.side) c.current.ensures in
-    let small : c.args.self.now.root.side * c.args.self.now.root.side ≤ 1442401 = samples_small c.args.self.now.root.side (omega (arith, high, same)) in
-    omega (arith, small, c.requires.range)
+    let root = c.current.result.now in
+    let side : c.side-side.result ≡ root.side = c.side-side.ensures.value in
+    let same : root.side ≡ c.args.self.now.root.side = ap (λ (r : RootValue). r.side) c.current.ensures in
+    let high : root.side ≤ largest_side_of root.version = subst (λ (n : ℕ). n ≤ largest_side_of root.version) side c.side-side.ensures.high in
+    let small : root.side * root.side ≤ 12967201 = samples_small root.version root.side high in
+    let small_here : c.args.self.now.root.side * c.args.self.now.root.side ≤ 12967201 = subst (λ (n : ℕ). n * n ≤ 12967201) same small in
+    omega (arith, small_here, c.requires.range)
 
 pub loop-done-preserved : goal.loop-done-preserved
 loop-done-preserved g c =
