@@ -3,8 +3,6 @@
 
 mod in_memory;
 mod power_cut;
-#[cfg(test)]
-mod tests;
 
 pub use in_memory::store_in_memory;
 pub use power_cut::run_through_power_cut;

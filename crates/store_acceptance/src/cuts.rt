@@ -1,10 +1,10 @@
 //! Sessions of a store with power cuts between them.
-use super::fixtures::{A, B, EAST, HERE, import, store_of};
+use super::fixtures::{A, B, EAST, HERE, import, opened, store_of};
 use disk::{FuseDisk, Torn};
 use edits::Command;
 use memory_store::run_through_power_cut;
 use std::test::Fail;
-use store::{Event, Reply, Store};
+use store::{Event, Reply};
 
 // How many calls opening a store with one tile makes: a sync, both gates, both roots and the record.
 const CALLS_TO_OPEN: u64 = 6;
@@ -19,16 +19,14 @@ fn what_was_answered_done_is_there_after_a_cut(rt: HostRuntime) -> Result<(), Fa
         for calls in 0..CALLS_OF_SESSION {
             let disk = store_of(alloc, 2, &[(HERE, A)])?.into_disk();
             let fuse = FuseDisk::new(disk, CALLS_TO_OPEN.saturating_add(calls));
-            let store = Store::open(alloc, fuse).ok().ok_or("not opened")?;
+            let store = opened(alloc, fuse)?;
             let events = [
                 Event::Do(import(alloc, EAST, &B)?),
                 Event::Do(Command::Remove { corner: HERE }),
                 Event::Count,
             ];
             let mut replies = Vec::new(alloc);
-            let opened = run_through_power_cut(alloc, store, &events, torn, &mut replies)
-                .ok()
-                .ok_or("not opened again")?;
+            let found = run_through_power_cut(alloc, store, &events, torn, &mut replies)?;
             let mut done: u64 = 1;
             for reply in &replies {
                 if matches!(reply, Reply::Done(_)) {
@@ -36,7 +34,7 @@ fn what_was_answered_done_is_there_after_a_cut(rt: HostRuntime) -> Result<(), Fa
                 }
             }
             // At most the command in doubt is there besides.
-            assert!(rt; done <= opened.count() && opened.count() <= done.saturating_add(1));
+            assert!(rt; done <= found.count() && found.count() <= done.saturating_add(1));
         }
     }
     Ok(())

@@ -75,19 +75,18 @@ pub(crate) fn store_of(
     tiles: &[(Corner, [u8; 18])],
 ) -> Result<Store<MemDisk>, Fail> {
     let sectors = capacity.saturating_mul(8).saturating_add(8);
-    let mut store = store_in_memory(alloc, sectors, 3, capacity)
-        .ok()
-        .ok_or("not made")?;
+    let mut store = store_in_memory(alloc, sectors, 3, capacity)?;
     for (corner, bytes) in tiles {
-        let command = import(alloc, *corner, bytes)?;
-        store.apply(&command).ok().ok_or("not imported")?;
+        store.apply(&import(alloc, *corner, bytes)?)?;
     }
     Ok(store)
 }
 
-pub(crate) fn lists<D: Disk>(store: &Store<D>, corners: &[Corner]) -> Result<bool, Fail> {
-    let tiles = store.tiles().ok().ok_or("not listed")?;
-    Ok(tiles.as_slice() == corners)
+pub(crate) fn opened<D: Disk + Drop>(alloc: Global, disk: D) -> Result<Store<D>, Fail> {
+    match Store::open(alloc, disk) {
+        Ok(store) => Ok(store),
+        Err(not_opened) => Err(not_opened.refusal.into()),
+    }
 }
 
 pub(crate) fn exports<D: Disk>(
@@ -95,6 +94,5 @@ pub(crate) fn exports<D: Disk>(
     corner: Corner,
     bytes: &[u8],
 ) -> Result<bool, Fail> {
-    let exported = store.export(corner).ok().ok_or("not exported")?;
-    Ok(exported.as_slice() == bytes)
+    Ok(store.export(corner)?.as_slice() == bytes)
 }

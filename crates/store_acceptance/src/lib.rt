@@ -3,6 +3,8 @@
 #![tactic(auto)]
 
 #[cfg(test)]
+mod asserting;
+#[cfg(test)]
 mod basins;
 #[cfg(test)]
 mod cuts;
@@ -14,6 +16,8 @@ mod real_tiles;
 mod rows;
 #[cfg(test)]
 mod runs;
+#[cfg(test)]
+mod script;
 #[cfg(test)]
 mod sinks;
 #[cfg(test)]

@@ -1,5 +1,5 @@
 //! Tiles of 1201 by 1201 samples.
-use super::fixtures::{EAST, HERE};
+use super::fixtures::{EAST, HERE, opened};
 use disk::MemDisk;
 use edits::{Bytes, Command};
 use lattice::Corner;
@@ -32,7 +32,7 @@ fn import(
         corner,
         bytes: Bytes::new(tile(alloc, shift)?),
     };
-    store.apply(&import).map_err(|_| "not imported")?;
+    store.apply(&import)?;
     Ok(())
 }
 
@@ -42,18 +42,16 @@ fn comes_back(
     corner: Corner,
     shift: u32,
 ) -> Result<bool, Fail> {
-    let exported = store.export(corner).map_err(|_| "not exported")?;
-    let wanted = tile(alloc, shift)?;
-    Ok(exported.as_slice() == wanted.as_slice())
+    Ok(store.export(corner)?.as_slice() == tile(alloc, shift)?.as_slice())
 }
 
 #[test]
 fn two_neighbours_come_back_byte_for_byte(rt: HostRuntime) -> Result<(), Fail> {
     let alloc = rt.alloc();
-    let mut store = store_in_memory(alloc, SECTORS, 1201, 2).map_err(|_| "not made")?;
+    let mut store = store_in_memory(alloc, SECTORS, 1201, 2)?;
     import(alloc, &mut store, HERE, 0)?;
     import(alloc, &mut store, EAST, 7)?;
-    let mut opened = Store::open(alloc, store.into_disk()).map_err(|_| "not opened")?;
+    let mut opened = opened(alloc, store.into_disk())?;
     assert!(rt; comes_back(alloc, &mut opened, HERE, 0)?);
     assert!(rt; comes_back(alloc, &mut opened, EAST, 7)?);
     Ok(())

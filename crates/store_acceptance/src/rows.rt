@@ -1,17 +1,15 @@
 //! What a store of tiles of side 3 answers, command by command and query by query.
-use super::fixtures::{
-    A, B, EAST, H, HERE, V, at, burn, exports, import, lists, patch, store_of, wall,
+use super::asserting::assert_row;
+use super::fixtures::{A, B, H, V, opened};
+use super::script::Asked::{Burn, Import, Patch, Remove, Wall};
+use super::script::Step::{
+    Count, Done, Elevation, Exports, Filled, NotExported, Refused, Seams, Tiles,
 };
+use super::script::{command, follow};
 use disk::{CountedDisk, MemDisk};
-use edits::Command;
-use lattice::{Corner, Height, Refusal};
-use std::alloc::Global;
+use lattice::{Height, Refusal};
 use std::test::Fail;
 use store::Store;
-
-const SOUTH_WEST: Corner = Corner { lat: -1, lon: -1 };
-
-const FAR: Corner = Corner { lat: 5, lon: 5 };
 
 // 9 9 9 / 9 9 7 / 9 9 9.
 const G: [u8; 18] = [0, 9, 0, 9, 0, 9, 0, 9, 0, 9, 0, 7, 0, 9, 0, 9, 0, 9];
@@ -33,215 +31,208 @@ fn sizes_that_format_takes(rt: HostRuntime) -> Result<(), Fail> {
     ];
     for (sectors, side, capacity, answer) in table {
         let mut disk = MemDisk::new(rt.alloc(), sectors)?;
-        assert_eq!(rt;
-            Store::format(&mut disk, side, capacity),
-            answer,
-            "{sectors} sectors"
-        );
+        let found = Store::format(&mut disk, side, capacity);
         let writes = if answer.is_ok() { 4 } else { 0 };
-        assert_eq!(rt; disk.writes(), writes);
+        let is_right = found == answer && disk.writes() == writes;
+        assert_row(&rt, is_right, "sectors", u64::from(sectors));
     }
     Ok(())
 }
 
 #[test]
 fn an_empty_store(rt: HostRuntime) -> Result<(), Fail> {
-    let mut store = store_of(rt.alloc(), 4, &[])?;
-    assert_eq!(rt; store.count(), 0);
-    assert!(rt; lists(&store, &[])?);
-    assert_eq!(rt; store.elevation(at(0, 0)), Ok(Height::Outside));
-    assert_eq!(rt; store.export(HERE).err(), Some(Refusal::NoTile));
-    Ok(())
+    let script = [
+        Count(0),
+        Tiles(&[]),
+        Elevation(0, 0, Height::Outside),
+        NotExported(0, 0, Refusal::NoTile),
+    ];
+    follow(&rt, rt.alloc(), 4, &script)
 }
 
 #[test]
 fn a_tile_comes_back(rt: HostRuntime) -> Result<(), Fail> {
-    let alloc = rt.alloc();
-    let mut store = store_of(alloc, 4, &[])?;
-    assert_eq!(rt; store.apply(&import(alloc, HERE, &A)?), Ok(1));
-    assert_eq!(rt; store.elevation(at(0, 2)), Ok(Height::At(5)));
-    assert_eq!(rt; store.elevation(at(2, 0)), Ok(Height::At(9)));
-    assert!(rt; exports(&mut store, HERE, &A)?);
-    Ok(())
+    let script = [
+        Done(Import(0, 0, &A), 1),
+        Elevation(0, 2, Height::At(5)),
+        Elevation(2, 0, Height::At(9)),
+        Exports(0, 0, &A),
+    ];
+    follow(&rt, rt.alloc(), 4, &script)
 }
 
 #[test]
 fn imports_that_are_refused(rt: HostRuntime) -> Result<(), Fail> {
-    let alloc = rt.alloc();
-    let mut store = store_of(alloc, 1, &[])?;
-    let steps = [
-        (
-            import(alloc, SOUTH_WEST, &A[..17])?,
-            Err(Refusal::BadLength),
-        ),
-        (import(alloc, HERE, &A)?, Ok(1)),
-        (import(alloc, EAST, &A)?, Err(Refusal::Full)),
-        (import(alloc, HERE, &A)?, Err(Refusal::TileThere)),
+    let script = [
+        Refused(Import(-1, -1, &A[..17]), Refusal::BadLength),
+        Done(Import(0, 0, &A), 1),
+        Refused(Import(0, 1, &A), Refusal::Full),
+        Refused(Import(0, 0, &A), Refusal::TileThere),
     ];
-    for (command, answer) in &steps {
-        assert_eq!(rt; store.apply(command), *answer);
-    }
-    Ok(())
+    follow(&rt, rt.alloc(), 1, &script)
 }
 
 #[test]
 fn tiles_are_listed_from_the_south(rt: HostRuntime) -> Result<(), Fail> {
-    let alloc = rt.alloc();
-    let mut store = store_of(alloc, 4, &[])?;
-    assert_eq!(rt; store.apply(&import(alloc, HERE, &A)?), Ok(1));
-    assert!(rt; lists(&store, &[HERE])?);
-    assert_eq!(rt; store.apply(&import(alloc, SOUTH_WEST, &A)?), Ok(2));
-    assert!(rt; lists(&store, &[SOUTH_WEST, HERE])?);
-    assert_eq!(rt; store.elevation(at(0, 0)), Ok(Height::At(9)));
-    Ok(())
+    let script = [
+        Done(Import(0, 0, &A), 1),
+        Tiles(&[(0, 0)]),
+        Done(Import(-1, -1, &A), 2),
+        Tiles(&[(-1, -1), (0, 0)]),
+        Elevation(0, 0, Height::At(9)),
+    ];
+    follow(&rt, rt.alloc(), 4, &script)
 }
 
 #[test]
 fn writes_and_syncs_of_commands(rt: HostRuntime) -> Result<(), Fail> {
     let alloc = rt.alloc();
     let mut disk = MemDisk::new(alloc, 24)?;
-    assert_eq!(rt; Store::format(&mut disk, 3, 2), Ok(()));
-    let mut commits = 1;
+    assert!(rt; Store::format(&mut disk, 3, 2) == Ok(()));
     // An opening makes one sync. The first import writes a page, a record, a root and a gate; later ones close the gate
-    // first.
+    // first. Behind each answer the commits, and how many writes and syncs were made.
     let steps = [
-        (import(alloc, HERE, &A)?, Ok(1), 4, 3),
-        (import(alloc, EAST, &B)?, Ok(2), 5, 4),
-        (import(alloc, FAR, &A)?, Err(Refusal::Full), 0, 1),
-        (Command::Remove { corner: HERE }, Ok(3), 3, 4),
-        (import(alloc, FAR, &A)?, Ok(4), 5, 4),
+        (Import(0, 0, &A), Ok(1), 2, 4, 3),
+        (Import(0, 1, &B), Ok(2), 3, 5, 4),
+        (Import(5, 5, &A), Err(Refusal::Full), 3, 0, 1),
+        (Remove(0, 0), Ok(3), 4, 3, 4),
+        (Import(5, 5, &A), Ok(4), 5, 5, 4),
     ];
-    for (command, answer, writes, syncs) in &steps {
-        let counted = CountedDisk::new(disk);
-        let mut store = Store::open(alloc, counted).ok().ok_or("not opened")?;
-        assert_eq!(rt; store.commits(), commits);
-        assert_eq!(rt; store.apply(command), *answer);
-        commits = store.commits();
+    let mut before = 1;
+    for (asked, answer, commits, writes, syncs) in steps {
+        let mut store = opened(alloc, CountedDisk::new(disk))?;
+        let is_before = store.commits() == before;
+        let found = store.apply(&command(alloc, asked)?);
+        let is_right = is_before && found == answer && store.commits() == commits;
+        assert_row(&rt, is_right, "commits", commits);
         let counted = store.into_disk();
         let tally = counted.faults();
-        assert_eq!(rt; (tally.writes, tally.syncs), (*writes, *syncs));
+        let is_counted = tally.writes == writes && tally.syncs == syncs;
+        assert_row(&rt, is_counted, "writes and syncs at commit", commits);
         disk = counted.into_inner();
+        before = commits;
     }
-    assert_eq!(rt; commits, 5);
     Ok(())
 }
 
 #[test]
 fn tiles_that_disagree_at_a_point(rt: HostRuntime) -> Result<(), Fail> {
-    let alloc = rt.alloc();
-    let mut store = store_of(alloc, 4, &[(HERE, G), (EAST, H)])?;
-    assert_eq!(rt; store.elevation(at(1, 2)), Ok(Height::At(7)));
-    assert!(rt; exports(&mut store, HERE, &G)?);
-    assert!(rt; exports(&mut store, EAST, &H)?);
-    assert_eq!(rt; store.seams(), Ok(1));
-    assert_eq!(rt; store.apply(&Command::Remove { corner: HERE }), Ok(3));
-    assert_eq!(rt; store.elevation(at(1, 2)), Ok(Height::At(8)));
-    Ok(())
+    let script = [
+        Done(Import(0, 0, &G), 1),
+        Done(Import(0, 1, &H), 2),
+        Elevation(1, 2, Height::At(7)),
+        Exports(0, 0, &G),
+        Exports(0, 1, &H),
+        Seams(1),
+        Done(Remove(0, 0), 3),
+        Elevation(1, 2, Height::At(8)),
+    ];
+    follow(&rt, rt.alloc(), 4, &script)
 }
 
 #[test]
 fn edits_reach_each_tile_at_a_seam(rt: HostRuntime) -> Result<(), Fail> {
-    let alloc = rt.alloc();
-    let seam = at(1, 2);
-    for (edit, height) in &[(burn(1, &[seam]), 6), (wall(3, &[seam]), 7)] {
-        let mut store = store_of(alloc, 4, &[(HERE, G), (EAST, H)])?;
-        assert_eq!(rt; store.apply(edit), Ok(3));
-        assert_eq!(rt; store.elevation(seam), Ok(Height::At(*height)));
-        assert_eq!(rt; store.seams(), Ok(0));
-        assert_eq!(rt; store.apply(&Command::Remove { corner: HERE }), Ok(4));
-        assert_eq!(rt; store.elevation(seam), Ok(Height::At(*height)));
+    for (edit, height) in [(Burn(1, &[(1, 2)]), 6), (Wall(3, &[(1, 2)]), 7)] {
+        let script = [
+            Done(Import(0, 0, &G), 1),
+            Done(Import(0, 1, &H), 2),
+            Done(edit, 3),
+            Elevation(1, 2, Height::At(height)),
+            Seams(0),
+            Done(Remove(0, 0), 4),
+            Elevation(1, 2, Height::At(height)),
+        ];
+        follow(&rt, rt.alloc(), 4, &script)?;
     }
     Ok(())
 }
 
 #[test]
 fn a_void_is_patched(rt: HostRuntime) -> Result<(), Fail> {
-    let alloc = rt.alloc();
-    let middle = at(1, 1);
-    let mut store = store_of(alloc, 4, &[(HERE, V)])?;
-    assert_eq!(rt; store.elevation(middle), Ok(Height::Void));
-    assert_eq!(rt; store.fill(middle), Err(Refusal::Void));
-    let command = patch(middle, middle, 4);
-    assert_eq!(rt; store.apply(&command), Ok(2));
-    assert_eq!(rt; store.apply(&command), Err(Refusal::NothingVoid));
-    assert_eq!(rt; store.elevation(middle), Ok(Height::At(4)));
-    assert_eq!(rt; store.fill(middle), Ok(9));
-    Ok(())
+    let script = [
+        Done(Import(0, 0, &V), 1),
+        Elevation(1, 1, Height::Void),
+        Filled(1, 1, Err(Refusal::Void)),
+        Done(Patch((1, 1), (1, 1), 4), 2),
+        Refused(Patch((1, 1), (1, 1), 4), Refusal::NothingVoid),
+        Elevation(1, 1, Height::At(4)),
+        Filled(1, 1, Ok(9)),
+    ];
+    follow(&rt, rt.alloc(), 4, &script)
 }
 
 #[test]
 fn a_patch_across_a_seam(rt: HostRuntime) -> Result<(), Fail> {
-    let alloc = rt.alloc();
     // void 9 9 / 9 void void / 9 9 9, and to the east 9 9 9 / void 9 9 / 9 9 9.
     let west = [128, 0, 0, 9, 0, 9, 0, 9, 128, 0, 128, 0, 0, 9, 0, 9, 0, 9];
     let east = [0, 9, 0, 9, 0, 9, 128, 0, 0, 9, 0, 9, 0, 9, 0, 9, 0, 9];
-    let mut store = store_of(alloc, 4, &[(HERE, west), (EAST, east)])?;
-    assert_eq!(rt; store.apply(&patch(at(0, 1), at(2, 3), 5)), Ok(3));
-    let west = [128, 0, 0, 9, 0, 9, 0, 9, 0, 5, 0, 5, 0, 9, 0, 9, 0, 9];
-    let east = [0, 9, 0, 9, 0, 9, 0, 5, 0, 9, 0, 9, 0, 9, 0, 9, 0, 9];
-    assert!(rt; exports(&mut store, HERE, &west)?);
-    assert!(rt; exports(&mut store, EAST, &east)?);
-    Ok(())
+    let patched_west = [128, 0, 0, 9, 0, 9, 0, 9, 0, 5, 0, 5, 0, 9, 0, 9, 0, 9];
+    let patched_east = [0, 9, 0, 9, 0, 9, 0, 5, 0, 9, 0, 9, 0, 9, 0, 9, 0, 9];
+    let script = [
+        Done(Import(0, 0, &west), 1),
+        Done(Import(0, 1, &east), 2),
+        Done(Patch((0, 1), (2, 3), 5), 3),
+        Exports(0, 0, &patched_west),
+        Exports(0, 1, &patched_east),
+    ];
+    follow(&rt, rt.alloc(), 4, &script)
 }
 
 #[test]
 fn boxes_of_patches(rt: HostRuntime) -> Result<(), Fail> {
-    let alloc = rt.alloc();
-    let mut store = store_of(alloc, 4, &[])?;
-    let steps = [
-        (patch(at(0, 0), at(0, 3), 4), Refusal::BadBox),
-        (patch(at(1, 1), at(0, 1), 4), Refusal::BadBox),
-        (patch(at(0, 0), at(2, 2), 40_000), Refusal::BadHeight),
-        (patch(at(0, 0), at(2, 2), 4), Refusal::NothingVoid),
+    let script = [
+        Refused(Patch((0, 0), (0, 3), 4), Refusal::BadBox),
+        Refused(Patch((1, 1), (0, 1), 4), Refusal::BadBox),
+        Refused(Patch((0, 0), (2, 2), 40_000), Refusal::BadHeight),
+        Refused(Patch((0, 0), (2, 2), 4), Refusal::NothingVoid),
     ];
-    for (command, refusal) in &steps {
-        assert_eq!(rt; store.apply(command), Err(*refusal));
-    }
+    follow(&rt, rt.alloc(), 4, &script)?;
     // A void over a height of the tile to the east is none.
-    let mut store = store_of(alloc, 4, &[(HERE, K), (EAST, H)])?;
-    assert_eq!(rt; store.elevation(at(1, 2)), Ok(Height::At(8)));
-    let seam = patch(at(1, 2), at(1, 2), 4);
-    assert_eq!(rt; store.apply(&seam), Err(Refusal::NothingVoid));
+    let script = [
+        Done(Import(0, 0, &K), 1),
+        Done(Import(0, 1, &H), 2),
+        Elevation(1, 2, Height::At(8)),
+        Refused(Patch((1, 2), (1, 2), 4), Refusal::NothingVoid),
+    ];
+    follow(&rt, rt.alloc(), 4, &script)?;
     // Points of the box that no tile holds are skipped.
-    let mut store = store_of(alloc, 4, &[(HERE, V)])?;
-    assert_eq!(rt; store.apply(&patch(at(1, 1), at(3, 3), 4)), Ok(2));
     let patched = [0, 9, 0, 9, 0, 9, 0, 9, 0, 4, 0, 9, 0, 9, 0, 9, 0, 9];
-    assert!(rt; exports(&mut store, HERE, &patched)?);
-    Ok(())
+    let script = [
+        Done(Import(0, 0, &V), 1),
+        Done(Patch((1, 1), (3, 3), 4), 2),
+        Exports(0, 0, &patched),
+    ];
+    follow(&rt, rt.alloc(), 4, &script)
 }
 
 #[test]
 fn burns_and_walls_that_are_refused(rt: HostRuntime) -> Result<(), Fail> {
-    let alloc = rt.alloc();
-    let mut store = store_of(alloc, 4, &[(HERE, V)])?;
-    let middle = at(1, 1);
-    let off = at(9, 9);
-    let steps = [
-        (burn(0, &[middle]), Refusal::BadDepth),
-        (burn(0, &[middle, middle]), Refusal::BadDepth),
-        (burn(1, &[middle, middle]), Refusal::Repeated),
-        (burn(5, &[off, middle]), Refusal::Outside),
-        (burn(5, &[middle, off]), Refusal::Void),
-        (wall(32_768, &[middle, middle]), Refusal::BadHeight),
+    let script = [
+        Done(Import(0, 0, &V), 1),
+        Refused(Burn(0, &[(1, 1)]), Refusal::BadDepth),
+        Refused(Burn(0, &[(1, 1), (1, 1)]), Refusal::BadDepth),
+        Refused(Burn(1, &[(1, 1), (1, 1)]), Refusal::Repeated),
+        Refused(Burn(5, &[(9, 9), (1, 1)]), Refusal::Outside),
+        Refused(Burn(5, &[(1, 1), (9, 9)]), Refusal::Void),
+        Refused(Wall(32_768, &[(1, 1), (1, 1)]), Refusal::BadHeight),
     ];
-    for (command, refusal) in &steps {
-        assert_eq!(rt; store.apply(command), Err(*refusal));
-    }
-    Ok(())
+    follow(&rt, rt.alloc(), 4, &script)
 }
 
 #[test]
 fn the_deepest_burn(rt: HostRuntime) -> Result<(), Fail> {
-    let alloc = rt.alloc();
-    let middle = at(1, 1);
-    let deepest = burn(32_767, &[middle]);
     // A height of -1, and one of 0.
     let below = [0, 9, 0, 9, 0, 9, 0, 9, 255, 255, 0, 9, 0, 9, 0, 9, 0, 9];
-    let mut store = store_of(alloc, 4, &[(HERE, below)])?;
-    assert_eq!(rt; store.apply(&deepest), Err(Refusal::TooDeep));
     let level = [0, 9, 0, 9, 0, 9, 0, 9, 0, 0, 0, 9, 0, 9, 0, 9, 0, 9];
-    let mut store = store_of(alloc, 4, &[(HERE, level)])?;
-    assert_eq!(rt; store.apply(&deepest), Ok(2));
-    assert_eq!(rt; store.elevation(middle), Ok(Height::At(-32_767)));
-    Ok(())
+    let script = [
+        Done(Import(0, 0, &below), 1),
+        Refused(Burn(32_767, &[(1, 1)]), Refusal::TooDeep),
+    ];
+    follow(&rt, rt.alloc(), 4, &script)?;
+    let script = [
+        Done(Import(0, 0, &level), 1),
+        Done(Burn(32_767, &[(1, 1)]), 2),
+        Elevation(1, 1, Height::At(-32_767)),
+    ];
+    follow(&rt, rt.alloc(), 4, &script)
 }

@@ -1,5 +1,5 @@
 //! Whole runs of a store.
-use super::fixtures::{A, HERE, at, import};
+use super::fixtures::{A, HERE, at, import, opened, store_of};
 use disk::{Disk, FaultOnceDisk};
 use edits::Command;
 use lattice::{Height, Refusal};
@@ -11,6 +11,8 @@ use watershed::Run;
 
 // How many calls opening a store with one tile makes: a sync, both gates, both roots and the record.
 const CALLS_TO_OPEN: u64 = 6;
+
+const FAILED: Reply = Reply::Refused(Refusal::Failed);
 
 // The whole line of the tile.
 fn line(y: i32) -> Run {
@@ -29,72 +31,81 @@ fn removal() -> Event {
     Event::Do(Command::Remove { corner: HERE })
 }
 
-// The replies to these events, in order.
+// Whether a run of these events has these replies, in order.
 fn replies<D: Disk>(
     alloc: Global,
     store: &mut Store<D>,
-    events: &[Event],
-) -> Result<Vec<Reply>, Fail> {
+    rows: Vec<(Event, Reply)>,
+) -> Result<bool, Fail> {
+    let mut events = Vec::new(alloc);
+    let mut expected = Vec::new(alloc);
+    for (event, reply) in rows {
+        events.push(event).map_err(|_| "no memory")?;
+        expected.push(reply).map_err(|_| "no memory")?;
+    }
     let mut out = Vec::new(alloc);
-    store.run(events, &mut out).map_err(|_| "not run")?;
-    Ok(out)
+    store.run(&events, &mut out)?;
+    Ok(out.as_slice() == expected.as_slice())
+}
+
+fn rows_of<const N: usize>(
+    alloc: Global,
+    rows: [(Event, Reply); N],
+) -> Result<Vec<(Event, Reply)>, Fail> {
+    Ok(Vec::from_array(alloc, rows).ok().ok_or("no memory")?)
 }
 
 #[test]
 fn every_event_of_a_run(rt: HostRuntime) -> Result<(), Fail> {
     let alloc = rt.alloc();
-    let mut store = store_in_memory(alloc, 16, 3, 1).map_err(|_| "not made")?;
-    let events = [
-        Event::Count,
-        importing(alloc)?,
-        importing(alloc)?,
-        Event::Elevation(at(0, 2)),
-        Event::Fill(at(1, 1)),
-        Event::Direction(at(1, 1)),
-        Event::Trace(at(0, 0)),
-        Event::Watershed(at(0, 2)),
-        Event::Export(HERE),
-        Event::Tiles,
-        Event::Reopen,
-        Event::Count,
-        removal(),
-        Event::Export(HERE),
-        Event::Fill(at(1, 1)),
-        Event::Count,
+    let mut store = store_in_memory(alloc, 16, 3, 1)?;
+    let path = vec![in alloc; at(0, 0), at(1, 1), at(0, 2)]?;
+    let watershed = vec![in alloc; line(2), line(1), line(0)]?;
+    let file = Vec::from_slice(alloc, &A)?;
+    let rows = [
+        (Event::Count, Reply::Count(0)),
+        (importing(alloc)?, Reply::Done(1)),
+        (importing(alloc)?, Reply::Refused(Refusal::TileThere)),
+        (Event::Elevation(at(0, 2)), Reply::Elevation(Height::At(5))),
+        (Event::Fill(at(1, 1)), Reply::Fill(5)),
+        (Event::Direction(at(1, 1)), Reply::Direction(2)),
+        (Event::Trace(at(0, 0)), Reply::Trace(path)),
+        (Event::Watershed(at(0, 2)), Reply::Watershed(watershed)),
+        (Event::Export(HERE), Reply::Export(file)),
+        (Event::Tiles, Reply::Tiles(vec![in alloc; HERE]?)),
+        (Event::Reopen, Reply::Reopened),
+        (Event::Count, Reply::Count(1)),
+        (removal(), Reply::Done(2)),
+        (Event::Export(HERE), Reply::Refused(Refusal::NoTile)),
+        (Event::Fill(at(1, 1)), Reply::Refused(Refusal::Outside)),
+        (Event::Count, Reply::Count(2)),
     ];
-    let expected = [
-        Reply::Count(0),
-        Reply::Done(1),
-        Reply::Refused(Refusal::TileThere),
-        Reply::Elevation(Height::At(5)),
-        Reply::Fill(5),
-        Reply::Direction(2),
-        Reply::Trace(vec![in alloc; at(0, 0), at(1, 1), at(0, 2)]?),
-        Reply::Watershed(vec![in alloc; line(2), line(1), line(0)]?),
-        Reply::Export(Vec::from_array(alloc, A).ok().ok_or("no memory")?),
-        Reply::Tiles(vec![in alloc; HERE]?),
-        Reply::Reopened,
-        Reply::Count(1),
-        Reply::Done(2),
-        Reply::Refused(Refusal::NoTile),
-        Reply::Refused(Refusal::Outside),
-        Reply::Count(2),
+    assert!(rt; replies(alloc, &mut store, rows_of(alloc, rows)?)?);
+    Ok(())
+}
+
+#[test]
+fn a_tile_is_imported_and_asked_for(rt: HostRuntime) -> Result<(), Fail> {
+    let alloc = rt.alloc();
+    let mut store = store_in_memory(alloc, 16, 3, 1)?;
+    let rows = [
+        (importing(alloc)?, Reply::Done(1)),
+        (Event::Elevation(at(0, 2)), Reply::Elevation(Height::At(5))),
+        (Event::Fill(at(1, 1)), Reply::Fill(5)),
+        (Event::Reopen, Reply::Reopened),
+        (Event::Count, Reply::Count(1)),
     ];
-    let answered = replies(alloc, &mut store, &events)?;
-    assert!(rt; answered.as_slice() == expected.as_slice());
+    assert!(rt; replies(alloc, &mut store, rows_of(alloc, rows)?)?);
     Ok(())
 }
 
 #[test]
 fn replies_go_behind_what_is_there(rt: HostRuntime) -> Result<(), Fail> {
     let alloc = rt.alloc();
-    let mut store = store_in_memory(alloc, 16, 3, 1).map_err(|_| "not made")?;
+    let mut store = store_in_memory(alloc, 16, 3, 1)?;
     let mut out = vec![in alloc; Reply::Reopened]?;
-    assert_eq!(rt;
-        store.run(&[importing(alloc)?, Event::Count], &mut out),
-        Ok(())
-    );
-    assert_eq!(rt; store.run(&[], &mut out), Ok(()));
+    store.run(&[importing(alloc)?, Event::Count], &mut out)?;
+    store.run(&[], &mut out)?;
     assert!(rt; out.as_slice() == [Reply::Reopened, Reply::Done(1), Reply::Count(1)].as_slice());
     Ok(())
 }
@@ -102,41 +113,23 @@ fn replies_go_behind_what_is_there(rt: HostRuntime) -> Result<(), Fail> {
 #[test]
 fn a_fault_in_a_run(rt: HostRuntime) -> Result<(), Fail> {
     let alloc = rt.alloc();
-    let mut store = store_in_memory(alloc, 16, 3, 1).map_err(|_| "not made")?;
-    let _ = replies(alloc, &mut store, &[importing(alloc)?])?;
-    let faulty = FaultOnceDisk::new(store.into_disk(), CALLS_TO_OPEN);
-    let mut store = Store::open(alloc, faulty).map_err(|_| "not opened")?;
-    let events = [
-        Event::Elevation(at(0, 2)),
-        Event::Elevation(at(0, 2)),
-        Event::Fill(at(1, 1)),
-        Event::Direction(at(1, 1)),
-        Event::Trace(at(0, 0)),
-        Event::Watershed(at(0, 2)),
-        Event::Export(HERE),
-        Event::Tiles,
-        removal(),
-        Event::Count,
-        Event::Reopen,
-        Event::Elevation(at(0, 2)),
-        removal(),
+    let disk = store_of(alloc, 1, &[(HERE, A)])?.into_disk();
+    let mut store = opened(alloc, FaultOnceDisk::new(disk, CALLS_TO_OPEN))?;
+    let rows = [
+        (Event::Elevation(at(0, 2)), Reply::Refused(Refusal::Device)),
+        (Event::Elevation(at(0, 2)), FAILED),
+        (Event::Fill(at(1, 1)), FAILED),
+        (Event::Direction(at(1, 1)), FAILED),
+        (Event::Trace(at(0, 0)), FAILED),
+        (Event::Watershed(at(0, 2)), FAILED),
+        (Event::Export(HERE), FAILED),
+        (Event::Tiles, FAILED),
+        (removal(), FAILED),
+        (Event::Count, Reply::Count(1)),
+        (Event::Reopen, Reply::Reopened),
+        (Event::Elevation(at(0, 2)), Reply::Elevation(Height::At(5))),
+        (removal(), Reply::Done(2)),
     ];
-    let expected = [
-        Reply::Refused(Refusal::Device),
-        Reply::Refused(Refusal::Failed),
-        Reply::Refused(Refusal::Failed),
-        Reply::Refused(Refusal::Failed),
-        Reply::Refused(Refusal::Failed),
-        Reply::Refused(Refusal::Failed),
-        Reply::Refused(Refusal::Failed),
-        Reply::Refused(Refusal::Failed),
-        Reply::Refused(Refusal::Failed),
-        Reply::Count(1),
-        Reply::Reopened,
-        Reply::Elevation(Height::At(5)),
-        Reply::Done(2),
-    ];
-    let answered = replies(alloc, &mut store, &events)?;
-    assert!(rt; answered.as_slice() == expected.as_slice());
+    assert!(rt; replies(alloc, &mut store, rows_of(alloc, rows)?)?);
     Ok(())
 }

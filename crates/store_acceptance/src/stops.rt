@@ -1,6 +1,7 @@
 //! Stops and faults at each call of each command, of each query and of an opening, on stores of tiles of side 3.
+use super::asserting::assert_row;
 use super::fixtures::{
-    A, B, EAST, H, HERE, NORTH, V, at, burn, exports, import, patch, store_of, wall,
+    A, B, EAST, H, HERE, NORTH, V, at, burn, exports, import, opened, patch, store_of, wall,
 };
 use cow_tree::NotOpened;
 use disk::{Disk, FaultOnceDisk, FuseDisk, MemDisk, Torn};
@@ -66,7 +67,7 @@ impl Case {
         for (corner, tile) in CORNERS.iter().zip(self.before.iter()) {
             if let Some(bytes) = tile {
                 let command = import(alloc, *corner, bytes)?;
-                store.apply(&command).ok().ok_or("not imported")?;
+                store.apply(&command)?;
             }
         }
         Ok(store.into_disk())
@@ -105,8 +106,7 @@ fn cases(alloc: Global) -> Result<[Case; 6], Fail> {
 
 // Whether the store has these tiles and no others.
 fn has<D: Disk>(store: &mut Store<D>, tiles: &Tiles) -> Result<bool, Fail> {
-    let listed = store.tiles().ok().ok_or("not listed")?;
-    if listed.len() != tiles.iter().flatten().count() {
+    if store.tiles()?.len() != tiles.iter().flatten().count() {
         return Ok(false);
     }
     for (corner, tile) in CORNERS.iter().zip(tiles.iter()) {
@@ -121,7 +121,7 @@ fn has<D: Disk>(store: &mut Store<D>, tiles: &Tiles) -> Result<bool, Fail> {
 
 // Whether an opening finds the command done, where the contents are those that go with that.
 fn finds_done(alloc: Global, disk: MemDisk, case: &Case) -> Result<(MemDisk, bool), Fail> {
-    let mut store = Store::open(alloc, disk).ok().ok_or("not opened")?;
+    let mut store = opened(alloc, disk)?;
     let done = store.count() != case.accepted();
     let accepted = case.accepted().saturating_add(u64::from(done));
     let tiles = if done { &case.after } else { &case.before };
@@ -263,7 +263,7 @@ fn a_fault_at_each_call_of_each_command(rt: HostRuntime) -> Result<(), Fail> {
             let Some(found) = fault_at(alloc, call, case)? else {
                 break;
             };
-            assert!(rt; !done, "a fault before {call} has the command done");
+            assert_row(&rt, !done, "done by a fault before", call);
             done = found;
         }
         assert!(rt; done);
@@ -310,7 +310,7 @@ fn refusal<D: Disk>(store: &mut Store<D>, query: Query) -> Option<Refusal> {
 fn fault_in(alloc: Global, call: u64, query: Query) -> Result<bool, Fail> {
     let disk = store_of(alloc, 4, &[(HERE, A), (EAST, B)])?.into_disk();
     let faulty = FaultOnceDisk::new(disk, call.saturating_add(CALLS_TO_OPEN));
-    let mut store = Store::open(alloc, faulty).ok().ok_or("not opened")?;
+    let mut store = opened(alloc, faulty)?;
     let refused = refusal(&mut store, query);
     if refused.is_none() {
         return Ok(true);
@@ -349,13 +349,11 @@ fn a_fault_in_a_read(rt: HostRuntime) -> Result<(), Fail> {
     let disk = store_of(alloc, 4, &[(HERE, A)])?.into_disk();
     // Opening a store with one tile reads one record.
     let faulty = FaultOnceDisk::new(disk, CALLS_TO_OPEN - 1);
-    let mut store = Store::open(alloc, faulty).ok().ok_or("not opened")?;
+    let mut store = opened(alloc, faulty)?;
     let point = at(0, 2);
-    assert_eq!(rt; store.elevation(point), Err(Refusal::Device));
-    assert_eq!(rt; store.count(), 1);
-    let mut store = Store::open(alloc, store.into_disk())
-        .ok()
-        .ok_or("not opened")?;
-    assert_eq!(rt; store.elevation(point), Ok(Height::At(5)));
+    assert!(rt; store.elevation(point) == Err(Refusal::Device));
+    assert!(rt; store.count() == 1);
+    let mut store = opened(alloc, store.into_disk())?;
+    assert!(rt; store.elevation(point) == Ok(Height::At(5)));
     Ok(())
 }

@@ -1,0 +1,132 @@
+//! Scripts: commands, questions and the right answers, one after another, for a store.
+use super::fixtures::{at, burn, import, patch, sink, store_of, unsink, wall};
+use disk::Disk;
+use edits::Command;
+use lattice::{Corner, Height, Point, Refusal};
+use std::alloc::Global;
+use std::process::Abort;
+use std::test::Fail;
+use store::Store;
+use watershed::Run;
+
+/// A command. Corners are written as latitude and longitude, points as y and x.
+#[derive(Clone, Copy)]
+pub(crate) enum Asked<'a> {
+    Import(i16, i16, &'a [u8]),
+    Remove(i16, i16),
+    Patch((i32, i32), (i32, i32), i32),
+    Burn(i32, &'a [(i32, i32)]),
+    Wall(i32, &'a [(i32, i32)]),
+    Sink(i32, i32),
+    Unsink(i32, i32),
+}
+
+/// A command or a question, and how it is answered.
+#[derive(Clone, Copy)]
+pub(crate) enum Step<'a> {
+    Done(Asked<'a>, u64),
+    Refused(Asked<'a>, Refusal),
+    Elevation(i32, i32, Height),
+    Filled(i32, i32, Result<i16, Refusal>),
+    Drains(i32, i32, Result<u8, Refusal>),
+    Traced(i32, i32, &'a [(i32, i32)]),
+    /// The runs of a watershed: y, the first x and the last.
+    Shed(i32, i32, &'a [(i32, i32, i32)]),
+    /// How the path and the watershed of a point are refused.
+    NotTraced(i32, i32, Refusal),
+    Exports(i16, i16, &'a [u8]),
+    NotExported(i16, i16, Refusal),
+    Tiles(&'a [(i16, i16)]),
+    Sinks(&'a [(i32, i32)]),
+    Seams(u64),
+    Count(u64),
+}
+
+/// Follows the script on a new store of so many tiles at most.
+pub(crate) fn follow(
+    rt: &impl Abort,
+    alloc: Global,
+    capacity: u32,
+    script: &[Step],
+) -> Result<(), Fail> {
+    let mut store = store_of(alloc, capacity, &[])?;
+    for (step, number) in script.iter().zip(1..u32::MAX) {
+        assert!(rt; is_answered(alloc, &mut store, *step)?, "step {number}");
+    }
+    Ok(())
+}
+
+fn is_answered<D: Disk>(alloc: Global, store: &mut Store<D>, step: Step) -> Result<bool, Fail> {
+    match step {
+        Step::Done(asked, count) => Ok(store.apply(&command(alloc, asked)?) == Ok(count)),
+        Step::Refused(asked, refusal) => Ok(store.apply(&command(alloc, asked)?) == Err(refusal)),
+        Step::Elevation(y, x, height) => Ok(store.elevation(at(y, x)) == Ok(height)),
+        Step::Filled(y, x, level) => Ok(store.fill(at(y, x)) == level),
+        Step::Drains(y, x, code) => Ok(store.direction(at(y, x)) == code),
+        Step::Traced(y, x, path) => Ok(are_points(&store.trace(at(y, x))?, path)),
+        Step::Shed(y, x, runs) => Ok(are_runs(&store.watershed(at(y, x))?, runs)),
+        Step::NotTraced(y, x, refusal) => Ok(
+            store.trace(at(y, x)).err() == Some(refusal)
+                && store.watershed(at(y, x)).err() == Some(refusal),
+        ),
+        Step::Exports(lat, lon, bytes) => {
+            Ok(store.export(corner(lat, lon)?)?.as_slice() == bytes)
+        }
+        Step::NotExported(lat, lon, refusal) => {
+            Ok(store.export(corner(lat, lon)?).err() == Some(refusal))
+        }
+        Step::Tiles(corners) => Ok(are_corners(&store.tiles()?, corners)),
+        Step::Sinks(points) => Ok(are_points(&store.sinks()?, points)),
+        Step::Seams(count) => Ok(store.seams() == Ok(count)),
+        Step::Count(count) => Ok(store.count() == count),
+    }
+}
+
+pub(crate) fn command(alloc: Global, asked: Asked) -> Result<Command, Fail> {
+    match asked {
+        Asked::Import(lat, lon, bytes) => import(alloc, corner(lat, lon)?, bytes),
+        Asked::Remove(lat, lon) => Ok(Command::Remove {
+            corner: corner(lat, lon)?,
+        }),
+        Asked::Patch((south, west), (north, east), height) => {
+            Ok(patch(at(south, west), at(north, east), height))
+        }
+        Asked::Burn(depth, points) => Ok(burn(depth, &listed(alloc, points)?)),
+        Asked::Wall(height, points) => Ok(wall(height, &listed(alloc, points)?)),
+        Asked::Sink(y, x) => Ok(sink(at(y, x))),
+        Asked::Unsink(y, x) => Ok(unsink(at(y, x))),
+    }
+}
+
+fn corner(lat: i16, lon: i16) -> Result<Corner, Fail> {
+    Ok(Corner::new(lat, lon).ok_or("no corner")?)
+}
+
+fn listed(alloc: Global, points: &[(i32, i32)]) -> Result<Vec<Point>, Fail> {
+    let mut list = Vec::new(alloc);
+    for (y, x) in points {
+        list.push(at(*y, *x))?;
+    }
+    Ok(list)
+}
+
+fn are_corners(found: &[Corner], wanted: &[(i16, i16)]) -> bool {
+    found.len() == wanted.len()
+        && found.iter().zip(wanted).all(|(corner, (lat, lon))| corner.lat == *lat
+            && corner.lon == *lon)
+}
+
+fn are_points(found: &[Point], wanted: &[(i32, i32)]) -> bool {
+    found.len() == wanted.len()
+        && found
+            .iter()
+            .zip(wanted)
+            .all(|(point, (y, x))| *point == at(*y, *x))
+}
+
+fn are_runs(found: &[Run], wanted: &[(i32, i32, i32)]) -> bool {
+    found.len() == wanted.len()
+        && found.iter().zip(wanted).all(|(run, (y, first, last))| run.y == *y
+            && run.first == *first
+            && run.last == *last)
+}
