@@ -11,7 +11,7 @@ ghost use Rattle.page_codec.specs.Roots.{RootValue, format_of};
 ghost use Rattle.layout.specs.Sizes.{plane_pages_of};
 ghost use Rattle.page_codec.specs.Formats.{IsKnown};
 ghost use Rattle.page_codec.specs.Sizes.{pages_of, index_pages_of, sectors_asked};
-ghost use Rattle.charts.specs.declared.plane.Plane.TheVariants.{Heights};
+ghost use Rattle.charts.specs.declared.plane.Plane.TheVariants.{Heights, Levels, Labels};
 ghost use Rattle.cow_tree.specs.Caches.{Agrees};
 ghost use Rattle.cow_tree.specs.Entries.{entry_of};
 ghost use Rattle.cow_tree.specs.Kept.{planes_of_bytes, with_kept};
@@ -197,6 +197,17 @@ impl<D: Disk> Tree<D> {
     {
         self.chart.rules();
         self.chart.is_present(c)
+    }
+
+    /// Whether levels and labels of the corner's tile are kept, as the next commit will have them.
+    pub fn keeps(&self, c: Corner) -> bool
+        ensures levels { IsTrue result ↔ Holds self.now c Levels }
+        ensures labels { IsTrue result ↔ Holds self.now c Labels }
+    {
+        match self.chart.kept(c) {
+            Some(_) => true,
+            None => false,
+        }
     }
 
     /// The corners of the tiles, in order, as the next commit will have them.
