@@ -17,7 +17,7 @@ use Rattle.border_graph.specs.Summaries.{Summary}
 use Rattle.rising.specs.Placed.{IsPlacedLink}
 use Rattle.rising.specs.Others.{corner_at}
 use Rattle.rising.specs.TileWays.{TileWays}
-use Rattle.drainage.specs.Flooded.{IsFlooded}
+use Rattle.derived.specs.Labellings.{IsFlooded}
 use Rattle.drainage.specs.Shores.{Fits, AreReady}
 use Rattle.drainage.proofs.Asked.{IsAt, is_at}
 use Rattle.drainage.proofs.Whole.{summaries, all_fit}

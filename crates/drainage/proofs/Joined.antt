@@ -15,7 +15,8 @@ use Rattle.border_graph.specs.Summaries.{Summary}
 use Rattle.border_graph.specs.Joining.{summary_at, IsSummaryOf, AreSummaries}
 use Rattle.border_graph.specs.Joins.{AreJoined}
 use Rattle.std.proofs.Math.ListN.{get_or-map}
-use Rattle.drainage.specs.Flooded.{corner_at, labelled_at, IsFlooded, AreFlooded, AreRimsFilled}
+use Rattle.derived.specs.Labellings.{IsFlooded}
+use Rattle.drainage.specs.Flooded.{corner_at, labelled_at, AreFlooded, AreRimsFilled}
 
 abbrev pub summary_corner : Summary → Corner
 summary_corner b = b.corner

@@ -1,24 +1,20 @@
 -- What is told of a sealed mosaic is told of the one that was sealed.
-use Rattle.std.proofs.Common.{◌≡◌, ℕ, ◌*◌, ◌-◌, ◌<◌, IsTrue, inl, inr, ◌⊎◌, Result, Ok, Err, sym, ◌∙◌, ap, ap₂, subst}
-use Rattle.std.specs.Prelude.{IsOk, IfErr, slice_index, slice_index_or}
+use Rattle.std.proofs.Common.{◌≡◌, ℕ, ◌*◌, ◌-◌, ◌<◌, IsTrue, sym, ◌∙◌, ap, ap₂, subst}
+use Rattle.std.specs.Prelude.{slice_index, slice_index_or}
 use Rattle.lattice.specs.Corners.{Corner}
 use Rattle.lattice.specs.Lattice.{point_of}
 use Rattle.lattice.specs.Mosaic.{Mosaic, IsMosaic, void}
 use Rattle.lattice.specs.Height.{height_of}
 use Rattle.lattice.specs.Ground.{metres, is_ground, is_sink, is_outlet}
 use Rattle.lattice.specs.Block.{Block, IsBlockOf, is_rim, rim_number}
-use Rattle.lattice.specs.declared.refusal.Refusal.{Refusal}
-use Rattle.lattice.specs.declared.refusal.Refusal.TheVariants.{Device, NoMemory, Failed, Damaged}
 use Rattle.catalogue.specs.Sealed.{IsSealed}
-use Rattle.catalogue.specs.Readers.{reads_of}
-use Rattle.catalogue.specs.Reading.{MayRefuse}
 use Rattle.catalogue.proofs.SealedHeights.{sealed_height, sealed_ground, sealed_outlet}
 use Rattle.tile_flood.specs.Blocks.{LabelledGround, block_of}
 use Rattle.tile_flood.specs.Labelling.{IsLabelling}
 use Rattle.tile_flood.specs.Spills.{AreSpills}
 use Rattle.border_graph.specs.Summaries.{Summary}
 use Rattle.border_graph.specs.Joining.{rim_point, IsSummaryOf}
-use Rattle.drainage.specs.Flooded.{IsFlooded}
+use Rattle.derived.specs.Labellings.{IsFlooded}
 
 module _ (m s : Mosaic) (is : IsMosaic m) (valid : IsMosaic s) (sealed : IsSealed m s) (c : Corner) where
   block_is : (b : Block) → IsBlockOf s c b → IsBlockOf m c b
@@ -51,15 +47,3 @@ border_of_sealed m s is valid sealed b of = record {
         (λ e small on ground. of.rim.outlet e small on (sealed_ground m s is valid sealed (point_of s.side b.corner e) ∙ ground) ∙ sealed_outlet m s is valid sealed (point_of s.side b.corner e));
   };
 }
-
--- a table is refused for want of memory alone
-pub table_refusal : {T : Type 0} (r : Result T Refusal) → IsOk (reads_of r) → IfErr r (λ x. (x ≡ NoMemory) ⊎ MayRefuse 0 0 x) → IfErr r (λ x. x ≡ NoMemory)
-table_refusal {T} (Ok x) ok h = tt
-table_refusal {T} (Err r) ok h = by r ok h
-  where
-    by : (r : Refusal) → IsOk (reads_of {T = T} (Err r)) → (r ≡ NoMemory) ⊎ MayRefuse 0 0 r → r ≡ NoMemory
-    by Device ok h = absurd (cc)
-    by Failed ok h = absurd (cc)
-    by Damaged ok h = absurd (cc)
-    by _ ok (inl memory) = memory
-    by _ ok (inr may) = absurd may

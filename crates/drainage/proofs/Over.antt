@@ -27,7 +27,7 @@ use Rattle.rising.specs.Placed.{IsPlacedLink}
 use Rattle.rising.specs.Others.{corner_at}
 use Rattle.rising.specs.TileWays.{TileWays}
 use Rattle.std.proofs.Common.{map}
-use Rattle.drainage.specs.Flooded.{IsFlooded}
+use Rattle.derived.specs.Labellings.{IsFlooded}
 use Rattle.drainage.specs.Shores.{AreReady}
 use Rattle.drainage.proofs.Placed.{joined_over_links, to_placed}
 use Rattle.drainage.proofs.Whole.{summaries, are_summaries, as_many, corner_of_summary}

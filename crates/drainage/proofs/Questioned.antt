@@ -1,5 +1,5 @@
 -- Questions one after another, and what their refusals are.
-use Rattle.std.proofs.Common.{◌≡◌, ◌⊎◌, inl, inr, ℕ, IsTrue, List, Result, Ok, Err, refl, sym, subst}
+use Rattle.std.proofs.Common.{◌≡◌, ◌⊎◌, inl, inr, ℕ, IsTrue, List, Result, Ok, Err, refl, sym, ap, ◌∙◌, subst}
 use Rattle.std.specs.Prelude.{IfErr, Option}
 use Rattle.lattice.specs.Corners.{Corner}
 use Rattle.lattice.specs.declared.refusal.Refusal.{Refusal}
@@ -10,7 +10,7 @@ use Rattle.catalogue.specs.Readers.{OnlyReads}
 use Rattle.catalogue.specs.Reading.{MayRefuse}
 use Rattle.catalogue.specs.declared.samples.Samples.{Ghosts}
 use Rattle.catalogue.proofs.Reading.{reads_as}
-use Rattle.catalogue.proofs.Asking.{asked, asked_on}
+use Rattle.catalogue.proofs.Asking.{asked, asked_on, asked_passed}
 use Rattle.rising.specs.TileWays.{TileWays}
 use Rattle.drainage.specs.Shores.{AreReady, AreKept, AreRefused}
 
@@ -32,6 +32,31 @@ answered {S} {T} g a b x reads = asked g a b (tt {0}) (Ok x) reads tt (λ _ _ e.
 
 pub stopped : {S T : Type 0} (g : Ghosts S) (a b : S) → OnlyReads {T = Unit {0}} g a b (Ok tt) → (g.is_honest b → ⊥) → Asked {T = T} g a b (Err Damaged)
 stopped {S} {T} g a b reads never = asked g a b (tt {0}) (Err Damaged) reads tt (λ honest _ _. never honest)
+
+-- a refusal of a question that another question passes on
+pub passed_on : {S T U : Type 0} (g : Ghosts S) (a b : S) (call : Result T Refusal) (r : Refusal) → call ≡ Err r → Asked g a b call → Asked {T = U} g a b (Err r)
+passed_on {S} {T} {U} g a b call r is h = asked_passed g a b r (subst (λ (x : Result T Refusal). Asked g a b x) is h)
+
+-- .. as its result
+pub refused_by : {S U : Type 0} (g : Ghosts S) (a b : S) (result : Result U Refusal) (was r : Refusal) → result ≡ Err was → was ≡ r → Asked {T = U} g a b (Err r) → Asked g a b result
+refused_by {S} {U} g a b result was r is same h = subst (λ (x : Result U Refusal). Asked g a b x) (sym (is ∙ ap (λ (x : Refusal). Err x) same)) h
+
+-- memory was wanting after reads
+pub wanting : {S U : Type 0} (g : Ghosts S) (a b : S) → OnlyReads {T = Unit {0}} g a b (Ok tt) → Asked {T = U} g a b (Err NoMemory)
+wanting {S} {U} g a b reads = asked g a b (tt {0}) (Err NoMemory) reads tt (λ _ _ e. absurd (cc))
+
+-- samples that never refuse a read leave want of memory alone
+pub only_memory : {S T : Type 0} (g : Ghosts S) (a b : S) (result : Result T Refusal) → Asked g a b result → g.never_refuses a → g.is_honest b → g.is_ready a → IfErr result (λ r. IsTrue (ends_any r))
+    → IfErr result (λ r. r ≡ NoMemory)
+only_memory g a b (Ok x) h never honest ready ends = tt
+only_memory {S} {T} g a b (Err r) h never honest ready ends = by r h ends
+  where
+    by : (r : Refusal) → Asked {T = T} g a b (Err r) → IsTrue (ends_any r) → r ≡ NoMemory
+    by Device h ends = absurd (h.own (h.reads.answers never))
+    by Failed h ends = absurd (h.own (h.reads.answers never))
+    by Damaged h ends = absurd (h.sound honest ready refl)
+    by NoMemory h ends = refl
+    by _ h ends = absurd (cc)
 
 -- want of memory, or a read, may end any call
 pub ends_by : (before now : ℕ) (r : Refusal) → (r ≡ NoMemory) ⊎ MayRefuse before now r → IsTrue (ends_any r)

@@ -1,28 +1,32 @@
 -- What a tile's own flood and its summary are.
-use Rattle.std.proofs.Common.{◌≡◌, ℕ, ◌+◌, ◌*◌, ◌-◌, ◌<◌, ℤ, inl, inr, IsTrue, List, [], ◌∷◌, ◌++◌, sym, ◌∙◌, ap, subst, arith, length-append}
-use Rattle.std.proofs.lemmas.Bool.{cases_lt}
+use Rattle.std.proofs.Common.{◌≡◌, ℕ, ◌+◌, ◌*◌, ◌-◌, ◌<◌, ℤ, inl, inr, false, true≢false, IsTrue, List, [], ◌∷◌, ◌++◌, sym, ◌∙◌, ap, subst, arith, length-append}
+use Rattle.std.proofs.lemmas.Bool.{cases_Bool, cases_lt}
+use Rattle.std.proofs.lemmas.Bool.Decides.{Decides-int_eq}
 use Rattle.std.proofs.lemmas.List.{get_or_append_left}
 use Rattle.std.proofs.Math.Seq.{get_or-append_seam}
+use Rattle.std.specs.Ordering.{int_eq}
 use Rattle.std.specs.Prelude.{slice_index, slice_index_or}
 use Rattle.lattice.specs.Corners.{Corner}
 use Rattle.lattice.specs.Lattice.{point_of}
 use Rattle.lattice.specs.Mosaic.{Mosaic, IsMosaic, void}
 use Rattle.lattice.specs.Ground.{is_outlet}
-use Rattle.lattice.specs.Block.{Block, IsBlockOf, is_rim, rim_number}
+use Rattle.lattice.specs.Block.{Block, IsBlockOf, block_terrain, is_solid, is_rim, rim_number}
+use Rattle.lattice.proofs.Lawful.{block_is_lawful}
+use Rattle.lattice.proofs.Levels.{level_is_unique, level_of_outlet}
 use Rattle.tile_flood.specs.declared.passing.Spill.{Spill}
-use Rattle.tile_flood.specs.Blocks.{LabelledGround}
+use Rattle.tile_flood.specs.Blocks.{LabelledGround, block_of, bare_block}
 use Rattle.tile_flood.specs.Labelling.{IsLabelling}
 use Rattle.tile_flood.specs.Spills.{AreSpills}
-use Rattle.tile_flood.proofs.Raised.{rim_number_below}
+use Rattle.tile_flood.proofs.Passages.{spills_of_ground}
+use Rattle.tile_flood.proofs.Raised.{rim_number_below, lowest_height}
+use Rattle.tile_flood.proofs.Squares.{rim_is_exit, solid_if}
 use Rattle.border_graph.specs.declared.summary.RimPoint.{RimPoint}
 use Rattle.border_graph.specs.Joining.{nowhere, IsRimOf, IsSummaryOf}
 use Rattle.lattice.proofs.RimNumbers.{one_rim_point}
-use Rattle.drainage.specs.Flooded.{IsRimPointIn, AreRimPointsIn, IsFlooded}
+use Rattle.derived.specs.Labellings.{IsFlooded}
+use Rattle.drainage.specs.Flooded.{IsRimPointIn, AreRimPointsIn}
 
 module _ (m : Mosaic) (is : IsMosaic m) (c : Corner) (block : Block) (given : IsBlockOf m c block) where
-  pub flooded_is : (labelled : LabelledGround) → labelled.side ≡ block.side → IsLabelling block labelled.levels labelled.labels → IsFlooded m c labelled
-  flooded_is labelled side labelling = record { side = side ∙ given.side; valid = (block, (given, labelling)) }
-
   module _ (labels : List ℕ) (rim : List RimPoint) (points : AreRimPointsIn m c block.heights labels rim (4 * (m.side - 1))) where
     at_number : (e : ℕ) → e < m.side * m.side → IsRimPointIn m c block.heights labels (rim_number m.side e) (slice_index_or rim (rim_number m.side e) nowhere)
     at_number e small = points.each (rim_number m.side e) (rim_number_below m.side e is.side_low small)
@@ -52,6 +56,47 @@ module _ (m : Mosaic) (is : IsMosaic m) (c : Corner) (block : Block) (given : Is
       spills = subst (λ n. AreSpills n block.heights levels labels spills) given.side found;
       rim = rim_is spills;
     }
+
+-- with a valid labelling the level of a rim point inside its block is its height
+rim_level : (n : ℕ) (heights : List ℤ) (sinks : List ℕ) (levels : List ℤ) (labels : List ℕ) → IsLabelling (block_of n heights sinks) levels labels → (e : ℕ) → e < n * n → IsTrue (is_rim n e)
+    → slice_index_or levels e void ≡ slice_index_or heights e void
+rim_level n heights sinks levels labels is e small on = elim (cases_Bool (is_solid (bare_block n heights) e)) [
+  | inl solid ↦
+      level_is_unique (block_terrain (block_of n heights sinks)) e (slice_index_or levels e void) (slice_index_or heights e void) (is.level e solid)
+      (level_of_outlet (block_terrain (block_of n heights sinks)) (block_is_lawful (block_of n heights sinks)) e (rim_is_exit n heights sinks e solid on))
+  | inr off ↦ (is.void_points e small off).0 ∙ sym (gap off)
+]
+  where
+    gap : is_solid (bare_block n heights) e ≡ false → slice_index_or heights e void ≡ void
+    gap off = elim (cases_Bool (int_eq (slice_index_or heights e void) void)) [
+      | inl same ↦ (Decides-int_eq (slice_index_or heights e void) void).0 same
+      | inr differs ↦ absurd (true≢false (sym (solid_if n heights e small differs) ∙ off))
+    ]
+
+-- the summary of a labelling: its rim points by their levels, and its spills
+pub summary_is : (m : Mosaic) → IsMosaic m → (c : Corner) (labelled : LabelledGround) → IsFlooded m c labelled → (rim : List RimPoint) → AreRimPointsIn m c labelled.levels labelled.labels rim (4 * (m.side - 1))
+    → (spills : List Spill) → AreSpills labelled.side labelled.levels labelled.levels labelled.labels spills → IsSummaryOf m (record { corner = c; rim = rim; spills = spills })
+summary_is m is c labelled flooded rim points spills found =
+    let block = flooded.valid.0 in
+    let given = flooded.valid.1.0 in
+    let labelling = flooded.valid.1.1 in
+    let here : IsLabelling (block_of m.side block.heights block.sinks) labelled.levels labelled.labels =
+    subst (λ n. IsLabelling (block_of n block.heights block.sinks) labelled.levels labelled.labels) given.side labelling in
+    let of_heights : AreRimPointsIn m c block.heights labelled.labels rim (4 * (m.side - 1)) = record {
+      whole = points.whole;
+      each = λ k less.
+          let p = points.each k less in
+          record {
+            index = p.index;
+            number = p.number;
+            height = p.height ∙ rim_level m.side block.heights block.sinks labelled.levels labelled.labels here p.index p.number.small p.number.rim;
+            label = p.label;
+            outlet = p.outlet;
+          };
+    } in
+    border_is m is c block given labelled.labels rim of_heights labelled.levels spills labelling
+    (spills_of_ground block.side block.heights block.sinks labelled.levels labelled.labels (lowest_height m is c block.heights given.heights) labelling spills
+    (subst (λ n. AreSpills n labelled.levels labelled.levels labelled.labels spills) (flooded.side ∙ sym given.side) found))
 
 -- one rim point more
 pub one_more_point : (s : Mosaic) (c : Corner) (heights : List ℤ) (labels : List ℕ) (rim : List RimPoint) (k : ℕ) (p : RimPoint)

@@ -5,17 +5,17 @@ use Rattle.lattice.specs.Corners.{Corner}
 use Rattle.lattice.specs.Lattice.{point_of}
 use Rattle.lattice.specs.Mosaic.{Mosaic, void}
 use Rattle.lattice.specs.Ground.{is_outlet}
-use Rattle.lattice.specs.Block.{Block, IsBlockOf}
 use Rattle.catalogue.specs.Tiles.{corners_of}
+use Rattle.derived.specs.Labellings.{IsFlooded}
 use Rattle.tile_flood.specs.Blocks.{LabelledGround}
-use Rattle.tile_flood.specs.Labelling.{IsLabelling}
 use Rattle.tile_flood.specs.Raising.{IsRimFilled}
 use Rattle.border_graph.specs.declared.summary.RimPoint.{RimPoint}
 use Rattle.border_graph.specs.Summaries.{Summary}
 use Rattle.border_graph.specs.Joining.{nowhere, IsSummaryOf}
 use Rattle.lattice.specs.RimPoints.{IsRimPoint}
 
--- what a summary says of the rim point with this number, from the heights and labels of its block
+-- what a summary says of the rim point with this number, from the heights (on a rim they are the levels) and the labels of
+-- its block
 pub record IsRimPointIn (m : Mosaic) (c : Corner) (heights : List ℤ) (labels : List ℕ) (k : ℕ) (p : RimPoint) : Type 0 where
   pub index : ℕ
   pub number : IsRimPoint m.side k index
@@ -27,11 +27,6 @@ pub record IsRimPointIn (m : Mosaic) (c : Corner) (heights : List ℤ) (labels :
 pub record AreRimPointsIn (m : Mosaic) (c : Corner) (heights : List ℤ) (labels : List ℕ) (rim : List RimPoint) (count : ℕ) : Type 0 where
   pub whole : length rim ≡ count
   pub each : (k : ℕ) → k < count → IsRimPointIn m c heights labels k (slice_index_or rim k nowhere)
-
--- a valid labelling of the block of the corner's tile
-pub record IsFlooded (m : Mosaic) (c : Corner) (labelled : LabelledGround) : Type 0 where
-  pub side : labelled.side ≡ m.side
-  pub valid : (b : Block) × (IsBlockOf m c b × IsLabelling b labelled.levels labelled.labels)
 
 abbrev pub corner_at : List Corner → ℕ → Corner
 corner_at corners k = slice_index_or corners k (record { lat = pos 0; lon = pos 0 })

@@ -15,7 +15,7 @@ ghost use Rattle.drainage.specs.Shores.{AreReady, AreKept};
 
 use crate::asking::check_ground;
 use crate::shores::Shores;
-use catalogue::Samples;
+use derived::Labellings;
 use lattice::{Corner, Point, Refusal, Side, index_in};
 use rising::{level_from, node_at};
 use std::alloc::Global;
@@ -25,8 +25,8 @@ use tile_flood::{Labelled, OUT};
 /// Only the tiles on the water's way out are read.
 ///
 /// Outside where no present tile holds the point, then Void where its height is void. Otherwise it is refused only for
-/// want of memory, as a read may be, or with Damaged where what was read is no mosaic's.
-pub fn fill<S: Samples>(alloc: Global, samples: &mut S, point: Point) -> Result<i16, Refusal>
+/// want of memory, as a read or a labelling may be, or with Damaged where what was read is no mosaic's.
+pub fn fill<S: Labellings>(alloc: Global, samples: &mut S, point: Point) -> Result<i16, Refusal>
     ensures level { S.is_honest samples.new → IfOk result (λ level. IsFilledLevel (terrain (S.mosaic samples.old)) point level) }
     ensures outside { IsErrOf result Outside ↔ IsHeldByNone (S.side_of samples.old) (S.corners samples.old) point }
     ensures void { S.is_honest samples.new → IsErrOf result Void → height_of (S.mosaic samples.old) point ≡ height_is.Void }
@@ -39,8 +39,8 @@ pub fn fill<S: Samples>(alloc: Global, samples: &mut S, point: Point) -> Result<
 }
 
 // The filled level of a ground point: the greater of its level in its own tile and that of the rim point which its label
-// names. Only the tiles on the water's way out are flooded.
-fn level_at<S: Samples>(
+// names. Only of the tiles on the water's way out the labelling is asked.
+fn level_at<S: Labellings>(
     alloc: Global,
     samples: &mut S,
     shores: &mut Shores,

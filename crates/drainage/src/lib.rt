@@ -2,8 +2,8 @@
 //! origin.
 //!
 //! The layer above rests on this: over any lawful `Samples` each call gives what its definition says of the mosaic that
-//! they stand for, and only reads. A filled level floods the tiles on the water's way out, in memory; the other questions
-//! flood every present tile.
+//! they stand for, and only reads. A filled level asks for the labellings of the tiles on the water's way out, which are made
+//! or were kept; the other questions flood every present tile, in memory.
 #![tactic(auto)]
 
 mod asking;

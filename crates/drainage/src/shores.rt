@@ -1,9 +1,9 @@
-//! The ways between rim points, of tiles that are flooded once water comes to their rims.
+//! The ways between rim points, of tiles whose labellings are asked once water comes to their rims.
 ghost use Rattle.std.specs.Prelude.{◌≡◌, ◌≢◌, ◌+◌, ◌-◌, ◌*◌, ◌<◌, ◌≤◌, ◌⊎◌, ℕ, IfOk, IfErr, OnOk, IfSome, IfNone, IsTrue, Ok, Some, None, length};
 ghost use Rattle.catalogue.specs.Asked.{Asked};
 ghost use Rattle.catalogue.specs.Endings.{ends_any};
 ghost use Rattle.catalogue.specs.Readers.{OnlyReads};
-ghost use Rattle.drainage.specs.Flooded.{IsFlooded};
+ghost use Rattle.derived.specs.Labellings.{IsFlooded};
 ghost use Rattle.border_graph.specs.Joining.{IsSummaryOf};
 ghost use Rattle.lattice.specs.Mosaic.{Mosaic};
 ghost use Rattle.lattice.specs.declared.refusal.Refusal.TheVariants.{NoMemory, Damaged};
@@ -15,6 +15,7 @@ use crate::growth::push;
 use crate::summing::flood_tile;
 use border_graph::Summary;
 use catalogue::Samples;
+use derived::Labellings;
 use lattice::{Corner, Refusal, Side, VOID, point_at, rim_index};
 use rising::{TileWays, Way, Ways, node_at, ways_to_others};
 use std::alloc::Global;
@@ -59,8 +60,8 @@ impl Shores {
         Some(*corner)
     }
 
-    // Floods the tile with this place and corner, unless that was done.
-    fn tell<S: Samples>(
+    // Has the ways of the tile with this place and corner from then on, unless it had them.
+    fn tell<S: Labellings>(
         &mut self,
         alloc: Global,
         samples: &mut S,
@@ -86,10 +87,11 @@ impl Shores {
         Ok(())
     }
 
-    /// Floods the tile with this place and corner, and has its ways from then on.
+    /// The labelling of the tile with this place and corner, whose ways it has from then on.
     ///
-    /// Damaged where there is no such tile. Otherwise it is refused for want of memory, or as a read is.
-    pub(crate) fn enter<S: Samples>(
+    /// Damaged where there is no such tile, or as its labelling is. Otherwise it is refused for want of memory, or as a read
+    /// is.
+    pub(crate) fn enter<S: Labellings>(
         &mut self,
         alloc: Global,
         samples: &mut S,
@@ -186,7 +188,7 @@ fn list_ways(
     Ok(())
 }
 
-impl<S: Samples> Ways<S> for Shores {
+impl<S: Labellings> Ways<S> for Shores {
     ghost use Rattle.std.specs.Prelude.{◌≡◌, Some};
     ghost use Rattle.rising.specs.TileWays.{TileWays};
     ghost use Rattle.drainage.specs.Shores.{told_at, Fits, AreCarried, AreRefused};

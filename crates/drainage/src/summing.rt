@@ -1,26 +1,30 @@
 //! One tile flooded by itself, and what the tiles around need to know of it.
-ghost use Rattle.std.specs.Prelude.{◌≡◌, ◌-◌, ◌*◌, ◌<◌, ◌⊎◌, IfOk, IfErr, Contains, All, length};
-ghost use Rattle.lattice.specs.Block.{IsBlockOf};
-ghost use Rattle.lattice.specs.Mosaic.{Mosaic, IsMosaic, IsSample};
+ghost use Rattle.std.specs.Prelude.{◌≡◌, ◌-◌, ◌*◌, ◌<◌, ◌⊎◌, IsTrue, IfOk, IfErr, Contains, length};
+ghost use Rattle.lattice.specs.Mosaic.{Mosaic, IsMosaic};
 ghost use Rattle.lattice.specs.declared.refusal.Refusal.TheVariants.{NoMemory};
 ghost use Rattle.border_graph.specs.Joining.{IsSummaryOf};
+ghost use Rattle.catalogue.specs.Asked.{Asked};
+ghost use Rattle.catalogue.specs.Endings.{ends_any};
 ghost use Rattle.catalogue.specs.Readers.{OnlyReads, reads_of};
 ghost use Rattle.catalogue.specs.Reading.{MayRefuse};
 ghost use Rattle.catalogue.specs.Sealed.{IsSealed};
 ghost use Rattle.catalogue.specs.Tiles.{corners_of};
-ghost use Rattle.drainage.specs.Flooded.{IsRimPointIn, AreRimPointsIn, IsFlooded};
+ghost use Rattle.derived.specs.Labellings.{IsFlooded};
+ghost use Rattle.drainage.specs.Flooded.{IsRimPointIn, AreRimPointsIn};
 
 use crate::growth::push;
 use border_graph::{RimPoint, Summary};
-use catalogue::{Samples, Table, block_heights, outlet};
-use lattice::{Corner, Refusal, point_at, rim_index, sinks_in};
+use catalogue::{Samples, Table, outlet};
+use derived::Labellings;
+use lattice::{Corner, Refusal, point_at, rim_index};
 use std::alloc::Global;
-use tile_flood::{Block, Flood, Labelled, spills};
+use tile_flood::{Labelled, spills};
 
-/// The levels and labels of the corner's tile, and its summary. It reads the tile, and the points around its rim.
+/// The labelling of the corner's tile, and its summary. Beside what gives the labelling it reads the points around the
+/// tile's rim.
 ///
-/// It is refused with NoMemory, or as a read is.
-pub(crate) fn flood_tile<S: Samples>(
+/// It is refused for want of memory, as a read is, or with Damaged as a labelling is.
+pub(crate) fn flood_tile<S: Labellings>(
     alloc: Global,
     samples: &mut S,
     corner: Corner,
@@ -29,13 +33,12 @@ pub(crate) fn flood_tile<S: Samples>(
     ensures corner { IfOk result (λ r. r.1.corner ≡ corner) }
     ensures flooded { S.is_honest samples.new → IfOk result (λ r. IsFlooded (S.mosaic samples.old) corner r.0) }
     ensures border { S.is_honest samples.new → IfOk result (λ r. IsSummaryOf (S.mosaic samples.old) r.1) }
-    ensures refusal { IfErr result (λ r. (r ≡ NoMemory) ⊎ MayRefuse (S.failures samples.old) (S.failures samples.new) r) }
-    ensures reads { OnlyReads S.Samples samples.old samples.new (reads_of result) }
+    ensures causes { IfErr result (λ r. IsTrue (ends_any r)) }
+    ensures asked { Asked S.Samples samples.old samples.new result }
 {
-    let block = block_of(alloc, samples, corner)?;
-    let labelled = Flood::run(alloc, &block)?;
+    let labelled = samples.labelling(alloc, corner)?;
     let spills = spills(alloc, &labelled)?;
-    let rim = rim_of(alloc, samples, corner, &block, &labelled)?;
+    let rim = rim_of(alloc, samples, corner, &labelled)?;
     Ok((labelled, Summary::new(corner, rim, spills)))
 }
 
@@ -56,66 +59,44 @@ pub(crate) fn flood_sealed(
     flood_tile(alloc, table, corner)
 }
 
-// The ground of the corner's tile.
-fn block_of<S: Samples>(alloc: Global, samples: &mut S, corner: Corner) -> Result<Block, Refusal>
-    requires present { Contains (S.corners samples.old) corner }
-    ensures ground { S.is_honest samples.new → IfOk result (λ block. IsBlockOf (S.mosaic samples.old) corner block) }
-    ensures side { IfOk result (λ block. block.side ≡ S.side_of samples.old) }
-    ensures samples { IfOk result (λ block. All IsSample block.heights) }
-    ensures refusal { IfErr result (λ r. (r ≡ NoMemory) ⊎ MayRefuse (S.failures samples.old) (S.failures samples.new) r) }
-    ensures reads { OnlyReads S.Samples samples.old samples.new (reads_of result) }
-{
-    let heights = block_heights(alloc, samples, corner)?;
-    let side = samples.side();
-    let sinks = sinks_in(side, corner, samples.sinks());
-    match Block::new(side, heights, sinks) {
-        Some(block) => Ok(block),
-        None => unreachable!(),
-    }
-}
-
 // The rim of the corner's tile, by rim number.
 fn rim_of<S: Samples>(
     alloc: Global,
     samples: &mut S,
     corner: Corner,
-    block: &Block,
     labelled: &Labelled,
 ) -> Result<Vec<RimPoint>, Refusal>
-    requires block_side { block.now.side ≡ S.side_of samples.old }
     requires labelled_side { labelled.now.side ≡ S.side_of samples.old }
-    ensures rim { S.is_honest samples.new → IfOk result (λ rim. AreRimPointsIn (S.mosaic samples.old) corner block.now.heights labelled.now.labels rim.items (4 * (S.side_of samples.old - 1))) }
+    ensures rim { S.is_honest samples.new → IfOk result (λ rim. AreRimPointsIn (S.mosaic samples.old) corner labelled.now.levels labelled.now.labels rim.items (4 * (S.side_of samples.old - 1))) }
     ensures refusal { IfErr result (λ r. (r ≡ NoMemory) ⊎ MayRefuse (S.failures samples.old) (S.failures samples.new) r) }
     ensures reads { OnlyReads S.Samples samples.old samples.new (reads_of result) }
 {
-    let count = 4 * block.side().edge();
+    let count = labelled.side().rim();
     let mut rim = Vec::new(alloc);
     for number in 0..count {
-        let point = rim_point(samples, corner, block, labelled, number)?;
+        let point = rim_point(samples, corner, labelled, number)?;
         push(&mut rim, point)?;
     }
     Ok(rim)
 }
 
-// The rim point with this number.
+// The rim point with this number. The level of a rim point inside its tile is its height.
 fn rim_point<S: Samples>(
     samples: &mut S,
     corner: Corner,
-    block: &Block,
     labelled: &Labelled,
     number: u32,
 ) -> Result<RimPoint, Refusal>
-    requires block_side { block.now.side ≡ S.side_of samples.old }
     requires labelled_side { labelled.now.side ≡ S.side_of samples.old }
     requires number { number < 4 * (S.side_of samples.old - 1) }
-    ensures point { S.is_honest samples.new → IfOk result (λ point. IsRimPointIn (S.mosaic samples.old) corner block.now.heights labelled.now.labels number point) }
+    ensures point { S.is_honest samples.new → IfOk result (λ point. IsRimPointIn (S.mosaic samples.old) corner labelled.now.levels labelled.now.labels number point) }
     ensures reads { OnlyReads S.Samples samples.old samples.new result }
 {
-    let side = block.side();
+    let side = labelled.side();
     let index = rim_index(side, number);
     let is_outlet = outlet(samples, point_at(side, corner, index))?;
     Ok(RimPoint {
-        height: block.heights()[index as usize],
+        height: labelled.levels()[index as usize],
         label: labelled.labels()[index as usize],
         outlet: is_outlet,
     })

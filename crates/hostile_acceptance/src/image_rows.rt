@@ -299,29 +299,78 @@ fn a_sink_takes_water(rt: HostRuntime) -> Result<(), Fail> {
     Ok(())
 }
 
-// Until a query reads them, what they hold changes no answer: the level and the label of the middle are no level and no
-// label of A.
+// Where what is kept of A is right, it changes no answer.
 #[test]
 fn kept_planes_change_no_answer(rt: HostRuntime) -> Result<(), Fail> {
     let alloc = rt.alloc();
     let plain = answers(alloc, &one_tile(alloc)?)?;
-    let kept = with_kept_planes(alloc)?;
-    assert!(rt; answers(alloc, &kept)?.as_slice() == plain.as_slice());
-    for label in [[8, 0], [0xfe, 0xff], [0xff, 0xff]] {
-        let hostile = kept.with(&[
-            Change {
-                sector: 13,
-                at: 8,
-                bytes: &[0, 0],
-            },
-            Change {
-                sector: 15,
-                at: 8,
-                bytes: &label,
-            },
-        ])?;
-        assert!(rt; answers(alloc, &hostile)?.as_slice() == plain.as_slice());
+    let kept = answers(alloc, &with_kept_planes(alloc)?)?;
+    assert!(rt; kept.as_slice() == plain.as_slice());
+    Ok(())
+}
+
+// The level of the middle that a store on this image answers, which has other bytes in its kept planes. Whatever that is,
+// the store goes on: its heights are read, and once a wall has made the tile stale it is flooded.
+fn level_of(
+    rt: &impl Abort,
+    alloc: Global,
+    changes: &[Change],
+) -> Result<Result<i16, Refusal>, Fail> {
+    let mut store = opened(alloc, &with_kept_planes(alloc)?.with(changes)?)?;
+    assert_eq!(rt; store.elevation(MIDDLE), Ok(Height::At(1)));
+    let level = store.fill(MIDDLE);
+    assert_eq!(rt; store.elevation(MIDDLE), Ok(Height::At(1)));
+    assert_eq!(rt; store.apply(&wall(12, MIDDLE)), Ok(2));
+    assert_eq!(rt; store.fill(MIDDLE), Ok(12));
+    Ok(level)
+}
+
+fn level(index: usize, bytes: &[u8]) -> Change<'_> {
+    Change {
+        sector: 13,
+        at: index.wrapping_mul(2),
+        bytes,
     }
+}
+
+fn label(index: usize, bytes: &[u8]) -> Change<'_> {
+    Change {
+        sector: 15,
+        at: index.wrapping_mul(2),
+        bytes,
+    }
+}
+
+// The middle has the index 4, and the rim point that its label names the index 8.
+#[test]
+fn wrong_marks_are_found(rt: HostRuntime) -> Result<(), Fail> {
+    let alloc = rt.alloc();
+    let none = [0xfe, 0xff];
+    let void = [0, 0x80];
+    // No rim number; a void's label at a level; a void's level with a label; both, where there is ground.
+    assert_eq!(rt;
+        level_of(&rt, alloc, &[label(4, &[8, 0])])?,
+        Err(Refusal::Damaged)
+    );
+    assert_eq!(rt;
+        level_of(&rt, alloc, &[label(4, &none)])?,
+        Err(Refusal::Damaged)
+    );
+    assert_eq!(rt;
+        level_of(&rt, alloc, &[level(4, &void)])?,
+        Err(Refusal::Damaged)
+    );
+    assert_eq!(rt;
+        level_of(&rt, alloc, &[level(4, &void), label(4, &none)])?,
+        Err(Refusal::Damaged)
+    );
+    // A rim point that is void by what is kept.
+    assert_eq!(rt;
+        level_of(&rt, alloc, &[level(8, &void), label(8, &none)])?,
+        Err(Refusal::Damaged)
+    );
+    // A level that fits is taken as it stands, so what is kept is read.
+    assert_eq!(rt; level_of(&rt, alloc, &[level(4, &[7, 0])])?, Ok(7));
     Ok(())
 }
 

@@ -11,7 +11,8 @@ use Rattle.catalogue.specs.Reading.{IsSampleOf}
 use Rattle.catalogue.proofs.Mosaics.{corner_of, rising_tiles}
 use Rattle.lattice.proofs.CornerOrder.{before_not_same, same_from}
 use Rattle.lattice.proofs.Rising.{AllAfter, Rising}
-use Rattle.cow_tree.specs.Stored.{StoredTile, plane_bytes, samples_of_plane}
+use Rattle.lattice.specs.declared.point.Point.{Point}
+use Rattle.cow_tree.specs.Stored.{StoredTile, mosaic_of_tiles, plane_bytes, samples_of_plane}
 use Rattle.store.proofs.Pages.{bytes_of_plane, length_plane, length_samples, sample_in_page}
 use Rattle.store.proofs.HeldTiles.{IsFilled, AreTilesOf, as_tile}
 
@@ -34,6 +35,10 @@ rising_back n (t ∷ rest) rising = (after_stored n t.corner rest rising.0, risi
 
 pub rising_stored : (n : ℕ) (tiles : List StoredTile) (m : Mosaic) → AreTilesOf n tiles m → IsMosaic m → Rising stored_corner tiles
 rising_stored n tiles m are valid = rising_back n tiles (subst (λ (x : Mosaic). Rising corner_of x.tiles) are.mosaic (rising_tiles m valid))
+
+-- .. those of a mosaic that is made of them
+pub rising_staged : (n : ℕ) (sinks : List Point) (tiles : List StoredTile) → IsMosaic (mosaic_of_tiles n sinks tiles) → Rising stored_corner tiles
+rising_staged n sinks tiles valid = rising_back n tiles (rising_tiles (mosaic_of_tiles n sinks tiles) valid)
 
 samples_found : (n : ℕ) (c : Corner) (tiles : List StoredTile) (t : StoredTile) → Rising stored_corner tiles → Contains tiles t → t.corner ≡ c
     → samples_among (map (as_tile n) tiles) c ≡ Some (samples_of_plane n t.heights)

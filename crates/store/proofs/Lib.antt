@@ -13,6 +13,7 @@ pub mod Holding
 pub mod Importing
 pub mod InMemory
 pub mod Keeping
+pub mod Labelled
 pub mod Nearby
 pub mod Opened
 pub mod Openings

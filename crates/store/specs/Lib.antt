@@ -3,6 +3,7 @@ pub mod Calls
 pub mod Editing
 pub mod Ended
 pub mod Kept
+pub mod Labelling
 pub mod Queried
 pub mod Staging
 pub mod Staling

@@ -11,6 +11,7 @@
 mod commands;
 mod committing;
 mod editing;
+mod labelling;
 mod laws;
 mod queries;
 mod running;

@@ -7,8 +7,9 @@ ghost use Rattle.calls.specs.Told.{may_refuse};
 ghost use Rattle.calls.specs.declared.event.Event.TheVariants as ask;
 ghost use Rattle.calls.specs.Outcomes.{Elevates, Exports, Lists, ListsSinks, Fills, Directs, Traces, Sheds};
 ghost use Rattle.cow_tree.specs.Reading.{Reads};
-ghost use Rattle.cow_tree.specs.Stored.{StoredTile, plane_bytes};
-ghost use Rattle.cow_tree.specs.Trees.{disk_of as disk_under, root_of as root_under, corners_of, has_failed as have_failed, staged_in};
+ghost use Rattle.cow_tree.specs.Planes.{HasPages};
+ghost use Rattle.cow_tree.specs.Stored.{PlanePages, StoredTile, plane_bytes};
+ghost use Rattle.cow_tree.specs.Trees.{disk_of as disk_under, root_of as root_under, corners_of, has_failed as have_failed, staged_in, Holds};
 ghost use Rattle.store.specs.Queried.{Queries, IsTileOf, CountsSeams};
 ghost use Rattle.calls.specs.Engines.{items_in};
 ghost use Rattle.store.specs.Stores.{disk_of, has_failed, IsAt};
@@ -54,7 +55,7 @@ impl<D: Disk> Store<D> {
             → (t : State) × (IsAt D.Disk self.new t × Fills s point result t) }
     {
         self.check_working()?;
-        drainage::fill(self.alloc, &mut self.tree, point)
+        drainage::fill(self.alloc, self, point)
     }
 
     /// The code of the direction in which water leaves a point: east is 1, and each next one clockwise twice as much; 0
@@ -109,7 +110,7 @@ impl<D: Disk> Store<D> {
         let Ok(mut bytes) = Vec::with_capacity(self.alloc, len) else {
             return Err(Refusal::NoMemory);
         };
-        read_heights(&mut self.tree, corner, &mut bytes)?;
+        read_plane(&mut self.tree, corner, Plane::Heights, &mut bytes)?;
         Ok(bytes)
     }
 
@@ -158,25 +159,28 @@ impl<D: Disk> Store<D> {
     }
 }
 
-// Reads the bytes of the corner's heights as they stand in their pages, into the vector, which has room for them.
-fn read_heights<D: Disk>(
+// Reads the bytes of a plane of the corner's tile as they stand in their pages, into the empty vector, which has room for
+// them.
+pub(crate) fn read_plane<D: Disk>(
     tree: &mut Tree<D>,
     corner: Corner,
+    plane: Plane,
     bytes: &mut Vec<u8>,
 ) -> Result<(), Refusal>
     requires works { have_failed tree.old ≡ false }
-    requires present { Contains (corners_of tree.old) corner }
+    requires held { Holds tree.old corner plane }
     requires empty { vec_len bytes.old ≡ 0 }
     requires room { 2 * ((root_under tree.old).side * (root_under tree.old).side) ≤ vec_capacity bytes.old }
     ensures reads { Reads D.Disk tree.old tree.new result }
-    ensures bytes { D.honest (disk_under tree.new) → OnOk result ((t : StoredTile) → IsTileOf (staged_in D.Disk tree.old) corner t
-        → bytes.new.items ≡ plane_bytes (root_under tree.old).side t.heights) }
+    ensures bytes { D.honest (disk_under tree.new) → OnOk result ((t : StoredTile) (pages : PlanePages) → IsTileOf (staged_in D.Disk tree.old) corner t → HasPages plane t pages
+        → bytes.new.items ≡ plane_bytes (root_under tree.old).side pages) }
+    ensures whole { OnOk result (vec_len bytes.new ≡ 2 * ((root_under tree.old).side * (root_under tree.old).side)) }
 {
     let side = tree.current().side();
     let len = side.file_bytes() as usize;
     let mut page = [0; PAGE_BYTES];
     for i in 0..pages_in_plane(side) {
-        tree.scan_page(corner, Plane::Heights, i, &mut page)?;
+        tree.scan_page(corner, plane, i, &mut page)?;
         let count = (len - bytes.len()).min(PAGE_BYTES);
         let _ = bytes.extend_from_slice(&page[..count]);
     }

@@ -1,31 +1,52 @@
-use Rattle.std.proofs.Common.{◌≡◌, ◌-◌, ◌*◌, sym, ◌∙◌, subst}
+use Rattle.std.proofs.Common.{◌≡◌, ◌-◌, ◌*◌, Ok, Err, sym, ◌∙◌, subst}
+use Rattle.std.proofs.lemmas.Result.{err_from_is_err_and}
 use Rattle.lattice.specs.Mosaic.{Mosaic}
+use Rattle.lattice.specs.declared.refusal.Refusal.TheVariants.{NoMemory}
+use Rattle.catalogue.proofs.Asking.{asked_on, asked_by_reads}
+use Rattle.catalogue.proofs.Reading.{reads_on}
 use Rattle.border_graph.specs.Joining.{IsSummaryOf}
-use Rattle.tile_flood.specs.Spills.{AreSpills}
 use Rattle.drainage.specs.Flooded.{AreRimPointsIn}
-use Rattle.drainage.proofs.Summed.{flooded_is, border_is}
+use Rattle.drainage.proofs.Questioned.{answered, asked_reads, passed_on, refused_by, wanting}
+use Rattle.drainage.proofs.Summed.{summary_is}
 use Rattle.drainage.proofs.summing.flood_tile.Goals as goal
-
-pub returns-clause-flooded : goal.returns-clause-flooded
-returns-clause-flooded g c honest =
-    let old = c.args.samples.now in
-    let mid = c.in_ok-rim.ensures.reads.honest honest in
-    let first = c.in_ok-block.ensures.reads.honest mid in
-    flooded_is (g.S.Samples.mosaic old) (g.met.S.Samples.is_mosaic old first) c.args.corner c.in_ok-block.block (c.in_ok-block.ensures.ground mid) c.in_ok-labelled.labelled c.in_ok-labelled.ensures.side c.in_ok-labelled.ensures.labelling
 
 pub returns-clause-border : goal.returns-clause-border
 returns-clause-border g c honest =
     let old = c.args.samples.now in
     let m = g.S.Samples.mosaic old in
-    let block = c.in_ok-block.block in
     let labelled = c.in_ok-labelled.labelled in
     let mid = c.in_ok-rim.ensures.reads.honest honest in
-    let first = c.in_ok-block.ensures.reads.honest mid in
-    let found = c.in_ok-spills.ensures.spills block c.in_ok-block.ensures.samples (sym c.in_ok-labelled.ensures.side) c.in_ok-labelled.ensures.labelling in
-    let side : g.S.Samples.side_of c.block_of.new.samples ≡ m.side = c.in_ok-block.ensures.reads.side ∙ sym (g.met.S.Samples.same_side old first) in
-    let points : AreRimPointsIn m c.args.corner block.heights labelled.labels c.in_ok-rim.rim.items (4 * (m.side - 1)) =
-    subst (λ n. AreRimPointsIn m c.args.corner block.heights labelled.labels c.in_ok-rim.rim.items (4 * (n - 1))) side
-    (subst (λ (s : Mosaic). AreRimPointsIn s c.args.corner block.heights labelled.labels c.in_ok-rim.rim.items (4 * (g.S.Samples.side_of c.block_of.new.samples - 1))) (c.in_ok-block.ensures.reads.mosaic mid) (c.in_ok-rim.ensures.rim honest)) in
+    let reads = c.in_ok-labelled.ensures.asked.reads in
+    let first = reads.honest mid in
+    let side : g.S.Samples.side_of c.labelling.new.self ≡ m.side = reads.side ∙ sym (g.met.S.Samples.same_side old first) in
+    let points : AreRimPointsIn m c.args.corner labelled.levels labelled.labels c.in_ok-rim.rim.items (4 * (m.side - 1)) =
+    subst (λ n. AreRimPointsIn m c.args.corner labelled.levels labelled.labels c.in_ok-rim.rim.items (4 * (n - 1))) side
+    (subst (λ (s : Mosaic). AreRimPointsIn s c.args.corner labelled.levels labelled.labels c.in_ok-rim.rim.items (4 * (g.S.Samples.side_of c.labelling.new.self - 1))) (reads.mosaic mid) (c.in_ok-rim.ensures.rim honest)) in
     subst (IsSummaryOf m) (sym c.new.ensures)
-    (border_is m (g.met.S.Samples.is_mosaic old first) c.args.corner block (c.in_ok-block.ensures.ground mid) labelled.labels c.in_ok-rim.rim.items points labelled.levels c.in_ok-spills.spills.items c.in_ok-labelled.ensures.labelling
-    (subst (λ n. AreSpills n block.heights labelled.levels labelled.labels c.in_ok-spills.spills.items) c.in_ok-labelled.ensures.side found))
+    (summary_is m (g.met.S.Samples.is_mosaic old first) c.args.corner labelled (c.in_ok-labelled.ensures.flooded mid) c.in_ok-rim.rim.items points c.in_ok-spills.spills.items c.in_ok-spills.ensures.of_any)
+
+pub returns-clause-asked : goal.returns-clause-asked
+returns-clause-asked g c =
+    let a = c.args.samples.now in
+    let b = c.labelling.new.self in
+    let d = c.rim_of.new.samples in
+    answered g.S.Samples a d _ (reads_on g.S.Samples g.met.S.Samples.keeps_on a b d tt (Ok tt) (asked_reads g.S.Samples a b c.in_ok-labelled.labelled c.in_ok-labelled.ensures.asked) c.in_ok-rim.ensures.reads)
+
+pub returns-in_err-rim-clause-asked : goal.returns-in_err-rim-clause-asked
+returns-in_err-rim-clause-asked g c =
+    let a = c.args.samples.now in
+    let b = c.labelling.new.self in
+    let d = c.rim_of.new.samples in
+    let r = c.in_err-rim.field-0.0 in
+    let p = err_from_is_err_and c.from_residual-in_err-rim.result c.from_residual-in_err-rim.ensures.1 in
+    refused_by g.S.Samples a d c.from_residual-in_err-rim.result p.0 r p.1 p.2
+    (asked_on g.S.Samples g.met.S.Samples.keeps_on a b d (tt {0}) (Err r) (asked_reads g.S.Samples a b c.in_ok-labelled.labelled c.in_ok-labelled.ensures.asked)
+    (passed_on g.S.Samples b d c.rim_of.result r c.in_err-rim.was (asked_by_reads g.S.Samples b d _ _ c.rim_of.result c.rim_of.ensures.reads c.rim_of.ensures.refusal)))
+
+pub returns-in_err-spills-clause-asked : goal.returns-in_err-spills-clause-asked
+returns-in_err-spills-clause-asked g c =
+    let a = c.args.samples.now in
+    let b = c.labelling.new.self in
+    let p = err_from_is_err_and c.from_residual-in_err-spills.result c.from_residual-in_err-spills.ensures.1 in
+    refused_by g.S.Samples a b c.from_residual-in_err-spills.result p.0 NoMemory p.1 (p.2 ∙ c.in_err-spills.ensures.refusal)
+    (wanting g.S.Samples a b (asked_reads g.S.Samples a b c.in_ok-labelled.labelled c.in_ok-labelled.ensures.asked))

@@ -15,8 +15,8 @@ loop-number-preserved g c =
       reads = reads_on g.S.Samples g.met.S.Samples.keeps_on now c.loop-number.samples c.rim_point.new.samples tt (Ok tt) so.reads (reads_as g.S.Samples c.loop-number.samples c.rim_point.new.samples c.in_ok-point.point tt read);
       points = λ honest.
           let mid = read.honest honest in
-          subst (λ (l : List RimPoint). AreRimPointsIn (g.S.Samples.mosaic now) c.args.corner c.args.block.now.heights c.args.labelled.now.labels l (c.loop-number.number + 1)) (sym c.in_ok-push.ensures.pushed)
-          (one_more_point (g.S.Samples.mosaic now) c.args.corner c.args.block.now.heights c.args.labelled.now.labels c.loop-number.rim.items c.loop-number.number c.in_ok-point.point
-          (subst (λ (m : Mosaic). IsRimPointIn m c.args.corner c.args.block.now.heights c.args.labelled.now.labels c.loop-number.number c.in_ok-point.point) (so.reads.mosaic mid) (c.in_ok-point.ensures.point honest))
+          subst (λ (l : List RimPoint). AreRimPointsIn (g.S.Samples.mosaic now) c.args.corner c.args.labelled.now.levels c.args.labelled.now.labels l (c.loop-number.number + 1)) (sym c.in_ok-push.ensures.pushed)
+          (one_more_point (g.S.Samples.mosaic now) c.args.corner c.args.labelled.now.levels c.args.labelled.now.labels c.loop-number.rim.items c.loop-number.number c.in_ok-point.point
+          (subst (λ (m : Mosaic). IsRimPointIn m c.args.corner c.args.labelled.now.levels c.args.labelled.now.labels c.loop-number.number c.in_ok-point.point) (so.reads.mosaic mid) (c.in_ok-point.ensures.point honest))
           (so.points mid));
     }

@@ -1,21 +1,17 @@
-use Rattle.std.proofs.Common.{◌≡◌, ℕ, ◌+◌, ◌-◌, ◌*◌, min, List, ◌++◌, length, take, Contains, IsOk, Result, Ok, Err, is_ok, if◌then◌else◌, vec_len, refl, sym, ap, ◌∙◌, subst, arith, length-take-le}
-use Rattle.lattice.specs.Corners.{Corner}
+use Rattle.std.proofs.Common.{◌≡◌, ℕ, ◌+◌, ◌-◌, ◌*◌, ◌≤◌, min, List, ◌++◌, length, take, Contains, IsOk, Result, Ok, Err, is_ok, if◌then◌else◌, vec_len, refl, sym, ap, ◌∙◌, subst, arith, length-take-le}
+use Rattle.charts.specs.Charts.{ChartValue}
+use Rattle.charts.specs.Planes.{HasPlane}
 use Rattle.page_codec.specs.Roots.{RootValue}
 use Rattle.page_codec.specs.Sizes.{pages_of}
 use Rattle.cow_tree.specs.Planes.{HasPage}
 use Rattle.cow_tree.specs.Reading.{read_again}
 use Rattle.cow_tree.specs.Stored.{StoredTile}
 use Rattle.cow_tree.specs.Trees.{staged_in}
-use Rattle.charts.specs.declared.plane.Plane.TheVariants.{Heights}
-use Rattle.cow_tree.proofs.Due.{located_tile}
 use Rattle.store.proofs.QueryingPages.{IsReadTo, read_more, all_read, page_of_tile}
-use Rattle.store.proofs.queries.read_heights.Goals as goal
+use Rattle.store.proofs.queries.read_plane.Goals as goal
 
 pub scan_page-requires-clause-held : goal.scan_page-requires-clause-held
-scan_page-requires-clause-held g c =
-    let tree = c.loop-i.tree in
-    let found = located_tile c.args.corner tree.chart.staged (subst (λ (cs : List Corner). Contains cs c.args.corner) (sym c.loop-i.invariant.keeps.corners) c.requires.present) in
-    (found.0, (found.1.0, (found.1.1, (found.0.heights, refl))))
+scan_page-requires-clause-held g c = subst (λ (chart : ChartValue). HasPlane chart.staged c.args.corner c.args.plane) (sym c.loop-i.invariant.keeps.chart) c.requires.held
 
 -- a choice by a result that is Ok
 grown_items : {A E B : Type 0} (r : Result A E) (new more same : B) → new ≡ (if is_ok r then more else same) → IsOk r → new ≡ more
@@ -34,7 +30,7 @@ loop-i-preserved g c =
     let page = c.scan_page.new.into in
     let count = c.min-count.result in
     let some : length (take count page) ≡ count = length-take-le count page (omega (arith, c.min-count.ensures, c.scan_page.array_long)) in
-    let ok : IsOk c.extend_from_slice.result = c.extend_from_slice.ensures.succeeds (omega (arith, some, c.min-count.ensures, so_far.within, so_far.room, c.len.ensures)) in
+    let ok : IsOk c.extend_from_slice.result = c.extend_from_slice.ensures.succeeds (omega (arith, some, c.min-count.ensures, so_far.upto, so_far.room, c.len.ensures)) in
     let grown : c.extend_from_slice.new.self.items ≡ bytes.items ++ take count page = grown_items _ _ _ _ c.extend_from_slice.ensures.items ok in
     let longer : vec_len c.extend_from_slice.new.self ≡ vec_len bytes + length (take count page) = grown_items _ _ _ _ c.extend_from_slice.ensures.len ok in
     let long : vec_len bytes ≡ length bytes.items = omega (arith, bytes.ok.0) in
@@ -42,23 +38,32 @@ loop-i-preserved g c =
     record {
       keeps = read_again d old mid c.scan_page.new.self so_far.keeps reads.keeps;
       works = reads.not_failed;
-      within = omega (arith, longer, some, c.min-count.ensures, so_far.within, c.len.ensures);
+      upto = omega (arith, longer, some, c.min-count.ensures, so_far.upto, c.len.ensures);
       room = omega (arith, c.extend_from_slice.ensures.capacity, so_far.room);
-      read = λ honest t is.
+      read = λ honest t pages is has.
           let was = reads.keeps.honest honest in
-          let here : HasPage (staged_in d old) c.args.corner Heights c.loop-i.i page =
-          subst (λ (tiles : List StoredTile). HasPage tiles c.args.corner Heights c.loop-i.i page) (so_far.keeps.staged was) (c.in_ok-scan_page.ensures.page honest) in
-          subst (λ (l : List ℕ). IsReadTo len t.heights (c.loop-i.i + 1) l) (sym (grown ∙ ap (λ (k : ℕ). bytes.items ++ take k page) counted))
-          (read_more len t.heights c.loop-i.i bytes.items page (so_far.read was t is) (page_of_tile (staged_in d old) c.args.corner t c.loop-i.i page is here) c.scan_page.array_long);
+          let here : HasPage (staged_in d old) c.args.corner c.args.plane c.loop-i.i page =
+          subst (λ (tiles : List StoredTile). HasPage tiles c.args.corner c.args.plane c.loop-i.i page) (so_far.keeps.staged was) (c.in_ok-scan_page.ensures.page honest) in
+          subst (λ (l : List ℕ). IsReadTo len pages (c.loop-i.i + 1) l) (sym (grown ∙ ap (λ (k : ℕ). bytes.items ++ take k page) counted))
+          (read_more len pages c.loop-i.i bytes.items page (so_far.read was t pages is has) (page_of_tile c.args.plane (staged_in d old) c.args.corner t pages c.loop-i.i page is has here) c.scan_page.array_long);
     }
 
 pub returns-clause-bytes : goal.returns-clause-bytes
-returns-clause-bytes g c honest t is =
+returns-clause-bytes g c honest t pages is has =
     let n : ℕ = c.args.tree.now.root.side in
     let bytes = c.loop-i.bytes.items in
     let side : c.side-side.result ≡ n = c.side-side.ensures.value ∙ ap (λ (r : RootValue). r.side) c.current.ensures in
     let len : c.file_bytes-len.result ≡ 2 * (n * n) = c.file_bytes-len.ensures.value ∙ ap (λ (k : ℕ). 2 * (k * k)) side in
     let ended : c.loop-i.i ≡ c.pages_in_plane-i-end.result = omega (arith, c.loop-i-test.false, c.loop-i.auto.i-end) in
     let count : c.loop-i.i ≡ pages_of n = ended ∙ c.pages_in_plane-i-end.ensures.value ∙ ap pages_of side in
-    all_read n t.heights bytes (subst (λ (k : ℕ). IsReadTo (2 * (n * n)) t.heights k bytes) count
-    (subst (λ (k : ℕ). IsReadTo k t.heights c.loop-i.i bytes) len (c.loop-i.invariant.read honest t is)))
+    all_read n pages bytes (subst (λ (k : ℕ). IsReadTo (2 * (n * n)) pages k bytes) count
+    (subst (λ (k : ℕ). IsReadTo k pages c.loop-i.i bytes) len (c.loop-i.invariant.read honest t pages is has)))
+
+pub returns-clause-whole : goal.returns-clause-whole
+returns-clause-whole g c =
+    let n : ℕ = c.args.tree.now.root.side in
+    let side : c.side-side.result ≡ n = c.side-side.ensures.value ∙ ap (λ (r : RootValue). r.side) c.current.ensures in
+    let len : c.file_bytes-len.result ≡ 2 * (n * n) = c.file_bytes-len.ensures.value ∙ ap (λ (k : ℕ). 2 * (k * k)) side in
+    let ended : c.loop-i.i ≡ c.pages_in_plane-i-end.result = omega (arith, c.loop-i-test.false, c.loop-i.auto.i-end) in
+    let enough : 2 * (n * n) ≤ 4096 * c.pages_in_plane-i-end.result = subst (λ (k : ℕ). 2 * (k * k) ≤ 4096 * c.pages_in_plane-i-end.result) side c.pages_in_plane-i-end.ensures.least.enough in
+    omega (arith, c.loop-i.invariant.upto, len, ended, enough)

@@ -1,16 +1,17 @@
-use Rattle.std.proofs.Common.{◌≡◌, ◌≤◌, false, vec_len, vec_capacity}
+use Rattle.std.proofs.Common.{◌≡◌, ◌*◌, ◌≤◌, false, min, vec_len, vec_capacity}
+use Rattle.cow_tree.specs.Planes.{HasPages}
 use Rattle.cow_tree.specs.Reading.{HasOnlyRead}
-use Rattle.cow_tree.specs.Stored.{StoredTile}
+use Rattle.cow_tree.specs.Stored.{PlanePages, StoredTile}
 use Rattle.cow_tree.specs.Trees.{disk_of, has_failed, staged_in}
 use Rattle.store.specs.Queried.{IsTileOf}
 use Rattle.store.proofs.QueryingPages.{IsReadTo}
-use Rattle.store.proofs.queries.read_heights.Given as goal
+use Rattle.store.proofs.queries.read_plane.Given as goal
 
 abbrev pub invariant-loop-i : goal.invariant-loop-i
 invariant-loop-i g l = record {
   keeps : HasOnlyRead g.D.Disk l.fn.tree l.tree;
   works : has_failed l.tree ≡ false;
-  within : vec_len l.bytes ≤ l.len;
+  upto : vec_len l.bytes ≡ min l.len (4096 * l.i);
   room : l.len ≤ vec_capacity l.bytes;
-  read : g.D.Disk.honest (disk_of l.tree) → (t : StoredTile) → IsTileOf (staged_in g.D.Disk l.fn.tree) l.corner t → IsReadTo l.len t.heights l.i l.bytes.items;
+  read : g.D.Disk.honest (disk_of l.tree) → (t : StoredTile) (pages : PlanePages) → IsTileOf (staged_in g.D.Disk l.fn.tree) l.corner t → HasPages l.plane t pages → IsReadTo l.len pages l.i l.bytes.items;
 }

@@ -2,7 +2,7 @@ use Rattle.std.proofs.Common.{◌≤◌, ◌∙◌, true≢false, List, Contains
 use Rattle.std.proofs.lemmas.List.{get_or_default}
 use Rattle.lattice.specs.Corners.{Corner}
 use Rattle.catalogue.proofs.Reading.{reads_nothing}
-use Rattle.drainage.proofs.Questioned.{answered, stopped}
+use Rattle.drainage.proofs.Questioned.{answered, asked_reads, stopped}
 use Rattle.drainage.proofs.shores.Shores.enter.Goals as goal
 use Rattle.drainage.proofs.shores.Shores.enter.Goals.{then-t-len-via-then-t-len, then-t-len-via-else-t-len+then-not-present}
 
@@ -24,7 +24,7 @@ returns-then-t-len-clause-asked g c ready =
 
 pub returns-clause-kept : goal.returns-clause-kept
 returns-clause-kept g c =
-    let reads = c.in_ok-labelled.ensures.reads in
+    let reads = c.in_ok-labelled.ensures.asked.reads in
     let learned = c.in_ok-learn.ensures in
     record {
       honest = reads.honest;
@@ -37,7 +37,7 @@ returns-clause-kept g c =
 
 pub returns-in_err-learn-clause-kept : goal.returns-in_err-learn-clause-kept
 returns-in_err-learn-clause-kept g c =
-    let reads = c.in_ok-labelled.ensures.reads in
+    let reads = c.in_ok-labelled.ensures.asked.reads in
     let learned = c.in_err-learn.ensures in
     record {
       honest = reads.honest;
@@ -48,5 +48,8 @@ returns-in_err-learn-clause-kept g c =
       right = λ honest told. learned.right (g.S.Samples.mosaic c.args.samples.now) (c.requires.corner ∙ sym c.in_ok-labelled.ensures.corner) (c.in_ok-labelled.ensures.border honest) told;
     }
 
+pub returns-clause-reads : goal.returns-clause-reads
+returns-clause-reads g c = asked_reads g.S.Samples c.args.samples.now c.flood_tile.new.samples _ c.in_ok-labelled.ensures.asked
+
 pub returns-clause-asked : goal.returns-clause-asked
-returns-clause-asked g c ready = answered g.S.Samples c.args.samples.now c.flood_tile.new.samples c.in_ok-labelled.labelled c.in_ok-labelled.ensures.reads
+returns-clause-asked g c ready = answered g.S.Samples c.args.samples.now c.flood_tile.new.samples c.in_ok-labelled.labelled (returns-clause-reads g c)

@@ -1,4 +1,4 @@
-use Rattle.std.proofs.Common.{ℕ, Result, sym, ap, ◌∙◌, subst}
+use Rattle.std.proofs.Common.{ℕ, Result, refl, sym, ap, ◌∙◌, subst}
 use Rattle.std.specs.Prelude.{None, Err}
 use Rattle.std.specs.Global.{Vec}
 use Rattle.std.proofs.lemmas.Bool.{both_ways}
@@ -6,6 +6,7 @@ use Rattle.lattice.specs.declared.refusal.Refusal.{Refusal}
 use Rattle.calls.specs.Outcomes.{Exports}
 use Rattle.calls.specs.State.{failing}
 use Rattle.calls.specs.Engines.{items_in}
+use Rattle.cow_tree.proofs.Due.{located_tile}
 use Rattle.store.proofs.EditingSteps.{refused_as}
 use Rattle.store.proofs.Querying.{stays_at, still_clean, still_at, failing_at, fails_so}
 use Rattle.store.proofs.QueryingPages.{no_tile_of, tile, tile_of, exported}
@@ -22,32 +23,37 @@ pub invariant_of-self : goal.invariant_of-self
 invariant_of-self g c =
     let d = g.D.Disk in
     let old = c.args.self.now in
-    let new = c.read_heights.new.tree in
-    record { clean = still_clean d old.tree new c.in_ok-check_working.ensures.works c.read_heights.ensures.reads.keeps old.clean }
+    let new = c.read_plane.new.tree in
+    record { clean = still_clean d old.tree new c.in_ok-check_working.ensures.works c.read_plane.ensures.reads.keeps old.clean }
+
+pub read_plane-requires-clause-held : goal.read_plane-requires-clause-held
+read_plane-requires-clause-held g c =
+    let found = located_tile c.args.corner c.args.self.now.tree.chart.staged (c.present.ensures.answer.0 c.if-not-present.false) in
+    (found.0, (found.1.0, (found.1.1, (found.0.heights, refl))))
 
 pub returns-clause-outcome : goal.returns-clause-outcome
 returns-clause-outcome g c honest s at =
     let d = g.D.Disk in
     let old = c.args.self.now.tree in
-    let new = c.read_heights.new.tree in
+    let new = c.read_plane.new.tree in
     let works = c.in_ok-check_working.ensures.works in
     let present = c.present.ensures.answer.0 c.if-not-present.false in
-    let reads = c.in_ok-read_heights.ensures.reads in
-    let bytes = c.in_ok-read_heights.ensures.bytes honest (tile d old works s at c.args.corner present) (tile_of d old works s at c.args.corner present) in
-    (s, (still_at d old new works reads.keeps honest s at reads.not_failed, (stays_at d old works s at, exported d old works s at c.args.corner present c.read_heights.new.bytes.items bytes)))
+    let reads = c.in_ok-read_plane.ensures.reads in
+    let bytes = c.in_ok-read_plane.ensures.bytes honest (tile d old works s at c.args.corner present) _ (tile_of d old works s at c.args.corner present) refl in
+    (s, (still_at d old new works reads.keeps honest s at reads.not_failed, (stays_at d old works s at, exported d old works s at c.args.corner present c.read_plane.new.bytes.items bytes)))
 
-pub returns-in_err-read_heights-clause-outcome : goal.returns-in_err-read_heights-clause-outcome
-returns-in_err-read_heights-clause-outcome g c honest s at =
+pub returns-in_err-read_plane-clause-outcome : goal.returns-in_err-read_plane-clause-outcome
+returns-in_err-read_plane-clause-outcome g c honest s at =
     let d = g.D.Disk in
     let old = c.args.self.now.tree in
-    let new = c.read_heights.new.tree in
+    let new = c.read_plane.new.tree in
     let works = c.in_ok-check_working.ensures.works in
-    let reads = c.in_err-read_heights.ensures.reads in (
+    let reads = c.in_err-read_plane.ensures.reads in (
       failing s None,
       (
         failing_at d old new works reads.keeps honest s at reads.failed,
         subst (λ (result : Result (Vec ℕ) Refusal). Exports s c.args.corner (items_in result) (failing s None))
-            (sym (refused_as c.from_residual-in_err-read_heights.result c.in_err-read_heights.field-0.0 c.from_residual-in_err-read_heights.ensures.1 ∙ ap (λ (r : Refusal). Err r) (reads.only_device works)))
+            (sym (refused_as c.from_residual-in_err-read_plane.result c.in_err-read_plane.field-0.0 c.from_residual-in_err-read_plane.ensures.1 ∙ ap (λ (r : Refusal). Err r) (reads.only_device works)))
             (fails_so d old new works reads.keeps honest s at),
       ),
     )

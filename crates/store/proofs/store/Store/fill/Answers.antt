@@ -12,41 +12,35 @@ use Rattle.calls.specs.Outcomes.{Fills}
 use Rattle.calls.proofs.Answered.{fills}
 use Rattle.catalogue.proofs.Asking.{asked_risen, asked_works, asked_fails, asked_quiet}
 use Rattle.drainage.proofs.Answered.{told}
-use Rattle.store.proofs.Querying.{valid_at, stays_at, still_clean, still_readable, queried, fails_so}
+use Rattle.store.proofs.Labelled.{still_sure}
+use Rattle.store.proofs.Querying.{valid_at, stays_at, queried, fails_so}
 use Rattle.store.proofs.QueryingDrainage.{of_here, held_here, read_answered}
 use Rattle.store.proofs.store.Store.fill.Goals as goal
 
-pub invariant_of-self : goal.invariant_of-self
-invariant_of-self g c =
-    let d = g.D.Disk in
-    let old = c.args.self.now in
-    let new = c.fill.new.samples in
-    record { clean = still_clean d old.tree new c.in_ok-check_working.ensures.works c.fill.ensures.asked.reads.keeps old.clean }
-
 pub returns-clause-reads : goal.returns-clause-reads
 returns-clause-reads g c =
-    let old = c.args.self.now.tree in
+    let old = c.args.self.now in
     let works = c.in_ok-check_working.ensures.works in
     let new = c.fill.new.samples in
     let result = c.fill.result in
     let asked = c.fill.ensures.asked in
-    queried g.D.Disk old new works asked.reads.keeps result (asked_risen _ old new result asked) (asked_works _ old new result asked works) (asked_fails _ old new result asked)
+    queried g.D.Disk old.tree new.tree works asked.reads.keeps result (asked_risen _ old new result asked) (asked_works _ old new result asked works) (asked_fails _ old new result asked)
     (asked_quiet _ old new result asked works)
 
 pub returns-clause-outcome : goal.returns-clause-outcome
 returns-clause-outcome g c honest s at =
     let d = g.D.Disk in
     let old = c.args.self.now.tree in
-    let new = c.fill.new.samples in
+    let new = c.fill.new.samples.tree in
     let works = c.in_ok-check_working.ensures.works in
     let ensures = c.fill.ensures in
     let asked = ensures.asked in
     let keeps = asked.reads.keeps in
     let result : Result ℤ Refusal = c.fill.result in
-    let readable = still_readable d old new works keeps honest s at in
+    let sure = still_sure d old new works keeps honest s at in
     read_answered d old new works keeps honest s at (λ (s : State) (r : Result ℤ Refusal) (t : State). Fills s c.args.point (r) t) result asked.read asked.passed (asked.reads.ready works) asked.reads.unready
     (asked.reads.only_device works) (fails_so d old new works keeps honest s at)
-    (λ unread. fills s s (stays_at d old works s at) c.args.point result (told s.contents.mosaic (valid_at d old works s at) c.args.point (IsFilledLevel (terrain s.contents.mosaic) c.args.point) result (asked.own unread) (asked.sound readable works)
-    (of_here d old new works keeps honest s at (λ (m : Mosaic). IfOk result (λ level. IsFilledLevel (terrain m) c.args.point level)) (ensures.level readable))
+    (λ unread. fills s s (stays_at d old works s at) c.args.point result (told s.contents.mosaic (valid_at d old works s at) c.args.point (IsFilledLevel (terrain s.contents.mosaic) c.args.point) result (asked.own unread) (asked.sound sure works)
+    (of_here d old new works keeps honest s at (λ (m : Mosaic). IfOk result (λ level. IsFilledLevel (terrain m) c.args.point level)) (ensures.level sure))
     (held_here d old new works keeps honest s at (IsErrOf result Outside) c.args.point ensures.outside)
-    (of_here d old new works keeps honest s at (λ (m : Mosaic). IsErrOf result Void → height_of m c.args.point ≡ height.Void) (ensures.void readable)) ensures.causes))
+    (of_here d old new works keeps honest s at (λ (m : Mosaic). IsErrOf result Void → height_of m c.args.point ≡ height.Void) (ensures.void sure)) ensures.causes))

@@ -1,0 +1,22 @@
+use Rattle.std.proofs.Common.{◌≡◌, ℕ, List, Ok, refl, sym, ap, subst}
+use Rattle.cow_tree.specs.Stored.{StoredTile, plane_bytes}
+use Rattle.page_codec.specs.Roots.{RootValue}
+use Rattle.store.specs.Queried.{IsTileOf}
+use Rattle.store.proofs.Labelled.{reads_then}
+use Rattle.store.proofs.labelling.read_kept.Goals as goal
+
+pub returns-clause-level_bytes : goal.returns-clause-level_bytes
+returns-clause-level_bytes g c honest t kept is has =
+    c.in_ok-read_plane.ensures.bytes (c.in_ok-read_plane-2.ensures.reads.keeps.honest honest) t kept.levels is (kept, (has, refl))
+
+pub returns-clause-label_bytes : goal.returns-clause-label_bytes
+returns-clause-label_bytes g c honest t kept is has =
+    let first = c.in_ok-read_plane.ensures.reads.keeps in
+    let second = c.in_ok-read_plane-2.ensures in
+    let mid = second.reads.keeps.honest honest in
+    subst (λ (r : RootValue). c.read_plane-2.new.bytes.items ≡ plane_bytes r.side kept.labels) first.root
+    (second.bytes honest t kept.labels (subst (λ (ts : List StoredTile). IsTileOf ts c.args.corner t) (sym (first.staged mid)) is) (kept, (has, refl)))
+
+pub returns-clause-reads : goal.returns-clause-reads
+returns-clause-reads g c =
+    reads_then g.D.Disk c.args.tree.now c.read_plane.new.tree c.read_plane-2.new.tree (Ok tt) c.in_ok-read_plane.ensures.reads c.in_ok-read_plane-2.ensures.reads
