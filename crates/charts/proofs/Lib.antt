@@ -19,3 +19,4 @@ pub mod Loading
 pub mod Preparing
 pub mod KeptChanging
 pub mod Occurrences
+pub mod UpgradedTiles

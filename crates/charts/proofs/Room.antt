@@ -1,5 +1,5 @@
 -- A free page is always left: the committed tiles and the fresh pages take fewer than the disk has.
-use Rattle.std.proofs.Common.{◌≡◌, ◌≢◌, ℕ, zero, suc, ◌+◌, ◌-◌, ◌*◌, ◌<◌, ◌≤◌, true, cond, inl, inr, List, [], ◌∷◌, ◌++◌, length, refl, sym, ap, ◌∙◌, arith}
+use Rattle.std.proofs.Common.{◌≡◌, ◌≢◌, ℕ, zero, suc, ◌+◌, ◌-◌, ◌*◌, ◌<◌, ◌≤◌, true, cond, inl, inr, List, [], ◌∷◌, ◌++◌, length, refl, sym, ap, subst, ◌∙◌, arith}
 use Rattle.std.proofs.Math.Nat.{mul-add, mul-le-mul_left, mul_comm, mul_assoc, mul_left_comm}
 use Rattle.std.specs.Prelude.{Option, Some, None, IsSome, IfSome, not, ◌&&◌}
 use Rattle.std.specs.List.{filter_map, flat_map, cons_option, AllByRecursion}
@@ -9,8 +9,9 @@ use Rattle.std.proofs.lemmas.Bool.{false≢true, cases_eq, cases_Bool, cases_lt,
 use Rattle.std.proofs.lemmas.List.{length-append}
 use Rattle.lattice.specs.Corners.{Corner}
 use Rattle.page_alloc.specs.Pages.{PageSet}
-use Rattle.layout.specs.Sizes.{plane_pages_of}
-use Rattle.layout.specs.Formats.{Format}
+use Rattle.layout.specs.Sizes.{pages_of, index_pages_by, index_pages_of, plane_pages_of, sectors_asked}
+use Rattle.layout.specs.Formats.{Format, upgraded}
+use Rattle.layout.specs.declared.version.Version.TheVariants.{One}
 use Rattle.charts.specs.declared.locations.KeptLocations.{KeptLocations}
 use Rattle.charts.specs.declared.locations.TilePlanes.{TilePlanes}
 use Rattle.charts.specs.declared.slot.Slot.{Slot}
@@ -186,3 +187,36 @@ room_for_heights format before s after free is some =
     let m = plane_pages_of format in
     let tiles : m * length (staged_tiles slots) ≤ m * format.capacity = mul-le-mul_left m is.staged_room in
     omega (arith, all_left format slots free is, fresh_parts slots, other_heights_few format before s after is.sound some, is.kept_room, tiles)
+
+-- what lists the planes of all committed tiles by the second version finds room, where a store of it does
+upgraded_over : (total used left c n i p : ℕ) → 4 + (4 * c + 2) * (1 + i + p) ≤ total → total - 4 ≤ used + left → used ≤ 3 * (1 + p) * n → n ≤ c → 1 ≤ i → 1 ≤ p → 3 * (1 + i) * n ≤ left
+upgraded_over total used left c n i p size all committed most some_index some_page =
+    let a : ℕ = 1 + i + p in
+    let needed : (4 * c + 2) * a ≡ 4 * (a * c) + a * 2 = mul_comm (4 * c + 2) a ∙ (mul-add a (4 * c) 2 ∙ ap (λ n. n + a * 2) (mul_left_comm a 4 c)) in
+    let more : a * n ≤ a * c = mul-le-mul_left a most in
+    let whole : a * n ≡ n * (1 + i) + n * p = mul_comm a n ∙ mul-add n (1 + i) p in
+    let lists : n * (1 + i) ≡ n * 1 + n * i = mul-add n 1 i in
+    let planes : n * (1 + p) ≡ n * 1 + n * p = mul-add n 1 p in
+    let used_is : 3 * (1 + p) * n ≡ 3 * (n * (1 + p)) = mul_assoc 3 (1 + p) n ∙ ap (λ k. 3 * k) (mul_comm (1 + p) n) in
+    let asked : 3 * (1 + i) * n ≡ 3 * (n * (1 + i)) = mul_assoc 3 (1 + i) n ∙ ap (λ k. 3 * k) (mul_comm (1 + i) n) in
+    let index_least : n * 1 ≤ n * i = mul-le-mul_left n some_index in
+    let page_least : n * 1 ≤ n * p = mul-le-mul_left n some_page in
+    omega arith
+
+pub room_to_upgrade : (format : Format) (slots : List Slot) (free : PageSet) → IsKept format slots free → flat_map fresh_pages slots ≡ [] → format.version ≡ One → 3 ≤ format.side → sectors_asked (upgraded format) ≤ free.total
+    → 3 * (1 + index_pages_of (upgraded format)) * length (committed_tiles slots) ≤ len free.free
+room_to_upgrade format slots free is none first side size =
+    let used = reached (committed_tiles slots) in
+    let none_index : index_pages_of format ≡ 0 = ap (λ v. index_pages_by v (pages_of format.side)) first in
+    let all : free.total - 4 ≤ length used + len free.free =
+    pages_le (free.total - 4) used free.free (λ p low high. (
+    let page : page_times free.total p ≡ 1 = page_one free.total p (low, omega (arith, is.size)) in
+    let nothing = ap (times p) none in
+    omega (arith, is.counted p, page, nothing))) in
+    let committed : length used ≤ 3 * plane_pages_of format * length (committed_tiles slots) =
+    rw (reached_all committed_tile slots) (pages_few (λ s. pages_of_location (committed_tile s)) committed_tile (3 * plane_pages_of format) (IsSound format) (committed_few format) slots is.sound) in
+    let square : format.side * 3 ≤ format.side * format.side = mul-le-mul_left format.side side in
+    let some_page : 1 ≤ pages_of format.side = omega (arith, square, side) in
+    let some_index : 1 ≤ index_pages_of (upgraded format) = omega (arith, some_page) in
+    upgraded_over free.total (length used) (len free.free) format.capacity (length (committed_tiles slots)) (index_pages_of (upgraded format)) (pages_of format.side) size all
+    (subst (λ i. length used ≤ 3 * (1 + i + pages_of format.side) * length (committed_tiles slots)) none_index committed) is.committed_room some_index some_page

@@ -5,3 +5,4 @@ pub mod Planes
 pub mod Slots
 pub mod StagedPlanes
 pub mod TileLocations
+pub mod Upgraded

@@ -1,7 +1,9 @@
 //! Which pages hold which planes, as committed and as the next commit will have it.
 ghost use Rattle.std.specs.Prelude.{◌≡◌, slice_index, ◌⊎◌, ◌≤◌, ◌<◌, ℕ, [], ◌∷◌, ◌++◌, All, length, map, Some, None, Contains, IsOk, IfOk, OnOk, OnErr, IfSome, IfNone, IsSome, IsTrue, ◌↔◌, IfErr};
 ghost use Rattle.lattice.specs.declared.refusal.Refusal.TheVariants.{Damaged, NoMemory};
+ghost use Rattle.layout.specs.Formats.{upgraded};
 ghost use Rattle.layout.specs.Sizes.{pages_of, index_pages_of, sectors_asked};
+ghost use Rattle.layout.specs.declared.version.Version.TheVariants.{One};
 ghost use Rattle.std.specs.List.{AllAdjacentBelow};
 ghost use Rattle.lattice.specs.Corners.{is_before, is_corner};
 ghost use Rattle.lattice.specs.Lattice.{IsBefore};
@@ -12,6 +14,7 @@ use crate::pages::{fresh_plane, mark_planes};
 use crate::plane::Plane;
 use crate::slot::{Ending, Slot};
 use crate::staged::{HeightsStaged, KeptStaged, Staged};
+use crate::upgrading::upgraded_planes;
 use arrayvec::ArrayVec;
 use lattice::{Corner, MOST_TILES, Refusal};
 use layout::Format;
@@ -52,6 +55,7 @@ impl Chart {
     ghost use Rattle.charts.specs.Charts.{no_tiles_charted, IsChart, IsClean, IsLocated, HasHeights, HasKept, HasFreshHeights, is_unreached, IsRewritten, IsPrepared, IsAdded, AreKept, IsWholeTile, tile_at, without_location, without_kept, corners_of_locations, fresh_corners};
     ghost use Rattle.charts.specs.Slots.{ended_chart};
     ghost use Rattle.charts.specs.Planes.{HasPlane, HasPlaneAt};
+    ghost use Rattle.charts.specs.Upgraded.{IsUpgraded};
 
     /// A chart of no tiles for a disk of so many sectors with a store of this format.
     pub fn new(alloc: Global, sectors: u32, format: Format) -> Result<Chart, Refusal>
@@ -104,6 +108,30 @@ impl Chart {
             slots,
             free,
         })
+    }
+
+    /// A chart of the committed tiles by the second version, where nothing is staged. Their pages stay; what lists them,
+    /// records and index pages, gets pages that no committed tile reaches. Refused with NoMemory.
+    pub fn upgraded(&self) -> Result<Chart, Refusal>
+        requires clean { IsClean self.now }
+        requires first { self.now.format.version ≡ One }
+        requires room { sectors_asked (upgraded self.now.format) ≤ self.now.sectors }
+        ensures upgraded { IfOk result (IsUpgraded self.now) }
+        ensures rules { IfOk result IsChart }
+        ensures refused { IfErr result (λ refusal. refusal ≡ NoMemory) }
+    {
+        let format = self.format.upgraded();
+        // That its side keeps the rules is told by it.
+        let _side = format.side();
+        let mut free = self.free.copy(self.alloc).ok_or(Refusal::NoMemory)?;
+        let mut chart = Chart::new(self.alloc, free.total(), format)?;
+        for slot in &self.slots {
+            if let Some(planes) = &slot.committed {
+                let planes = upgraded_planes(self.alloc, planes, format, &mut free)?;
+                chart = chart.load(slot.corner, planes)?;
+            }
+        }
+        Ok(chart)
     }
 
     /// The format of the chart's store.

@@ -11,6 +11,7 @@ mod pages;
 mod plane;
 mod slot;
 mod staged;
+mod upgrading;
 
 pub use chart::Chart;
 pub use locations::{KeptLocations, PagedPlane, TilePlanes};

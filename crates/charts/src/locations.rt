@@ -1,7 +1,9 @@
 //! Where the planes of a tile lie.
-ghost use Rattle.std.specs.Prelude.{◌≡◌, ◌<◌, ◌≤◌, ◌^◌, length, take, drop};
+ghost use Rattle.std.specs.Prelude.{◌≡◌, ◌<◌, ◌≤◌, ◌^◌, ◌++◌, length, take, drop, IfOk, IfErr};
+ghost use Rattle.lattice.specs.declared.refusal.Refusal.TheVariants.{NoMemory};
 ghost use Rattle.charts.specs.Locations.{pages_behind, IsMovedBehind};
 
+use lattice::Refusal;
 use std::marker::Model;
 
 /// Where a plane lies: the page of its record, its index pages, of which the first version has none, and its pages in order.
@@ -50,6 +52,24 @@ impl PagedPlane {
             behind,
             index_count,
         }
+    }
+
+    /// The plane with these pages behind its own. Refused with NoMemory.
+    pub(crate) fn with_pages(self, pages: &[u32]) -> Result<PagedPlane, Refusal>
+        ensures more { IfOk result (λ plane. plane ≡ record self { pages = self.pages ++ pages.now }) }
+        ensures refused { IfErr result (λ refusal. refusal ≡ NoMemory) }
+    {
+        let PagedPlane {
+            record_page,
+            mut behind,
+            index_count,
+        } = self;
+        behind.extend_from_slice(pages)?;
+        Ok(PagedPlane {
+            record_page,
+            behind,
+            index_count,
+        })
     }
 
     /// The page of the plane's record.

@@ -57,6 +57,19 @@ impl Pages {
         Some(pages)
     }
 
+    /// The same pages, of which the same are free. None where there is no memory for them.
+    pub fn copy(&self, alloc: Global) -> Option<Pages>
+        ensures { IfSome result (λ pages. pages ≡ self.now) }
+    {
+        let words = Vec::from_slice(alloc, &self.words).ok()?;
+        Some(Pages {
+            total: self.total,
+            free_count: self.free_count,
+            words,
+            cursor: self.cursor,
+        })
+    }
+
     /// How many sectors the disk has.
     pub fn total(&self) -> u32
         ensures { result ≡ self.now.total }

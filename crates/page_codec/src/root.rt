@@ -3,6 +3,7 @@ ghost use Rattle.std.specs.Prelude.{◌≡◌, ◌≢◌, ◌+◌, ◌<◌, ◌�
 ghost use Rattle.std.specs.List.{flat_map};
 ghost use Rattle.page_codec.specs.declared.damaged.Damaged.TheVariants as reason;
 ghost use Rattle.layout.specs.declared.version.Version.{Version};
+ghost use Rattle.layout.specs.declared.version.Version.TheVariants.{Two};
 ghost use Rattle.page_codec.specs.Numbers.{u32_bytes};
 ghost use Rattle.layout.specs.Formats.{IsKnown, largest_side_of, number_of};
 ghost use Rattle.page_codec.specs.Entries.{IsEntry};
@@ -81,6 +82,22 @@ impl Root {
             number: root.number + 1,
             count,
             entries,
+            ..root
+        }
+    }
+
+    /// The root of the next commit by the second version, at the same count of commands and with these entries, in the order
+    /// of tiles.
+    pub fn upgraded(&self, entries: ArrayVec<Entry, ROOT_ENTRIES>) -> Root
+        requires number { self.now.number + 1 < 2 ^ 64 }
+        requires room { length entries.items ≤ self.now.capacity }
+        requires each { All IsEntry entries.items }
+        requires in_order { AreInOrder entries.items }
+        ensures { result ≡ record (self.now) { version = Two; number = self.now.number + 1; entries = entries.items } }
+    {
+        let root = self.next(self.count(), entries);
+        Root {
+            format: root.format.upgraded(),
             ..root
         }
     }
