@@ -18,3 +18,7 @@ mod mutations;
 mod opening;
 #[cfg(test)]
 mod random;
+#[cfg(test)]
+mod refused_growths;
+#[cfg(test)]
+mod stopped_sessions;
