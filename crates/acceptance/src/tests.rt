@@ -12,7 +12,7 @@ use store::Store;
 use table_engine::TableEngine;
 
 /// Room for a store of four tiles of any side here.
-const SECTORS: u32 = 40;
+const SECTORS: u32 = 58;
 
 /// What commands are refused with.
 const REFUSALS: [Refusal; 12] = [

@@ -23,9 +23,13 @@ pub record State : Type 0 where
   pub failed : Bool
   pub doubt : Option Contents
 
--- as formatted: no tile, no command, the first commit
+-- as formatted: no tile, no command, the first commit, by the second version
 abbrev pub fresh : ℕ → Contents
-fresh n = record { version = 1; mosaic = empty_mosaic n; count = 0; number = 1; stale = [] }
+fresh n = record { version = 2; mosaic = empty_mosaic n; count = 0; number = 1; stale = [] }
+
+-- the same by the first version
+abbrev pub fresh_1 : ℕ → Contents
+fresh_1 n = record (fresh n) { version = 1 }
 
 -- the contents once an accepted command made the new mosaic
 abbrev pub made_by : Contents → Command → Mosaic → Contents

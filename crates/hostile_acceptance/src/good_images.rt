@@ -2,11 +2,12 @@
 use crate::image::{Change, Image};
 use crate::opening::{expected_opening, u32_at};
 use arrayvec::ArrayVec;
+use disk::MemDisk;
 use edits::{Bytes, Command};
 use lattice::{Corner, Point};
-use memory_store::store_in_memory;
 use std::alloc::Global;
 use std::test::Fail;
+use store::Store;
 
 pub(crate) const HERE: Corner = Corner { lat: 0, lon: 0 };
 
@@ -30,14 +31,16 @@ const LEVELS: [u8; 18] = [9, 0, 9, 0, 9, 0, 9, 0, 5, 0, 9, 0, 9, 0, 9, 0, 5, 0];
 
 const LABELS: [u8; 18] = [0, 0, 1, 0, 2, 0, 3, 0, 7, 0, 4, 0, 5, 0, 6, 0, 7, 0];
 
-/// The image of a store of so many tiles at most, after these commands.
+/// The image of a store of the first version of so many tiles at most, after these commands.
 pub(crate) fn image_after(
     alloc: Global,
     capacity: u32,
     commands: &[Command],
 ) -> Result<Image, Fail> {
     let sectors = capacity.saturating_mul(8).saturating_add(8);
-    let mut store = store_in_memory(alloc, sectors, 3, capacity).map_err(|_| "not made")?;
+    let mut disk = MemDisk::new(alloc, sectors)?;
+    Store::format_1(&mut disk, 3, capacity).map_err(|_| "not formatted")?;
+    let mut store = Store::open(alloc, disk).map_err(|_| "not opened")?;
     for command in commands {
         store.apply(command).map_err(|_| "a command is refused")?;
     }

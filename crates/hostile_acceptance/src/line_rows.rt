@@ -43,7 +43,7 @@ fn served<E: Engine>(
 fn both(alloc: Global, bytes: &[u8], size: usize) -> Result<(Vec<u8>, Vec<u8>), Fail> {
     let side = Side::new(3).ok_or("no side")?;
     let mut table = TableEngine::new(alloc, side, 4);
-    let mut store = store_in_memory(alloc, 40, 3, 4).map_err(|_| "not made")?;
+    let mut store = store_in_memory(alloc, 58, 3, 4).map_err(|_| "not made")?;
     let first = served(alloc, &mut table, bytes, size)?;
     let second = served(alloc, &mut store, bytes, size)?;
     Ok((first, second))

@@ -2,8 +2,9 @@
 ghost use Rattle.std.specs.Prelude.{◌≡◌, ◌≤◌, ◌⊎◌, IfOk, IfErr};
 ghost use Rattle.disk.specs.MemDisk.{sectors_of};
 ghost use Rattle.lattice.specs.declared.refusal.Refusal.TheVariants.{Device, NoMemory};
-ghost use Rattle.layout.specs.Sizes.{sectors_of as sectors_needed};
+ghost use Rattle.layout.specs.Sizes.{sectors_asked};
 ghost use Rattle.calls.specs.State.{fresh, working};
+ghost use Rattle.store.specs.Formatted.{format_2};
 ghost use Rattle.store.specs.Stores.{disk_of, side_of, capacity_of, IsAt};
 
 use disk::{Disk, MemDisk};
@@ -25,7 +26,7 @@ pub fn store_in_memory(
     ensures sectors { IfOk result (λ store. sectors_of (disk_of store) ≡ sectors) }
 
     // Where there is room, it is refused only for want of memory, of its own or of the disk's.
-    ensures sure { 3 ≤ side → side ≤ 1201 → 1 ≤ capacity → capacity ≤ 240 → sectors_needed side capacity ≤ sectors
+    ensures sure { 3 ≤ side → side ≤ 3601 → 1 ≤ capacity → capacity ≤ 240 → sectors_asked (format_2 side capacity) ≤ sectors
         → IfErr result (λ r. (r ≡ Device) ⊎ (r ≡ NoMemory)) }
 {
     let Ok(mut disk) = MemDisk::new(alloc, sectors) else {

@@ -54,7 +54,7 @@ fn a_store_on_a_file(rt: HostRuntime) -> Result<(), Fail> {
     let tile = "N00E000.hgt";
     fs::write(&rt, tile, TILE)?;
     assert!(rt; ends(&rt, &["format", m, "3", "2"], b"", 0, b"OK 0\n"));
-    assert_eq!(rt; fs::metadata(&rt, m)?.len(), 98_304);
+    assert_eq!(rt; fs::metadata(&rt, m)?.len(), 139_264);
     assert!(rt; ends(&rt, &["import", m, tile], b"", 0, b"OK 1\n"));
     assert!(rt; ends(&rt, &["import", m, tile], b"", 1, b"ERR 4 TileThere\n"));
     assert!(rt;

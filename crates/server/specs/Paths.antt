@@ -9,15 +9,15 @@ use Rattle.server.specs.declared.files.PathFault.TheVariants.{Refused, Exists, C
 -- a store of this side and capacity is made
 pub record IsTaken (side capacity : ℕ) : Type 0 where
   pub side_low : 3 ≤ side
-  pub side_high : side ≤ 1201
+  pub side_high : side ≤ 3601
   pub capacity_low : 1 ≤ capacity
   pub capacity_high : capacity ≤ most_tiles
 
 -- no file of a store is made: the side is tested first, then the capacity, then the path
 abbrev pub MakesNone : (side capacity : ℕ) → PathFault → Type 0
 MakesNone side capacity fault =
-    (((side < 3) ⊎ (1201 < side)) × (fault ≡ Refused BadSide))
-    ⊎ ((3 ≤ side) × (side ≤ 1201) × ((capacity < 1) ⊎ (most_tiles < capacity)) × (fault ≡ Refused BadCapacity))
+    (((side < 3) ⊎ (3601 < side)) × (fault ≡ Refused BadSide))
+    ⊎ ((3 ≤ side) × (side ≤ 3601) × ((capacity < 1) ⊎ (most_tiles < capacity)) × (fault ≡ Refused BadCapacity))
     ⊎ (IsTaken side capacity × ((fault ≡ Exists) ⊎ (fault ≡ Closed)))
 
 -- a line tells why

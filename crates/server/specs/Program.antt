@@ -11,13 +11,14 @@ use Rattle.lattice.specs.Corners.{Corner}
 use Rattle.lattice.specs.Limits.{most_tiles}
 use Rattle.lattice.specs.declared.refusal.Refusal.TheVariants.{NoMemory, BadName, BadSide, BadCapacity}
 use Rattle.hgt.specs.Names.{IsFileName}
-use Rattle.page_codec.specs.Sizes.{sectors_of}
+use Rattle.page_codec.specs.Sizes.{sectors_asked}
 use Rattle.calls.specs.Events.{Happens}
 use Rattle.calls.specs.State.{State, fresh, working}
 use Rattle.serving.specs.Answers.{Replied}
 use Rattle.serving.specs.Promises.{side_in}
 use Rattle.serving.specs.Served.{Outcome}
 use Rattle.serving.specs.declared.session.ServeFault.{ServeFault}
+use Rattle.store.specs.Formatted.{format_2}
 use Rattle.server.specs.CommandLine.{AskedBy, AskNothing}
 use Rattle.server.specs.Endings.{Begins, EndsSession, TellsRefusal, bad_words}
 use Rattle.server.specs.OnDisks.{ServesLines, ImportsTile, MakesStore, ChecksStore}
@@ -38,8 +39,8 @@ EndsServing side capacity before after written new status =
 -- the side is tested first, then the capacity
 abbrev pub RunsTable : (side capacity : ℕ) → (before after written new : Option (List ℕ)) → ℕ → Type 0
 RunsTable side capacity before after written new status =
-    (((side < 3) ⊎ (1201 < side)) × TellsRefusal BadSide written new status)
-    ⊎ ((3 ≤ side) × (side ≤ 1201) × ((capacity < 1) ⊎ (most_tiles < capacity)) × TellsRefusal BadCapacity written new status)
+    (((side < 3) ⊎ (3601 < side)) × TellsRefusal BadSide written new status)
+    ⊎ ((3 ≤ side) × (side ≤ 3601) × ((capacity < 1) ⊎ (most_tiles < capacity)) × TellsRefusal BadCapacity written new status)
     ⊎ (IsTaken side capacity × EndsServing side capacity before after written new status)
 
 -- ---- on a file, whose reads give these images as time goes on
@@ -53,7 +54,7 @@ module _ (images : ℕ → Image) where
   abbrev pub RunsFormat : (path : List ℕ) → (side capacity : ℕ) → (written new : Option (List ℕ)) → ℕ → Type 0
   RunsFormat path side capacity written new status =
       ((fault : PathFault) × MakesNone side capacity fault × TellsFault path fault written new status)
-      ⊎ (IsTaken side capacity × OnFile (λ g old made. (g.size old ≡ sectors_of side capacity) × MakesStore g side capacity old made written new status))
+      ⊎ (IsTaken side capacity × OnFile (λ g old made. (g.size old ≡ sectors_asked (format_2 side capacity)) × MakesStore g side capacity old made written new status))
 
   -- the name of the tile's file is tested first
   abbrev pub RunsImport : (path tile : List ℕ) → (written new : Option (List ℕ)) → ℕ → Type 0

@@ -9,7 +9,6 @@ use crate::arguments::{ArgumentFault, Arguments};
 use crate::endings::{BAD_WORDS, REFUSED, end_session, end_with, refuse};
 use crate::files::{
     check_in_file, import_to_file, make_in_file, new_disk, open_disk, serve_on_file, tell_fault,
-    tile_side,
 };
 use hgt::file_name;
 use lattice::{MOST_TILES, Refusal, Side};
@@ -106,7 +105,7 @@ fn table<R: Read, W: Write>(
 ) -> u8
     ensures { RunsTable side capacity (R.remaining reader.old) (R.remaining reader.new) (W.contents writer.old) (W.contents writer.new) result }
 {
-    let Some(side) = tile_side(side) else {
+    let Some(side) = Side::new(side) else {
         return refuse(writer, Refusal::BadSide);
     };
     if capacity < 1 || capacity > MOST_TILES {

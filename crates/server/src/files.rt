@@ -3,11 +3,12 @@
 //! No contract sees what a file holds. So what is done to one is said for whatever images its reads may give: where each
 //! answer in the record of the file's calls is right for them, the file was an honest disk, and what holds of a store on
 //! such a disk holds of it.
-ghost use Rattle.std.specs.Prelude.{◌≡◌, ◌≤◌, ℕ, [], IfOk, IfErr, SomeIff};
+ghost use Rattle.std.specs.Prelude.{◌≡◌, ◌≤◌, ℕ, [], IfOk, IfErr};
 ghost use Rattle.disk.specs.Disk.{Image};
 ghost use Rattle.disk.specs.FileDisk.{calls_of, sectors_of};
 ghost use Rattle.disk.specs.FileWorlds.{giving};
-ghost use Rattle.page_codec.specs.Sizes.{sectors_of as least_sectors};
+ghost use Rattle.page_codec.specs.Sizes.{sectors_asked};
+ghost use Rattle.store.specs.Formatted.{format_2};
 ghost use Rattle.server.specs.OnDisks.{ChecksStore, ImportsTile, MakesStore, ServesLines, given_by};
 ghost use Rattle.server.specs.Paths.{IsTaken, MakesNone, TellsFault};
 ghost use Rattle.server.specs.declared.files.PathFault.TheVariants.{Closed};
@@ -15,9 +16,8 @@ ghost use Rattle.server.specs.declared.files.PathFault.TheVariants.{Closed};
 use crate::disks::{check_store, import_tile, make_store, serve_store};
 use crate::endings::{refuse, tell};
 use disk::{FileDisk, World};
-use hgt::side_ok;
-use lattice::{Corner, MOST_TILES, Refusal, Side};
-use page_codec::sectors_needed;
+use lattice::{Corner, Refusal};
+use page_codec::{Format, Version};
 use std::alloc::Global;
 use std::io::{ErrorKind, Read, Write};
 use std::marker::Brand;
@@ -40,16 +40,14 @@ pub fn new_disk(
     side: u32,
     capacity: u32,
 ) -> Result<FileDisk<Brand>, PathFault>
-    ensures made { IfOk result (λ disk. IsTaken side capacity × (calls_of disk ≡ []) × (sectors_of disk ≡ least_sectors side capacity)) }
+    ensures made { IfOk result (λ disk. IsTaken side capacity × (calls_of disk ≡ []) × (sectors_of disk ≡ sectors_asked (format_2 side capacity))) }
     ensures none { IfErr result (MakesNone side capacity) }
 {
-    let Some(samples) = tile_side(side) else {
-        return Err(PathFault::Refused(Refusal::BadSide));
+    let format = match Format::new(Version::Two, side, capacity) {
+        Ok(format) => format,
+        Err(refusal) => return Err(PathFault::Refused(refusal)),
     };
-    if capacity < 1 || capacity > MOST_TILES {
-        return Err(PathFault::Refused(Refusal::BadCapacity));
-    }
-    match FileDisk::<Brand>::create(rt, path, sectors_needed(samples, capacity)) {
+    match FileDisk::<Brand>::create(rt, path, format.sectors()) {
         Ok(disk) => Ok(disk),
         Err(error) if error.kind() == ErrorKind::AlreadyExists => Err(PathFault::Exists),
         Err(_) => Err(PathFault::Closed),
@@ -72,17 +70,6 @@ pub fn tell_fault<W: Write>(alloc: Global, path: &str, fault: PathFault, writer:
         PathFault::Refused(refusal) => refuse(writer, refusal),
         PathFault::Exists => tell(alloc, writer, b"mosaic: exists ", path.as_bytes()),
         PathFault::Closed => tell(alloc, writer, b"mosaic: cannot open ", path.as_bytes()),
-    }
-}
-
-/// The side of so many samples, where tiles of it are taken.
-pub fn tile_side(samples: u32) -> Option<Side>
-    ensures { SomeIff result ((3 ≤ samples) × (samples ≤ 1201)) samples }
-{
-    if side_ok(samples) {
-        Side::new(samples)
-    } else {
-        None
     }
 }
 

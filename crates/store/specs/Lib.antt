@@ -2,6 +2,7 @@ pub mod Applied
 pub mod Calls
 pub mod Editing
 pub mod Ended
+pub mod Formatted
 pub mod Kept
 pub mod Labelling
 pub mod Queried

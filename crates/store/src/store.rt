@@ -9,11 +9,12 @@ ghost use Rattle.lattice.specs.declared.refusal.Refusal.TheVariants.{Device, NoM
 ghost use Rattle.layout.specs.Formats.{IsKnown, largest_side_of, number_of};
 ghost use Rattle.page_codec.specs.Sizes.{sectors_asked, sectors_of};
 ghost use Rattle.catalogue.specs.Tiles.{is_listed};
-ghost use Rattle.calls.specs.State.{Contents, State, fresh, working};
+ghost use Rattle.calls.specs.State.{Contents, State, fresh, fresh_1, working};
 ghost use Rattle.cow_tree.specs.Layout.{Stands};
 ghost use Rattle.cow_tree.specs.OverRoots.{IsRefusalOfTree};
 ghost use Rattle.cow_tree.specs.Stored.{no_tiles};
 ghost use Rattle.cow_tree.specs.Trees.{MayRefuse, has_failed as have_failed};
+ghost use Rattle.store.specs.Formatted.{format_2, format_by};
 ghost use Rattle.store.specs.Kept.{stale_in};
 ghost use Rattle.store.specs.Standing.{StandsFor};
 ghost use Rattle.store.specs.TreeStates.{IsClean};
@@ -40,10 +41,28 @@ pub struct Store<D: Disk> {
 impl<D: Disk> Store<D> {
     ghost use Rattle.store.specs.Stores.{disk_of, root_of, side_of, capacity_of, has_failed, disk_after, IsAt};
 
-    /// Makes an empty store on a disk: of tiles of this side (3 to 1201 samples), with room for so many (1 to 240).
-    /// Refused as BadSide, BadCapacity or TooSmall, in this order, and then nothing was done; or with Device, and then
-    /// the disk may hold anything.
+    /// Makes an empty store on a disk, by the second version: of tiles of this side (3 to 3601 samples), with room for so
+    /// many (1 to 240). Refused as BadSide, BadCapacity or TooSmall, in this order, and then nothing was done; or with
+    /// Device, and then the disk may hold anything.
     pub fn format(disk: &mut D, side: u32, capacity: u32) -> Result<(), Refusal>
+        ensures size { D.size disk.new ≡ D.size disk.old }
+        ensures bad_side { (result ≡ Err BadSide) ↔ ((side < 3) ⊎ (3601 < side)) }
+        ensures bad_capacity { (result ≡ Err BadCapacity) ↔ ((3 ≤ side) × (side ≤ 3601) × ((capacity < 1) ⊎ (240 < capacity))) }
+        ensures too_small { (result ≡ Err TooSmall)
+            ↔ ((3 ≤ side) × (side ≤ 3601) × (1 ≤ capacity) × (capacity ≤ 240) × (D.size disk.old < sectors_asked (format_2 side capacity))) }
+        ensures refused { IfErr result (λ r. (r ≡ BadSide) ⊎ ((r ≡ BadCapacity) ⊎ ((r ≡ TooSmall) ⊎ (r ≡ Device)))) }
+        ensures untouched { IfErr result (λ r. r ≢ Device → disk.new ≡ disk.old) }
+        ensures later { D.failures disk.old ≤ D.failures disk.new }
+        ensures device { IsErrOf result Device → HasRisen (D.failures disk.old) (D.failures disk.new) }
+        ensures honest { D.honest disk.new → D.honest disk.old }
+        ensures formatted { D.honest disk.new
+            → OnOk result ((image : Image) → D.may disk.new image → StandsFor (D.size disk.new) side capacity image (fresh side)) }
+    {
+        format_as(disk, Version::Two, side, capacity)
+    }
+
+    /// Makes an empty store on a disk as [`Store::format`] does, by the first version, whose sides are 3 to 1201.
+    pub fn format_1(disk: &mut D, side: u32, capacity: u32) -> Result<(), Refusal>
         ensures size { D.size disk.new ≡ D.size disk.old }
         ensures bad_side { (result ≡ Err BadSide) ↔ ((side < 3) ⊎ (1201 < side)) }
         ensures bad_capacity { (result ≡ Err BadCapacity) ↔ ((3 ≤ side) × (side ≤ 1201) × ((capacity < 1) ⊎ (240 < capacity))) }
@@ -55,7 +74,7 @@ impl<D: Disk> Store<D> {
         ensures device { IsErrOf result Device → HasRisen (D.failures disk.old) (D.failures disk.new) }
         ensures honest { D.honest disk.new → D.honest disk.old }
         ensures formatted { D.honest disk.new
-            → OnOk result ((image : Image) → D.may disk.new image → StandsFor (D.size disk.new) side capacity image (fresh side)) }
+            → OnOk result ((image : Image) → D.may disk.new image → StandsFor (D.size disk.new) side capacity image (fresh_1 side)) }
     {
         format_as(disk, Version::One, side, capacity)
     }
@@ -201,14 +220,14 @@ fn format_as<D: Disk>(
     ensures bad_side { (result ≡ Err BadSide) ↔ ((side < 3) ⊎ (largest_side_of version < side)) }
     ensures bad_capacity { (result ≡ Err BadCapacity) ↔ ((3 ≤ side) × (side ≤ largest_side_of version) × ((capacity < 1) ⊎ (240 < capacity))) }
     ensures too_small { (result ≡ Err TooSmall)
-        ↔ ((3 ≤ side) × (side ≤ largest_side_of version) × (1 ≤ capacity) × (capacity ≤ 240) × (D.size disk.old < sectors_asked (record { version = version; side = side; capacity = capacity }))) }
+        ↔ ((3 ≤ side) × (side ≤ largest_side_of version) × (1 ≤ capacity) × (capacity ≤ 240) × (D.size disk.old < sectors_asked (format_by version side capacity))) }
     ensures refused { IfErr result (λ r. (r ≡ BadSide) ⊎ ((r ≡ BadCapacity) ⊎ ((r ≡ TooSmall) ⊎ (r ≡ Device)))) }
     ensures untouched { IfErr result (λ r. r ≢ Device → disk.new ≡ disk.old) }
     ensures later { D.failures disk.old ≤ D.failures disk.new }
     ensures device { IsErrOf result Device → HasRisen (D.failures disk.old) (D.failures disk.new) }
     ensures honest { D.honest disk.new → D.honest disk.old }
     ensures formatted { D.honest disk.new
-        → OnOk result ((image : Image) → D.may disk.new image → Stands (D.size disk.new) image (no_tiles (record { version = version; side = side; capacity = capacity }))) }
+        → OnOk result ((image : Image) → D.may disk.new image → Stands (D.size disk.new) image (no_tiles (format_by version side capacity))) }
 {
     let format = Format::new(version, side, capacity)?;
     if disk.sectors() < format.sectors() {

@@ -3,7 +3,6 @@ use arrayvec::ArrayVec;
 use disk::{Disk, MemDisk};
 use edits::{Bytes, Command};
 use lattice::{Corner, Point};
-use memory_store::store_in_memory;
 use std::alloc::Global;
 use std::test::Fail;
 use store::Store;
@@ -67,15 +66,27 @@ fn listed(points: &[Point]) -> ArrayVec<Point, 64> {
     list
 }
 
-/// A store of so many tiles at most, with these, on the smallest disk: behind two roots and two gates it has a record and
-/// a page for each of four planes a tile, and for two planes more.
+/// An empty store of the first version on a new disk in memory.
+pub(crate) fn store_of_version_1(
+    alloc: Global,
+    sectors: u32,
+    side: u32,
+    capacity: u32,
+) -> Result<Store<MemDisk>, Fail> {
+    let mut disk = MemDisk::new(alloc, sectors)?;
+    Store::format_1(&mut disk, side, capacity)?;
+    opened(alloc, disk)
+}
+
+/// A store of the first version of so many tiles at most, with these, on the smallest disk: behind two roots and two
+/// gates it has a record and a page for each of four planes a tile, and for two planes more.
 pub(crate) fn store_of(
     alloc: Global,
     capacity: u32,
     tiles: &[(Corner, [u8; 18])],
 ) -> Result<Store<MemDisk>, Fail> {
     let sectors = capacity.saturating_mul(8).saturating_add(8);
-    let mut store = store_in_memory(alloc, sectors, 3, capacity)?;
+    let mut store = store_of_version_1(alloc, sectors, 3, capacity)?;
     for (corner, bytes) in tiles {
         store.apply(&import(alloc, *corner, bytes)?)?;
     }

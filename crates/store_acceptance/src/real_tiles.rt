@@ -9,7 +9,7 @@ use std::test::Fail;
 use store::Store;
 
 // What a store of two tiles of 1201 x 1201 samples needs.
-const SECTORS: u32 = 7064;
+const SECTORS: u32 = 7074;
 
 const FILE_BYTES: u32 = 2_884_802;
 

@@ -20,6 +20,36 @@ const K: [u8; 18] = [0, 9, 0, 9, 0, 9, 0, 9, 0, 9, 128, 0, 0, 9, 0, 9, 0, 9];
 #[test]
 fn sizes_that_format_takes(rt: HostRuntime) -> Result<(), Fail> {
     let table = [
+        (21, 3, 1, Err(Refusal::TooSmall)),
+        (22, 3, 1, Ok(())),
+        (22, 2, 1, Err(Refusal::BadSide)),
+        (22, 3602, 0, Err(Refusal::BadSide)),
+        (22, 3, 0, Err(Refusal::BadCapacity)),
+        (22, 3, 241, Err(Refusal::BadCapacity)),
+        (33, 3, 2, Err(Refusal::TooSmall)),
+        (34, 3, 2, Ok(())),
+        (4245, 1201, 1, Err(Refusal::TooSmall)),
+        (4246, 1201, 1, Ok(())),
+        (38_043, 3601, 1, Err(Refusal::TooSmall)),
+        (38_044, 3601, 1, Ok(())),
+        (38_044, 3601, 240, Err(Refusal::TooSmall)),
+    ];
+    for (sectors, side, capacity, answer) in table {
+        let mut disk = MemDisk::new(rt.alloc(), sectors)?;
+        let found = Store::format(&mut disk, side, capacity);
+        assert_row(&rt, found == answer, "sectors", u64::from(sectors));
+        if answer.is_ok() {
+            let store = opened(rt.alloc(), disk)?;
+            let is_right = store.version() == 2 && store.side() == side;
+            assert_row(&rt, is_right, "side", u64::from(side));
+        }
+    }
+    Ok(())
+}
+
+#[test]
+fn sizes_that_the_first_version_takes(rt: HostRuntime) -> Result<(), Fail> {
+    let table = [
         (15, 3, 1, Err(Refusal::TooSmall)),
         (16, 3, 1, Ok(())),
         (16, 2, 1, Err(Refusal::BadSide)),
@@ -31,7 +61,7 @@ fn sizes_that_format_takes(rt: HostRuntime) -> Result<(), Fail> {
     ];
     for (sectors, side, capacity, answer) in table {
         let mut disk = MemDisk::new(rt.alloc(), sectors)?;
-        let found = Store::format(&mut disk, side, capacity);
+        let found = Store::format_1(&mut disk, side, capacity);
         let writes = if answer.is_ok() { 4 } else { 0 };
         let is_right = found == answer && disk.writes() == writes;
         assert_row(&rt, is_right, "sectors", u64::from(sectors));
@@ -88,7 +118,7 @@ fn tiles_are_listed_from_the_south(rt: HostRuntime) -> Result<(), Fail> {
 fn writes_and_syncs_of_commands(rt: HostRuntime) -> Result<(), Fail> {
     let alloc = rt.alloc();
     let mut disk = MemDisk::new(alloc, 24)?;
-    assert!(rt; Store::format(&mut disk, 3, 2) == Ok(()));
+    assert!(rt; Store::format_1(&mut disk, 3, 2) == Ok(()));
     // An opening makes one sync. The first import writes a page, a record, a root and a gate; later ones close the gate
     // first. Behind each answer the commits, and how many writes and syncs were made.
     let steps = [

@@ -9,7 +9,7 @@ use std::test::Fail;
 use store::{Event, Reply, Store};
 use watershed::Run;
 
-// How many calls opening a store with one tile makes: a sync, both gates, both roots and the record.
+// How many calls opening a store of the first version with one tile makes: a sync, both gates, both roots and the record.
 const CALLS_TO_OPEN: u64 = 6;
 
 const FAILED: Reply = Reply::Refused(Refusal::Failed);
@@ -58,7 +58,7 @@ fn rows_of<const N: usize>(
 #[test]
 fn every_event_of_a_run(rt: HostRuntime) -> Result<(), Fail> {
     let alloc = rt.alloc();
-    let mut store = store_in_memory(alloc, 16, 3, 1)?;
+    let mut store = store_in_memory(alloc, 22, 3, 1)?;
     let path = vec![in alloc; at(0, 0), at(1, 1), at(0, 2)]?;
     let watershed = vec![in alloc; line(2), line(1), line(0)]?;
     let file = Vec::from_slice(alloc, &A)?;
@@ -87,7 +87,7 @@ fn every_event_of_a_run(rt: HostRuntime) -> Result<(), Fail> {
 #[test]
 fn a_tile_is_imported_and_asked_for(rt: HostRuntime) -> Result<(), Fail> {
     let alloc = rt.alloc();
-    let mut store = store_in_memory(alloc, 16, 3, 1)?;
+    let mut store = store_in_memory(alloc, 22, 3, 1)?;
     let rows = [
         (importing(alloc)?, Reply::Done(1)),
         (Event::Elevation(at(0, 2)), Reply::Elevation(Height::At(5))),
@@ -102,7 +102,7 @@ fn a_tile_is_imported_and_asked_for(rt: HostRuntime) -> Result<(), Fail> {
 #[test]
 fn replies_go_behind_what_is_there(rt: HostRuntime) -> Result<(), Fail> {
     let alloc = rt.alloc();
-    let mut store = store_in_memory(alloc, 16, 3, 1)?;
+    let mut store = store_in_memory(alloc, 22, 3, 1)?;
     let mut out = vec![in alloc; Reply::Reopened]?;
     store.run(&[importing(alloc)?, Event::Count], &mut out)?;
     store.run(&[], &mut out)?;

@@ -44,7 +44,7 @@ fn no_sink_in_a_void(rt: HostRuntime) -> Result<(), Fail> {
 #[test]
 fn sixteen_sinks_are_the_most(rt: HostRuntime) -> Result<(), Fail> {
     let alloc = rt.alloc();
-    let mut store = store_in_memory(alloc, 40, 5, 4).map_err(|_| "not made")?;
+    let mut store = store_in_memory(alloc, 58, 5, 4).map_err(|_| "not made")?;
     assert!(rt; store.apply(&import(alloc, HERE, &[0; 50])?) == Ok(1));
     for i in 0..16_u32 {
         let point = at((i / 4) as i32, (i % 4) as i32);

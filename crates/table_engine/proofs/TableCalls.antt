@@ -37,7 +37,7 @@ use Rattle.edits.specs.Touched.{stale_after}
 use Rattle.table_engine.specs.TableState.{Held, held_of, contents_of, stale_among, table}
 use Rattle.table_engine.proofs.FreshTiles.{one_less}
 
-few_writes : (side : ℕ) (c : Command) → WritesFew 1 side (ask.Do c) 0 0
+few_writes : (side : ℕ) (c : Command) → WritesFew 2 side (ask.Do c) 0 0
 few_writes side (Import c bytes) = tt
 few_writes side (Remove c) = tt
 few_writes side (Patch from to height) = tt
@@ -64,7 +64,7 @@ module _ (held : Held) where
   Same event answer = IsCall table held event answer held
 
   same : (event : Event) (answer : Reply) → Matches event answer → (answer ≡ reply.Refused Failed → ⊥) → (answer ≡ reply.Refused Device → ⊥) → false ≡ fails_after false event answer
-      → WritesFew 1 here.side event 0 0 → Knows (table.known held) event answer (table.known held) → Happens held.capacity now event answer now → Same event answer
+      → WritesFew 2 here.side event 0 0 → Knows (table.known held) event answer (table.known held) → Happens held.capacity now event answer now → Same event answer
   same event answer matches not_failed not_device after few knows happens = record {
     side = λ _. refl;
     capacity = λ _. refl;
@@ -79,7 +79,7 @@ module _ (held : Held) where
 
   -- a question about the water at a point
   module _ (p : Point) (event : Event) (may : (r : Refusal) → IsTrue (may_refuse_question r) → IsTrue (may_refuse event r)) (after : (r : Refusal) → (r ≡ Device → ⊥) → false ≡ fails_after false event (reply.Refused r))
-      (few : WritesFew 1 here.side event 0 0) (knows : (r : Refusal) → Knows (table.known held) event (reply.Refused r) (table.known held))
+      (few : WritesFew 2 here.side event 0 0) (knows : (r : Refusal) → Knows (table.known held) event (reply.Refused r) (table.known held))
       (happens : (r : Refusal) → AnswersNot now p r now → Happens held.capacity now event (reply.Refused r) now) where
     unanswered : (r : Refusal) → IsUnanswered here p r → Same event (reply.Refused r)
     unanswered Outside is = same event (reply.Refused Outside) (may Outside refl) (λ e. absurd (cc)) (λ e. absurd (cc)) (after Outside (λ e. absurd (cc))) few (knows Outside) (happens Outside (stays, is))
@@ -201,7 +201,7 @@ module _ (m : Mosaic) (capacity : ℕ) (fresh : List Corner) (k g : ℕ) where
       accepted : Accepts capacity (working old.contents) c (k + 1) then
       accepted = record {
         working = refl;
-        effect_is = (new, (makes, ap (λ (l : List Corner). working (record { version = 1; mosaic = new; count = k + 1; number = g + 1; stale = l })) (sym stale)));
+        effect_is = (new, (makes, ap (λ (l : List Corner). working (record { version = 2; mosaic = new; count = k + 1; number = g + 1; stale = l })) (sym stale)));
         counted = refl;
         room = below;
       }
@@ -228,7 +228,7 @@ module _ (m : Mosaic) (capacity : ℕ) (fresh : List Corner) (k g : ℕ) where
       kept = record {
         working = refl;
         room = below;
-        made_is = ap (λ (l : List Corner). working (record { version = 1; mosaic = m; count = k; number = g + 1; stale = l })) (one_less (corners_of m) fresh c);
+        made_is = ap (λ (l : List Corner). working (record { version = 2; mosaic = m; count = k; number = g + 1; stale = l })) (one_less (corners_of m) fresh c);
       }
 
   -- a call of a table that holds this

@@ -18,7 +18,7 @@ stale_among corners fresh = filter (λ p. not (is_listed p fresh)) corners
 
 -- It keeps no planes. A tile is fresh from the step that names it to the command that leaves it stale.
 abbrev pub contents_of : Mosaic → List Corner → ℕ → ℕ → Contents
-contents_of m fresh k g = record { version = 1; mosaic = m; count = k; number = g; stale = stale_among (corners_of m) fresh }
+contents_of m fresh k g = record { version = 2; mosaic = m; count = k; number = g; stale = stale_among (corners_of m) fresh }
 
 abbrev pub held_of : ℕ → Mosaic → List Corner → ℕ → ℕ → Held
 held_of capacity m fresh k g = record { capacity = capacity; contents = contents_of m fresh k g }
@@ -34,7 +34,7 @@ table = record {
   has_failed = (λ _. false);
   failures = (λ _. 0);
   writes = (λ _. 0);
-  known = (λ held. record { version = 1; count = held.contents.count; number = held.contents.number });
+  known = (λ held. record { version = 2; count = held.contents.count; number = held.contents.number });
 }
 
 -- a mosaic of no more tiles than it takes, of which directions can be found; commits come to one more than commands

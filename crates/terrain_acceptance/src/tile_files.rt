@@ -62,8 +62,8 @@ fn takes_sides(rt: HostRuntime) {
         (2, false),
         (3, true),
         (1201, true),
-        (1202, false),
-        (3601, false),
+        (3601, true),
+        (3602, false),
     ] {
         assert_eq!(rt; side_ok(side), want, "side {side}");
     }

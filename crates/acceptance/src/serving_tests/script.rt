@@ -82,7 +82,7 @@ pub(crate) fn table(alloc: Global, samples: u32, capacity: u32) -> Result<TableE
 
 /// A store of tiles of a side up to 45, so many at most.
 pub(crate) fn store(alloc: Global, samples: u32, capacity: u32) -> Result<Store<MemDisk>, Fail> {
-    let sectors = capacity.saturating_mul(8).saturating_add(8);
+    let sectors = capacity.saturating_mul(12).saturating_add(10);
     Ok(store_in_memory(alloc, sectors, samples, capacity).map_err(|_| "not made")?)
 }
 

@@ -7,8 +7,8 @@ use store::Store;
 /// How many calls opening a store without tiles makes: a sync, both gates and the root behind the open one.
 const CALLS_TO_OPEN: u64 = 4;
 
-/// How many calls the first import makes: a page, a record and a root, a sync, the gate, a sync.
-const CALLS_TO_IMPORT: u64 = 6;
+/// How many calls the first import makes: a page, an index page, a record and a root, a sync, the gate, a sync.
+const CALLS_TO_IMPORT: u64 = 7;
 
 #[test]
 fn a_store_is_served(rt: HostRuntime) -> Result<(), Fail> {
