@@ -1,6 +1,6 @@
-//! Commands on a table, by rows worked by hand.
+//! Commands, over the library and by the plain programs, by rows worked by hand.
 use crate::script::Asked::{Burn, Bytes, Import, Patch, Remove, Wall};
-use crate::script::Step::{Done, Elevation, Refused};
+use crate::script::Step::{Done, Elevation, Refused, Seams, Tile};
 use crate::script::{A, G, H, K, V, follow};
 use lattice::{Height, Refusal};
 use std::test::Fail;
@@ -9,9 +9,11 @@ use std::test::Fail;
 fn an_import_adds_its_tile_and_a_removal_takes_it_out(rt: HostRuntime) -> Result<(), Fail> {
     let script = [
         Refused(Remove(0, 0), Refusal::NoTile),
+        Elevation(0, 0, Height::Outside),
         Done(Import(0, 0, &A)),
         Elevation(0, 2, Height::At(5)),
         Elevation(2, 0, Height::At(9)),
+        Tile(0, 0, &A),
         Done(Remove(0, 0)),
         Elevation(0, 2, Height::Outside),
     ];
@@ -25,6 +27,8 @@ fn an_import_is_refused_by_length_then_presence_then_room(rt: HostRuntime) -> Re
         Refused(Import(0, 1, &A), Refusal::Full),
         Refused(Import(0, 0, &A), Refusal::TileThere),
         Refused(Bytes(0, 0, &[0; 17]), Refusal::BadLength),
+        Refused(Import(0, 0, &[9; 8]), Refusal::BadLength),
+        Refused(Remove(0, 1), Refusal::NoTile),
     ];
     follow(&rt, rt.alloc(), 3, 1, &script)
 }
@@ -35,6 +39,9 @@ fn a_removal_uncovers_the_other_tile(rt: HostRuntime) -> Result<(), Fail> {
         Done(Import(0, 0, &G)),
         Done(Import(0, 1, &H)),
         Elevation(1, 2, Height::At(7)),
+        Seams(1),
+        Tile(0, 1, &H),
+        Tile(0, 0, &G),
         Done(Remove(0, 0)),
         Elevation(1, 2, Height::At(8)),
     ];
@@ -48,6 +55,7 @@ fn a_burn_is_written_into_both_tiles_of_a_seam(rt: HostRuntime) -> Result<(), Fa
         Done(Import(0, 1, &H)),
         Done(Burn(1, &[(1, 2)])),
         Elevation(1, 2, Height::At(6)),
+        Seams(0),
         Done(Remove(0, 0)),
         Elevation(1, 2, Height::At(6)),
     ];
@@ -61,6 +69,7 @@ fn a_wall_that_raises_nothing_is_written_into_both(rt: HostRuntime) -> Result<()
         Done(Import(0, 1, &H)),
         Done(Wall(3, &[(1, 2)])),
         Elevation(1, 2, Height::At(7)),
+        Seams(0),
         Done(Remove(0, 0)),
         Elevation(1, 2, Height::At(7)),
     ];
@@ -76,6 +85,7 @@ fn a_patch_fills_voids_alone(rt: HostRuntime) -> Result<(), Fail> {
         Refused(Patch((1, 1), (1, 1), 4), Refusal::NothingVoid),
         Elevation(1, 1, Height::At(4)),
         Elevation(2, 2, Height::At(9)),
+        Tile(0, 0, &[9, 9, 9, 9, 4, 9, 9, 9, 9]),
     ];
     follow(&rt, rt.alloc(), 3, 4, &script)
 }
@@ -98,6 +108,10 @@ fn boxes_and_heights_are_tested_before_voids(rt: HostRuntime) -> Result<(), Fail
         Refused(Patch((0, 0), (0, 3), 4), Refusal::BadBox),
         Refused(Patch((1, 1), (0, 1), 4), Refusal::BadBox),
         Refused(Patch((0, 0), (2, 2), 40000), Refusal::BadHeight),
+        Done(Import(0, 0, &V)),
+        Refused(Patch((0, 0), (0, 3), 4), Refusal::BadBox),
+        Refused(Patch((1, 1), (0, 1), 4), Refusal::BadBox),
+        Refused(Patch((0, 0), (2, 2), 40000), Refusal::BadHeight),
     ];
     follow(&rt, rt.alloc(), 3, 4, &script)
 }
@@ -110,6 +124,10 @@ fn no_height_falls_below_the_lowest(rt: HostRuntime) -> Result<(), Fail> {
         Refused(Burn(32767, &[(1, 1)]), Refusal::TooDeep),
         Done(Burn(32767, &[(1, 3)])),
         Elevation(1, 3, Height::At(-32767)),
+        Done(Remove(0, 0)),
+        Done(Import(0, 0, &[0; 9])),
+        Done(Burn(32767, &[(1, 1)])),
+        Elevation(1, 1, Height::At(-32767)),
     ];
     follow(&rt, rt.alloc(), 3, 4, &script)
 }

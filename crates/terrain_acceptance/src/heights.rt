@@ -1,4 +1,4 @@
-//! Heights, adjacent points and seams of a table, by rows worked by hand.
+//! Heights, adjacent points and seams, by rows worked by hand.
 use crate::script::Asked::{Import, Remove};
 use crate::script::Step::{Done, Elevation, Seams};
 use crate::script::{A, G, H, K, V, at, follow};
@@ -92,8 +92,9 @@ fn check_points(
     rows: &[(i32, i32, u32, bool)],
 ) -> Result<(), Fail> {
     for (y, x, count, leaves) in rows {
-        assert!(rt; degree(table, at(*y, *x)) == Ok(*count), "at {y} {x}");
-        assert!(rt; outlet(table, at(*y, *x)) == Ok(*leaves), "at {y} {x}");
+        let point = at(*y, *x);
+        let is_right = degree(table, point) == Ok(*count) && outlet(table, point) == Ok(*leaves);
+        assert!(rt; is_right, "at {y} {x}");
     }
     Ok(())
 }

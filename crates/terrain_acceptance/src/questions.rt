@@ -1,5 +1,5 @@
-//! Questions about water on a table, by rows worked by hand.
-use crate::script::Asked::Import;
+//! Questions about water, over the library and by the plain programs, by rows worked by hand.
+use crate::script::Asked::{Import, Patch, Wall};
 use crate::script::Step::{Done, Drains, Filled, Shed, Traced};
 use crate::script::{A, B, C, D, V, VOID, WIDE, follow};
 use lattice::Refusal;
@@ -15,6 +15,7 @@ fn a_pit_fills_to_its_lowest_way_out(rt: HostRuntime) -> Result<(), Fail> {
         Drains(1, 1, Ok(2)),
         Drains(0, 2, Ok(0)),
         Drains(0, 1, Ok(1)),
+        Drains(3, 3, Err(Refusal::Outside)),
         Traced(0, 0, &[(0, 0), (1, 1), (0, 2)]),
     ];
     follow(&rt, rt.alloc(), 3, 4, &script)
@@ -40,6 +41,8 @@ fn a_valley_drains_through_its_neighbour(rt: HostRuntime) -> Result<(), Fail> {
         Filled(1, 1, Ok(3)),
         Drains(1, 1, Ok(1)),
         Shed(1, 4, &[(2, 0, 4), (1, 0, 4), (0, 0, 4)]),
+        Done(Wall(5, &[(1, 4)])),
+        Filled(1, 1, Ok(5)),
     ];
     follow(&rt, rt.alloc(), 3, 4, &script)
 }
@@ -50,6 +53,8 @@ fn only_ground_is_answered(rt: HostRuntime) -> Result<(), Fail> {
         Done(Import(0, 0, &V)),
         Filled(1, 1, Err(Refusal::Void)),
         Filled(9, 9, Err(Refusal::Outside)),
+        Done(Patch((1, 1), (1, 1), 4)),
+        Filled(1, 1, Ok(9)),
     ];
     follow(&rt, rt.alloc(), 3, 4, &script)
 }
@@ -73,6 +78,7 @@ fn water_leaves_beside_a_void(rt: HostRuntime) -> Result<(), Fail> {
         Filled(2, 3, Ok(3)),
         Filled(1, 2, Ok(3)),
         Filled(3, 2, Err(Refusal::Void)),
+        Filled(9, 9, Err(Refusal::Outside)),
         Drains(1, 2, Ok(128)),
         Drains(2, 3, Ok(0)),
         Drains(3, 1, Ok(0)),

@@ -2,6 +2,7 @@
 ghost use Rattle.std.specs.Prelude.{◌≤◌, OnOk, length};
 ghost use Rattle.catalogue.specs.Tiles.{corners_of};
 
+use crate::asserting::assert_row;
 use arrayvec::ArrayVec;
 use catalogue::{Samples, Table};
 use edits::{Bytes, Command, carry_out, plan};
@@ -89,7 +90,7 @@ pub(crate) trait Mosaic {
     fn samples(&self, corner: Corner) -> Option<&[i16]>;
 }
 
-/// Follows the script over the library, from an empty table of tiles of this side on.
+/// Follows the script over the library, on an empty table of tiles of this side, and over the plain programs.
 pub(crate) fn follow(
     rt: &impl Abort,
     alloc: Global,
@@ -98,31 +99,18 @@ pub(crate) fn follow(
     script: &[Step],
 ) -> Result<(), Fail> {
     let side = Side::new(side).ok_or("no side")?;
-    let table = Table::new(alloc, side);
-    let mut mosaic = OnTable {
+    let mut on_table = OnTable {
         alloc,
         capacity,
-        table,
+        table: Table::new(alloc, side),
     };
-    check(rt, alloc, &mut mosaic, script)
-}
-
-/// Follows the script over the plain programs.
-pub(crate) fn follow_plainly(
-    rt: &impl Abort,
-    alloc: Global,
-    side: u32,
-    capacity: u32,
-    script: &[Step],
-) -> Result<(), Fail> {
-    let side = Side::new(side).ok_or("no side")?;
-    let mosaic = Plain::new(alloc, side);
-    let mut mosaic = OnPlain {
+    check(rt, alloc, &mut on_table, script, "over the library")?;
+    let mut on_plain = OnPlain {
         alloc,
         capacity,
-        mosaic,
+        mosaic: Plain::new(alloc, side),
     };
-    check(rt, alloc, &mut mosaic, script)
+    check(rt, alloc, &mut on_plain, script, "by the plain programs")
 }
 
 fn check<M: Mosaic>(
@@ -130,9 +118,10 @@ fn check<M: Mosaic>(
     alloc: Global,
     mosaic: &mut M,
     script: &[Step],
+    which: &str,
 ) -> Result<(), Fail> {
-    for (step, number) in script.iter().zip(1..u32::MAX) {
-        assert!(rt; is_answered(alloc, mosaic, *step)?, "step {number}");
+    for (step, number) in script.iter().zip(1..u64::MAX) {
+        assert_row(rt, is_answered(alloc, mosaic, *step)?, which, number);
     }
     Ok(())
 }
