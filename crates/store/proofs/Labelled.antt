@@ -1,18 +1,14 @@
 -- Labellings that are kept are right where the store's tree is sure; and reads of the tree one after another.
-use Rattle.std.proofs.Common.{◌≡◌, ◌≢◌, ◌⊎◌, inl, inr, ℕ, ◌≤◌, ℤ, ◌≤ℤ◌, false, true, IsTrue, List, Contains, Option, Some, None, Result, Ok, Err, refl, sym, ap, ◌∙◌, subst, true≢false, arith}
+use Rattle.std.proofs.Common.{◌≡◌, ◌≢◌, ◌⊎◌, inl, inr, ℕ, ℤ, ◌≤ℤ◌, false, true, List, Contains, Option, Some, Result, Ok, Err, refl, sym, ap, ◌∙◌, subst, true≢false, arith}
 use Rattle.std.specs.Prelude.{IfOk, IfErr, IfSome, IsErrOf, OnErr, slice_index_or}
 use Rattle.std.proofs.lemmas.List.Elements.{All-contains}
 use Rattle.disk.specs.Disk.{Image, HasRisen}
 use Rattle.disk.specs.declared.disk.Disk.{Ghosts}
 use Rattle.lattice.specs.Corners.{Corner}
 use Rattle.lattice.specs.Mosaic.{Mosaic, IsMosaic, void}
-use Rattle.lattice.specs.Block.{Block, IsBlockOf}
 use Rattle.lattice.specs.declared.refusal.Refusal.{Refusal}
 use Rattle.lattice.specs.declared.refusal.Refusal.TheVariants.{Device, NoMemory, Failed, Damaged}
-use Rattle.catalogue.specs.Asked.{IsOwnRefusal}
-use Rattle.catalogue.specs.Endings.{ends_any}
 use Rattle.catalogue.specs.Reading.{MayRefuse}
-use Rattle.catalogue.specs.Readers.{reads_of}
 use Rattle.charts.specs.Planes.{HasPlane}
 use Rattle.charts.specs.TileLocations.{TileLocation}
 use Rattle.charts.specs.declared.plane.Plane.TheVariants.{Levels}
@@ -24,13 +20,13 @@ use Rattle.tile_flood.proofs.Raised.{lowest_height}
 use Rattle.calls.specs.State.{State}
 use Rattle.cow_tree.specs.Layout.{tile_in, kept_in}
 use Rattle.cow_tree.specs.Reading.{mosaic_of, HasOnlyRead, Reads, read_nothing, read_again}
-use Rattle.cow_tree.specs.Stored.{StoredTile, KeptPlanes, plane_bytes}
+use Rattle.cow_tree.specs.Stored.{StoredTile, KeptPlanes}
 use Rattle.cow_tree.specs.Trees.{disk_of, root_of, sinks_of, has_failed, staged_in}
 use Rattle.cow_tree.specs.declared.tree.Tree.{Tree}
 use Rattle.cow_tree.proofs.Adding.{contains-map}
 use Rattle.cow_tree.proofs.TreeReads.{same_mosaic, was_readable}
 use Rattle.store.specs.Kept.{AreRight, KeepRight}
-use Rattle.store.specs.Labelling.{IsSure, Consults}
+use Rattle.store.specs.Labelling.{IsSure}
 use Rattle.store.specs.Queried.{IsTileOf}
 use Rattle.store.specs.TreeStates.{IsInState}
 use Rattle.store.proofs.Finding.{rising_staged}

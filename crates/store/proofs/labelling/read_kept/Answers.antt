@@ -1,4 +1,4 @@
-use Rattle.std.proofs.Common.{◌≡◌, ℕ, List, Ok, refl, sym, ap, subst}
+use Rattle.std.proofs.Common.{◌≡◌, List, Ok, refl, sym, subst}
 use Rattle.cow_tree.specs.Stored.{StoredTile, plane_bytes}
 use Rattle.page_codec.specs.Roots.{RootValue}
 use Rattle.store.specs.Queried.{IsTileOf}

@@ -1,4 +1,4 @@
-use Rattle.std.proofs.Common.{◌≡◌, ℕ, ◌+◌, ◌-◌, ◌*◌, ◌≤◌, min, List, ◌++◌, length, take, Contains, IsOk, Result, Ok, Err, is_ok, if◌then◌else◌, vec_len, refl, sym, ap, ◌∙◌, subst, arith, length-take-le}
+use Rattle.std.proofs.Common.{◌≡◌, ℕ, ◌+◌, ◌-◌, ◌*◌, ◌≤◌, min, List, ◌++◌, length, take, IsOk, Result, Ok, Err, is_ok, if◌then◌else◌, vec_len, sym, ap, ◌∙◌, subst, arith, length-take-le}
 use Rattle.charts.specs.Charts.{ChartValue}
 use Rattle.charts.specs.Planes.{HasPlane}
 use Rattle.page_codec.specs.Roots.{RootValue}
