@@ -32,19 +32,19 @@ times_among f p (y ∷ ys) x (zero, lt, here) = let split = times-append p (f y)
 times_among f p (y ∷ ys) x (suc k, lt, here) = let split = times-append p (f y) (flat_map f ys) in let later = times_among f p ys x (k, omega arith, here) in omega (arith, split, later)
 
 -- the first of them
-times_front : {X : Type 0} (f : X → List ℕ) (p n : ℕ) (xs : List X) → times p (flat_map f (take n xs)) ≤ times p (flat_map f xs)
+pub times_front : {X : Type 0} (f : X → List ℕ) (p n : ℕ) (xs : List X) → times p (flat_map f (take n xs)) ≤ times p (flat_map f xs)
 times_front f p n xs =
     let split = times-append p (flat_map f (take n xs)) (flat_map f (drop n xs)) in
     let whole = ap (times p) (sym (flat_map-append f (take n xs) (drop n xs)) ∙ ap (flat_map f) (take-append-drop n xs)) in
     omega (arith, split, whole)
 
-length_front : {X : Type 0} (f : X → List ℕ) (n : ℕ) (xs : List X) → length (flat_map f (take n xs)) ≤ length (flat_map f xs)
+pub length_front : {X : Type 0} (f : X → List ℕ) (n : ℕ) (xs : List X) → length (flat_map f (take n xs)) ≤ length (flat_map f xs)
 length_front f n xs =
     let split = length-append (flat_map f (take n xs)) (flat_map f (drop n xs)) in
     let whole = ap length (sym (flat_map-append f (take n xs) (drop n xs)) ∙ ap (flat_map f) (take-append-drop n xs)) in
     omega (arith, split, whole)
 
-flat_more : {X : Type 0} (f : X → List ℕ) (xs : List X) (k : ℕ) (x : X) → k < length xs → get_or xs k x ≡ x → flat_map f (take (k + 1) xs) ≡ flat_map f (take k xs) ++ f x
+pub flat_more : {X : Type 0} (f : X → List ℕ) (xs : List X) (k : ℕ) (x : X) → k < length xs → get_or xs k x ≡ x → flat_map f (take (k + 1) xs) ≡ flat_map f (take k xs) ++ f x
 flat_more f xs k x lt here =
     ap (flat_map f) (take_more xs k x lt) ∙ flat_map-append f (take k xs) (get_or xs k x ∷ [])
     ∙ ap (λ ys. flat_map f (take k xs) ++ ys) (append-nil (f (get_or xs k x)) ∙ ap f here)

@@ -56,7 +56,7 @@ module _ (chart : ChartValue) (rules : IsChart chart) where
   entries_in_order = adjacent_map entry_of (λ e. e.corner) chart.staged rules.staged.in_order
 
 -- ---- the tile of the next corner
-tile_at : (tiles : List TileLocation) (k : ℕ) (c : Corner) → k < length (corners_of_locations tiles) → c ≡ get_or (corners_of_locations tiles) k c
+pub tile_at : (tiles : List TileLocation) (k : ℕ) (c : Corner) → k < length (corners_of_locations tiles) → c ≡ get_or (corners_of_locations tiles) k c
     → (t : TileLocation) × ((k < length tiles) × ((get_or tiles k t ≡ t) × (t.corner ≡ c)))
 tile_at [] k c lt is = absurd (omega (arith, lt))
 tile_at (t ∷ rest) zero c lt is = (t, (omega arith, (refl, sym is)))

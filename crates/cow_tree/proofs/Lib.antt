@@ -26,3 +26,5 @@ pub mod KeptStaging
 pub mod PageReads
 pub mod SampleReads
 pub mod TreeReads
+pub mod ListingWrites
+pub mod UpgradeLands

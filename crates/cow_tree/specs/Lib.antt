@@ -3,6 +3,7 @@ pub mod Entries
 pub mod Found
 pub mod Kept
 pub mod Layout
+pub mod Listings
 pub mod OverRoots
 pub mod Planes
 pub mod Reading
@@ -10,3 +11,4 @@ pub mod Sinks
 pub mod Staged
 pub mod Stored
 pub mod Trees
+pub mod Upgrades

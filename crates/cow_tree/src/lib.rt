@@ -3,14 +3,15 @@
 //! A [`Tree`] reads pages by corner, plane and index, stages new ones on pages that no committed tile reaches, and
 //! commits all that was staged at once. The layer above rests on this: where the disk is honest, a stop at any moment
 //! leaves what was committed or, inside a commit, all that was staged, whole; after an Ok of a commit a stop leaves
-//! nothing else; and an image stands for at most one list of tiles. `specs/Stored.antt` says what a disk stores,
-//! `specs/Layout.antt` when an image stands for it.
+//! nothing else; an upgrade to the second version is one commit more, of the same tiles; and an image stands for at most
+//! one list of tiles. `specs/Stored.antt` says what a disk stores, `specs/Layout.antt` when an image stands for it.
 #![tactic(auto)]
 
 mod cache;
 mod entries;
 mod keeping;
 mod laws;
+mod listings;
 mod opening;
 mod samples;
 mod sinks;

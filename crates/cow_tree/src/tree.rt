@@ -20,11 +20,14 @@ ghost use Rattle.roots.specs.Roots.{disk_of as disk_under, root_of as root_under
 ghost use Rattle.cow_tree.specs.OverRoots.{IsRefusalOfTree};
 ghost use Rattle.cow_tree.specs.Planes.{HasPage};
 ghost use Rattle.cow_tree.specs.Staged.{index_page_by};
+ghost use Rattle.cow_tree.specs.Upgrades.{MayUpgrade, UpgradesNot, most_upgrade_writes, upgraded_store};
+ghost use Rattle.layout.specs.declared.version.Version.TheVariants.{Two};
 ghost use Rattle.cow_tree.specs.Stored.{Stored, made_stale, no_tiles, next_commit, pages_of_bytes, stale_tile, with_corner, with_page, with_tile, without_tile};
 
 use crate::cache::PageCache;
 use crate::entries::staged_entries;
 use crate::keeping::write_kept;
+use crate::listings::write_listings;
 use crate::opening::read_chart;
 use crate::sinks::Sinks;
 use crate::writing::{write_plane, write_records};
@@ -32,7 +35,7 @@ use arrayvec::ArrayVec;
 use charts::{Chart, Plane};
 use disk::Disk;
 use lattice::{Corner, MOST_TILES, Point, Refusal};
-use page_codec::{Format, Root};
+use page_codec::{Format, Root, Version};
 use roots::{NotOpened, Roots};
 use std::alloc::Global;
 
@@ -546,6 +549,72 @@ impl<D: Disk> Tree<D> {
         self.roots.commit(&root)?;
         self.root = root;
         self.chart.settle();
+        Ok(())
+    }
+
+    /// Makes the store one of the second version, by one commit that has the same tiles, sinks and count of commands. Records
+    /// and index pages are written anew for every plane; the pages that they list stay where they are. A stop at any moment
+    /// leaves the store as it was, or upgraded; after Ok the latter alone.
+    ///
+    /// It is refused as NotOld where the store is of the second version, as TooSmall where the disk has fewer sectors than
+    /// that version asks, as Worn where the commit number can't grow, and with NoMemory, in this order; then nothing was
+    /// done. Else with Device.
+    pub fn upgrade(&mut self) -> Result<(), Refusal>
+        requires not_failed { has_failed self.old ≡ false }
+        requires unstaged { IsUnstaged self.old }
+        ensures size { D.size (disk_of self.new) ≡ D.size (disk_of self.old) }
+        ensures cause { IsErrOf result Device → HasRisen (D.failures (disk_of self.old)) (D.failures (disk_of self.new)) }
+        ensures later { D.failures (disk_of self.old) ≤ D.failures (disk_of self.new) }
+        ensures refused { IfErr result (UpgradesNot (D.size (disk_of self.old)) (root_of self.old)) }
+        ensures allowed { OnOk result (MayUpgrade (D.size (disk_of self.old)) (root_of self.old)) }
+        ensures unchanged { IfErr result (λ why. why ≢ Device → self.new ≡ self.old) }
+        ensures writes { D.writes (disk_of self.new) ≤ D.writes (disk_of self.old) + most_upgrade_writes (root_of self.old) }
+        ensures honest { D.honest (disk_of self.new) → D.honest (disk_of self.old) }
+        ensures not_failed { OnOk result (has_failed self.new ≡ false) }
+        ensures device { IsErrOf result Device → has_failed self.new ≡ true }
+        ensures last_known { OnErr result (root_of self.new ≡ root_of self.old) }
+        ensures version { OnOk result ((root_of self.new).version ≡ Two) }
+        ensures number { OnOk result ((root_of self.new).number ≡ (root_of self.old).number + 1) }
+        ensures count { (root_of self.new).count ≡ (root_of self.old).count }
+        ensures side { (root_of self.new).side ≡ (root_of self.old).side }
+        ensures capacity { (root_of self.new).capacity ≡ (root_of self.old).capacity }
+        ensures declared { (root_of self.new).sinks ≡ (root_of self.old).sinks }
+        ensures corners { corners_of self.new ≡ corners_of self.old }
+        ensures sinks { sinks_of self.new ≡ sinks_of self.old }
+        ensures not_begun { OnOk result (has_begun self.new ≡ false) }
+        ensures none_staged { OnOk result ((c : Corner) → ¬ HasStaged self.new c) }
+        ensures unstaged { OnOk result (IsUnstaged self.new) }
+        ensures none_due { OnOk result (records_due self.new ≡ 0) }
+        ensures entries { OnOk result (corners_of self.new ≡ map (λ e. e.corner) (root_of self.new).entries) }
+        ensures at { D.honest (disk_of self.new) → (s : Stored) → IsAt D.Disk self.old s
+            → OnOk result (IsAt D.Disk self.new (upgraded_store s)) }
+        ensures staged { D.honest (disk_of self.new) → (s : Stored) → IsAt D.Disk self.old s
+            → OnOk result (staged_in D.Disk self.new ≡ s.tiles) }
+        ensures durable { D.honest (disk_of self.new)
+            → OnOk result (Only (D.seen (disk_of self.new)) (D.may (disk_of self.new))) }
+        ensures any_moment { D.honest (disk_of self.new) → (s : Stored) → IsAt D.Disk self.old s
+            → LeavesOnly D.Disk (disk_of self.old) (disk_of self.new)
+            (λ image. Stands (D.size (disk_of self.old)) image s ⊎ Stands (D.size (disk_of self.old)) image (upgraded_store s)) }
+    {
+        let format = self.root.format();
+        match format.version() {
+            Version::One => (),
+            Version::Two => return Err(Refusal::NotOld),
+        }
+        if self.sectors() < format.upgraded().sectors() {
+            return Err(Refusal::TooSmall);
+        }
+        if self.root.number() == u64::MAX {
+            return Err(Refusal::Worn);
+        }
+        let chart = self.chart.upgraded()?;
+        self.cache.clear();
+        let entries = staged_entries(&chart);
+        let root = self.root.upgraded(entries);
+        write_listings(&mut self.roots, &self.chart, &chart)?;
+        self.roots.commit(&root)?;
+        self.root = root;
+        self.chart = chart;
         Ok(())
     }
 

@@ -1,0 +1,156 @@
+use Rattle.std.proofs.Common.{◌≡◌, ◌≤◌, ◌<◌, ◌+◌, ◌*◌, ◌^◌, ◌⊎◌, inl, ℕ, List, length, map, refl, sym, ap, ◌∙◌, subst}
+use Rattle.disk.specs.Disk.{Image}
+use Rattle.disk.specs.Stops.{LeavesOnly, weaker}
+use Rattle.layout.specs.Formats.{upgraded}
+use Rattle.page_codec.specs.Entries.{EntryValue}
+use Rattle.page_codec.specs.Roots.{RootValue, format_of}
+use Rattle.page_codec.specs.Sizes.{index_pages_of}
+use Rattle.roots.specs.Roots.{IsReady, ready_current}
+use Rattle.roots.specs.Slots.{KeepsAll, HasMoved, SamePages, IsCurrent}
+use Rattle.charts.specs.TileLocations.{TileLocation}
+use Rattle.charts.specs.Upgraded.{listings}
+use Rattle.cow_tree.specs.Entries.{entry_of}
+use Rattle.cow_tree.specs.Layout.{stored_in, tile_in, StoresAt, Stands}
+use Rattle.cow_tree.specs.Staged.{AreStaged}
+use Rattle.cow_tree.specs.Stored.{Stored}
+use Rattle.cow_tree.specs.Trees.{IsAt}
+use Rattle.cow_tree.specs.Upgrades.{upgraded_store}
+use Rattle.cow_tree.proofs.Commits.{nothing_staged, committing}
+use Rattle.cow_tree.proofs.Dropping.{corners_of_entries, clean_is_committed}
+use Rattle.cow_tree.proofs.Due.{none_due}
+use Rattle.cow_tree.proofs.Steps.{stands, stores_along}
+use Rattle.cow_tree.proofs.UpgradeLands.{corners_stay, few_in_all, few_in_part, few_listed, tiles_are, upgrade_lands, upgraded_root}
+use Rattle.cow_tree.proofs.tree.Tree.upgrade.Goals as goal
+use Rattle.cow_tree.proofs.tree.Tree.upgrade.Goals.{After-write_listings, After-commit}
+
+-- what lists the planes is not too much
+module _ (g : _) (c : After-write_listings g) where
+  few : length (listings c.in_ok-chart.chart.committed) ≤ 3 * (1 + index_pages_of (upgraded (format_of c.args.self.now.root))) * length c.args.self.now.root.entries
+  few =
+      few_listed c.args.self.now.chart c.in_ok-chart.chart c.in_ok-chart.ensures.rules c.in_ok-chart.ensures.upgraded c.args.self.now.root
+      (c.in_ok-chart.ensures.upgraded.format ∙ ap upgraded c.args.self.now.format) c.args.self.now.entries
+
+pub returns-in_err-write_listings-clause-writes : goal.returns-in_err-write_listings-clause-writes
+returns-in_err-write_listings-clause-writes g c =
+    few_in_part _ _ _ _ _ c.write_listings.ensures.writes.few (few g (goal.at.returns-in_err-write_listings-clause-writes g c).After-write_listings)
+
+pub returns-in_err-write_listings-clause-any_moment : goal.returns-in_err-write_listings-clause-any_moment
+returns-in_err-write_listings-clause-any_moment g c honest s is =
+    let d = g.D.Disk in
+    let old = c.args.self.now in
+    let size = d.size old.roots.disk in
+    weaker d old.roots.disk c.write_listings.new.roots.disk (StoresAt size old.roots.root old.chart.committed s) (λ image. Stands size image s ⊎ Stands size image (upgraded_store s))
+    (λ image stores. inl (stands size old.roots.root old.chart.committed s image stores)) (c.write_listings.ensures.writes.any_moment honest is.ready s is.each)
+
+-- what lists the planes is written
+module _ (g : _) (c : After-commit g) (honest : g.D.Disk.honest c.commit.new.self.disk) (s : Stored) (is : IsAt g.D.Disk c.args.self.now s) where
+  abbrev size : ℕ
+  size = g.D.Disk.size c.args.self.now.roots.disk
+
+  abbrev seen : Image
+  seen = g.D.Disk.seen c.args.self.now.roots.disk
+
+  abbrev between : Image
+  between = g.D.Disk.seen c.write_listings.new.roots.disk
+
+  abbrev tiles : List TileLocation
+  tiles = c.in_ok-chart.chart.committed
+
+  mid_honest : g.D.Disk.honest c.write_listings.new.roots.disk
+  mid_honest = c.commit.ensures.honest honest
+
+  stored : s ≡ stored_in seen c.args.self.now.root c.args.self.now.chart.committed
+  stored =
+      (is.each seen (g.met.D.Disk.seen_may c.args.self.now.roots.disk (c.write_listings.ensures.writes.honest mid_honest))).stands
+      ∙ ap (λ (r : RootValue). stored_in seen r c.args.self.now.chart.committed) (c.args.self.now.known c.requires.not_failed)
+
+  is_next : c.upgraded-root.result ≡ upgraded_root c.args.self.now.root (map entry_of tiles)
+  is_next = c.upgraded-root.ensures ∙ ap (upgraded_root c.args.self.now.root) (c.staged_entries-entries.ensures.value ∙ ap (map entry_of) c.in_ok-chart.ensures.upgraded.clean)
+
+  on_disk : c.in_ok-chart.chart.sectors ≡ size
+  on_disk = c.in_ok-chart.ensures.upgraded.sectors ∙ c.args.self.now.sectors
+
+  small : c.in_ok-chart.chart.sectors < 2 ^ 32
+  small = subst (λ (n : ℕ). n < 2 ^ 32) (sym c.in_ok-chart.ensures.upgraded.sectors) c.args.self.now.fits
+
+  by_two : c.in_ok-chart.chart.format ≡ upgraded (format_of c.args.self.now.root)
+  by_two = c.in_ok-chart.ensures.upgraded.format ∙ ap upgraded c.args.self.now.format
+
+  land : (image : Image) → HasMoved c.upgraded-root.result between image → StoresAt size c.upgraded-root.result tiles (upgraded_store s) image
+  land =
+      let old = c.args.self.now in
+      subst (λ (r : RootValue). (image : Image) → HasMoved r between image → StoresAt size r tiles (upgraded_store s) image) (sym is_next)
+      (upgrade_lands old.chart c.in_ok-chart.chart c.in_ok-chart.ensures.rules c.in_ok-chart.ensures.upgraded old.root size on_disk small by_two s seen stored between
+      (c.in_ok-write_listings.ensures.writes.others mid_honest) (c.in_ok-write_listings.ensures.listed mid_honest))
+
+  ready : IsReady g.D.Disk c.write_listings.new.roots
+  ready = c.in_ok-write_listings.ensures.writes.ready mid_honest is.ready
+
+  leaves : LeavesOnly g.D.Disk c.args.self.now.roots.disk c.commit.new.self.disk (λ image. Stands size image s ⊎ Stands size image (upgraded_store s))
+  leaves =
+      let d = g.D.Disk in
+      let old = c.args.self.now in
+      let mid = c.write_listings.new.roots in
+      committing d old.roots.disk mid.disk c.commit.new.self.disk size old.roots.root c.upgraded-root.result old.chart.committed tiles s (upgraded_store s)
+      (c.write_listings.ensures.writes.any_moment mid_honest is.ready s is.each) land
+      (subst (λ (r : RootValue). LeavesOnly d mid.disk c.commit.new.self.disk (λ image. KeepsAll r (d.may mid.disk) image ⊎ HasMoved c.upgraded-root.result between image))
+      c.write_listings.ensures.writes.root (c.commit.ensures.any_moment honest ready))
+
+pub returns-in_err-commit-clause-writes : goal.returns-in_err-commit-clause-writes
+returns-in_err-commit-clause-writes g c =
+    few_in_all _ _ _ _ _ _ _ c.in_ok-write_listings.ensures.writes.writes c.commit.ensures.writes (few g (goal.at.returns-in_err-commit-clause-writes g c).After-write_listings)
+
+pub returns-in_err-commit-clause-any_moment : goal.returns-in_err-commit-clause-any_moment
+returns-in_err-commit-clause-any_moment g c honest s is = leaves g (goal.at.returns-in_err-commit-clause-any_moment g c).After-commit honest s is
+
+pub returns-clause-writes : goal.returns-clause-writes
+returns-clause-writes g c =
+    few_in_all _ _ _ _ _ _ _ c.in_ok-write_listings.ensures.writes.writes c.commit.ensures.writes (few g (goal.at.returns-clause-writes g c).After-write_listings)
+
+pub returns-clause-any_moment : goal.returns-clause-any_moment
+returns-clause-any_moment g c honest s is = leaves g (goal.at.returns-clause-any_moment g c).After-commit honest s is
+
+pub returns-clause-corners : goal.returns-clause-corners
+returns-clause-corners g c = corners_stay c.args.self.now.chart c.in_ok-chart.chart c.in_ok-chart.ensures.rules c.in_ok-chart.ensures.upgraded c.requires.unstaged
+
+pub returns-clause-none_staged : goal.returns-clause-none_staged
+returns-clause-none_staged g c = clean_is_committed c.in_ok-chart.chart c.in_ok-chart.ensures.upgraded.clean
+
+pub returns-clause-none_due : goal.returns-clause-none_due
+returns-clause-none_due g c = none_due c.in_ok-chart.chart c.in_ok-chart.ensures.upgraded.clean
+
+pub returns-clause-entries : goal.returns-clause-entries
+returns-clause-entries g c =
+    corners_of_entries c.in_ok-chart.chart.staged ∙ ap (map (λ (e : EntryValue). e.corner)) (sym c.staged_entries-entries.ensures.value)
+    ∙ ap (λ (r : RootValue). map (λ (e : EntryValue). e.corner) r.entries) (sym c.upgraded-root.ensures)
+
+pub returns-clause-at : goal.returns-clause-at
+returns-clause-at g c honest s is =
+    let d = g.D.Disk in
+    let after = (goal.at.returns-clause-at g c).After-commit in
+    let chart = c.in_ok-chart.chart in
+    let mid = c.write_listings.new.roots in
+    let new = c.commit.new.self in
+    let root = c.upgraded-root.result in
+    let n = d.size c.args.self.now.roots.disk in
+    let ready_now = c.in_ok-commit.ensures.ready honest (ready g after honest s is) in
+    let each : (image : Image) → d.may new.disk image → StoresAt n root chart.committed (upgraded_store s) image = λ image may.
+    let current : IsCurrent root image = subst (λ (r : RootValue). IsCurrent r image) c.in_ok-commit.ensures.root (ready_current d new image ready_now may) in
+    let pages : SamePages (d.seen mid.disk) image = subst (λ (i : Image). SamePages (d.seen mid.disk) i) (sym (c.in_ok-commit.ensures.durable honest image may)) (c.in_ok-commit.ensures.pages honest) in
+    land g after honest s is image (current, pages) in
+    record {
+      ready = ready_now;
+      each = λ image may. stores_along n (d.size new.disk) root new.root chart.committed chart.committed (upgraded_store s) image (c.commit.ensures.size ∙ c.write_listings.ensures.writes.size) c.in_ok-commit.ensures.root refl (each image may);
+      staged = subst (λ (ts : List TileLocation). AreStaged (format_of root) chart.committed ts (d.seen new.disk)) (sym c.in_ok-chart.ensures.upgraded.clean)
+          (nothing_staged n root chart.committed (upgraded_store s) (d.seen new.disk) (each (d.seen new.disk) (g.met.D.Disk.seen_may new.disk honest)));
+    }
+
+pub returns-clause-staged : goal.returns-clause-staged
+returns-clause-staged g c honest s is =
+    let d = g.D.Disk in
+    let after = (goal.at.returns-clause-staged g c).After-commit in
+    let old = c.args.self.now in
+    ap (map (tile_in (d.seen c.commit.new.self.disk))) c.in_ok-chart.ensures.upgraded.clean
+    ∙ sym (tiles_are old.chart c.in_ok-chart.chart c.in_ok-chart.ensures.rules c.in_ok-chart.ensures.upgraded old.root (d.size old.roots.disk) (on_disk g after honest s is) (small g after honest s is) (by_two g after honest s is)
+    s (d.seen old.roots.disk) (stored g after honest s is) (d.seen c.write_listings.new.roots.disk) (c.in_ok-write_listings.ensures.writes.others (mid_honest g after honest s is))
+    (d.seen c.commit.new.self.disk) (c.in_ok-commit.ensures.pages honest))
