@@ -30,4 +30,5 @@ pub mod SteppedTiles
 pub mod SteppedTrees
 pub mod StoreLemmas
 pub mod StoredCommands
+pub mod UpgradedTrees
 pub mod WholeTiles

@@ -15,3 +15,4 @@ pub mod StoreState
 pub mod Stepped
 pub mod Stores
 pub mod TreeStates
+pub mod Upgraded

@@ -20,6 +20,7 @@ mod staling;
 mod stepping;
 mod store;
 mod store_engine;
+mod upgrading;
 
 pub use calls::{Event, Reply};
 pub use laws::images_stand_for_one_contents;

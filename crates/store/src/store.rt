@@ -177,6 +177,13 @@ impl<D: Disk> Store<D> {
         self.tree.current().format().version().number()
     }
 
+    /// How many sectors the second version asks of a store of this side and capacity.
+    pub fn sectors_to_upgrade(&self) -> u32
+        ensures { result ≡ sectors_asked (format_2 (side_of self.now) (capacity_of self.now)) }
+    {
+        self.tree.current().format().upgraded().sectors()
+    }
+
     /// Samples along an edge of its tiles.
     pub fn side(&self) -> u32
         ensures { result ≡ side_of self.now }

@@ -22,3 +22,5 @@ mod script;
 mod sinks;
 #[cfg(test)]
 mod stops;
+#[cfg(test)]
+mod upgrades;

@@ -1,0 +1,49 @@
+//! The upgrade of a store to the second version.
+ghost use Rattle.std.specs.Prelude.{◌≡◌, ◌≤◌, ◌+◌, false, true, Err};
+ghost use Rattle.lattice.specs.declared.refusal.Refusal.TheVariants.{Failed};
+ghost use Rattle.cow_tree.specs.Trees.{disk_of as disk_under, root_of as root_under, has_failed as have_failed};
+ghost use Rattle.cow_tree.specs.Upgrades.{most_upgrade_writes};
+ghost use Rattle.store.specs.Stores.{disk_of, root_of, has_failed};
+ghost use Rattle.store.specs.TreeStates.{IsClean};
+ghost use Rattle.store.specs.Upgraded.{HasUpgraded, IsUpgraded};
+
+use crate::Store;
+use cow_tree::Tree;
+use disk::Disk;
+use lattice::Refusal;
+
+impl<D: Disk> Store<D> {
+    /// Makes it a store of the second version, by one commit at the same count: its tiles, its sinks, what is kept of them
+    /// and which are stale stay as they are. A stop at any moment leaves the store as it was, or upgraded.
+    ///
+    /// Refused with Failed, with NotOld where it is of the second version, with TooSmall where the disk has fewer sectors
+    /// than that version asks, or with Worn where the commit number can't grow, in this order; or for memory, which is had
+    /// before the first write, or for the disk.
+    pub fn upgrade(&mut self) -> Result<(), Refusal>
+        ensures upgraded { HasUpgraded D.Disk self.old self.new result }
+
+        // It writes the records and index pages of three planes a tile, a root and two gates at most, on any disk.
+        ensures writes { D.writes (disk_of self.new) ≤ D.writes (disk_of self.old) + most_upgrade_writes (root_of self.old) }
+
+        // A store that failed makes no call of the disk, and stays failed.
+        ensures failed { has_failed self.old ≡ true → (result ≡ Err Failed) × (disk_of self.new ≡ disk_of self.old) }
+        ensures still_failed { has_failed self.old ≡ true → has_failed self.new ≡ true }
+    {
+        if self.tree.has_failed() {
+            return Err(Refusal::Failed);
+        }
+        upgrade_tree(&mut self.tree)
+    }
+}
+
+// Upgrades a tree that hasn't failed.
+fn upgrade_tree<D: Disk>(tree: &mut Tree<D>) -> Result<(), Refusal>
+    requires works { have_failed tree.old ≡ false }
+    ensures upgraded { IsUpgraded D.Disk result tree.old tree.new }
+    ensures clean { have_failed tree.new ≡ false → IsClean tree.new }
+    ensures writes { D.writes (disk_under tree.new) ≤ D.writes (disk_under tree.old) + most_upgrade_writes (root_under tree.old) }
+{
+    // Between two calls nothing is staged.
+    tree.abandon();
+    tree.upgrade()
+}

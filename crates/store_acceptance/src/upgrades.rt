@@ -1,0 +1,93 @@
+//! The upgrade of a store of side 3 to the second version, with a stop after each call.
+use super::fixtures::{A, HERE, at, exports, import, opened, sink, store_of_version_1};
+use disk::{FuseDisk, MemDisk, Torn};
+use lattice::Refusal;
+use std::alloc::Global;
+use std::test::Fail;
+use store::Store;
+
+// More calls of the disk than opening the store and its upgrade make.
+const MANY_CALLS: u64 = 60;
+
+// Version, commands and commits: an import, a sink and a step were made, and then the upgrade.
+const BEFORE: (u32, u64, u64) = (1, 2, 4);
+
+const AFTER: (u32, u64, u64) = (2, 2, 5);
+
+// A store of the first version with one tile, which is fresh, and a sink, on a disk of so many sectors.
+fn one_tile(alloc: Global, sectors: u32) -> Result<Store<MemDisk>, Fail> {
+    let mut store = store_of_version_1(alloc, sectors, 3, 1)?;
+    store.apply(&import(alloc, HERE, &A)?)?;
+    store.apply(&sink(at(1, 1)))?;
+    store.step()?;
+    Ok(store)
+}
+
+// Whether the store has the tile, the sink and what is kept of the tile.
+fn has_all(store: &mut Store<MemDisk>) -> Result<bool, Fail> {
+    Ok(
+        exports(store, HERE, &A)?
+            && store.sinks()?.as_slice() == [at(1, 1)].as_slice()
+            && !store.stale(HERE)
+            && store.fill(at(1, 1)) == Ok(1),
+    )
+}
+
+fn numbers(store: &Store<MemDisk>) -> (u32, u64, u64) {
+    (store.version(), store.count(), store.commits())
+}
+
+#[test]
+fn an_upgrade_needs_room_and_is_made_once(rt: HostRuntime) -> Result<(), Fail> {
+    let alloc = rt.alloc();
+    let mut store = one_tile(alloc, 16)?;
+    assert_eq!(rt; store.upgrade(), Err(Refusal::TooSmall));
+    assert_eq!(rt; numbers(&store), BEFORE);
+    let mut store = one_tile(alloc, 22)?;
+    assert_eq!(rt; store.upgrade(), Ok(()));
+    assert_eq!(rt; numbers(&store), AFTER);
+    assert_eq!(rt; store.upgrade(), Err(Refusal::NotOld));
+    let mut store = opened(alloc, store.into_disk())?;
+    assert_eq!(rt; numbers(&store), AFTER);
+    assert!(rt; has_all(&mut store)?);
+    Ok(())
+}
+
+// Upgrades with so many calls of the disk, and cuts the power. Answers whether the upgrade was through by then.
+fn stop_after(alloc: Global, calls: u64, torn: Torn) -> Result<bool, Fail> {
+    let fuse = FuseDisk::new(one_tile(alloc, 22)?.into_disk(), calls);
+    let (fuse, through) = match Store::open(alloc, fuse) {
+        Ok(mut store) => {
+            let answer = store.upgrade();
+            (store.into_disk(), answer.is_ok())
+        }
+        Err(not_opened) => (not_opened.disk, false),
+    };
+    let mut disk = fuse.into_inner();
+    disk.stop(torn)?;
+    let mut store = opened(alloc, disk)?;
+    let found = numbers(&store);
+    if found != AFTER && (through || found != BEFORE) {
+        return Err("another store".into());
+    }
+    if !has_all(&mut store)? {
+        return Err("other contents".into());
+    }
+    Ok(through)
+}
+
+#[test]
+fn a_stop_after_each_call_of_an_upgrade(rt: HostRuntime) -> Result<(), Fail> {
+    let alloc = rt.alloc();
+    for torn in [Torn::Old, Torn::New, Torn::Fill(0), Torn::Fill(0xa7)] {
+        let mut through = false;
+        for calls in 0..MANY_CALLS {
+            through = stop_after(alloc, calls, torn)?;
+            if through {
+                break;
+            }
+        }
+        assert!(rt; through);
+    }
+    Ok(())
+}
