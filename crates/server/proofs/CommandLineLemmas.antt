@@ -17,10 +17,10 @@ use Rattle.clap.proofs.OnLiterals.{clap_on_literals}
 use Rattle.clap.proofs.SimpleLemmas.{is_nil, label_first}
 use Rattle.clap.proofs.WalkLemmas.{both, walk_stopped}
 use Rattle.server.specs.CommandLine.{AskedBy, AskedIn, AskNothing, IsOption, SpellsOut, Texts, program_app, texts_in, texts_of}
-use Rattle.server.specs.CommandLine.{check_app, format_app, import_app, serve_app, table_app}
+use Rattle.server.specs.CommandLine.{check_app, format_app, import_app, serve_app, table_app, upgrade_app}
 use Rattle.server.specs.declared.arguments.ArgumentFault.TheVariants.{Bad}
 use Rattle.server.specs.declared.arguments.Arguments.{Arguments}
-use Rattle.server.specs.declared.arguments.Arguments.TheVariants.{Format, Import, Serve, Table, Check}
+use Rattle.server.specs.declared.arguments.Arguments.TheVariants.{Format, Import, Serve, Table, Check, Upgrade}
 
 pub simple_app : is_simple program_app ≡ true
 unfolding clap_on_literals
@@ -124,6 +124,7 @@ subcommand (Import path tile) = import_app.top
 subcommand (Serve path) = serve_app.top
 subcommand (Table side capacity) = table_app.top
 subcommand (Check path) = check_app.top
+subcommand (Upgrade path) = upgrade_app.top
 
 subcommand_expected : (a : Arguments) (ts : List Text) → All NoOption ts → outcome_at ts (subcommand a) ≡ expected_at ts (subcommand a)
 subcommand_expected a ts none = let q = plain_words ts none in subst (λ v. outcome_at v (subcommand a) ≡ expected_at v (subcommand a)) q.1 (by a (words_of q.0) (as_expected q.0))
@@ -134,6 +135,7 @@ subcommand_expected a ts none = let q = plain_words ts none in subst (λ v. outc
     by (Serve path) ws e = ap (λ l. get_or l 2 (false, None)) e
     by (Table side capacity) ws e = ap (λ l. get_or l 3 (false, None)) e
     by (Check path) ws e = ap (λ l. get_or l 4 (false, None)) e
+    by (Upgrade path) ws e = ap (λ l. get_or l 5 (false, None)) e
 
 names_it : (t : Texts) (a : Arguments) → AskedIn (Some t) a → t.name ≡ (subcommand a).name
 names_it t (Format path side capacity) h = h.0
@@ -141,6 +143,7 @@ names_it t (Import path tile) h = h.0
 names_it t (Serve path) h = h.0
 names_it t (Table side capacity) h = h.0
 names_it t (Check path) h = h.0
+names_it t (Upgrade path) h = h.0
 
 -- what holds of any texts, as many as are required
 abbrev EachText : List Rule → (List Text → Type 0) → Type 0
@@ -162,6 +165,7 @@ spells (Import path tile) = λ p f h. ap₂ (λ (v u : Text). codes "import" ∷
 spells (Serve path) = λ p h. ap (λ (v : Text). codes "serve" ∷ v ∷ []) (same_text p path.now h.1)
 spells (Table side capacity) = λ s c h. (s, c, refl, h.1, h.2)
 spells (Check path) = λ p h. ap (λ (v : Text). codes "check" ∷ v ∷ []) (same_text p path.now h.1)
+spells (Upgrade path) = λ p h. ap (λ (v : Text). codes "upgrade" ∷ v ∷ []) (same_text p path.now h.1)
 
 abbrev Spelt : List Text → Arguments → Type 0
 Spelt ws a = (ts : List Text) × (ws ≡ (subcommand a).name ∷ ts) × (is_full (subcommand a).rules ts ≡ true) × AskedIn (Some (texts_given (subcommand a) ts)) a
@@ -172,6 +176,7 @@ spelt ws (Import path tile) is = (path.now ∷ tile.now ∷ [], is, refl, (refl,
 spelt ws (Serve path) is = (path.now ∷ [], is, refl, (refl, refl))
 spelt ws (Table side capacity) (s, c, is, side_is, capacity_is) = (s ∷ c ∷ [], is, refl, (refl, side_is, capacity_is))
 spelt ws (Check path) is = (path.now ∷ [], is, refl, (refl, refl))
+spelt ws (Upgrade path) is = (path.now ∷ [], is, refl, (refl, refl))
 
 -- ---- the first word: clap refuses it where it names no subcommand, and else leaves the further words to that
 

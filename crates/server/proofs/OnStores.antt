@@ -1,8 +1,8 @@
 -- What was done to a store, as what was done to its disk.
-use Rattle.std.proofs.Common.{◌≡◌, ◌⊎◌, inl, inr, ⊎_elim, ℕ, ◌≤◌, Bool, false, List, [], ◌∷◌, map, Option, Result, Ok, Err, IfOk, refl, sym, ap, ◌∙◌, subst, arith}
-use Rattle.std.specs.Prelude.{Vec}
+use Rattle.std.proofs.Common.{◌≡◌, ◌⊎◌, inl, inr, ⊎_elim, ℕ, ◌≤◌, Bool, false, List, [], ◌∷◌, map, Option, Result, Ok, Err, IfOk, refl, sym, ap, ap₂, ◌∙◌, subst, arith}
+use Rattle.std.specs.Prelude.{Vec, nat_le}
 use Rattle.disk.specs.Disk.{Image}
-use Rattle.disk.specs.Stops.{AddsNothing, nothing_twice}
+use Rattle.disk.specs.Stops.{AddsNothing, LeavesOnly, nothing_twice, weaker}
 use Rattle.disk.specs.declared.disk.Disk.{Ghosts}
 use Rattle.lattice.specs.declared.refusal.Refusal.{Refusal}
 use Rattle.edits.specs.declared.command.Command.{Command}
@@ -11,22 +11,27 @@ use Rattle.calls.specs.declared.event.Reply.TheVariants as reply
 use Rattle.calls.specs.Engines.{IsCall, LeaveLater, answered, items_in}
 use Rattle.calls.specs.Events.{Happens}
 use Rattle.calls.specs.Outcomes.{Applies}
+use Rattle.calls.specs.Steps.{Upgrades}
 use Rattle.calls.specs.Told.{IsTold}
 use Rattle.calls.specs.Runs.{last_of}
 use Rattle.calls.specs.State.{Contents, State, working}
+use Rattle.page_codec.specs.Sizes.{sectors_asked}
+use Rattle.store.specs.Ended.{LeavesOr, HasEnded}
+use Rattle.store.specs.Formatted.{format_2}
 use Rattle.store.specs.States.{StandsForState}
 use Rattle.store.specs.Standing.{StandsFor}
 use Rattle.store.specs.StoreState.{IsStoreAt, LeavesStates, StandsForOne, members}
-use Rattle.store.specs.Stores.{IsAt, disk_of, side_of, capacity_of, has_failed}
+use Rattle.store.specs.Stores.{IsAt, disk_of, root_of, side_of, capacity_of, has_failed}
 use Rattle.store.specs.declared.store.Store.{Store}
 use Rattle.store.specs.StoreRuns.{allowed}
 use Rattle.store.specs.Queried.{Queries}
+use Rattle.store.specs.Upgraded.{UpgradesOn, upgrade_ending}
 use Rattle.serving.specs.Answers.{Replied}
 use Rattle.serving.specs.Promises.{side_in}
 use Rattle.serving.specs.Served.{Outcome}
 use Rattle.serving.specs.declared.session.ServeFault.{ServeFault}
 use Rattle.server.specs.Report.{IsReportText, Reports}
-use Rattle.server.specs.OnDisks.{StandsForEither, HoldsEither, WasRead, GoesFrom, LeavesLater, IsSession, HasServed, IsApplied, HasApplied, HasReported}
+use Rattle.server.specs.OnDisks.{StandsForEither, HoldsEither, WasRead, GoesFrom, LeavesLater, IsSession, HasServed, IsApplied, HasApplied, HasReported, HasMeasured, HasUpgraded, done_of}
 
 -- what an opening that succeeds promises
 pub record IsOpened {D : Type 0} (g : Ghosts D) (old : D) (store : Store D g) : Type 0 where
@@ -166,6 +171,53 @@ module _ {D : Type 0} (g : Ghosts D) where
             applies = applies capacity (working found.first) t command result
                 (subst (λ (n : ℕ). Happens n (working found.first) (ask.Do command) (answered reply.Done result) t) found.same_capacity happens);
           }
+
+  -- ---- an upgrade
+
+  pub has_measured : (old : D) (store : Store D g) (sectors : ℕ) → IsOpened g old store → sectors ≡ sectors_asked (format_2 (side_of store) (capacity_of store)) → HasMeasured g old (disk_of store) sectors
+  has_measured old store sectors opened is = record {
+    read = was_read old store opened;
+    asked = λ h side capacity a b holds.
+        let found = found_in old store opened h side capacity a b holds in
+        is ∙ ap₂ (λ (n c : ℕ). sectors_asked (format_2 n c)) found.same_side found.same_capacity;
+  }
+
+  -- it leaves the state before it or the one after it
+  ended_leaves : (store new : Store D g) (s t : State) → g.size (disk_of new) ≡ g.size (disk_of store) → side_of new ≡ side_of store → capacity_of new ≡ capacity_of store
+      → LeavesOnly g (disk_of store) (disk_of new) (LeavesOr g store.tree s t) → LeavesStates g store new (s ∷ t ∷ [])
+  ended_leaves store new s t size side capacity leaves = record {
+    size = size;
+    side = side;
+    capacity = capacity;
+    run = weaker g (disk_of store) (disk_of new) (LeavesOr g store.tree s t) (StandsForOne (g.size (disk_of store)) (side_of store) (capacity_of store) (s ∷ t ∷ []))
+        (λ image. ⊎_elim (λ was. (s, (0, omega arith, refl), inl was)) (λ later. (t, (1, omega arith, refl), later))) leaves;
+  }
+
+  counted : (store new : Store D g) (c : Contents) (result : Result ℕ Refusal) → (root_of store).count ≡ c.count → IfOk (done_of result) (λ u. UpgradesOn (root_of store) (root_of new))
+      → IfOk result (λ k. k ≡ (root_of new).count) → IfOk result (λ k. k ≡ c.count)
+  counted store new c (Ok k) same known is = is ∙ known.count ∙ same
+  counted store new c (Err r) same known is = tt
+
+  pub has_upgraded : (old : D) (store new : Store D g) (result : Result ℕ Refusal) → IsOpened g old store → HasEnded g (upgrade_ending (g.size (disk_of store)) (root_of store)) (done_of result) store.tree new.tree
+      → IfOk result (λ k. k ≡ (root_of new).count) → HasUpgraded g old (disk_of new) result
+  has_upgraded old store new result opened ended counts = record {
+    later = let more = ended.later in omega (arith, opened.later, more);
+    device = λ device. let risen = ended.device (ap done_of device) in omega (arith, opened.later, risen);
+    honest = λ h. (opened.nothing (ended.honest h)).honest;
+    upgraded = λ h side capacity a b holds.
+        let found = found_in old store opened (ended.honest h) side capacity a b holds in
+        let (t, (at, happens, leaves)) = ended.outcome h (working found.first) found.at.at in
+        record {
+          first = found.first;
+          left = t;
+          goes = goes_from old store new side capacity a b (t ∷ []) opened (ended.honest h) holds found
+              (ended_leaves store new (working found.first) t ended.size ended.side ended.capacity (leaves refl)) (allowed new t [] (store_at new t at));
+          upgrades = subst (λ (room : Bool). Upgrades room (working found.first) (done_of result) t)
+              (ap₂ (λ (n c : ℕ). nat_le (sectors_asked (format_2 n c)) (g.size (disk_of store))) found.same_side found.same_capacity
+              ∙ ap (λ (sectors : ℕ). nat_le (sectors_asked (format_2 side capacity)) sectors) opened.size) happens;
+          counts = counted store new found.first result found.at.at.count ended.known counts;
+        };
+  }
 
   -- ---- a report
 

@@ -3,7 +3,7 @@ use Rattle.std.specs.Prelude.{◌≡◌, ℕ, List, [], ◌∷◌, All, true, co
 use Rattle.clap.specs.Words.{App, Row, Rule, Text, first_of, new_app, new_rule, with_rule, with_subcommand}
 use Rattle.lines.specs.Grammar.{IsNat}
 use Rattle.server.specs.declared.arguments.Arguments.{Arguments}
-use Rattle.server.specs.declared.arguments.Arguments.TheVariants.{Format, Import, Serve, Table, Check}
+use Rattle.server.specs.declared.arguments.Arguments.TheVariants.{Format, Import, Serve, Table, Check, Upgrade}
 
 -- the words, as clap reads them: one subcommand with its required texts
 abbrev pub required_text : List ℕ → Rule
@@ -24,12 +24,15 @@ table_app = with_rule (with_rule (new_app (codes "table")) (required_text (codes
 abbrev pub check_app : App
 check_app = with_rule (new_app (codes "check")) (required_text (codes "PATH"))
 
+abbrev pub upgrade_app : App
+upgrade_app = with_rule (new_app (codes "upgrade")) (required_text (codes "PATH"))
+
 abbrev pub empty_app : App
 empty_app = record (new_app (codes "mosaic")) { top = record (new_app (codes "mosaic")).top { no_binary_name = true; subcommand_required = true } }
 
 abbrev pub program_app : App
 program_app =
-    with_subcommand (with_subcommand (with_subcommand (with_subcommand (with_subcommand empty_app format_app.top) import_app.top) serve_app.top) table_app.top) check_app.top
+    with_subcommand (with_subcommand (with_subcommand (with_subcommand (with_subcommand (with_subcommand empty_app format_app.top) import_app.top) serve_app.top) table_app.top) check_app.top) upgrade_app.top
 
 -- a hyphen stands first
 abbrev pub IsOption : List ℕ → Type 0
@@ -43,6 +46,7 @@ SpellsOut words (Import path tile) = words ≡ codes "import" ∷ path.now ∷ t
 SpellsOut words (Serve path) = words ≡ codes "serve" ∷ path.now ∷ []
 SpellsOut words (Table side capacity) = (s c : List ℕ) × (words ≡ codes "table" ∷ s ∷ c ∷ []) × IsNat s side × IsNat c capacity
 SpellsOut words (Check path) = words ≡ codes "check" ∷ path.now ∷ []
+SpellsOut words (Upgrade path) = words ≡ codes "upgrade" ∷ path.now ∷ []
 
 -- the words ask for this: none of them is an option, and they spell it out
 abbrev pub AskedBy : List (List ℕ) → Arguments → Type 0
@@ -85,6 +89,7 @@ AskedIn (Some t) (Import path tile) = (t.name ≡ codes "import") × (t.path ≡
 AskedIn (Some t) (Serve path) = (t.name ≡ codes "serve") × (t.path ≡ Some path.now)
 AskedIn (Some t) (Table side capacity) = (t.name ≡ codes "table") × IsNatIn t.side side × IsNatIn t.capacity capacity
 AskedIn (Some t) (Check path) = (t.name ≡ codes "check") × (t.path ≡ Some path.now)
+AskedIn (Some t) (Upgrade path) = (t.name ≡ codes "upgrade") × (t.path ≡ Some path.now)
 
 -- .. as far as they ask for anything
 abbrev pub Reads : Option Texts → Option Arguments → Type 0

@@ -1,6 +1,6 @@
 -- What a subcommand does on the disk of a store: what it finds there, what it does, and what a stop (a power cut) at any
 -- moment leaves (this product's own profile).
-use Rattle.std.specs.Prelude.{◌≡◌, ◌⊎◌, ◌≤◌, ◌+◌, ◌*◌, ℕ, Bool, false, List, [], ◌∷◌, codes, ◌++◌, take, Option, Some, None, IfSome, Result, Ok, Err, IsErrOf, OnOk, IfOk}
+use Rattle.std.specs.Prelude.{◌≡◌, ◌⊎◌, ◌≤◌, ◌+◌, ◌*◌, ℕ, nat_le, Bool, false, List, [], ◌∷◌, codes, ◌++◌, take, Option, Some, None, IfSome, Result, Ok, Err, IsErrOf, OnOk, IfOk}
 use Rattle.disk.specs.Disk.{Image, HasRisen}
 use Rattle.disk.specs.Stops.{AddsNothing}
 use Rattle.disk.specs.declared.disk.Disk.{Ghosts}
@@ -13,12 +13,15 @@ use Rattle.calls.specs.Events.{Happens}
 use Rattle.calls.specs.Outcomes.{Applies}
 use Rattle.calls.specs.Runs.{last_of}
 use Rattle.calls.specs.State.{Contents, State, working, fresh}
+use Rattle.calls.specs.Steps.{Upgrades}
 use Rattle.calls.specs.Told.{IsTold}
+use Rattle.page_codec.specs.Sizes.{sectors_asked}
 use Rattle.cow_tree.specs.Trees.{MayRefuse}
 use Rattle.serving.specs.Answers.{Replied}
 use Rattle.serving.specs.Promises.{side_in}
 use Rattle.serving.specs.Served.{Outcome}
 use Rattle.serving.specs.declared.session.ServeFault.{ServeFault}
+use Rattle.store.specs.Formatted.{format_2}
 use Rattle.store.specs.Standing.{StandsFor}
 use Rattle.store.specs.StoreState.{StandsForOne}
 use Rattle.server.specs.Endings.{EndsAnswering, EndsSession, Tells, TellsRefusal, count_line}
@@ -32,6 +35,11 @@ given_by remaining (Some reader) = remaining reader
 -- what is taken of a tile's file: as much as a tile has, and one byte more where there are more
 abbrev pub IsTileRead : (side : ℕ) → (given : Option (List ℕ)) → List ℕ → Type 0
 IsTileRead side given bytes = IfSome given (λ all. bytes ≡ take (2 * (side * side) + 1) all)
+
+-- whether it was done, without the count of commands
+abbrev pub done_of : Result ℕ Refusal → Result (Unit {0}) Refusal
+done_of (Ok k) = Ok tt
+done_of (Err r) = Err r
 
 module _ {D : Type 0} (g : Ghosts D) where
   -- each image that a stop may leave stands for one of two contents, as after a stop inside a commit
@@ -130,6 +138,33 @@ module _ {D : Type 0} (g : Ghosts D) where
       ⊎ (WasRead old new × TellsRefusal NoMemory written now status)
       ⊎ ((side : ℕ) × (bytes : List ℕ) × (result : Result ℕ Refusal) × IsTileRead side given bytes × HasApplied old new (Import corner bytes) result
       × EndsAnswering count_line result written now status)
+
+  -- ---- an upgrade
+
+  -- it was opened, to tell how many sectors the second version asks of the store in it
+  pub record HasMeasured (old new : D) (sectors : ℕ) : Type 0 where
+    pub read : WasRead old new
+    pub asked : g.honest new → (side capacity : ℕ) (a b : Contents) → HoldsEither old side capacity a b → sectors ≡ sectors_asked (format_2 side capacity)
+
+  -- the store was upgraded where it was found, and the commands that it had accepted are counted
+  pub record IsUpgraded (old new : D) (side capacity : ℕ) (result : Result ℕ Refusal) (a b : Contents) : Type 0 where
+    pub first : Contents
+    pub left : State
+    pub goes : GoesFrom old new side capacity a b first (left ∷ [])
+    pub upgrades : Upgrades (nat_le (sectors_asked (format_2 side capacity)) (g.size old)) (working first) (done_of result) left
+    pub counts : IfOk result (λ k. k ≡ first.count)
+
+  pub record HasUpgraded (old new : D) (result : Result ℕ Refusal) : Type 0 where
+    pub later : g.failures old ≤ g.failures new
+    pub device : IsErrOf result Device → HasRisen (g.failures old) (g.failures new)
+    pub honest : g.honest new → g.honest old
+    pub upgraded : g.honest new → (side capacity : ℕ) (a b : Contents) → HoldsEither old side capacity a b → IsUpgraded old new side capacity result a b
+
+  -- the store is upgraded, where there is one
+  abbrev pub UpgradesStore : D → D → (written now : Option (List ℕ)) → ℕ → Type 0
+  UpgradesStore old new written now status =
+      TellsClosed old new written now status
+      ⊎ ((result : Result ℕ Refusal) × HasUpgraded old new result × EndsAnswering count_line result written now status)
 
   -- ---- making a store, and reporting on it
 

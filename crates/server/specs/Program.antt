@@ -9,7 +9,7 @@ use Rattle.disk.specs.declared.disk.Disk.{Ghosts}
 use Rattle.disk.specs.declared.file.FileDisk.{FileDisk}
 use Rattle.lattice.specs.Corners.{Corner}
 use Rattle.lattice.specs.Limits.{most_tiles}
-use Rattle.lattice.specs.declared.refusal.Refusal.TheVariants.{NoMemory, BadName, BadSide, BadCapacity}
+use Rattle.lattice.specs.declared.refusal.Refusal.TheVariants.{Device, NoMemory, BadName, BadSide, BadCapacity}
 use Rattle.hgt.specs.Names.{IsFileName}
 use Rattle.page_codec.specs.Sizes.{sectors_asked}
 use Rattle.calls.specs.Events.{Happens}
@@ -21,10 +21,10 @@ use Rattle.serving.specs.declared.session.ServeFault.{ServeFault}
 use Rattle.store.specs.Formatted.{format_2}
 use Rattle.server.specs.CommandLine.{AskedBy, AskNothing}
 use Rattle.server.specs.Endings.{Begins, EndsSession, TellsRefusal, bad_words}
-use Rattle.server.specs.OnDisks.{ServesLines, ImportsTile, MakesStore, ChecksStore}
+use Rattle.server.specs.OnDisks.{HasMeasured, ServesLines, ImportsTile, MakesStore, ChecksStore, TellsClosed, UpgradesStore}
 use Rattle.server.specs.Paths.{IsTaken, MakesNone, TellsFault}
 use Rattle.server.specs.declared.arguments.Arguments.{Arguments}
-use Rattle.server.specs.declared.arguments.Arguments.TheVariants.{Format, Import, Serve, Table, Check}
+use Rattle.server.specs.declared.arguments.Arguments.TheVariants.{Format, Import, Serve, Table, Check, Upgrade}
 use Rattle.server.specs.declared.files.PathFault.{PathFault}
 use Rattle.server.specs.declared.files.PathFault.TheVariants.{Closed}
 
@@ -71,6 +71,14 @@ module _ (images : ℕ → Image) where
   abbrev pub RunsCheck : (path : List ℕ) → (written new : Option (List ℕ)) → ℕ → Type 0
   RunsCheck path written new status = TellsFault path Closed written new status ⊎ OnFile (λ g old left. ChecksStore g old left written new status)
 
+  -- the file is opened to see how many sectors are asked, made as long, and opened to be upgraded
+  abbrev pub RunsUpgrade : (path : List ℕ) → (written new : Option (List ℕ)) → ℕ → Type 0
+  RunsUpgrade path written new status =
+      TellsFault path Closed written new status
+      ⊎ OnFile (λ g old left. TellsClosed g old left written new status)
+      ⊎ ((sectors : ℕ) × OnFile (λ g old left. HasMeasured g old left sectors)
+      × (TellsRefusal Device written new status ⊎ TellsFault path Closed written new status ⊎ OnFile (λ g old left. UpgradesStore g old left written new status)))
+
   -- ---- by its words
 
   abbrev pub RunsAs : Arguments → (before after written new : Option (List ℕ)) → ℕ → Type 0
@@ -78,6 +86,7 @@ module _ (images : ℕ → Image) where
   RunsAs (Import path tile) before after written new status = (after ≡ before) × RunsImport path.now tile.now written new status
   RunsAs (Serve path) before after written new status = RunsServe path.now before after written new status
   RunsAs (Table side capacity) before after written new status = RunsTable side capacity before after written new status
+  RunsAs (Upgrade path) before after written new status = (after ≡ before) × RunsUpgrade path.now written new status
   RunsAs (Check path) before after written new status = (after ≡ before) × RunsCheck path.now written new status
 
   -- What the program with these words makes of what the reader and the writer had before and have after, and its exit

@@ -1,7 +1,7 @@
 //! The words of the command line.
 ghost use Rattle.std.specs.Prelude.{◌≡◌, ◌↔◌, ℕ, Any, Err, IfOk, IsTrue, MatchOption, Some, codes, map, option_map};
 ghost use Rattle.clap.specs.Words.{app_of, first_of, found_of, rows_of, subcommand_rows_of};
-ghost use Rattle.server.specs.CommandLine.{AskNothing, AskedBy, IsNatIn, IsOption, Reads, check_app, format_app, import_app, program_app, serve_app, table_app, texts_of};
+ghost use Rattle.server.specs.CommandLine.{AskNothing, AskedBy, IsNatIn, IsOption, Reads, check_app, format_app, import_app, program_app, serve_app, table_app, texts_of, upgrade_app};
 
 use clap::error::ErrorKind;
 use clap::{Arg, ArgMatches, Command};
@@ -34,6 +34,10 @@ pub enum Arguments<'a> {
     },
     /// To report on the store at a path.
     Check {
+        path: &'a str,
+    },
+    /// To make the store at a path one of the second version.
+    Upgrade {
         path: &'a str,
     },
 }
@@ -88,6 +92,7 @@ fn command<'a>(alloc: Global) -> Result<Command<'a>, AllocError>
     let serve = serve_words(alloc)?;
     let table = table_words(alloc)?;
     let check = check_words(alloc)?;
+    let upgrade = upgrade_words(alloc)?;
     Command::new(alloc, "mosaic")
         .no_binary_name(true)
         .subcommand_required(true)
@@ -95,7 +100,8 @@ fn command<'a>(alloc: Global) -> Result<Command<'a>, AllocError>
         .subcommand(import)?
         .subcommand(serve)?
         .subcommand(table)?
-        .subcommand(check)
+        .subcommand(check)?
+        .subcommand(upgrade)
 }
 
 fn format_words<'a>(alloc: Global) -> Result<Command<'a>, AllocError>
@@ -140,6 +146,13 @@ fn check_words<'a>(alloc: Global) -> Result<Command<'a>, AllocError>
     Command::new(alloc, "check").arg(path)
 }
 
+fn upgrade_words<'a>(alloc: Global) -> Result<Command<'a>, AllocError>
+    ensures { IfOk result (λ c. app_of c ≡ upgrade_app) }
+{
+    let path = Arg::new(alloc, "PATH").required(true);
+    Command::new(alloc, "upgrade").arg(path)
+}
+
 /// What the matches ask for.
 fn asked<'a>(matches: &ArgMatches<'a>) -> Option<Arguments<'a>>
     ensures { Reads (texts_of (subcommand_rows_of matches.now)) result }
@@ -150,6 +163,7 @@ fn asked<'a>(matches: &ArgMatches<'a>) -> Option<Arguments<'a>>
         Some(("serve", found)) => serve(found),
         Some(("table", found)) => table(found),
         Some(("check", found)) => check(found),
+        Some(("upgrade", found)) => upgrade(found),
         _ => None,
     }
 }
@@ -200,6 +214,14 @@ fn check<'a>(found: &ArgMatches<'a>) -> Option<Arguments<'a>>
 {
     let path = text(found, "PATH")?;
     Some(Arguments::Check { path })
+}
+
+/// The path.
+fn upgrade<'a>(found: &ArgMatches<'a>) -> Option<Arguments<'a>>
+    ensures { Reads (texts_of (Some (codes "upgrade", rows_of (found_of found.now)))) result }
+{
+    let path = text(found, "PATH")?;
+    Some(Arguments::Upgrade { path })
 }
 
 /// The text of this name.

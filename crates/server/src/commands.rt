@@ -3,12 +3,13 @@ ghost use Rattle.std.specs.Prelude.{◌≡◌, ◌≤◌, ℕ, map};
 ghost use Rattle.disk.specs.Disk.{Image};
 ghost use Rattle.lines.specs.Replies.{refusal_text};
 ghost use Rattle.server.specs.Endings.{Begins};
-ghost use Rattle.server.specs.Program.{EndsServing, Runs, RunsAs, RunsTable};
+ghost use Rattle.server.specs.Program.{EndsServing, Runs, RunsAs, RunsTable, RunsUpgrade};
 
 use crate::arguments::{ArgumentFault, Arguments};
 use crate::endings::{BAD_WORDS, REFUSED, end_session, end_with, refuse};
 use crate::files::{
-    check_in_file, import_to_file, make_in_file, new_disk, open_disk, serve_on_file, tell_fault,
+    check_in_file, grow_file, import_to_file, make_in_file, measure_in_file, new_disk, open_disk,
+    serve_on_file, tell_fault, upgrade_in_file,
 };
 use hgt::file_name;
 use lattice::{MOST_TILES, Refusal, Side};
@@ -22,9 +23,9 @@ use table_engine::TableEngine;
 /// Does what the words after the program's own name ask for, and answers the exit status.
 ///
 /// `format PATH SIDE CAPACITY` makes a store's file of the least size; `import PATH FILE` imports one HGT file into it;
-/// `serve PATH` serves lines on it; `check PATH` reports on it; `table SIDE CAPACITY` serves lines on an empty mosaic held
-/// in memory. Status 1 comes with one line that says what was refused or which file or stream failed, status 2 with the
-/// line `mosaic: bad arguments`.
+/// `serve PATH` serves lines on it; `check PATH` reports on it; `upgrade PATH` makes it a store of the second version;
+/// `table SIDE CAPACITY` serves lines on an empty mosaic held in memory. Status 1 comes with one line that says what was
+/// refused or which file or stream failed, status 2 with the line `mosaic: bad arguments`.
 ///
 /// What it does on a file is said for whatever images the file's reads give.
 pub fn program<S: AsStr, R: Read, W: Write>(
@@ -83,6 +84,39 @@ fn run<R: Read, W: Write>(
             Ok(disk) => check_in_file(rt.alloc(), disk, writer).1,
             Err(fault) => tell_fault(rt.alloc(), path, fault, writer),
         },
+        Arguments::Upgrade { path } => upgrade(rt, Place { path }, writer),
+    }
+}
+
+/// Where the file of a store is.
+struct Place<'a> {
+    path: &'a str,
+}
+
+/// Makes the store in a file one of the second version. The file is made as long as that version asks, before it is
+/// opened for the upgrade.
+fn upgrade<W: Write>(rt: &HostRuntime, place: Place<'_>, writer: &mut W) -> u8
+    ghost images: { ℕ → Image }
+    ensures { RunsUpgrade images place.entry.path.now (W.contents writer.old) (W.contents writer.new) result }
+{
+    let Place { path } = place;
+    let disk = match open_disk(rt, path) {
+        Ok(disk) => disk,
+        Err(fault) => return tell_fault(rt.alloc(), path, fault, writer),
+    };
+    let (disk, measured) = measure_in_file(rt.alloc(), disk);
+    // It is closed, so that its lock is free for the next.
+    drop(disk);
+    let sectors = match measured {
+        Ok(sectors) => sectors,
+        Err(refusal) => return refuse(writer, refusal),
+    };
+    if let Err(refusal) = grow_file(rt, path, sectors) {
+        return refuse(writer, refusal);
+    }
+    match open_disk(rt, path) {
+        Ok(disk) => upgrade_in_file(rt.alloc(), disk, writer).1,
+        Err(fault) => tell_fault(rt.alloc(), path, fault, writer),
     }
 }
 

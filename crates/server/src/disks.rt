@@ -1,6 +1,8 @@
 //! The subcommands on the disk of a store, whatever disk it is.
-ghost use Rattle.std.specs.Prelude.{IfOk};
-ghost use Rattle.server.specs.OnDisks.{ChecksStore, ImportsTile, IsTileRead, MakesStore, ServesLines, TellsClosed, given_by};
+ghost use Rattle.std.specs.Prelude.{◌≡◌, IfErr, IfOk};
+ghost use Rattle.store.specs.Stores.{root_of};
+ghost use Rattle.store.specs.Upgraded.{HasUpgraded as Upgraded};
+ghost use Rattle.server.specs.OnDisks.{ChecksStore, HasMeasured, ImportsTile, IsClosed, IsTileRead, MakesStore, ServesLines, TellsClosed, UpgradesStore, done_of, given_by};
 
 use crate::endings::{end_command, end_format, end_report, end_session, refuse, tell};
 use crate::reporting::report;
@@ -99,6 +101,41 @@ pub fn serve_store<D: Disk, R: Read, W: Write>(
     };
     let served = serve(alloc, reader, writer, &mut store);
     (store.into_disk(), end_session(writer, served))
+}
+
+/// How many sectors the second version asks of the store on a disk. It hands the disk back. Refused as the opening is.
+pub fn measure_store<D: Disk>(alloc: Global, disk: D) -> (D, Result<u32, Refusal>)
+    ensures measured { IfOk result.1 (HasMeasured D.Disk disk result.0) }
+    ensures refused { IfErr result.1 (IsClosed D.Disk disk result.0) }
+{
+    match Store::open(alloc, disk) {
+        Ok(store) => {
+            let sectors = store.sectors_to_upgrade();
+            (store.into_disk(), Ok(sectors))
+        }
+        Err(refused) => (refused.disk, Err(refused.refusal)),
+    }
+}
+
+/// Makes the store on a disk one of the second version. It hands the disk back, with the exit status.
+pub fn upgrade_store<D: Disk, W: Write>(alloc: Global, disk: D, writer: &mut W) -> (D, u8)
+    ensures { UpgradesStore D.Disk disk result.0 (W.contents writer.old) (W.contents writer.new) result.1 }
+{
+    let mut store = match Store::open(alloc, disk) {
+        Ok(store) => store,
+        Err(refused) => return (refused.disk, refuse(writer, refused.refusal)),
+    };
+    let upgraded = upgrade_counted(&mut store);
+    (store.into_disk(), end_command(writer, upgraded))
+}
+
+// Upgrades a store, and answers how many commands it has accepted.
+fn upgrade_counted<D: Disk>(store: &mut Store<D>) -> Result<u64, Refusal>
+    ensures upgraded { Upgraded D.Disk store.old store.new (done_of result) }
+    ensures count { IfOk result (λ k. k ≡ (root_of store.new).count) }
+{
+    store.upgrade()?;
+    Ok(store.count())
 }
 
 /// Reports on the store on a disk: how many commands it accepted and commits it made, its tiles, and how many points of

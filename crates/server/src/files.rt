@@ -7,13 +7,16 @@ ghost use Rattle.std.specs.Prelude.{◌≡◌, ◌≤◌, ℕ, [], IfOk, IfErr};
 ghost use Rattle.disk.specs.Disk.{Image};
 ghost use Rattle.disk.specs.FileDisk.{calls_of, sectors_of};
 ghost use Rattle.disk.specs.FileWorlds.{giving};
+ghost use Rattle.lattice.specs.declared.refusal.Refusal.TheVariants.{Device};
 ghost use Rattle.page_codec.specs.Sizes.{sectors_asked};
 ghost use Rattle.store.specs.Formatted.{format_2};
-ghost use Rattle.server.specs.OnDisks.{ChecksStore, ImportsTile, MakesStore, ServesLines, given_by};
+ghost use Rattle.server.specs.OnDisks.{ChecksStore, HasMeasured, ImportsTile, IsClosed, MakesStore, ServesLines, UpgradesStore, given_by};
 ghost use Rattle.server.specs.Paths.{IsTaken, MakesNone, TellsFault};
 ghost use Rattle.server.specs.declared.files.PathFault.TheVariants.{Closed};
 
-use crate::disks::{check_store, import_tile, make_store, serve_store};
+use crate::disks::{
+    check_store, import_tile, make_store, measure_store, serve_store, upgrade_store,
+};
 use crate::endings::{refuse, tell};
 use disk::{FileDisk, World};
 use lattice::{Corner, Refusal};
@@ -60,6 +63,13 @@ pub fn open_disk(rt: &HostRuntime, path: &str) -> Result<FileDisk<Brand>, PathFa
     ensures none { IfErr result (λ fault. fault ≡ Closed) }
 {
     FileDisk::<Brand>::open(rt, path).map_err(|_| PathFault::Closed)
+}
+
+/// Makes the file of a store as long as so many sectors, where it is shorter.
+pub fn grow_file(rt: &HostRuntime, path: &str, sectors: u32) -> Result<(), Refusal>
+    ensures { IfErr result (λ r. r ≡ Device) }
+{
+    FileDisk::<Brand>::grow(rt, path, sectors).map_err(|_| Refusal::Device)
 }
 
 /// Tells why there is no disk at the path, and answers the exit status.
@@ -126,6 +136,30 @@ pub fn check_in_file<W: Write>(
     check_in_world::<Brand, W>(alloc, disk, writer)
 }
 
+/// How many sectors the second version asks of the store in a file, as `measure_store` tells it of any disk.
+pub fn measure_in_file(
+    alloc: Global,
+    disk: FileDisk<Brand>,
+) -> (FileDisk<Brand>, Result<u32, Refusal>)
+    ghost images: { ℕ → Image }
+    ensures measured { IfOk result.1 (HasMeasured (giving images) disk result.0) }
+    ensures refused { IfErr result.1 (IsClosed (giving images) disk result.0) }
+{
+    measure_in_world::<Brand>(alloc, disk)
+}
+
+/// Upgrades the store in a file, as `upgrade_store` does on any disk.
+pub fn upgrade_in_file<W: Write>(
+    alloc: Global,
+    disk: FileDisk<Brand>,
+    writer: &mut W,
+) -> (FileDisk<Brand>, u8)
+    ghost images: { ℕ → Image }
+    ensures { UpgradesStore (giving images) disk result.0 (W.contents writer.old) (W.contents writer.new) result.1 }
+{
+    upgrade_in_world::<Brand, W>(alloc, disk, writer)
+}
+
 // Over any world the file is a disk like any other; the callers at `Brand` pick the images.
 
 fn make_in_world<V: World, W: Write>(
@@ -171,4 +205,24 @@ fn check_in_world<V: World, W: Write>(
     ensures { ChecksStore (giving V.image) disk result.0 (W.contents writer.old) (W.contents writer.new) result.1 }
 {
     check_store(alloc, disk, writer)
+}
+
+fn measure_in_world<V: World>(
+    alloc: Global,
+    disk: FileDisk<V>,
+) -> (FileDisk<V>, Result<u32, Refusal>)
+    ensures measured { IfOk result.1 (HasMeasured (giving V.image) disk result.0) }
+    ensures refused { IfErr result.1 (IsClosed (giving V.image) disk result.0) }
+{
+    measure_store(alloc, disk)
+}
+
+fn upgrade_in_world<V: World, W: Write>(
+    alloc: Global,
+    disk: FileDisk<V>,
+    writer: &mut W,
+) -> (FileDisk<V>, u8)
+    ensures { UpgradesStore (giving V.image) disk result.0 (W.contents writer.old) (W.contents writer.new) result.1 }
+{
+    upgrade_store(alloc, disk, writer)
 }

@@ -11,9 +11,11 @@ mod files;
 mod reporting;
 
 pub use commands::{no_room, program};
-pub use disks::{check_store, import_tile, make_store, serve_store};
+pub use disks::{check_store, import_tile, make_store, measure_store, serve_store, upgrade_store};
 pub use engine::Engine;
-pub use files::{check_in_file, import_to_file, make_in_file, serve_on_file};
+pub use files::{
+    check_in_file, import_to_file, make_in_file, measure_in_file, serve_on_file, upgrade_in_file,
+};
 pub use reporting::report;
 pub use serving::{ServeFault, serve};
 pub use table_engine::TableEngine;

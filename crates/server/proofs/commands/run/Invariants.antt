@@ -11,3 +11,6 @@ ghost-serve_on_file g a = g.images
 
 abbrev pub ghost-check_in_file : goal.ghost-check_in_file
 ghost-check_in_file g a = g.images
+
+abbrev pub ghost-upgrade : goal.ghost-upgrade
+ghost-upgrade g a = g.images

@@ -1,0 +1,7 @@
+use Rattle.server.proofs.commands.upgrade.Given as goal
+
+abbrev pub ghost-measure_in_file : goal.ghost-measure_in_file
+ghost-measure_in_file g a = g.images
+
+abbrev pub ghost-upgrade_in_file : goal.ghost-upgrade_in_file
+ghost-upgrade_in_file g a = g.images
