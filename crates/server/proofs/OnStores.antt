@@ -18,7 +18,6 @@ use Rattle.calls.specs.State.{Contents, State, working}
 use Rattle.page_codec.specs.Sizes.{sectors_asked}
 use Rattle.store.specs.Ended.{LeavesOr, HasEnded}
 use Rattle.store.specs.Formatted.{format_2}
-use Rattle.store.specs.States.{StandsForState}
 use Rattle.store.specs.Standing.{StandsFor}
 use Rattle.store.specs.StoreState.{IsStoreAt, LeavesStates, StandsForOne, members}
 use Rattle.store.specs.Stores.{IsAt, disk_of, root_of, side_of, capacity_of, has_failed}

@@ -1,4 +1,4 @@
-use Rattle.std.proofs.Common.{ap, sym, subst, List, ℕ}
+use Rattle.std.proofs.Common.{ap, sym, subst, ℕ}
 use Rattle.calls.specs.Events.{Happens}
 use Rattle.calls.specs.State.{fresh, working}
 use Rattle.serving.specs.Answers.{Replied}
