@@ -1,8 +1,11 @@
 //! The program's words, and what it does on files of stores.
+use disk::FileDisk;
 use server::program;
 use std::alloc::{AllocError, Global};
 use std::fs;
+use std::marker::Brand;
 use std::test::Fail;
+use store::Store;
 
 /// 9 9 9 / 9 1 9 / 9 9 5, rows from the north.
 const TILE: &[u8] = b"\x00\x09\x00\x09\x00\x09\x00\x09\x00\x01\x00\x09\x00\x09\x00\x09\x00\x05";
@@ -197,4 +200,23 @@ fn programs(rt: HostRuntime) {
         assert_eq!(rt; status, 2);
         assert!(rt; output.as_slice() == b"mosaic: bad arguments\n".as_slice());
     }
+}
+
+#[test]
+fn a_file_is_upgraded(rt: HostRuntime) -> Result<(), Fail> {
+    let m = cleared(&rt, "server_test_upgraded");
+    let tile = "N00E000.upgraded.hgt";
+    fs::write(&rt, tile, TILE)?;
+    let mut disk = FileDisk::<Brand>::create(&rt, m, 16)?;
+    Store::format_1(&mut disk, 3, 1).map_err(|_| "not formatted")?;
+    drop(disk);
+    assert!(rt; ends(&rt, &["import", m, tile], b"", 0, b"OK 1\n"));
+    assert!(rt; ends(&rt, &["upgrade", m], b"", 0, b"OK 1\n"));
+    assert_eq!(rt; fs::metadata(&rt, m)?.len(), 90_112);
+    let report = b"count 1 commits 3\nN00E000 stale\nseams 0\n";
+    assert!(rt; ends(&rt, &["check", m], b"", 0, report));
+    assert!(rt; ends(&rt, &["upgrade", m], b"", 1, b"ERR 35 NotOld\n"));
+    fs::remove_file(&rt, m)?;
+    fs::remove_file(&rt, tile)?;
+    Ok(())
 }
