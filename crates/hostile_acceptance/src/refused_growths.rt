@@ -151,7 +151,7 @@ fn opened(alloc: Global, disk: MemDisk) -> Result<(Store<MemDisk>, bool), Fail> 
 // A store of A at N00E000, on a disk for two tiles.
 fn store_of_a(alloc: Global) -> Result<Store<MemDisk>, Fail> {
     let importing = import(alloc, HERE, &A)?;
-    let mut store = store_in_memory(alloc, 24, 3, 2).map_err(|_| "no room to begin")?;
+    let mut store = store_in_memory(alloc, 34, 3, 2).map_err(|_| "no room to begin")?;
     store.apply(&importing).map_err(|_| "no room to begin")?;
     Ok(store)
 }

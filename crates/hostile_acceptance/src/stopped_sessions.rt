@@ -7,7 +7,7 @@ use std::test::Fail;
 use store::Store;
 
 /// More calls of the disk than the session makes.
-const MANY_CALLS: u64 = 50;
+const MANY_CALLS: u64 = 80;
 
 /// 9 9 9 / 9 9 7 / 9 9 9, and a tile to the east of it: 9 9 9 / 8 9 9 / 9 9 9.
 const LINES: &[u8] = b"import N00E000 18\n\0\x09\0\x09\0\x09\0\x09\0\x09\0\x07\0\x09\0\x09\0\x09\
@@ -50,7 +50,7 @@ fn told_in(output: &[u8]) -> Option<u64> {
 }
 
 fn new_disk(alloc: Global) -> Result<MemDisk, Fail> {
-    let store = store_in_memory(alloc, 24, 3, 2).map_err(|_| "not made")?;
+    let store = store_in_memory(alloc, 34, 3, 2).map_err(|_| "not made")?;
     Ok(store.into_disk())
 }
 
