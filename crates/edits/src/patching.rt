@@ -5,7 +5,7 @@ ghost use Rattle.lattice.specs.Ground.{same_point};
 ghost use Rattle.catalogue.specs.Readers.{OnlyReads, reads_of};
 ghost use Rattle.edits.specs.Boxes.{is_in_row, is_void_in_row, is_void_in_rows};
 ghost use Rattle.edits.specs.Changes.{CanBeSet, SetOnce, all_changed};
-ghost use Rattle.edits.specs.Effect.{effect, is_void_at};
+ghost use Rattle.edits.specs.Effect.{effect, is_box, is_void_at};
 ghost use Rattle.edits.specs.LeftStale.{is_beside};
 ghost use Rattle.catalogue.specs.Endings.{ends_any};
 ghost use Rattle.edits.specs.Plans.{is_own, may_end};
@@ -39,18 +39,31 @@ pub(crate) fn patch<S: Samples>(
     if height < LOWEST || 32767 < height {
         return Err(Refusal::BadHeight);
     }
-    let side = samples.side();
-    let Some(rows) = span(side, from.y, to.y) else {
+    let Some(size) = size_of_box(samples.side(), from, to) else {
         return Err(Refusal::BadBox);
     };
-    let Some(columns) = span(side, from.x, to.x) else {
-        return Err(Refusal::BadBox);
-    };
-    let changes = patch_rows(alloc, samples, from, rows, columns, height as i16)?;
+    let changes = patch_rows(alloc, samples, from, size.rows, size.columns, height as i16)?;
     if changes.is_empty() {
         return Err(Refusal::NothingVoid);
     }
     Ok(changes)
+}
+
+// How many points a box has each way.
+#[derive(Clone, Copy)]
+struct BoxSize {
+    rows: u32,
+    columns: u32,
+}
+
+// The size of the box, where its corners are in order and at most a side's points apart each way.
+fn size_of_box(side: Side, from: Point, to: Point) -> Option<BoxSize>
+    ensures none { IfNone result (is_box side from to ≡ false) }
+    ensures some { IfSome result (λ size. (is_box side from to ≡ true) × (to.y +ℤ pos 1 ≡ from.y +ℤ pos size.rows) × (to.x +ℤ pos 1 ≡ from.x +ℤ pos size.columns)) }
+{
+    let rows = span(side, from.y, to.y)?;
+    let columns = span(side, from.x, to.x)?;
+    Some(BoxSize { rows, columns })
 }
 
 // How many samples there are from the one to the other, ends included, if they are in order and at most a side.
