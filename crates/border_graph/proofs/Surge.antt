@@ -101,7 +101,7 @@ module _ (links : List (List Link)) (law : AreLinks links) where
       ]
 
   -- the lowest link that waits, from a node that is reached already
-  pub passed : (levels : List ℤ) (waiting waiting' : List Link) (link : Link) → IsRising links levels waiting → IsTaken waiting waiting' link → get_or levels link.from void ≢ void → IsRising links levels waiting'
+  pub passed : (levels : List ℤ) (waiting waiting' : List Link) (link : Link) → IsRising links levels waiting → IsTaken (λ (l : Link). l.level) waiting waiting' link → get_or levels link.from void ≢ void → IsRising links levels waiting'
   passed levels waiting waiting' link s t full = record {
     reached = record {
       whole = s.reached.whole;
@@ -121,7 +121,7 @@ module _ (links : List (List Link)) (law : AreLinks links) where
   }
 
   -- the lowest link that waits, from a node that isn't
-  pub reached_now : (levels : List ℤ) (waiting waiting' : List Link) (link : Link) (v : ℤ) → IsRising links levels waiting → IsTaken waiting waiting' link → get_or levels link.from void ≡ void → v ≡ link.level →
+  pub reached_now : (levels : List ℤ) (waiting waiting' : List Link) (link : Link) (v : ℤ) → IsRising links levels waiting → IsTaken (λ (l : Link). l.level) waiting waiting' link → get_or levels link.from void ≡ void → v ≡ link.level →
       IsFollowing links (set levels link.from v) waiting' link.from 0
   reached_now levels waiting waiting' link v s t gap is =
       let c = link.from in

@@ -55,7 +55,7 @@ impl Waiting {
     /// Takes a link of the lowest level that waits.
     pub(crate) fn pop(&mut self) -> Option<Link>
         ensures none { IfNone result (self.old ≡ []) }
-        ensures taken { IfSome result (λ link. IsTaken self.old self.new link) }
+        ensures taken { IfSome result (λ link. IsTaken (λ l. l.level) self.old self.new link) }
         ensures count { IfSome result (λ _. length self.old ≡ length self.new + 1) }
     {
         let Reverse(link) = self.links.pop()?;

@@ -3,7 +3,8 @@ use Rattle.std.proofs.Common.{◌≡◌, ℕ, ◌⊎◌, inl, inr, ◌==◌, Boo
 use Rattle.std.proofs.lemmas.Bool.{cases_Bool}
 use Rattle.std.proofs.lemmas.Bool.Decides.{eqb_tells}
 use Rattle.rising.specs.declared.waiting.Seat.{Seat}
-use Rattle.rising.specs.Waiting.{is_among, IsPopped, IsNext, NoneLeft}
+use Rattle.border_graph.specs.Waiting.{IsTaken}
+use Rattle.rising.specs.Waiting.{is_among, IsNext, NoneLeft}
 
 pub not_taken : (b : Bool) → true ≡ not b → b ≡ false
 not_taken false h = refl
@@ -40,7 +41,7 @@ module _ (old : List Seat) (taken : List ℕ) (mid : List Seat) (held : List ℕ
     | inr still ↦ let h = (subst (λ ls. Contains ls l) none still).1 in absurd (omega arith)
   ]
 
-  module _ (new : List Seat) (taken' : List ℕ) (seat : Seat) (p : IsPopped mid new seat) (takes : (x : ℕ) → is_among taken' x ≡ cond (seat.node == x) true (is_among held x)) where
+  module _ (new : List Seat) (taken' : List ℕ) (seat : Seat) (p : IsTaken (λ (s : Seat). s.crest) mid new seat) (takes : (x : ℕ) → is_among taken' x ≡ cond (seat.node == x) true (is_among held x)) where
     takes_too : (x : ℕ) → is_among taken' x ≡ cond (seat.node == x) true (is_among taken x)
     takes_too x = takes x ∙ ap (λ b. cond (seat.node == x) true b) (same x)
 

@@ -12,7 +12,8 @@ use Rattle.border_graph.proofs.Surge.{way_up}
 use Rattle.rising.specs.declared.ways.Way.{Way}
 use Rattle.rising.specs.declared.waiting.Seat.{Seat}
 use Rattle.rising.specs.Answers.{AreWays, IsReachedBelow}
-use Rattle.rising.specs.Waiting.{is_among, IsAdded, IsNext, NoneLeft}
+use Rattle.border_graph.specs.Waiting.{IsAdded}
+use Rattle.rising.specs.Waiting.{is_among, IsNext, NoneLeft}
 use Rattle.rising.proofs.Next.{taken_still, taken_other}
 use Rattle.rising.specs.Rising.{raised, AreRaised, WaitsBelow, IsKnown, IsFollowed, IsOn, IsRising}
 

@@ -7,19 +7,6 @@ use Rattle.rising.specs.declared.waiting.Seat.{Seat}
 abbrev pub is_among : List ℕ → ℕ → Bool
 is_among nodes x = list_any (λ y. x == y) nodes
 
--- the seat waits from now on
-pub record IsAdded (old new : List Seat) (seat : Seat) : Type 0 where
-  pub waits : Contains new seat
-  pub others : (l : Seat) → Contains old l → Contains new l
-  pub only : (l : Seat) → Contains new l → (l ≡ seat) ⊎ Contains old l
-
--- the seat waited, none of them was lower, and it waits no longer
-pub record IsPopped (old new : List Seat) (seat : Seat) : Type 0 where
-  pub waited : Contains old seat
-  pub lowest : (l : Seat) → Contains old l → seat.crest ≤ℤ l.crest
-  pub others : (l : Seat) → Contains old l → (l ≡ seat) ⊎ Contains new l
-  pub only : (l : Seat) → Contains new l → Contains old l
-
 -- the seat waited, its node is taken now, and none that waited for another node that wasn't taken was lower
 pub record IsNext (old : List Seat) (taken : List ℕ) (new : List Seat) (taken' : List ℕ) (seat : Seat) : Type 0 where
   pub waited : Contains old seat

@@ -1,6 +1,6 @@
 //! Nodes that water may reach next, the lowest crest first.
 ghost use Rattle.std.specs.Prelude.{◌≡◌, ◌+◌, [], IfSome, IfNone, OnOk, length};
-ghost use Rattle.rising.specs.Waiting.{IsAdded, IsPopped};
+ghost use Rattle.border_graph.specs.Waiting.{IsAdded, IsTaken};
 
 use std::alloc::{AllocError, Global};
 use std::cmp::Reverse;
@@ -55,7 +55,7 @@ impl Waiting {
     /// Takes a seat of the lowest crest that waits.
     pub(crate) fn pop(&mut self) -> Option<Seat>
         ensures none { IfNone result (self.old ≡ []) }
-        ensures popped { IfSome result (λ seat. IsPopped self.old self.new seat) }
+        ensures taken { IfSome result (λ seat. IsTaken (λ s. s.crest) self.old self.new seat) }
         ensures count { IfSome result (λ _. length self.old ≡ length self.new + 1) }
     {
         let Reverse(seat) = self.seats.pop()?;

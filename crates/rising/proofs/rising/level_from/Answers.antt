@@ -8,7 +8,8 @@ use Rattle.border_graph.specs.Joining.{Rim}
 use Rattle.border_graph.specs.Linking.{node_number}
 use Rattle.rising.specs.Answers.{IsReachedBelow}
 use Rattle.rising.specs.Placed.{IsPlacedLink}
-use Rattle.rising.specs.Waiting.{is_among, IsAdded, IsNext, NoneLeft}
+use Rattle.border_graph.specs.Waiting.{IsAdded}
+use Rattle.rising.specs.Waiting.{is_among, IsNext, NoneLeft}
 use Rattle.rising.specs.declared.ways.Way.{Way}
 use Rattle.rising.specs.Crests.{crest, LeadsOut}
 use Rattle.rising.proofs.Crested.{below_crest, least_crest}

@@ -1,7 +1,7 @@
 use Rattle.std.proofs.Common.{subst, map}
 use Rattle.std.specs.BinaryHeap.{heap_items}
-use Rattle.rising.specs.Waiting.{IsAdded}
-use Rattle.rising.proofs.Heaps.{added_to_heap}
+use Rattle.border_graph.specs.Waiting.{IsAdded}
+use Rattle.border_graph.proofs.Heaps.{added_to_heap}
 use Rattle.rising.proofs.waiting.Waiting.push.Goals as goal
 
 pub returns : goal.returns
