@@ -1,9 +1,7 @@
 pub mod Held
 pub mod Summed
-pub mod OfSealed
 pub mod Questioned
 pub mod Joined
-pub mod Sealing
 pub mod Asked
 pub mod Levels
 pub mod Refused

@@ -1,10 +1,10 @@
 -- Questions one after another, and what their refusals are.
-use Rattle.std.proofs.Common.{◌≡◌, ◌⊎◌, inl, inr, ℕ, IsTrue, List, Result, Ok, Err, refl, sym, ap, ◌∙◌, subst}
+use Rattle.std.proofs.Common.{◌≡◌, ◌≢◌, ◌⊎◌, inl, inr, ℕ, IsTrue, List, Result, Ok, Err, refl, sym, ap, ◌∙◌, subst}
 use Rattle.std.specs.Prelude.{IfErr, Option}
 use Rattle.lattice.specs.Corners.{Corner}
 use Rattle.lattice.specs.declared.refusal.Refusal.{Refusal}
 use Rattle.lattice.specs.declared.refusal.Refusal.TheVariants.{Device, NoMemory, Failed, Damaged}
-use Rattle.catalogue.specs.Asked.{Asked}
+use Rattle.catalogue.specs.Asked.{Asked, IsOwnRefusal}
 use Rattle.catalogue.specs.Endings.{ends_any}
 use Rattle.catalogue.specs.Readers.{OnlyReads}
 use Rattle.catalogue.specs.Reading.{MayRefuse}
@@ -40,6 +40,33 @@ passed_on {S} {T} {U} g a b call r is h = asked_passed g a b r (subst (λ (x : R
 -- .. as its result
 pub refused_by : {S U : Type 0} (g : Ghosts S) (a b : S) (result : Result U Refusal) (was r : Refusal) → result ≡ Err was → was ≡ r → Asked {T = U} g a b (Err r) → Asked g a b result
 refused_by {S} {U} g a b result was r is same h = subst (λ (x : Result U Refusal). Asked g a b x) (sym (is ∙ ap (λ (x : Refusal). Err x) same)) h
+
+own_refusal : {T : Type 0} (result : Result T Refusal) → IfErr result (λ r. (r ≡ NoMemory) ⊎ (r ≡ Damaged)) → IfErr result IsOwnRefusal
+own_refusal (Ok x) h = tt
+own_refusal (Err r) h = by r h
+  where
+    by : (r : Refusal) → (r ≡ NoMemory) ⊎ (r ≡ Damaged) → IsOwnRefusal r
+    by NoMemory h = tt
+    by Damaged h = tt
+    by _ (inl e) = absurd (cc)
+    by _ (inr e) = absurd (cc)
+
+never_damaged : {T : Type 0} (result : Result T Refusal) → IfErr result (λ r. r ≡ NoMemory) → result ≢ Err Damaged
+never_damaged (Ok x) h e = cc
+never_damaged (Err r) h e = cc
+
+or_memory : {T : Type 0} (result : Result T Refusal) → IfErr result (λ r. r ≡ NoMemory) → IfErr result (λ r. (r ≡ NoMemory) ⊎ (r ≡ Damaged))
+or_memory (Ok x) h = tt
+or_memory (Err r) h = inl h
+
+-- a result after reads, damaged only where what was read is no mosaic's
+pub resulted : {S T : Type 0} (g : Ghosts S) (a b : S) (result : Result T Refusal) → OnlyReads {T = Unit {0}} g a b (Ok tt) → IfErr result (λ r. (r ≡ NoMemory) ⊎ (r ≡ Damaged))
+    → (g.is_honest b → IfErr result (λ r. r ≡ NoMemory)) → Asked g a b result
+resulted g a b result reads causes sound = asked g a b (tt {0}) result reads (own_refusal result causes) (λ honest _. never_damaged result (sound honest))
+
+-- .. or refused for want of memory alone
+pub unless_memory : {S T : Type 0} (g : Ghosts S) (a b : S) (result : Result T Refusal) → OnlyReads {T = Unit {0}} g a b (Ok tt) → IfErr result (λ r. r ≡ NoMemory) → Asked g a b result
+unless_memory g a b result reads memory = resulted g a b result reads (or_memory result memory) (λ _. memory)
 
 -- memory was wanting after reads
 pub wanting : {S U : Type 0} (g : Ghosts S) (a b : S) → OnlyReads {T = Unit {0}} g a b (Ok tt) → Asked {T = U} g a b (Err NoMemory)

@@ -1,25 +1,23 @@
 //! Where water goes from a point, and where it comes from.
-ghost use Rattle.std.specs.Prelude.{◌≡◌, ◌≤◌, ◌⊎◌, ◌↔◌, ℤ, IsTrue, IsOk, IfOk, IfErr, IsErrOf, length};
+ghost use Rattle.std.specs.Prelude.{◌≡◌, ◌≤◌, ◌↔◌, ℤ, IsTrue, IsOk, IfOk, IfErr, IsErrOf, length};
 ghost use Rattle.lattice.specs.Limits.{most_tiles};
 ghost use Rattle.lattice.specs.declared.point.Point.{Point};
-ghost use Rattle.lattice.specs.Mosaic.{Mosaic, IsMosaic};
 ghost use Rattle.lattice.specs.Height.{height_of};
 ghost use Rattle.lattice.specs.Ground.{is_ground, terrain};
 ghost use Rattle.lattice.specs.declared.height.Height.TheVariants as height_is;
-ghost use Rattle.lattice.specs.declared.refusal.Refusal.TheVariants.{Outside, Void, NoMemory, Damaged};
+ghost use Rattle.lattice.specs.declared.refusal.Refusal.TheVariants.{Outside, Void};
 ghost use Rattle.catalogue.specs.Asked.{Asked};
-ghost use Rattle.catalogue.specs.Tiles.{corners_of};
+ghost use Rattle.catalogue.specs.Endings.{ends_any};
 ghost use Rattle.flow_d8.specs.Drainage.{AreFilledLevels};
 ghost use Rattle.flow_d8.specs.Directions.{AreDirectionsOf};
 ghost use Rattle.flow_d8.specs.FlowPath.{IsFlowPath, IsInWatershed};
 ghost use Rattle.watershed.specs.Runs.{AreRuns};
-ghost use Rattle.catalogue.specs.Sealed.{IsSealed};
 ghost use Rattle.drainage.specs.Asking.{IsHeldByNone, may_refuse};
 ghost use Rattle.watershed.specs.Questions.{code_by, DrainsBy};
 
-use crate::asking::survey;
+use crate::asking::check_ground;
 use crate::flooding::{all_levels, flood};
-use catalogue::{Samples, Table};
+use derived::Labellings;
 use flow_d8::{Directions, Filled};
 use lattice::{Dir, Point, Refusal};
 use std::alloc::Global;
@@ -29,8 +27,8 @@ use watershed::Run;
 /// where it leaves the mosaic.
 ///
 /// Outside where no present tile holds the point, then Void where its height is void. Otherwise it is refused only for
-/// want of memory, as a read may be, or with Damaged where what was read is no mosaic's.
-pub fn direction<S: Samples>(alloc: Global, samples: &mut S, point: Point) -> Result<u8, Refusal>
+/// want of memory, as a read or a labelling may be, or with Damaged where what was read is no mosaic's.
+pub fn direction<S: Labellings>(alloc: Global, samples: &mut S, point: Point) -> Result<u8, Refusal>
     requires few { length (S.corners samples.old) ≤ most_tiles }
     ensures direction { S.is_honest samples.new → IfOk result (λ code. (level : Point → ℤ) → AreFilledLevels (terrain (S.mosaic samples.old)) level
         → DrainsBy (terrain (S.mosaic samples.old)) level point code) }
@@ -40,14 +38,14 @@ pub fn direction<S: Samples>(alloc: Global, samples: &mut S, point: Point) -> Re
     ensures causes { IfErr result (λ r. IsTrue (may_refuse r)) }
     ensures asked { Asked S.Samples samples.old samples.new result }
 {
-    let mut table = survey(alloc, samples, point)?;
-    let directions = drained(alloc, &mut table)?;
+    check_ground(samples, point)?;
+    let directions = drained(alloc, samples)?;
     Ok(code(directions.direction(point)))
 }
 
 /// The flow path of the point: the point, then the one that its direction leads to, and so on, to one where water
 /// leaves the mosaic. It is refused as a direction is.
-pub fn trace<S: Samples>(
+pub fn trace<S: Labellings>(
     alloc: Global,
     samples: &mut S,
     point: Point,
@@ -61,14 +59,14 @@ pub fn trace<S: Samples>(
     ensures causes { IfErr result (λ r. IsTrue (may_refuse r)) }
     ensures asked { Asked S.Samples samples.old samples.new result }
 {
-    let mut table = survey(alloc, samples, point)?;
-    let directions = drained(alloc, &mut table)?;
+    check_ground(samples, point)?;
+    let directions = drained(alloc, samples)?;
     directions.trace(alloc, point)
 }
 
 /// The watershed of the point: the ground points whose flow path contains it, as maximal runs, north first, west first.
 /// It is refused as a direction is.
-pub fn watershed<S: Samples>(
+pub fn watershed<S: Labellings>(
     alloc: Global,
     samples: &mut S,
     point: Point,
@@ -82,22 +80,22 @@ pub fn watershed<S: Samples>(
     ensures causes { IfErr result (λ r. IsTrue (may_refuse r)) }
     ensures asked { Asked S.Samples samples.old samples.new result }
 {
-    let mut table = survey(alloc, samples, point)?;
-    let directions = drained(alloc, &mut table)?;
+    check_ground(samples, point)?;
+    let directions = drained(alloc, samples)?;
     watershed::watershed(alloc, &directions, point)
 }
 
-// The directions of all ground points, where each tile of the table is its block.
-fn drained(alloc: Global, table: &mut Table) -> Result<Directions, Refusal>
-    requires valid { IsMosaic table.old }
-    requires few { length (corners_of table.old) ≤ most_tiles }
-    ensures directions { IfOk result (λ d. (m : Mosaic) (level : Point → ℤ) → IsMosaic m → IsSealed m table.old → AreFilledLevels (terrain m) level → AreDirectionsOf m level d) }
-    ensures not_damaged { (m : Mosaic) → IsMosaic m → IsSealed m table.old → IfErr result (λ r. r ≡ NoMemory) }
-    ensures causes { IfErr result (λ r. (r ≡ NoMemory) ⊎ (r ≡ Damaged)) }
+// The directions of all ground points. Every tile's labelling is asked.
+fn drained<S: Labellings>(alloc: Global, samples: &mut S) -> Result<Directions, Refusal>
+    requires few { length (S.corners samples.old) ≤ most_tiles }
+    ensures directions { S.is_honest samples.new → IfOk result (λ d. (level : Point → ℤ) → AreFilledLevels (terrain (S.mosaic samples.old)) level
+        → AreDirectionsOf (S.mosaic samples.old) level d) }
+    ensures causes { IfErr result (λ r. IsTrue (ends_any r)) }
+    ensures asked { Asked S.Samples samples.old samples.new result }
 {
-    let side = table.side();
-    let sinks = Vec::from_slice(alloc, table.sinks())?;
-    let flooded = flood(alloc, table)?;
+    let side = samples.side();
+    let sinks = Vec::from_slice(alloc, samples.sinks())?;
+    let flooded = flood(alloc, samples)?;
     let levels = all_levels(alloc, &flooded)?;
     let Some(filled) = Filled::new(side, flooded.corners, levels, sinks) else {
         return Err(Refusal::Damaged);

@@ -3,18 +3,18 @@ ghost use Rattle.std.specs.Prelude.{◌*◌, IsTrue, IsSomeAnd, ◌≡◌, ◌<�
 ghost use Rattle.lattice.specs.Lattice.{point_of};
 ghost use Rattle.lattice.specs.Ground.{is_ground, terrain};
 ghost use Rattle.lattice.specs.Terrain.{IsFilledLevel};
-ghost use Rattle.lattice.specs.Mosaic.{Mosaic, IsMosaic};
+ghost use Rattle.lattice.specs.Mosaic.{Mosaic};
 ghost use Rattle.lattice.specs.declared.refusal.Refusal.TheVariants.{NoMemory, Damaged};
-ghost use Rattle.catalogue.specs.Tiles.{corners_of};
-ghost use Rattle.catalogue.specs.Sealed.{IsSealed};
+ghost use Rattle.catalogue.specs.Asked.{Asked};
+ghost use Rattle.catalogue.specs.Endings.{ends_any};
 ghost use Rattle.tile_flood.specs.Raising.{AreTileLevels};
 ghost use Rattle.drainage.specs.Flooded.{corner_at, AreRimsFilled};
 ghost use Rattle.drainage.specs.Draining.{AreTilesFilled};
 
 use crate::growth::push;
-use crate::summing::flood_sealed;
+use crate::summing::flood_tile;
 use border_graph::join;
-use catalogue::Table;
+use derived::Labellings;
 use lattice::{Corner, Refusal};
 use std::alloc::Global;
 use tile_flood::{Labelled, raise};
@@ -27,20 +27,20 @@ pub(crate) struct Flooded {
     pub(crate) rims: Vec<Vec<i16>>,
 }
 
-/// Floods each tile by itself, and joins them. Each tile of the table has to be its block.
-pub(crate) fn flood(alloc: Global, table: &mut Table) -> Result<Flooded, Refusal>
-    requires { IsMosaic table.old }
-    ensures corners { IfOk result (λ f. f.corners.items ≡ corners_of table.old) }
-    ensures whole { IfOk result (λ f. length f.labelled.items ≡ length (corners_of table.old)) }
-    ensures rims { IfOk result (λ f. (m : Mosaic) → IsMosaic m → IsSealed m table.old → AreRimsFilled m f.corners.items f.labelled.items (map (λ v. v.items) f.rims.items)) }
-    ensures not_damaged { (m : Mosaic) → IsMosaic m → IsSealed m table.old → IfErr result (λ r. r ≡ NoMemory) }
-    ensures causes { IfErr result (λ r. (r ≡ NoMemory) ⊎ (r ≡ Damaged)) }
+/// Asks the labelling of each tile, and joins the tiles.
+///
+/// It is refused for want of memory, as a read or a labelling is, or with Damaged where what was read is no mosaic's.
+pub(crate) fn flood<S: Labellings>(alloc: Global, samples: &mut S) -> Result<Flooded, Refusal>
+    ensures corners { IfOk result (λ f. f.corners.items ≡ S.corners samples.old) }
+    ensures rims { S.is_honest samples.new → IfOk result (λ f. AreRimsFilled (S.mosaic samples.old) f.corners.items f.labelled.items (map (λ v. v.items) f.rims.items)) }
+    ensures causes { IfErr result (λ r. IsTrue (ends_any r)) }
+    ensures asked { Asked S.Samples samples.old samples.new result }
 {
-    let corners = table.corners(alloc)?;
+    let corners = samples.present_corners(alloc)?;
     let mut labelled = Vec::new(alloc);
     let mut summaries = Vec::new(alloc);
     for corner in &corners {
-        let (levels, summary) = flood_sealed(alloc, table, *corner)?;
+        let (levels, summary) = flood_tile(alloc, samples, *corner)?;
         push(&mut labelled, levels)?;
         push(&mut summaries, summary)?;
     }

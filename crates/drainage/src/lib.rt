@@ -1,9 +1,9 @@
 //! Where water stands and goes in a mosaic: filled levels, directions, flow paths and watersheds, over samples of any
 //! origin.
 //!
-//! The layer above rests on this: over any lawful `Samples` each call gives what its definition says of the mosaic that
-//! they stand for, and only reads. A filled level asks for the labellings of the tiles on the water's way out, which are made
-//! or were kept; the other questions flood every present tile, in memory.
+//! The layer above rests on this: over any lawful `Labellings` each call gives what its definition says of the mosaic that
+//! they stand for, and only reads. A filled level asks for the labellings of the tiles on the water's way out, the other
+//! questions for those of all tiles; they are made or were kept.
 #![tactic(auto)]
 
 mod asking;

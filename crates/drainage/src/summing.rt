@@ -1,20 +1,17 @@
 //! One tile flooded by itself, and what the tiles around need to know of it.
 ghost use Rattle.std.specs.Prelude.{◌≡◌, ◌-◌, ◌*◌, ◌<◌, ◌⊎◌, IsTrue, IfOk, IfErr, Contains, length};
-ghost use Rattle.lattice.specs.Mosaic.{Mosaic, IsMosaic};
 ghost use Rattle.lattice.specs.declared.refusal.Refusal.TheVariants.{NoMemory};
 ghost use Rattle.border_graph.specs.Joining.{IsSummaryOf};
 ghost use Rattle.catalogue.specs.Asked.{Asked};
 ghost use Rattle.catalogue.specs.Endings.{ends_any};
 ghost use Rattle.catalogue.specs.Readers.{OnlyReads, reads_of};
 ghost use Rattle.catalogue.specs.Reading.{MayRefuse};
-ghost use Rattle.catalogue.specs.Sealed.{IsSealed};
-ghost use Rattle.catalogue.specs.Tiles.{corners_of};
 ghost use Rattle.derived.specs.Labellings.{IsFlooded};
 ghost use Rattle.drainage.specs.Flooded.{IsRimPointIn, AreRimPointsIn};
 
 use crate::growth::push;
 use border_graph::{RimPoint, Summary};
-use catalogue::{Samples, Table, outlet};
+use catalogue::{Samples, outlet};
 use derived::Labellings;
 use lattice::{Corner, Refusal, point_at, rim_index};
 use std::alloc::Global;
@@ -40,23 +37,6 @@ pub(crate) fn flood_tile<S: Labellings>(
     let spills = spills(alloc, &labelled)?;
     let rim = rim_of(alloc, samples, corner, &labelled)?;
     Ok((labelled, Summary::new(corner, rim, spills)))
-}
-
-/// The same of a tile of a sealed mosaic, each tile of which has to be its block. NoMemory is the only refusal.
-pub(crate) fn flood_sealed(
-    alloc: Global,
-    table: &mut Table,
-    corner: Corner,
-) -> Result<(Labelled, Summary), Refusal>
-    requires valid { IsMosaic table.old }
-    requires present { Contains (corners_of table.old) corner }
-    ensures same { table.new ≡ table.old }
-    ensures corner { IfOk result (λ r. r.1.corner ≡ corner) }
-    ensures flooded { IfOk result (λ r. (m : Mosaic) → IsMosaic m → IsSealed m table.old → IsFlooded m corner r.0) }
-    ensures border { IfOk result (λ r. (m : Mosaic) → IsMosaic m → IsSealed m table.old → IsSummaryOf m r.1) }
-    ensures refusal { IfErr result (λ r. r ≡ NoMemory) }
-{
-    flood_tile(alloc, table, corner)
 }
 
 // The rim of the corner's tile, by rim number.

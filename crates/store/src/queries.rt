@@ -67,7 +67,7 @@ impl<D: Disk> Store<D> {
             → (t : State) × (IsAt D.Disk self.new t × Directs s point result t) }
     {
         self.check_working()?;
-        drainage::direction(self.alloc, &mut self.tree, point)
+        drainage::direction(self.alloc, self, point)
     }
 
     /// The flow path of a point: the point, then the one that its direction leads to, and so on, to one where water leaves
@@ -79,7 +79,7 @@ impl<D: Disk> Store<D> {
             → (t : State) × (IsAt D.Disk self.new t × Traces s point (items_in result) t) }
     {
         self.check_working()?;
-        drainage::trace(self.alloc, &mut self.tree, point)
+        drainage::trace(self.alloc, self, point)
     }
 
     /// The watershed of a point: the ground points whose flow path contains it, as maximal runs, north first, west first.
@@ -91,7 +91,7 @@ impl<D: Disk> Store<D> {
             → (t : State) × (IsAt D.Disk self.new t × Sheds s point (items_in result) t) }
     {
         self.check_working()?;
-        drainage::watershed(self.alloc, &mut self.tree, point)
+        drainage::watershed(self.alloc, self, point)
     }
 
     /// The bytes of the HGT file of a tile's own samples. Refused with Failed, NoTile, NoMemory (before any read) or

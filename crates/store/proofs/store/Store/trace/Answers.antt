@@ -10,39 +10,33 @@ use Rattle.calls.specs.Outcomes.{Traces}
 use Rattle.calls.proofs.Answered.{traces}
 use Rattle.catalogue.proofs.Asking.{asked_risen, asked_works, asked_fails, asked_quiet}
 use Rattle.calls.specs.Engines.{items_in}
-use Rattle.store.proofs.Querying.{stays_at, still_clean, still_readable, queried, fails_so}
+use Rattle.store.proofs.Labelled.{still_sure}
+use Rattle.store.proofs.Querying.{stays_at, queried, fails_so}
 use Rattle.store.proofs.QueryingDrainage.{listed, read_answered, told_here}
 use Rattle.store.proofs.store.Store.trace.Goals as goal
 
-pub invariant_of-self : goal.invariant_of-self
-invariant_of-self g c =
-    let d = g.D.Disk in
-    let old = c.args.self.now in
-    let new = c.trace.new.samples in
-    record { clean = still_clean d old.tree new c.in_ok-check_working.ensures.works c.trace.ensures.asked.reads.keeps old.clean }
-
 pub returns-clause-reads : goal.returns-clause-reads
 returns-clause-reads g c =
-    let old = c.args.self.now.tree in
+    let old = c.args.self.now in
     let works = c.in_ok-check_working.ensures.works in
     let new = c.trace.new.samples in
     let result = c.trace.result in
     let asked = c.trace.ensures.asked in
-    queried g.D.Disk old new works asked.reads.keeps result (asked_risen _ old new result asked) (asked_works _ old new result asked works) (asked_fails _ old new result asked)
+    queried g.D.Disk old.tree new.tree works asked.reads.keeps result (asked_risen _ old new result asked) (asked_works _ old new result asked works) (asked_fails _ old new result asked)
     (asked_quiet _ old new result asked works)
 
 pub returns-clause-outcome : goal.returns-clause-outcome
 returns-clause-outcome g c honest s at =
     let d = g.D.Disk in
     let old = c.args.self.now.tree in
-    let new = c.trace.new.samples in
+    let new = c.trace.new.samples.tree in
     let works = c.in_ok-check_working.ensures.works in
     let ensures = c.trace.ensures in
     let asked = ensures.asked in
     let keeps = asked.reads.keeps in
     let result : Result (Vec Point) Refusal = c.trace.result in
-    let readable = still_readable d old new works keeps honest s at in
+    let sure = still_sure d old new works keeps honest s at in
     read_answered d old new works keeps honest s at (λ (s : State) (r : Result (Vec Point) Refusal) (t : State). Traces s c.args.point (items_in r) t) result asked.read asked.passed (asked.reads.ready works) asked.reads.unready
     (asked.reads.only_device works) (fails_so d old new works keeps honest s at)
-    (λ unread. listed (λ r. Traces s c.args.point r s) result (traces s s (stays_at d old works s at) c.args.point result (told_here d old new works keeps honest s at c.args.point (λ (m : Mosaic) path level. IsFlowPath (terrain m) level c.args.point path.items) result (asked.own unread) (asked.sound readable works)
-    (ensures.path readable) (ensures.on_ground readable) ensures.outside (ensures.void readable) ensures.causes)))
+    (λ unread. listed (λ r. Traces s c.args.point r s) result (traces s s (stays_at d old works s at) c.args.point result (told_here d old new works keeps honest s at c.args.point (λ (m : Mosaic) path level. IsFlowPath (terrain m) level c.args.point path.items) result (asked.own unread) (asked.sound sure works)
+    (ensures.path sure) (ensures.on_ground sure) ensures.outside (ensures.void sure) ensures.causes)))
