@@ -1,10 +1,10 @@
 //! A disk over a file.
-ghost use Rattle.std.specs.Prelude.{◌≡◌, ◌<◌, [], ◌∷◌, is_ok, IfOk, OnOk};
+ghost use Rattle.std.specs.Prelude.{◌≡◌, ◌<◌, ◌≤◌, [], ◌∷◌, is_ok, IfOk, OnOk};
 ghost use Rattle.disk.specs.Disk.{SameBut, TornAt, NoneNew, Only, counted, CountsFault, Elapses, Nothing};
 ghost use Rattle.disk.specs.FileCalls.{read, written, synced};
 ghost use Rattle.disk.specs.FileMembers.{seen_left, now_left, only_left};
-ghost use Rattle.disk.specs.FileDisk.{whole_sectors};
 
+use crate::grown::{Grown, whole_sectors};
 use crate::recorded_file::{RecordedFile, SECTOR_BYTES};
 use crate::{Disk, Fault, World};
 use std::fs::{File, OpenOptions};
@@ -30,7 +30,7 @@ pub struct FileDisk<W> {
 }
 
 impl<W: World> FileDisk<W> {
-    ghost use Rattle.disk.specs.FileDisk.{calls_of, sectors_of, failures_of, writes_of};
+    ghost use Rattle.disk.specs.FileDisk.{calls_of, sectors_of, failures_of, writes_of, grown_sectors};
 
     /// Makes a file of so many sectors of zeros, all of them settled.
     ///
@@ -68,15 +68,22 @@ impl<W: World> FileDisk<W> {
 
     /// Appends sectors of zeros to a file that has fewer than so many, and syncs it. A file that has as many stays as it
     /// is. Bytes after its last whole sector give way to the new ones. A file that is open as a disk is refused as
-    /// `ErrorKind::WouldBlock`.
-    pub fn grow(rt: &HostRuntime, path: &str, sectors: u32) -> io::Result<()> {
-        let file = open_locked(rt, path)?;
-        let had = whole_sectors(file.metadata()?.len());
-        if had < sectors {
-            file.set_len(u64::from(had) * SECTOR_BYTES)?;
-            file.set_len(u64::from(sectors) * SECTOR_BYTES)?;
-        }
-        file.sync_all()
+    /// `ErrorKind::WouldBlock`, and one that stays shorter as `ErrorKind::UnexpectedEof`.
+    pub fn grow(rt: &HostRuntime, path: &str, sectors: u32) -> io::Result<Grown>
+        ensures { IfOk result (λ grown. sectors ≤ grown_sectors grown) }
+    {
+        Grown::to(open_locked(rt, path)?, sectors)
+    }
+
+    /// Opens a file that was made longer, and syncs it. It stayed locked.
+    pub fn open_grown(grown: Grown) -> io::Result<FileDisk<W>>
+        ensures calls { IfOk result (λ disk. calls_of disk ≡ []) }
+        ensures sectors { IfOk result (λ disk. sectors_of disk ≡ grown_sectors grown) }
+        ensures failures { IfOk result (λ disk. failures_of disk ≡ 0) }
+        ensures writes { IfOk result (λ disk. writes_of disk ≡ 0) }
+    {
+        let Grown { file, sectors } = grown;
+        FileDisk::over(file, sectors)
     }
 
     fn over(file: File, sectors: u32) -> io::Result<FileDisk<W>>
@@ -124,12 +131,6 @@ fn sync_folder(rt: &HostRuntime, path: &str) -> io::Result<()> {
         _ => Path::new("."),
     };
     File::open(rt, folder)?.sync_all()
-}
-
-fn whole_sectors(bytes: u64) -> u32
-    ensures { result ≡ whole_sectors bytes }
-{
-    u32::try_from(bytes / SECTOR_BYTES).unwrap_or(u32::MAX)
 }
 
 impl<W: World> Disk for FileDisk<W> {

@@ -71,13 +71,13 @@ module _ (images : ℕ → Image) where
   abbrev pub RunsCheck : (path : List ℕ) → (written new : Option (List ℕ)) → ℕ → Type 0
   RunsCheck path written new status = TellsFault path Closed written new status ⊎ OnFile (λ g old left. ChecksStore g old left written new status)
 
-  -- the file is opened to see how many sectors are asked, made as long, and opened to be upgraded
+  -- the file is opened to see how many sectors are asked, made as long, and opened to be upgraded where it has as many
   abbrev pub RunsUpgrade : (path : List ℕ) → (written new : Option (List ℕ)) → ℕ → Type 0
   RunsUpgrade path written new status =
       TellsFault path Closed written new status
       ⊎ OnFile (λ g old left. TellsClosed g old left written new status)
       ⊎ ((sectors : ℕ) × OnFile (λ g old left. HasMeasured g old left sectors)
-      × (TellsRefusal Device written new status ⊎ TellsFault path Closed written new status ⊎ OnFile (λ g old left. UpgradesStore g old left written new status)))
+      × (TellsRefusal Device written new status ⊎ TellsFault path Closed written new status ⊎ OnFile (λ g old left. (sectors ≤ g.size old) × UpgradesStore g old left written new status)))
 
   -- ---- by its words
 

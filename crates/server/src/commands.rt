@@ -9,7 +9,7 @@ use crate::arguments::{ArgumentFault, Arguments};
 use crate::endings::{BAD_WORDS, REFUSED, end_session, end_with, refuse};
 use crate::files::{
     check_in_file, grow_file, import_to_file, make_in_file, measure_in_file, new_disk, open_disk,
-    serve_on_file, tell_fault, upgrade_in_file,
+    open_grown, serve_on_file, tell_fault, upgrade_in_file,
 };
 use hgt::file_name;
 use lattice::{MOST_TILES, Refusal, Side};
@@ -93,8 +93,8 @@ struct Place<'a> {
     path: &'a str,
 }
 
-/// Makes the store in a file one of the second version. The file is made as long as that version asks, before it is
-/// opened for the upgrade.
+/// Makes the store in a file one of the second version. The file is made as long as that version asks, and the disk that
+/// is upgraded is no shorter.
 fn upgrade<W: Write>(rt: &HostRuntime, place: Place<'_>, writer: &mut W) -> u8
     ghost images: { ℕ → Image }
     ensures { RunsUpgrade images place.entry.path.now (W.contents writer.old) (W.contents writer.new) result }
@@ -111,10 +111,11 @@ fn upgrade<W: Write>(rt: &HostRuntime, place: Place<'_>, writer: &mut W) -> u8
         Ok(sectors) => sectors,
         Err(refusal) => return refuse(writer, refusal),
     };
-    if let Err(refusal) = grow_file(rt, path, sectors) {
-        return refuse(writer, refusal);
-    }
-    match open_disk(rt, path) {
+    let grown = match grow_file(rt, path, sectors) {
+        Ok(grown) => grown,
+        Err(refusal) => return refuse(writer, refusal),
+    };
+    match open_grown(grown) {
         Ok(disk) => upgrade_in_file(rt.alloc(), disk, writer).1,
         Err(fault) => tell_fault(rt.alloc(), path, fault, writer),
     }

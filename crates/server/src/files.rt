@@ -5,7 +5,7 @@
 //! such a disk holds of it.
 ghost use Rattle.std.specs.Prelude.{◌≡◌, ◌≤◌, ℕ, [], IfOk, IfErr};
 ghost use Rattle.disk.specs.Disk.{Image};
-ghost use Rattle.disk.specs.FileDisk.{calls_of, sectors_of};
+ghost use Rattle.disk.specs.FileDisk.{calls_of, grown_sectors, sectors_of};
 ghost use Rattle.disk.specs.FileWorlds.{giving};
 ghost use Rattle.lattice.specs.declared.refusal.Refusal.TheVariants.{Device};
 ghost use Rattle.page_codec.specs.Sizes.{sectors_asked};
@@ -18,7 +18,7 @@ use crate::disks::{
     check_store, import_tile, make_store, measure_store, serve_store, upgrade_store,
 };
 use crate::endings::{refuse, tell};
-use disk::{FileDisk, World};
+use disk::{FileDisk, Grown, World};
 use lattice::{Corner, Refusal};
 use page_codec::{Format, Version};
 use std::alloc::Global;
@@ -66,10 +66,19 @@ pub fn open_disk(rt: &HostRuntime, path: &str) -> Result<FileDisk<Brand>, PathFa
 }
 
 /// Makes the file of a store as long as so many sectors, where it is shorter.
-pub fn grow_file(rt: &HostRuntime, path: &str, sectors: u32) -> Result<(), Refusal>
-    ensures { IfErr result (λ r. r ≡ Device) }
+pub fn grow_file(rt: &HostRuntime, path: &str, sectors: u32) -> Result<Grown, Refusal>
+    ensures grown { IfOk result (λ grown. sectors ≤ grown_sectors grown) }
+    ensures fault { IfErr result (λ r. r ≡ Device) }
 {
     FileDisk::<Brand>::grow(rt, path, sectors).map_err(|_| Refusal::Device)
+}
+
+/// Opens the file of a store that was made longer.
+pub fn open_grown(grown: Grown) -> Result<FileDisk<Brand>, PathFault>
+    ensures opened { IfOk result (λ disk. (calls_of disk ≡ []) × (sectors_of disk ≡ grown_sectors grown)) }
+    ensures none { IfErr result (λ fault. fault ≡ Closed) }
+{
+    FileDisk::<Brand>::open_grown(grown).map_err(|_| PathFault::Closed)
 }
 
 /// Tells why there is no disk at the path, and answers the exit status.
