@@ -16,6 +16,10 @@ const G: &[u8] = b"\x00\x09\x00\x09\x00\x09\x00\x09\x00\x09\x00\x07\x00\x09\x00\
 /// 9 9 9 / 8 9 9 / 9 9 9.
 const H: &[u8] = b"\x00\x09\x00\x09\x00\x09\x00\x08\x00\x09\x00\x09\x00\x09\x00\x09\x00\x09";
 
+/// A step, the tile once more as the eastern neighbour, which makes both stale, and steps until no tile is.
+const STEPS: &[u8] =
+    b"step\nimport N00E001 18\n\x00\x09\x00\x09\x00\x09\x00\x09\x00\x01\x00\x09\x00\x09\x00\x09\x00\x05step\nstep\nstep\n";
+
 fn run(rt: &HostRuntime, words: &[&str], input: &[u8]) -> (u8, Vec<u8>) {
     match owned(rt.alloc(), words) {
         Ok(words) => run_words(rt, &words, input),
@@ -53,48 +57,35 @@ fn cleared<'a>(rt: &HostRuntime, path: &'a str) -> &'a str {
 #[test]
 fn a_store_on_a_file(rt: HostRuntime) -> Result<(), Fail> {
     let m = cleared(&rt, "server_test_m");
-    let x = cleared(&rt, "server_test_x");
     let tile = "N00E000.hgt";
     fs::write(&rt, tile, TILE)?;
     assert!(rt; ends(&rt, &["format", m, "3", "2"], b"", 0, b"OK 0\n"));
     assert_eq!(rt; fs::metadata(&rt, m)?.len(), 139_264);
+    let exists = b"mosaic: exists server_test_m\n";
+    assert!(rt; ends(&rt, &["format", m, "3", "2"], b"", 1, exists));
+    assert!(rt; ends(&rt, &["import", m, "A.hgt"], b"", 1, b"ERR 2 BadName\n"));
     assert!(rt; ends(&rt, &["import", m, tile], b"", 0, b"OK 1\n"));
     assert!(rt; ends(&rt, &["import", m, tile], b"", 1, b"ERR 4 TileThere\n"));
-    assert!(rt;
-        ends(
-            &rt,
-            &["check", m],
-            b"",
-            0,
-            b"count 1 commits 2\nN00E000 stale\nseams 0\n"
-        )
-    );
-    assert!(rt;
-        ends(
-            &rt,
-            &["format", m, "3", "2"],
-            b"",
-            1,
-            b"mosaic: exists server_test_m\n"
-        )
-    );
-    assert!(rt; ends(&rt, &["format", x, "2", "1"], b"", 1, b"ERR 32 BadSide\n"));
-    assert!(rt;
-        ends(
-            &rt,
-            &["format", x, "3", "241"],
-            b"",
-            1,
-            b"ERR 33 BadCapacity\n"
-        )
-    );
-    assert!(rt; fs::metadata(&rt, x).is_err());
-    assert!(rt; ends(&rt, &["import", m, "A.hgt"], b"", 1, b"ERR 2 BadName\n"));
-    assert!(rt; ends(&rt, &["import", x, "A.hgt"], b"", 1, b"ERR 2 BadName\n"));
     assert!(rt; ends(&rt, &["serve", m], b"elev 0 2\ncount\n", 0, b"OK 5\nOK 1\n"));
+    let report = b"count 1 commits 2\nN00E000 stale\nseams 0\n";
+    assert!(rt; ends(&rt, &["check", m], b"", 0, report));
+    let replies = b"OK N00E000\nOK 2\nOK N00E000\nOK N00E001\nOK none\n";
+    assert!(rt; ends(&rt, &["serve", m], STEPS, 0, replies));
+    let report = b"count 2 commits 6\nN00E000 fresh\nN00E001 fresh\nseams 1\n";
+    assert!(rt; ends(&rt, &["check", m], b"", 0, report));
     fs::remove_file(&rt, m)?;
     fs::remove_file(&rt, tile)?;
     Ok(())
+}
+
+#[test]
+fn stores_that_are_not_made(rt: HostRuntime) {
+    let x = cleared(&rt, "server_test_x");
+    assert!(rt; ends(&rt, &["format", x, "2", "1"], b"", 1, b"ERR 32 BadSide\n"));
+    let refused = b"ERR 33 BadCapacity\n";
+    assert!(rt; ends(&rt, &["format", x, "3", "241"], b"", 1, refused));
+    assert!(rt; fs::metadata(&rt, x).is_err());
+    assert!(rt; ends(&rt, &["import", x, "A.hgt"], b"", 1, b"ERR 2 BadName\n"));
 }
 
 #[test]
