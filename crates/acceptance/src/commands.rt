@@ -51,12 +51,14 @@ impl Commands {
 
     /// The next command to this mosaic.
     pub(crate) fn next(&mut self, alloc: Global, mosaic: &Plain) -> Result<Command, AllocError> {
-        match self.random.next_below(11) {
+        match self.random.next_below(14) {
             0..=3 => self.import(alloc),
             4 => Ok(self.remove()),
             5 | 6 => Ok(self.patch(mosaic)),
             7 | 8 => Ok(self.burn(mosaic)),
-            _ => Ok(self.wall(mosaic)),
+            9 | 10 => Ok(self.wall(mosaic)),
+            11 | 12 => Ok(self.sink(mosaic)),
+            _ => Ok(self.unsink(mosaic)),
         }
     }
 
@@ -106,6 +108,22 @@ impl Commands {
         let height = self.random.one_of(&HEIGHTS);
         let points = self.points(mosaic);
         Command::Wall { height, points }
+    }
+
+    fn sink(&mut self, mosaic: &Plain) -> Command {
+        let point = self.point(mosaic);
+        Command::Sink { point }
+    }
+
+    // Mostly of a point that is declared.
+    fn unsink(&mut self, mosaic: &Plain) -> Command {
+        let sinks = mosaic.sinks();
+        let point = if sinks.is_empty() || self.random.next_below(4) == 0 {
+            self.point(mosaic)
+        } else {
+            self.random.one_of(sinks)
+        };
+        Command::Unsink { point }
     }
 
     fn points(&mut self, mosaic: &Plain) -> ArrayVec<Point, 64> {

@@ -76,6 +76,14 @@ impl Session {
         Ok(())
     }
 
+    /// Has the engine make so many steps, or as many as there are stale tiles.
+    pub(crate) fn step<E: Engine>(&self, rt: &impl Abort, steps: u32, engine: &mut E) {
+        let Session { seed, step, .. } = *self;
+        for _ in 0..steps {
+            assert!(rt; engine.step().is_ok(), "seed {seed}, step {step}");
+        }
+    }
+
     /// What commands were refused with so far.
     pub(crate) fn refusals(&self) -> &[Refusal] {
         &self.refusals
@@ -87,7 +95,7 @@ impl Session {
         Ok(self.count)
     }
 
-    /// Compares what the engine holds: its count, its tiles, their files and the elevation of each point.
+    /// Compares what the engine holds: its count, its tiles, their files, its sinks and the elevation of each point.
     pub(crate) fn check_contents<E: Engine>(
         &self,
         rt: &impl Abort,
@@ -97,6 +105,8 @@ impl Session {
         assert_eq!(rt; engine.count(), self.count, "seed {seed}, step {step}");
         let tiles = self.tiles()?;
         assert_eq!(rt; engine.tiles(), Ok(tiles), "seed {seed}, step {step}");
+        let sinks = Vec::from_slice(self.alloc, self.mosaic.sinks())?;
+        assert_eq!(rt; engine.sinks(), Ok(sinks), "seed {seed}, step {step}");
         self.check_files(rt, engine)?;
         self.check_elevations(rt, engine);
         Ok(())

@@ -15,7 +15,7 @@ use table_engine::TableEngine;
 const SECTORS: u32 = 58;
 
 /// What commands are refused with.
-const REFUSALS: [Refusal; 12] = [
+const REFUSALS: [Refusal; 14] = [
     Refusal::BadLength,
     Refusal::TileThere,
     Refusal::NoTile,
@@ -28,6 +28,8 @@ const REFUSALS: [Refusal; 12] = [
     Refusal::BadBox,
     Refusal::Repeated,
     Refusal::TooDeep,
+    Refusal::SinkThere,
+    Refusal::NoSink,
 ];
 
 fn empty_store(alloc: Global, side: Side, capacity: u32) -> Result<Store<MemDisk>, Fail> {
@@ -38,7 +40,8 @@ fn reopened(alloc: Global, store: Store<MemDisk>) -> Result<Store<MemDisk>, Fail
     Ok(Store::open(alloc, store.into_disk()).map_err(|_| "not opened")?)
 }
 
-/// A session in which all queries are compared: of the store, and at the end of the table and of the store opened anew.
+/// A session in which all queries are compared: of the store while some tiles are fresh and some stale, also opened anew,
+/// of the table, and of the store with all tiles fresh.
 fn query(rt: &impl Abort, alloc: Global, seed: u64, side: Side, capacity: u32) -> Result<(), Fail>
     requires { capacity ≤ 240 }
 {
@@ -46,9 +49,16 @@ fn query(rt: &impl Abort, alloc: Global, seed: u64, side: Side, capacity: u32) -
     let mut table = TableEngine::new(alloc, side, capacity);
     let mut store = empty_store(alloc, side, capacity)?;
     session.run(rt, 8, &mut table, &mut store)?;
+    session.step(rt, 1, &mut store);
     session.check_points(rt, &mut store)?;
-    session.run(rt, 8, &mut table, &mut store)?;
+    session.run(rt, 4, &mut table, &mut store)?;
+    session.check_points(rt, &mut store)?;
+    let mut store = reopened(alloc, store)?;
+    session.step(rt, capacity, &mut table);
+    session.run(rt, 4, &mut table, &mut store)?;
     session.check_points(rt, &mut table)?;
+    session.step(rt, capacity, &mut store);
+    session.check_points(rt, &mut store)?;
     session.check_points(rt, &mut reopened(alloc, store)?)
 }
 
@@ -70,15 +80,15 @@ fn query_many(
 
 #[test]
 fn queries_of_one_tile(rt: HostRuntime) -> Result<(), Fail> {
-    query_many(&rt, rt.alloc(), 3, 1, 60)?;
-    query_many(&rt, rt.alloc(), 4, 1, 30)?;
-    query_many(&rt, rt.alloc(), 5, 1, 10)
+    query_many(&rt, rt.alloc(), 3, 1, 40)?;
+    query_many(&rt, rt.alloc(), 4, 1, 20)?;
+    query_many(&rt, rt.alloc(), 5, 1, 6)
 }
 
 #[test]
 fn queries_of_two_tiles(rt: HostRuntime) -> Result<(), Fail> {
-    query_many(&rt, rt.alloc(), 3, 2, 16)?;
-    query_many(&rt, rt.alloc(), 4, 2, 6)
+    query_many(&rt, rt.alloc(), 3, 2, 12)?;
+    query_many(&rt, rt.alloc(), 4, 2, 4)
 }
 
 #[test]

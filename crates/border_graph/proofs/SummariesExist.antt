@@ -1,5 +1,5 @@
 -- Each tile has a summary, though it may have many.
-use Rattle.std.proofs.Common.{◌≡◌, ℕ, suc, ◌+◌, ◌*◌, ◌-◌, ◌/◌, ◌<◌, inl, inr, ℤ, Bool, true, false, ◌&&◌, IsTrue, List, [], length, slice_index_or, slice_index, refl, sym, ap, ap₂, ◌∙◌, subst, arith, true≢false}
+use Rattle.std.proofs.Common.{◌≡◌, ℕ, suc, ◌*◌, ◌-◌, ◌/◌, ◌<◌, inl, inr, ℤ, Bool, true, false, ◌&&◌, IsTrue, List, [], length, slice_index_or, slice_index, refl, sym, ap, ◌∙◌, subst, arith, true≢false}
 use Rattle.std.proofs.lemmas.Bool.{cases_Bool, or_cases, or_right, and_parts}
 use Rattle.lattice.specs.Corners.{Corner, is_corner}
 use Rattle.lattice.specs.Lattice.{point_of}
@@ -20,7 +20,7 @@ use Rattle.tile_flood.proofs.Raised.{rim_number_below}
 use Rattle.tile_flood.proofs.Squares.{leads, solid_below}
 use Rattle.border_graph.specs.declared.summary.RimPoint.{RimPoint}
 use Rattle.border_graph.specs.Summaries.{Summary}
-use Rattle.border_graph.specs.Joining.{nowhere, IsRimOf, IsSummaryOf}
+use Rattle.border_graph.specs.Joining.{nowhere, IsSummaryOf}
 use Rattle.border_graph.proofs.Tabulated.{tabulated, length-tabulated, at_number, among_numbers}
 use Rattle.border_graph.proofs.SpillsExist.{spills_exist}
 

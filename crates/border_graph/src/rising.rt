@@ -1,9 +1,9 @@
 //! Water rising over links, from the outlet node.
-ghost use Rattle.std.specs.Prelude.{◌≡◌, ◌≢◌, ℕ, ℤ, ◌+◌, ◌<◌, ◌≤◌, ◌≤ℤ◌, List, IfOk, OnOk, length, map, slice_index_or};
+ghost use Rattle.std.specs.Prelude.{◌≡◌, ◌≢◌, ℕ, ℤ, ◌+◌, ◌<◌, ◌≤◌, List, IfOk, OnOk, length, map, slice_index_or};
 ghost use Rattle.std.specs.Int.{int_max};
 ghost use Rattle.lattice.specs.Mosaic.{void};
 ghost use Rattle.border_graph.specs.Links.{IsJoinedLevel, IsWayBelow};
-ghost use Rattle.border_graph.specs.Rising.{AreLinks, IsListed, links_to, IsRising, IsFollowing, links_left};
+ghost use Rattle.border_graph.specs.Rising.{AreLinks, IsListed, links_to, IsRising, IsFollowing};
 
 use crate::waiting::{Link, Waiting};
 use std::alloc::{AllocError, Global};

@@ -1,5 +1,5 @@
 -- What is right to answer on a mosaic is right to answer in a state with that mosaic, which stays.
-use Rattle.std.proofs.Common.{◌≡◌, ℕ, ℤ, Result, Ok, Err}
+use Rattle.std.proofs.Common.{ℕ, ℤ, Result, Ok, Err}
 use Rattle.std.specs.Prelude.{MatchResult}
 use Rattle.std.specs.Global.{Vec}
 use Rattle.lattice.specs.declared.point.Point.{Point}

@@ -1,6 +1,6 @@
 -- What a command may answer in a state.
 use Rattle.std.proofs.Common.{◌≡◌, ◌⊎◌, inl, inr, ℕ, ◌+◌, ◌<◌, Bool, true, false, IsTrue, IsFalse, refl, ap, ◌∙◌}
-use Rattle.std.specs.Prelude.{Ok, Err, Option, Some, None, if◌then◌else◌}
+use Rattle.std.specs.Prelude.{Ok, Err, Some, None, if◌then◌else◌}
 use Rattle.std.proofs.lemmas.Bool.{or_cases, both_ways, lt-ltb}
 use Rattle.lattice.specs.Mosaic.{Mosaic}
 use Rattle.lattice.specs.declared.refusal.Refusal.{Refusal}

@@ -8,7 +8,7 @@ use Rattle.calls.specs.State.{State}
 use Rattle.calls.specs.Events.{Happens}
 use Rattle.calls.specs.Runs.{last_of, Through}
 use Rattle.calls.specs.Told.{Matches, IsCounted, counted, failures_after}
-use Rattle.calls.specs.Engines.{Members, IsCall, Laws, IsRunOf, Keeps, Chain}
+use Rattle.calls.specs.Engines.{Members, Laws, IsRunOf, Keeps, Chain}
 use Rattle.calls.specs.declared.event.Event.{Event}
 use Rattle.calls.specs.declared.event.Event.TheVariants as ask
 use Rattle.calls.specs.declared.event.Reply.{Reply}

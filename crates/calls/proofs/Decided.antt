@@ -1,6 +1,6 @@
 -- A run of commands, each of them decided, ends at the mosaic after them.
 use Rattle.std.proofs.Common.{◌≡◌, ℕ, ◌+◌, List, [], ◌∷◌, refl, sym, ap, ◌∙◌, arith}
-use Rattle.std.specs.Prelude.{All, map, Ok, Err}
+use Rattle.std.specs.Prelude.{All, Ok, Err}
 use Rattle.std.proofs.lemmas.List.Elements.{All-head, All-tail}
 use Rattle.lattice.specs.Mosaic.{Mosaic}
 use Rattle.lattice.specs.declared.refusal.Refusal.{Refusal}
@@ -8,9 +8,9 @@ use Rattle.lattice.specs.declared.refusal.Refusal.TheVariants.{Device, NoMemory,
 use Rattle.edits.specs.declared.command.Command.{Command}
 use Rattle.edits.specs.Effect.{effect, after, accepted}
 use Rattle.calls.specs.State.{State}
-use Rattle.calls.specs.Outcomes.{Applies, AppliesNot}
+use Rattle.calls.specs.Outcomes.{AppliesNot}
 use Rattle.calls.specs.Events.{Happens}
-use Rattle.calls.specs.Runs.{last_of, Through}
+use Rattle.calls.specs.Runs.{last_of}
 use Rattle.calls.specs.CommandLaws.{IsDecided, IsAfter, CommandsComeToTheirEffects}
 use Rattle.calls.specs.declared.event.Event.TheVariants as ask
 use Rattle.calls.specs.declared.event.Reply.{Reply}

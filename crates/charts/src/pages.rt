@@ -3,7 +3,7 @@ ghost use Rattle.std.specs.Prelude.{◌≡◌, ◌+◌, ◌*◌, ◌<◌, ◌≤
 ghost use Rattle.std.specs.Bool.{OnTrue, OnFalse};
 ghost use Rattle.std.specs.FinSet as set;
 ghost use Rattle.lattice.specs.declared.refusal.Refusal.TheVariants.{NoMemory};
-ghost use Rattle.charts.specs.Locations.{times, pages_behind, pages_of_plane};
+ghost use Rattle.charts.specs.Locations.{times, pages_of_plane};
 ghost use Rattle.charts.specs.FreePages.{free_times, page_times, differing, pages_of_planes, AreTaken, AreGiven, AreInUse};
 ghost use Rattle.charts.specs.TileLocations.{pages_of_kept};
 

@@ -1,5 +1,5 @@
 //! One tile of a chart.
-ghost use Rattle.std.specs.Prelude.{◌≡◌, ◌+◌, ◌*◌, ◌<◌, ◌≤◌, ◌==◌, ◌↔◌, ℕ, [], ◌∷◌, length, take, true, IsSome, IsOk, IfOk, IfErr, IfSome, OnOk, OnErr, IsTrue, option_map, option_copied, option_and_then, slice_index};
+ghost use Rattle.std.specs.Prelude.{◌≡◌, ◌+◌, ◌*◌, ◌<◌, ◌≤◌, ◌↔◌, ℕ, [], ◌∷◌, length, take, true, IsSome, IsOk, IfOk, IfErr, IfSome, OnOk, OnErr, IsTrue, option_map, option_copied, option_and_then, slice_index};
 ghost use Rattle.std.specs.FinSet as set;
 ghost use Rattle.layout.specs.Sizes.{plane_pages_of};
 ghost use Rattle.charts.specs.declared.staged.Staged.TheVariants.{Removed};

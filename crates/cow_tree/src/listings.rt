@@ -1,7 +1,7 @@
 //! What lists the pages of planes, written to pages that no committed tile reaches.
 ghost use Rattle.std.specs.Prelude.{◌≡◌, ◌<◌, [], ◌∷◌, ℕ, false, All, Contains, Some, OnOk, length};
 ghost use Rattle.layout.specs.Formats.{upgraded};
-ghost use Rattle.charts.specs.Charts.{IsChart, IsFresh, IsLocated};
+ghost use Rattle.charts.specs.Charts.{IsFresh, IsLocated};
 ghost use Rattle.charts.specs.TileLocations.{TileLocation};
 ghost use Rattle.charts.specs.Upgraded.{IsUpgraded, listing_of, listing_of_kept, listing_of_tile, listings};
 ghost use Rattle.cow_tree.specs.Layout.{IsIndexed};

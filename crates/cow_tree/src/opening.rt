@@ -1,18 +1,17 @@
 //! The chart of a disk, from its records.
-ghost use Rattle.std.specs.Prelude.{◌≡◌, ◌≤◌, ◌<◌, ◌⊎◌, ◌^◌, ℕ, List, All, length, map, IfSome, false, true, Ok, Err, OnOk, OnErr, IfOk, IfErr, IsErrOf, Some, None};
-ghost use Rattle.lattice.specs.declared.refusal.Refusal.TheVariants.{Device, NoMemory, Damaged};
+ghost use Rattle.std.specs.Prelude.{◌≡◌, ◌≤◌, ◌<◌, ◌⊎◌, ◌^◌, ℕ, List, All, length, map, IfSome, false, Ok, Err, IfOk, IfErr, Some, None};
+ghost use Rattle.lattice.specs.declared.refusal.Refusal.TheVariants.{Damaged};
 ghost use Rattle.layout.specs.declared.version.Version.TheVariants.{Two};
 ghost use Rattle.page_codec.specs.Records.{IsRecord, record_bytes};
-ghost use Rattle.page_codec.specs.Roots.{RootValue, format_of};
-ghost use Rattle.page_codec.specs.Entries.{EntryValue};
+ghost use Rattle.page_codec.specs.Roots.{format_of};
 ghost use Rattle.page_codec.specs.Sizes.{pages_of, index_pages_of, sectors_asked};
-ghost use Rattle.charts.specs.Locations.{PlaneLocation, IsWholePlane};
-ghost use Rattle.charts.specs.TileLocations.{TileLocation, KeepsPageRule};
+ghost use Rattle.charts.specs.Locations.{IsWholePlane};
+ghost use Rattle.charts.specs.TileLocations.{TileLocation};
 ghost use Rattle.cow_tree.specs.Entries.{entry_of, entry_of_kept};
 ghost use Rattle.cow_tree.specs.Layout.{HasRecord, IsIndexed, HasRecords, IsLaidOut, HaveKeptRecords};
 ghost use Rattle.charts.specs.Charts.{IsWholeTile, IsChart, IsClean, tile_at, AreWholeKept};
 ghost use Rattle.cow_tree.specs.Found.{NoneListed, NoneIndexed, NonePlane, NoneKept, NoTileAt};
-ghost use Rattle.roots.specs.Roots.{disk_of, root_of, has_failed};
+ghost use Rattle.roots.specs.Roots.{disk_of, has_failed};
 ghost use Rattle.cow_tree.specs.OverRoots.{OnlyReads, IsRefusedFor, IsRefusalOfTree};
 
 use arrayvec::ArrayVec;

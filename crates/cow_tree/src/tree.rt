@@ -1,5 +1,5 @@
 //! The tree.
-ghost use Rattle.std.specs.Prelude.{◌≡◌, ◌≢◌, ◌≤◌, ◌<◌, ◌+◌, ◌*◌, ◌^◌, ◌⊎◌, ◌↔◌, ℕ, [], List, All, Contains, IsTrue, length, map, filter, not, true, false, Ok, Err, OnOk, OnErr, IfOk, IfErr, IsErrOf, if◌then◌else◌};
+ghost use Rattle.std.specs.Prelude.{◌≡◌, ◌≢◌, ◌≤◌, ◌<◌, ◌+◌, ◌*◌, ◌^◌, ◌⊎◌, ◌↔◌, ℕ, List, All, Contains, IsTrue, length, map, filter, not, true, false, Ok, Err, OnOk, OnErr, IfOk, IfErr, IsErrOf, if◌then◌else◌};
 ghost use Rattle.disk.specs.Disk.{Image, Only, HasRisen};
 ghost use Rattle.disk.specs.Stops.{LeavesOnly, AddsNothing, HasCause};
 ghost use Rattle.lattice.specs.Corners.{Corner, same_corner, is_corner};
@@ -7,7 +7,7 @@ ghost use Rattle.lattice.specs.Lattice.{IsBefore};
 ghost use Rattle.lattice.specs.Mosaic.{AreSinks};
 ghost use Rattle.std.specs.List.{AllAdjacentBelow};
 ghost use Rattle.lattice.specs.declared.refusal.Refusal.TheVariants.{Device, NoMemory, Failed};
-ghost use Rattle.page_codec.specs.Roots.{RootValue, format_of};
+ghost use Rattle.page_codec.specs.Roots.{format_of};
 ghost use Rattle.layout.specs.Sizes.{plane_pages_of};
 ghost use Rattle.page_codec.specs.Formats.{IsKnown};
 ghost use Rattle.page_codec.specs.Sizes.{pages_of, index_pages_of, sectors_asked};

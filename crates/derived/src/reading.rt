@@ -2,7 +2,7 @@
 ghost use Rattle.std.specs.Prelude.{◌≡◌, ◌≢◌, ◌+◌, ◌-◌, ◌*◌, ◌<◌, ◌≤◌, ◌≤ℤ◌, ◌++◌, ◌∷◌, [], ◌⊎◌, ℕ, None, IsTrue, IfOk, IfErr, OnOk, length, slice_index, slice_index_or};
 ghost use Rattle.lattice.specs.Block.{Block};
 ghost use Rattle.lattice.specs.Limits.{largest_side};
-ghost use Rattle.lattice.specs.Mosaic.{IsSample, void};
+ghost use Rattle.lattice.specs.Mosaic.{void};
 ghost use Rattle.lattice.specs.declared.refusal.Refusal.TheVariants.{NoMemory, Damaged};
 ghost use Rattle.tile_flood.specs.Kept.{labels_in, levels_in};
 ghost use Rattle.tile_flood.specs.Labelling.{IsLabelling};

@@ -1,5 +1,5 @@
 //! The device that the layers above write to, and what is known of it.
-ghost use Rattle.std.specs.Prelude.{◌≡◌, ◌≤◌, ◌<◌, ◌+◌, ◌≢◌, List, ℕ, OnOk};
+ghost use Rattle.std.specs.Prelude.{◌≡◌, ◌≤◌, ◌<◌, ℕ, OnOk};
 ghost use Rattle.disk.specs.Disk.{Image, SameBut, TornAt, NoneNew, Only, counted, CountsFault, Elapses, Nothing};
 
 use thiserror::Error;

@@ -2,7 +2,7 @@
 //!
 //! The record holds the bytes of each write, and a sector names what it holds. So a write copies its bytes once, and a
 //! sync copies none.
-ghost use Rattle.std.specs.Prelude.{◌≡◌, ◌<◌, ◌≤◌, ℕ, length, true, IfOk, OnOk, OnErr, IsOk, false};
+ghost use Rattle.std.specs.Prelude.{◌≡◌, ◌<◌, ℕ, length, true, IfOk, OnOk, OnErr, IsOk, false};
 ghost use Rattle.disk.specs.Disk.{SameBut, TornAt, NoneNew, Only, counted, CountsFault, Elapses, Nothing};
 ghost use Rattle.disk.specs.Memory.{MayLeave, LeftSince, replay, at_first, left_by, after_write, after_sync, after_stop_at, after_stop};
 ghost use Rattle.disk.specs.Record.{IsReplay, bytes_of, is_recorded, seen_left, now_left, only_left};

@@ -1,12 +1,12 @@
 //! The commands that name points.
-ghost use Rattle.std.specs.Prelude.{◌≡◌, ℕ, ◌||◌, ◌≢◌, ◌≤◌, ◌*◌, ◌⊎◌, ℤ, pos, negsuc, ◌-ℤ◌, int_lt, true, false, All, IsTrue, IfOk, IfErr, OnOk, MatchResult, IfSome, IfNone, Contains, vec_len, [], ◌∷◌, ◌++◌, length};
+ghost use Rattle.std.specs.Prelude.{◌≡◌, ℕ, ◌||◌, ◌≢◌, ◌≤◌, ◌*◌, negsuc, ◌-ℤ◌, int_lt, true, false, All, IsTrue, IfOk, IfErr, OnOk, MatchResult, IfSome, IfNone, Contains, vec_len, length};
 ghost use Rattle.lattice.specs.Corners.{Corner};
 ghost use Rattle.lattice.specs.Lattice.{Holds, IsIndexOf};
 ghost use Rattle.lattice.specs.Mosaic.{void};
 ghost use Rattle.lattice.specs.Height.{height_of};
 ghost use Rattle.lattice.specs.Ground.{metres, same_point};
 ghost use Rattle.lattice.specs.declared.height.Height.TheVariants as height_is;
-ghost use Rattle.lattice.specs.declared.refusal.Refusal.TheVariants.{NoMemory, TooDeep, Outside, Void, Device, Failed, Damaged};
+ghost use Rattle.lattice.specs.declared.refusal.Refusal.TheVariants.{NoMemory, TooDeep, Outside, Void};
 ghost use Rattle.catalogue.specs.Readers.{OnlyReads, reads_of};
 ghost use Rattle.edits.specs.Changes.{CanBeSet, SetOnce, all_changed};
 ghost use Rattle.edits.specs.Effect.{effect, is_repeated, is_named, first_fault, edited};

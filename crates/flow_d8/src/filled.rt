@@ -1,5 +1,5 @@
 //! The filled levels of a mosaic.
-ghost use Rattle.std.specs.Prelude.{◌≡◌, ◌≤◌, ◌<◌, ◌*◌, IsTrue, IsSome, IfSome, MatchOption, SomeIff, length, ◌↔◌, ◌&&◌, not, if◌then◌else◌, true, slice_index_or, ◌%◌, ◌+◌};
+ghost use Rattle.std.specs.Prelude.{◌≡◌, ◌≤◌, ◌<◌, ◌*◌, IsTrue, MatchOption, SomeIff, length, ◌↔◌, ◌&&◌, not, if◌then◌else◌, true, slice_index_or, ◌%◌, ◌+◌};
 ghost use Rattle.std.specs.List.{AllAdjacentBelow};
 ghost use Rattle.lattice.specs.Corners.{is_before};
 ghost use Rattle.lattice.specs.Lattice.{IsBefore};

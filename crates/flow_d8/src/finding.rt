@@ -1,5 +1,5 @@
 //! Directions from levels.
-ghost use Rattle.std.specs.Prelude.{not, ◌≡◌, ℕ, ℤ, ◌+◌, ◌<◌, ◌≤◌, ◌⊎◌, IsTrue, IfOk, IfErr, OnOk, List, None, length, is_some, slice_index_or};
+ghost use Rattle.std.specs.Prelude.{not, ◌≡◌, ℕ, ℤ, ◌+◌, ◌<◌, ◌⊎◌, IsTrue, IfOk, IfErr, OnOk, None, length, is_some, slice_index_or};
 ghost use Rattle.std.specs.List.{list_all};
 ghost use Rattle.lattice.specs.declared.point.Point.{Point};
 ghost use Rattle.lattice.specs.declared.refusal.Refusal.TheVariants.{NoMemory, Damaged};

@@ -1,9 +1,9 @@
 //! Flats, crossed the shortest way: a breadth-first search from all points that drain downhill or off the mosaic.
-ghost use Rattle.std.specs.Prelude.{◌≡◌, ℕ, ◌+◌, ◌↔◌, ◌<◌, ◌≤◌, IsTrue, IfOk, OnOk, IfSome, IfNone, MatchOption, length, slice_index_or};
-ghost use Rattle.lattice.specs.Steps.{step, order_of};
+ghost use Rattle.std.specs.Prelude.{◌≡◌, ◌+◌, ◌↔◌, ◌<◌, ◌≤◌, IsTrue, IfOk, OnOk, IfSome, IfNone, MatchOption, length};
+ghost use Rattle.lattice.specs.Steps.{step};
 ghost use Rattle.lattice.specs.declared.direction.Dir.{Dir};
 ghost use Rattle.lattice.specs.declared.point.Point.{Point};
-ghost use Rattle.flow_d8.specs.Drainage.{IsFirstNearer, IsNearer, IsFlatDistance};
+ghost use Rattle.flow_d8.specs.Drainage.{IsFirstNearer, IsNearer};
 ghost use Rattle.flow_d8.specs.Filled.{AreLevels};
 ghost use Rattle.flow_d8.specs.Surface.{number_in, level_at, has_level, adjoins, beside_of, surface};
 ghost use Rattle.flow_d8.specs.Crossing.{unknown, distance_at, gaps, AreKept, IsStart, IsWave, IsAcross, IsWayOut, IsReaching, IsSpreading, IsSpread, AreDistances};

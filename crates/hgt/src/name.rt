@@ -1,5 +1,5 @@
 //! Names of tiles and of their files.
-ghost use Rattle.std.specs.Prelude.{◌≡◌, ◌≢◌, ◌<◌, ◌≤◌, ◌+◌, ℤ, [], ◌∷◌, ◌++◌, All, length, IfOk, IfErr, IfSome, SomeIff, MatchOption, slice_index};
+ghost use Rattle.std.specs.Prelude.{◌≡◌, ◌≢◌, ◌<◌, ◌≤◌, ◌+◌, ℤ, [], ◌∷◌, ◌++◌, All, length, IfOk, IfErr, IfSome, SomeIff, MatchOption};
 ghost use Rattle.std.specs.Str.{byte};
 ghost use Rattle.std.specs.Char.{IsAsciiDigit};
 ghost use Rattle.lattice.specs.Corners.{Corner};

@@ -1,5 +1,5 @@
 //! The name of a tile.
-ghost use Rattle.std.specs.Prelude.{◌≡◌, IsTrue, SomeIff};
+ghost use Rattle.std.specs.Prelude.{IsTrue, SomeIff};
 
 use std::marker::Model;
 

@@ -2,7 +2,7 @@
 ghost use Rattle.std.specs.Prelude.{◌≡◌, ◌≤◌, ◌<◌, IfOk, IsOk, IsErrOf, ◌↔◌};
 ghost use Rattle.lattice.specs.declared.refusal.Refusal.TheVariants.{BadSide, BadCapacity};
 ghost use Rattle.layout.specs.Formats.{Format, IsFormat, format_1, largest_side_of, upgraded};
-ghost use Rattle.layout.specs.Sizes.{pages_of, index_pages_of, listed_in, AreLeastPages, plane_pages_of, sectors_asked};
+ghost use Rattle.layout.specs.Sizes.{pages_of, index_pages_of, listed_in, AreLeastPages, sectors_asked};
 
 use crate::size::{FIXED_SECTORS, pages_in_plane};
 use crate::{MAX_CAPACITY, RECORD_PAGES, Version};

@@ -1,5 +1,5 @@
 //! The command words.
-ghost use Rattle.std.specs.Prelude.{◌≡◌, ◌≢◌, ℕ, MatchOption};
+ghost use Rattle.std.specs.Prelude.{◌≡◌, ◌≢◌, MatchOption};
 ghost use Rattle.lines.specs.Grammar.{spelling};
 
 /// The first word of a line that is in the grammar.

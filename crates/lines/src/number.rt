@@ -1,5 +1,5 @@
 //! Numbers in lines.
-ghost use Rattle.std.specs.Prelude.{◌≡◌, ◌<◌, ℕ, ℤ, List, [], ◌∷◌, length, MatchOption, IfSome};
+ghost use Rattle.std.specs.Prelude.{◌<◌, ℕ, ℤ, List, length, MatchOption, IfSome};
 ghost use Rattle.lines.specs.Grammar.{IsNat, IsInt, AreInts};
 
 use crate::words::Words;

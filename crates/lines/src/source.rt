@@ -2,7 +2,7 @@
 //!
 //! One fact runs through this module: what was taken, what is still ahead and what the reader has left make up what
 //! the reader had at first. A read gives any number of bytes, so neither a line nor a payload ends where a read ends.
-ghost use Rattle.std.specs.Prelude.{◌≡◌, ◌+◌, ◌-◌, ◌<◌, ◌≤◌, ℕ, List, [], ◌++◌, drop, length, OnOk, OnErr, IfOk, IfSome, Ok, Option, Some, None, MatchOption, slice_index, take, vec_len, vec_capacity, if◌then◌else◌, IsTrue, ◌↔◌};
+ghost use Rattle.std.specs.Prelude.{◌≡◌, ◌+◌, ◌-◌, ◌<◌, ◌≤◌, ℕ, List, [], ◌++◌, drop, length, OnOk, OnErr, IfOk, IfSome, Ok, Option, Some, None, MatchOption, take, vec_len, vec_capacity, if◌then◌else◌, IsTrue, ◌↔◌};
 ghost use Rattle.std.specs.Io.KnownBytes.{IsAtEnd};
 ghost use Rattle.lines.specs.Ahead.{Lookahead, lookahead_code, bytes_of, is_usable, Taken, weight};
 ghost use Rattle.lines.specs.Lines.{IsLine, kept, line_code, line_feed, Reaches};

@@ -1,6 +1,6 @@
 //! What is written for a line: `OK` with a value, or `ERR` with the number and the word of a refusal. Each line of a
 //! reply ends in an LF.
-ghost use Rattle.std.specs.Prelude.{◌≡◌, ◌+◌, ◌≤◌, ℕ, List, [], ◌++◌, length, IfErr, IfOk, OnOk, OnErr, take, codes, decimal};
+ghost use Rattle.std.specs.Prelude.{◌≡◌, ◌+◌, ◌≤◌, ℕ, List, ◌++◌, length, IfOk, OnOk, OnErr, take, codes, decimal};
 ghost use Rattle.std.specs.Io.KnownBytes.{Appends};
 ghost use Rattle.hgt.specs.Names.{name_bytes};
 ghost use Rattle.lines.specs.Replies.{ok_line, done_text, names_line, path_text, refusal_text, runs_text};

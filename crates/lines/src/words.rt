@@ -1,7 +1,7 @@
 //! The words of a text.
-ghost use Rattle.std.specs.Prelude.{◌≡◌, ℕ, List, [], ◌∷◌, ◌++◌, MatchOption, IfNone, IfSome, Option, Some, None};
+ghost use Rattle.std.specs.Prelude.{◌≡◌, ℕ, List, [], ◌∷◌, MatchOption, Option, Some, None};
 ghost use Rattle.std.specs.Option.{option_copied};
-ghost use Rattle.lines.specs.Words.{words_of, words_code, cut, HasNoSpace};
+ghost use Rattle.lines.specs.Words.{words_of, words_code, cut};
 
 use crate::bytes::place_of;
 use std::marker::Model;

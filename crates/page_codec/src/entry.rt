@@ -1,5 +1,5 @@
 //! A tile's entry in a root.
-ghost use Rattle.std.specs.Prelude.{◌≡◌, ℕ, ℤ, length, Ok, IfOk, IfErr, IfSome, IfNone};
+ghost use Rattle.std.specs.Prelude.{◌≡◌, length, Ok, IfOk, IfErr, IfSome, IfNone};
 ghost use Rattle.page_codec.specs.declared.damaged.Damaged.TheVariants.{Rule};
 
 use crate::numbers::{split_i16, split_u32};

@@ -1,6 +1,5 @@
 //! The root of a store.
-ghost use Rattle.std.specs.Prelude.{◌≡◌, ◌≢◌, ◌+◌, ◌<◌, ◌≤◌, ◌^◌, ◌↔◌, [], ◌++◌, length, take, All, IsTrue, IfOk, IfErr, IfSome, IfNone, IsErrOf, Ok};
-ghost use Rattle.std.specs.List.{flat_map};
+ghost use Rattle.std.specs.Prelude.{◌≡◌, ◌≢◌, ◌+◌, ◌<◌, ◌≤◌, ◌^◌, ◌↔◌, ◌++◌, length, take, All, IfOk, IfErr, IfSome, IfNone, IsErrOf, Ok};
 ghost use Rattle.page_codec.specs.declared.damaged.Damaged.TheVariants as reason;
 ghost use Rattle.layout.specs.declared.version.Version.{Version};
 ghost use Rattle.layout.specs.declared.version.Version.TheVariants.{Two};

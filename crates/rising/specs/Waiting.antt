@@ -1,5 +1,5 @@
 -- What waits: nodes that water may reach next, the lowest crest first. And which nodes are taken.
-use Rattle.std.specs.Prelude.{◌≡◌, ℕ, ◌==◌, ◌≤ℤ◌, ◌⊎◌, Bool, true, false, cond, List, Contains}
+use Rattle.std.specs.Prelude.{◌≡◌, ℕ, ◌==◌, ◌≤ℤ◌, Bool, true, false, cond, List, Contains}
 use Rattle.std.specs.List.{list_any}
 use Rattle.rising.specs.declared.waiting.Seat.{Seat}
 

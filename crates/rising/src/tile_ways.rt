@@ -1,5 +1,5 @@
 //! The ways inside one tile.
-ghost use Rattle.std.specs.Prelude.{◌≡◌, ◌+◌, ◌-◌, ◌*◌, ◌^◌, ◌<◌, [], ◌∷◌, IfOk, IfErr, OnOk, Contains, length};
+ghost use Rattle.std.specs.Prelude.{◌≡◌, ◌+◌, ◌-◌, ◌*◌, ◌^◌, ◌<◌, IfOk, IfErr, OnOk, Contains, length};
 ghost use Rattle.lattice.specs.declared.refusal.Refusal.TheVariants.{NoMemory};
 ghost use Rattle.border_graph.specs.Joining.{rim_point};
 ghost use Rattle.border_graph.specs.declared.waiting.Link.{Link as LinkOf};

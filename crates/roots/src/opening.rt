@@ -1,12 +1,12 @@
 //! Which root of a disk is current.
-ghost use Rattle.std.specs.Prelude.{◌≡◌, ◌≤◌, ◌<◌, ◌⊎◌, true, false, Ok, Err, OnOk, IfOk, IfErr, IsErrOf, MatchOption};
+ghost use Rattle.std.specs.Prelude.{◌≡◌, ◌≤◌, ◌<◌, ◌⊎◌, true, false, Ok, Err, OnOk, IfOk, IfErr, IsErrOf};
 ghost use Rattle.disk.specs.Disk.{Only, HasRisen};
 ghost use Rattle.disk.specs.Stops.{AddsNothing, HasCause};
 ghost use Rattle.lattice.specs.declared.refusal.Refusal.TheVariants.{Device};
 ghost use Rattle.page_codec.specs.Roots.{format_of};
 ghost use Rattle.page_codec.specs.Sizes.{sectors_asked};
 ghost use Rattle.roots.specs.Slots.{is_open, gate, root_sector, IsAt};
-ghost use Rattle.roots.specs.Opening.{ReadsAs, Holds, refusal_of, later, chosen, fitting, OpensAs, IsRefusalOfOpening};
+ghost use Rattle.roots.specs.Opening.{Holds, refusal_of, later, chosen, fitting, OpensAs, IsRefusalOfOpening};
 ghost use Rattle.roots.specs.declared.slot.Slot.TheVariants.{A, B};
 ghost use Rattle.roots.specs.Found.{OnlyReads, HoldsBehind, FoundIn, found_as};
 

@@ -1,6 +1,6 @@
 //! The roots of a disk.
-ghost use Rattle.std.specs.Prelude.{◌≡◌, ◌≢◌, ◌≤◌, ◌<◌, ◌+◌, ◌⊎◌, true, false, Ok, Err, IsOk, OnOk, OnErr, IfOk, IfErr, IsErrOf, if◌then◌else◌};
-ghost use Rattle.disk.specs.Disk.{Image, SameBut, Only, counted, HasRisen};
+ghost use Rattle.std.specs.Prelude.{◌≡◌, ◌≤◌, ◌<◌, ◌+◌, ◌⊎◌, true, false, Ok, Err, IsOk, OnOk, OnErr, IfOk, IfErr, IsErrOf, if◌then◌else◌};
+ghost use Rattle.disk.specs.Disk.{SameBut, Only, counted, HasRisen};
 ghost use Rattle.disk.specs.Stops.{LeavesOnly, AddsNothing, HasCause};
 ghost use Rattle.lattice.specs.declared.refusal.Refusal.TheVariants.{Device};
 ghost use Rattle.roots.specs.Slots.{SamePages, SamePagesBut, KeepsAll, KeepsBut, HasMoved, IsCurrent};

@@ -1,7 +1,7 @@
 //! The words of the command line.
 ghost use Rattle.std.specs.Prelude.{◌≡◌, ◌↔◌, ℕ, Any, Err, IfOk, IsTrue, MatchOption, Some, codes, map, option_map};
-ghost use Rattle.clap.specs.Words.{app_of, first_of, found_of, rows_of, subcommand_rows_of};
-ghost use Rattle.server.specs.CommandLine.{AskNothing, AskedBy, IsNatIn, IsOption, Reads, check_app, format_app, import_app, program_app, serve_app, table_app, texts_of, upgrade_app};
+ghost use Rattle.clap.specs.Words.{app_of, first_of, found_of, rows_of, subcommand_rows_of, with_rule};
+ghost use Rattle.server.specs.CommandLine.{AskNothing, AskedBy, IsNatIn, IsOption, Reads, check_app, format_app, import_app, program_app, required_text, serve_app, table_app, texts_of, upgrade_app};
 
 use clap::error::ErrorKind;
 use clap::{Arg, ArgMatches, Command};
@@ -10,7 +10,7 @@ use std::alloc::{AllocError, Global};
 use std::convert::AsStr;
 
 /// What the program is asked to do.
-#[derive(Clone, Copy, Debug, PartialEq, Eq)]
+#[derive(Clone, Copy)]
 pub enum Arguments<'a> {
     /// To make a store's file.
     Format {
@@ -43,7 +43,7 @@ pub enum Arguments<'a> {
 }
 
 /// Why the words ask for nothing.
-#[derive(Clone, Copy, Debug, PartialEq, Eq)]
+#[derive(Clone, Copy)]
 pub enum ArgumentFault {
     Bad,
     NoMemory,
@@ -107,50 +107,55 @@ fn command<'a>(alloc: Global) -> Result<Command<'a>, AllocError>
 fn format_words<'a>(alloc: Global) -> Result<Command<'a>, AllocError>
     ensures { IfOk result (λ c. app_of c ≡ format_app) }
 {
-    let path = Arg::new(alloc, "PATH").required(true);
-    let side = Arg::new(alloc, "SIDE").required(true);
-    let capacity = Arg::new(alloc, "CAPACITY").required(true);
-    Command::new(alloc, "format")
-        .arg(path)?
-        .arg(side)?
-        .arg(capacity)
+    let command = Command::new(alloc, "format");
+    let command = with_text(alloc, command, "PATH")?;
+    let command = with_text(alloc, command, "SIDE")?;
+    with_text(alloc, command, "CAPACITY")
 }
 
 fn import_words<'a>(alloc: Global) -> Result<Command<'a>, AllocError>
     ensures { IfOk result (λ c. app_of c ≡ import_app) }
 {
-    let path = Arg::new(alloc, "PATH").required(true);
-    let tile = Arg::new(alloc, "FILE").required(true);
-    Command::new(alloc, "import").arg(path)?.arg(tile)
+    let command = Command::new(alloc, "import");
+    let command = with_text(alloc, command, "PATH")?;
+    with_text(alloc, command, "FILE")
 }
 
 fn serve_words<'a>(alloc: Global) -> Result<Command<'a>, AllocError>
     ensures { IfOk result (λ c. app_of c ≡ serve_app) }
 {
-    let path = Arg::new(alloc, "PATH").required(true);
-    Command::new(alloc, "serve").arg(path)
+    with_text(alloc, Command::new(alloc, "serve"), "PATH")
 }
 
 fn table_words<'a>(alloc: Global) -> Result<Command<'a>, AllocError>
     ensures { IfOk result (λ c. app_of c ≡ table_app) }
 {
-    let side = Arg::new(alloc, "SIDE").required(true);
-    let capacity = Arg::new(alloc, "CAPACITY").required(true);
-    Command::new(alloc, "table").arg(side)?.arg(capacity)
+    let command = Command::new(alloc, "table");
+    let command = with_text(alloc, command, "SIDE")?;
+    with_text(alloc, command, "CAPACITY")
 }
 
 fn check_words<'a>(alloc: Global) -> Result<Command<'a>, AllocError>
     ensures { IfOk result (λ c. app_of c ≡ check_app) }
 {
-    let path = Arg::new(alloc, "PATH").required(true);
-    Command::new(alloc, "check").arg(path)
+    with_text(alloc, Command::new(alloc, "check"), "PATH")
 }
 
 fn upgrade_words<'a>(alloc: Global) -> Result<Command<'a>, AllocError>
     ensures { IfOk result (λ c. app_of c ≡ upgrade_app) }
 {
-    let path = Arg::new(alloc, "PATH").required(true);
-    Command::new(alloc, "upgrade").arg(path)
+    with_text(alloc, Command::new(alloc, "upgrade"), "PATH")
+}
+
+/// The command with one more text, which is required.
+fn with_text<'a>(
+    alloc: Global,
+    command: Command<'a>,
+    name: &'static str,
+) -> Result<Command<'a>, AllocError>
+    ensures { IfOk result (λ c. app_of c ≡ with_rule (app_of command.entry) (required_text name.now)) }
+{
+    command.arg(Arg::new(alloc, name).required(true))
 }
 
 /// What the matches ask for.

@@ -2,7 +2,7 @@
 ghost use Rattle.std.specs.Prelude.{◌≡◌, IfErr, IfOk};
 ghost use Rattle.store.specs.Stores.{root_of};
 ghost use Rattle.store.specs.Upgraded.{HasUpgraded as Upgraded};
-ghost use Rattle.server.specs.OnDisks.{ChecksStore, HasMeasured, ImportsTile, IsClosed, IsTileRead, MakesStore, ServesLines, TellsClosed, UpgradesStore, done_of, given_by};
+ghost use Rattle.server.specs.OnDisks.{ChecksStore, HasMeasured, ImportsTile, IsClosed, IsTileRead, MakesStore, ServesLines, UpgradesStore, done_of, given_by};
 
 use crate::endings::{end_command, end_format, end_report, end_session, refuse, tell};
 use crate::reporting::report;

@@ -7,7 +7,7 @@ use Rattle.lattice.specs.Mosaic.{Tile, Mosaic, IsTile, empty_mosaic}
 use Rattle.page_codec.specs.Sizes.{pages_of}
 use Rattle.hgt.specs.Bytes.{samples_in}
 use Rattle.hgt.proofs.BytesLemmas.{samples_are_samples_in, AreHgtBytes-samples_in}
-use Rattle.catalogue.specs.Tiles.{corners_of, added, without, with_sample, with_sample_in}
+use Rattle.catalogue.specs.Tiles.{corners_of, added, without}
 use Rattle.catalogue.specs.Tiles as mosaics
 use Rattle.catalogue.proofs.Mosaics.{corner_of}
 use Rattle.cow_tree.specs.Stored.{IsPage, StoredTile, AreWhole, plane_bytes, pages_of_bytes, samples_of_plane, mosaic_of_tiles, without_tile, with_tile, stale_tile, corners_of_stored}

@@ -1,5 +1,5 @@
 //! Where water passes between what drains to one label and what drains to another.
-ghost use Rattle.std.specs.Prelude.{◌≡◌, ◌≢◌, ℕ, ℤ, ◌+◌, ◌*◌, ◌<◌, ◌≤◌, ◌↔◌, List, All, IfOk, IfErr, OnOk, IfSome, IfNone, IsTrue, length};
+ghost use Rattle.std.specs.Prelude.{◌≡◌, ℕ, ◌+◌, ◌*◌, ◌<◌, ◌↔◌, All, IfOk, IfErr, OnOk, IfSome, IfNone, IsTrue, length};
 ghost use Rattle.lattice.specs.Block.{Block};
 ghost use Rattle.lattice.specs.Limits.{IsSide};
 ghost use Rattle.lattice.specs.Mosaic.{IsSample};

@@ -1,5 +1,5 @@
 //! The points that wait to spread, the lowest level first.
-ghost use Rattle.std.specs.Prelude.{◌≡◌, ℕ, ℤ, ◌+◌, ◌≤ℤ◌, ◌⊎◌, IfOk, OnOk, IfSome, IfNone, MatchOption};
+ghost use Rattle.std.specs.Prelude.{◌≡◌, ℕ, ℤ, ◌+◌, ◌≤ℤ◌, IfOk, OnOk, IfSome, IfNone, MatchOption};
 ghost use Rattle.tile_flood.specs.Waiting.{Waits, HasBucket, waiting, IsJoined, IsTaken};
 
 use crate::values::Range;

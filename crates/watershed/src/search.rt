@@ -1,5 +1,5 @@
 //! The search up the flow paths.
-ghost use Rattle.std.specs.Prelude.{◌≡◌, ℤ, IsTrue, IsFalse, IfOk, IfErr, OnOk, []};
+ghost use Rattle.std.specs.Prelude.{◌≡◌, ℤ, IsFalse, IfOk, IfErr, OnOk, []};
 ghost use Rattle.lattice.specs.declared.point.Point.{Point};
 ghost use Rattle.lattice.specs.declared.refusal.Refusal.TheVariants.{NoMemory};
 ghost use Rattle.lattice.specs.Mosaic.{Mosaic, IsMosaic};

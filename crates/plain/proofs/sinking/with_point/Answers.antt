@@ -1,8 +1,6 @@
-use Rattle.std.proofs.Common.{◌≡◌, ◌∙◌, sym, ap₂, arith, ℕ, List}
-use Rattle.std.proofs.lemmas.Grind.{common_steps}
-use Rattle.std.specs.List.{insert, position_or_len}
+use Rattle.std.proofs.Common.{◌∙◌, sym, ap₂, ℕ, List}
+use Rattle.std.specs.List.{insert}
 use Rattle.lattice.specs.declared.point.Point.{Point}
-use Rattle.lattice.specs.Points.{is_point_before}
 use Rattle.plain.proofs.CommandLemmas.{with_point_at}
 use Rattle.plain.proofs.sinking.with_point.Goals as goal
 

@@ -1,4 +1,4 @@
-use Rattle.std.proofs.Common.{rules, true, ◌≡◌, ◌<◌, ◌^◌, ◌⊎◌, inl, inr, SFits, w16, refl, sym, subst, arith, to_z, of_z, List, [], ◌∷◌, map}
+use Rattle.std.proofs.Common.{rules, true, ◌≡◌, ◌<◌, ◌^◌, inl, inr, SFits, w16, refl, sym, subst, arith, to_z, of_z, List, [], ◌∷◌, map}
 use Rattle.std.specs.Prelude.{IfSome, IfNone}
 use Rattle.std.proofs.lemmas.Int.{to_z-of_z}
 use Rattle.std.proofs.lemmas.Result.{err_from_is_err_and}

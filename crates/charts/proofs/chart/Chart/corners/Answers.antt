@@ -3,7 +3,7 @@ use Rattle.charts.specs.Slots.{staged_tile}
 use Rattle.charts.proofs.Listing.{located_more, located_same, located_room}
 use Rattle.charts.proofs.Lookup.{is_some_alike}
 use Rattle.charts.proofs.chart.Chart.corners.Goals as goal
-use Rattle.charts.proofs.chart.Chart.corners.Goals.{then-is_some, else-is_some, After-loop-slot}
+use Rattle.charts.proofs.chart.Chart.corners.Goals.{then-is_some, else-is_some}
 
 pub push-requires : goal.push-requires
 push-requires c =
