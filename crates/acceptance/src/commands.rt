@@ -1,10 +1,10 @@
 //! Random commands, good ones and bad ones.
-use crate::random::Random;
 use crate::region::corner_beside;
 use arrayvec::ArrayVec;
 use edits::{Bytes, Command};
 use lattice::{Corner, Point, Side, point_at};
 use plain::Plain;
+use seeded_random::Random;
 use std::alloc::{AllocError, Global};
 
 const VOID: i16 = i16::MIN;

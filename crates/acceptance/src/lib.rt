@@ -9,8 +9,6 @@ mod commands;
 #[cfg(test)]
 mod line_tests;
 #[cfg(test)]
-mod random;
-#[cfg(test)]
 mod region;
 #[cfg(test)]
 mod serving_tests;

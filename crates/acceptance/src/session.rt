@@ -1,12 +1,12 @@
 //! A random session: a mosaic by the definitions, which engines follow.
 use crate::answers::{defined, served};
 use crate::commands::Commands;
-use crate::random::Random;
 use crate::region::{MIDDLES, corners_around, points_around};
 use edits::Command;
 use engine::Engine;
 use lattice::{Corner, Point, Refusal, Side};
 use plain::Plain;
+use seeded_random::Random;
 use std::alloc::{AllocError, Global};
 use std::process::Abort;
 use std::test::Fail;

@@ -1,6 +1,7 @@
 -- Pages in a cache: what is found, put in and taken out, and when they are an image's.
 use Rattle.std.proofs.Common.{◌≡◌, ◌≤◌, ◌⊎◌, inl, inr, ⊎_elim, ℕ, zero, suc, Bool, true, false, cond, nat_eq, List, [], ◌∷◌, Contains, sym, ap, ◌∙◌, subst, arith}
 use Rattle.std.specs.Prelude.{Some, None}
+use Rattle.std.specs.Global.{Vec}
 use Rattle.std.specs.List.{AllByRecursion, IsDistinct}
 use Rattle.std.specs.Map.{keys_of, lookup, remove_entry}
 use Rattle.std.proofs.lemmas.Bool.{eqb-true, false≢true}
@@ -10,28 +11,28 @@ use Rattle.lru.specs.LruCache.{LruCache, put_entries}
 use Rattle.lru.proofs.CallerLemmas.{Contains-lookup, Contains-put_entries}
 use Rattle.disk.specs.Disk.{Image}
 use Rattle.roots.specs.Slots.{SamePagesBut}
-use Rattle.cow_tree.specs.Caches.{held_in, Agrees}
+use Rattle.cow_tree.specs.Caches.{entries_of, IsHeld, Agrees}
 use Rattle.cow_tree.specs.declared.cache.PageCache.{PageCache}
 
 -- a page that is found is there
-pub found_there : (n : ℕ) (held : List (ℕ × List ℕ)) (page : List ℕ) → lookup (nat_eq n) held ≡ Some page → Contains held (n, page)
+pub found_there : (n : ℕ) (held : List (ℕ × Vec ℕ)) (page : Vec ℕ) → lookup (nat_eq n) held ≡ Some page → Contains held (n, page)
 found_there n held page is =
     let at = Contains-lookup (nat_eq n) held page is in
     subst (λ (k : ℕ). Contains held (k, page)) (sym (eqb-true n at.0 at.2)) at.1
 
 -- what is there after a page was put in was there, or is that page
-pub there_or_put : (cache : LruCache ℕ (List ℕ)) (n : ℕ) (bytes : List ℕ) (page : ℕ) (held : List ℕ) → Contains (put_entries nat_eq cache n bytes) (page, held)
+pub there_or_put : (cache : LruCache ℕ (Vec ℕ)) (n : ℕ) (bytes : Vec ℕ) (page : ℕ) (held : Vec ℕ) → Contains (put_entries nat_eq cache n bytes) (page, held)
     → Contains cache.entries (page, held) ⊎ ((page ≡ n) × (held ≡ bytes))
 there_or_put cache n bytes page held has =
     ⊎_elim (λ was. inl was) (λ put. inr (⊎_elim (λ same. same) (λ there. sym (eqb-true n page there.2)) put.1, put.0)) (Contains-put_entries nat_eq cache n bytes (page, held) has)
 
-none_there : (n : ℕ) (held : List (ℕ × List ℕ)) (bytes : List ℕ) → AllByRecursion (λ e. nat_eq n e.0 ≡ false) held → Contains held (n, bytes) → ⊥
+none_there : (n : ℕ) (held : List (ℕ × Vec ℕ)) (bytes : Vec ℕ) → AllByRecursion (λ e. nat_eq n e.0 ≡ false) held → Contains held (n, bytes) → ⊥
 none_there n [] bytes none (k, lt, here) = absurd (omega (arith, lt))
-none_there n (e ∷ held) bytes none (zero, lt, here) = false≢true (sym none.0 ∙ ap (λ (x : ℕ × List ℕ). nat_eq n x.0) here ∙ nat_eq_equiv.refl n)
+none_there n (e ∷ held) bytes none (zero, lt, here) = false≢true (sym none.0 ∙ ap (λ (x : ℕ × Vec ℕ). nat_eq n x.0) here ∙ nat_eq_equiv.refl n)
 none_there n (e ∷ held) bytes none (suc k, lt, here) = none_there n held bytes none.1 (k, omega arith, here)
 
 -- a page that was taken out isn't there
-pub gone : (n : ℕ) (held : List (ℕ × List ℕ)) → IsDistinct nat_eq (keys_of held) → (bytes : List ℕ) → Contains (remove_entry (nat_eq n) held) (n, bytes) → ⊥
+pub gone : (n : ℕ) (held : List (ℕ × Vec ℕ)) → IsDistinct nat_eq (keys_of held) → (bytes : Vec ℕ) → Contains (remove_entry (nat_eq n) held) (n, bytes) → ⊥
 gone n held distinct bytes =
     let one : (x y : ℕ) → nat_eq n x ≡ true → nat_eq n y ≡ nat_eq x y = λ x y same. ap (λ (k : ℕ). nat_eq k y) (eqb-true n x same) in
     let out : lookup (nat_eq n) (remove_entry (nat_eq n) held) ≡ None =
@@ -41,22 +42,22 @@ gone n held distinct bytes =
 -- when a cache agrees with an image
 
 -- a cache without pages
-pub none_agrees : (cache : PageCache) (image : Image) → held_in cache ≡ [] → Agrees cache image
-none_agrees cache image none page bytes has = let at = subst (λ (held : List (ℕ × List ℕ)). Contains held (page, bytes)) none has in absurd (omega (arith, at.1))
+pub none_agrees : (cache : PageCache) (image : Image) → entries_of cache ≡ [] → Agrees cache image
+none_agrees cache image none page bytes has = let at = subst (λ (held : List (ℕ × Vec ℕ)). Contains held (page, has.entry)) none has.there in absurd (omega (arith, at.1))
 
 -- one that holds no other pages than one that agrees
-pub fewer_agree : (old new : PageCache) (image : Image) → ((page : ℕ) (bytes : List ℕ) → Contains (held_in new) (page, bytes) → Contains (held_in old) (page, bytes)) → Agrees old image → Agrees new image
+pub fewer_agree : (old new : PageCache) (image : Image) → ((page : ℕ) (bytes : List ℕ) → IsHeld new page bytes → IsHeld old page bytes) → Agrees old image → Agrees new image
 fewer_agree old new image kept agrees page bytes has = agrees page bytes (kept page bytes has)
 
 -- .. than such a one and a page of the image
 pub one_more_agrees : (old new : PageCache) (image : Image) (number : ℕ) (read : List ℕ) → 4 ≤ number → read ≡ image number
-    → ((page : ℕ) (bytes : List ℕ) → Contains (held_in new) (page, bytes) → Contains (held_in old) (page, bytes) ⊎ ((page ≡ number) × (bytes ≡ read))) → Agrees old image → Agrees new image
+    → ((page : ℕ) (bytes : List ℕ) → IsHeld new page bytes → IsHeld old page bytes ⊎ ((page ≡ number) × (bytes ≡ read))) → Agrees old image → Agrees new image
 one_more_agrees old new image number read low is kept agrees page bytes has =
     ⊎_elim (λ was. agrees page bytes was) (λ put. (subst (λ (k : ℕ). 4 ≤ k) (sym put.0) low, ap image put.0 ∙ sym is ∙ sym put.1)) (kept page bytes has)
 
 -- one that doesn't hold the page that was written
-pub written_agrees : (old new : PageCache) (before after : Image) (number : ℕ) → ((page : ℕ) (bytes : List ℕ) → Contains (held_in new) (page, bytes) → Contains (held_in old) (page, bytes))
-    → ((bytes : List ℕ) → ¬ Contains (held_in new) (number, bytes)) → SamePagesBut number before after → Agrees old before → Agrees new after
+pub written_agrees : (old new : PageCache) (before after : Image) (number : ℕ) → ((page : ℕ) (bytes : List ℕ) → IsHeld new page bytes → IsHeld old page bytes)
+    → ((bytes : List ℕ) → ¬ IsHeld new number bytes) → SamePagesBut number before after → Agrees old before → Agrees new after
 written_agrees old new before after number kept gone same agrees page bytes has =
     let was = agrees page bytes (kept page bytes has) in
-    (was.0, sym (same page was.0 (λ e. gone bytes (subst (λ (k : ℕ). Contains (held_in new) (k, bytes)) e has))) ∙ was.1)
+    (was.0, sym (same page was.0 (λ e. gone bytes (subst (λ (k : ℕ). IsHeld new k bytes) e has))) ∙ was.1)

@@ -1,6 +1,5 @@
 -- Planes written whole to pages that no committed tile reaches.
-use Rattle.std.proofs.Common.{◌≡◌, ℕ, ◌+◌, ◌<◌, ◌≤◌, ◌^◌, true, false, not, List, [], ◌∷◌, All, Contains, length, get_or, Some, Result, OnOk, refl, sym, ap, ap₂, ◌∙◌, arith}
-use Rattle.std.specs.List.{filter}
+use Rattle.std.proofs.Common.{◌≡◌, ℕ, ◌+◌, ◌<◌, ◌≤◌, ◌^◌, true, false, List, [], ◌∷◌, All, Contains, length, get_or, Some, Result, OnOk, refl, sym, subst, ap, ap₂, ◌∙◌, arith}
 use Rattle.std.specs.Prelude.{IfErr, OnErr, if◌then◌else◌}
 use Rattle.std.proofs.lemmas.List.Elements.{All-head, All-tail, All-weaker, Contains-get_or}
 use Rattle.disk.specs.Disk.{Image}
@@ -8,23 +7,23 @@ use Rattle.disk.specs.Stops.{LeavesOnly, HasCause}
 use Rattle.disk.specs.declared.disk.Disk.{Ghosts}
 use Rattle.lattice.specs.declared.refusal.Refusal.{Refusal}
 use Rattle.lattice.specs.declared.refusal.Refusal.TheVariants.{Device}
-use Rattle.page_codec.specs.Records.{record_bytes}
+use Rattle.page_codec.specs.Formats.{Format}
 use Rattle.page_codec.specs.Sizes.{pages_of}
 use Rattle.roots.specs.Roots.{disk_of, root_of, has_begun, has_failed, IsReady}
 use Rattle.roots.specs.declared.roots.Roots.{Roots}
 use Rattle.charts.specs.declared.locations.KeptLocations.{KeptLocations}
-use Rattle.charts.specs.Charts.{ChartValue, IsFresh, is_unreached}
-use Rattle.charts.specs.Locations.{PlaneLocation, pages_behind, pages_of_plane, times}
+use Rattle.charts.specs.Charts.{ChartValue, IsFresh}
+use Rattle.charts.specs.Locations.{PlaneLocation, IsWholePlane, pages_behind, pages_of_plane, times}
 use Rattle.charts.specs.TileLocations.{TileLocation, pages_of_kept, reached}
+use Rattle.charts.specs.Upgraded.{listing_of}
 use Rattle.charts.proofs.Occurrences.{times-append, times_here, stands_there}
 use Rattle.cow_tree.specs.Kept.{IsFreshPlane, AreFreshKept, planes_of_bytes}
-use Rattle.cow_tree.specs.Layout.{HasRecord, HaveKeptRecords, StoresAt, listed_by, plane_in, kept_in}
+use Rattle.cow_tree.specs.Layout.{HasRecord, HaveKeptRecords, StoresAt, plane_in, kept_in}
+use Rattle.cow_tree.specs.Listings.{IsFreshListing, IsListed}
 use Rattle.cow_tree.specs.OverRoots.{EachStores, WritesPages}
-use Rattle.cow_tree.specs.Staged.{AreIndexed}
 use Rattle.cow_tree.specs.Stored.{PlanePages, Stored, pages_of_bytes}
 use Rattle.cow_tree.proofs.DuePages.{IsThere}
 use Rattle.cow_tree.proofs.Recording.{all_at_times, at_times}
-use Rattle.cow_tree.proofs.Staging.{unreached_test}
 use Rattle.cow_tree.proofs.Standing.{SameOn, All-front, All-back, plane_same, record_same}
 use Rattle.cow_tree.proofs.Steps.{on_ok}
 
@@ -42,23 +41,6 @@ module _ (chart : ChartValue) (plane : PlaneLocation) (is : IsFreshPlane chart p
   pages_fresh : All (IsFresh chart) plane.pages
   pages_fresh = All-back (IsFresh chart) plane.index_pages plane.pages behind_fresh
 
-  pub record_unreached : ¬ Contains (reached chart.committed) plane.record_page
-  record_unreached = (All-head (IsFresh chart) plane.record_page (pages_behind plane) is.fresh).unreached
-
-  pub index_unreached : (t : ℕ) → t < length plane.index_pages → ¬ Contains (reached chart.committed) (get_or plane.index_pages t 0)
-  index_unreached t lt = (index_fresh t 0 lt).unreached
-
-  pub index_test : (t : ℕ) → t < length plane.index_pages → is_unreached chart.committed (get_or plane.index_pages t 0) ≡ true
-  index_test t lt = ap not (unreached_test (get_or plane.index_pages t 0) (reached chart.committed) (index_unreached t lt))
-
-  pub all_unreached : filter (is_unreached chart.committed) plane.index_pages ≡ plane.index_pages
-  all_unreached = by plane.index_pages index_fresh
-    where
-      by : (pages : List ℕ) → All (IsFresh chart) pages → filter (is_unreached chart.committed) pages ≡ pages
-      by [] fresh = refl
-      by (p ∷ rest) fresh =
-          rw (ap not (unreached_test p (reached chart.committed) (All-head (IsFresh chart) p rest fresh).unreached)) (ap (λ (l : List ℕ). p ∷ l) (by rest (All-tail (IsFresh chart) p rest fresh)))
-
   -- ---- its pages
   pub low_pages : All (λ p. 4 ≤ p) plane.pages
   low_pages k d lt = (pages_fresh k d lt).low
@@ -75,25 +57,34 @@ module _ (chart : ChartValue) (plane : PlaneLocation) (is : IsFreshPlane chart p
   pub once_pages : (q : ℕ) → times q plane.pages ≤ 1
   once_pages q = omega (arith, split q, is.once q)
 
-  -- its record and its index pages are written before its pages
-  module _ (fits : chart.sectors < 2 ^ 32) (a b c : Image) (record_written : a plane.record_page ≡ record_bytes (listed_by chart.format.version plane))
-      (index_written : (q : ℕ) → 4 ≤ q → times q plane.index_pages ≡ 0 → a q ≡ b q) (indexed : AreIndexed chart.committed b plane (length plane.index_pages))
-      (others : (q : ℕ) → 4 ≤ q → ¬ Contains plane.pages q → b q ≡ c q) where
+  -- what lists them
+  listing_apart : (q : ℕ) → times q (pages_of_plane plane) ≡ times q (listing_of plane) + times q plane.pages
+  listing_apart q = times-append q (listing_of plane) plane.pages
+
+  pub is_listing : (format : Format) → format ≡ chart.format → IsFreshListing format chart plane
+  is_listing format same = record {
+    whole = subst (λ (f : Format). IsWholePlane f plane) (sym same) is.whole;
+    fresh = All-front (IsFresh chart) (listing_of plane) plane.pages is.fresh;
+    once = λ q. omega (arith, listing_apart q, is.once q);
+  }
+
+  -- it is written before the pages
+  module _ (fits : chart.sectors < 2 ^ 32) (a b : Image) (listed : IsListed chart.format a plane) (others : (q : ℕ) → 4 ≤ q → ¬ Contains plane.pages q → a q ≡ b q) where
     apart : (q : ℕ) → 1 ≤ times q (plane.record_page ∷ []) + times q plane.index_pages → ¬ Contains plane.pages q
     apart q some has = absurd (omega (arith, some, split q, is.once q, stands_there q plane.pages has))
 
-    pub has_record : HasRecord chart.format c plane
+    pub has_record : HasRecord chart.format b plane
     has_record = record {
       whole = is.whole;
       each = All-weaker (IsFresh chart) (λ p. p < 2 ^ 32) (λ p fresh. (let high = fresh.high in omega (arith, high, fits))) (pages_behind plane) behind_fresh;
       listed =
           (let low : 4 ≤ plane.record_page = (All-head (IsFresh chart) plane.record_page (pages_behind plane) is.fresh).low in
           let here = times_here plane.record_page plane.record_page [] refl in
-          sym (others plane.record_page low (apart plane.record_page (omega (arith, here)))) ∙ sym (index_written plane.record_page low (omega (arith, here, split plane.record_page, is.once plane.record_page))) ∙ record_written);
+          sym (others plane.record_page low (apart plane.record_page (omega (arith, here)))) ∙ listed.listed);
       indexed = λ t lt.
           (let q : ℕ = get_or plane.index_pages t 0 in
           let there = stands_there q plane.index_pages (Contains-get_or plane.index_pages t 0 lt) in
-          sym (others q (index_fresh t 0 lt).low (apart q (omega (arith, there)))) ∙ indexed t lt (index_test t lt));
+          sym (others q (index_fresh t 0 lt).low (apart q (omega (arith, there)))) ∙ listed.indexed t lt);
     }
 
 -- what writing a plane's pages is, as pages written

@@ -1,12 +1,19 @@
 -- What a cache of pages holds, and when it is right.
 use Rattle.std.specs.Prelude.{◌≡◌, ℕ, ◌≤◌, List, Contains}
+use Rattle.std.specs.Global.{Vec}
 use Rattle.disk.specs.Disk.{Image}
 use Rattle.cow_tree.specs.declared.cache.PageCache.{PageCache}
 
 -- page numbers with their bytes
-abbrev pub held_in : PageCache → List (ℕ × List ℕ)
-held_in cache = cache.pages.entries
+abbrev pub entries_of : PageCache → List (ℕ × Vec ℕ)
+entries_of cache = cache.pages.entries
+
+-- the page with this number is held with these bytes
+pub record IsHeld (cache : PageCache) (page : ℕ) (bytes : List ℕ) : Type 0 where
+  pub entry : Vec ℕ
+  pub there : Contains (entries_of cache) (page, entry)
+  pub same : entry.items ≡ bytes
 
 -- each page that is held is a page of the image
 abbrev pub Agrees : PageCache → Image → Type 0
-Agrees cache image = (page : ℕ) (bytes : List ℕ) → Contains (held_in cache) (page, bytes) → (4 ≤ page) × (image page ≡ bytes)
+Agrees cache image = (page : ℕ) (bytes : List ℕ) → IsHeld cache page bytes → (4 ≤ page) × (image page ≡ bytes)

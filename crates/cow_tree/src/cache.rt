@@ -1,7 +1,7 @@
 //! Pages of a disk that were read lately.
-ghost use Rattle.std.specs.Prelude.{◌≡◌, ◌⊎◌, ℕ, List, [], Contains, true, false, IfOk, IfErr};
+ghost use Rattle.std.specs.Prelude.{◌≡◌, ◌⊎◌, ℕ, List, [], true, IfOk, IfErr};
 ghost use Rattle.lattice.specs.declared.refusal.Refusal.TheVariants.{NoMemory};
-ghost use Rattle.cow_tree.specs.Caches.{held_in};
+ghost use Rattle.cow_tree.specs.Caches.{entries_of, IsHeld};
 
 use lattice::Refusal;
 use lru::LruCache;
@@ -15,49 +15,55 @@ const MOST_PAGES: usize = 64;
 /// Pages by their numbers, at most 64 of them: a further one takes the place of the one that was asked for longest ago.
 #[derive(Drop)]
 pub(crate) struct PageCache {
-    pages: LruCache<u32, [u8; 4096]>,
+    alloc: Global,
+    // A page is moved as its place in the order changes, so it stands apart.
+    pages: LruCache<u32, Vec<u8>>,
 }
 
 impl PageCache {
     /// One that holds no page. Refused with NoMemory.
     pub(crate) fn new(alloc: Global) -> Result<PageCache, Refusal>
-        ensures none { IfOk result (λ cache. held_in cache ≡ []) }
+        ensures none { IfOk result (λ cache. entries_of cache ≡ []) }
         ensures refused { IfErr result (λ refusal. refusal ≡ NoMemory) }
     {
         let most = NonZeroUsize::MIN.saturating_add(MOST_PAGES - 1);
         match LruCache::new(alloc, most) {
-            Ok(pages) => Ok(PageCache { pages }),
+            Ok(pages) => Ok(PageCache { alloc, pages }),
             Err(_) => Err(Refusal::NoMemory),
         }
     }
 
     /// Whether the page is held; then it is copied.
     pub(crate) fn find(&mut self, number: u32, into: &mut [u8; 4096]) -> bool
-        ensures kept { (page : ℕ) (bytes : List ℕ) → Contains (held_in self.new) (page, bytes) → Contains (held_in self.old) (page, bytes) }
-        ensures found { result ≡ true → Contains (held_in self.old) (number, into.new) }
+        ensures kept { (page : ℕ) (bytes : List ℕ) → IsHeld self.new page bytes → IsHeld self.old page bytes }
+        ensures found { result ≡ true → IsHeld self.old number into.new }
     {
         self.pages.promote(&number);
-        match self.pages.peek(&number) {
-            Some(page) => {
-                *into = *page;
-                true
-            }
-            None => false,
+        let Some(page) = self.pages.peek(&number) else {
+            return false;
+        };
+        if page.len() != into.len() {
+            return false;
         }
+        into.copy_from_slice(page);
+        true
     }
 
     /// Holds the page with these bytes, where there is memory.
     pub(crate) fn keep(&mut self, number: u32, bytes: &[u8; 4096])
-        ensures { (page : ℕ) (held : List ℕ) → Contains (held_in self.new) (page, held)
-            → Contains (held_in self.old) (page, held) ⊎ ((page ≡ number) × (held ≡ bytes.now)) }
+        ensures { (page : ℕ) (held : List ℕ) → IsHeld self.new page held
+            → IsHeld self.old page held ⊎ ((page ≡ number) × (held ≡ bytes.now)) }
     {
-        let _ = self.pages.put(number, *bytes);
+        let Ok(page) = Vec::from_slice(self.alloc, bytes) else {
+            return;
+        };
+        let _ = self.pages.put(number, page);
     }
 
     /// No longer holds the page.
     pub(crate) fn forget(&mut self, number: u32)
-        ensures kept { (page : ℕ) (bytes : List ℕ) → Contains (held_in self.new) (page, bytes) → Contains (held_in self.old) (page, bytes) }
-        ensures gone { (bytes : List ℕ) → ¬ Contains (held_in self.new) (number, bytes) }
+        ensures kept { (page : ℕ) (bytes : List ℕ) → IsHeld self.new page bytes → IsHeld self.old page bytes }
+        ensures gone { (bytes : List ℕ) → ¬ IsHeld self.new number bytes }
     {
         // That no page is held twice is told by how many there are.
         let _count = self.pages.len();
@@ -66,7 +72,7 @@ impl PageCache {
 
     /// Holds no page.
     pub(crate) fn clear(&mut self)
-        ensures { held_in self.new ≡ [] }
+        ensures { entries_of self.new ≡ [] }
     {
         self.pages.clear();
     }

@@ -1,40 +1,20 @@
 //! Levels and labels written whole: their records, the index pages, and their pages.
-ghost use Rattle.std.specs.Prelude.{◌≡◌, ◌<◌, ◌^◌, false, length, Some, OnOk};
+ghost use Rattle.std.specs.Prelude.{◌≡◌, ◌<◌, ◌^◌, false, Some, OnOk};
 ghost use Rattle.page_codec.specs.Sizes.{pages_of};
 ghost use Rattle.charts.specs.Locations.{pages_of_plane};
 ghost use Rattle.charts.specs.TileLocations.{pages_of_kept};
 ghost use Rattle.cow_tree.specs.Kept.{IsFreshPlane, AreFreshKept, planes_of_bytes};
 ghost use Rattle.cow_tree.specs.Layout.{HasRecord, HaveKeptRecords, kept_in, plane_in};
 ghost use Rattle.cow_tree.specs.OverRoots.{WritesPages};
-ghost use Rattle.cow_tree.specs.Staged.{AreIndexed};
 ghost use Rattle.cow_tree.specs.Stored.{pages_of_bytes};
 ghost use Rattle.roots.specs.Roots.{disk_of, has_failed};
 
-use crate::writing::{index_page_of, record_of, write_plane};
+use crate::listings::write_listing;
+use crate::writing::write_plane;
 use charts::{Chart, KeptLocations, PagedPlane};
 use disk::Disk;
 use lattice::Refusal;
 use roots::Roots;
-
-// Writes all index pages of a plane.
-fn write_all_index_pages<D: Disk>(
-    roots: &mut Roots<D>,
-    chart: &Chart,
-    plane: &PagedPlane,
-) -> Result<(), Refusal>
-    requires not_failed { has_failed roots.old ≡ false }
-    requires sectors { chart.now.sectors ≡ D.size (disk_of roots.old) }
-    requires plane { IsFreshPlane chart.now plane.now }
-    ensures writes { WritesPages D.Disk chart.now.committed plane.now.index_pages roots.old roots.new result }
-    ensures indexed { D.honest (disk_of roots.new)
-        → OnOk result (AreIndexed chart.now.committed (D.seen (disk_of roots.new)) plane.now (length plane.now.index_pages)) }
-{
-    chart.rules();
-    for (t, page) in plane.index_pages().iter().enumerate() {
-        roots.write(*page, &index_page_of(plane, t))?;
-    }
-    Ok(())
-}
 
 // Writes a plane whole: its record, its index pages and its pages, with these bytes.
 fn write_whole<D: Disk>(
@@ -52,8 +32,7 @@ fn write_whole<D: Disk>(
     ensures written { D.honest (disk_of roots.new)
         → OnOk result (plane_in (D.seen (disk_of roots.new)) plane.now ≡ pages_of_bytes (pages_of chart.now.format.side) bytes.now) }
 {
-    roots.write(plane.record_page(), &record_of(chart.format(), plane))?;
-    write_all_index_pages(roots, chart, plane)?;
+    write_listing(roots, chart, chart.format(), plane)?;
     write_plane(roots, plane.pages(), bytes)
 }
 

@@ -17,8 +17,6 @@ mod mutations;
 #[cfg(test)]
 mod opening;
 #[cfg(test)]
-mod random;
-#[cfg(test)]
 mod refused_growths;
 #[cfg(test)]
 mod stopped_sessions;

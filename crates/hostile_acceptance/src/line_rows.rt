@@ -1,9 +1,9 @@
 //! Lines and payloads that no client should send, to a mosaic in memory and to a store.
 use crate::good_images::A;
-use crate::random::Random;
 use engine::Engine;
 use lattice::Side;
 use memory_store::store_in_memory;
+use seeded_random::Random;
 use serving::serve;
 use std::alloc::Global;
 use std::io::{self, Read};

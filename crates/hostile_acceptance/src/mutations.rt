@@ -2,8 +2,8 @@
 use crate::checking::check;
 use crate::good_images::{edited, one_tile, two_tiles, with_kept_planes, with_sinks};
 use crate::image::{Change, Image};
-use crate::random::Random;
 use lattice::Refusal;
+use seeded_random::Random;
 use std::alloc::Global;
 use std::process::Abort;
 use std::test::Fail;

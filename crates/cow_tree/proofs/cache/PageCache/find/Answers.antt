@@ -1,17 +1,35 @@
-use Rattle.std.proofs.Common.{ℕ, List, Contains, sym, subst}
+use Rattle.std.proofs.Common.{◌≡◌, ◌∙◌, ℕ, List, Contains, refl, sym, subst}
+use Rattle.std.specs.Global.{Vec}
 use Rattle.lru.specs.LruCache.{LruCache}
 use Rattle.lru.proofs.CallerLemmas.{Contains-promoted}
+use Rattle.cow_tree.specs.Caches.{IsHeld}
 use Rattle.cow_tree.proofs.Cached.{found_there}
 use Rattle.cow_tree.proofs.cache.PageCache.find.Goals as goal
 
-pub returns-in-Some-clause-kept : goal.returns-in-Some-clause-kept
-returns-in-Some-clause-kept c page bytes has =
-    Contains-promoted _ c.args.self.now.pages.entries (page, bytes) (subst (λ (x : LruCache ℕ (List ℕ)). Contains x.entries (page, bytes)) c.promote.ensures.entries has)
+pub returns-clause-kept : goal.returns-clause-kept
+returns-clause-kept c page bytes has = record {
+  entry = has.entry;
+  there = Contains-promoted _ c.args.self.now.pages.entries (page, has.entry) (subst (λ (x : LruCache ℕ (Vec ℕ)). Contains x.entries (page, has.entry)) c.promote.ensures.entries has.there);
+  same = has.same;
+}
 
-pub returns-in-None-clause-kept : goal.returns-in-None-clause-kept
-returns-in-None-clause-kept c page bytes has =
-    Contains-promoted _ c.args.self.now.pages.entries (page, bytes) (subst (λ (x : LruCache ℕ (List ℕ)). Contains x.entries (page, bytes)) c.promote.ensures.entries has)
+pub returns-in_default-clause-kept : goal.returns-in_default-clause-kept
+returns-in_default-clause-kept c page bytes has = record {
+  entry = has.entry;
+  there = Contains-promoted _ c.args.self.now.pages.entries (page, has.entry) (subst (λ (x : LruCache ℕ (Vec ℕ)). Contains x.entries (page, has.entry)) c.promote.ensures.entries has.there);
+  same = has.same;
+}
 
-pub returns-in-Some-clause-found : goal.returns-in-Some-clause-found
-returns-in-Some-clause-found c _ =
-    returns-in-Some-clause-kept c c.args.number c.in-Some.page.now (found_there c.args.number c.promote.new.self.entries c.in-Some.page.now (sym c.in-Some.ensures))
+pub returns-then-len-ne4096-clause-kept : goal.returns-then-len-ne4096-clause-kept
+returns-then-len-ne4096-clause-kept c page bytes has = record {
+  entry = has.entry;
+  there = Contains-promoted _ c.args.self.now.pages.entries (page, has.entry) (subst (λ (x : LruCache ℕ (Vec ℕ)). Contains x.entries (page, has.entry)) c.promote.ensures.entries has.there);
+  same = has.same;
+}
+
+pub returns-clause-found : goal.returns-clause-found
+returns-clause-found c _ =
+    let entry : Vec ℕ = c.in-Some.page.now in
+    let there = found_there c.args.number c.promote.new.self.entries entry (sym c.in-Some.ensures) in
+    subst (λ (bytes : List ℕ). IsHeld c.args.self.now c.args.number bytes) (sym (c.copy_from_slice.ensures.after ∙ c.deref.ensures.value))
+    (returns-clause-kept c c.args.number entry.items (record { entry = entry; there = there; same = refl }))

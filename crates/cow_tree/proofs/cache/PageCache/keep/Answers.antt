@@ -1,4 +1,5 @@
-use Rattle.std.proofs.Common.{inl, ℕ, List, Contains, subst}
+use Rattle.std.proofs.Common.{inl, inr, ⊎_elim, ℕ, List, Contains, sym, ap, ◌∙◌, subst}
+use Rattle.std.specs.Global.{Vec}
 use Rattle.lru.specs.LruCache.{LruCache}
 use Rattle.cow_tree.proofs.Cached.{there_or_put}
 use Rattle.cow_tree.proofs.Steps.{either_way}
@@ -6,6 +7,10 @@ use Rattle.cow_tree.proofs.cache.PageCache.keep.Goals as goal
 
 pub returns : goal.returns
 returns c page held has =
+    let stored : Vec ℕ = c.in-Ok.page in
     either_way c.put.result c.put.ensures.entries c.put.ensures.err
-    (λ now. there_or_put c.args.self.now.pages c.args.number c.args.bytes.now page held (subst (λ (x : LruCache ℕ (List ℕ)). Contains x.entries (page, held)) now has))
-    (λ same. inl (subst (λ (x : LruCache ℕ (List ℕ)). Contains x.entries (page, held)) same has))
+    (λ now. ⊎_elim
+    (λ was. inl (record { entry = has.entry; there = was; same = has.same }))
+    (λ put. inr (put.0, sym has.same ∙ ap (λ (v : Vec ℕ). v.items) put.1 ∙ c.in-Ok.ensures.items))
+    (there_or_put c.args.self.now.pages c.args.number stored page has.entry (subst (λ (x : LruCache ℕ (Vec ℕ)). Contains x.entries (page, has.entry)) now has.there)))
+    (λ same. inl (record { entry = has.entry; there = subst (λ (x : LruCache ℕ (Vec ℕ)). Contains x.entries (page, has.entry)) same has.there; same = has.same }))

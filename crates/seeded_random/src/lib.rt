@@ -1,0 +1,47 @@
+//! Numbers that look random, and are the same in each run: for random tests, which draw their commands and bytes from it.
+#![tactic(auto)]
+
+ghost use Rattle.std.specs.Prelude.{◌<◌, Contains, length};
+
+use rand::RngExt;
+use rand::rngs::SmallRng;
+use rand_core::SeedableRng;
+
+/// What one seed leads to, draw by draw.
+#[derive(Drop)]
+pub struct Random {
+    generator: SmallRng,
+}
+
+impl Random {
+    /// The same seed gives the same draws.
+    pub fn new(seed: u64) -> Random {
+        Random {
+            generator: SmallRng::seed_from_u64(seed),
+        }
+    }
+
+    /// A number below this one.
+    pub fn next_below(&mut self, bound: u32) -> u32
+        requires { 0 < bound }
+        ensures { result < bound }
+    {
+        self.generator.random_range(0..bound)
+    }
+
+    /// One of the items, of which there are some.
+    pub fn item_of<'a, T>(&mut self, items: &'a [T]) -> &'a T
+        requires { 0 < length items.now }
+        ensures { Contains items.now result.now }
+    {
+        &items[self.generator.random_range(0..items.len())]
+    }
+
+    /// The same, copied.
+    pub fn one_of<T: Copy>(&mut self, items: &[T]) -> T
+        requires { 0 < length items.now }
+        ensures { Contains items.now result }
+    {
+        *self.item_of(items)
+    }
+}
