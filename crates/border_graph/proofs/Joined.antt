@@ -586,6 +586,22 @@ module _ (m : Mosaic) (is : IsMosaic m) (summaries : List Summary) (all : AreSum
       let on = of_node lower t there.tile a.e a.inside a.rim a.solid low drains in
       joined.least lower on.rest (subst (λ j. IsWayBelow (IsLink m.side summaries) Outlet lower (Rim t j) on.rest) a.number on.way))
 
+  -- and the filled level of its point is the rim point's level
+  pub filled_is_joined : (t k : ℕ) (there : IsThere m.side summaries t k) (v : ℤ) (p : Point) → IsRimNumberOf m.side (summary_at summaries t).corner k p → IsFilledLevel (terrain m) p v → IsJoinedLevel (IsLink m.side summaries) Outlet (Rim t k) v
+  filled_is_joined t k there v p number fill =
+      let a = at_node t there.tile k there in
+      let here : point_of m.side (summary_at summaries t).corner a.e ≡ p = numbered t k there.tile a p number in
+      let way = way_of_level (terrain m) p v fill in
+      let low : slice_index_or (of t there.tile).heights a.e void ≤ℤ v = subst (λ w. w ≤ℤ v) (sym ((part t there.tile).heights a.e a.solid ∙ ap (terrain m).height here)) (height-le_level (terrain m) p v fill) in
+      let drains = drains_along v p way.rest way.out way.below t there.tile a.e a.inside here in
+      let on = of_node v t there.tile a.e a.inside a.rim a.solid low drains in
+      record {
+        reached = (on.rest, subst (λ j. IsWayBelow (IsLink m.side summaries) Outlet v (Rim t j) on.rest) a.number on.way);
+        least = λ lower rest joined.
+            let back : WayOut (terrain m) lower p = subst (λ q. WayOut (terrain m) lower q) here (sinks lower (Rim t k) rest joined there.tile a) in
+            ≤ℤ_trans v (crest (terrain m) p back.rest) lower (fill.least back.rest back.out) back.below;
+      }
+
   -- and there is such a level
   pub is_joined : (t k : ℕ) (there : IsThere m.side summaries t k) → (v : ℤ) × WayBelow v (Rim t k)
   is_joined t k there =

@@ -15,7 +15,7 @@ use Rattle.catalogue.specs.Asked.{IsOwnRefusal}
 use Rattle.flow_d8.specs.Drainage.{AreFilledLevels}
 use Rattle.watershed.specs.Questions.{IsAnswered, IsUnanswered}
 use Rattle.drainage.specs.Asking.{IsHeldByNone, may_refuse}
-use Rattle.drainage.proofs.Held.{outside_from}
+use Rattle.drainage.proofs.Holders.{outside_from}
 
 module _ (m : Mosaic) (is : IsMosaic m) (p : Point) where
   unanswered : (r : Refusal) → IsTrue (may_refuse r) → IsOwnRefusal r → (r ≢ Damaged) → (r ≡ Outside → IsHeldByNone m.side (corners_of m) p) → (r ≡ Void → height_of m p ≡ height.Void) → IsUnanswered m p r

@@ -45,3 +45,9 @@ module _ (n : ℕ) (summaries : List Summary) where
     reached = from_placed level t k joined.reached.0 there joined.reached.1;
     least = λ lower rest way. joined.least lower (map (node_number n) rest) (to_placed lower (Rim t k) rest way);
   }
+
+  pub placed_over_links : (t k : ℕ) (level : ℤ) → IsThere n summaries t k → IsJoinedLevel (IsLink n summaries) Outlet (Rim t k) level → IsJoinedLevel (IsPlacedLink n summaries) 0 (node_number n (Rim t k)) level
+  placed_over_links t k level there joined = record {
+    reached = (map (node_number n) joined.reached.0, to_placed level (Rim t k) joined.reached.0 joined.reached.1);
+    least = λ lower rest way. let back = from_placed lower t k rest there way in joined.least lower back.0 back.1;
+  }

@@ -1,7 +1,6 @@
 -- Questions one after another, and what their refusals are.
-use Rattle.std.proofs.Common.{◌≡◌, ◌≢◌, ◌⊎◌, inl, inr, ℕ, IsTrue, List, Result, Ok, Err, refl, sym, ap, ◌∙◌, subst}
-use Rattle.std.specs.Prelude.{IfErr, Option}
-use Rattle.lattice.specs.Corners.{Corner}
+use Rattle.std.proofs.Common.{◌≡◌, ◌≢◌, ◌⊎◌, inl, inr, ℕ, IsTrue, Result, Ok, Err, refl, sym, ap, ◌∙◌, subst}
+use Rattle.std.specs.Prelude.{IfErr}
 use Rattle.lattice.specs.declared.refusal.Refusal.{Refusal}
 use Rattle.lattice.specs.declared.refusal.Refusal.TheVariants.{Device, NoMemory, Failed, Damaged}
 use Rattle.catalogue.specs.Asked.{Asked, IsOwnRefusal}
@@ -11,8 +10,7 @@ use Rattle.catalogue.specs.Reading.{MayRefuse}
 use Rattle.catalogue.specs.declared.samples.Samples.{Ghosts}
 use Rattle.catalogue.proofs.Reading.{reads_as}
 use Rattle.catalogue.proofs.Asking.{asked, asked_on, asked_passed}
-use Rattle.rising.specs.TileWays.{TileWays}
-use Rattle.drainage.specs.Shores.{AreReady, AreKept, AreRefused}
+use Rattle.drainage.specs.Holding.{Known, IsRight, IsGrown, IsRefused}
 
 -- each read of a question that was answered was answered
 pub asked_reads : {S T : Type 0} (g : Ghosts S) (a b : S) (x : T) → Asked g a b (Ok x) → OnlyReads {T = Unit {0}} g a b (Ok tt)
@@ -94,11 +92,11 @@ ends_by before now NoMemory h = refl
 ends_by before now _ (inl memory) = absurd (cc)
 ends_by before now _ (inr may) = absurd may
 
-module _ {S : Type 0} (g : Ghosts S) (a b : S) (side : ℕ) (corners : List Corner) (told : List (Option TileWays)) (side' : ℕ) (corners' : List Corner) (told' : List (Option TileWays)) where
+module _ {S : Type 0} (g : Ghosts S) (a b : S) (known known' : Known) where
   -- tiles were told, and then memory was wanting, or something was found that can't be
-  pub own_refused : (r : Refusal) (Q : Type 0) → AreKept g a b side corners told side' corners' told' → OnlyReads {T = Unit {0}} g a b (Ok tt) → (r ≡ NoMemory) ⊎ ((r ≡ Damaged) × Q)
-      → (g.is_honest b → AreReady (g.mosaic a) side corners told → Q → ⊥) → AreRefused g a b side corners told side' corners' told' r
-  own_refused r Q kept reads (inl memory) never = subst (AreRefused g a b side corners told side' corners' told') (sym memory)
-      (record { kept = kept; cause = refl; asked = λ _. asked g a b tt (Err NoMemory) reads tt (λ _ _ e. absurd (cc)) })
-  own_refused r Q kept reads (inr (damaged, q)) never = subst (AreRefused g a b side corners told side' corners' told') (sym damaged)
-      (record { kept = kept; cause = refl; asked = λ ready. asked g a b tt (Err Damaged) reads tt (λ honest _ _. never honest (ready honest) q) })
+  pub own_refused : (r : Refusal) (Q : Type 0) → IsGrown g a b known known' → OnlyReads {T = Unit {0}} g a b (Ok tt) → (r ≡ NoMemory) ⊎ ((r ≡ Damaged) × Q)
+      → (g.is_honest b → IsRight (g.mosaic a) known → Q → ⊥) → IsRefused g a b known known' r
+  own_refused r Q grown reads (inl memory) never = subst (IsRefused g a b known known') (sym memory)
+      (record { grown = grown; cause = refl; asked = λ _. asked g a b tt (Err NoMemory) reads tt (λ _ _ e. absurd (cc)) })
+  own_refused r Q grown reads (inr (damaged, q)) never = subst (IsRefused g a b known known') (sym damaged)
+      (record { grown = grown; cause = refl; asked = λ right. asked g a b tt (Err Damaged) reads tt (λ honest _ _. never honest (right honest) q) })

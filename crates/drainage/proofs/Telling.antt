@@ -1,5 +1,5 @@
 -- What is known of tiles as they are told one after another.
-use Rattle.std.proofs.Common.{◌≡◌, ◌≢◌, ℕ, zero, suc, ◌+◌, ◌-◌, ◌<◌, inl, inr, ◌==◌, ℤ, true, false, not, true≢false, List, [], ◌∷◌, ◌++◌, length, get_or, refl, sym, ap, ◌∙◌, subst, arith, SFits, w16, of_z, to_z}
+use Rattle.std.proofs.Common.{◌≡◌, ◌≢◌, ℕ, ◌+◌, ◌-◌, ◌<◌, inl, inr, ◌==◌, ℤ, true, false, not, true≢false, List, length, get_or, refl, sym, ap, ◌∙◌, subst, arith, SFits, w16, of_z, to_z}
 use Rattle.std.specs.Prelude.{Option, Some, None, is_some, slice_set}
 use Rattle.std.proofs.lemmas.Bool.{cases_eq}
 use Rattle.std.proofs.lemmas.Bool.Decides.{eqb_tells}
@@ -47,15 +47,6 @@ some_is a b e = cc
 
 pub not_both : (a : TileWays) → ◌≡◌ {A = Option TileWays} None (Some a) → ⊥
 not_both a e = cc
-
-pub none_more : (told new : List (Option TileWays)) → new ≡ told ++ None ∷ [] → ((t : ℕ) → told_at told t ≡ None) → (t : ℕ) → told_at new t ≡ None
-none_more told new is none t = ap (λ (l : List (Option TileWays)). told_at l t) is ∙ by told none t
-  where
-    by : (told : List (Option TileWays)) → ((t : ℕ) → told_at told t ≡ None) → (t : ℕ) → told_at (told ++ None ∷ []) t ≡ None
-    by [] none zero = refl
-    by [] none (suc t) = refl
-    by (o ∷ rest) none zero = none 0
-    by (o ∷ rest) none (suc t) = by rest (λ u. none (suc u)) t
 
 pub none_told : (m : Mosaic) (side : ℕ) (corners : List Corner) (told : List (Option TileWays)) → length told ≡ length corners → ((t : ℕ) → told_at told t ≡ None) → AreTold m side corners told
 none_told m side corners told whole none = record {

@@ -9,7 +9,8 @@ use Rattle.catalogue.specs.declared.samples.Samples.{Ghosts}
 use Rattle.catalogue.proofs.Reading.{reads_nothing, reads_on}
 use Rattle.catalogue.proofs.Asking.{asked, asked_on}
 use Rattle.rising.specs.TileWays.{TileWays}
-use Rattle.drainage.specs.Shores.{AreTold, AreReady, AreKept, AreCarried, AreRefused}
+use Rattle.drainage.specs.Shores.{AreTold, AreReady, AreKept}
+use Rattle.drainage.specs.Holding.{Known, IsRight, IsGrown, IsCarried, IsRefused}
 
 module _ {S : Type 0} (g : Ghosts S) where
   pub kept_itself : (a : S) (side : ℕ) (corners : List Corner) (told : List (Option TileWays)) → AreKept g a a side corners told side corners told
@@ -21,10 +22,6 @@ module _ {S : Type 0} (g : Ghosts S) where
     ready_later honest ready =
         subst (λ s. AreReady (g.mosaic a) s corners' told') (sym kept.same_side) (subst (λ (cs : List Corner). AreReady (g.mosaic a) side cs told') (sym kept.same_corners)
         (record { same_side = ready.same_side; all = ready.all; room = ready.room; tiles = kept.right honest ready.tiles }))
-
-    -- .. as the samples then stand for it
-    pub ready_still : g.is_honest b → AreReady (g.mosaic a) side corners told → AreReady (g.mosaic b) side' corners' told'
-    ready_still honest ready = subst (λ (m : Mosaic). AreReady m side' corners' told') (sym (kept.mosaic honest)) (ready_later honest ready)
 
     module _ (c : S) (side'' : ℕ) (corners'' : List Corner) (told'' : List (Option TileWays)) (then_ : AreKept g b c side' corners' told' side'' corners'' told'') where
       pub kept_on : AreKept g a c side corners told side'' corners'' told''
@@ -43,25 +40,38 @@ module _ {S : Type 0} (g : Ghosts S) where
             (subst (λ s. AreTold (g.mosaic b) s corners told'') kept.same_side (subst (λ (cs : List Corner). AreTold (g.mosaic b) side' cs told'') kept.same_corners (then_.right honest was)));
       }
 
-  pub carried_itself : (keeps_itself : (s : S) → g.keeps s s) (a : S) (side : ℕ) (corners : List Corner) (told : List (Option TileWays)) → AreCarried g a a side corners told side corners told
-  carried_itself keeps_itself a side corners told = record { kept = kept_itself a side corners told; reads = reads_nothing g keeps_itself a tt }
+  pub grown_itself : (a : S) (known : Known) → IsGrown g a a known known
+  grown_itself a known = record { kept = kept_itself a known.side known.corners known.told; levels = refl; right = λ _ r. r }
 
-  module _ (keeps_on : (a b c : S) → g.keeps a b → g.keeps b c → g.keeps a c) (a b : S) (side : ℕ) (corners : List Corner) (told : List (Option TileWays)) (side' : ℕ) (corners' : List Corner) (told' : List (Option TileWays))
-      (carried : AreCarried g a b side corners told side' corners' told') where
-    module _ (c : S) (side'' : ℕ) (corners'' : List Corner) (told'' : List (Option TileWays)) where
-      pub carried_on : AreCarried g b c side' corners' told' side'' corners'' told'' → AreCarried g a c side corners told side'' corners'' told''
-      carried_on then_ = record {
-        kept = kept_on a b side corners told side' corners' told' carried.kept c side'' corners'' told'' then_.kept;
-        reads = reads_on g keeps_on a b c tt (Ok tt) carried.reads then_.reads;
-      }
+  pub grown_on : (a b c : S) (known known' known'' : Known) → IsGrown g a b known known' → IsGrown g b c known' known'' → IsGrown g a c known known''
+  grown_on a b c known known' known'' one two = record {
+    kept = kept_on a b known.side known.corners known.told known'.side known'.corners known'.told one.kept c known''.side known''.corners known''.told two.kept;
+    levels = two.levels ∙ one.levels;
+    right = λ honest r.
+        let mid = two.kept.honest honest in
+        let same = one.kept.mosaic mid in
+        subst (λ (m : Mosaic). IsRight m known'') same (two.right honest (subst (λ (m : Mosaic). IsRight m known') (sym same) (one.right mid r)));
+  }
 
-      pub refused_on : (r : Refusal) → AreRefused g b c side' corners' told' side'' corners'' told'' r → AreRefused g a c side corners told side'' corners'' told'' r
+  -- what was right is, of the mosaic as the samples then stand for it
+  pub right_still : (a b : S) (known known' : Known) → IsGrown g a b known known' → g.is_honest b → IsRight (g.mosaic a) known → IsRight (g.mosaic b) known'
+  right_still a b known known' grown honest right = subst (λ (m : Mosaic). IsRight m known') (sym (grown.kept.mosaic honest)) (grown.right honest right)
+
+  pub carried_itself : (keeps_itself : (s : S) → g.keeps s s) (a : S) (known : Known) → IsCarried g a a known known
+  carried_itself keeps_itself a known = record { grown = grown_itself a known; reads = reads_nothing g keeps_itself a tt }
+
+  module _ (keeps_on : (a b c : S) → g.keeps a b → g.keeps b c → g.keeps a c) (a b : S) (known known' : Known) (carried : IsCarried g a b known known') where
+    module _ (c : S) (known'' : Known) where
+      pub carried_on : IsCarried g b c known' known'' → IsCarried g a c known known''
+      carried_on then_ = record { grown = grown_on a b c known known' known'' carried.grown then_.grown; reads = reads_on g keeps_on a b c tt (Ok tt) carried.reads then_.reads }
+
+      pub refused_on : (r : Refusal) → IsRefused g b c known' known'' r → IsRefused g a c known known'' r
       refused_on r then_ = record {
-        kept = kept_on a b side corners told side' corners' told' carried.kept c side'' corners'' told'' then_.kept;
+        grown = grown_on a b c known known' known'' carried.grown then_.grown;
         cause = then_.cause;
-        asked = λ ready. asked_on g keeps_on a b c tt (Err r) carried.reads
-            (then_.asked (λ honest. ready_still a b side corners told side' corners' told' carried.kept (then_.kept.honest honest) (ready honest)));
+        asked = λ right. asked_on g keeps_on a b c tt (Err r) carried.reads
+            (then_.asked (λ honest. right_still a b known known' carried.grown (then_.grown.kept.honest honest) (right honest)));
       }
 
-    pub ran_out : AreRefused g a b side corners told side' corners' told' NoMemory
-    ran_out = record { kept = carried.kept; cause = refl; asked = λ _. asked g a b tt (Err NoMemory) carried.reads tt (λ _ _ e. absurd (cc)) }
+    pub ran_out : IsRefused g a b known known' NoMemory
+    ran_out = record { grown = carried.grown; cause = refl; asked = λ _. asked g a b tt (Err NoMemory) carried.reads tt (λ _ _ e. absurd (cc)) }

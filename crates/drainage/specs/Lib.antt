@@ -1,5 +1,9 @@
 pub mod Flooded
 pub mod Asking
 pub mod Draining
+pub mod Following
 pub mod Shores
 pub mod Kept
+pub mod Holding
+pub mod Waters
+pub mod Between

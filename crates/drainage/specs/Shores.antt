@@ -1,14 +1,10 @@
 -- What is known of tiles, of which each is flooded once water comes to its rim (this product's own profile, after the
 -- tiled flooding of Barnes 2016).
-use Rattle.std.specs.Prelude.{◌≡◌, ◌≢◌, ℕ, ◌+◌, ◌-◌, ◌*◌, ◌^◌, ◌<◌, ℤ, ◌≤ℤ◌, List, Option, Some, None, Ok, Err, IsTrue, length, map, slice_index_or}
+use Rattle.std.specs.Prelude.{◌≡◌, ◌≢◌, ℕ, ◌+◌, ◌-◌, ◌*◌, ◌^◌, ◌<◌, ℤ, ◌≤ℤ◌, List, Option, Some, None, length, map, slice_index_or}
 use Rattle.lattice.specs.Corners.{Corner}
 use Rattle.lattice.specs.Lattice.{point_of}
 use Rattle.lattice.specs.Mosaic.{Mosaic, IsMosaic, void}
 use Rattle.lattice.specs.RimPoints.{IsRimPoint}
-use Rattle.lattice.specs.declared.refusal.Refusal.{Refusal}
-use Rattle.catalogue.specs.Asked.{Asked}
-use Rattle.catalogue.specs.Endings.{ends_any}
-use Rattle.catalogue.specs.Readers.{OnlyReads}
 use Rattle.catalogue.specs.Tiles.{corners_of}
 use Rattle.catalogue.specs.declared.samples.Samples.{Ghosts}
 use Rattle.border_graph.specs.Summaries.{Summary}
@@ -69,14 +65,3 @@ module _ {S : Type 0} (g : Ghosts S) (a b : S) (side : ℕ) (corners : List Corn
     pub same_corners : corners' ≡ corners
     pub still : (t : ℕ) (ways : TileWays) → told_at told t ≡ Some ways → told_at told' t ≡ Some ways
     pub right : g.is_honest b → AreTold (g.mosaic a) side corners told → AreTold (g.mosaic a) side corners told'
-
-  -- tiles were told, and each read was answered
-  pub record AreCarried : Type 0 where
-    pub kept : AreKept
-    pub reads : OnlyReads {T = Unit {0}} g a b (Ok tt)
-
-  -- tiles were told until a call was refused: as a question over samples is, where what was told before is right
-  pub record AreRefused (r : Refusal) : Type 0 where
-    pub kept : AreKept
-    pub cause : IsTrue (ends_any r)
-    pub asked : (g.is_honest b → AreReady (g.mosaic a) side corners told) → Asked {T = Unit {0}} g a b (Err r)

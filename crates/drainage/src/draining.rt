@@ -1,4 +1,4 @@
-//! Where water goes from a point, and where it comes from.
+//! Where the water of a point comes from.
 ghost use Rattle.std.specs.Prelude.{◌≡◌, ◌≤◌, ◌↔◌, ℤ, IsTrue, IsOk, IfOk, IfErr, IsErrOf, length};
 ghost use Rattle.lattice.specs.Limits.{most_tiles};
 ghost use Rattle.lattice.specs.declared.point.Point.{Point};
@@ -10,59 +10,17 @@ ghost use Rattle.catalogue.specs.Asked.{Asked};
 ghost use Rattle.catalogue.specs.Endings.{ends_any};
 ghost use Rattle.flow_d8.specs.Drainage.{AreFilledLevels};
 ghost use Rattle.flow_d8.specs.Directions.{AreDirectionsOf};
-ghost use Rattle.flow_d8.specs.FlowPath.{IsFlowPath, IsInWatershed};
+ghost use Rattle.flow_d8.specs.FlowPath.{IsInWatershed};
 ghost use Rattle.watershed.specs.Runs.{AreRuns};
 ghost use Rattle.drainage.specs.Asking.{IsHeldByNone, may_refuse};
-ghost use Rattle.watershed.specs.Questions.{code_by, DrainsBy};
 
 use crate::asking::check_ground;
 use crate::flooding::{all_levels, flood};
 use derived::Labellings;
 use flow_d8::{Directions, Filled};
-use lattice::{Dir, Point, Refusal};
+use lattice::{Point, Refusal};
 use std::alloc::Global;
 use watershed::Run;
-
-/// The code of the direction in which water leaves the point: east is 1, and each next one clockwise twice as much; 0
-/// where it leaves the mosaic.
-///
-/// Outside where no present tile holds the point, then Void where its height is void. Otherwise it is refused only for
-/// want of memory, as a read or a labelling may be, or with Damaged where what was read is no mosaic's.
-pub fn direction<S: Labellings>(alloc: Global, samples: &mut S, point: Point) -> Result<u8, Refusal>
-    requires few { length (S.corners samples.old) ≤ most_tiles }
-    ensures direction { S.is_honest samples.new → IfOk result (λ code. (level : Point → ℤ) → AreFilledLevels (terrain (S.mosaic samples.old)) level
-        → DrainsBy (terrain (S.mosaic samples.old)) level point code) }
-    ensures on_ground { S.is_honest samples.new → IsOk result → IsTrue (is_ground (S.mosaic samples.old) point) }
-    ensures outside { IsErrOf result Outside ↔ IsHeldByNone (S.side_of samples.old) (S.corners samples.old) point }
-    ensures void { S.is_honest samples.new → IsErrOf result Void → height_of (S.mosaic samples.old) point ≡ height_is.Void }
-    ensures causes { IfErr result (λ r. IsTrue (may_refuse r)) }
-    ensures asked { Asked S.Samples samples.old samples.new result }
-{
-    check_ground(samples, point)?;
-    let directions = drained(alloc, samples)?;
-    Ok(code(directions.direction(point)))
-}
-
-/// The flow path of the point: the point, then the one that its direction leads to, and so on, to one where water
-/// leaves the mosaic. It is refused as a direction is.
-pub fn trace<S: Labellings>(
-    alloc: Global,
-    samples: &mut S,
-    point: Point,
-) -> Result<Vec<Point>, Refusal>
-    requires few { length (S.corners samples.old) ≤ most_tiles }
-    ensures path { S.is_honest samples.new → IfOk result (λ path. (level : Point → ℤ) → AreFilledLevels (terrain (S.mosaic samples.old)) level
-        → IsFlowPath (terrain (S.mosaic samples.old)) level point path.items) }
-    ensures on_ground { S.is_honest samples.new → IsOk result → IsTrue (is_ground (S.mosaic samples.old) point) }
-    ensures outside { IsErrOf result Outside ↔ IsHeldByNone (S.side_of samples.old) (S.corners samples.old) point }
-    ensures void { S.is_honest samples.new → IsErrOf result Void → height_of (S.mosaic samples.old) point ≡ height_is.Void }
-    ensures causes { IfErr result (λ r. IsTrue (may_refuse r)) }
-    ensures asked { Asked S.Samples samples.old samples.new result }
-{
-    check_ground(samples, point)?;
-    let directions = drained(alloc, samples)?;
-    directions.trace(alloc, point)
-}
 
 /// The watershed of the point: the ground points whose flow path contains it, as maximal runs, north first, west first.
 /// It is refused as a direction is.
@@ -101,14 +59,4 @@ fn drained<S: Labellings>(alloc: Global, samples: &mut S) -> Result<Directions, 
         return Err(Refusal::Damaged);
     };
     filled.directions(alloc)
-}
-
-// The direction's code in replies.
-fn code(direction: Option<Dir>) -> u8
-    ensures { result ≡ code_by direction }
-{
-    match direction {
-        Some(direction) => direction.code(),
-        None => 0,
-    }
 }

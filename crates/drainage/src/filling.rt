@@ -1,5 +1,5 @@
 //! The filled level of a point.
-ghost use Rattle.std.specs.Prelude.{◌≡◌, ◌*◌, ◌<◌, ◌≤◌, ◌↔◌, IsTrue, IfOk, IfErr, IsErrOf, IfSome, IfNone, length, slice_index, slice_index_or};
+ghost use Rattle.std.specs.Prelude.{◌≡◌, ◌*◌, ◌<◌, ◌≤◌, ◌↔◌, IsTrue, IsFalse, IfOk, MatchOption, IfErr, IsErrOf, IfSome, IfNone, length, slice_index, slice_index_or};
 ghost use Rattle.lattice.specs.Lattice.{IsIndexOf};
 ghost use Rattle.lattice.specs.Mosaic.{void};
 ghost use Rattle.lattice.specs.Height.{height_of};
@@ -11,15 +11,20 @@ ghost use Rattle.catalogue.specs.Asked.{Asked};
 ghost use Rattle.catalogue.specs.Endings.{ends_any};
 ghost use Rattle.drainage.specs.Asking.{IsHeldByNone, may_refuse};
 ghost use Rattle.drainage.specs.Flooded.{corner_at};
-ghost use Rattle.drainage.specs.Shores.{AreReady, AreKept};
+ghost use Rattle.border_graph.specs.Joining.{Rim};
+ghost use Rattle.border_graph.specs.Linking.{node_number};
+ghost use Rattle.drainage.specs.Between.{IsHeldFor};
+ghost use Rattle.drainage.specs.Holding.{IsRight, IsRimLevel, IsGroundNode};
+ghost use Rattle.drainage.specs.Waters.{known_of};
 
 use crate::asking::check_ground;
-use crate::shores::Shores;
+use crate::held::Held;
+use crate::waters::Waters;
 use derived::Labellings;
 use lattice::{Corner, Point, Refusal, Side, index_in};
 use rising::{level_from, node_at};
 use std::alloc::Global;
-use tile_flood::{Labelled, OUT};
+use tile_flood::{Labelled, NO_LABEL, OUT};
 
 /// The filled level of the point, in metres: the least, over all paths to an outlet, of the greatest height on the path.
 /// Only the tiles on the water's way out are read.
@@ -33,49 +38,117 @@ pub fn fill<S: Labellings>(alloc: Global, samples: &mut S, point: Point) -> Resu
     ensures causes { IfErr result (λ r. IsTrue (may_refuse r)) }
     ensures asked { Asked S.Samples samples.old samples.new result }
 {
-    check_ground(samples, point)?;
-    let mut shores = Shores::new(alloc, samples)?;
-    level_at(alloc, samples, &mut shores, point)
+    let mut held = Held::new();
+    fill_held(alloc, samples, &mut held, point)
 }
 
-// The filled level of a ground point: the greater of its level in its own tile and that of the rim point which its label
-// names. Only of the tiles on the water's way out the labelling is asked.
-fn level_at<S: Labellings>(
+/// The filled level of the point, in metres, and refused, as `fill` has it. What was held for the samples serves, and what
+/// is found is held then.
+pub fn fill_held<S: Labellings>(
     alloc: Global,
     samples: &mut S,
-    shores: &mut Shores,
+    held: &mut Held,
     point: Point,
 ) -> Result<i16, Refusal>
-    ensures level { S.is_honest samples.new → AreReady (S.mosaic samples.old) shores.old.side shores.old.corners.items shores.old.told.items
-        → IsTrue (is_ground (S.mosaic samples.old) point) → IfOk result (λ level. IsFilledLevel (terrain (S.mosaic samples.old)) point level) }
-    ensures asked { (S.is_honest samples.new → AreReady (S.mosaic samples.old) shores.old.side shores.old.corners.items shores.old.told.items × IsTrue (is_ground (S.mosaic samples.old) point))
-        → Asked S.Samples samples.old samples.new result }
-    ensures kept { AreKept S.Samples samples.old samples.new shores.old.side shores.old.corners.items shores.old.told.items shores.new.side shores.new.corners.items shores.new.told.items }
-    ensures causes { IfErr result (λ r. IsTrue (ends_any r)) }
+    requires held { IsHeldFor S.Samples samples.old held.old }
+    ensures level { S.is_honest samples.new → IfOk result (λ level. IsFilledLevel (terrain (S.mosaic samples.old)) point level) }
+    ensures outside { IsErrOf result Outside ↔ IsHeldByNone (S.side_of samples.old) (S.corners samples.old) point }
+    ensures void { S.is_honest samples.new → IsErrOf result Void → height_of (S.mosaic samples.old) point ≡ height_is.Void }
+    ensures causes { IfErr result (λ r. IsTrue (may_refuse r)) }
+    ensures asked { Asked S.Samples samples.old samples.new result }
+    ensures held { IsHeldFor S.Samples samples.new held.new }
 {
-    let side = shores.side;
-    let Some((number, index)) = first_holder(side, &shores.corners, point) else {
-        return Err(Refusal::Damaged);
-    };
-    let corner = shores.corners[number];
-    let labelled = shores.enter(alloc, samples, number, corner)?;
-    let Some((level, label)) = spot_of(&labelled, index) else {
-        return Err(Refusal::Damaged);
-    };
-    if label == OUT {
-        return Ok(level);
-    }
-    let Some(start) = node_at(side, number, u32::from(label)) else {
-        return Err(Refusal::Damaged);
-    };
-    match level_from(alloc, shores, samples, start)? {
-        Some(over) => Ok(level.max(over)),
+    check_ground(samples, point)?;
+    match level(alloc, samples, held, point)? {
+        Some(level) => Ok(level),
         None => Err(Refusal::Damaged),
     }
 }
 
+/// The filled level of the point, in metres; None where it isn't ground. What was held for the samples serves, and what is
+/// found is held then.
+///
+/// It is refused for want of memory, as a read or a labelling may be, or with Damaged where what was read is no mosaic's.
+pub fn level<S: Labellings>(
+    alloc: Global,
+    samples: &mut S,
+    held: &mut Held,
+    point: Point,
+) -> Result<Option<i16>, Refusal>
+    requires held { IsHeldFor S.Samples samples.old held.old }
+    ensures level { S.is_honest samples.new → IfOk result (λ found. MatchOption found (IsFalse (is_ground (S.mosaic samples.old) point)) (λ level. IsFilledLevel (terrain (S.mosaic samples.old)) point level)) }
+    ensures held { IsHeldFor S.Samples samples.new held.new }
+    ensures causes { IfErr result (λ r. IsTrue (ends_any r)) }
+    ensures asked { Asked S.Samples samples.old samples.new result }
+{
+    let mut waters = held.take(alloc, samples)?;
+    let found = level_in(alloc, samples, &mut waters, point);
+    held.put(waters);
+    found
+}
+
+// The filled level of the point: the greater of its level in its own tile and that of the rim point which its label names.
+// Only of the tiles on the water's way out the labelling is asked.
+fn level_in<S: Labellings>(
+    alloc: Global,
+    samples: &mut S,
+    waters: &mut Waters,
+    point: Point,
+) -> Result<Option<i16>, Refusal>
+    requires right { S.is_honest samples.old → IsRight (S.mosaic samples.old) (known_of waters.old) }
+    ensures level { S.is_honest samples.new → IfOk result (λ found. MatchOption found (IsFalse (is_ground (S.mosaic samples.old) point)) (λ level. IsFilledLevel (terrain (S.mosaic samples.old)) point level)) }
+    ensures right { S.is_honest samples.new → IsRight (S.mosaic samples.new) (known_of waters.new) }
+    ensures causes { IfErr result (λ r. IsTrue (ends_any r)) }
+    ensures asked { Asked S.Samples samples.old samples.new result }
+{
+    let side = waters.shores.side;
+    let last = waters.entered.last();
+    let Some((t, index)) = holder_of(side, &waters.shores.corners, last, point) else {
+        return Ok(None);
+    };
+    let corner = waters.shores.corners[t];
+    let (level, label) = waters.spot(alloc, samples, t, corner, index)?;
+    if label == NO_LABEL {
+        return Ok(None);
+    }
+    if label == OUT {
+        return Ok(Some(level));
+    }
+    let over = rim_level(alloc, samples, waters, t, label)?;
+    Ok(Some(level.max(over)))
+}
+
+// The filled level of the rim point with this number in the tile with this place, found once.
+fn rim_level<S: Labellings>(
+    alloc: Global,
+    samples: &mut S,
+    waters: &mut Waters,
+    t: usize,
+    number: u16,
+) -> Result<i16, Refusal>
+    requires place { t < length waters.old.shores.corners.items }
+    requires right { S.is_honest samples.old → IsRight (S.mosaic samples.old) (known_of waters.old) }
+    requires there { S.is_honest samples.old → IsGroundNode (S.mosaic samples.old) waters.old.shores.corners.items t number }
+    ensures level { S.is_honest samples.new → IfOk result (IsRimLevel (S.mosaic samples.old) waters.old.shores.corners.items (node_number (S.mosaic samples.old).side (Rim t number))) }
+    ensures right { S.is_honest samples.new → IsRight (S.mosaic samples.new) (known_of waters.new) }
+    ensures causes { IfErr result (λ r. IsTrue (ends_any r)) }
+    ensures asked { Asked S.Samples samples.old samples.new result }
+{
+    let Some(start) = node_at(waters.shores.side, t, u32::from(number)) else {
+        return Err(Refusal::Damaged);
+    };
+    if let Some(level) = waters.levels.level(start) {
+        return Ok(level);
+    }
+    let Some(level) = level_from(alloc, waters, samples, start)? else {
+        return Err(Refusal::Damaged);
+    };
+    waters.levels.know(start, level)?;
+    Ok(level)
+}
+
 // The level and the label of the point with this index.
-fn spot_of(labelled: &Labelled, index: u32) -> Option<(i16, u16)>
+pub(crate) fn spot_of(labelled: &Labelled, index: u32) -> Option<(i16, u16)>
     ensures some { IfSome result (λ spot. (spot.0 ≡ slice_index_or labelled.now.levels index void) × (spot.1 ≡ slice_index labelled.now.labels index)) }
     ensures none { IfNone result (labelled.now.side * labelled.now.side ≤ index) }
 {
@@ -98,4 +171,17 @@ fn first_holder(side: Side, corners: &[Corner], point: Point) -> Option<(usize, 
         }
     }
     None
+}
+
+// A tile that holds the point, and the point's index in it: the last one that was asked, where that holds it.
+fn holder_of(side: Side, corners: &[Corner], last: usize, point: Point) -> Option<(usize, u32)>
+    ensures none { IfNone result (IsHeldByNone side corners.now point) }
+    ensures some { IfSome result (λ r. (r.0 < length corners.now) × IsIndexOf side (corner_at corners.now r.0) point r.1) }
+{
+    if last < corners.len() {
+        if let Some(index) = index_in(side, corners[last], point) {
+            return Some((last, index));
+        }
+    }
+    first_holder(side, corners, point)
 }

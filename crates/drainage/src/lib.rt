@@ -2,19 +2,26 @@
 //! origin.
 //!
 //! The layer above rests on this: over any lawful `Labellings` each call gives what its definition says of the mosaic that
-//! they stand for, and only reads. A filled level asks for the labellings of the tiles on the water's way out, the other
-//! questions for those of all tiles; they are made or were kept.
+//! they stand for, and only reads. A filled level asks for the labellings of the tiles on the water's way out, a direction and
+//! a flow path for levels on their way, and a watershed for the labellings of all tiles; they are made or were kept.
 #![tactic(auto)]
 
 mod asking;
 mod draining;
+mod entered;
 mod filling;
 mod flooding;
+mod following;
 mod growth;
+mod held;
 mod laws;
+mod rims;
 mod shores;
 mod summing;
+mod waters;
 
-pub use draining::{direction, trace, watershed};
-pub use filling::fill;
+pub use draining::watershed;
+pub use filling::{fill, fill_held, level};
+pub use following::{direction, direction_held, trace, trace_held};
+pub use held::Held;
 pub use laws::level_functions_exist;

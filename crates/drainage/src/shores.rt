@@ -17,7 +17,7 @@ use border_graph::Summary;
 use catalogue::Samples;
 use derived::Labellings;
 use lattice::{Corner, Refusal, Side, VOID, point_at, rim_index};
-use rising::{TileWays, Way, Ways, node_at, ways_to_others};
+use rising::{TileWays, Way, node_at, ways_to_others};
 use std::alloc::Global;
 use tile_flood::Labelled;
 
@@ -52,39 +52,12 @@ impl Shores {
     }
 
     // The corner of the tile with this place.
-    fn corner(&self, t: usize) -> Option<Corner>
+    pub(crate) fn corner(&self, t: usize) -> Option<Corner>
         ensures some { IfSome result (λ c. (t < length self.now.corners.items) × (corner_at self.now.corners.items t ≡ c)) }
         ensures none { IfNone result (length self.now.corners.items ≤ t) }
     {
         let corner = self.corners.get(t)?;
         Some(*corner)
-    }
-
-    // Has the ways of the tile with this place and corner from then on, unless it had them.
-    fn tell<S: Labellings>(
-        &mut self,
-        alloc: Global,
-        samples: &mut S,
-        t: usize,
-        corner: Corner,
-    ) -> Result<(), Refusal>
-        requires place { t < length self.old.corners.items }
-        requires corner { corner_at self.old.corners.items t ≡ corner }
-        ensures told { OnOk result ((ways : TileWaysOf) × (told_at self.new.told.items t ≡ Some ways)) }
-        ensures only { (u : ℕ) (ways : TileWaysOf) → u ≢ t → told_at self.new.told.items u ≡ Some ways → told_at self.old.told.items u ≡ Some ways }
-        ensures kept { AreKept S.Samples samples.old samples.new self.old.side self.old.corners.items self.old.told.items self.new.side self.new.corners.items self.new.told.items }
-        ensures reads { OnOk result (OnlyReads {T = Unit {0}} S.Samples samples.old samples.new (Ok tt)) }
-        ensures asked { (S.is_honest samples.new → AreReady (S.mosaic samples.old) self.old.side self.old.corners.items self.old.told.items) → Asked S.Samples samples.old samples.new result }
-        ensures causes { IfErr result (λ r. IsTrue (ends_any r)) }
-    {
-        if t >= self.told.len() {
-            return Err(Refusal::Damaged);
-        }
-        if self.told[t].is_some() {
-            return Ok(());
-        }
-        let _ = self.enter(alloc, samples, t, corner)?;
-        Ok(())
     }
 
     /// The labelling of the tile with this place and corner, whose ways it has from then on.
@@ -137,7 +110,7 @@ impl Shores {
     }
 
     // Lists the ways from the rim point with this number in the tile with this place, where the tile is told.
-    fn list(&self, t: usize, k: u32, into: &mut Vec<Way>) -> Result<(), Refusal>
+    pub(crate) fn list(&self, t: usize, k: u32, into: &mut Vec<Way>) -> Result<(), Refusal>
         requires number { k < 4 * (self.now.side - 1) }
         requires place { t < length self.now.corners.items }
         ensures ways { OnOk result ((ways : TileWaysOf) → told_at self.now.told.items t ≡ Some ways
@@ -186,47 +159,4 @@ fn list_ways(
     let point = point_at(side, corners[t], rim_index(side, k));
     ways_to_others(side, corners, t, point, height, into)?;
     Ok(())
-}
-
-impl<S: Labellings> Ways<S> for Shores {
-    ghost use Rattle.std.specs.Prelude.{◌≡◌, Some};
-    ghost use Rattle.rising.specs.TileWays.{TileWays};
-    ghost use Rattle.drainage.specs.Shores.{told_at, Fits, AreCarried, AreRefused};
-    ghost use Rattle.drainage.specs.Kept.{carried_itself, carried_on, refused_on, ran_out};
-
-    ghost fits = { λ s n summaries. Fits s.side s.corners.items s.told.items n summaries };
-
-    ghost keeps = { λ s a s' b. AreCarried S.Samples a b s.side s.corners.items s.told.items s'.side s'.corners.items s'.told.items };
-
-    ghost told = { λ s t. (ways : TileWays) × (told_at s.told.items t ≡ Some ways) };
-
-    ghost refuses = { λ s a s' b r. AreRefused S.Samples a b s.side s.corners.items s.told.items s'.side s'.corners.items s'.told.items r };
-
-    ghost levels_fit = { λ s n summaries x y level fits link. fits.low x y level link };
-
-    ghost keeps_itself = { λ s a. carried_itself _ S.keeps_itself a s.side s.corners.items s.told.items };
-
-    ghost keeps_on = { λ s s' s'' a b c one two. carried_on _ S.keeps_on a b s.side s.corners.items s.told.items s'.side s'.corners.items s'.told.items one c s''.side s''.corners.items s''.told.items two };
-
-    ghost refuses_on = { λ s s' s'' a b c r kept refused. refused_on _ S.keeps_on a b s.side s.corners.items s.told.items s'.side s'.corners.items s'.told.items kept c s''.side s''.corners.items s''.told.items r refused };
-
-    ghost runs_out = { λ s s' a b kept. ran_out _ S.keeps_on a b s.side s.corners.items s.told.items s'.side s'.corners.items s'.told.items kept };
-
-    fn ways_from(
-        &mut self,
-        alloc: Global,
-        source: &mut S,
-        node: u32,
-        into: &mut Vec<Way>,
-    ) -> Result<Option<i16>, Refusal> {
-        let side = self.side;
-        let t = ((node - 1) / side.rim()) as usize;
-        let k = (node - 1) % side.rim();
-        let Some(corner) = self.corner(t) else {
-            return Ok(None);
-        };
-        self.tell(alloc, source, t, corner)?;
-        self.list(t, k, into)?;
-        Ok(None)
-    }
 }

@@ -36,11 +36,11 @@ not_void : (samples : List ℤ) → IsTrue (is_height (first_height samples)) �
 not_void [] h = absurd (true≢false (sym h))
 not_void (s ∷ later) h = some_sample s later (is_void s) refl (not_void later) h
 
-ground_not_void : (samples : List ℤ) → IsTrue (is_height (by_seam_rule samples)) → is_void (metres (by_seam_rule samples)) ≡ false
+pub ground_not_void : (samples : List ℤ) → IsTrue (is_height (by_seam_rule samples)) → is_void (metres (by_seam_rule samples)) ≡ false
 ground_not_void [] h = absurd (true≢false (sym h))
 ground_not_void (s ∷ later) h = not_void (s ∷ later) h
 
-above_void : (height level : ℤ) → is_void height ≡ false → void ≤ℤ height → height ≤ℤ level → is_void level ≡ false
+pub above_void : (height level : ℤ) → is_void height ≡ false → void ≤ℤ height → height ≤ℤ level → is_void level ≡ false
 above_void height level some low le = grind (arith, ints)
 
 same_bool : (a b : Bool) → (a ≡ true → b ≡ true) → (b ≡ true → a ≡ true) → a ≡ b

@@ -1,9 +1,9 @@
-use Rattle.std.proofs.Common.{rules, ◌≡◌, ◌≤◌, ◌⊎◌, inl, inr, Err, sym, ◌∙◌, subst, length, List}
+use Rattle.std.proofs.Common.{rules, ◌≡◌, ◌≤◌, Err, sym, ◌∙◌, subst, length, List}
 use Rattle.std.specs.Prelude.{IfErr}
 use Rattle.std.proofs.lemmas.Result.{IfOk-weaker, err_from_is_err_and}
 use Rattle.lattice.specs.Limits.{most_tiles}
 use Rattle.lattice.specs.Corners.{Corner}
-use Rattle.flow_d8.specs.Filled.{AreLevels, IsFilledOf}
+use Rattle.flow_d8.specs.Filled.{IsFilledOf}
 use Rattle.lattice.specs.declared.refusal.Refusal.TheVariants.{NoMemory}
 use Rattle.catalogue.proofs.Reading.{reads_nothing}
 use Rattle.drainage.proofs.Levels.{are_levels, is_filled}

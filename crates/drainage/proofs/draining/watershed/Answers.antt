@@ -1,9 +1,9 @@
-use Rattle.std.proofs.Common.{IsTrue, refl, Err, ◌≤◌, length, List, sym, ◌∙◌, subst}
+use Rattle.std.proofs.Common.{Err, ◌≤◌, length, List, sym, subst}
 use Rattle.std.proofs.lemmas.Result.{IfOk-weaker, err_from_is_err_and}
 use Rattle.lattice.specs.Corners.{Corner}
 use Rattle.lattice.specs.Limits.{most_tiles}
 use Rattle.lattice.specs.Mosaic.{Mosaic}
-use Rattle.lattice.specs.Ground.{is_ground, terrain}
+use Rattle.lattice.specs.Ground.{terrain}
 use Rattle.std.proofs.Common.{ℤ}
 use Rattle.lattice.specs.declared.point.Point.{Point}
 use Rattle.flow_d8.specs.Drainage.{AreFilledLevels}

@@ -1,10 +1,9 @@
-use Rattle.std.proofs.Common.{rules, ◌≡◌, ◌+◌, Ok, Err, sym, ◌∙◌, ap, subst, length, List, map, ◌∷◌, ◌++◌, []}
+use Rattle.std.proofs.Common.{rules, ◌≡◌, ◌+◌, Ok, Err, sym, ◌∙◌, subst, List, map, ◌∷◌, ◌++◌, []}
 use Rattle.std.specs.Prelude.{Contains, IfErr}
 use Rattle.std.proofs.lemmas.List.{get_or_read}
 use Rattle.std.proofs.lemmas.Result.{err_from_is_err_and}
 use Rattle.lattice.specs.Corners.{Corner}
 use Rattle.lattice.specs.declared.refusal.Refusal.TheVariants.{NoMemory}
-use Rattle.catalogue.specs.Readers.{OnlyReads}
 use Rattle.catalogue.proofs.Asking.{asked_on}
 use Rattle.catalogue.proofs.Reading.{reads_nothing, reads_on}
 use Rattle.tile_flood.specs.Blocks.{LabelledGround}

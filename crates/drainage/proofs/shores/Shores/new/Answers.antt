@@ -1,12 +1,13 @@
 use Rattle.std.proofs.Common.{◌≡◌, ◌+◌, [], ◌∷◌, length, sym, ◌∙◌, ap, length-append, rules}
 use Rattle.std.specs.Prelude.{None}
-use Rattle.drainage.proofs.Telling.{none_more, none_told}
+use Rattle.drainage.proofs.Entering.{none_held}
+use Rattle.drainage.proofs.Telling.{none_told}
 use Rattle.drainage.proofs.shores.Shores.new.Goals as goal
 
 pub loop-preserved : goal.loop-preserved
 loop-preserved g c = record {
   whole = ap length c.in_ok-push.ensures.pushed ∙ length-append c.loop.told.items (None ∷ []) ∙ ap (λ n. n + 1) c.loop.invariant.whole;
-  none = none_more c.loop.told.items c.push.new.items.items c.in_ok-push.ensures.pushed c.loop.invariant.none;
+  none = none_held c.loop.told.items c.push.new.items.items c.in_ok-push.ensures.pushed c.loop.invariant.none;
 }
 
 pub returns-clause-ready : goal.returns-clause-ready

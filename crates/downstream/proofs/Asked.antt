@@ -1,0 +1,23 @@
+-- Calls one after another.
+use Rattle.std.proofs.Common.{◌∙◌, refl, Ok, Err}
+use Rattle.std.specs.Prelude.{Result, IfOk}
+use Rattle.downstream.specs.declared.levels.FilledLevels.{Ghosts}
+use Rattle.downstream.specs.Asking.{Asks}
+
+module _ {L S : Type 0} (g : Ghosts L S) where
+  pub asks_nothing : (s : L) (a : S) → Asks g s a s a
+  asks_nothing s a = record { honest = λ honest. honest; mosaic = λ honest. refl }
+
+  pub asks_on : (s s' s'' : L) (a b c : S) → Asks g s a s' b → Asks g s' b s'' c → Asks g s a s'' c
+  asks_on s s' s'' a b c first then = record {
+    honest = λ honest. first.honest (then.honest honest);
+    mosaic = λ honest. then.mosaic honest ∙ first.mosaic (then.honest honest);
+  }
+
+pub on_ok : {T E : Type 0} (P Q : T → Type 0) (r : Result T E) → ((x : T) → P x → Q x) → IfOk r P → IfOk r Q
+on_ok P Q (Ok x) f h = f x h
+on_ok P Q (Err e) f h = h
+
+pub on_some : {T E : Type 0} (P Q R : T → Type 0) (r : Result T E) → ((x : T) → P x → Q x → R x) → IfOk r P → IfOk r Q → IfOk r R
+on_some P Q R (Ok x) f p q = f x p q
+on_some P Q R (Err e) f p q = p

@@ -1,0 +1,35 @@
+use Rattle.std.proofs.Common.{rules, inl, inr, ◌++◌, [], ◌∷◌, List, length, sym, ap, ◌∙◌, subst, arith}
+use Rattle.lattice.specs.declared.point.Point.{Point}
+use Rattle.downstream.specs.declared.across.Lead.{Lead}
+use Rattle.downstream.specs.Across.{HasPoint, AreLinked}
+use Rattle.downstream.proofs.Reaching.{longer_by_one, linked_on, still_there, there_now}
+use Rattle.downstream.proofs.across.visit.Goals as goal
+
+pub returns-in_ok-push-clause-reached : goal.returns-in_ok-push-clause-reached
+returns-in_ok-push-clause-reached c =
+    let old = c.args.leads.now.items in
+    let lead : Lead = record { point = c.in-Some.to; by = c.args.direction; from = c.args.from } in
+    record {
+      there = λ p has.
+          subst (λ (l : List Lead). HasPoint l p) (sym c.in_ok-push.ensures.items)
+          (elim (c.in_ok-see.ensures.seen p has) [
+            | inl is ↦ subst (λ q. HasPoint (old ++ lead ∷ []) q) (sym is) (there_now old lead)
+            | inr before ↦ still_there old lead p (c.requires.reached.there p before)
+          ]);
+      linked = subst AreLinked (sym c.in_ok-push.ensures.items) (linked_on old lead c.requires.from c.requires.reached.linked);
+    }
+
+pub returns-in_ok-push-clause-visited : goal.returns-in_ok-push-clause-visited
+returns-in_ok-push-clause-visited c =
+    let old = c.args.leads.now.items in
+    let lead : Lead = record { point = c.in-Some.to; by = c.args.direction; from = c.args.from } in
+    record {
+      only = inr (search rules, c.in_ok-push.ensures.items ∙ ap (λ (q : Point). old ++ record { point = q; by = c.args.direction; from = c.args.from } ∷ []) c.in-Some.ensures.1);
+      there = λ said fits. subst (λ q. HasPoint c.push.new.self.items q) c.in-Some.ensures.1 (subst (λ (l : List Lead). HasPoint l c.in-Some.to) (sym c.in_ok-push.ensures.items) (there_now old lead));
+    }
+
+pub returns-in_ok-push-clause-more : goal.returns-in_ok-push-clause-more
+returns-in_ok-push-clause-more c =
+    let old = c.args.leads.now.items in
+    let lead : Lead = record { point = c.in-Some.to; by = c.args.direction; from = c.args.from } in
+    omega (arith, c.requires.from, longer_by_one old lead, ap length c.in_ok-push.ensures.items)

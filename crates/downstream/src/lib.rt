@@ -1,0 +1,19 @@
+//! Where water goes from one point, over filled levels that are asked for point by point.
+//!
+//! The layer above rests on this: `direction_at` answers the one direction of the point on the whole mosaic, and `trace`
+//! its flow path. A direction looks at the levels around the point and, where that lies on a flat, around the points of
+//! the flat, the nearest first, until one of them drains. A flow path goes on to that point by the way that this search
+//! found.
+#![tactic(auto)]
+
+mod across;
+mod around;
+mod direction;
+mod levels;
+mod path;
+mod seen;
+mod steepest;
+
+pub use direction::direction_at;
+pub use levels::FilledLevels;
+pub use path::trace;

@@ -1,0 +1,65 @@
+-- A ground point on a tile's rim, as a node of the graph of all tiles.
+use Rattle.std.proofs.Common.{◌≡◌, ℕ, ◌+◌, ◌*◌, ◌-◌, ◌^◌, ◌<◌, ◌≤◌, ℤ, IsTrue, List, length, map, sym, ap, subst, arith}
+use Rattle.std.specs.Prelude.{Option}
+use Rattle.std.proofs.Math.Nat.{mul-le-mul_right}
+use Rattle.lattice.specs.Corners.{Corner}
+use Rattle.lattice.specs.Lattice.{point_of}
+use Rattle.lattice.specs.Mosaic.{Mosaic, IsMosaic}
+use Rattle.lattice.specs.Ground.{is_ground, terrain}
+use Rattle.lattice.specs.RimPoints.{IsRimPoint}
+use Rattle.lattice.specs.Terrain.{IsFilledLevel}
+use Rattle.border_graph.specs.Links.{IsWayBelow, IsJoinedLevel}
+use Rattle.border_graph.specs.Joining.{Rim, summary_at, IsThere, IsRimNumberOf}
+use Rattle.border_graph.specs.Linking.{node_number}
+use Rattle.border_graph.proofs.Joined.{there_at, solid_at, joined_is_filled, filled_is_joined, is_joined}
+use Rattle.rising.specs.Others.{corner_at}
+use Rattle.rising.specs.Placed.{IsPlacedLink}
+use Rattle.rising.specs.TileWays.{TileWays}
+use Rattle.drainage.specs.Shores.{AreReady}
+use Rattle.drainage.proofs.Placed.{joined_over_links, placed_over_links, to_placed}
+use Rattle.drainage.proofs.Whole.{summaries, are_summaries, as_many, corner_of_summary}
+
+module _ (m : Mosaic) (is : IsMosaic m) (side : ℕ) (corners : List Corner) (told : List (Option TileWays)) (ready : AreReady m side corners told)
+    (t k e : ℕ) (place : t < length corners) (rim : IsRimPoint m.side k e) (on_ground : IsTrue (is_ground m (point_of m.side (corner_at corners t) e))) where
+  small : t < length (summaries m is side corners told ready)
+  small = subst (λ n. t < n) (sym (as_many m is side corners told ready)) place
+
+  corner_is : (summary_at (summaries m is side corners told ready) t).corner ≡ corner_at corners t
+  corner_is = corner_of_summary m is side corners told ready t place
+
+  there : IsThere m.side (summaries m is side corners told ready) t k
+  there = subst (λ j. IsThere m.side (summaries m is side corners told ready) t j) rim.number
+      (there_at m is (summaries m is side corners told ready) (are_summaries m is side corners told ready) t small e rim.small rim.rim
+      (solid_at m is (summaries m is side corners told ready) (are_summaries m is side corners told ready) t small e rim.small
+      (subst (λ (c : Corner). IsTrue (is_ground m (point_of m.side c e))) (sym corner_is) on_ground)))
+
+  numbered : IsRimNumberOf m.side (summary_at (summaries m is side corners told ready) t).corner k (point_of m.side (corner_at corners t) e)
+  numbered = record { index = e; small = rim.small; rim = rim.rim; number = rim.number; point = ap (λ (c : Corner). point_of m.side c e) corner_is }
+
+  -- its filled level is the least of the ways from its node, and the other way round
+  pub joined_by_filled : (level : ℤ) → IsFilledLevel (terrain m) (point_of m.side (corner_at corners t) e) level → IsJoinedLevel (IsPlacedLink m.side (summaries m is side corners told ready)) 0 (node_number m.side (Rim t k)) level
+  joined_by_filled level filled = placed_over_links m.side (summaries m is side corners told ready) t k level there
+      (filled_is_joined m is (summaries m is side corners told ready) (are_summaries m is side corners told ready) t k there level (point_of m.side (corner_at corners t) e) numbered filled)
+
+  pub filled_by_joined : (level : ℤ) → IsJoinedLevel (IsPlacedLink m.side (summaries m is side corners told ready)) 0 (node_number m.side (Rim t k)) level → IsFilledLevel (terrain m) (point_of m.side (corner_at corners t) e) level
+  filled_by_joined level joined = joined_is_filled m is (summaries m is side corners told ready) (are_summaries m is side corners told ready) t k there level
+      (joined_over_links m.side (summaries m is side corners told ready) t k level there joined) (point_of m.side (corner_at corners t) e) numbered
+
+  -- some way leads out from there
+  pub way_out : ((level : ℤ) (rest : List ℕ) → IsWayBelow (IsPlacedLink m.side (summaries m is side corners told ready)) 0 level (node_number m.side (Rim t k)) rest → ⊥) → ⊥
+  way_out none =
+      let way = is_joined m is (summaries m is side corners told ready) (are_summaries m is side corners told ready) t k there in
+      none way.0 (map (node_number m.side) way.1.rest) (to_placed m.side (summaries m is side corners told ready) way.0 (Rim t k) way.1.rest way.1.way)
+
+  -- the node has a number
+  pub node_there : 2 ^ 32 ≤ 1 + t * (4 * (side - 1)) + k → ⊥
+  node_there past =
+      let under : k < 4 * (side - 1) = subst (λ s. k < 4 * (s - 1)) (sym ready.same_side) there.number in
+      let row : (t + 1) * (4 * (side - 1)) ≤ length corners * (4 * (side - 1)) = mul-le-mul_right (4 * (side - 1)) (let s = place in omega arith) in
+      within (t * (4 * (side - 1))) (4 * (side - 1)) (length corners * (4 * (side - 1))) k (subst (λ v. v ≤ length corners * (4 * (side - 1))) (one_more t (4 * (side - 1))) row) under past ready.room
+    where
+      one_more : (a b : ℕ) → (a + 1) * b ≡ a * b + b
+      one_more a b = omega arith
+
+      within : (a size whole l : ℕ) → a + size ≤ whole → l < size → 2 ^ 32 ≤ 1 + a + l → 1 + whole < 2 ^ 32 → ⊥
+      within a size whole l le less past room = absurd (omega arith)

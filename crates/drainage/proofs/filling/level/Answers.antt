@@ -1,0 +1,19 @@
+use Rattle.std.proofs.Common.{ℤ, Err, sym, subst}
+use Rattle.std.specs.Prelude.{Option}
+use Rattle.std.proofs.lemmas.Result.{err_from_is_err_and}
+use Rattle.lattice.specs.declared.refusal.Refusal.{Refusal}
+use Rattle.catalogue.specs.Asked.{Asked}
+use Rattle.catalogue.proofs.Reading.{reads_nothing}
+use Rattle.drainage.proofs.Questioned.{wanting}
+use Rattle.drainage.proofs.filling.level.Goals as goal
+
+pub returns-in_err-waters-clause-held : goal.returns-in_err-waters-clause-held
+returns-in_err-waters-clause-held g c honest = c.take.ensures.nothing (g.S.Samples.mosaic c.args.samples.now)
+
+pub returns-in_err-waters-clause-asked : goal.returns-in_err-waters-clause-asked
+returns-in_err-waters-clause-asked g c =
+    let a = c.args.samples.now in
+    let p = err_from_is_err_and c.from_residual.result c.from_residual.ensures.1 in
+    rw p.1 (subst (λ (r : Refusal). Asked {T = Option ℤ} g.S.Samples a a (Err r)) (sym p.2)
+    (subst (λ (r : Refusal). Asked {T = Option ℤ} g.S.Samples a a (Err r)) (sym c.in_err-waters.ensures.refusal)
+    (wanting g.S.Samples a a (reads_nothing g.S.Samples g.met.S.Samples.keeps_itself a (tt {0})))))

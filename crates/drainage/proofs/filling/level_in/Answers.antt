@@ -1,0 +1,103 @@
+use Rattle.std.proofs.Common.{◌≡◌, ◌∙◌, ℤ, List, Ok, Err, rules, sym, subst, SFits, w16}
+use Rattle.std.specs.Prelude.{Option}
+use Rattle.std.specs.Int.{int_max}
+use Rattle.std.proofs.lemmas.Int.{to_z-of_z}
+use Rattle.std.proofs.lemmas.Result.{err_from_is_err_and}
+use Rattle.lattice.specs.Corners.{Corner}
+use Rattle.lattice.specs.Mosaic.{Mosaic}
+use Rattle.lattice.specs.Ground.{terrain}
+use Rattle.lattice.specs.Terrain.{IsFilledLevel}
+use Rattle.lattice.specs.declared.refusal.Refusal.{Refusal}
+use Rattle.catalogue.specs.Asked.{Asked}
+use Rattle.catalogue.specs.Tiles.{corners_of}
+use Rattle.catalogue.proofs.Asking.{asked_on, asked_passed}
+use Rattle.catalogue.proofs.Reading.{reads_nothing, reads_on}
+use Rattle.border_graph.specs.Joining.{Rim}
+use Rattle.border_graph.specs.Linking.{node_number}
+use Rattle.drainage.specs.Asking.{IsHeldByNone}
+use Rattle.drainage.specs.Holding.{IsRimLevel, IsGroundNode}
+use Rattle.drainage.specs.Waters.{known_of}
+use Rattle.drainage.proofs.Filled.{void_there, level_inside, rim_there, level_over}
+use Rattle.drainage.proofs.Holders.{no_ground}
+use Rattle.drainage.proofs.Questioned.{answered, asked_reads}
+use Rattle.drainage.proofs.filling.level_in.Goals as goal
+
+pub returns-in_default-clause-level : goal.returns-in_default-clause-level
+returns-in_default-clause-level g c honest =
+    let m = g.S.Samples.mosaic c.args.samples.now in
+    let w = known_of c.args.waters.now in
+    let right = c.requires.right honest in
+    no_ground m c.args.point (g.met.S.Samples.is_mosaic c.args.samples.now honest)
+    (subst (λ n. IsHeldByNone n (corners_of m) c.args.point) right.ready.same_side
+    (subst (λ (cs : List Corner). IsHeldByNone w.side cs c.args.point) (c.deref.ensures.value ∙ right.ready.all) c.in_default.ensures.none))
+
+pub returns-in_default-clause-asked : goal.returns-in_default-clause-asked
+returns-in_default-clause-asked g c = answered g.S.Samples c.args.samples.now c.args.samples.now _ (reads_nothing g.S.Samples g.met.S.Samples.keeps_itself c.args.samples.now (tt {0}))
+
+pub returns-then-label-clause-level : goal.returns-then-label-clause-level
+returns-then-label-clause-level g c honest =
+    let a = c.args.samples.now in
+    let spotted = c.in_ok-level.ensures in
+    let before = spotted.reads.honest honest in
+    void_there (g.S.Samples.mosaic a) (g.met.S.Samples.is_mosaic a before) c.args.point (known_of c.args.waters.now) (c.requires.right before) c.deref.result.now c.deref.ensures.value c.in-Some.t c.in-Some.index c.in-Some.ensures.some
+    c.index-corner.result.now c.index-corner.ensures c.in_ok-level.level c.in_ok-level.label (spotted.spot honest (c.requires.right before)) c.if-label.true
+
+pub returns-then-label-clause-asked : goal.returns-then-label-clause-asked
+returns-then-label-clause-asked g c = answered g.S.Samples c.args.samples.now c.spot.new.samples _ c.in_ok-level.ensures.reads
+
+pub returns-then-label-2-clause-level : goal.returns-then-label-2-clause-level
+returns-then-label-2-clause-level g c honest =
+    let a = c.args.samples.now in
+    let m = g.S.Samples.mosaic a in
+    let spotted = c.in_ok-level.ensures in
+    let before = spotted.reads.honest honest in
+    let in_range : SFits w16 c.in_ok-level.level = search rules in
+    subst (IsFilledLevel (terrain m) c.args.point) (sym (to_z-of_z w16 c.in_ok-level.level in_range))
+    (level_inside m (g.met.S.Samples.is_mosaic a before) c.args.point (known_of c.args.waters.now) (c.requires.right before) c.deref.result.now c.deref.ensures.value c.in-Some.t c.in-Some.index c.in-Some.ensures.some
+    c.index-corner.result.now c.index-corner.ensures c.in_ok-level.level c.in_ok-level.label (spotted.spot honest (c.requires.right before)) c.if-label.false c.if-label-2.true)
+
+pub returns-then-label-2-clause-asked : goal.returns-then-label-2-clause-asked
+returns-then-label-2-clause-asked g c = answered g.S.Samples c.args.samples.now c.spot.new.samples _ c.in_ok-level.ensures.reads
+
+pub rim_level-requires-clause-there : goal.rim_level-requires-clause-there
+rim_level-requires-clause-there g c honest =
+    let a = c.args.samples.now in
+    let spotted = c.in_ok-level.ensures in
+    let before = spotted.reads.honest honest in
+    subst (λ (m : Mosaic). IsGroundNode m c.spot.new.self.shores.corners.items c.in-Some.t c.in_ok-level.label) (sym (spotted.reads.mosaic honest))
+    (subst (λ (cs : List Corner). IsGroundNode (g.S.Samples.mosaic a) cs c.in-Some.t c.in_ok-level.label) (sym spotted.grown.kept.same_corners)
+    (rim_there (g.S.Samples.mosaic a) (g.met.S.Samples.is_mosaic a before) c.args.point (known_of c.args.waters.now) (c.requires.right before) c.deref.result.now c.deref.ensures.value c.in-Some.t c.in-Some.index c.in-Some.ensures.some
+    c.index-corner.result.now c.index-corner.ensures c.in_ok-level.level c.in_ok-level.label (spotted.spot honest (c.requires.right before)) c.if-label.false c.if-label-2.false))
+
+pub returns-in_err-over-clause-asked : goal.returns-in_err-over-clause-asked
+returns-in_err-over-clause-asked g c =
+    let a = c.args.samples.now in
+    let b = c.spot.new.samples in
+    let d = c.rim_level.new.samples in
+    let p = err_from_is_err_and c.from_residual-in_err-over.result c.from_residual-in_err-over.ensures.1 in
+    rw p.1 (subst (λ (r : Refusal). Asked {T = Option ℤ} g.S.Samples a d (Err r)) (sym p.2)
+    (asked_on g.S.Samples g.met.S.Samples.keeps_on a b d (tt {0}) (Err c.in_err-over.field-0.0) c.in_ok-level.ensures.reads
+    (asked_passed g.S.Samples b d c.in_err-over.field-0.0 c.in_err-over.ensures.asked)))
+
+pub returns-clause-level : goal.returns-clause-level
+returns-clause-level g c honest =
+    let a = c.args.samples.now in
+    let m = g.S.Samples.mosaic a in
+    let w = known_of c.args.waters.now in
+    let spotted = c.in_ok-level.ensures in
+    let mid = c.in_ok-over.ensures.asked.reads.honest honest in
+    let before = spotted.reads.honest mid in
+    let in_range : SFits w16 c.max.result = search rules in
+    let higher : c.max.result ≡ int_max c.in_ok-level.level c.in_ok-over.over = search rules in
+    let rim : IsRimLevel m w.corners (node_number m.side (Rim c.in-Some.t c.in_ok-level.label)) c.in_ok-over.over =
+    subst (λ (n : Mosaic). IsRimLevel n w.corners (node_number n.side (Rim c.in-Some.t c.in_ok-level.label)) c.in_ok-over.over) (spotted.reads.mosaic mid)
+    (subst (λ (cs : List Corner). IsRimLevel (g.S.Samples.mosaic c.spot.new.samples) cs (node_number (g.S.Samples.mosaic c.spot.new.samples).side (Rim c.in-Some.t c.in_ok-level.label)) c.in_ok-over.over) spotted.grown.kept.same_corners (c.in_ok-over.ensures.level honest)) in
+    subst (IsFilledLevel (terrain m) c.args.point) (sym higher ∙ sym (to_z-of_z w16 c.max.result in_range))
+    (level_over m (g.met.S.Samples.is_mosaic a before) c.args.point w (c.requires.right before) c.deref.result.now c.deref.ensures.value c.in-Some.t c.in-Some.index c.in-Some.ensures.some
+    c.index-corner.result.now c.index-corner.ensures c.in_ok-level.level c.in_ok-level.label (spotted.spot mid (c.requires.right before)) c.if-label.false c.if-label-2.false c.in_ok-over.over rim)
+
+pub returns-clause-asked : goal.returns-clause-asked
+returns-clause-asked g c =
+    answered g.S.Samples c.args.samples.now c.rim_level.new.samples _
+    (reads_on g.S.Samples g.met.S.Samples.keeps_on c.args.samples.now c.spot.new.samples c.rim_level.new.samples tt (Ok tt) c.in_ok-level.ensures.reads
+    (asked_reads g.S.Samples c.spot.new.samples c.rim_level.new.samples _ c.in_ok-over.ensures.asked))

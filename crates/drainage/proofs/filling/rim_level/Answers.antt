@@ -1,0 +1,83 @@
+use Rattle.std.proofs.Common.{◌≡◌, ◌∙◌, ℕ, ◌+◌, ◌*◌, ◌-◌, ◌^◌, ◌≤◌, ◌==◌, ℤ, cond, List, rules, sym, ap, subst, SFits, w16}
+use Rattle.std.specs.Prelude.{Some, IfSome, IfNone}
+use Rattle.std.proofs.lemmas.Int.{to_z-of_z}
+use Rattle.catalogue.proofs.Reading.{reads_nothing}
+use Rattle.border_graph.specs.Joining.{Rim}
+use Rattle.border_graph.specs.Linking.{node_number}
+use Rattle.border_graph.specs.Links.{IsJoinedLevel, IsWayBelow}
+use Rattle.rising.specs.Placed.{IsPlacedLink}
+use Rattle.drainage.specs.Holding.{IsRimLevel, level_of}
+use Rattle.drainage.specs.Kept.{right_still}
+use Rattle.drainage.specs.Waters.{known_of}
+use Rattle.drainage.proofs.Found.{right_more, start_is, found, found_later, never}
+use Rattle.drainage.proofs.Questioned.{answered, stopped}
+use Rattle.drainage.proofs.RimNodes.{node_there}
+use Rattle.drainage.proofs.filling.rim_level.Goals as goal
+
+pub returns-in_default-clause-asked : goal.returns-in_default-clause-asked
+returns-in_default-clause-asked g c =
+    let a = c.args.samples.now in
+    let w = known_of c.args.waters.now in
+    stopped g.S.Samples a a (reads_nothing g.S.Samples g.met.S.Samples.keeps_itself a (tt {0})) (λ honest.
+    let right = c.requires.right honest in
+    let ground = c.requires.there honest in
+    node_there (g.S.Samples.mosaic a) (g.met.S.Samples.is_mosaic a honest) w.side w.corners w.told right.ready c.args.t c.args.number ground.index c.requires.place ground.rim ground.on_ground
+    (subst (λ k. 2 ^ 32 ≤ 1 + c.args.t * (4 * (w.side - 1)) + k) c.from.ensures c.in_default.ensures.none))
+
+pub returns-in-Some-level-clause-level : goal.returns-in-Some-level-clause-level
+returns-in-Some-level-clause-level g c honest =
+    let m = g.S.Samples.mosaic c.args.samples.now in
+    let w = known_of c.args.waters.now in
+    let right = c.requires.right honest in
+    let in_range : SFits w16 c.in-Some-level.level = search rules in
+    let at = start_is m w c.args.t c.args.number c.in-Some.start right (c.in-Some.ensures.some ∙ ap (λ k. 1 + c.args.t * (4 * (w.side - 1)) + k) c.from.ensures) in
+    subst (IsRimLevel m w.corners (node_number m.side (Rim c.args.t c.args.number))) (sym (to_z-of_z w16 c.in-Some-level.level in_range))
+    (subst (λ x. IsRimLevel m w.corners x c.in-Some-level.level) at (right.levels c.in-Some.start c.in-Some-level.level (sym c.in-Some-level.ensures)))
+
+pub returns-in-Some-level-clause-asked : goal.returns-in-Some-level-clause-asked
+returns-in-Some-level-clause-asked g c = answered g.S.Samples c.args.samples.now c.args.samples.now _ (reads_nothing g.S.Samples g.met.S.Samples.keeps_itself c.args.samples.now (tt {0}))
+
+pub returns-in_default-2-clause-asked : goal.returns-in_default-2-clause-asked
+returns-in_default-2-clause-asked g c =
+    let a = c.args.samples.now in
+    let d = c.level_from.new.source in
+    let w = known_of c.args.waters.now in
+    let carried = c.in_ok-level.ensures.keeps in
+    stopped g.S.Samples a d carried.reads (λ honest.
+    let before = carried.reads.honest honest in
+    never g.S.Samples a d (g.met.S.Samples.is_mosaic a before) w (known_of c.level_from.new.ways) carried.grown honest (c.requires.right before) c.args.t c.args.number c.requires.place (c.requires.there before) c.in-Some.start
+    (c.in-Some.ensures.some ∙ ap (λ k. 1 + c.args.t * (4 * (w.side - 1)) + k) c.from.ensures)
+    (λ n all agrees level rest. subst (λ found. IfNone found ((level : ℤ) (rest : List ℕ) → IsWayBelow (IsPlacedLink n all) 0 level c.in-Some.start rest → ⊥)) c.in_default-2.is (c.in_ok-level.ensures.not_joined n all agrees) level rest))
+
+pub returns-clause-level : goal.returns-clause-level
+returns-clause-level g c honest =
+    let a = c.args.samples.now in
+    let d = c.level_from.new.source in
+    let m = g.S.Samples.mosaic a in
+    let w = known_of c.args.waters.now in
+    let carried = c.in_ok-level.ensures.keeps in
+    let before = carried.reads.honest honest in
+    let in_range : SFits w16 c.in-Some-2.level = search rules in
+    subst (IsRimLevel m w.corners (node_number m.side (Rim c.args.t c.args.number))) (sym (to_z-of_z w16 c.in-Some-2.level in_range))
+    (found g.S.Samples a d (g.met.S.Samples.is_mosaic a before) w (known_of c.level_from.new.ways) carried.grown honest (c.requires.right before) c.args.t c.args.number c.requires.place (c.requires.there before) c.in-Some.start
+    (c.in-Some.ensures.some ∙ ap (λ k. 1 + c.args.t * (4 * (w.side - 1)) + k) c.from.ensures) c.in-Some-2.level
+    (λ n all agrees. subst (λ found. IfSome found (IsJoinedLevel (IsPlacedLink n all) 0 c.in-Some.start)) c.in-Some-2.is (c.in_ok-level.ensures.joined n all agrees)))
+
+pub returns-clause-right : goal.returns-clause-right
+returns-clause-right g c honest =
+    let a = c.args.samples.now in
+    let d = c.level_from.new.source in
+    let w = known_of c.args.waters.now in
+    let carried = c.in_ok-level.ensures.keeps in
+    let before = carried.reads.honest honest in
+    let known = known_of c.level_from.new.ways in
+    let in_range : SFits w16 c.in-Some-2.level = search rules in
+    right_more (g.S.Samples.mosaic d) known c.know.new.self c.in-Some.start c.in-Some-2.level
+    (λ x. subst (λ (v : ℤ). level_of c.know.new.self x ≡ cond (c.in-Some.start == x) (Some v) (level_of known.levels x)) (to_z-of_z w16 c.in-Some-2.level in_range) (c.in_ok-know.ensures.known x))
+    (found_later g.S.Samples a d (g.met.S.Samples.is_mosaic a before) w known carried.grown honest (c.requires.right before) c.args.t c.args.number c.requires.place (c.requires.there before) c.in-Some.start
+    (c.in-Some.ensures.some ∙ ap (λ k. 1 + c.args.t * (4 * (w.side - 1)) + k) c.from.ensures) c.in-Some-2.level
+    (λ n all agrees. subst (λ found. IfSome found (IsJoinedLevel (IsPlacedLink n all) 0 c.in-Some.start)) c.in-Some-2.is (c.in_ok-level.ensures.joined n all agrees)))
+    (right_still g.S.Samples a d w known carried.grown honest (c.requires.right before))
+
+pub returns-clause-asked : goal.returns-clause-asked
+returns-clause-asked g c = answered g.S.Samples c.args.samples.now c.level_from.new.source _ c.in_ok-level.ensures.keeps.reads

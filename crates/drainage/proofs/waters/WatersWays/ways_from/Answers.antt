@@ -1,0 +1,67 @@
+use Rattle.std.proofs.Common.{inl, inr, ◌*◌, ◌/◌, ◌-◌, ◌<◌, ◌≤◌, List, length, sym, subst, ◌∙◌, ap, arith}
+use Rattle.lattice.specs.Corners.{Corner}
+use Rattle.std.proofs.lemmas.Result.{err_from_is_err_and}
+use Rattle.drainage.specs.Holding.{IsRefused}
+use Rattle.drainage.specs.Waters.{known_of}
+use Rattle.drainage.proofs.Growing.{agrees_before}
+use Rattle.drainage.proofs.Questioned.{own_refused}
+use Rattle.drainage.proofs.Numbered.{no_ways, told_ways, told_of}
+use Rattle.drainage.proofs.waters.WatersWays.ways_from.Goals as goal
+
+pub returns-in_default-corner-clause-answer : goal.returns-in_default-corner-clause-answer
+returns-in_default-corner-clause-answer g c n summaries agrees =
+    no_ways c.args.self.now.shores.side c.args.self.now.shores.corners.items c.args.self.now.shores.told.items n summaries agrees.fits c.args.node c.rim.result c.rim-2.result c.requires.node
+    c.rim.ensures.low c.rim.ensures.value c.rim-2.ensures.value c.in_default-corner.ensures.none c.args.into.now.items c.requires.empty
+
+pub returns-clause-answer : goal.returns-clause-answer
+returns-clause-answer g c n summaries agrees =
+    let told = c.in_ok-tell.ensures.told in
+    let at = c.in-Some-corner.ensures.some in
+    let kept = c.in_ok-tell.ensures.grown.kept in
+    let same = sym kept.same_side in
+    told_ways c.tell.new.self.shores.side c.tell.new.self.shores.corners.items c.tell.new.self.shores.told.items n summaries agrees.fits c.args.node c.rim.result c.rim-2.result c.requires.node
+    (subst (λ s. 3 ≤ s) same c.rim.ensures.low) (c.rim.ensures.value ∙ ap (λ s. 4 * (s - 1)) same) (c.rim-2.ensures.value ∙ ap (λ s. 4 * (s - 1)) same)
+    told.0 told.1 (subst (λ (cs : List Corner). (c.args.node - 1) / c.rim.result < length cs) (sym kept.same_corners) at.0) c.args.into.now.items c.list.new.into.items c.requires.empty (c.in_ok-list.ensures.ways told.0 told.1)
+
+pub returns-in_err-tell-clause-told : goal.returns-in_err-tell-clause-told
+returns-in_err-tell-clause-told g c n summaries agrees =
+    let same = sym c.in_err-tell.ensures.grown.kept.same_side in
+    told_of c.tell.new.self.shores.side c.tell.new.self.shores.corners.items c.tell.new.self.shores.told.items n summaries agrees.fits c.args.node c.rim.result c.rim-2.result c.requires.node
+    (subst (λ s. 3 ≤ s) same c.rim.ensures.low) (c.rim.ensures.value ∙ ap (λ s. 4 * (s - 1)) same) (c.rim-2.ensures.value ∙ ap (λ s. 4 * (s - 1)) same) c.args.self.now.shores.told.items c.in_err-tell.ensures.only
+
+pub returns-in_err-list-clause-told : goal.returns-in_err-list-clause-told
+returns-in_err-list-clause-told g c n summaries agrees =
+    let same = sym c.in_ok-tell.ensures.grown.kept.same_side in
+    told_of c.tell.new.self.shores.side c.tell.new.self.shores.corners.items c.tell.new.self.shores.told.items n summaries agrees.fits c.args.node c.rim.result c.rim-2.result c.requires.node
+    (subst (λ s. 3 ≤ s) same c.rim.ensures.low) (c.rim.ensures.value ∙ ap (λ s. 4 * (s - 1)) same) (c.rim-2.ensures.value ∙ ap (λ s. 4 * (s - 1)) same) c.args.self.now.shores.told.items c.in_ok-tell.ensures.only
+
+pub returns-clause-told : goal.returns-clause-told
+returns-clause-told g c n summaries agrees =
+    let same = sym c.in_ok-tell.ensures.grown.kept.same_side in
+    told_of c.tell.new.self.shores.side c.tell.new.self.shores.corners.items c.tell.new.self.shores.told.items n summaries agrees.fits c.args.node c.rim.result c.rim-2.result c.requires.node
+    (subst (λ s. 3 ≤ s) same c.rim.ensures.low) (c.rim.ensures.value ∙ ap (λ s. 4 * (s - 1)) same) (c.rim-2.ensures.value ∙ ap (λ s. 4 * (s - 1)) same) c.args.self.now.shores.told.items c.in_ok-tell.ensures.only
+
+pub returns-in_err-list-clause-refusal : goal.returns-in_err-list-clause-refusal
+returns-in_err-list-clause-refusal g c =
+    let p = err_from_is_err_and c.from_residual-in_err-list.result c.from_residual-in_err-list.ensures.1 in
+    let a = c.args.source.now in
+    let b = c.tell.new.samples in
+    let grown = c.in_ok-tell.ensures.grown in
+    let told = c.in_ok-tell.ensures.told in
+    rw p.1 (subst (IsRefused g.S.Samples a b (known_of c.args.self.now) (known_of c.tell.new.self)) (sym p.2)
+    (own_refused g.S.Samples a b (known_of c.args.self.now) (known_of c.tell.new.self) c.in_err-list.field-0.0 _ grown c.in_ok-tell.ensures.reads c.in_err-list.ensures.refusal
+    (λ honest right never.
+    let then_ = (grown.right honest right).ready in
+    elim (never told.0 told.1) [
+      | inl apart ↦ apart (then_.tiles.sides _ told.0 told.1)
+      | inr many ↦ let room = then_.room in omega arith
+    ])))
+
+pub returns-in_err-tell-clause-fits : goal.returns-in_err-tell-clause-fits
+returns-in_err-tell-clause-fits g c n summaries agrees = agrees_before g.S.Samples c.args.source.now c.tell.new.samples (known_of c.args.self.now) (known_of c.tell.new.self) c.in_err-tell.ensures.grown n summaries agrees
+
+pub returns-in_err-list-clause-fits : goal.returns-in_err-list-clause-fits
+returns-in_err-list-clause-fits g c n summaries agrees = agrees_before g.S.Samples c.args.source.now c.tell.new.samples (known_of c.args.self.now) (known_of c.tell.new.self) c.in_ok-tell.ensures.grown n summaries agrees
+
+pub returns-clause-fits : goal.returns-clause-fits
+returns-clause-fits g c n summaries agrees = agrees_before g.S.Samples c.args.source.now c.tell.new.samples (known_of c.args.self.now) (known_of c.tell.new.self) c.in_ok-tell.ensures.grown n summaries agrees

@@ -1,0 +1,87 @@
+-- What is found of a mosaic's tiles, and held between two questions (this product's own profile).
+use Rattle.std.specs.Prelude.{◌≡◌, ℕ, ◌==◌, ◌<◌, ℤ, List, Option, Some, None, Ok, Err, IsTrue, length, slice_index_or}
+use Rattle.std.specs.Map.{lookup}
+use Rattle.lattice.specs.Lattice.{point_of}
+use Rattle.lattice.specs.Mosaic.{Mosaic}
+use Rattle.lattice.specs.Ground.{is_ground, terrain}
+use Rattle.lattice.specs.RimPoints.{IsRimPoint}
+use Rattle.lattice.specs.Terrain.{IsFilledLevel}
+use Rattle.lattice.specs.declared.refusal.Refusal.{Refusal}
+use Rattle.catalogue.specs.Asked.{Asked}
+use Rattle.catalogue.specs.Endings.{ends_any}
+use Rattle.catalogue.specs.Readers.{OnlyReads}
+use Rattle.catalogue.specs.declared.samples.Samples.{Ghosts}
+use Rattle.border_graph.specs.Joining.{Rim}
+use Rattle.border_graph.specs.Links.{IsJoinedLevel}
+use Rattle.border_graph.specs.Linking.{node_number}
+use Rattle.border_graph.specs.Summaries.{Summary}
+use Rattle.derived.specs.Labellings.{IsFlooded}
+use Rattle.lattice.specs.Corners.{Corner}
+use Rattle.rising.specs.Others.{corner_at}
+use Rattle.rising.specs.Placed.{IsPlacedLink}
+use Rattle.rising.specs.TileWays.{TileWays}
+use Rattle.tile_flood.specs.Blocks.{LabelledGround}
+use Rattle.drainage.specs.Shores.{Fits, AreReady, AreKept}
+
+-- the side, the corners of all tiles in order, what is told of the ways of each, the labellings of those that were entered,
+-- and the levels of rim points, by the numbers of their nodes
+pub record Known : Type 0 where
+  pub side : ℕ
+  pub corners : List Corner
+  pub told : List (Option TileWays)
+  pub entered : List (Option LabelledGround)
+  pub levels : List (ℕ × ℤ)
+
+-- the labelling that is held of the tile with this place
+abbrev pub entered_at : List (Option LabelledGround) → ℕ → Option LabelledGround
+entered_at entered t = slice_index_or entered t None
+
+-- the level that is known of the rim point with this node
+abbrev pub level_of : List (ℕ × ℤ) → ℕ → Option ℤ
+level_of levels x = lookup (λ y. x == y) levels
+
+-- the filled level of the ground point on a tile's rim whose node this is
+pub record IsRimLevel (m : Mosaic) (corners : List Corner) (x : ℕ) (level : ℤ) : Type 0 where
+  pub tile : ℕ
+  pub number : ℕ
+  pub index : ℕ
+  pub node : x ≡ node_number m.side (Rim tile number)
+  pub place : tile < length corners
+  pub rim : IsRimPoint m.side number index
+  pub on_ground : IsTrue (is_ground m (point_of m.side (corner_at corners tile) index))
+  pub filled : IsFilledLevel (terrain m) (point_of m.side (corner_at corners tile) index) level
+
+-- the rim point with this number in the tile with this place is ground
+pub record IsGroundNode (m : Mosaic) (corners : List Corner) (t number : ℕ) : Type 0 where
+  pub index : ℕ
+  pub rim : IsRimPoint m.side number index
+  pub on_ground : IsTrue (is_ground m (point_of m.side (corner_at corners t) index))
+
+-- all of it is right for the mosaic
+pub record IsRight (m : Mosaic) (known : Known) : Type 0 where
+  pub ready : AreReady m known.side known.corners known.told
+  pub entered : (t : ℕ) (labelled : LabelledGround) → entered_at known.entered t ≡ Some labelled → IsFlooded m (corner_at known.corners t) labelled
+  pub levels : (x : ℕ) (level : ℤ) → level_of known.levels x ≡ Some level → IsRimLevel m known.corners x level
+
+-- summaries of all tiles agree with what is told of them, and with the levels that are known
+pub record Agrees (known : Known) (n : ℕ) (summaries : List Summary) : Type 0 where
+  pub fits : Fits known.side known.corners known.told n summaries
+  pub knows : (x : ℕ) (level : ℤ) → level_of known.levels x ≡ Some level → IsJoinedLevel (IsPlacedLink n summaries) 0 x level
+
+module _ {S : Type 0} (g : Ghosts S) (a b : S) (known known' : Known) where
+  -- what was told is told still, and what is known then is as right as it was
+  pub record IsGrown : Type 0 where
+    pub kept : AreKept g a b known.side known.corners known.told known'.side known'.corners known'.told
+    pub levels : known'.levels ≡ known.levels
+    pub right : g.is_honest b → IsRight (g.mosaic a) known → IsRight (g.mosaic a) known'
+
+  -- .. and each read was answered
+  pub record IsCarried : Type 0 where
+    pub grown : IsGrown
+    pub reads : OnlyReads {T = Unit {0}} g a b (Ok tt)
+
+  -- .. until a call was refused: as a question over samples is, where what was known before is right
+  pub record IsRefused (r : Refusal) : Type 0 where
+    pub grown : IsGrown
+    pub cause : IsTrue (ends_any r)
+    pub asked : (g.is_honest b → IsRight (g.mosaic a) known) → Asked {T = Unit {0}} g a b (Err r)

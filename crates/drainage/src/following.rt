@@ -1,0 +1,171 @@
+//! Where water goes from a point, by the levels on its way alone.
+ghost use Rattle.std.specs.Prelude.{◌≡◌, ◌≤◌, ◌↔◌, ℤ, IsTrue, IsOk, IfOk, IfErr, IsErrOf, length};
+ghost use Rattle.lattice.specs.Limits.{most_tiles};
+ghost use Rattle.lattice.specs.declared.point.Point.{Point};
+ghost use Rattle.lattice.specs.Height.{height_of};
+ghost use Rattle.lattice.specs.Ground.{is_ground, terrain};
+ghost use Rattle.lattice.specs.declared.height.Height.TheVariants as height_is;
+ghost use Rattle.lattice.specs.declared.refusal.Refusal.TheVariants.{Outside, Void};
+ghost use Rattle.catalogue.specs.Asked.{Asked};
+ghost use Rattle.flow_d8.specs.Drainage.{AreFilledLevels};
+ghost use Rattle.flow_d8.specs.FlowPath.{IsFlowPath};
+ghost use Rattle.watershed.specs.Questions.{code_by, DrainsBy};
+ghost use Rattle.drainage.specs.Asking.{IsHeldByNone, may_refuse};
+ghost use Rattle.drainage.specs.Between.{IsHeldFor};
+
+use crate::asking::check_ground;
+use crate::filling::level;
+use crate::held::Held;
+use derived::Labellings;
+use downstream::{FilledLevels, direction_at};
+use lattice::{Dir, Point, Refusal, holders, index_in};
+use std::alloc::Global;
+
+/// The code of the direction in which water leaves the point: east is 1, and each next one clockwise twice as much; 0
+/// where it leaves the mosaic. Only the tiles on the water's ways out from the points around it, and around those of its
+/// flat, are read.
+///
+/// Outside where no present tile holds the point, then Void where its height is void. Otherwise it is refused only for
+/// want of memory, as a read or a labelling may be, or with Damaged where what was read is no mosaic's.
+pub fn direction<S: Labellings>(alloc: Global, samples: &mut S, point: Point) -> Result<u8, Refusal>
+    requires few { length (S.corners samples.old) ≤ most_tiles }
+    ensures direction { S.is_honest samples.new → IfOk result (λ code. (level : Point → ℤ) → AreFilledLevels (terrain (S.mosaic samples.old)) level
+        → DrainsBy (terrain (S.mosaic samples.old)) level point code) }
+    ensures on_ground { S.is_honest samples.new → IsOk result → IsTrue (is_ground (S.mosaic samples.old) point) }
+    ensures outside { IsErrOf result Outside ↔ IsHeldByNone (S.side_of samples.old) (S.corners samples.old) point }
+    ensures void { S.is_honest samples.new → IsErrOf result Void → height_of (S.mosaic samples.old) point ≡ height_is.Void }
+    ensures causes { IfErr result (λ r. IsTrue (may_refuse r)) }
+    ensures asked { Asked S.Samples samples.old samples.new result }
+{
+    let mut held = Held::new();
+    direction_held(alloc, samples, &mut held, point)
+}
+
+/// The code of the direction, and refused, as `direction` has it. What was held for the samples serves, and what is found
+/// is held then.
+pub fn direction_held<S: Labellings>(
+    alloc: Global,
+    samples: &mut S,
+    held: &mut Held,
+    point: Point,
+) -> Result<u8, Refusal>
+    requires held { IsHeldFor S.Samples samples.old held.old }
+    requires few { length (S.corners samples.old) ≤ most_tiles }
+    ensures direction { S.is_honest samples.new → IfOk result (λ code. (level : Point → ℤ) → AreFilledLevels (terrain (S.mosaic samples.old)) level
+        → DrainsBy (terrain (S.mosaic samples.old)) level point code) }
+    ensures on_ground { S.is_honest samples.new → IsOk result → IsTrue (is_ground (S.mosaic samples.old) point) }
+    ensures outside { IsErrOf result Outside ↔ IsHeldByNone (S.side_of samples.old) (S.corners samples.old) point }
+    ensures void { S.is_honest samples.new → IsErrOf result Void → height_of (S.mosaic samples.old) point ≡ height_is.Void }
+    ensures causes { IfErr result (λ r. IsTrue (may_refuse r)) }
+    ensures asked { Asked S.Samples samples.old samples.new result }
+    ensures held { IsHeldFor S.Samples samples.new held.new }
+{
+    check_ground(samples, point)?;
+    let direction = direction_at(alloc, held, samples, point)?;
+    Ok(code(direction))
+}
+
+/// The flow path of the point: the point, then the one that its direction leads to, and so on, to one where water
+/// leaves the mosaic. It is refused as a direction is.
+pub fn trace<S: Labellings>(
+    alloc: Global,
+    samples: &mut S,
+    point: Point,
+) -> Result<Vec<Point>, Refusal>
+    requires few { length (S.corners samples.old) ≤ most_tiles }
+    ensures path { S.is_honest samples.new → IfOk result (λ path. (level : Point → ℤ) → AreFilledLevels (terrain (S.mosaic samples.old)) level
+        → IsFlowPath (terrain (S.mosaic samples.old)) level point path.items) }
+    ensures on_ground { S.is_honest samples.new → IsOk result → IsTrue (is_ground (S.mosaic samples.old) point) }
+    ensures outside { IsErrOf result Outside ↔ IsHeldByNone (S.side_of samples.old) (S.corners samples.old) point }
+    ensures void { S.is_honest samples.new → IsErrOf result Void → height_of (S.mosaic samples.old) point ≡ height_is.Void }
+    ensures causes { IfErr result (λ r. IsTrue (may_refuse r)) }
+    ensures asked { Asked S.Samples samples.old samples.new result }
+{
+    let mut held = Held::new();
+    trace_held(alloc, samples, &mut held, point)
+}
+
+/// The flow path, and refused, as `trace` has it. What was held for the samples serves, and what is found is held then.
+pub fn trace_held<S: Labellings>(
+    alloc: Global,
+    samples: &mut S,
+    held: &mut Held,
+    point: Point,
+) -> Result<Vec<Point>, Refusal>
+    requires held { IsHeldFor S.Samples samples.old held.old }
+    requires few { length (S.corners samples.old) ≤ most_tiles }
+    ensures path { S.is_honest samples.new → IfOk result (λ path. (level : Point → ℤ) → AreFilledLevels (terrain (S.mosaic samples.old)) level
+        → IsFlowPath (terrain (S.mosaic samples.old)) level point path.items) }
+    ensures on_ground { S.is_honest samples.new → IsOk result → IsTrue (is_ground (S.mosaic samples.old) point) }
+    ensures outside { IsErrOf result Outside ↔ IsHeldByNone (S.side_of samples.old) (S.corners samples.old) point }
+    ensures void { S.is_honest samples.new → IsErrOf result Void → height_of (S.mosaic samples.old) point ≡ height_is.Void }
+    ensures causes { IfErr result (λ r. IsTrue (may_refuse r)) }
+    ensures asked { Asked S.Samples samples.old samples.new result }
+    ensures held { IsHeldFor S.Samples samples.new held.new }
+{
+    check_ground(samples, point)?;
+    downstream::trace(alloc, held, samples, point)
+}
+
+impl<S: Labellings> FilledLevels<S> for Held {
+    ghost use Rattle.drainage.specs.Between.{IsHeldFor};
+    ghost use Rattle.drainage.specs.Following.{AreRead, IsStopped, ran_out, found_out, stopped_on};
+    ghost use Rattle.catalogue.proofs.Reading.{reads_nothing, reads_on};
+    ghost use Rattle.std.specs.Prelude.{Ok};
+
+    ghost mosaic = { λ _ a. S.mosaic a };
+
+    ghost fits = { λ held a. IsHeldFor S.Samples a held };
+
+    ghost is_honest = { λ _ a. S.is_honest a };
+
+    ghost keeps = { λ _ a _ b. AreRead S.Samples a b };
+
+    ghost refuses = { λ _ a _ b r. IsStopped S.Samples a b r };
+
+    fn level(
+        &mut self,
+        alloc: Global,
+        source: &mut S,
+        point: Point,
+    ) -> Result<Option<i16>, Refusal> {
+        level(alloc, source, self, point)
+    }
+
+    fn share_tile(&self, source: &S, point: Point, other: Point) -> bool {
+        let side = source.side();
+        let corners = holders(side, point);
+        for corner in corners.as_slice() {
+            if source.present(*corner) && index_in(side, *corner, other).is_some() {
+                return true;
+            }
+        }
+        false
+    }
+
+    fn is_sink(&self, source: &S, point: Point) -> bool {
+        source.sinks().contains(&point)
+    }
+
+    ghost is_mosaic = { λ _ a honest. S.is_mosaic a honest };
+
+    ghost keeps_itself = { λ _ a. reads_nothing _ S.keeps_itself a tt };
+
+    ghost keeps_on = { λ _ _ _ a b c first second. reads_on _ S.keeps_on a b c tt (Ok tt) first second };
+
+    ghost refuses_on = { λ _ _ _ a b c r reads stopped. stopped_on _ S.keeps_on a b c r reads stopped };
+
+    ghost runs_out = { λ _ _ a b reads. ran_out _ a b reads };
+
+    ghost finds_out = { λ _ _ a b reads never. found_out _ a b reads never };
+}
+
+// The direction's code in replies.
+fn code(direction: Option<Dir>) -> u8
+    ensures { result ≡ code_by direction }
+{
+    match direction {
+        Some(direction) => direction.code(),
+        None => 0,
+    }
+}

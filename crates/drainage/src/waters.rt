@@ -1,0 +1,157 @@
+//! What is found of a mosaic's water: ways, labellings and levels, tile by tile as they are asked for.
+ghost use Rattle.std.specs.Prelude.{◌≡◌, ◌≢◌, ◌-◌, ◌*◌, ◌<◌, ℕ, IfOk, IfErr, OnOk, IsTrue, Ok, Some, length, slice_index, slice_index_or};
+ghost use Rattle.catalogue.specs.Asked.{Asked};
+ghost use Rattle.catalogue.specs.Endings.{ends_any};
+ghost use Rattle.catalogue.specs.Readers.{OnlyReads};
+ghost use Rattle.derived.specs.Labellings.{IsFlooded};
+ghost use Rattle.lattice.specs.Mosaic.{void};
+ghost use Rattle.lattice.specs.declared.refusal.Refusal.TheVariants.{NoMemory};
+ghost use Rattle.rising.specs.TileWays.{TileWays as TileWaysOf};
+ghost use Rattle.rising.specs.Others.{corner_at};
+ghost use Rattle.tile_flood.specs.Blocks.{LabelledGround};
+ghost use Rattle.drainage.specs.Shores.{told_at};
+ghost use Rattle.drainage.specs.Holding.{IsRight, IsGrown};
+
+use crate::entered::Entered;
+use crate::filling::spot_of;
+use crate::rims::RimLevels;
+use crate::shores::Shores;
+use catalogue::Samples;
+use derived::Labellings;
+use lattice::{Corner, Refusal};
+use rising::{Way, Ways};
+use std::alloc::Global;
+
+/// The ways of the tiles that water has come to, their labellings, and the levels of rim points that were found.
+#[derive(Drop)]
+pub(crate) struct Waters {
+    pub(crate) shores: Shores,
+    pub(crate) entered: Entered,
+    pub(crate) levels: RimLevels,
+}
+
+impl Waters {
+    ghost use Rattle.drainage.specs.Waters.{known_of};
+
+    /// Nothing is found yet. NoMemory is the only refusal.
+    pub(crate) fn new<S: Samples>(alloc: Global, samples: &S) -> Result<Waters, Refusal>
+        ensures right { S.is_honest samples.now → IfOk result (λ w. IsRight (S.mosaic samples.now) (known_of w)) }
+        ensures refusal { IfErr result (λ r. r ≡ NoMemory) }
+    {
+        let shores = Shores::new(alloc, samples)?;
+        let entered = Entered::new(alloc, shores.side, shores.corners.len())?;
+        Ok(Waters {
+            shores,
+            entered,
+            levels: RimLevels::new(alloc),
+        })
+    }
+
+    // Has the ways of the tile with this place and corner from then on, unless it had them.
+    fn tell<S: Labellings>(
+        &mut self,
+        alloc: Global,
+        samples: &mut S,
+        t: usize,
+        corner: Corner,
+    ) -> Result<(), Refusal>
+        requires place { t < length self.old.shores.corners.items }
+        requires corner { corner_at self.old.shores.corners.items t ≡ corner }
+        ensures told { OnOk result ((ways : TileWaysOf) × (told_at self.new.shores.told.items t ≡ Some ways)) }
+        ensures only { (u : ℕ) (ways : TileWaysOf) → u ≢ t → told_at self.new.shores.told.items u ≡ Some ways → told_at self.old.shores.told.items u ≡ Some ways }
+        ensures grown { IsGrown S.Samples samples.old samples.new (known_of self.old) (known_of self.new) }
+        ensures reads { OnOk result (OnlyReads {T = Unit {0}} S.Samples samples.old samples.new (Ok tt)) }
+        ensures asked { (S.is_honest samples.new → IsRight (S.mosaic samples.old) (known_of self.old)) → Asked S.Samples samples.old samples.new result }
+        ensures causes { IfErr result (λ r. IsTrue (ends_any r)) }
+    {
+        if t >= self.shores.told.len() {
+            return Err(Refusal::Damaged);
+        }
+        if self.shores.told[t].is_some() {
+            return Ok(());
+        }
+        let labelled = self.shores.enter(alloc, samples, t, corner)?;
+        self.entered.hold(t, labelled);
+        Ok(())
+    }
+
+    /// The level and the label of the point with this index in the tile with this place and corner, by a labelling that is
+    /// held, or is made and held from then on.
+    pub(crate) fn spot<S: Labellings>(
+        &mut self,
+        alloc: Global,
+        samples: &mut S,
+        t: usize,
+        corner: Corner,
+        index: u32,
+    ) -> Result<(i16, u16), Refusal>
+        requires place { t < length self.old.shores.corners.items }
+        requires corner { corner_at self.old.shores.corners.items t ≡ corner }
+        requires index { index < self.old.shores.side * self.old.shores.side }
+        ensures spot { S.is_honest samples.new → IsRight (S.mosaic samples.old) (known_of self.old) → IfOk result (λ spot. (labelled : LabelledGround) × (IsFlooded (S.mosaic samples.old) corner labelled
+            × ((spot.0 ≡ slice_index_or labelled.levels index void) × (spot.1 ≡ slice_index labelled.labels index)))) }
+        ensures grown { IsGrown S.Samples samples.old samples.new (known_of self.old) (known_of self.new) }
+        ensures reads { OnOk result (OnlyReads {T = Unit {0}} S.Samples samples.old samples.new (Ok tt)) }
+        ensures asked { (S.is_honest samples.new → IsRight (S.mosaic samples.old) (known_of self.old)) → Asked S.Samples samples.old samples.new result }
+        ensures causes { IfErr result (λ r. IsTrue (ends_any r)) }
+    {
+        if let Some(spot) = self.entered.spot(t, index) {
+            return Ok(spot);
+        }
+        let labelled = self.shores.enter(alloc, samples, t, corner)?;
+        let spot = spot_of(&labelled, index);
+        self.entered.hold(t, labelled);
+        match spot {
+            Some(spot) => Ok(spot),
+            None => Err(Refusal::Damaged),
+        }
+    }
+}
+
+impl<S: Labellings> Ways<S> for Waters {
+    ghost use Rattle.std.specs.Prelude.{◌≡◌, Some};
+    ghost use Rattle.rising.specs.TileWays.{TileWays};
+    ghost use Rattle.drainage.specs.Shores.{told_at};
+    ghost use Rattle.drainage.specs.Waters.{known_of};
+    ghost use Rattle.drainage.specs.Holding.{Agrees, IsCarried, IsRefused};
+    ghost use Rattle.drainage.specs.Kept.{carried_itself, carried_on, refused_on, ran_out};
+
+    ghost fits = { λ s n summaries. Agrees (known_of s) n summaries };
+
+    ghost keeps = { λ s a s' b. IsCarried S.Samples a b (known_of s) (known_of s') };
+
+    ghost told = { λ s t. (ways : TileWays) × (told_at s.shores.told.items t ≡ Some ways) };
+
+    ghost refuses = { λ s a s' b r. IsRefused S.Samples a b (known_of s) (known_of s') r };
+
+    ghost levels_fit = { λ s n summaries x y level agrees link. agrees.fits.low x y level link };
+
+    ghost keeps_itself = { λ s a. carried_itself _ S.keeps_itself a (known_of s) };
+
+    ghost keeps_on = { λ s s' s'' a b c one two. carried_on _ S.keeps_on a b (known_of s) (known_of s') one c (known_of s'') two };
+
+    ghost refuses_on = { λ s s' s'' a b c r kept refused. refused_on _ S.keeps_on a b (known_of s) (known_of s') kept c (known_of s'') r refused };
+
+    ghost runs_out = { λ s s' a b kept. ran_out _ S.keeps_on a b (known_of s) (known_of s') kept };
+
+    fn ways_from(
+        &mut self,
+        alloc: Global,
+        source: &mut S,
+        node: u32,
+        into: &mut Vec<Way>,
+    ) -> Result<Option<i16>, Refusal> {
+        if let Some(level) = self.levels.level(node) {
+            return Ok(Some(level));
+        }
+        let side = self.shores.side;
+        let t = ((node - 1) / side.rim()) as usize;
+        let k = (node - 1) % side.rim();
+        let Some(corner) = self.shores.corner(t) else {
+            return Ok(None);
+        };
+        self.tell(alloc, source, t, corner)?;
+        self.shores.list(t, k, into)?;
+        Ok(None)
+    }
+}
