@@ -31,4 +31,5 @@ pub mod SteppedTrees
 pub mod StoreLemmas
 pub mod StoredCommands
 pub mod UpgradedTrees
+pub mod WaterHeld
 pub mod WholeTiles

@@ -16,3 +16,4 @@ pub mod Stepped
 pub mod Stores
 pub mod TreeStates
 pub mod Upgraded
+pub mod Water

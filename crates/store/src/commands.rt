@@ -62,6 +62,7 @@ impl<D: Disk> Store<D> {
         self.can_import(corner, bytes)?;
         // What is made is a mosaic.
         commands_make_mosaics();
+        self.held.forget();
         drop_near(&mut self.tree, corner);
         let staged = self.tree.stage_plane(corner, Plane::Heights, bytes);
         commit_staged(&mut self.tree, staged)
@@ -74,6 +75,7 @@ impl<D: Disk> Store<D> {
     {
         self.can_remove(corner)?;
         commands_make_mosaics();
+        self.held.forget();
         self.tree.drop_plane(corner, Plane::Heights);
         drop_near(&mut self.tree, corner);
         commit_staged(&mut self.tree, Ok(()))
@@ -90,6 +92,7 @@ impl<D: Disk> Store<D> {
         if self.tree.current().number() == u64::MAX {
             return Err(Refusal::Worn);
         }
+        self.held.forget();
         drop_near_changes(&mut self.tree, &changes);
         let staged = stage_changes(&mut self.tree, &changes);
         commit_staged(&mut self.tree, staged)
@@ -106,6 +109,7 @@ impl<D: Disk> Store<D> {
         if self.tree.current().number() == u64::MAX {
             return Err(Refusal::Worn);
         }
+        self.held.forget();
         self.tree.declare(&sinks);
         drop_near_sink(&mut self.tree, command);
         commit_staged(&mut self.tree, Ok(()))

@@ -61,6 +61,7 @@ impl<D: Disk> Store<D> {
         ensures writes { D.writes (disk_of self.new.tree) ≤ D.writes (disk_of self.old.tree) + (2 * plane_pages_of (format_of (root_of self.old.tree)) + 3) }
     {
         let planes = plan_planes(self.alloc, &mut self.tree, corner)?;
+        self.held.forget();
         let staged = stage_planes(&mut self.tree, corner, &planes.levels, &planes.labels);
         commit_step(&mut self.tree, corner, staged)
     }

@@ -18,9 +18,11 @@ ghost use Rattle.store.specs.Formatted.{format_2, format_by};
 ghost use Rattle.store.specs.Kept.{stale_in};
 ghost use Rattle.store.specs.Standing.{StandsFor};
 ghost use Rattle.store.specs.TreeStates.{IsClean};
+ghost use Rattle.store.specs.Water.{IsHeldRight};
 
 use cow_tree::{NotOpened, Tree};
 use disk::Disk;
+use drainage::Held;
 use lattice::{Corner, Refusal, Side};
 use page_codec::{Entry, Format, Version};
 use std::alloc::Global;
@@ -34,8 +36,12 @@ use std::alloc::Global;
 pub struct Store<D: Disk> {
     pub(crate) alloc: Global,
     pub(crate) tree: Tree<D>,
+    // What questions found of the mosaic's water.
+    pub(crate) held: Held,
     // Between two calls nothing is staged.
     ghost clean: { have_failed tree ≡ false → IsClean tree },
+    // What is held is right for the mosaic as it is.
+    ghost right: { ∥ IsHeldRight D.Disk tree held ∥₁ },
 }
 
 impl<D: Disk> Store<D> {
@@ -103,7 +109,11 @@ impl<D: Disk> Store<D> {
         ensures refused { D.honest (disk_after result) → IfErr result (λ e. MayRefuse (D.size disk) (D.seen disk) e.refusal) }
     {
         match Tree::open(alloc, disk) {
-            Ok(tree) => Ok(Store { alloc, tree }),
+            Ok(tree) => Ok(Store {
+                alloc,
+                tree,
+                held: Held::new(),
+            }),
             Err(refused) => Err(refused),
         }
     }
@@ -134,6 +144,7 @@ impl<D: Disk> Store<D> {
         ensures sure { D.honest (disk_of self.new) → (s : State) → IsAt D.Disk self.old s
             → IfErr result (λ r. (r ≡ Device) ⊎ (r ≡ NoMemory)) }
     {
+        self.held.forget();
         self.tree.reopen()
     }
 

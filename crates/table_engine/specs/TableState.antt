@@ -6,6 +6,8 @@ use Rattle.lattice.specs.Mosaic.{Mosaic, IsMosaic}
 use Rattle.catalogue.specs.Tiles.{corners_of, is_listed}
 use Rattle.calls.specs.Engines.{Members}
 use Rattle.calls.specs.State.{Contents, working}
+use Rattle.drainage.specs.Between.{IsHeldOf}
+use Rattle.drainage.specs.declared.held.Held as water
 
 -- how many tiles it takes, and what it holds
 pub record Held : Type 0 where
@@ -37,9 +39,11 @@ table = record {
   known = (λ held. record { version = 2; count = held.contents.count; number = held.contents.number });
 }
 
--- a mosaic of no more tiles than it takes, of which directions can be found; commits come to one more than commands
-pub record IsKept (capacity : ℕ) (m : Mosaic) (k g : ℕ) : Type 0 where
+-- a mosaic of no more tiles than it takes, of which directions can be found, with what was found of its water; commits come
+-- to one more than commands
+pub record IsKept (capacity : ℕ) (m : Mosaic) (found : water.Held) (k g : ℕ) : Type 0 where
   pub valid : IsMosaic m
   pub above : k < g
   pub within : length m.tiles ≤ capacity
   pub few : capacity ≤ most_tiles
+  pub right : IsHeldOf m found

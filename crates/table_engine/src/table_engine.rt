@@ -25,6 +25,8 @@ pub struct TableEngine {
     count: u64,
     number: u64,
     fresh: Vec<Corner>,
+    // What questions found of the mosaic's water.
+    held: drainage::Held,
 }
 
 impl Model for TableEngine {
@@ -34,7 +36,7 @@ impl Model for TableEngine {
 
     ghost view = { λ e. held_of e.capacity e.table e.fresh.items e.count e.number };
 
-    ghost invariant = { λ e. IsKept e.capacity e.table e.count e.number };
+    ghost invariant = { λ e. IsKept e.capacity e.table e.held e.count e.number };
 }
 
 impl TableEngine {
@@ -51,6 +53,7 @@ impl TableEngine {
             count: 0,
             number: 1,
             fresh: Vec::new(alloc),
+            held: drainage::Held::new(),
         }
     }
 }
@@ -101,6 +104,7 @@ impl Engine for TableEngine {
             return Err(Refusal::Worn);
         }
         let fresh = still_fresh(self.alloc, &self.table, &changes, &self.fresh)?;
+        self.held.forget();
         carry_out(changes, &mut self.table)?;
         // By this law the capacity is kept.
         commands_make_mosaics();
@@ -115,15 +119,15 @@ impl Engine for TableEngine {
     }
 
     fn fill(&mut self, point: Point) -> Result<i16, Refusal> {
-        drainage::fill(self.alloc, &mut self.table, point)
+        drainage::fill_held(self.alloc, &mut self.table, &mut self.held, point)
     }
 
     fn direction(&mut self, point: Point) -> Result<u8, Refusal> {
-        drainage::direction(self.alloc, &mut self.table, point)
+        drainage::direction_held(self.alloc, &mut self.table, &mut self.held, point)
     }
 
     fn trace(&mut self, point: Point) -> Result<Vec<Point>, Refusal> {
-        drainage::trace(self.alloc, &mut self.table, point)
+        drainage::trace_held(self.alloc, &mut self.table, &mut self.held, point)
     }
 
     fn watershed(&mut self, point: Point) -> Result<Vec<Run>, Refusal> {

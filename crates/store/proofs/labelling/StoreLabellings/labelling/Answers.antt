@@ -3,6 +3,7 @@ use Rattle.page_codec.specs.Roots.{RootValue}
 use Rattle.cow_tree.proofs.TreeReads.{same_mosaic}
 use Rattle.store.proofs.Labelled.{was_sure, may_refuse, not_ready}
 use Rattle.store.proofs.Querying.{still_clean}
+use Rattle.store.proofs.WaterHeld.{held_read}
 use Rattle.store.proofs.labelling.StoreLabellings.labelling.Goals as goal
 
 pub invariant_of-self : goal.invariant_of-self
@@ -10,7 +11,7 @@ invariant_of-self g c =
     let old = c.args.self.now in
     let new = c.kept_labelling.new.tree in
     let keeps = c.kept_labelling.ensures.reads.reads.keeps in
-    record { clean = λ still. still_clean g.D.Disk old.tree new (keeps.works still) keeps old.clean still }
+    record { clean = λ still. still_clean g.D.Disk old.tree new (keeps.works still) keeps old.clean still; right = held_read g.D.Disk old.tree new old.held keeps old.right }
 
 pub returns-then-keeps-clause-asked : goal.returns-then-keeps-clause-asked
 returns-then-keeps-clause-asked g c =

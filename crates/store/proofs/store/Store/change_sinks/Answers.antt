@@ -19,7 +19,29 @@ use Rattle.store.proofs.InMemory.{worn_at, corners_are}
 use Rattle.store.proofs.Nearby.{sink_stale}
 use Rattle.store.proofs.Staled.{staled_as}
 use Rattle.store.proofs.SinksHeld.{sinks_hold}
+use Rattle.store.proofs.WaterHeld.{forgotten, held_still}
 use Rattle.store.proofs.store.Store.change_sinks.Goals as goal
+
+pub invariant_of-self : goal.invariant_of-self
+invariant_of-self g c =
+    let old = c.args.self.now in
+    let is = c.plan_sinks.ensures in
+    record {
+      clean = λ works. is.clean works (old.clean c.requires.not_failed);
+      right = held_still g.D.Disk old.tree c.plan_sinks.new.tree old.held is.reads.honest is.reads.root is.staged is.sinks old.right;
+    }
+
+pub invariant_of-self-then-number : goal.invariant_of-self-then-number
+invariant_of-self-then-number g c =
+    let old = c.args.self.now in
+    let is = c.plan_sinks.ensures in
+    record {
+      clean = λ works. is.clean works (old.clean c.requires.not_failed);
+      right = held_still g.D.Disk old.tree c.plan_sinks.new.tree old.held is.reads.honest is.reads.root is.staged is.sinks old.right;
+    }
+
+pub invariant_of-self-2-clause-right : goal.invariant_of-self-2-clause-right
+invariant_of-self-2-clause-right g c = forgotten g.D.Disk c.commit_staged.new.tree c.forget.new.self c.forget.ensures
 
 pub returns-in_err-sinks-clause-applied : goal.returns-in_err-sinks-clause-applied
 returns-in_err-sinks-clause-applied g c =

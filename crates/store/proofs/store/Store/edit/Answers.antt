@@ -25,13 +25,29 @@ use Rattle.store.proofs.EditingSteps.{in_memory, uncommitted_on, refused_as}
 use Rattle.store.proofs.EditingWrites.{staged_written}
 use Rattle.store.proofs.InMemory.{worn_at}
 use Rattle.store.proofs.Staled.{staled_as}
+use Rattle.store.proofs.WaterHeld.{forgotten, held_still}
 use Rattle.store.proofs.store.Store.edit.Goals as goal
 
+pub invariant_of-self-2-clause-right : goal.invariant_of-self-2-clause-right
+invariant_of-self-2-clause-right g c = forgotten g.D.Disk c.commit_staged.new.tree c.forget.new.self c.forget.ensures
+
 pub invariant_of-self : goal.invariant_of-self
-invariant_of-self g c = record { clean = λ works. c.plan_changes.ensures.clean works (c.args.self.now.clean c.requires.not_failed) }
+invariant_of-self g c =
+    let old = c.args.self.now in
+    let is = c.plan_changes.ensures in
+    record {
+      clean = λ works. is.clean works (old.clean c.requires.not_failed);
+      right = held_still g.D.Disk old.tree c.plan_changes.new.tree old.held is.reads.honest is.reads.root is.staged is.sinks old.right;
+    }
 
 pub invariant_of-self-then-number : goal.invariant_of-self-then-number
-invariant_of-self-then-number g c = record { clean = λ works. c.plan_changes.ensures.clean works (c.args.self.now.clean c.requires.not_failed) }
+invariant_of-self-then-number g c =
+    let old = c.args.self.now in
+    let is = c.plan_changes.ensures in
+    record {
+      clean = λ works. is.clean works (old.clean c.requires.not_failed);
+      right = held_still g.D.Disk old.tree c.plan_changes.new.tree old.held is.reads.honest is.reads.root is.staged is.sinks old.right;
+    }
 
 pub returns-in_err-changes-clause-applied : goal.returns-in_err-changes-clause-applied
 returns-in_err-changes-clause-applied g c =

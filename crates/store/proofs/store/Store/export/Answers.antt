@@ -10,6 +10,7 @@ use Rattle.cow_tree.proofs.Due.{located_tile}
 use Rattle.store.proofs.EditingSteps.{refused_as}
 use Rattle.store.proofs.Querying.{stays_at, still_clean, still_at, failing_at, fails_so}
 use Rattle.store.proofs.QueryingPages.{no_tile_of, tile, tile_of, exported}
+use Rattle.store.proofs.WaterHeld.{held_read}
 use Rattle.store.proofs.store.Store.export.Goals as goal
 
 pub returns-then-not-present-clause-outcome : goal.returns-then-not-present-clause-outcome
@@ -24,7 +25,8 @@ invariant_of-self g c =
     let d = g.D.Disk in
     let old = c.args.self.now in
     let new = c.read_plane.new.tree in
-    record { clean = still_clean d old.tree new c.in_ok-check_working.ensures.works c.read_plane.ensures.reads.keeps old.clean }
+    let keeps = c.read_plane.ensures.reads.keeps in
+    record { clean = still_clean d old.tree new c.in_ok-check_working.ensures.works keeps old.clean; right = held_read d old.tree new old.held keeps old.right }
 
 pub read_plane-requires-clause-held : goal.read_plane-requires-clause-held
 read_plane-requires-clause-held g c =

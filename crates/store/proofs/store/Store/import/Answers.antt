@@ -10,7 +10,11 @@ use Rattle.cow_tree.proofs.Steps.{on_ok}
 use Rattle.store.proofs.Committed.{refused_first, refused_quietly}
 use Rattle.store.proofs.EditingSteps.{in_memory, uncommitted_on, refused_as}
 use Rattle.store.proofs.Importing.{import_holds}
+use Rattle.store.proofs.WaterHeld.{forgotten}
 use Rattle.store.proofs.store.Store.import.Goals as goal
+
+pub invariant_of-self-clause-right : goal.invariant_of-self-clause-right
+invariant_of-self-clause-right g c = forgotten g.D.Disk c.commit_staged.new.tree c.forget.new.self c.forget.ensures
 
 pub returns-in_err-can_import : goal.returns-in_err-can_import
 returns-in_err-can_import g c =

@@ -19,7 +19,20 @@ use Rattle.store.proofs.EditingReads.{device_or_not}
 use Rattle.store.proofs.EditingSteps.{uncommitted_on, refused_as}
 use Rattle.store.proofs.SteppedTiles.{planes_right, step_holds, stale_present}
 use Rattle.store.proofs.SteppedTrees.{fails_before, refused_quietly, may_end_step}
+use Rattle.store.proofs.WaterHeld.{forgotten, held_still}
 use Rattle.store.proofs.store.Store.keep.Goals as goal
+
+pub invariant_of-self : goal.invariant_of-self
+invariant_of-self g c =
+    let old = c.args.self.now in
+    let is = c.plan_planes.ensures in
+    record {
+      clean = λ works. is.clean works (old.clean c.requires.not_failed);
+      right = held_still g.D.Disk old.tree c.plan_planes.new.tree old.held is.reads.honest is.reads.root is.staged is.sinks old.right;
+    }
+
+pub invariant_of-self-2-clause-right : goal.invariant_of-self-2-clause-right
+invariant_of-self-2-clause-right g c = forgotten g.D.Disk c.commit_step.new.tree c.forget.new.self c.forget.ensures
 
 pub plan_planes-requires-clause-present : goal.plan_planes-requires-clause-present
 plan_planes-requires-clause-present g c =

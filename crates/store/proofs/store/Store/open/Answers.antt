@@ -1,7 +1,11 @@
 use Rattle.std.proofs.Common.{⊎_elim}
 use Rattle.store.proofs.Opened.{in_one}
 use Rattle.store.proofs.Openings.{refused_for, found_one}
+use Rattle.store.proofs.WaterHeld.{forgotten}
 use Rattle.store.proofs.store.Store.open.Goals as goal
+
+pub invariant_of-result-clause-right : goal.invariant_of-result-clause-right
+invariant_of-result-clause-right g c = forgotten g.D.Disk c.in-Ok.tree c.new.result c.new.ensures
 
 pub returns-in-Err-clause-sure : goal.returns-in-Err-clause-sure
 returns-in-Err-clause-sure g c honest side capacity a b each =

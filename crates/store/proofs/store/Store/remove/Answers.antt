@@ -7,7 +7,11 @@ use Rattle.store.specs.Staling.{staled}
 use Rattle.store.proofs.Committed.{refused_first}
 use Rattle.store.proofs.EditingSteps.{in_memory, refused_as}
 use Rattle.store.proofs.Importing.{remove_holds}
+use Rattle.store.proofs.WaterHeld.{forgotten}
 use Rattle.store.proofs.store.Store.remove.Goals as goal
+
+pub invariant_of-self-clause-right : goal.invariant_of-self-clause-right
+invariant_of-self-clause-right g c = forgotten g.D.Disk c.commit_staged.new.tree c.forget.new.self c.forget.ensures
 
 pub drop_plane-requires-clause-settled : goal.drop_plane-requires-clause-settled
 drop_plane-requires-clause-settled g c = (c.args.self.now.clean c.requires).none_staged c.args.corner

@@ -4,6 +4,7 @@ use Rattle.page_codec.specs.Roots.{RootValue}
 use Rattle.cow_tree.proofs.Steps.{ok_where_works, either_way, on_ok_both}
 use Rattle.store.proofs.Opened.{in_known, sized_as_known}
 use Rattle.store.proofs.Openings.{refused_for}
+use Rattle.store.proofs.WaterHeld.{forgotten}
 use Rattle.store.proofs.store.Store.reopen.Goals as goal
 
 pub invariant_of-self : goal.invariant_of-self
@@ -13,6 +14,7 @@ invariant_of-self g c = record {
     none_due = ok_where_works c.reopen.result _ c.reopen.ensures.failed works c.reopen.ensures.none_due;
     corners = ok_where_works c.reopen.result _ c.reopen.ensures.failed works c.reopen.ensures.corners;
   };
+  right = forgotten g.D.Disk c.reopen.new.self c.forget.new.self c.forget.ensures;
 }
 
 pub returns-clause-at : goal.returns-clause-at

@@ -6,6 +6,7 @@ use Rattle.catalogue.specs.Seams.{IsSeamCount}
 use Rattle.calls.specs.State.{State}
 use Rattle.store.specs.Queried.{CountsSeams}
 use Rattle.store.proofs.Querying.{mosaic_at, stays_at, still_clean, still_readable, fails_so, answered}
+use Rattle.store.proofs.WaterHeld.{held_read}
 use Rattle.store.proofs.store.Store.seams.Goals as goal
 
 pub invariant_of-self : goal.invariant_of-self
@@ -13,7 +14,8 @@ invariant_of-self g c =
     let d = g.D.Disk in
     let old = c.args.self.now in
     let new = c.seams.new.samples in
-    record { clean = still_clean d old.tree new c.in_ok-check_working.ensures.works c.seams.ensures.reads.keeps old.clean }
+    let keeps = c.seams.ensures.reads.keeps in
+    record { clean = still_clean d old.tree new c.in_ok-check_working.ensures.works keeps old.clean; right = held_read d old.tree new old.held keeps old.right }
 
 pub returns-clause-outcome : goal.returns-clause-outcome
 returns-clause-outcome g c honest s at =

@@ -15,6 +15,9 @@ use Rattle.table_engine.proofs.FreshTiles.{stale_then}
 use Rattle.table_engine.proofs.TableCalls.{called, called_same, done, old, worn}
 use Rattle.table_engine.proofs.table_engine.TableEngineEngine.apply.Goals as goal
 
+pub invariant_of-self-in_err-carry_out : goal.invariant_of-self-in_err-carry_out
+invariant_of-self-in_err-carry_out c = record { valid = search rules; above = search rules; within = search rules; few = search rules; right = c.forget.ensures c.carry_out.new.table }
+
 pub returns-then-self : goal.returns-then-self
 returns-then-self c =
     let e = c.self.inside in
@@ -56,4 +59,5 @@ invariant_of-self-2 c =
       above = search rules;
       within = c.commands_make_mosaics.ensures.capacity e.capacity e.table c.args.command.now new c.self.invariant.within (c.in_ok-changes.ensures.changes valid ∙ ap (λ (m : Mosaic). let r : Result Mosaic Refusal = Ok m in r) is);
       few = c.self.invariant.few;
+      right = c.forget.ensures new;
     }

@@ -3,8 +3,11 @@ use Rattle.watershed.specs.Runs.{AreRuns}
 use Rattle.lattice.specs.Ground.{terrain}
 use Rattle.drainage.proofs.Answered.{told_of_levels}
 use Rattle.calls.specs.declared.event.Event.TheVariants as ask
-use Rattle.table_engine.proofs.TableCalls.{called_same, shed, old}
+use Rattle.table_engine.proofs.TableCalls.{called_same, still_kept, shed, old}
 use Rattle.table_engine.proofs.table_engine.TableEngineEngine.watershed.Goals as goal
+
+pub invariant_of-self : goal.invariant_of-self
+invariant_of-self c = let e = c.self.inside in still_kept e.capacity e.table c.watershed.new.samples e.held e.count e.number c.watershed.ensures.asked.reads.keeps c.self.invariant
 
 pub returns : goal.returns
 returns c =
