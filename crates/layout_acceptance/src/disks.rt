@@ -1,22 +1,13 @@
+ghost use Rattle.std.specs.Prelude.{◌≡◌, ◌<◌, ◌≤◌, IfOk};
+ghost use Rattle.disk.specs.MemDisk.{sectors_of};
+
+use crate::asserting::assert_row;
 use disk::{Disk, Fault, FaultOnceDisk, FileDisk, FuseDisk, MemDisk, Torn, settle};
 use std::alloc::Global;
 use std::fs;
-use std::io::ErrorKind;
+use std::io::{self, ErrorKind};
 use std::marker::Brand;
 use std::test::Fail;
-
-// Whether a sector reads as this byte throughout.
-fn holds<D: Disk>(disk: &mut D, s: u32, byte: u8) -> Result<bool, Fault>
-    requires { s < D.size disk.old }
-    ensures { D.size disk.new ≡ D.size disk.old }
-{
-    let mut into = [0; 4096];
-    disk.read(s, &mut into)?;
-    Ok(into.iter().all(|b| *b == byte))
-}
-
-ghost use Rattle.std.specs.Prelude.{◌≡◌, ◌<◌, ◌≤◌, IfOk};
-ghost use Rattle.disk.specs.MemDisk.{sectors_of};
 
 // Three sectors: the first settled, the second written since the sync, the third written for the first time.
 fn half_written(alloc: Global) -> Result<MemDisk, Fail>
@@ -31,43 +22,50 @@ fn half_written(alloc: Global) -> Result<MemDisk, Fail>
     Ok(disk)
 }
 
+// Whether the first sectors read as these bytes throughout.
+fn read_as<D: Disk>(disk: &mut D, bytes: &[u8]) -> Result<bool, Fault> {
+    let mut into = [0; 4096];
+    for (byte, s) in bytes.iter().zip(0..u32::MAX) {
+        if disk.sectors() <= s {
+            return Ok(false);
+        }
+        disk.read(s, &mut into)?;
+        if into != [*byte; 4096] {
+            return Ok(false);
+        }
+    }
+    Ok(true)
+}
+
+// Whether one sector and then all are left so by a stop, and a second stop finds them settled.
+fn stops_as(alloc: Global, torn: Torn, second: u8, third: u8) -> Result<bool, Fail> {
+    let mut disk = half_written(alloc)?;
+    let mut is_right = read_as(&mut disk, &[5, 2, 3])?;
+    let mut disk = half_written(alloc)?;
+    disk.stop_at(1, torn)?;
+    is_right = is_right && read_as(&mut disk, &[5, second, 3])?;
+    disk.stop(torn)?;
+    is_right = is_right && read_as(&mut disk, &[5, second, third])?;
+    disk.stop(Torn::Fill(9))?;
+    is_right = is_right && read_as(&mut disk, &[5, second, third])?;
+    Ok(is_right && disk.writes() == 4)
+}
+
 #[test]
 fn a_stop_leaves_what_its_kind_says(rt: HostRuntime) -> Result<(), Fail> {
-    let table = [
-        (Torn::Old, 1, 0),
-        (Torn::New, 2, 3),
-        (Torn::Fill(0xa7), 0xa7, 0xa7),
-    ];
-    for (torn, second, third) in table {
-        let mut disk = half_written(rt.alloc())?;
-        assert!(rt; holds(&mut disk, 1, 2)?);
-        assert!(rt; holds(&mut disk, 2, 3)?);
-        disk.stop_at(1, torn)?;
-        assert!(rt; holds(&mut disk, 1, second)?, "sector 1 after {torn:?}");
-        assert!(rt; holds(&mut disk, 2, 3)?, "another sector at {torn:?}");
-        disk.stop(torn)?;
-        assert!(rt; holds(&mut disk, 0, 5)?, "a settled sector after {torn:?}");
-        assert!(rt;
-            holds(&mut disk, 1, second)?,
-            "sector 1 settled twice by {torn:?}"
-        );
-        assert!(rt; holds(&mut disk, 2, third)?, "sector 2 after {torn:?}");
-        disk.stop(Torn::Fill(9))?;
-        assert!(rt; holds(&mut disk, 2, third)?, "all settled after {torn:?}");
-        assert_eq!(rt; disk.writes(), 4);
-    }
+    assert!(rt; stops_as(rt.alloc(), Torn::Old, 1, 0)?);
+    assert!(rt; stops_as(rt.alloc(), Torn::New, 2, 3)?);
+    assert!(rt; stops_as(rt.alloc(), Torn::Fill(0xa7), 0xa7, 0xa7)?);
     Ok(())
 }
 
 #[test]
 fn a_settled_sector_outlasts_a_stop(rt: HostRuntime) -> Result<(), Fail> {
     let mut disk = MemDisk::new(rt.alloc(), 2)?;
-    assert_eq!(rt; disk.sectors(), 2);
-    assert!(rt; holds(&mut disk, 1, 0)?);
     settle(&mut disk, 1, &[6; 4096])?;
+    assert!(rt; disk.sectors() == 2);
     disk.stop(Torn::Fill(0xff))?;
-    assert!(rt; holds(&mut disk, 1, 6)?);
-    assert!(rt; holds(&mut disk, 0, 0)?);
+    assert!(rt; read_as(&mut disk, &[0, 6])?);
     Ok(())
 }
 
@@ -94,17 +92,15 @@ fn a_fuse_fails_from_its_call_on(rt: HostRuntime) -> Result<(), Fail> {
     ];
     for (calls, passed, writes, first, second) in table {
         let mut fuse = FuseDisk::new(MemDisk::new(rt.alloc(), 2)?, calls);
-        assert_eq!(rt; four_calls(&mut fuse), passed, "after {calls} calls");
+        let answered = four_calls(&mut fuse);
         let mut disk = fuse.into_inner();
-        assert_eq!(rt; disk.writes(), writes, "writes behind {calls} calls");
-        assert_eq!(rt; disk.sectors(), 2);
-        assert!(rt;
-            holds(&mut disk, 0, first)?,
-            "sector 0 behind {calls} calls"
-        );
-        assert!(rt;
-            holds(&mut disk, 1, second)?,
-            "sector 1 behind {calls} calls"
+        let is_behind = read_as(&mut disk, &[first, second])? && disk.sectors() == 2;
+        assert_row(&rt, answered == passed, "answers of a fuse", calls);
+        assert_row(
+            &rt,
+            is_behind && disk.writes() == writes,
+            "behind a fuse",
+            calls,
         );
     }
     Ok(())
@@ -121,12 +117,16 @@ fn a_fault_once_fails_its_call_alone(rt: HostRuntime) -> Result<(), Fail> {
     ];
     for (call, passed, writes, first, second) in table {
         let mut faulty = FaultOnceDisk::new(MemDisk::new(rt.alloc(), 2)?, call);
-        assert_eq!(rt; four_calls(&mut faulty), passed, "a fault at call {call}");
+        let answered = four_calls(&mut faulty);
         let mut disk = faulty.into_inner();
-        assert_eq!(rt; disk.writes(), writes, "writes behind a fault at {call}");
-        assert_eq!(rt; disk.sectors(), 2);
-        assert!(rt; holds(&mut disk, 0, first)?, "sector 0 at {call}");
-        assert!(rt; holds(&mut disk, 1, second)?, "sector 1 at {call}");
+        let is_behind = read_as(&mut disk, &[first, second])? && disk.sectors() == 2;
+        assert_row(&rt, answered == passed, "answers of a faulty disk", call);
+        assert_row(
+            &rt,
+            is_behind && disk.writes() == writes,
+            "behind a fault",
+            call,
+        );
     }
     Ok(())
 }
@@ -139,31 +139,43 @@ fn marked() -> [u8; 4096] {
     bytes
 }
 
+// Settles the second sector with the marked bytes.
+fn write_second<D: Disk>(disk: &mut D) -> Result<(), Fault> {
+    if 1 < disk.sectors() {
+        settle(disk, 1, &marked())?;
+    }
+    Ok(())
+}
+
+fn read_sector<D: Disk>(disk: &mut D, s: u32) -> Result<[u8; 4096], Fault> {
+    let mut into = [9; 4096];
+    if s < disk.sectors() {
+        disk.read(s, &mut into)?;
+    }
+    Ok(into)
+}
+
 #[test]
 fn a_file_keeps_what_was_written(rt: HostRuntime) -> Result<(), Fail> {
     let path = "disk_test_kept";
     let _ = fs::remove_file(&rt, path);
     let mut disk = FileDisk::<Brand>::create(&rt, path, 3)?;
-    assert_eq!(rt; disk.sectors(), 3);
-    assert!(rt; holds(&mut disk, 1, 0)?);
-    settle(&mut disk, 1, &marked())?;
+    assert!(rt; disk.sectors() == 3 && read_sector(&mut disk, 1)? == [0; 4096]);
+    write_second(&mut disk)?;
     drop(disk);
 
     let bytes = fs::read(&rt, path)?;
-    assert_eq!(rt; bytes.len(), 12_288);
-    assert_eq!(rt; bytes.get(..4096), Some([0; 4096].as_slice()));
-    assert_eq!(rt; bytes.get(4096..8192), Some(marked().as_slice()));
-    assert_eq!(rt; bytes.get(8192..), Some([0; 4096].as_slice()));
+    assert!(rt; bytes.len() == 12_288);
+    assert!(rt; bytes.get(..4096) == Some([0; 4096].as_slice()));
+    assert!(rt; bytes.get(4096..8192) == Some(marked().as_slice()));
+    assert!(rt; bytes.get(8192..) == Some([0; 4096].as_slice()));
 
     let mut again = FileDisk::<Brand>::open(&rt, path)?;
-    assert!(rt; again.sectors() == 3);
-    let mut into = [0; 4096];
-    again.read(1, &mut into)?;
-    assert_eq!(rt; into, marked());
-    assert!(rt; holds(&mut again, 0, 0)?);
-    assert!(rt; holds(&mut again, 2, 0)?);
+    assert!(rt; again.sectors() == 3 && read_sector(&mut again, 1)? == marked());
+    assert!(rt; read_sector(&mut again, 0)? == [0; 4096]);
+    assert!(rt; read_sector(&mut again, 2)? == [0; 4096]);
     fs::write(&rt, path, [5; 12_288].as_slice())?;
-    assert!(rt; holds(&mut again, 1, 5)?, "what the file holds now");
+    assert!(rt; read_as(&mut again, &[5, 5, 5])?, "what the file holds now");
     fs::remove_file(&rt, path)?;
     Ok(())
 }
@@ -174,7 +186,7 @@ fn a_file_is_cut_into_whole_sectors(rt: HostRuntime) -> Result<(), Fail> {
     for (bytes, sectors) in [(0, 0), (4095, 0), (4096, 1), (12_287, 2), (12_288, 3)] {
         fs::File::create(&rt, path)?.set_len(bytes)?;
         let disk = FileDisk::<Brand>::open(&rt, path)?;
-        assert_eq!(rt; disk.sectors(), sectors, "of {bytes} bytes");
+        assert_row(&rt, disk.sectors() == sectors, "bytes", bytes);
     }
     fs::remove_file(&rt, path)?;
     Ok(())
@@ -186,30 +198,35 @@ fn a_short_file_is_a_fault(rt: HostRuntime) -> Result<(), Fail> {
     let _ = fs::remove_file(&rt, path);
     let mut disk = FileDisk::<Brand>::create(&rt, path, 2)?;
     fs::write(&rt, path, [5; 4097].as_slice())?;
-    assert!(rt; holds(&mut disk, 0, 5)?);
-    assert_eq!(rt; disk.read(1, &mut [0; 4096]), Err(Fault));
-    disk.write(1, &marked())?;
-    let mut into = [0; 4096];
-    disk.read(1, &mut into)?;
-    assert_eq!(rt; into, marked());
+    assert!(rt; read_as(&mut disk, &[5])?);
+    assert!(rt; read_sector(&mut disk, 1) == Err(Fault));
+    if 1 < disk.sectors() {
+        disk.write(1, &marked())?;
+    }
+    assert!(rt; read_sector(&mut disk, 1)? == marked());
     fs::remove_file(&rt, path)?;
     Ok(())
+}
+
+fn kind_of<T: Drop>(answer: io::Result<T>) -> Option<ErrorKind> {
+    match answer {
+        Ok(_) => None,
+        Err(error) => Some(error.kind()),
+    }
 }
 
 #[test]
 fn a_file_is_made_once_and_opened_where_it_is(rt: HostRuntime) -> Result<(), Fail> {
     let path = "disk_test_once";
     let _ = fs::remove_file(&rt, path);
-    let missing = FileDisk::<Brand>::open(&rt, path).err().map(|e| e.kind());
-    assert_eq!(rt; missing, Some(ErrorKind::NotFound));
+    let missing = kind_of(FileDisk::<Brand>::open(&rt, path));
+    assert!(rt; missing == Some(ErrorKind::NotFound));
     fs::write(&rt, path, [5; 4097].as_slice())?;
-    let there = FileDisk::<Brand>::create(&rt, path, 7)
-        .err()
-        .map(|e| e.kind());
-    assert_eq!(rt; there, Some(ErrorKind::AlreadyExists));
-    assert_eq!(rt; fs::metadata(&rt, path)?.len(), 4097);
-    let nowhere = FileDisk::<Brand>::create(&rt, "disk_test_no_folder/m", 7);
-    assert_eq!(rt; nowhere.err().map(|e| e.kind()), Some(ErrorKind::NotFound));
+    let there = kind_of(FileDisk::<Brand>::create(&rt, path, 7));
+    assert!(rt; there == Some(ErrorKind::AlreadyExists));
+    assert!(rt; fs::metadata(&rt, path)?.len() == 4097);
+    let nowhere = kind_of(FileDisk::<Brand>::create(&rt, "disk_test_no_folder/m", 7));
+    assert!(rt; nowhere == Some(ErrorKind::NotFound));
     fs::remove_file(&rt, path)?;
     Ok(())
 }
@@ -219,17 +236,15 @@ fn a_file_is_one_disk_at_a_time(rt: HostRuntime) -> Result<(), Fail> {
     let path = "disk_test_lock";
     let _ = fs::remove_file(&rt, path);
     let made = FileDisk::<Brand>::create(&rt, path, 2)?;
-    let second = FileDisk::<Brand>::open(&rt, path).err().map(|e| e.kind());
-    assert_eq!(rt; second, Some(ErrorKind::WouldBlock));
-    let grown = FileDisk::<Brand>::grow(&rt, path, 3)
-        .err()
-        .map(|e| e.kind());
-    assert_eq!(rt; grown, Some(ErrorKind::WouldBlock));
+    let second = kind_of(FileDisk::<Brand>::open(&rt, path));
+    assert!(rt; second == Some(ErrorKind::WouldBlock));
+    let grown = kind_of(FileDisk::<Brand>::grow(&rt, path, 3));
+    assert!(rt; grown == Some(ErrorKind::WouldBlock));
     drop(made);
     let opened = FileDisk::<Brand>::open(&rt, path)?;
-    assert_eq!(rt; opened.sectors(), 2);
-    let third = FileDisk::<Brand>::open(&rt, path).err().map(|e| e.kind());
-    assert_eq!(rt; third, Some(ErrorKind::WouldBlock));
+    assert!(rt; opened.sectors() == 2);
+    let third = kind_of(FileDisk::<Brand>::open(&rt, path));
+    assert!(rt; third == Some(ErrorKind::WouldBlock));
     drop(opened);
     fs::remove_file(&rt, path)?;
     Ok(())
@@ -244,14 +259,14 @@ fn a_file_grows_by_sectors_of_zeros(rt: HostRuntime) -> Result<(), Fail> {
     assert_eq!(rt; disk.sectors(), 3);
     drop(disk);
     let bytes = fs::read(&rt, path)?;
-    assert_eq!(rt; bytes.len(), 12_288);
-    assert_eq!(rt; bytes.get(..4096), Some([5; 4096].as_slice()));
-    assert_eq!(rt; bytes.get(4096..), Some([0; 8192].as_slice()));
+    assert!(rt; bytes.len() == 12_288);
+    assert!(rt; bytes.get(..4096) == Some([5; 4096].as_slice()));
+    assert!(rt; bytes.get(4096..) == Some([0; 8192].as_slice()));
     fs::write(&rt, path, [5; 8195].as_slice())?;
     FileDisk::<Brand>::grow(&rt, path, 2)?;
-    assert_eq!(rt; fs::metadata(&rt, path)?.len(), 8195);
-    let missing = FileDisk::<Brand>::grow(&rt, "disk_test_none", 2);
-    assert_eq!(rt; missing.err().map(|e| e.kind()), Some(ErrorKind::NotFound));
+    assert!(rt; fs::metadata(&rt, path)?.len() == 8195);
+    let missing = kind_of(FileDisk::<Brand>::grow(&rt, "disk_test_none", 2));
+    assert!(rt; missing == Some(ErrorKind::NotFound));
     fs::remove_file(&rt, path)?;
     Ok(())
 }

@@ -1,3 +1,4 @@
+use crate::asserting::assert_row;
 use page_alloc::{FIRST_PAGE, Pages};
 use std::test::Fail;
 
@@ -5,25 +6,21 @@ use std::test::Fail;
 #[test]
 fn sixteen_sectors_have_twelve_pages(rt: HostRuntime) -> Result<(), Fail> {
     let mut pages = Pages::new(rt.alloc(), 16).ok_or("no memory")?;
-    assert_eq!(rt; FIRST_PAGE, 4);
-    assert_eq!(rt; pages.total(), 16);
-    assert_eq!(rt; pages.free(), 12);
+    assert!(rt; FIRST_PAGE == 4 && pages.total() == 16 && pages.free() == 12);
     let mut taken = [false; 16];
     for _ in 0..12 {
         let page = pages.take().ok_or("no page")? as usize;
         assert!(rt; page < 16);
-        assert!(rt; !taken[page], "page {page} was taken twice");
+        assert!(rt; !taken[page]);
         taken[page] = true;
     }
-    assert_eq!(rt;
-        taken,
-        [
-            false, false, false, false, true, true, true, true, true, true, true, true, true, true,
-            true, true
-        ]
-    );
-    assert_eq!(rt; pages.take(), None);
-    assert_eq!(rt; pages.free(), 0);
+    let all = [
+        false, false, false, false, true, true, true, true, true, true, true, true, true, true,
+        true, true,
+    ];
+    assert!(rt; taken == all);
+    assert!(rt; pages.take() == None);
+    assert!(rt; pages.free() == 0);
     Ok(())
 }
 
@@ -31,15 +28,15 @@ fn sixteen_sectors_have_twelve_pages(rt: HostRuntime) -> Result<(), Fail> {
 fn a_page_is_marked_once_and_given_back(rt: HostRuntime) -> Result<(), Fail> {
     let mut pages = Pages::new(rt.alloc(), 24).ok_or("no memory")?;
     for outside in [0, 3, 24, 25, 4096, u32::MAX] {
-        assert!(rt; !pages.mark(outside), "{outside} is no page");
+        assert_row(&rt, !pages.mark(outside), "marked", u64::from(outside));
     }
-    assert_eq!(rt; pages.free(), 20);
+    assert!(rt; pages.free() == 20);
     let marked = pages.mark(23);
     assert!(rt; marked);
     assert!(rt; !pages.mark(23));
-    assert_eq!(rt; pages.free(), 19);
+    assert!(rt; pages.free() == 19);
     pages.give(23);
-    assert_eq!(rt; pages.free(), 20);
+    assert!(rt; pages.free() == 20);
     assert!(rt; pages.mark(23));
     Ok(())
 }
@@ -48,8 +45,8 @@ fn a_page_is_marked_once_and_given_back(rt: HostRuntime) -> Result<(), Fail> {
 fn disks_without_a_page(rt: HostRuntime) -> Result<(), Fail> {
     for total in 0..5 {
         let mut pages = Pages::new(rt.alloc(), total).ok_or("no memory")?;
-        assert_eq!(rt; pages.free(), 0, "{total} sectors");
-        assert_eq!(rt; pages.take(), None, "{total} sectors");
+        let is_full = pages.free() == 0 && pages.take() == None;
+        assert_row(&rt, is_full, "sectors", u64::from(total));
     }
     Ok(())
 }
@@ -63,7 +60,7 @@ fn every_page_of_the_largest_disk_is_taken(rt: HostRuntime) -> Result<(), Fail> 
         sum = sum.wrapping_add(u64::from(page));
     }
     // The sum of the numbers from 4 to 6,099,083.
-    assert_eq!(rt; sum, 18_599_409_769_980);
-    assert_eq!(rt; pages.take(), None);
+    assert!(rt; sum == 18_599_409_769_980);
+    assert!(rt; pages.take() == None);
     Ok(())
 }

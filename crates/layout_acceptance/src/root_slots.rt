@@ -2,6 +2,7 @@ ghost use Rattle.std.specs.Prelude.{◌≡◌, ◌≤◌, ◌<◌, IfOk, OnOk, f
 ghost use Rattle.disk.specs.MemDisk.{sectors_of};
 ghost use Rattle.roots.specs.Roots.{has_failed, disk_of};
 
+use crate::asserting::assert_row;
 use disk::{Disk, FuseDisk, MemDisk, Torn};
 use lattice::{Refusal, Side};
 use page_codec::{Format, Root};
@@ -89,23 +90,31 @@ fn set_byte(disk: &mut MemDisk, s: u32, at: usize, byte: u8) -> Result<(), Fail>
     Ok(())
 }
 
+// What a disk of more sectors than four holds in this one of the first four.
+fn sector_of(disk: &mut MemDisk, s: u32) -> Result<[u8; 4096], Fail> {
+    let mut bytes = [9; 4096];
+    if s < disk.sectors() {
+        disk.read(s, &mut bytes)?;
+    }
+    Ok(bytes)
+}
+
+// The commit number and the count that opening finds.
+fn numbers_of(disk: MemDisk) -> Result<(u64, u64), Fail> {
+    let roots = Roots::open(disk).map_err(|_| "not opened")?;
+    Ok((roots.current().number(), roots.current().count()))
+}
+
 #[test]
 fn a_formatted_disk(rt: HostRuntime) -> Result<(), Fail> {
     let mut disk = MemDisk::new(rt.alloc(), 16)?;
-    assert_eq!(rt; Roots::format(&mut disk, &first_root()?), Ok(()));
-    assert_eq!(rt; disk.writes(), 4);
-    let mut bytes = [9; 4096];
-    disk.read(1, &mut bytes)?;
-    assert!(rt; bytes == page_of(&FORMATTED));
-    disk.read(0, &mut bytes)?;
-    assert!(rt; bytes == page_of(&[0xa7]));
-    disk.read(2, &mut bytes)?;
-    assert!(rt; bytes == page_of(&[]));
+    assert!(rt; Roots::format(&mut disk, &first_root()?) == Ok(()));
+    assert!(rt; disk.writes() == 4 && disk.sectors() == 16);
+    assert!(rt; sector_of(&mut disk, 1)? == page_of(&FORMATTED));
+    assert!(rt; sector_of(&mut disk, 0)? == page_of(&[0xa7]));
+    assert!(rt; sector_of(&mut disk, 2)? == page_of(&[]));
     disk.stop(Torn::Fill(0xa7))?;
-    let roots = Roots::open(disk).map_err(|_| "not opened")?;
-    assert_eq!(rt; roots.sectors(), 16);
-    assert_eq!(rt; roots.current().number(), 1);
-    assert_eq!(rt; roots.current().count(), 0);
+    assert!(rt; numbers_of(disk)? == (1, 0));
     Ok(())
 }
 
@@ -137,15 +146,11 @@ fn a_stop_after_each_call(rt: HostRuntime) -> Result<(), Fail> {
         for (torn, number) in kinds.iter().zip(numbers.iter()) {
             let fuse = FuseDisk::new(MemDisk::new(rt.alloc(), 16)?, calls);
             let (fuse, answer) = two_commits(fuse, &root);
-            assert_eq!(rt; answer.is_ok(), calls > 20, "after {calls} calls");
             let mut disk = fuse.into_inner();
             disk.stop(*torn)?;
-            let roots = Roots::open(disk).map_err(|_| "not opened")?;
-            assert_eq!(rt;
-                roots.current().number(),
-                *number,
-                "after {calls} calls and {torn:?}"
-            );
+            let (found, _) = numbers_of(disk)?;
+            let is_right = answer.is_ok() == (calls > 20) && found == *number;
+            assert_row(&rt, is_right, "calls before a stop", calls);
         }
     }
     Ok(())
@@ -157,7 +162,7 @@ fn a_fault_is_answered_device(rt: HostRuntime) -> Result<(), Fail> {
     for calls in 0..21 {
         let fuse = FuseDisk::new(MemDisk::new(rt.alloc(), 16)?, calls);
         let (_, answer) = two_commits(fuse, &root);
-        assert_eq!(rt; answer, Err(Refusal::Device), "after {calls} calls");
+        assert_row(&rt, answer == Err(Refusal::Device), "calls", calls);
     }
     Ok(())
 }
@@ -198,13 +203,21 @@ fn opened(disk: MemDisk) -> Result<Roots<MemDisk>, Fail>
 #[test]
 fn a_page_lasts_from_its_commit_on(rt: HostRuntime) -> Result<(), Fail> {
     let mut roots = opened(committed_once(rt.alloc())?)?;
-    assert_eq!(rt; commit_page(&mut roots, 5, &[6; 4096]), Ok(()));
+    assert!(rt; commit_page(&mut roots, 5, &[6; 4096]) == Ok(()));
     let mut disk = roots.into_disk();
     disk.stop(Torn::Fill(9))?;
     let mut roots = opened(disk)?;
-    assert_eq!(rt; roots.current().number(), 3);
-    assert_eq!(rt; reopened_page(&mut roots, 5), Ok([6; 4096]));
+    assert!(rt; roots.current().number() == 3);
+    assert!(rt; reopened_page(&mut roots, 5) == Ok([6; 4096]));
     Ok(())
+}
+
+// How the disk is refused, and how many sectors it hands back.
+fn refused(disk: MemDisk) -> (Option<Refusal>, u32) {
+    match Roots::open(disk) {
+        Ok(roots) => (None, roots.sectors()),
+        Err(not_opened) => (Some(not_opened.refusal), not_opened.disk.sectors()),
+    }
 }
 
 #[test]
@@ -220,18 +233,13 @@ fn images_that_are_no_stores(rt: HostRuntime) -> Result<(), Fail> {
     for (sector, at, byte, refusal) in table {
         let mut disk = committed_once(rt.alloc())?;
         set_byte(&mut disk, sector, at, byte)?;
-        let refused = Roots::open(disk).err().ok_or("opened")?;
-        assert_eq!(rt; refused.refusal, refusal, "byte {at} of sector {sector}");
-        assert_eq!(rt; refused.disk.sectors(), 16);
+        assert_row(&rt, refused(disk) == (Some(refusal), 16), "byte", at as u64);
     }
     let mut disk = committed_once(rt.alloc())?;
     set_byte(&mut disk, 0, 0, 0)?;
     set_byte(&mut disk, 2, 0, 0)?;
-    let refused = Roots::open(disk).err().ok_or("opened")?;
-    assert_eq!(rt; refused.refusal, Refusal::NotAStore);
-    let refused = Roots::open(MemDisk::new(rt.alloc(), 3)?)
-        .err()
-        .ok_or("opened")?;
-    assert_eq!(rt; refused.refusal, Refusal::NotAStore);
+    assert!(rt; refused(disk) == (Some(Refusal::NotAStore), 16));
+    let few = MemDisk::new(rt.alloc(), 3)?;
+    assert!(rt; refused(few) == (Some(Refusal::NotAStore), 3));
     Ok(())
 }

@@ -1,3 +1,4 @@
+use crate::asserting::assert_row;
 use arrayvec::ArrayVec;
 use lattice::{Corner, Point, Refusal, Side};
 use page_codec::*;
@@ -37,9 +38,9 @@ fn a_new_store(rt: HostRuntime) -> Result<(), Fail> {
     let root = Root::empty(Format::first(Side::new(3).ok_or("no side")?, 1));
     assert!(rt; root.write() == page_of(&FORMATTED));
     let read = Root::read(&page_of(&FORMATTED))?;
-    assert_eq!(rt; read.format(), format_1(3, 1)?);
-    assert_eq!(rt; read.number(), 1);
-    assert_eq!(rt; read.count(), 0);
+    assert!(rt; read.format() == format_1(3, 1)?);
+    assert!(rt; read.number() == 1);
+    assert!(rt; read.count() == 0);
     assert!(rt; read.sinks().is_empty());
     assert!(rt; read.entries().is_empty());
     Ok(())
@@ -53,8 +54,8 @@ fn a_stale_tile(rt: HostRuntime) -> Result<(), Fail> {
         heights: 5,
         kept: None,
     };
-    assert_eq!(rt; entry.write(), STALE);
-    assert_eq!(rt; Entry::read(&STALE), Ok(entry));
+    assert!(rt; entry.write() == STALE);
+    assert!(rt; Entry::read(&STALE) == Ok(entry));
     Ok(())
 }
 
@@ -71,8 +72,8 @@ fn a_tile_with_kept_planes(rt: HostRuntime) -> Result<(), Fail> {
         kept: Some(kept),
     };
     let bytes = [89, 0, 0x4c, 0xff, 5, 0, 0, 0, 6, 0, 0, 0, 4, 3, 2, 1];
-    assert_eq!(rt; entry.write(), bytes);
-    assert_eq!(rt; Entry::read(&bytes), Ok(entry));
+    assert!(rt; entry.write() == bytes);
+    assert!(rt; Entry::read(&bytes) == Ok(entry));
     Ok(())
 }
 
@@ -89,9 +90,9 @@ fn the_next_root(rt: HostRuntime) -> Result<(), Fail> {
     let root = Root::empty(Format::first(Side::new(3).ok_or("no side")?, 1)).next(1, entries);
     assert!(rt; root.write() == page_of(&ONE_TILE));
     let read = Root::read(&page_of(&ONE_TILE))?;
-    assert_eq!(rt; read.number(), 2);
-    assert_eq!(rt; read.count(), 1);
-    assert_eq!(rt; read.entries(), [entry].as_slice());
+    assert!(rt; read.number() == 2);
+    assert!(rt; read.count() == 1);
+    assert!(rt; read.entries() == [entry].as_slice());
     Ok(())
 }
 
@@ -130,11 +131,11 @@ fn hostile_roots(rt: HostRuntime) {
         let at = usize::from(at);
         page[at] = bytes[0];
         page[at + 1] = bytes[1];
-        assert_eq!(rt; Root::read(&page).err(), damaged, "{bytes:?} at {at}");
+        assert_row(&rt, Root::read(&page).err() == damaged, "byte", at as u64);
     }
     let mut last = page_of(&ONE_TILE);
     last[4095] = 1;
-    assert_eq!(rt; Root::read(&last).err(), Some(Damaged::Rule));
+    assert!(rt; Root::read(&last).err() == Some(Damaged::Rule));
 }
 
 #[test]
@@ -142,9 +143,9 @@ fn the_tests_have_an_order(rt: HostRuntime) {
     let mut page = page_of(&ONE_TILE);
     page[16] = 0;
     page[8] = 3;
-    assert_eq!(rt; Root::read(&page).err(), Some(Damaged::Version));
+    assert!(rt; Root::read(&page).err() == Some(Damaged::Version));
     page[7] = 0;
-    assert_eq!(rt; Root::read(&page).err(), Some(Damaged::Magic));
+    assert!(rt; Root::read(&page).err() == Some(Damaged::Magic));
 }
 
 // The greatest commit number, 2^64 - 1.
@@ -155,8 +156,8 @@ fn a_worn_root(rt: HostRuntime) -> Result<(), Fail> {
         *byte = 0xff;
     }
     let root = Root::read(&page)?;
-    assert_eq!(rt; root.number(), u64::MAX);
-    assert_eq!(rt; root.count(), 1);
+    assert!(rt; root.number() == u64::MAX);
+    assert!(rt; root.count() == 1);
     assert!(rt; root.write() == page);
     Ok(())
 }
@@ -174,28 +175,28 @@ fn two_tiles(lat: u8, lon: u8) -> [u8; PAGE_BYTES] {
 
 #[test]
 fn tiles_have_an_order(rt: HostRuntime) {
-    assert_eq!(rt; Root::read(&two_tiles(0, 1)).err(), None);
-    assert_eq!(rt; Root::read(&two_tiles(1, 0)).err(), None);
-    assert_eq!(rt; Root::read(&two_tiles(0, 0)).err(), Some(Damaged::Rule));
+    assert!(rt; Root::read(&two_tiles(0, 1)).err() == None);
+    assert!(rt; Root::read(&two_tiles(1, 0)).err() == None);
+    assert!(rt; Root::read(&two_tiles(0, 0)).err() == Some(Damaged::Rule));
     let mut falling = two_tiles(0, 0xff);
     falling[83] = 0xff;
-    assert_eq!(rt; Root::read(&falling).err(), Some(Damaged::Rule));
+    assert!(rt; Root::read(&falling).err() == Some(Damaged::Rule));
     let mut south = two_tiles(0xff, 1);
     south[81] = 0xff;
-    assert_eq!(rt; Root::read(&south).err(), Some(Damaged::Rule));
+    assert!(rt; Root::read(&south).err() == Some(Damaged::Rule));
 }
 
 #[test]
 fn records(rt: HostRuntime) -> Result<(), Fail> {
     let mut page = page_of(&[7, 0, 0, 0, 4, 3, 2, 1]);
     let record = Record::read(&page, 2).ok().ok_or("not read")?;
-    assert_eq!(rt; record.pages.as_slice(), [7, 0x0102_0304].as_slice());
+    assert!(rt; record.pages.as_slice() == [7, 0x0102_0304].as_slice());
     assert!(rt; record.write() == page);
-    assert_eq!(rt; Record::read(&page, 1).err(), Some(Damaged::Rule));
+    assert!(rt; Record::read(&page, 1).err() == Some(Damaged::Rule));
     let longer = Record::read(&page, 1024).ok().ok_or("not read")?;
-    assert_eq!(rt; longer.pages.len(), 1024);
+    assert!(rt; longer.pages.len() == 1024);
     page[4095] = 1;
-    assert_eq!(rt; Record::read(&page, 2).err(), Some(Damaged::Rule));
+    assert!(rt; Record::read(&page, 2).err() == Some(Damaged::Rule));
     Ok(())
 }
 
@@ -203,10 +204,10 @@ fn records(rt: HostRuntime) -> Result<(), Fail> {
 fn index_pages(rt: HostRuntime) -> Result<(), Fail> {
     let mut page = page_of(&[7, 0, 0, 0, 4, 3, 2, 1]);
     let index = IndexPage::read(&page, 2)?;
-    assert_eq!(rt; index.pages.as_slice(), [7, 0x0102_0304].as_slice());
+    assert!(rt; index.pages.as_slice() == [7, 0x0102_0304].as_slice());
     assert!(rt; index.write() == page);
     page[8] = 1;
-    assert_eq!(rt; IndexPage::read(&page, 2).err(), Some(Damaged::Rule));
+    assert!(rt; IndexPage::read(&page, 2).err() == Some(Damaged::Rule));
     Ok(())
 }
 
@@ -228,15 +229,15 @@ fn sinks(rt: HostRuntime) -> Result<(), Fail> {
     let first = Point { y: -1, x: 258 };
     let second = Point { y: 1, x: 1 };
     let root = Root::read(&two_sinks())?;
-    assert_eq!(rt; root.sinks(), [first, second].as_slice());
+    assert!(rt; root.sinks() == [first, second].as_slice());
     assert!(rt; root.write() == two_sinks());
     // An older y, the same point twice, a point that no corner's tile holds, a third sink where two are counted, and a
     // byte behind them.
     for (at, byte) in [(3912, 0xfe), (3907, 0), (3904, 1), (3920, 1), (4095, 1)] {
         let mut page = two_sinks();
         page[at] = byte;
-        let read = Root::read(&page).err();
-        assert_eq!(rt; read, Some(Damaged::Rule), "{byte} at {at}");
+        let is_damaged = Root::read(&page).err() == Some(Damaged::Rule);
+        assert_row(&rt, is_damaged, "byte", at as u64);
     }
     Ok(())
 }
@@ -253,7 +254,7 @@ fn formats(rt: HostRuntime) {
         (Version::Two, 1202, 1, None),
     ] {
         let made = Format::new(version, side, capacity);
-        assert_eq!(rt; made.err(), refusal, "{side} and {capacity} by {version:?}");
+        assert_row(&rt, made.err() == refusal, "side", u64::from(side));
     }
 }
 
@@ -275,9 +276,10 @@ const SIZES: [(Version, u32, u32, u32, u32, u32); 10] = [
 fn sizes(rt: HostRuntime) -> Result<(), Fail> {
     for (version, side, capacity, index, data, sectors) in SIZES {
         let format = Format::new(version, side, capacity)?;
-        assert_eq!(rt; format.index_pages(), index, "{side} by {version:?}");
-        assert_eq!(rt; format.data_pages(), data, "{side} by {version:?}");
-        assert_eq!(rt; format.sectors(), sectors, "{side} by {version:?}");
+        let is_right = format.index_pages() == index
+            && format.data_pages() == data
+            && format.sectors() == sectors;
+        assert_row(&rt, is_right, "sectors", u64::from(sectors));
     }
     Ok(())
 }

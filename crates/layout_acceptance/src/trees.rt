@@ -1,7 +1,8 @@
-ghost use Rattle.std.specs.Prelude.{◌≡◌, map, OnOk, IfOk};
+ghost use Rattle.std.specs.Prelude.{◌≡◌, ◌≤◌, map, OnOk, IfOk};
 ghost use Rattle.disk.specs.MemDisk.{sectors_of};
 ghost use Rattle.cow_tree.specs.Trees.{corners_of, root_of};
 
+use crate::asserting::assert_row;
 use catalogue::Samples;
 use cow_tree::{Plane, Tree};
 use disk::{Disk, FaultOnceDisk, FuseDisk, MemDisk, Torn};
@@ -12,6 +13,9 @@ use std::test::Fail;
 
 // Room for two tiles of side 3, each plane of which takes one page.
 const SECTORS: u32 = 24;
+
+// As much by the second version, where each plane takes an index page too.
+const SECTORS_UPGRADED: u32 = 34;
 
 // 9 9 9 / 9 1 9 / 9 9 5 and 9 9 9 / 9 1 1 / 9 9 9.
 const FIRST: [u8; 18] = [0, 9, 0, 9, 0, 9, 0, 9, 0, 1, 0, 9, 0, 9, 0, 9, 0, 5];
@@ -25,7 +29,14 @@ fn corner(lon: i16) -> Result<Corner, Fail> {
 fn formatted(alloc: Global) -> Result<MemDisk, Fail>
     ensures { IfOk result (λ disk. sectors_of disk ≡ SECTORS) }
 {
-    let mut disk = MemDisk::new(alloc, SECTORS)?;
+    formatted_in(alloc, SECTORS)
+}
+
+fn formatted_in(alloc: Global, sectors: u32) -> Result<MemDisk, Fail>
+    requires { SECTORS ≤ sectors }
+    ensures { IfOk result (λ disk. sectors_of disk ≡ sectors) }
+{
+    let mut disk = MemDisk::new(alloc, sectors)?;
     let side = Side::new(3).ok_or("no side")?;
     Tree::format(&mut disk, Format::first(side, 2)).map_err(|_| "not formatted")?;
     Ok(disk)
@@ -102,24 +113,38 @@ fn two_tiles_are_read_back(rt: HostRuntime) -> Result<(), Fail> {
     let mut tree = opened(rt.alloc(), formatted(rt.alloc())?)?;
     let first = corner(6)?;
     let second = corner(-7)?;
-    assert_eq!(rt; add_tile(&mut tree, first, &FIRST), Ok(()));
+    assert!(rt; add_tile(&mut tree, first, &FIRST) == Ok(()));
     let disk = tree.into_disk();
-    assert_eq!(rt; disk.writes(), 8);
+    assert!(rt; disk.writes() == 8);
     let mut tree = opened(rt.alloc(), disk)?;
-    assert_eq!(rt; add_tile(&mut tree, second, &SECOND), Ok(()));
+    assert!(rt; add_tile(&mut tree, second, &SECOND) == Ok(()));
     let disk = tree.into_disk();
-    assert_eq!(rt; disk.writes(), 13);
+    assert!(rt; disk.writes() == 13);
     let mut tree = opened(rt.alloc(), disk)?;
-    assert_eq!(rt; add_tile(&mut tree, corner(0)?, &FIRST), Err(Refusal::Full));
-    assert_eq!(rt;
-        samples_at(&mut tree, first),
-        Ok([9, 9, 9, 9, 1, 9, 9, 9, 5])
-    );
-    assert_eq!(rt;
-        samples_at(&mut tree, second),
-        Ok([9, 9, 9, 9, 1, 1, 9, 9, 9])
-    );
+    assert!(rt; add_tile(&mut tree, corner(0)?, &FIRST) == Err(Refusal::Full));
+    assert!(rt; samples_at(&mut tree, first) == Ok([9, 9, 9, 9, 1, 9, 9, 9, 5]));
+    assert!(rt; samples_at(&mut tree, second) == Ok([9, 9, 9, 9, 1, 1, 9, 9, 9]));
     Ok(())
+}
+
+// Whether what a stop left is the tree before the two tiles, between them or after them; the last if they were acknowledged.
+fn is_left(
+    alloc: Global,
+    disk: MemDisk,
+    first: Corner,
+    second: Corner,
+    answer: Result<(), Refusal>,
+) -> Result<bool, Fail> {
+    let mut tree = opened(alloc, disk)?;
+    let number = tree.current().number();
+    let has_first = number >= 2;
+    let has_second = number >= 3;
+    let is_listed = tree.current().count() + 1 == number
+        && tree.present(first) == has_first
+        && tree.present(second) == has_second;
+    let is_read = (!has_first || samples_at(&mut tree, first) == Ok([9, 9, 9, 9, 1, 9, 9, 9, 5]))
+        && (!has_second || samples_at(&mut tree, second) == Ok([9, 9, 9, 9, 1, 1, 9, 9, 9]));
+    Ok(is_listed && is_read && (number == 3 || answer == Err(Refusal::Device)))
 }
 
 #[test]
@@ -133,27 +158,8 @@ fn a_stop_after_each_call(rt: HostRuntime) -> Result<(), Fail> {
             let (fuse, answer) = add_two(rt.alloc(), fuse, first, second);
             let mut disk = fuse.into_inner();
             disk.stop(torn)?;
-            let mut tree = opened(rt.alloc(), disk)?;
-            let number = tree.current().number();
-            assert_eq!(rt; tree.current().count() + 1, number);
-            assert_eq!(rt; tree.present(first), number >= 2);
-            assert_eq!(rt; tree.present(second), number >= 3);
-            if number >= 2 {
-                assert_eq!(rt;
-                    samples_at(&mut tree, first),
-                    Ok([9, 9, 9, 9, 1, 9, 9, 9, 5])
-                );
-            }
-            if number >= 3 {
-                assert_eq!(rt;
-                    samples_at(&mut tree, second),
-                    Ok([9, 9, 9, 9, 1, 1, 9, 9, 9])
-                );
-            }
-            assert!(rt;
-                number == 3 || answer == Err(Refusal::Device),
-                "after {calls} calls"
-            );
+            let is_right = is_left(rt.alloc(), disk, first, second, answer)?;
+            assert_row(&rt, is_right, "calls before a stop", calls);
             is_done = answer.is_ok();
         }
     }
@@ -161,23 +167,26 @@ fn a_stop_after_each_call(rt: HostRuntime) -> Result<(), Fail> {
     Ok(())
 }
 
+// Whether a fault in this call of the opening or of adding a tile is told as one, and the tile is there whole or not at all.
+fn is_told(alloc: Global, call: u64) -> Result<bool, Fail> {
+    let first = corner(6)?;
+    let mut tree = match Tree::open(alloc, FaultOnceDisk::new(formatted(alloc)?, call)) {
+        Ok(tree) => tree,
+        Err(refused) => return Ok(refused.refusal == Refusal::Device),
+    };
+    let is_fault = add_tile(&mut tree, first, &FIRST) == Err(Refusal::Device);
+    if !tree.has_failed() {
+        return Ok(!is_fault);
+    }
+    let is_reopened = tree.reopen() == Ok(());
+    let is_there = tree.current().number() == 2;
+    Ok(is_fault && is_reopened && tree.present(first) == is_there)
+}
+
 #[test]
 fn a_fault_at_each_call(rt: HostRuntime) -> Result<(), Fail> {
     for call in 0..40 {
-        let faulty = FaultOnceDisk::new(formatted(rt.alloc())?, call);
-        let mut tree = match Tree::open(rt.alloc(), faulty) {
-            Ok(tree) => tree,
-            Err(refused) => {
-                assert_eq!(rt; refused.refusal, Refusal::Device);
-                continue;
-            }
-        };
-        let answer = add_tile(&mut tree, corner(6)?, &FIRST);
-        assert_eq!(rt; tree.has_failed(), answer == Err(Refusal::Device));
-        if tree.has_failed() {
-            assert_eq!(rt; tree.reopen(), Ok(()));
-            assert_eq!(rt; tree.present(corner(6)?), tree.current().number() == 2);
-        }
+        assert_row(&rt, is_told(rt.alloc(), call)?, "a fault at call", call);
     }
     Ok(())
 }
@@ -187,7 +196,7 @@ fn records_that_are_none(rt: HostRuntime) -> Result<(), Fail> {
     // The page named in a record: a gate, the record itself, a page past the end; and a byte behind it.
     let first = corner(6)?;
     let mut tree = opened(rt.alloc(), formatted(rt.alloc())?)?;
-    assert_eq!(rt; add_tile(&mut tree, first, &FIRST), Ok(()));
+    assert!(rt; add_tile(&mut tree, first, &FIRST) == Ok(()));
     let record = tree.current().entries().first().ok_or("no entry")?.heights;
     for (at, byte) in [
         (0, 0),
@@ -199,7 +208,7 @@ fn records_that_are_none(rt: HostRuntime) -> Result<(), Fail> {
         let (mut disk, _) = add_two(rt.alloc(), formatted(rt.alloc())?, first, corner(-7)?);
         set_byte(&mut disk, record, at, byte)?;
         let refused = Tree::open(rt.alloc(), disk).err().ok_or("opened")?;
-        assert_eq!(rt; refused.refusal, Refusal::Damaged, "byte {byte} at {at}");
+        assert_row(&rt, refused.refusal == Refusal::Damaged, "byte", at as u64);
     }
     Ok(())
 }
@@ -237,18 +246,12 @@ fn drop_tile<D: Disk>(tree: &mut Tree<D>, c: Corner) -> Result<(), Refusal> {
 fn a_patch_is_given_up(rt: HostRuntime) -> Result<(), Fail> {
     let first = corner(6)?;
     let mut tree = opened(rt.alloc(), formatted(rt.alloc())?)?;
-    assert_eq!(rt; add_tile(&mut tree, first, &FIRST), Ok(()));
-    assert_eq!(rt;
-        patch(&mut tree, corner(7)?, &[0; 4096]),
-        Err(Refusal::NoTile)
-    );
-    assert_eq!(rt; patch(&mut tree, first, &[0; 4096]), Ok(()));
-    assert_eq!(rt; samples_at(&mut tree, first), Ok([0; 9]));
+    assert!(rt; add_tile(&mut tree, first, &FIRST) == Ok(()));
+    assert!(rt; patch(&mut tree, corner(7)?, &[0; 4096]) == Err(Refusal::NoTile));
+    assert!(rt; patch(&mut tree, first, &[0; 4096]) == Ok(()));
+    assert!(rt; samples_at(&mut tree, first) == Ok([0; 9]));
     tree.abandon();
-    assert_eq!(rt;
-        samples_at(&mut tree, first),
-        Ok([9, 9, 9, 9, 1, 9, 9, 9, 5])
-    );
+    assert!(rt; samples_at(&mut tree, first) == Ok([9, 9, 9, 9, 1, 9, 9, 9, 5]));
     Ok(())
 }
 
@@ -257,13 +260,47 @@ fn a_tile_is_dropped(rt: HostRuntime) -> Result<(), Fail> {
     let first = corner(6)?;
     let (disk, _) = add_two(rt.alloc(), formatted(rt.alloc())?, first, corner(-7)?);
     let mut tree = opened(rt.alloc(), disk)?;
-    assert_eq!(rt; drop_tile(&mut tree, first), Ok(()));
+    assert!(rt; drop_tile(&mut tree, first) == Ok(()));
     let mut tree = opened(rt.alloc(), tree.into_disk())?;
-    assert_eq!(rt; tree.current().number(), 4);
-    assert_eq!(rt; samples_at(&mut tree, first), Err(Refusal::NoTile));
-    assert_eq!(rt;
-        samples_at(&mut tree, corner(-7)?),
-        Ok([9, 9, 9, 9, 1, 1, 9, 9, 9])
-    );
+    assert!(rt; tree.current().number() == 4);
+    assert!(rt; samples_at(&mut tree, first) == Err(Refusal::NoTile));
+    assert!(rt; samples_at(&mut tree, corner(-7)?) == Ok([9, 9, 9, 9, 1, 1, 9, 9, 9]));
+    Ok(())
+}
+
+// Opens the disk and upgrades what it holds.
+fn upgrade(alloc: Global, disk: MemDisk) -> Result<(MemDisk, Result<(), Refusal>), Fail> {
+    let mut tree = opened(alloc, disk)?;
+    if tree.has_failed() {
+        return Err("it failed")?;
+    }
+    tree.abandon();
+    let answer = tree.upgrade();
+    Ok((tree.into_disk(), answer))
+}
+
+#[test]
+fn two_tiles_are_upgraded(rt: HostRuntime) -> Result<(), Fail> {
+    let first = corner(6)?;
+    let second = corner(-7)?;
+    let (disk, _) = add_two(rt.alloc(), formatted(rt.alloc())?, first, second);
+    let (disk, answer) = upgrade(rt.alloc(), disk)?;
+    assert!(rt; answer == Err(Refusal::TooSmall));
+    assert!(rt; disk.writes() == 13);
+    let larger = formatted_in(rt.alloc(), SECTORS_UPGRADED)?;
+    let (disk, _) = add_two(rt.alloc(), larger, first, second);
+    let (disk, answer) = upgrade(rt.alloc(), disk)?;
+    assert!(rt; answer == Ok(()));
+    // Two gates, the root, and a record and an index page for each tile.
+    assert!(rt; disk.writes() == 20);
+    let mut tree = opened(rt.alloc(), disk)?;
+    assert!(rt; tree.current().format().version().number() == 2);
+    assert!(rt; tree.current().number() == 4);
+    assert!(rt; tree.current().count() == 2);
+    assert!(rt; samples_at(&mut tree, first) == Ok([9, 9, 9, 9, 1, 9, 9, 9, 5]));
+    assert!(rt; samples_at(&mut tree, second) == Ok([9, 9, 9, 9, 1, 1, 9, 9, 9]));
+    let (disk, answer) = upgrade(rt.alloc(), tree.into_disk())?;
+    assert!(rt; answer == Err(Refusal::NotOld));
+    assert!(rt; disk.writes() == 20);
     Ok(())
 }
