@@ -1,4 +1,5 @@
 //! Opens images, and compares what is found with the plain reading of them.
+use crate::asserting::assert_row;
 use crate::good_images::HERE;
 use crate::image::Image;
 use crate::opening::{Root, bytes_of_tile, expected_opening, listed};
@@ -25,48 +26,53 @@ pub(crate) fn check(
         Ok(store) => store,
         Err(not_opened) => {
             let refusal = Some(not_opened.refusal);
-            assert_eq!(rt; refusal, expected.err(), "image {number}");
-            assert_eq!(rt; not_opened.disk.writes(), writes, "image {number}");
+            let writes_nothing = not_opened.disk.writes() == writes;
+            assert_row(rt, refusal == expected.err(), "refused image", number);
+            assert_row(rt, writes_nothing, "written image", number);
             return Ok(refusal);
         }
     };
-    assert_eq!(rt; None, expected.as_ref().err(), "image {number} opens");
-    let root = expected.map_err(|_| "opened")?;
-    check_contents(rt, alloc, &mut store, image, &root, number)?;
-    check_queries(rt, alloc, &mut store, &root, number)?;
+    assert_row(rt, expected.is_ok(), "opened image", number);
+    let root = expected?;
+    let has_contents = has_contents(alloc, &mut store, image, &root)?;
+    assert_row(rt, has_contents, "contents of image", number);
+    let answers = answers_again(alloc, &mut store, &root)?;
+    assert_row(rt, answers, "answers of image", number);
     let disk = store.into_disk();
-    assert_eq!(rt; disk.writes(), writes, "image {number}");
-    let store = Store::open(alloc, disk).map_err(|_| "not opened again")?;
-    check_removal(rt, alloc, store, &root, number)?;
+    assert_row(rt, disk.writes() == writes, "written image", number);
+    let removes = removes_a_tile(alloc, opened(alloc, disk)?, &root)?;
+    assert_row(rt, removes, "a removal from image", number);
     Ok(None)
 }
 
-// The store has what the image says.
-fn check_contents(
-    rt: &impl Abort,
+pub(crate) fn opened(alloc: Global, disk: MemDisk) -> Result<Store<MemDisk>, Fail> {
+    Ok(Store::open(alloc, disk).map_err(|_| "not opened")?)
+}
+
+// Whether the store has what the image says.
+fn has_contents(
     alloc: Global,
     store: &mut Store<MemDisk>,
     image: &Image,
     root: &Root,
-    number: u64,
-) -> Result<(), Fail> {
-    assert_eq!(rt; store.side(), root.side, "image {number}");
-    assert_eq!(rt; store.capacity(), root.capacity, "image {number}");
-    assert_eq!(rt; store.commits(), root.commits, "image {number}");
-    assert_eq!(rt; store.count(), root.count, "image {number}");
-    assert!(rt;
-        store.sinks()?.as_slice() == root.sinks.as_slice(),
-        "image {number}"
-    );
+) -> Result<bool, Fail> {
     let tiles = store.tiles()?;
-    assert_eq!(rt; tiles.len(), root.entries.len(), "image {number}");
+    let has_numbers = store.side() == root.side
+        && store.capacity() == root.capacity
+        && store.commits() == root.commits
+        && store.count() == root.count
+        && tiles.len() == root.entries.len();
+    if !has_numbers || store.sinks()?.as_slice() != root.sinks.as_slice() {
+        return Ok(false);
+    }
     for (corner, entry) in tiles.iter().zip(&root.entries) {
-        assert_eq!(rt; *corner, entry.corner, "image {number}");
         let [heights, ..] = entry.records;
         let file = file_of(alloc, image, root, heights)?;
-        assert_eq!(rt; store.export(*corner), Ok(file), "image {number}");
+        if *corner != entry.corner || store.export(*corner)?.as_slice() != file.as_slice() {
+            return Ok(false);
+        }
     }
-    Ok(())
+    Ok(true)
 }
 
 // The bytes of a plane: those of its pages one after another, without what the last has past them.
@@ -80,14 +86,8 @@ fn file_of(alloc: Global, image: &Image, root: &Root, record: u32) -> Result<Vec
     Ok(bytes)
 }
 
-// Each query answers the same once more, also after a reopening, and is refused for its point alone.
-fn check_queries(
-    rt: &impl Abort,
-    alloc: Global,
-    store: &mut Store<MemDisk>,
-    root: &Root,
-    number: u64,
-) -> Result<(), Fail> {
+// Whether each query answers the same once more, also after a reopening, and is refused for its point alone.
+fn answers_again(alloc: Global, store: &mut Store<MemDisk>, root: &Root) -> Result<bool, Fail> {
     let events = queries(alloc, root)?;
     let mut first = Vec::new(alloc);
     let mut second = Vec::new(alloc);
@@ -95,13 +95,12 @@ fn check_queries(
     let seams = store.seams();
     store.reopen()?;
     store.run(&events, &mut second)?;
-    assert!(rt; first.as_slice() == second.as_slice(), "image {number}");
-    assert_eq!(rt; store.seams(), seams, "image {number}");
     let keeps = keeps_planes(root);
-    for reply in &first {
-        assert!(rt; is_answer(reply, keeps), "image {number}");
-    }
-    Ok(())
+    Ok(
+        first.as_slice() == second.as_slice()
+            && store.seams() == seams
+            && first.iter().all(|reply| is_answer(reply, keeps)),
+    )
 }
 
 fn keeps_planes(root: &Root) -> bool {
@@ -141,28 +140,20 @@ fn queries(alloc: Global, root: &Root) -> Result<Vec<Event>, Fail> {
 }
 
 fn ask_all(events: &mut Vec<Event>, point: Point) -> Result<(), Fail> {
-    events
-        .push(Event::Elevation(point))
-        .map_err(|_| "no memory")?;
-    events.push(Event::Fill(point)).map_err(|_| "no memory")?;
-    events
-        .push(Event::Direction(point))
-        .map_err(|_| "no memory")?;
-    events.push(Event::Trace(point)).map_err(|_| "no memory")?;
-    events
-        .push(Event::Watershed(point))
-        .map_err(|_| "no memory")?;
+    for event in [
+        Event::Elevation(point),
+        Event::Fill(point),
+        Event::Direction(point),
+        Event::Trace(point),
+        Event::Watershed(point),
+    ] {
+        events.push(event).map_err(|_| "no memory")?;
+    }
     Ok(())
 }
 
-// A tile is taken out, and the image says so then.
-fn check_removal(
-    rt: &impl Abort,
-    alloc: Global,
-    store: Store<MemDisk>,
-    root: &Root,
-    number: u64,
-) -> Result<(), Fail> {
+// Whether a tile is taken out, and the image says so then.
+fn removes_a_tile(alloc: Global, store: Store<MemDisk>, root: &Root) -> Result<bool, Fail> {
     let mut store = store;
     let corner = root.entries.first().map_or(HERE, |entry| entry.corner);
     let expected = if root.entries.is_empty() {
@@ -172,29 +163,16 @@ fn check_removal(
     } else {
         Ok(root.count.wrapping_add(1))
     };
-    assert_eq!(rt;
-        store.apply(&Command::Remove { corner }),
-        expected,
-        "image {number}"
-    );
+    let answer = store.apply(&Command::Remove { corner });
     let left = Image::of(alloc, &mut store.into_disk())?;
     let found = expected_opening(alloc, &left.sectors)?;
     let removed = u64::from(expected.is_ok());
-    assert_eq!(rt;
-        found.count,
-        root.count.wrapping_add(removed),
-        "image {number}"
-    );
-    assert_eq!(rt;
-        found.commits,
-        root.commits.wrapping_add(removed),
-        "image {number}"
-    );
     let tiles = (found.entries.len() as u64).wrapping_add(removed);
-    assert_eq!(rt; tiles, root.entries.len() as u64, "image {number}");
-    assert!(rt;
-        found.sinks.as_slice() == root.sinks.as_slice(),
-        "image {number}"
-    );
-    Ok(())
+    Ok(
+        answer == expected
+            && found.count == root.count.wrapping_add(removed)
+            && found.commits == root.commits.wrapping_add(removed)
+            && tiles == root.entries.len() as u64
+            && found.sinks.as_slice() == root.sinks.as_slice(),
+    )
 }

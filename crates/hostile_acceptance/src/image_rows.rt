@@ -1,5 +1,6 @@
 //! Images with one change, row by row.
-use crate::checking::check;
+use crate::asserting::assert_row;
+use crate::checking::{check, opened};
 use crate::good_images::{
     A, EAST, HERE, image_after, import, one_tile, pages_of_tile, two_tiles, wall, with_kept_planes,
     with_sinks,
@@ -46,11 +47,7 @@ fn check_rows(rt: &impl Abort, alloc: Global, image: &Image, rows: &[Row]) -> Re
             bytes,
         }])?;
         let answer = check(rt, alloc, &changed, number)?;
-        assert_eq!(rt;
-            answer,
-            *refusal,
-            "byte {at} of sector {sector}, row {number}"
-        );
+        assert_row(rt, answer == *refusal, "a change by row", number);
     }
     Ok(())
 }
@@ -224,10 +221,6 @@ fn records_of_kept_planes(rt: HostRuntime) -> Result<(), Fail> {
     check_rows(&rt, rt.alloc(), &image, &rows)
 }
 
-fn opened(alloc: Global, image: &Image) -> Result<Store<MemDisk>, Fail> {
-    Ok(Store::open(alloc, image.disk(alloc)?).map_err(|_| "not opened")?)
-}
-
 #[test]
 fn disks_of_few_sectors(rt: HostRuntime) -> Result<(), Fail> {
     for sectors in 0..17 {
@@ -239,7 +232,7 @@ fn disks_of_few_sectors(rt: HostRuntime) -> Result<(), Fail> {
             _ => OPENS,
         };
         let answer = check(&rt, rt.alloc(), &image, sectors as u64)?;
-        assert_eq!(rt; answer, expected, "{sectors} sectors");
+        assert_row(&rt, answer == expected, "sectors", sectors as u64);
     }
     Ok(())
 }
@@ -251,15 +244,29 @@ fn a_commit_number_that_cannot_rise(rt: HostRuntime) -> Result<(), Fail> {
         at: 24,
         bytes: &[0xff; 8],
     }])?;
-    let mut store = opened(rt.alloc(), &worn)?;
-    let elsewhere = Command::Remove { corner: EAST };
-    assert_eq!(rt; store.apply(&elsewhere), Err(Refusal::NoTile));
-    let here = Command::Remove { corner: HERE };
-    assert_eq!(rt; store.apply(&here), Err(Refusal::Worn));
-    assert_eq!(rt; store.apply(&wall(12, MIDDLE)), Err(Refusal::Worn));
-    assert_eq!(rt; store.count(), 1);
-    assert_eq!(rt; store.elevation(MIDDLE), Ok(Height::At(1)));
+    let events = [
+        Event::Do(Command::Remove { corner: EAST }),
+        Event::Do(Command::Remove { corner: HERE }),
+        Event::Do(wall(12, MIDDLE)),
+        Event::Count,
+        Event::Elevation(MIDDLE),
+    ];
+    let expected = [
+        Reply::Refused(Refusal::NoTile),
+        Reply::Refused(Refusal::Worn),
+        Reply::Refused(Refusal::Worn),
+        Reply::Count(1),
+        Reply::Elevation(Height::At(1)),
+    ];
+    assert!(rt; replies(rt.alloc(), &worn, &events)?.as_slice() == expected.as_slice());
     Ok(())
+}
+
+// What the store of the image replies to these events.
+fn replies(alloc: Global, image: &Image, events: &[Event]) -> Result<Vec<Reply>, Fail> {
+    let mut replies = Vec::new(alloc);
+    opened(alloc, image.disk(alloc)?)?.run(events, &mut replies)?;
+    Ok(replies)
 }
 
 fn answers(alloc: Global, image: &Image) -> Result<Vec<Reply>, Fail> {
@@ -270,9 +277,7 @@ fn answers(alloc: Global, image: &Image) -> Result<Vec<Reply>, Fail> {
         Event::Trace(MIDDLE),
         Event::Watershed(MIDDLE),
     ];
-    let mut replies = Vec::new(alloc);
-    opened(alloc, image)?.run(&events, &mut replies)?;
-    Ok(replies)
+    replies(alloc, image, &events)
 }
 
 // A line of A.
@@ -309,68 +314,65 @@ fn kept_planes_change_no_answer(rt: HostRuntime) -> Result<(), Fail> {
     Ok(())
 }
 
-// The level of the middle that a store on this image answers, which has other bytes in its kept planes. Whatever that is,
-// the store goes on: its heights are read, and once a wall has made the tile stale it is flooded.
-fn level_of(
-    rt: &impl Abort,
-    alloc: Global,
-    changes: &[Change],
-) -> Result<Result<i16, Refusal>, Fail> {
-    let mut store = opened(alloc, &with_kept_planes(alloc)?.with(changes)?)?;
-    assert_eq!(rt; store.elevation(MIDDLE), Ok(Height::At(1)));
-    let level = store.fill(MIDDLE);
-    assert_eq!(rt; store.elevation(MIDDLE), Ok(Height::At(1)));
-    assert_eq!(rt; store.apply(&wall(12, MIDDLE)), Ok(2));
-    assert_eq!(rt; store.fill(MIDDLE), Ok(12));
-    Ok(level)
+// An index, a level and a label that are kept there, and the level of the middle that a store answers then, or none where it
+// finds them damaged. The middle has the index 4, and the rim point that its label names the index 8.
+type Mark = (usize, [u8; 2], [u8; 2], Option<i16>);
+
+const NO_LEVEL: [u8; 2] = [0, 0x80];
+
+const NO_LABEL: [u8; 2] = [0xfe, 0xff];
+
+const MARKS: [Mark; 6] = [
+    // No rim number; a void's label at a level; a void's level with a label; both, where there is ground.
+    (4, [5, 0], [8, 0], None),
+    (4, [5, 0], NO_LABEL, None),
+    (4, NO_LEVEL, [7, 0], None),
+    (4, NO_LEVEL, NO_LABEL, None),
+    // A rim point that is void by what is kept.
+    (8, NO_LEVEL, NO_LABEL, None),
+    // A level that fits is taken as it stands, so what is kept is read.
+    (4, [7, 0], [7, 0], Some(7)),
+];
+
+// Whether a store with these marks among its kept planes answers so. Whatever it is, the store goes on: its heights are
+// read, and once a wall has made the tile stale it is flooded.
+fn is_found(alloc: Global, mark: Mark) -> Result<bool, Fail> {
+    let (index, level, label, answer) = mark;
+    let at = index.wrapping_mul(2);
+    let image = with_kept_planes(alloc)?.with(&[
+        Change {
+            sector: 13,
+            at,
+            bytes: &level,
+        },
+        Change {
+            sector: 15,
+            at,
+            bytes: &label,
+        },
+    ])?;
+    let events = [
+        Event::Elevation(MIDDLE),
+        Event::Fill(MIDDLE),
+        Event::Elevation(MIDDLE),
+        Event::Do(wall(12, MIDDLE)),
+        Event::Fill(MIDDLE),
+    ];
+    let expected = [
+        Reply::Elevation(Height::At(1)),
+        answer.map_or(Reply::Refused(Refusal::Damaged), Reply::Fill),
+        Reply::Elevation(Height::At(1)),
+        Reply::Done(2),
+        Reply::Fill(12),
+    ];
+    Ok(replies(alloc, &image, &events)?.as_slice() == expected.as_slice())
 }
 
-fn level(index: usize, bytes: &[u8]) -> Change<'_> {
-    Change {
-        sector: 13,
-        at: index.wrapping_mul(2),
-        bytes,
-    }
-}
-
-fn label(index: usize, bytes: &[u8]) -> Change<'_> {
-    Change {
-        sector: 15,
-        at: index.wrapping_mul(2),
-        bytes,
-    }
-}
-
-// The middle has the index 4, and the rim point that its label names the index 8.
 #[test]
 fn wrong_marks_are_found(rt: HostRuntime) -> Result<(), Fail> {
-    let alloc = rt.alloc();
-    let none = [0xfe, 0xff];
-    let void = [0, 0x80];
-    // No rim number; a void's label at a level; a void's level with a label; both, where there is ground.
-    assert_eq!(rt;
-        level_of(&rt, alloc, &[label(4, &[8, 0])])?,
-        Err(Refusal::Damaged)
-    );
-    assert_eq!(rt;
-        level_of(&rt, alloc, &[label(4, &none)])?,
-        Err(Refusal::Damaged)
-    );
-    assert_eq!(rt;
-        level_of(&rt, alloc, &[level(4, &void)])?,
-        Err(Refusal::Damaged)
-    );
-    assert_eq!(rt;
-        level_of(&rt, alloc, &[level(4, &void), label(4, &none)])?,
-        Err(Refusal::Damaged)
-    );
-    // A rim point that is void by what is kept.
-    assert_eq!(rt;
-        level_of(&rt, alloc, &[level(8, &void), label(8, &none)])?,
-        Err(Refusal::Damaged)
-    );
-    // A level that fits is taken as it stands, so what is kept is read.
-    assert_eq!(rt; level_of(&rt, alloc, &[level(4, &[7, 0])])?, Ok(7));
+    for (mark, row) in MARKS.iter().zip(0..) {
+        assert_row(&rt, is_found(rt.alloc(), *mark)?, "a mark by row", row);
+    }
     Ok(())
 }
 
@@ -383,49 +385,64 @@ fn kept_records(alloc: Global, store: Store<MemDisk>, number: usize) -> Result<(
     Ok((levels, labels))
 }
 
+// What becomes of the planes of a tile of the image by this command: whether the tile is stale before it, the answer, whether
+// it is stale then, and the pages of the records.
+fn planes_after(
+    alloc: Global,
+    image: &Image,
+    command: &Command,
+    corner: Corner,
+    number: usize,
+) -> Result<(bool, Result<u64, Refusal>, bool, (u32, u32)), Fail> {
+    let mut store = opened(alloc, image.disk(alloc)?)?;
+    let before = store.stale(corner);
+    let answer = store.apply(command);
+    let after = store.stale(corner);
+    Ok((before, answer, after, kept_records(alloc, store, number)?))
+}
+
 #[test]
 fn a_command_drops_kept_planes(rt: HostRuntime) -> Result<(), Fail> {
     let alloc = rt.alloc();
+    let image = with_kept_planes(alloc)?;
+    // There is no tile to the east.
+    assert!(rt; !opened(alloc, image.disk(alloc)?)?.stale(EAST));
     for command in [wall(12, MIDDLE), Command::Sink { point: MIDDLE }] {
-        let mut store = opened(alloc, &with_kept_planes(alloc)?)?;
-        assert!(rt; !store.stale(HERE));
-        assert!(rt; !store.stale(EAST));
-        assert_eq!(rt; store.apply(&command), Ok(2));
-        assert!(rt; store.stale(HERE));
-        assert_eq!(rt; kept_records(alloc, store, 0)?, (0, 0));
+        let found = planes_after(alloc, &image, &command, HERE, 0)?;
+        assert!(rt; found == (false, Ok(2), true, (0, 0)));
     }
     Ok(())
 }
+
+// Levels from page 20 on and labels from page 22 on, of the second of two tiles.
+const KEPT_OF_THE_SECOND: [Change<'static>; 3] = [
+    Change {
+        sector: ROOT_A,
+        at: 88,
+        bytes: &[20, 0, 0, 0, 22],
+    },
+    Change {
+        sector: 20,
+        at: 0,
+        bytes: &[21],
+    },
+    Change {
+        sector: 22,
+        at: 0,
+        bytes: &[23],
+    },
+];
 
 // Planes are kept of a second tile, and the first is edited in its middle.
 #[test]
 fn planes_of_neighbours_are_dropped(rt: HostRuntime) -> Result<(), Fail> {
     let alloc = rt.alloc();
     let far = Corner { lat: 0, lon: 2 };
-    for (second, expected) in [(EAST, (0, 0)), (far, (20, 22))] {
+    for (second, is_stale, records) in [(EAST, true, (0, 0)), (far, false, (20, 22))] {
         let commands = [import(alloc, HERE, &A)?, import(alloc, second, &A)?];
-        let image = image_after(alloc, 2, &commands)?.with(&[
-            Change {
-                sector: ROOT_A,
-                at: 88,
-                bytes: &[20, 0, 0, 0, 22],
-            },
-            Change {
-                sector: 20,
-                at: 0,
-                bytes: &[21],
-            },
-            Change {
-                sector: 22,
-                at: 0,
-                bytes: &[23],
-            },
-        ])?;
-        let mut store = opened(alloc, &image)?;
-        assert!(rt; !store.stale(second));
-        assert_eq!(rt; store.apply(&wall(12, MIDDLE)), Ok(3));
-        assert_eq!(rt; store.stale(second), second == EAST);
-        assert_eq!(rt; kept_records(alloc, store, 1)?, expected);
+        let image = image_after(alloc, 2, &commands)?.with(&KEPT_OF_THE_SECOND)?;
+        let found = planes_after(alloc, &image, &wall(12, MIDDLE), second, 1)?;
+        assert!(rt; found == (false, Ok(3), is_stale, records));
     }
     Ok(())
 }

@@ -1,4 +1,5 @@
 //! Lines and payloads that no client should send, to a mosaic in memory and to a store.
+use crate::asserting::assert_row;
 use crate::good_images::A;
 use engine::Engine;
 use lattice::Side;
@@ -51,8 +52,8 @@ fn both(alloc: Global, bytes: &[u8], size: usize) -> Result<(Vec<u8>, Vec<u8>), 
 
 fn check(rt: &impl Abort, alloc: Global, input: &[u8], wanted: &[u8]) -> Result<(), Fail> {
     let (table, store) = both(alloc, input, 4096)?;
-    assert_eq!(rt; table.as_slice(), wanted);
-    assert_eq!(rt; store.as_slice(), wanted);
+    assert!(rt; table.as_slice() == wanted, "the mosaic in memory");
+    assert!(rt; store.as_slice() == wanted, "the store");
     Ok(())
 }
 
@@ -173,8 +174,8 @@ fn a_session_in_pieces_of_any_size(rt: HostRuntime) -> Result<(), Fail> {
     let input = session(rt.alloc())?;
     for size in 1..input.len() {
         let (table, store) = both(rt.alloc(), &input, size)?;
-        assert_eq!(rt; table.as_slice(), REPLIES, "in pieces of {size}");
-        assert_eq!(rt; store.as_slice(), REPLIES, "in pieces of {size}");
+        let is_right = table.as_slice() == REPLIES && store.as_slice() == REPLIES;
+        assert_row(&rt, is_right, "in pieces of", size as u64);
     }
     Ok(())
 }
@@ -190,7 +191,12 @@ fn a_session_that_ends_at_any_byte(rt: HostRuntime) -> Result<(), Fail> {
     let input = session(rt.alloc())?;
     for end in 0..input.len() {
         let (table, store) = both(rt.alloc(), &input[..end], 4096)?;
-        assert!(rt; table.as_slice() == store.as_slice(), "up to {end}");
+        assert_row(
+            &rt,
+            table.as_slice() == store.as_slice(),
+            "up to",
+            end as u64,
+        );
         let mut items = 0;
         let mut answered = 0;
         for (item, replies) in ITEMS {
@@ -200,15 +206,13 @@ fn a_session_that_ends_at_any_byte(rt: HostRuntime) -> Result<(), Fail> {
             }
         }
         let (whole, rest) = table.split_at_checked(answered).ok_or("too little")?;
-        assert!(rt; REPLIES.starts_with(whole), "up to {end}");
-        assert!(rt;
-            if items == end {
-                rest.is_empty()
-            } else {
-                is_line(rest)
-            },
-            "up to {end}"
-        );
+        let is_rest = if items == end {
+            rest.is_empty()
+        } else {
+            is_line(rest)
+        };
+        let is_right = REPLIES.starts_with(whole) && is_rest;
+        assert_row(&rt, is_right, "up to", end as u64);
     }
     Ok(())
 }
@@ -221,7 +225,7 @@ const BYTES: [u8; 16] = [
 #[test]
 fn sessions_with_other_bytes(rt: HostRuntime) -> Result<(), Fail> {
     let mut random = Random::new(6);
-    for number in 0..2_000_u32 {
+    for number in 0..2_000_u64 {
         let mut input = session(rt.alloc())?;
         for _ in 0..1 + random.next_below(4) {
             let at = random.next_below(101) as usize;
@@ -230,8 +234,8 @@ fn sessions_with_other_bytes(rt: HostRuntime) -> Result<(), Fail> {
             }
         }
         let (table, store) = both(rt.alloc(), &input, 4096)?;
-        assert!(rt; table.as_slice() == store.as_slice(), "session {number}");
-        assert!(rt; table.ends_with(b"\n"), "session {number}");
+        let is_right = table.as_slice() == store.as_slice() && table.ends_with(b"\n");
+        assert_row(&rt, is_right, "session", number);
     }
     Ok(())
 }
