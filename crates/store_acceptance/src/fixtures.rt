@@ -11,8 +11,6 @@ pub(crate) const HERE: Corner = Corner { lat: 0, lon: 0 };
 
 pub(crate) const EAST: Corner = Corner { lat: 0, lon: 1 };
 
-pub(crate) const NORTH: Corner = Corner { lat: 1, lon: 0 };
-
 // Tiles: nine samples of two bytes each, the higher first, rows from the north.
 
 /// 9 9 9 / 9 1 9 / 9 9 5.

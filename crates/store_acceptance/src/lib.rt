@@ -7,6 +7,8 @@ mod asserting;
 #[cfg(test)]
 mod basins;
 #[cfg(test)]
+mod change;
+#[cfg(test)]
 mod cuts;
 #[cfg(test)]
 mod fixtures;
@@ -20,6 +22,8 @@ mod runs;
 mod script;
 #[cfg(test)]
 mod sinks;
+#[cfg(test)]
+mod standing;
 #[cfg(test)]
 mod stops;
 #[cfg(test)]

@@ -1,41 +1,23 @@
-//! Stops and faults at each call of each command, of each query and of an opening, on stores of tiles of side 3.
+//! Stops and faults at each call of each change, of each query and of an opening, on stores of tiles of side 3.
 use super::asserting::assert_row;
-use super::fixtures::{
-    A, B, EAST, H, HERE, NORTH, V, at, burn, exports, import, opened, patch, store_of, wall,
-};
+use super::change::{CHANGES, Row, UPGRADES, make, prepared_disk};
+use super::fixtures::{A, B, EAST, HERE, at, opened, store_of};
+use super::standing::{Model, Standing};
 use cow_tree::NotOpened;
 use disk::{Disk, FaultOnceDisk, FuseDisk, MemDisk, Torn};
 use edits::Command;
-use lattice::{Corner, Height, Refusal};
+use lattice::{Height, Refusal};
 use std::alloc::Global;
+use std::process::Abort;
 use std::test::Fail;
 use store::Store;
 
-// The tiles of these corners, as far as they are there.
-const CORNERS: [Corner; 3] = [HERE, EAST, NORTH];
-
-type Tiles = [Option<[u8; 18]>; 3];
-
-// They meet where the meridian of 1° east crosses their middle rows.
-const TWO_TILES: Tiles = [Some(V), Some(H), None];
-
-// The middle of the tile to the west is patched with 4.
-const PATCHED: [u8; 18] = [0, 9, 0, 9, 0, 9, 0, 9, 0, 4, 0, 9, 0, 9, 0, 9, 0, 9];
-
-// The point where they meet is burnt from 9 to 7, or walled up to 12, in both.
-const BURNT_WEST: [u8; 18] = [0, 9, 0, 9, 0, 9, 0, 9, 128, 0, 0, 7, 0, 9, 0, 9, 0, 9];
-
-const BURNT_EAST: [u8; 18] = [0, 9, 0, 9, 0, 9, 0, 7, 0, 9, 0, 9, 0, 9, 0, 9, 0, 9];
-
-const WALLED_WEST: [u8; 18] = [0, 9, 0, 9, 0, 9, 0, 9, 128, 0, 0, 12, 0, 9, 0, 9, 0, 9];
-
-const WALLED_EAST: [u8; 18] = [0, 9, 0, 9, 0, 9, 0, 12, 0, 9, 0, 9, 0, 9, 0, 9, 0, 9];
-
-// How many calls opening a store with two tiles makes: a sync, both gates, both roots and two records.
+// How many calls opening a store of the first version with two tiles makes: a sync, both gates, both roots and two
+// records.
 const CALLS_TO_OPEN: u64 = 7;
 
-// More calls of the disk than opening one of these stores and any command or query on it makes.
-const MANY_CALLS: u64 = 80;
+// More calls of the disk than opening one of these stores and any change or query of it makes.
+const MANY_CALLS: u64 = 120;
 
 // What a stop leaves of the gates, where they are unsettled, and of all else that is.
 const STOPS: [(Torn, Torn); 6] = [
@@ -47,105 +29,58 @@ const STOPS: [(Torn, Torn); 6] = [
     (Torn::Fill(0xa7), Torn::Old),
 ];
 
-// A command, and the tiles before it and after it.
+// A store of a version before a change, and how it stands then and after it.
 #[derive(Drop)]
 struct Case {
-    capacity: u32,
-    command: Command,
-    before: Tiles,
-    after: Tiles,
+    version: u32,
+    row: Row,
+    before: Standing,
+    after: Standing,
 }
 
 impl Case {
-    // How many commands were accepted before: an import for each tile.
-    fn accepted(&self) -> u64 {
-        self.before.iter().flatten().count() as u64
+    fn new(alloc: Global, version: u32, row: Row) -> Result<Case, Fail> {
+        let (capacity, prepared, change) = row;
+        let mut model = Model::new(alloc, version, capacity)?;
+        for change in prepared {
+            model.make(*change)?;
+        }
+        let before = model.standing()?;
+        model.make(change)?;
+        let after = model.standing()?;
+        Ok(Case {
+            version,
+            row,
+            before,
+            after,
+        })
     }
 
     fn disk(&self, alloc: Global) -> Result<MemDisk, Fail> {
-        let mut store = store_of(alloc, self.capacity, &[])?;
-        for (corner, tile) in CORNERS.iter().zip(self.before.iter()) {
-            if let Some(bytes) = tile {
-                let command = import(alloc, *corner, bytes)?;
-                store.apply(&command)?;
-            }
-        }
-        Ok(store.into_disk())
+        prepared_disk(alloc, self.version, self.row)
     }
 }
 
-fn on_two_tiles(command: Command, after: Tiles) -> Case {
-    Case {
-        capacity: 4,
-        command,
-        before: TWO_TILES,
-        after,
-    }
-}
-
-fn cases(alloc: Global) -> Result<[Case; 6], Fail> {
-    let middle = at(1, 1);
-    let seam = at(1, 2);
-    Ok([
-        Case {
-            capacity: 2,
-            command: import(alloc, EAST, &B)?,
-            before: [Some(A), None, None],
-            after: [Some(A), Some(B), None],
-        },
-        on_two_tiles(import(alloc, NORTH, &A)?, [Some(V), Some(H), Some(A)]),
-        on_two_tiles(Command::Remove { corner: HERE }, [None, Some(H), None]),
-        on_two_tiles(patch(middle, middle, 4), [Some(PATCHED), Some(H), None]),
-        on_two_tiles(burn(2, &[seam]), [Some(BURNT_WEST), Some(BURNT_EAST), None]),
-        on_two_tiles(
-            wall(12, &[seam]),
-            [Some(WALLED_WEST), Some(WALLED_EAST), None],
-        ),
-    ])
-}
-
-// Whether the store has these tiles and no others.
-fn has<D: Disk>(store: &mut Store<D>, tiles: &Tiles) -> Result<bool, Fail> {
-    if store.tiles()?.len() != tiles.iter().flatten().count() {
-        return Ok(false);
-    }
-    for (corner, tile) in CORNERS.iter().zip(tiles.iter()) {
-        if let Some(bytes) = tile
-            && !exports(store, *corner, bytes)?
-        {
-            return Ok(false);
-        }
-    }
-    Ok(true)
-}
-
-// Whether an opening finds the command done, where the contents are those that go with that.
-fn finds_done(alloc: Global, disk: MemDisk, case: &Case) -> Result<(MemDisk, bool), Fail> {
+// Whether an opening finds the change made, where all that the store tells and answers goes with that.
+fn finds_made(alloc: Global, disk: MemDisk, case: &Case) -> Result<(MemDisk, bool), Fail> {
     let mut store = opened(alloc, disk)?;
-    let done = store.count() != case.accepted();
-    let accepted = case.accepted().saturating_add(u64::from(done));
-    let tiles = if done { &case.after } else { &case.before };
-    if store.count() != accepted || store.commits() != accepted.saturating_add(1) {
-        return Err("another count".into());
+    let made = store.commits() != case.before.commits;
+    let standing = if made { &case.after } else { &case.before };
+    if !standing.is_of(alloc, &mut store)? {
+        return Err("neither of the two stores".into());
     }
-    if !has(&mut store, tiles)? {
-        return Err("other tiles".into());
-    }
-    Ok((store.into_disk(), done))
+    Ok((store.into_disk(), made))
 }
 
-// Opens the store and does the command, with so many calls of the disk.
-fn do_with(
-    alloc: Global,
-    calls: u64,
-    case: &Case,
-) -> Result<(MemDisk, Result<u64, Refusal>), Fail> {
+// Opens the store and makes the change, with so many calls of the disk. Answers how it is refused, if it is.
+fn make_with(alloc: Global, calls: u64, case: &Case) -> Result<(MemDisk, Option<Refusal>), Fail> {
+    let (_, _, change) = case.row;
     match Store::open(alloc, FuseDisk::new(case.disk(alloc)?, calls)) {
         Ok(mut store) => {
-            let answer = store.apply(&case.command);
-            Ok((store.into_disk().into_inner(), answer))
+            let refused = make(alloc, &mut store, change)?;
+            Ok((store.into_disk().into_inner(), refused))
         }
-        Err(NotOpened { disk, refusal }) => Ok((disk.into_inner(), Err(refusal))),
+        Err(NotOpened { disk, refusal }) => Ok((disk.into_inner(), Some(refusal))),
     }
 }
 
@@ -160,54 +95,76 @@ fn stopped(disk: MemDisk, stop: (Torn, Torn)) -> Result<MemDisk, Fail> {
     Ok(disk)
 }
 
-// Opens the store again and again, each time up to a stop one call later.
+// Opens the store again and again, each time up to a stop one call later, until it is open.
 fn stopped_in_openings(alloc: Global, disk: MemDisk, stop: (Torn, Torn)) -> Result<MemDisk, Fail> {
     let mut disk = disk;
-    for calls in 0..CALLS_TO_OPEN {
-        let fuse = match Store::open(alloc, FuseDisk::new(disk, calls)) {
-            Ok(store) => store.into_disk(),
-            Err(not_opened) => not_opened.disk,
-        };
-        disk = stopped(fuse.into_inner(), stop)?;
+    for calls in 0..MANY_CALLS {
+        match Store::open(alloc, FuseDisk::new(disk, calls)) {
+            Ok(store) => return stopped(store.into_disk().into_inner(), stop),
+            Err(not_opened) => disk = stopped(not_opened.disk.into_inner(), stop)?,
+        }
     }
-    Ok(disk)
+    Err("no opening has calls enough".into())
 }
 
-// Stops the command after so many calls, in each way. Answers whether it was through by then.
+// Stops the change after so many calls, in each way. Answers whether it was through by then.
 fn stop_after(alloc: Global, calls: u64, case: &Case) -> Result<bool, Fail> {
     let mut through = false;
     for stop in STOPS {
-        let (disk, answer) = do_with(alloc, calls, case)?;
-        through = answer.is_ok();
-        if !through && answer != Err(Refusal::Device) {
+        let (disk, refused) = make_with(alloc, calls, case)?;
+        through = refused.is_none();
+        if !through && refused != Some(Refusal::Device) {
             return Err("refused otherwise".into());
         }
-        let (disk, done) = finds_done(alloc, stopped(disk, stop)?, case)?;
-        if through && !done {
-            return Err("an acknowledged command is gone".into());
+        let (disk, made) = finds_made(alloc, stopped(disk, stop)?, case)?;
+        if through && !made {
+            return Err("an acknowledged change is gone".into());
         }
-        let (_, again) = finds_done(alloc, stopped_in_openings(alloc, disk, stop)?, case)?;
-        if again != done {
+        let (_, again) = finds_made(alloc, stopped_in_openings(alloc, disk, stop)?, case)?;
+        if again != made {
             return Err("an opening changed the store".into());
         }
     }
     Ok(through)
 }
 
-#[test]
-fn a_stop_after_each_call_of_each_command(rt: HostRuntime) -> Result<(), Fail> {
-    let alloc = rt.alloc();
-    for case in &cases(alloc)? {
-        let mut through = false;
-        for calls in 0..MANY_CALLS {
-            through = stop_after(alloc, calls, case)?;
-            if through {
-                break;
-            }
+// Stops the change after each call, up to where it is through. Answers whether it comes to be.
+fn stop_after_each(alloc: Global, case: &Case) -> Result<bool, Fail> {
+    for calls in 0..MANY_CALLS {
+        if stop_after(alloc, calls, case)? {
+            return Ok(true);
         }
-        assert!(rt; through);
+    }
+    Ok(false)
+}
+
+fn stop_each_change(
+    rt: &impl Abort,
+    alloc: Global,
+    version: u32,
+    rows: &[Row],
+) -> Result<(), Fail> {
+    for (row, number) in rows.iter().zip(1..u64::MAX) {
+        let case = Case::new(alloc, version, *row)?;
+        let through = stop_after_each(alloc, &case)?;
+        assert_row(rt, through, "a change that isn't through", number);
     }
     Ok(())
+}
+
+#[test]
+fn a_stop_after_each_call_by_the_first_version(rt: HostRuntime) -> Result<(), Fail> {
+    stop_each_change(&rt, rt.alloc(), 1, &CHANGES)
+}
+
+#[test]
+fn a_stop_after_each_call_by_the_second_version(rt: HostRuntime) -> Result<(), Fail> {
+    stop_each_change(&rt, rt.alloc(), 2, &CHANGES)
+}
+
+#[test]
+fn a_stop_after_each_call_of_an_upgrade(rt: HostRuntime) -> Result<(), Fail> {
+    stop_each_change(&rt, rt.alloc(), 1, &UPGRADES)
 }
 
 // Whether each call that can refuse is refused with Failed.
@@ -215,6 +172,8 @@ fn refuses_all<D: Disk>(store: &mut Store<D>) -> bool {
     let point = at(0, 2);
     let failed = Some(Refusal::Failed);
     store.apply(&Command::Remove { corner: HERE }).err() == failed
+        && store.step().err() == failed
+        && store.upgrade().err() == failed
         && store.elevation(point).err() == failed
         && store.fill(point).err() == failed
         && store.direction(point).err() == failed
@@ -222,53 +181,81 @@ fn refuses_all<D: Disk>(store: &mut Store<D>) -> bool {
         && store.watershed(point).err() == failed
         && store.export(HERE).err() == failed
         && store.tiles().err() == failed
+        && store.sinks().err() == failed
         && store.seams().err() == failed
 }
 
-// Has this call of the opening or of the command fail. Answers whether the command is done then; none where no such call
+// Has this call of the opening or of the change fail. Answers whether the change is made then; none where no such call
 // is made.
 fn fault_at(alloc: Global, call: u64, case: &Case) -> Result<Option<bool>, Fail> {
+    let (_, _, change) = case.row;
     let mut store = match Store::open(alloc, FaultOnceDisk::new(case.disk(alloc)?, call)) {
         Ok(store) => store,
         Err(NotOpened { disk, refusal }) => {
-            let (_, done) = finds_done(alloc, disk.into_inner(), case)?;
-            return Ok((refusal == Refusal::Device).then_some(done));
+            let (_, made) = finds_made(alloc, disk.into_inner(), case)?;
+            return Ok((refusal == Refusal::Device).then_some(made));
         }
     };
-    let answer = store.apply(&case.command);
-    if answer.is_ok() {
+    let refused = make(alloc, &mut store, change)?;
+    if refused.is_none() {
         return Ok(None);
     }
-    if answer != Err(Refusal::Device) || !refuses_all(&mut store) {
+    if refused != Some(Refusal::Device) || !refuses_all(&mut store) {
         return Err("not failed".into());
     }
-    if store.count() != case.accepted() || store.reopen().is_err() {
+    if store.commits() != case.before.commits || store.reopen().is_err() {
         return Err("not reopened".into());
     }
-    let done = store.count() != case.accepted();
-    let (_, again) = finds_done(alloc, store.into_disk().into_inner(), case)?;
-    if again != done {
+    let made = store.commits() != case.before.commits;
+    let (_, again) = finds_made(alloc, store.into_disk().into_inner(), case)?;
+    if again != made {
         return Err("reopened elsewhere".into());
     }
-    Ok(Some(done))
+    Ok(Some(made))
+}
+
+// Has each call fail in turn. Answers whether the change is made by the last of these faults, in the last sync.
+fn fault_at_each(alloc: Global, case: &Case) -> Result<bool, Fail> {
+    let mut made = false;
+    for call in 0..MANY_CALLS {
+        let Some(found) = fault_at(alloc, call, case)? else {
+            break;
+        };
+        if made {
+            return Err("made by a fault before the last sync".into());
+        }
+        made = found;
+    }
+    Ok(made)
+}
+
+fn fault_in_each_change(
+    rt: &impl Abort,
+    alloc: Global,
+    version: u32,
+    rows: &[Row],
+) -> Result<(), Fail> {
+    for (row, number) in rows.iter().zip(1..u64::MAX) {
+        let case = Case::new(alloc, version, *row)?;
+        let made = fault_at_each(alloc, &case)?;
+        assert_row(rt, made, "not made by a fault in the last sync", number);
+    }
+    Ok(())
 }
 
 #[test]
-fn a_fault_at_each_call_of_each_command(rt: HostRuntime) -> Result<(), Fail> {
-    let alloc = rt.alloc();
-    for case in &cases(alloc)? {
-        // A fault in the last sync alone leaves the command done.
-        let mut done = false;
-        for call in 0..MANY_CALLS {
-            let Some(found) = fault_at(alloc, call, case)? else {
-                break;
-            };
-            assert_row(&rt, !done, "done by a fault before", call);
-            done = found;
-        }
-        assert!(rt; done);
-    }
-    Ok(())
+fn a_fault_at_each_call_by_the_first_version(rt: HostRuntime) -> Result<(), Fail> {
+    fault_in_each_change(&rt, rt.alloc(), 1, &CHANGES)
+}
+
+#[test]
+fn a_fault_at_each_call_by_the_second_version(rt: HostRuntime) -> Result<(), Fail> {
+    fault_in_each_change(&rt, rt.alloc(), 2, &CHANGES)
+}
+
+#[test]
+fn a_fault_at_each_call_of_an_upgrade(rt: HostRuntime) -> Result<(), Fail> {
+    fault_in_each_change(&rt, rt.alloc(), 1, &UPGRADES)
 }
 
 #[derive(Clone, Copy)]

@@ -1,13 +1,10 @@
-//! The upgrade of a store of side 3 to the second version, with a stop after each call.
+//! The upgrade of a store of side 3 to the second version.
 use super::fixtures::{A, HERE, at, exports, import, opened, sink, store_of_version_1};
-use disk::{FuseDisk, MemDisk, Torn};
+use disk::MemDisk;
 use lattice::Refusal;
 use std::alloc::Global;
 use std::test::Fail;
 use store::Store;
-
-// More calls of the disk than opening the store and its upgrade make.
-const MANY_CALLS: u64 = 60;
 
 // Version, commands and commits: an import, a sink and a step were made, and then the upgrade.
 const BEFORE: (u32, u64, u64) = (1, 2, 4);
@@ -50,44 +47,5 @@ fn an_upgrade_needs_room_and_is_made_once(rt: HostRuntime) -> Result<(), Fail> {
     let mut store = opened(alloc, store.into_disk())?;
     assert_eq!(rt; numbers(&store), AFTER);
     assert!(rt; has_all(&mut store)?);
-    Ok(())
-}
-
-// Upgrades with so many calls of the disk, and cuts the power. Answers whether the upgrade was through by then.
-fn stop_after(alloc: Global, calls: u64, torn: Torn) -> Result<bool, Fail> {
-    let fuse = FuseDisk::new(one_tile(alloc, 22)?.into_disk(), calls);
-    let (fuse, through) = match Store::open(alloc, fuse) {
-        Ok(mut store) => {
-            let answer = store.upgrade();
-            (store.into_disk(), answer.is_ok())
-        }
-        Err(not_opened) => (not_opened.disk, false),
-    };
-    let mut disk = fuse.into_inner();
-    disk.stop(torn)?;
-    let mut store = opened(alloc, disk)?;
-    let found = numbers(&store);
-    if found != AFTER && (through || found != BEFORE) {
-        return Err("another store".into());
-    }
-    if !has_all(&mut store)? {
-        return Err("other contents".into());
-    }
-    Ok(through)
-}
-
-#[test]
-fn a_stop_after_each_call_of_an_upgrade(rt: HostRuntime) -> Result<(), Fail> {
-    let alloc = rt.alloc();
-    for torn in [Torn::Old, Torn::New, Torn::Fill(0), Torn::Fill(0xa7)] {
-        let mut through = false;
-        for calls in 0..MANY_CALLS {
-            through = stop_after(alloc, calls, torn)?;
-            if through {
-                break;
-            }
-        }
-        assert!(rt; through);
-    }
     Ok(())
 }
