@@ -5,3 +5,5 @@ pub mod Reaching
 pub mod Shortest
 pub mod Ends
 pub mod Following
+pub mod Finding
+pub mod Measuring

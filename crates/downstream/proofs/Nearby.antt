@@ -80,6 +80,18 @@ level_ground m p v filled = from filled.reached.0 filled.reached.1.0.path
     from [] path = path
     from (y ∷ rest) path = (terrain_is_lawful m).from_ground p y path.0
 
+pub found_ground : (m : Mosaic) (p : Point) (found : Option ℤ) → is_some found ≡ true → IsLevelAt m p found → IsTrue (is_ground m p)
+found_ground m p None is none = absurd (true≢false (sym is))
+found_ground m p (Some v) is there = level_ground m p v there
+
+-- ground one step away is adjacent where some tile holds both points
+pub one_step : (m : Mosaic) (p : Point) (d : Dir) → IsTrue (is_ground m p) → IsTrue (is_ground m (step d p)) → IsTrue (share_tile m p (step d p)) → IsTrue (is_adjacent m p (step d p))
+one_step m p d here there share = five_from (is_ground m p) (is_ground m (step d p)) (not (same_point p (step d p))) (is_near p (step d p)) (share_tile m p (step d p))
+    (record { first = here; second = there; third = ap not (step_other p d); fourth = step_near p d; fifth = share })
+
+pub in_one_tile : (m : Mosaic) (p q : Point) → IsTrue (is_adjacent m p q) → IsTrue (share_tile m p q)
+in_one_tile m p q beside = (five_parts (is_ground m p) (is_ground m q) (not (same_point p q)) (is_near p q) (share_tile m p q) beside).fifth
+
 module _ (m : Mosaic) (level : Point → ℤ) (p : Point) where
   -- no point is adjacent that can't be stepped to, that no tile holds beside p, or that isn't ground
   module _ (is : IsMosaic m) (d : Dir) where
@@ -107,8 +119,7 @@ module _ (m : Mosaic) (level : Point → ℤ) (p : Point) where
         → Some v ≡ beside_of (terrain m) level p d
     beside_found filled here share v there solid =
         ap Some (level_is_unique (terrain m) (step d p) v (level (step d p)) there (filled (step d p) solid))
-        ∙ sym (beside_there (terrain m) level p d (five_from (is_ground m p) (is_ground m (step d p)) (not (same_point p (step d p))) (is_near p (step d p)) (share_tile m p (step d p))
-        (record { first = here; second = solid; third = ap not (step_other p d); fourth = step_near p d; fifth = share })))
+        ∙ sym (beside_there (terrain m) level p d (one_step m p d here solid share))
 
     pub told : AreFilledLevels (terrain m) level → IsTrue (is_ground m p) → IsTrue (share_tile m p (step d p)) → (found : Option ℤ) → IsLevelAt m (step d p) found → found ≡ beside_of (terrain m) level p d
     told filled here share None none = beside_void none

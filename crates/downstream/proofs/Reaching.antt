@@ -51,7 +51,7 @@ linked_on old l low linked i positive below = elim (cases_lt i (length old)) [
 pub read_is : (leads : List Lead) (i : ℕ) (lead : Lead) → i < length leads → lead ≡ get_or leads i lead → lead ≡ lead_at leads i
 read_is leads i lead below read = read ∙ get_or_default leads i lead _ below
 
-marked : (leads : List Lead) (p : Point) → HasPoint leads p → IsMarked leads p (length leads)
+pub marked : (leads : List Lead) (p : Point) → HasPoint leads p → IsMarked leads p (length leads)
 marked leads p has = record {
   place = has.1.0.0;
   before = has.1.0.1;
@@ -63,7 +63,7 @@ module _ (old new : List Lead) (same : (j : ℕ) → j < length old → lead_at 
   point_on : (j : ℕ) → j < length old → (lead_at new j).point ≡ (lead_at old j).point
   point_on j below = ap (λ (l : Lead). l.point) (same j below)
 
-  marked_on : (z : Point) (b c : ℕ) → b ≤ length old → b ≤ c → IsMarked old z b → IsMarked new z c
+  pub marked_on : (z : Point) (b c : ℕ) → b ≤ length old → b ≤ c → IsMarked old z b → IsMarked new z c
   marked_on z b c le up m = record {
     place = m.place;
     before = let a = m.before in omega arith;

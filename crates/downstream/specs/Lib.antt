@@ -4,4 +4,6 @@ pub mod Asking
 pub mod Seen
 pub mod Steepest
 pub mod Across
+pub mod Lie
+pub mod Flats
 pub mod Path

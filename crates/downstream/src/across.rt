@@ -2,12 +2,13 @@
 ghost use Rattle.std.specs.Prelude.{◌≡◌, ◌+◌, ◌<◌, ℤ, [], ◌∷◌, IsTrue, IsFalse, IfOk, IfErr, OnOk, length};
 ghost use Rattle.lattice.specs.declared.point.Point.{Point};
 ghost use Rattle.lattice.specs.Terrain.{Terrain};
-ghost use Rattle.lattice.specs.Ground.{terrain};
+ghost use Rattle.lattice.specs.Ground.{is_ground, terrain};
 ghost use Rattle.flow_d8.specs.Drainage.{CrossesFlat};
 ghost use Rattle.downstream.specs.Around.{OnLevels};
 ghost use Rattle.downstream.specs.Asking.{Asks};
 ghost use Rattle.downstream.specs.Seen.{has_seen};
 ghost use Rattle.downstream.specs.Path.{FlowsBy, FlowsOn};
+ghost use Rattle.downstream.specs.Flats.{IsFollowed};
 ghost use Rattle.downstream.specs.Across.{AreReached, AreLinked, IsVisited, AreVisited, IsOnFlat, IsSearched, AreDrained, lead_at};
 
 use crate::FilledLevels;
@@ -17,9 +18,9 @@ use crate::steepest::steepest;
 use lattice::{DIRECTIONS, Dir, Point, Refusal, neighbour};
 use std::alloc::{AllocError, Global};
 
-// A point that the search has reached, the step to it, and the place of the lead that the step is from.
+/// A point that the search has reached, the step to it, and the place of the lead that the step is from.
 #[derive(Clone, Copy)]
-struct Lead {
+pub(crate) struct Lead {
     point: Point,
     by: Dir,
     from: usize,
@@ -61,8 +62,8 @@ pub(crate) fn way_across<S, L: FilledLevels<S>>(
     Err(Refusal::Damaged)
 }
 
-// Reaches the point that the search is from. No step is to it.
-fn start(point: Point, seen: &mut Seen, leads: &mut Vec<Lead>) -> Result<(), AllocError>
+/// Reaches the point that the search is from. No step is to it.
+pub(crate) fn start(point: Point, seen: &mut Seen, leads: &mut Vec<Lead>) -> Result<(), AllocError>
     requires none { (p : Point) → IsFalse (has_seen seen.old p) }
     requires empty { leads.old.items ≡ [] }
     ensures reached { OnOk result (AreReached seen.new leads.new.items) }
@@ -77,8 +78,8 @@ fn start(point: Point, seen: &mut Seen, leads: &mut Vec<Lead>) -> Result<(), All
     Ok(())
 }
 
-// Whether the lead at the head drains downhill or off the mosaic. If not, the points around it are reached.
-fn follow<S, L: FilledLevels<S>>(
+/// Whether the lead at the head drains downhill or off the mosaic. If not, the points around it are reached.
+pub(crate) fn follow<S, L: FilledLevels<S>>(
     alloc: Global,
     levels: &mut L,
     source: &mut S,
@@ -96,6 +97,8 @@ fn follow<S, L: FilledLevels<S>>(
         → IsSearched (terrain (L.mosaic levels.old source.old)) level x leads.old.items head → CrossesFlat (terrain (L.mosaic levels.old source.old)) level (lead_at leads.old.items head).point 0)) }
     ensures on { L.is_honest levels.new source.new → IfOk result (λ end. IsFalse end → OnLevels (L.mosaic levels.old source.old) (λ level. (x : Point) → level x ≡ height
         → IsSearched (terrain (L.mosaic levels.old source.old)) level x leads.old.items head → IsSearched (terrain (L.mosaic levels.old source.old)) level x leads.new.items (head + 1))) }
+    ensures followed { L.is_honest levels.new source.new → IfOk result (λ end. IsTrue (is_ground (L.mosaic levels.old source.old) (lead_at leads.old.items head).point) → OnLevels (L.mosaic levels.old source.old) (λ level. level (lead_at leads.old.items head).point ≡ height
+        → IsFollowed (terrain (L.mosaic levels.old source.old)) level (lead_at leads.old.items head).point leads.old.items leads.new.items end)) }
     ensures refusal { IfErr result (L.refuses levels.old source.old levels.new source.new) }
     ensures asks { Asks L.FilledLevels levels.old source.old levels.new source.new }
     ensures keeps { OnOk result (L.keeps levels.old source.old levels.new source.new) }
@@ -108,6 +111,14 @@ fn follow<S, L: FilledLevels<S>>(
     }
     spread(lead.point, head, height, &around, seen, leads)?;
     Ok(false)
+}
+
+/// The point of the lead at this place.
+pub(crate) fn point_of(leads: &[Lead], place: usize) -> Point
+    requires { place < length leads.now }
+    ensures { result ≡ (lead_at leads.now place).point }
+{
+    leads[place].point
 }
 
 // Reaches the points around this one, whose lead has the place `from`, that have its level.

@@ -9,11 +9,14 @@
 mod across;
 mod around;
 mod direction;
+mod flats;
 mod levels;
+mod lie;
 mod path;
 mod seen;
 mod steepest;
 
-pub use direction::direction_at;
+pub use direction::{direction_at, direction_over};
+pub use flats::Flats;
 pub use levels::FilledLevels;
 pub use path::trace;

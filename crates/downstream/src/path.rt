@@ -62,7 +62,8 @@ fn follow<S, L: FilledLevels<S>>(
     Ok(path)
 }
 
-fn lengthen(path: &mut Vec<Point>, point: Point) -> Result<(), AllocError>
+/// Adds the point at the end of a list of points.
+pub(crate) fn lengthen(path: &mut Vec<Point>, point: Point) -> Result<(), AllocError>
     ensures path { OnOk result (path.new.items ≡ path.old.items ++ point ∷ []) }
     ensures room { OnOk result (length path.old.items < 2 ^ 63) }
 {

@@ -1,8 +1,6 @@
 pub mod Holders
 pub mod Summed
 pub mod Questioned
-pub mod Joined
-pub mod Levels
 pub mod Answered
 pub mod LevelFunctions
 pub mod Asked
@@ -11,7 +9,6 @@ pub mod Telling
 pub mod Lowest
 pub mod Ashore
 pub mod Numbered
-pub mod Refused
 pub mod Placed
 pub mod Whole
 pub mod Over
@@ -21,3 +18,5 @@ pub mod Agreeing
 pub mod Growing
 pub mod Found
 pub mod Entering
+pub mod Unreached
+pub mod Forgotten

@@ -1,8 +1,11 @@
 -- What is held between two questions.
-use Rattle.std.specs.Prelude.{Option, Some, None}
+use Rattle.std.specs.Prelude.{◌≡◌, Option, Some, None}
 use Rattle.lattice.specs.Mosaic.{Mosaic}
+use Rattle.lattice.specs.declared.point.Point.{Point}
 use Rattle.catalogue.specs.declared.samples.Samples.{Ghosts}
+use Rattle.drainage.specs.Forgetting.{IsLeftOf}
 use Rattle.drainage.specs.Holding.{IsRight}
+use Rattle.drainage.specs.Reaching.{is_reached}
 use Rattle.drainage.specs.Waters.{known_of}
 use Rattle.drainage.specs.declared.held.Held.{Held}
 use Rattle.drainage.specs.declared.waters.Waters.{Waters}
@@ -15,6 +18,15 @@ are_right m (Some waters) = IsRight m (known_of waters)
 abbrev pub IsHeldOf : Mosaic → Held → Type 0
 IsHeldOf m held = are_right m held.waters
 
--- .. for the one that the samples stand for, where they are honest
+-- what was found is left, but for the tiles that the box reaches, and for the levels
+abbrev pub are_left : Point → Point → Option Waters → Option Waters → Type 0
+are_left from to None left = left ≡ None
+are_left from to (Some waters) left =
+    (some : Waters) × (left ≡ Some some) × IsLeftOf (is_reached waters.shores.side waters.shores.corners.items from to) (known_of waters) (known_of some)
+
+abbrev pub IsLeftHeld : Point → Point → Held → Held → Type 0
+IsLeftHeld from to held left = are_left from to held.waters left.waters
+
+-- what is held is right for the mosaic that the samples stand for, where they are honest
 abbrev pub IsHeldFor : {S : Type 0} (g : Ghosts S) → S → Held → Type 0
 IsHeldFor g samples held = g.is_honest samples → IsHeldOf (g.mosaic samples) held

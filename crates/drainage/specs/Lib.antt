@@ -7,3 +7,5 @@ pub mod Kept
 pub mod Holding
 pub mod Waters
 pub mod Between
+pub mod Reaching
+pub mod Forgetting

@@ -1,13 +1,15 @@
 //! The labellings of the tiles that were entered.
-ghost use Rattle.std.specs.Prelude.{◌≡◌, ◌<◌, ◌⊎◌, ℕ, Some, None, IfOk, IfErr, IfSome, length, slice_index, slice_index_or};
+ghost use Rattle.std.specs.Prelude.{◌≡◌, ◌<◌, ◌⊎◌, ◌↔◌, ℕ, Some, None, false, IfOk, IfErr, IfSome, length, slice_index, slice_index_or, slice_set};
 ghost use Rattle.lattice.specs.Mosaic.{void};
 ghost use Rattle.lattice.specs.declared.refusal.Refusal.TheVariants.{NoMemory};
 ghost use Rattle.tile_flood.specs.Blocks.{LabelledGround};
 ghost use Rattle.drainage.specs.Holding.{entered_at};
+ghost use Rattle.drainage.specs.Reaching.{is_reached};
 
 use crate::filling::spot_of;
 use crate::growth::push;
-use lattice::{Refusal, Side};
+use crate::reaching::is_reached;
+use lattice::{Corner, Point, Refusal, Side};
 use std::alloc::Global;
 use std::marker::Model;
 use tile_flood::Labelled;
@@ -90,6 +92,28 @@ impl Entered {
         }
         if t < self.tiles.len() && self.by_use.push(t).is_ok() {
             self.tiles[t] = Some(labelled);
+        }
+    }
+
+    /// Gives up the labellings of the tiles that changes from the one point to the other reach. Takes no memory.
+    pub(crate) fn forget_between(&mut self, side: Side, corners: &[Corner], from: Point, to: Point)
+        ensures { (t : ℕ) (l : LabelledGround) → entered_at self.new t ≡ Some l ↔ ((entered_at self.old t ≡ Some l) × (is_reached side corners.now from to t ≡ false)) }
+    {
+        for t in 0..self.tiles.len() {
+            if is_reached(side, corners, from, to, t) {
+                self.forget(t);
+            }
+        }
+    }
+
+    // Gives up the labelling of the tile with this place.
+    fn forget(&mut self, t: usize)
+        requires { t < length self.old }
+        ensures { self.new ≡ slice_set self.old t None }
+    {
+        self.tiles[t] = None;
+        if let Some(at) = place_of(&self.by_use, t) {
+            self.by_use.remove(at);
         }
     }
 

@@ -3,10 +3,11 @@ ghost use Rattle.std.specs.Prelude.{◌≡◌, IfOk, IfErr};
 ghost use Rattle.lattice.specs.Mosaic.{Mosaic};
 ghost use Rattle.lattice.specs.declared.refusal.Refusal.TheVariants.{NoMemory};
 ghost use Rattle.drainage.specs.Holding.{IsRight};
+ghost use Rattle.drainage.specs.Reaching.{DifferBetween};
 
 use crate::waters::Waters;
 use catalogue::Samples;
-use lattice::Refusal;
+use lattice::{Point, Refusal};
 use std::alloc::Global;
 
 /// What questions about the water of one mosaic found, so that a later question doesn't find it again: the ways of the
@@ -18,7 +19,7 @@ pub struct Held {
 }
 
 impl Held {
-    ghost use Rattle.drainage.specs.Between.{IsHeldOf};
+    ghost use Rattle.drainage.specs.Between.{IsHeldOf, IsLeftHeld};
     ghost use Rattle.drainage.specs.Waters.{known_of};
 
     /// Nothing is held. Takes no memory.
@@ -33,6 +34,20 @@ impl Held {
         ensures { (m : Mosaic) → IsHeldOf m self.new }
     {
         self.waters = None;
+    }
+
+    /// Gives up what changes of points from the one to the other, ends included, may make wrong: the ways and the labellings
+    /// of the tiles that hold such a point or one beside it, and all levels of rim points. What else is held serves on, for
+    /// the mosaic as it was and as it becomes. Takes no memory.
+    pub fn forget_between(&mut self, from: Point, to: Point)
+        ensures left { IsLeftHeld from to self.old self.new }
+        ensures right { (m new : Mosaic) → DifferBetween m new from to → IsHeldOf m self.old → IsHeldOf new self.new }
+    {
+        let Some(mut waters) = self.waters.take() else {
+            return;
+        };
+        waters.forget_between(from, to);
+        self.waters = Some(waters);
     }
 
     // Hands out what is held, or that nothing is found yet. Nothing is held then. NoMemory is the only refusal.

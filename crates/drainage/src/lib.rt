@@ -3,24 +3,24 @@
 //!
 //! The layer above rests on this: over any lawful `Labellings` each call gives what its definition says of the mosaic that
 //! they stand for, and only reads. A filled level asks for the labellings of the tiles on the water's way out, a direction and
-//! a flow path for levels on their way, and a watershed for the labellings of all tiles; they are made or were kept.
+//! a flow path for levels on their way, and a watershed for those around its points; they are made or were kept.
 #![tactic(auto)]
 
 mod asking;
 mod draining;
 mod entered;
 mod filling;
-mod flooding;
 mod following;
 mod growth;
 mod held;
 mod laws;
+mod reaching;
 mod rims;
 mod shores;
 mod summing;
 mod waters;
 
-pub use draining::watershed;
+pub use draining::{watershed, watershed_held};
 pub use filling::{fill, fill_held, level};
 pub use following::{direction, direction_held, trace, trace_held};
 pub use held::Held;

@@ -40,6 +40,13 @@ impl RimLevels {
         Some(*level)
     }
 
+    /// Knows no level from then on. Takes no memory.
+    pub(crate) fn forget(&mut self)
+        ensures { (x : ℕ) → level_of self.new x ≡ None }
+    {
+        self.levels.clear();
+    }
+
     /// Knows the level of the node from then on. NoMemory is the only refusal.
     pub(crate) fn know(&mut self, node: u32, level: i16) -> Result<(), Refusal>
         ensures known { OnOk result ((x : ℕ) → level_of self.new x ≡ cond (node == x) (Some level) (level_of self.old x)) }

@@ -1,5 +1,5 @@
 //! The ways between rim points, of tiles whose labellings are asked once water comes to their rims.
-ghost use Rattle.std.specs.Prelude.{◌≡◌, ◌≢◌, ◌+◌, ◌-◌, ◌*◌, ◌<◌, ◌≤◌, ◌⊎◌, ℕ, IfOk, IfErr, OnOk, IfSome, IfNone, IsTrue, Ok, Some, None, length};
+ghost use Rattle.std.specs.Prelude.{◌≡◌, ◌≢◌, ◌+◌, ◌-◌, ◌*◌, ◌<◌, ◌≤◌, ◌⊎◌, ◌↔◌, ℕ, IfOk, IfErr, OnOk, IfSome, IfNone, IsTrue, Ok, Some, None, false, length, slice_set};
 ghost use Rattle.catalogue.specs.Asked.{Asked};
 ghost use Rattle.catalogue.specs.Endings.{ends_any};
 ghost use Rattle.catalogue.specs.Readers.{OnlyReads};
@@ -9,14 +9,16 @@ ghost use Rattle.lattice.specs.Mosaic.{Mosaic};
 ghost use Rattle.lattice.specs.declared.refusal.Refusal.TheVariants.{NoMemory, Damaged};
 ghost use Rattle.rising.specs.TileWays.{TileWays as TileWaysOf};
 ghost use Rattle.rising.specs.Others.{corner_at, AreTooMany};
+ghost use Rattle.drainage.specs.Reaching.{is_reached};
 ghost use Rattle.drainage.specs.Shores.{told_at, AreTileWays, AreTold, AreReady, AreKept};
 
 use crate::growth::push;
+use crate::reaching::is_reached;
 use crate::summing::flood_tile;
 use border_graph::Summary;
 use catalogue::Samples;
 use derived::Labellings;
-use lattice::{Corner, Refusal, Side, VOID, point_at, rim_index};
+use lattice::{Corner, Point, Refusal, Side, VOID, point_at, rim_index};
 use rising::{TileWays, Way, node_at, ways_to_others};
 use std::alloc::Global;
 use tile_flood::Labelled;
@@ -107,6 +109,31 @@ impl Shores {
         let ways = TileWays::new(alloc, self.side, summary)?;
         self.told[t] = Some(ways);
         Ok(())
+    }
+
+    /// Gives up the ways of the tiles that changes from the one point to the other reach. Takes no memory.
+    pub(crate) fn forget_between(&mut self, from: Point, to: Point)
+        ensures side { self.new.side ≡ self.old.side }
+        ensures corners { self.new.corners.items ≡ self.old.corners.items }
+        ensures whole { length self.new.told.items ≡ length self.old.told.items }
+        ensures told { (t : ℕ) (ways : TileWaysOf) → told_at self.new.told.items t ≡ Some ways
+            ↔ ((told_at self.old.told.items t ≡ Some ways) × (is_reached self.old.side self.old.corners.items from to t ≡ false)) }
+    {
+        for t in 0..self.told.len() {
+            if is_reached(self.side, &self.corners, from, to, t) {
+                self.forget(t);
+            }
+        }
+    }
+
+    // Gives up the ways of the tile with this place.
+    fn forget(&mut self, t: usize)
+        requires { t < length self.old.told.items }
+        ensures side { self.new.side ≡ self.old.side }
+        ensures corners { self.new.corners.items ≡ self.old.corners.items }
+        ensures told { self.new.told.items ≡ slice_set self.old.told.items t None }
+    {
+        self.told[t] = None;
     }
 
     // Lists the ways from the rim point with this number in the tile with this place, where the tile is told.

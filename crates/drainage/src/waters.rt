@@ -4,13 +4,15 @@ ghost use Rattle.catalogue.specs.Asked.{Asked};
 ghost use Rattle.catalogue.specs.Endings.{ends_any};
 ghost use Rattle.catalogue.specs.Readers.{OnlyReads};
 ghost use Rattle.derived.specs.Labellings.{IsFlooded};
-ghost use Rattle.lattice.specs.Mosaic.{void};
+ghost use Rattle.lattice.specs.Mosaic.{Mosaic, void};
 ghost use Rattle.lattice.specs.declared.refusal.Refusal.TheVariants.{NoMemory};
 ghost use Rattle.rising.specs.TileWays.{TileWays as TileWaysOf};
 ghost use Rattle.rising.specs.Others.{corner_at};
 ghost use Rattle.tile_flood.specs.Blocks.{LabelledGround};
 ghost use Rattle.drainage.specs.Shores.{told_at};
+ghost use Rattle.drainage.specs.Forgetting.{IsLeftOf};
 ghost use Rattle.drainage.specs.Holding.{IsRight, IsGrown};
+ghost use Rattle.drainage.specs.Reaching.{DifferBetween, is_reached};
 
 use crate::entered::Entered;
 use crate::filling::spot_of;
@@ -18,7 +20,7 @@ use crate::rims::RimLevels;
 use crate::shores::Shores;
 use catalogue::Samples;
 use derived::Labellings;
-use lattice::{Corner, Refusal};
+use lattice::{Corner, Point, Refusal};
 use rising::{Way, Ways};
 use std::alloc::Global;
 
@@ -45,6 +47,19 @@ impl Waters {
             entered,
             levels: RimLevels::new(alloc),
         })
+    }
+
+    /// Gives up what changes from the one point to the other may make wrong: the ways and the labellings of the tiles that
+    /// they reach, and each level of a rim point, which depends on the water's whole way out. Takes no memory.
+    pub(crate) fn forget_between(&mut self, from: Point, to: Point)
+        ensures left { IsLeftOf (is_reached self.old.shores.side self.old.shores.corners.items from to) (known_of self.old) (known_of self.new) }
+        ensures right { (m new : Mosaic) → DifferBetween m new from to → IsRight m (known_of self.old) → IsRight new (known_of self.new) }
+    {
+        self.levels.forget();
+        let side = self.shores.side;
+        self.entered
+            .forget_between(side, &self.shores.corners, from, to);
+        self.shores.forget_between(from, to);
     }
 
     // Has the ways of the tile with this place and corner from then on, unless it had them.

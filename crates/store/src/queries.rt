@@ -107,7 +107,11 @@ impl<D: Disk> Store<D> {
             → (t : State) × (IsAt D.Disk self.new t × Sheds s point (items_in result) t) }
     {
         self.check_working()?;
-        drainage::watershed(self.alloc, self, point)
+        self.is_held_right();
+        let mut held = mem::replace(&mut self.held, Held::new());
+        let runs = drainage::watershed_held(self.alloc, self, &mut held, point);
+        self.held = held;
+        runs
     }
 
     /// The bytes of the HGT file of a tile's own samples. Refused with Failed, NoTile, NoMemory (before any read) or

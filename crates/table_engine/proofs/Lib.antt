@@ -1,2 +1,4 @@
 pub mod FreshTiles
 pub mod TableCalls
+pub mod Reached
+pub mod LeftHeld

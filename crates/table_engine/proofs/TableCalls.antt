@@ -38,10 +38,6 @@ use Rattle.drainage.specs.declared.held.Held as water
 use Rattle.table_engine.specs.TableState.{Held, held_of, contents_of, stale_among, table, IsKept}
 use Rattle.table_engine.proofs.FreshTiles.{one_less}
 
--- what is read is kept as it is
-pub still_kept : (capacity : ℕ) (m new : Mosaic) (found : water.Held) (k g : ℕ) → new ≡ m → IsKept capacity m found k g → IsKept capacity new found k g
-still_kept capacity m new found k g same = subst (λ (x : Mosaic). IsKept capacity x found k g) (sym same)
-
 few_writes : (side : ℕ) (c : Command) → WritesFew 2 side (ask.Do c) 0 0
 few_writes side (Import c bytes) = tt
 few_writes side (Remove c) = tt

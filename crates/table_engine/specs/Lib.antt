@@ -1,1 +1,2 @@
 pub mod TableState
+pub mod Changed

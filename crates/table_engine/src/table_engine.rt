@@ -7,6 +7,7 @@ ghost use Rattle.edits.specs.LeftStale.{is_beside};
 ghost use Rattle.calls.specs.State.{fresh};
 ghost use Rattle.table_engine.specs.TableState.{stale_among};
 
+use crate::forgetting::forget_changed;
 use catalogue::{Samples, Table, height};
 use edits::{Change, Command, carry_out, commands_make_mosaics, leave_stale, plan};
 use engine::Engine;
@@ -104,7 +105,7 @@ impl Engine for TableEngine {
             return Err(Refusal::Worn);
         }
         let fresh = still_fresh(self.alloc, &self.table, &changes, &self.fresh)?;
-        self.held.forget();
+        forget_changed(&mut self.held, self.table.side(), &changes);
         carry_out(changes, &mut self.table)?;
         // By this law the capacity is kept.
         commands_make_mosaics();
@@ -131,7 +132,7 @@ impl Engine for TableEngine {
     }
 
     fn watershed(&mut self, point: Point) -> Result<Vec<Run>, Refusal> {
-        drainage::watershed(self.alloc, &mut self.table, point)
+        drainage::watershed_held(self.alloc, &mut self.table, &mut self.held, point)
     }
 
     fn export(&mut self, corner: Corner) -> Result<Vec<u8>, Refusal> {

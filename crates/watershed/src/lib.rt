@@ -1,6 +1,7 @@
 //! The points that drain through a point: its watershed, as maximal runs of samples.
 //!
-//! The layer above rests on this: a set has one list of runs, and `watershed` gives that of a point's watershed.
+//! The layer above rests on this: a set has one list of runs, `runs_of_points` gives that of a list of points, and
+//! `watershed` that of a point's watershed.
 #![tactic(auto)]
 
 mod laws;
@@ -8,5 +9,5 @@ mod runs;
 mod search;
 
 pub use laws::runs_are_unique;
-pub use runs::Run;
+pub use runs::{Run, runs_of_points};
 pub use search::watershed;

@@ -1,15 +1,15 @@
 //! The search up the flow paths.
-ghost use Rattle.std.specs.Prelude.{◌≡◌, ℤ, IsFalse, IfOk, IfErr, OnOk, []};
+ghost use Rattle.std.specs.Prelude.{◌≡◌, ℤ, IsFalse, IfOk, IfErr, OnOk, is_some, []};
 ghost use Rattle.lattice.specs.declared.point.Point.{Point};
 ghost use Rattle.lattice.specs.declared.refusal.Refusal.TheVariants.{NoMemory};
 ghost use Rattle.lattice.specs.Mosaic.{Mosaic, IsMosaic};
 ghost use Rattle.lattice.specs.Ground.{is_ground, terrain};
 ghost use Rattle.flow_d8.specs.FlowPath.{IsInWatershed};
-ghost use Rattle.flow_d8.specs.Directions.{AreDirectionsOf};
+ghost use Rattle.flow_d8.specs.Directions.{AreDirectionsOf, DrainsTo, distance_in};
 ghost use Rattle.watershed.specs.Runs.{AreRuns};
 ghost use Rattle.watershed.specs.Search.{AreFeeders, AreUpstream};
 
-use crate::runs::{Run, runs_of, sort};
+use crate::runs::{Run, runs_of_points};
 use flow_d8::Directions;
 use lattice::{Point, Refusal};
 use std::alloc::{AllocError, Global};
@@ -21,14 +21,13 @@ pub fn watershed(alloc: Global, directions: &Directions, point: Point) -> Result
     ensures elsewhere { IfOk result (λ runs. (m : Mosaic) (level : Point → ℤ) → IsMosaic m → AreDirectionsOf m level directions.now → IsFalse (is_ground m point) → runs.items ≡ []) }
     ensures refusal { IfErr result (λ r. r ≡ NoMemory) }
 {
-    let mut points = upstream(alloc, directions, point)?;
-    sort(&mut points)?;
-    Ok(runs_of(alloc, &points)?)
+    let points = upstream(alloc, directions, point)?;
+    Ok(runs_of_points(alloc, points)?)
 }
 
 // The points whose flow path contains the point, each after the one that it drains to.
 fn upstream(alloc: Global, directions: &Directions, point: Point) -> Result<Vec<Point>, AllocError>
-    ensures { IfOk result (λ found. AreUpstream directions.now point found.items) }
+    ensures { IfOk result (λ found. AreUpstream (DrainsTo directions.now) (is_some (distance_in directions.now point)) point found.items) }
 {
     let mut found = Vec::new(alloc);
     if directions.flat_distance(point).is_some() {
@@ -49,7 +48,7 @@ fn add_feeders(
     point: Point,
     found: &mut Vec<Point>,
 ) -> Result<(), AllocError>
-    ensures { OnOk result (AreFeeders directions.now point found.old.items found.new.items) }
+    ensures { OnOk result (AreFeeders (DrainsTo directions.now) point found.old.items found.new.items) }
 {
     let feeders = directions.feeders(point);
     for feeder in feeders.as_slice() {

@@ -7,13 +7,8 @@ use Rattle.flow_d8.specs.FlowPath.{IsFlowPath}
 use Rattle.downstream.specs.Levels.{IsLevelAt}
 use Rattle.downstream.specs.Around.{OnLevels}
 use Rattle.downstream.proofs.Asked.{on_ok}
-use Rattle.downstream.proofs.Nearby.{level_ground}
+use Rattle.downstream.proofs.Nearby.{found_ground}
 use Rattle.downstream.proofs.path.trace.Goals as goal
-
--- a point with a level is ground
-solid_of : (m : Mosaic) (p : Point) (found : Option ℤ) → is_some found ≡ true → IsLevelAt m p found → IsTrue (is_ground m p)
-solid_of m p None is none = absurd (true≢false (sym is))
-solid_of m p (Some v) is there = level_ground m p v there
 
 pub returns-clause-path : goal.returns-clause-path
 returns-clause-path g c honest =
@@ -25,5 +20,5 @@ returns-clause-elsewhere g c honest =
     let m = g.L.FilledLevels.mosaic c.args.levels.now c.args.source.now in
     let there = c.in_ok-level.ensures.level (c.follow.ensures.asks.honest honest) in
     let some : is_some c.in_ok-level.field-0 ≡ true = c.is_none.ensures ∙ ap not c.if-is_none.false in
-    let solid = solid_of m c.args.point c.in_ok-level.field-0 some there in
+    let solid = found_ground m c.args.point c.in_ok-level.field-0 some there in
     on_ok _ (λ path. IsFalse (is_ground m c.args.point) → path.items ≡ []) c.follow.result (λ path _ none. absurd (true≢false (sym solid ∙ none))) (c.follow.ensures.path honest)

@@ -14,28 +14,34 @@ use Rattle.calls.specs.Engines.{items_in}
 use Rattle.store.proofs.Labelled.{still_sure}
 use Rattle.store.proofs.Querying.{stays_at, queried, fails_so}
 use Rattle.store.proofs.QueryingDrainage.{listed, read_answered, told_here}
+use Rattle.store.proofs.WaterHeld.{lent}
 use Rattle.store.proofs.store.Store.watershed.Goals as goal
+
+pub invariant_of-self : goal.invariant_of-self
+invariant_of-self g c =
+    let self = c.args.self.now in
+    record { clean = self.clean; right = lent g.D.Disk self.tree c.replace-held.new.dest c.new.result c.replace-held.ensures.after c.new.ensures }
 
 pub returns-clause-reads : goal.returns-clause-reads
 returns-clause-reads g c =
     let old = c.args.self.now in
     let works = c.in_ok-check_working.ensures.works in
-    let new = c.watershed.new.samples in
-    let result = c.watershed.result in
-    let asked = c.watershed.ensures.asked in
-    queried g.D.Disk old.tree new.tree works asked.reads.keeps result (asked_risen _ old new result asked) (asked_works _ old new result asked works) (asked_fails _ old new result asked)
-    (asked_quiet _ old new result asked works)
+    let new = c.watershed_held-runs.new.samples in
+    let result = c.watershed_held-runs.result in
+    let asked = c.watershed_held-runs.ensures.asked in
+    queried g.D.Disk old.tree new.tree works asked.reads.keeps result (asked_risen _ _ new result asked) (asked_works _ _ new result asked works) (asked_fails _ _ new result asked)
+    (asked_quiet _ _ new result asked works)
 
 pub returns-clause-outcome : goal.returns-clause-outcome
 returns-clause-outcome g c honest s at =
     let d = g.D.Disk in
     let old = c.args.self.now.tree in
-    let new = c.watershed.new.samples.tree in
+    let new = c.watershed_held-runs.new.samples.tree in
     let works = c.in_ok-check_working.ensures.works in
-    let ensures = c.watershed.ensures in
+    let ensures = c.watershed_held-runs.ensures in
     let asked = ensures.asked in
     let keeps = asked.reads.keeps in
-    let result : Result (Vec Run) Refusal = c.watershed.result in
+    let result : Result (Vec Run) Refusal = c.watershed_held-runs.result in
     let sure = still_sure d old new works keeps honest s at in
     read_answered d old new works keeps honest s at (λ (s : State) (r : Result (Vec Run) Refusal) (t : State). Sheds s c.args.point (items_in r) t) result asked.read asked.passed (asked.reads.ready works) asked.reads.unready
     (asked.reads.only_device works) (fails_so d old new works keeps honest s at)

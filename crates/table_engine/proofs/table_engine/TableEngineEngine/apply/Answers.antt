@@ -1,4 +1,5 @@
-use Rattle.std.proofs.Common.{rules, ◌≡◌, ◌<◌, List, filter, not, sym, ap, ap₂, ◌∙◌}
+use Rattle.std.proofs.Common.{rules, ◌≡◌, ◌<◌, List, All, filter, not, sym, ap, ap₂, ◌∙◌, subst}
+use Rattle.std.proofs.lemmas.List.Elements.{All-weaker}
 use Rattle.std.specs.Prelude.{Result, Ok}
 use Rattle.lattice.specs.Mosaic.{Mosaic}
 use Rattle.lattice.specs.declared.refusal.Refusal.{Refusal}
@@ -11,12 +12,34 @@ use Rattle.edits.specs.LeftStale.{is_beside}
 use Rattle.edits.proofs.AllStale.{all_changed_side}
 use Rattle.calls.specs.declared.event.Event.TheVariants as ask
 use Rattle.table_engine.specs.TableState.{stale_among}
+use Rattle.drainage.specs.Between.{IsHeldOf}
+use Rattle.table_engine.specs.Changed.{IsWithin}
 use Rattle.table_engine.proofs.FreshTiles.{stale_then}
+use Rattle.table_engine.proofs.LeftHeld.{within_if}
 use Rattle.table_engine.proofs.TableCalls.{called, called_same, done, old, worn}
 use Rattle.table_engine.proofs.table_engine.TableEngineEngine.apply.Goals as goal
 
 pub invariant_of-self-in_err-carry_out : goal.invariant_of-self-in_err-carry_out
-invariant_of-self-in_err-carry_out c = record { valid = search rules; above = search rules; within = search rules; few = search rules; right = c.forget.ensures c.carry_out.new.table }
+invariant_of-self-in_err-carry_out c =
+    let e = c.self.inside in
+    let reads = c.in_ok-changes.ensures.reads in
+    let same : c.carry_out.new.table ≡ e.table = c.in_err-carry_out.ensures.unchanged ∙ reads.keeps in
+    record {
+      valid = search rules;
+      above = search rules;
+      within = search rules;
+      few = search rules;
+      right = subst (λ (m : Mosaic). IsHeldOf m c.forget_changed.new.held) (sym same)
+          (c.forget_changed.ensures.still e.table c.self.invariant.valid (sym (c.side.ensures ∙ ap (λ (m : Mosaic). m.side) reads.keeps)) c.self.invariant.right);
+    }
+
+-- each sample that is set is one of a tile
+pub forget_changed-requires : goal.forget_changed-requires
+forget_changed-requires c =
+    let fits = c.in_ok-changes.ensures.fits in
+    let side : c.side.result ≡ c.self.inside.table.side = c.side.ensures ∙ ap (λ (m : Mosaic). m.side) c.in_ok-changes.ensures.reads.keeps in
+    subst (λ (xs : List Change). All (IsWithin c.side.result) xs) (sym c.deref-3.ensures.value)
+    (subst (λ n. All (IsWithin n) c.in_ok-changes.changes.items) (sym side) (All-weaker _ _ (within_if c.self.inside.table.side _ _) c.in_ok-changes.changes.items fits))
 
 pub returns-then-self : goal.returns-then-self
 returns-then-self c =
@@ -59,5 +82,6 @@ invariant_of-self-2 c =
       above = search rules;
       within = c.commands_make_mosaics.ensures.capacity e.capacity e.table c.args.command.now new c.self.invariant.within (c.in_ok-changes.ensures.changes valid ∙ ap (λ (m : Mosaic). let r : Result Mosaic Refusal = Ok m in r) is);
       few = c.self.invariant.few;
-      right = c.forget.ensures new;
+      right = subst (λ (m : Mosaic). IsHeldOf m c.forget_changed.new.held) (ap (λ (xs : List Change). all_changed xs e.table) c.deref-3.ensures.value ∙ is)
+          (c.forget_changed.ensures.changed e.table c.self.invariant.valid (sym (c.side.ensures ∙ ap (λ (m : Mosaic). m.side) reads.keeps)) c.self.invariant.right);
     }

@@ -1,0 +1,49 @@
+//! How a point lies: where it drains, as far as the levels around it tell.
+ghost use Rattle.std.specs.Prelude.{IfOk, IfErr, OnOk};
+ghost use Rattle.downstream.specs.Asking.{Asks};
+ghost use Rattle.downstream.specs.Lie.{IsLie};
+
+use crate::FilledLevels;
+use crate::around::{around, leads_off};
+use crate::steepest::steepest;
+use lattice::{Dir, Point, Refusal};
+use std::alloc::Global;
+
+/// What the levels around a point tell of it.
+#[derive(Clone, Copy)]
+pub(crate) enum Lie {
+    /// It drains so: by the steepest step down, or off the mosaic, which None says. None too where it isn't ground.
+    Drains(Option<Dir>),
+    /// It lies inside a flat of this level, with these levels around it.
+    Inside {
+        height: i16,
+        around: [Option<i16>; 8],
+    },
+}
+
+/// How the point lies. It is refused as a level may be.
+pub(crate) fn lie_of<S, L: FilledLevels<S>>(
+    alloc: Global,
+    levels: &mut L,
+    source: &mut S,
+    point: Point,
+) -> Result<Lie, Refusal>
+    requires { L.fits levels.old source.old }
+    ensures lie { L.is_honest levels.new source.new → IfOk result (IsLie (L.mosaic levels.old source.old) point) }
+    ensures refusal { IfErr result (L.refuses levels.old source.old levels.new source.new) }
+    ensures asks { Asks L.FilledLevels levels.old source.old levels.new source.new }
+    ensures keeps { OnOk result (L.keeps levels.old source.old levels.new source.new) }
+    ensures fits { L.fits levels.new source.new }
+{
+    let Some(height) = levels.level(alloc, source, point)? else {
+        return Ok(Lie::Drains(None));
+    };
+    let around = around(alloc, levels, source, point)?;
+    if let Some(direction) = steepest(height, &around) {
+        return Ok(Lie::Drains(Some(direction)));
+    }
+    if leads_off(levels, source, point, &around) {
+        return Ok(Lie::Drains(None));
+    }
+    Ok(Lie::Inside { height, around })
+}

@@ -1,0 +1,109 @@
+-- What is left of what was known is right for the mosaic as it changed; and lists whose elements are given up one by one.
+use Rattle.std.proofs.Common.{◌≡◌, ℕ, zero, suc, ◌+◌, ◌-◌, ◌*◌, ◌^◌, ◌<◌, ◌≤◌, inl, inr, Bool, true, false, List, [], ◌∷◌, length, get_or, refl, sym, ap, ◌∙◌, subst, arith}
+use Rattle.std.specs.Prelude.{◌↔◌, Option, Some, None, slice_set, nat_lt, not}
+use Rattle.std.proofs.lemmas.Bool.{cases_eq, or_parts, both_ways}
+use Rattle.std.proofs.lemmas.List.{get_or-set_other, get_or-set_same, length-set}
+use Rattle.lattice.specs.Corners.{Corner}
+use Rattle.lattice.specs.declared.point.Point.{Point}
+use Rattle.lattice.specs.Mosaic.{Mosaic}
+use Rattle.derived.specs.Labellings.{IsFlooded}
+use Rattle.rising.specs.Others.{corner_at}
+use Rattle.drainage.specs.Forgetting.{IsLeftOf}
+use Rattle.drainage.specs.Holding.{Known, IsRight}
+use Rattle.drainage.specs.Reaching.{is_reached, reaches, DifferBetween}
+use Rattle.drainage.specs.Shores.{AreReady}
+use Rattle.drainage.proofs.Unreached.{flooded_still, summary_still}
+
+-- ---- what is left is right
+
+none_is : {A : Type 0} (a : A) → ◌≡◌ {A = Option A} None (Some a) → ⊥
+none_is a e = cc
+
+pub left_right : (m new : Mosaic) (from to : Point) (known known' : Known) → DifferBetween m new from to → IsLeftOf (is_reached known.side known.corners from to) known known' → IsRight m known → IsRight new known'
+left_right m new from to known known' differ left right = record {
+  ready = record {
+    same_side = left.same_side ∙ (ready.same_side ∙ sym differ.same_side);
+    all = left.same_corners ∙ (ready.all ∙ sym differ.same_corners);
+    room = subst (λ (n : ℕ). 1 + length known'.corners * (4 * (n - 1)) < 2 ^ 32) (sym left.same_side)
+        (subst (λ (cs : List Corner). 1 + length cs * (4 * (known.side - 1)) < 2 ^ 32) (sym left.same_corners) ready.room);
+    tiles = record {
+      whole = left.whole ∙ (ready.tiles.whole ∙ ap (λ (cs : List Corner). length cs) (sym left.same_corners));
+      sides = λ t ways is. ready.tiles.sides t ways ((left.told t ways).0 is).0 ∙ sym left.same_side;
+      places = λ t ways is. ready.tiles.places t ways ((left.told t ways).0 is).0 ∙ ap (λ (cs : List Corner). corner_at cs t) (sym left.same_corners);
+      summaries = λ t ways is.
+          let was = (left.told t ways).0 is in
+          let out : reaches m.side ways.summary.corner from to ≡ false =
+          ap (λ (n : ℕ). reaches n ways.summary.corner from to) (sym ready.same_side) ∙ (ap (λ (c : Corner). reaches known.side c from to) (ready.tiles.places t ways was.0) ∙ unreached t was.1) in
+          summary_still m new from to differ ways.summary out (ready.tiles.summaries t ways was.0);
+    };
+  };
+  entered = λ t labelled is.
+      let was = (left.entered t labelled).0 is in
+      let out : reaches m.side (corner_at known.corners t) from to ≡ false = ap (λ (n : ℕ). reaches n (corner_at known.corners t) from to) (sym ready.same_side) ∙ unreached t was.1 in
+      subst (λ (cs : List Corner). IsFlooded new (corner_at cs t) labelled) (sym left.same_corners)
+      (flooded_still m new from to differ (corner_at known.corners t) out labelled (right.entered t labelled was.0));
+  levels = λ x level is. absurd (none_is level (sym (left.levels x) ∙ is));
+}
+  where
+    ready : AreReady m known.side known.corners known.told
+    ready = right.ready
+
+    unreached : (t : ℕ) → is_reached known.side known.corners from to t ≡ false → reaches known.side (corner_at known.corners t) from to ≡ false
+    unreached t out = (or_parts (not (nat_lt t (length known.corners))) (reaches known.side (corner_at known.corners t) from to) out).1
+
+-- ---- elements given up one by one
+
+module _ {A : Type 0} (gone : ℕ → Bool) (before : List (Option A)) where
+  -- so many were seen, and of these each was given up of which the test is true, and no other
+  pub record AreGivenUp (k : ℕ) (now : List (Option A)) : Type 0 where
+    pub whole : length now ≡ length before
+    pub left : (u : ℕ) (x : A) → get_or now u None ≡ Some x ↔ ((get_or before u None ≡ Some x) × (u < k → gone u ≡ false))
+
+  pub none_yet : AreGivenUp 0 before
+  none_yet = record { whole = refl; left = λ u x. (λ is. (is, λ below. absurd (omega arith)), λ was. was.0) }
+
+  pub one_spared : (k : ℕ) (now : List (Option A)) → gone k ≡ false → AreGivenUp k now → AreGivenUp (k + 1) now
+  one_spared k now spared so = record {
+    whole = so.whole;
+    left = λ u x. (
+      λ is.
+          let was = (so.left u x).0 is in
+          let later : u < k + 1 → gone u ≡ false = λ below. elim (cases_eq u k) [
+            | inl here ↦ ap gone here ∙ spared
+            | inr other ↦ was.1 (omega arith)
+          ] in
+          (was.0, later),
+      λ was. (so.left u x).1 (was.0, λ below. was.1 (omega arith)),
+    );
+  }
+
+  pub one_given_up : (k : ℕ) (now : List (Option A)) → k < length now → gone k ≡ true → AreGivenUp k now → AreGivenUp (k + 1) (slice_set now k None)
+  one_given_up k now inside given_up so = record {
+    whole = length-set now k None ∙ so.whole;
+    left = λ u x. (
+      λ is. elim (cases_eq u k) [
+        | inl here ↦ absurd (none_is x (sym (get_or-set_same now k None None inside) ∙ (ap (λ v. get_or (slice_set now k None) v None) (sym here) ∙ is)))
+        | inr other ↦
+            let was = (so.left u x).0 (sym (get_or-set_other now k u None None other) ∙ is) in
+            (was.0, λ below. was.1 (omega arith))
+      ],
+      λ was. elim (cases_eq u k) [
+        | inl here ↦ absurd (both_ways (gone u) (was.1 (omega arith)) (ap gone here ∙ given_up))
+        | inr other ↦ get_or-set_other now k u None None other ∙ (so.left u x).1 (was.0, λ below. was.1 (omega arith))
+      ],
+    );
+  }
+
+  pub all_given_up : (now : List (Option A)) (k : ℕ) → length now ≤ k → AreGivenUp k now → (u : ℕ) (x : A) → get_or now u None ≡ Some x ↔ ((get_or before u None ≡ Some x) × (gone u ≡ false))
+  all_given_up now k whole so u x = (
+    λ is.
+        let was = (so.left u x).0 is in
+        let below = below_some now u x is in
+        (was.0, was.1 (omega arith)),
+    λ was. (so.left u x).1 (was.0, λ below. was.1),
+  )
+    where
+      below_some : (xs : List (Option A)) (v : ℕ) (y : A) → get_or xs v None ≡ Some y → v < length xs
+      below_some [] v y e = absurd (none_is y e)
+      below_some (o ∷ rest) zero y e = omega arith
+      below_some (o ∷ rest) (suc v) y e = let later = below_some rest v y e in omega arith

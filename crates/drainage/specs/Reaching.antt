@@ -1,0 +1,33 @@
+-- What changes of a box of points leave as it was (this product's own profile).
+use Rattle.std.specs.Prelude.{◌≡◌, ℕ, ◌-◌, ℤ, pos, ◌+ℤ◌, ◌-ℤ◌, ◌*ℤ◌, int_le, nat_lt, Bool, false, ◌&&◌, ◌||◌, not, List, length}
+use Rattle.lattice.specs.Corners.{Corner}
+use Rattle.lattice.specs.Ground.{is_sink}
+use Rattle.lattice.specs.Height.{height_of}
+use Rattle.lattice.specs.Mosaic.{Mosaic}
+use Rattle.lattice.specs.declared.point.Point.{Point}
+use Rattle.catalogue.specs.Tiles.{corners_of}
+use Rattle.rising.specs.Others.{corner_at}
+
+-- ends included
+abbrev pub is_between : Point → Point → Point → Bool
+is_between from to p = int_le from.y p.y && int_le p.y to.y && int_le from.x p.x && int_le p.x to.x
+
+-- some value between the two ends lies between the edges, m apart, of a tile whose corner has this latitude (or longitude),
+-- or one step beyond them
+abbrev pub reaches_along : ℤ → ℤ → ℤ → ℤ → Bool
+reaches_along m corner from to = int_le (corner *ℤ m -ℤ pos 1) to && int_le from (corner *ℤ m +ℤ m +ℤ pos 1)
+
+-- the corner's tile holds a point of the box, or a point beside one
+abbrev pub reaches : ℕ → Corner → Point → Point → Bool
+reaches n c from to = reaches_along (pos (n - 1)) c.lat from.y to.y && reaches_along (pos (n - 1)) c.lon from.x to.x
+
+-- no such place is there, or its corner's tile does
+abbrev pub is_reached : ℕ → List Corner → Point → Point → ℕ → Bool
+is_reached n corners from to t = not (nat_lt t (length corners)) || reaches n (corner_at corners t) from to
+
+-- of the same tiles, and of the same heights and sinks outside the box
+pub record DifferBetween (m new : Mosaic) (from to : Point) : Type 0 where
+  pub same_side : new.side ≡ m.side
+  pub same_corners : corners_of new ≡ corners_of m
+  pub heights : (p : Point) → is_between from to p ≡ false → height_of new p ≡ height_of m p
+  pub sinks : (p : Point) → is_between from to p ≡ false → is_sink new p ≡ is_sink m p

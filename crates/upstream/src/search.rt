@@ -1,0 +1,158 @@
+//! The search up the flow paths, from the point to those whose direction leads to one that is found.
+ghost use Rattle.std.specs.Prelude.{◌≡◌, ◌↔◌, ◌++◌, [], ◌∷◌, Some, if◌then◌else◌, IsTrue, IsFalse, IfOk, IfErr, OnOk};
+ghost use Rattle.lattice.specs.declared.direction.Dir.{Dir};
+ghost use Rattle.lattice.specs.Steps.{step};
+ghost use Rattle.lattice.specs.Stepping.{fits_point};
+ghost use Rattle.lattice.specs.Ground.{is_ground, terrain};
+ghost use Rattle.flow_d8.specs.FlowPath.{IsInWatershed};
+ghost use Rattle.watershed.specs.Runs.{AreRuns};
+ghost use Rattle.watershed.specs.Search.{IsFeeder, AreFeeders, AreUpstream};
+ghost use Rattle.downstream.specs.Around.{OnLevels};
+ghost use Rattle.downstream.specs.Asking.{Asks};
+ghost use Rattle.downstream.specs.Flats.{AreFlatsOf};
+ghost use Rattle.upstream.specs.Feeding.{IsFeederAdded};
+
+use downstream::{FilledLevels, Flats, direction_over};
+use lattice::{DIRECTIONS, Dir, Point, Refusal, neighbour};
+use std::alloc::{AllocError, Global};
+use watershed::{Run, runs_of_points};
+
+/// The watershed of the point: the ground points whose flow path contains it, as maximal runs, from the north down, in
+/// a row from the west. Empty where the point isn't ground.
+///
+/// It is refused as a direction is.
+pub fn watershed<S, L: FilledLevels<S>>(
+    alloc: Global,
+    levels: &mut L,
+    source: &mut S,
+    point: Point,
+) -> Result<Vec<Run>, Refusal>
+    requires { L.fits levels.old source.old }
+    ensures runs { L.is_honest levels.new source.new → IfOk result (λ runs. OnLevels (L.mosaic levels.old source.old) (λ level. AreRuns (IsInWatershed (terrain (L.mosaic levels.old source.old)) level point) runs.items)) }
+    ensures elsewhere { L.is_honest levels.new source.new → IfOk result (λ runs. IsFalse (is_ground (L.mosaic levels.old source.old) point) → runs.items ≡ []) }
+    ensures refusal { IfErr result (L.refuses levels.old source.old levels.new source.new) }
+    ensures asks { Asks L.FilledLevels levels.old source.old levels.new source.new }
+    ensures keeps { OnOk result (L.keeps levels.old source.old levels.new source.new) }
+    ensures fits { L.fits levels.new source.new }
+{
+    let points = upstream(alloc, levels, source, point)?;
+    Ok(runs_of_points(alloc, points)?)
+}
+
+// The points whose flow path contains the point, each after the one that it drains to.
+fn upstream<S, L: FilledLevels<S>>(
+    alloc: Global,
+    levels: &mut L,
+    source: &mut S,
+    point: Point,
+) -> Result<Vec<Point>, Refusal>
+    requires { L.fits levels.old source.old }
+    ensures found { L.is_honest levels.new source.new → IfOk result (λ found. OnLevels (L.mosaic levels.old source.old) (λ level. AreUpstream (IsFeeder (terrain (L.mosaic levels.old source.old)) level) (is_ground (L.mosaic levels.old source.old) point) point found.items)) }
+    ensures refusal { IfErr result (L.refuses levels.old source.old levels.new source.new) }
+    ensures asks { Asks L.FilledLevels levels.old source.old levels.new source.new }
+    ensures keeps { OnOk result (L.keeps levels.old source.old levels.new source.new) }
+    ensures fits { L.fits levels.new source.new }
+{
+    let mut flats = Flats::new(alloc);
+    let mut found = Vec::new(alloc);
+    start(alloc, levels, source, point, &mut found)?;
+    let mut done = 0;
+    'search: while done < found.len() {
+        let at = found[done];
+        add_feeders(alloc, levels, source, &mut flats, at, &mut found)?;
+        done += 1;
+    }
+    Ok(found)
+}
+
+// Finds the point, where it is ground.
+fn start<S, L: FilledLevels<S>>(
+    alloc: Global,
+    levels: &mut L,
+    source: &mut S,
+    point: Point,
+    found: &mut Vec<Point>,
+) -> Result<(), Refusal>
+    requires fits { L.fits levels.old source.old }
+    requires empty { found.old.items ≡ [] }
+    ensures found { L.is_honest levels.new source.new → OnOk result (found.new.items ≡ (if is_ground (L.mosaic levels.old source.old) point then point ∷ [] else [])) }
+    ensures refusal { IfErr result (L.refuses levels.old source.old levels.new source.new) }
+    ensures asks { Asks L.FilledLevels levels.old source.old levels.new source.new }
+    ensures keeps { OnOk result (L.keeps levels.old source.old levels.new source.new) }
+    ensures fits { L.fits levels.new source.new }
+{
+    if levels.level(alloc, source, point)?.is_some() {
+        find(found, point)?;
+    }
+    Ok(())
+}
+
+fn find(found: &mut Vec<Point>, point: Point) -> Result<(), AllocError>
+    ensures { OnOk result (found.new.items ≡ found.old.items ++ point ∷ []) }
+{
+    found.push(point)?;
+    Ok(())
+}
+
+// Finds the points that drain straight to this one.
+fn add_feeders<S, L: FilledLevels<S>>(
+    alloc: Global,
+    levels: &mut L,
+    source: &mut S,
+    flats: &mut Flats,
+    point: Point,
+    found: &mut Vec<Point>,
+) -> Result<(), Refusal>
+    requires fits { L.fits levels.old source.old }
+    requires flats { AreFlatsOf L.FilledLevels levels.old source.old flats.old }
+    ensures feeders { L.is_honest levels.new source.new → OnOk result (OnLevels (L.mosaic levels.old source.old) (λ level. AreFeeders (IsFeeder (terrain (L.mosaic levels.old source.old)) level) point found.old.items found.new.items)) }
+    ensures flats { OnOk result (AreFlatsOf L.FilledLevels levels.new source.new flats.new) }
+    ensures refusal { IfErr result (L.refuses levels.old source.old levels.new source.new) }
+    ensures asks { Asks L.FilledLevels levels.old source.old levels.new source.new }
+    ensures keeps { OnOk result (L.keeps levels.old source.old levels.new source.new) }
+    ensures fits { L.fits levels.new source.new }
+{
+    for i in 0..8 {
+        add_feeder(alloc, levels, source, flats, point, DIRECTIONS[i], found)?;
+    }
+    Ok(())
+}
+
+// Finds the point in the direction, where it drains straight back.
+fn add_feeder<S, L: FilledLevels<S>>(
+    alloc: Global,
+    levels: &mut L,
+    source: &mut S,
+    flats: &mut Flats,
+    point: Point,
+    direction: Dir,
+    found: &mut Vec<Point>,
+) -> Result<(), Refusal>
+    requires fits { L.fits levels.old source.old }
+    requires flats { AreFlatsOf L.FilledLevels levels.old source.old flats.old }
+    ensures feeder { L.is_honest levels.new source.new → OnOk result (OnLevels (L.mosaic levels.old source.old) (λ level. IsFeederAdded (IsFeeder (terrain (L.mosaic levels.old source.old)) level) point direction found.old.items found.new.items)) }
+    ensures flats { OnOk result (AreFlatsOf L.FilledLevels levels.new source.new flats.new) }
+    ensures refusal { IfErr result (L.refuses levels.old source.old levels.new source.new) }
+    ensures asks { Asks L.FilledLevels levels.old source.old levels.new source.new }
+    ensures keeps { OnOk result (L.keeps levels.old source.old levels.new source.new) }
+    ensures fits { L.fits levels.new source.new }
+{
+    let Some(from) = neighbour(point, direction) else {
+        return Ok(());
+    };
+    let way = direction_over(alloc, levels, source, flats, from)?;
+    if leads_to(from, way, point) {
+        find(found, from)?;
+    }
+    Ok(())
+}
+
+// Whether the step from the one point leads to the other.
+fn leads_to(from: Point, way: Option<Dir>, to: Point) -> bool
+    ensures { IsTrue result ↔ ((d : Dir) × ((way ≡ Some d) × (IsTrue (fits_point (step d from)) × (step d from ≡ to)))) }
+{
+    match way {
+        Some(direction) => neighbour(from, direction) == Some(to),
+        None => false,
+    }
+}
