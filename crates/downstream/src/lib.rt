@@ -3,7 +3,8 @@
 //! The layer above rests on this: `direction_at` answers the one direction of the point on the whole mosaic, and `trace`
 //! its flow path. A direction looks at the levels around the point and, where that lies on a flat, around the points of
 //! the flat, the nearest first, until one of them drains. A flow path goes on to that point by the way that this search
-//! found.
+//! found. `direction_over` is for many questions: it searches each flat whole, once, and holds the distances of its points
+//! (`Flats`).
 #![tactic(auto)]
 
 mod across;

@@ -59,9 +59,6 @@ module _ {A : Type 0} (gone : ℕ → Bool) (before : List (Option A)) where
     pub whole : length now ≡ length before
     pub left : (u : ℕ) (x : A) → get_or now u None ≡ Some x ↔ ((get_or before u None ≡ Some x) × (u < k → gone u ≡ false))
 
-  pub none_yet : AreGivenUp 0 before
-  none_yet = record { whole = refl; left = λ u x. (λ is. (is, λ below. absurd (omega arith)), λ was. was.0) }
-
   pub one_spared : (k : ℕ) (now : List (Option A)) → gone k ≡ false → AreGivenUp k now → AreGivenUp (k + 1) now
   one_spared k now spared so = record {
     whole = so.whole;

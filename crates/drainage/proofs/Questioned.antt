@@ -1,12 +1,10 @@
 -- Questions one after another, and what their refusals are.
-use Rattle.std.proofs.Common.{◌≡◌, ◌≢◌, ◌⊎◌, inl, inr, ℕ, IsTrue, Result, Ok, Err, refl, sym, ap, ◌∙◌, subst}
+use Rattle.std.proofs.Common.{◌≡◌, ◌⊎◌, inl, inr, Result, Ok, Err, refl, sym, ap, ◌∙◌, subst}
 use Rattle.std.specs.Prelude.{IfErr}
 use Rattle.lattice.specs.declared.refusal.Refusal.{Refusal}
-use Rattle.lattice.specs.declared.refusal.Refusal.TheVariants.{Device, NoMemory, Failed, Damaged}
-use Rattle.catalogue.specs.Asked.{Asked, IsOwnRefusal}
-use Rattle.catalogue.specs.Endings.{ends_any}
+use Rattle.lattice.specs.declared.refusal.Refusal.TheVariants.{NoMemory, Damaged}
+use Rattle.catalogue.specs.Asked.{Asked}
 use Rattle.catalogue.specs.Readers.{OnlyReads}
-use Rattle.catalogue.specs.Reading.{MayRefuse}
 use Rattle.catalogue.specs.declared.samples.Samples.{Ghosts}
 use Rattle.catalogue.proofs.Reading.{reads_as}
 use Rattle.catalogue.proofs.Asking.{asked, asked_on, asked_passed}
@@ -39,58 +37,9 @@ passed_on {S} {T} {U} g a b call r is h = asked_passed g a b r (subst (λ (x : R
 pub refused_by : {S U : Type 0} (g : Ghosts S) (a b : S) (result : Result U Refusal) (was r : Refusal) → result ≡ Err was → was ≡ r → Asked {T = U} g a b (Err r) → Asked g a b result
 refused_by {S} {U} g a b result was r is same h = subst (λ (x : Result U Refusal). Asked g a b x) (sym (is ∙ ap (λ (x : Refusal). Err x) same)) h
 
-own_refusal : {T : Type 0} (result : Result T Refusal) → IfErr result (λ r. (r ≡ NoMemory) ⊎ (r ≡ Damaged)) → IfErr result IsOwnRefusal
-own_refusal (Ok x) h = tt
-own_refusal (Err r) h = by r h
-  where
-    by : (r : Refusal) → (r ≡ NoMemory) ⊎ (r ≡ Damaged) → IsOwnRefusal r
-    by NoMemory h = tt
-    by Damaged h = tt
-    by _ (inl e) = absurd (cc)
-    by _ (inr e) = absurd (cc)
-
-never_damaged : {T : Type 0} (result : Result T Refusal) → IfErr result (λ r. r ≡ NoMemory) → result ≢ Err Damaged
-never_damaged (Ok x) h e = cc
-never_damaged (Err r) h e = cc
-
-or_memory : {T : Type 0} (result : Result T Refusal) → IfErr result (λ r. r ≡ NoMemory) → IfErr result (λ r. (r ≡ NoMemory) ⊎ (r ≡ Damaged))
-or_memory (Ok x) h = tt
-or_memory (Err r) h = inl h
-
--- a result after reads, damaged only where what was read is no mosaic's
-pub resulted : {S T : Type 0} (g : Ghosts S) (a b : S) (result : Result T Refusal) → OnlyReads {T = Unit {0}} g a b (Ok tt) → IfErr result (λ r. (r ≡ NoMemory) ⊎ (r ≡ Damaged))
-    → (g.is_honest b → IfErr result (λ r. r ≡ NoMemory)) → Asked g a b result
-resulted g a b result reads causes sound = asked g a b (tt {0}) result reads (own_refusal result causes) (λ honest _. never_damaged result (sound honest))
-
--- .. or refused for want of memory alone
-pub unless_memory : {S T : Type 0} (g : Ghosts S) (a b : S) (result : Result T Refusal) → OnlyReads {T = Unit {0}} g a b (Ok tt) → IfErr result (λ r. r ≡ NoMemory) → Asked g a b result
-unless_memory g a b result reads memory = resulted g a b result reads (or_memory result memory) (λ _. memory)
-
 -- memory was wanting after reads
 pub wanting : {S U : Type 0} (g : Ghosts S) (a b : S) → OnlyReads {T = Unit {0}} g a b (Ok tt) → Asked {T = U} g a b (Err NoMemory)
 wanting {S} {U} g a b reads = asked g a b (tt {0}) (Err NoMemory) reads tt (λ _ _ e. absurd (cc))
-
--- samples that never refuse a read leave want of memory alone
-pub only_memory : {S T : Type 0} (g : Ghosts S) (a b : S) (result : Result T Refusal) → Asked g a b result → g.never_refuses a → g.is_honest b → g.is_ready a → IfErr result (λ r. IsTrue (ends_any r))
-    → IfErr result (λ r. r ≡ NoMemory)
-only_memory g a b (Ok x) h never honest ready ends = tt
-only_memory {S} {T} g a b (Err r) h never honest ready ends = by r h ends
-  where
-    by : (r : Refusal) → Asked {T = T} g a b (Err r) → IsTrue (ends_any r) → r ≡ NoMemory
-    by Device h ends = absurd (h.own (h.reads.answers never))
-    by Failed h ends = absurd (h.own (h.reads.answers never))
-    by Damaged h ends = absurd (h.sound honest ready refl)
-    by NoMemory h ends = refl
-    by _ h ends = absurd (cc)
-
--- want of memory, or a read, may end any call
-pub ends_by : (before now : ℕ) (r : Refusal) → (r ≡ NoMemory) ⊎ MayRefuse before now r → IsTrue (ends_any r)
-ends_by before now Device h = refl
-ends_by before now Failed h = refl
-ends_by before now Damaged h = refl
-ends_by before now NoMemory h = refl
-ends_by before now _ (inl memory) = absurd (cc)
-ends_by before now _ (inr may) = absurd may
 
 module _ {S : Type 0} (g : Ghosts S) (a b : S) (known known' : Known) where
   -- tiles were told, and then memory was wanting, or something was found that can't be

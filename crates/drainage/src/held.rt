@@ -29,7 +29,7 @@ impl Held {
         Held { waters: None }
     }
 
-    /// Nothing is held from then on, as has to be where the mosaic changes.
+    /// Nothing is held from then on, as has to be where tiles come or go.
     pub fn forget(&mut self)
         ensures { (m : Mosaic) → IsHeldOf m self.new }
     {

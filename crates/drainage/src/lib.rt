@@ -3,7 +3,8 @@
 //!
 //! The layer above rests on this: over any lawful `Labellings` each call gives what its definition says of the mosaic that
 //! they stand for, and only reads. A filled level asks for the labellings of the tiles on the water's way out, a direction and
-//! a flow path for levels on their way, and a watershed for those around its points; they are made or were kept.
+//! a flow path for levels on their way, and a watershed for those around its points; they are made or were kept. What is
+//! found is held for the next question, and outlasts changes of points out of its reach.
 #![tactic(auto)]
 
 mod asking;

@@ -38,9 +38,6 @@ pub record IsLeftFor (m : Mosaic) (changes : List Change) (span : Option Span) (
   pub same_side : (all_changed changes m).side ≡ m.side
   pub same_corners : corners_of (all_changed changes m) ≡ corners_of m
 
-pub none_yet : (m : Mosaic) (held : Held) → IsHeldOf m held → IsLeftFor m [] None held
-none_yet m held right = record { before = right; since = m; right = right; differ = refl; same_side = refl; same_corners = refl }
-
 nowhere : (span : Option Span) (m : Mosaic) → DifferIn span m m
 nowhere None m = refl
 nowhere (Some span) m = record { same_side = refl; same_corners = refl; heights = λ p out. refl; sinks = λ p out. refl }

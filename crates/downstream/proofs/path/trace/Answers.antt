@@ -1,10 +1,8 @@
-use Rattle.std.proofs.Common.{◌≡◌, ℤ, true, not, IsTrue, IsFalse, Option, Some, None, [], sym, ap, ◌∙◌, subst, true≢false}
+use Rattle.std.proofs.Common.{◌≡◌, true, not, IsTrue, IsFalse, [], sym, ap, ◌∙◌, subst, true≢false}
 use Rattle.std.specs.Prelude.{IfOk, is_some}
-use Rattle.lattice.specs.declared.point.Point.{Point}
 use Rattle.lattice.specs.Mosaic.{Mosaic}
 use Rattle.lattice.specs.Ground.{is_ground, terrain}
 use Rattle.flow_d8.specs.FlowPath.{IsFlowPath}
-use Rattle.downstream.specs.Levels.{IsLevelAt}
 use Rattle.downstream.specs.Around.{OnLevels}
 use Rattle.downstream.proofs.Asked.{on_ok}
 use Rattle.downstream.proofs.Nearby.{found_ground}
