@@ -1,5 +1,5 @@
--- What a step and an upgrade may answer, and the version, and the state that is left (this product's own profile). A step is
--- an event; no call answers the other two yet.
+-- What a step and an upgrade may answer, and the state that is left (this product's own profile). A step is an event; an
+-- upgrade is a call of a store alone.
 use Rattle.std.specs.Prelude.{◌≡◌, ◌≢◌, ℕ, ◌+◌, ◌<◌, Bool, not, IsTrue, IsFalse, [], filter, Contains, Option, Some, None, Result, Ok, Err}
 use Rattle.lattice.specs.Corners.{Corner, same_corner}
 use Rattle.lattice.specs.declared.refusal.Refusal.{Refusal}
@@ -70,9 +70,3 @@ UpgradesNot has_room s r t = ⊥
 abbrev pub Upgrades : Bool → State → Result (Unit {0}) Refusal → State → Type 0
 Upgrades has_room s (Ok u) t = IsOld s has_room × Commits s (upgraded s.contents) t
 Upgrades has_room s (Err r) t = UpgradesNot has_room s r t
-
--- ---- questions
-
--- the version of the format, as last known
-abbrev pub TellsVersion : State → ℕ → State → Type 0
-TellsVersion s version t = (version ≡ s.contents.version) × (t ≡ s)
