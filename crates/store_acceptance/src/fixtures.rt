@@ -3,6 +3,7 @@ use arrayvec::ArrayVec;
 use disk::{Disk, MemDisk};
 use edits::{Bytes, Command};
 use lattice::{Corner, Point};
+use memory_store::store_in_memory;
 use std::alloc::Global;
 use std::test::Fail;
 use store::Store;
@@ -76,15 +77,36 @@ pub(crate) fn store_of_version_1(
     opened(alloc, disk)
 }
 
-/// A store of the first version of so many tiles at most, with these, on the smallest disk: behind two roots and two
-/// gates it has a record and a page for each of four planes a tile, and for two planes more.
+/// How many sectors a store of this version asks of its disk, for so many tiles of side 3 at most: behind two roots and two
+/// gates a record and a page, by the second version an index page too, for each of four planes a tile, and for two planes
+/// more.
+pub(crate) fn sectors_for(version: u32, capacity: u32) -> u32 {
+    let pages: u32 = if version == 1 { 2 } else { 3 };
+    let planes = capacity.saturating_mul(4).saturating_add(2);
+    planes.saturating_mul(pages).saturating_add(4)
+}
+
+/// An empty store of this version, for so many tiles of side 3 at most, on the smallest disk.
+pub(crate) fn empty_store(
+    alloc: Global,
+    version: u32,
+    capacity: u32,
+) -> Result<Store<MemDisk>, Fail> {
+    let sectors = sectors_for(version, capacity);
+    if version == 1 {
+        store_of_version_1(alloc, sectors, 3, capacity)
+    } else {
+        Ok(store_in_memory(alloc, sectors, 3, capacity)?)
+    }
+}
+
+/// A store of the first version of so many tiles at most, with these, on the smallest disk.
 pub(crate) fn store_of(
     alloc: Global,
     capacity: u32,
     tiles: &[(Corner, [u8; 18])],
 ) -> Result<Store<MemDisk>, Fail> {
-    let sectors = capacity.saturating_mul(8).saturating_add(8);
-    let mut store = store_of_version_1(alloc, sectors, 3, capacity)?;
+    let mut store = empty_store(alloc, 1, capacity)?;
     for (corner, bytes) in tiles {
         store.apply(&import(alloc, *corner, bytes)?)?;
     }

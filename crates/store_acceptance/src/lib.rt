@@ -28,3 +28,5 @@ mod standing;
 mod stops;
 #[cfg(test)]
 mod upgrades;
+#[cfg(test)]
+mod writes;
