@@ -25,6 +25,8 @@ mod sinks;
 #[cfg(test)]
 mod standing;
 #[cfg(test)]
+mod steps;
+#[cfg(test)]
 mod stops;
 #[cfg(test)]
 mod upgrades;
