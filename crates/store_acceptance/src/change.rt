@@ -34,9 +34,10 @@ const FIRST_FRESH: [Change<'static>; 3] = [Do(Import(0, 0, &V)), Do(Import(0, 1,
 const BOTH_FRESH: [Change<'static>; 4] = [Do(Import(0, 0, &V)), Do(Import(0, 1, &H)), Step, Step];
 
 /// Changes that stores of either version take.
-pub(crate) const CHANGES: [Row; 18] = [
+pub(crate) const CHANGES: [Row; 19] = [
     (2, &ONE_TILE, Do(Import(0, 1, &B))),
     (2, &ONE_TILE, Do(Sink(1, 1))),
+    (2, &ONE_TILE, Step),
     (4, &TWO_TILES, Do(Import(1, 0, &A))),
     (4, &TWO_TILES, Do(Remove(0, 0))),
     (4, &TWO_TILES, Do(Patch((1, 1), (1, 1), 4))),
@@ -56,8 +57,9 @@ pub(crate) const CHANGES: [Row; 18] = [
 ];
 
 /// Upgrades of stores of the first version.
-pub(crate) const UPGRADES: [Row; 5] = [
+pub(crate) const UPGRADES: [Row; 6] = [
     (1, &[], Upgrade),
+    (2, &ONE_TILE, Upgrade),
     (1, &ONE_FRESH, Upgrade),
     (2, &TWO_TILES, Upgrade),
     (2, &FIRST_FRESH, Upgrade),

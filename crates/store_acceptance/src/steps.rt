@@ -1,9 +1,14 @@
 //! Steps, and which tiles commands leave stale.
-use super::fixtures::{B, C, D, G, H};
+use super::change::Change::{Do, Step};
+use super::change::{Row, prepared_disk};
+use super::fixtures::{B, C, D, G, H, opened};
 use super::script::Asked::{Import, Wall};
 use super::script::Step::{Commits, Count, Done, Elevation, Filled, Stale, Stepped};
-use super::script::follow;
-use lattice::Height;
+use super::script::{follow, is_answered};
+use super::stops::{MANY_CALLS, STOPS, make_with, stopped};
+use disk::MemDisk;
+use lattice::{Height, Refusal};
+use std::alloc::Global;
 use std::test::Fail;
 
 #[test]
@@ -46,5 +51,68 @@ fn a_wall_leaves_far_tiles_fresh(rt: HostRuntime) -> Result<(), Fail> {
         ];
         follow(&rt, rt.alloc(), 4, &script)?;
     }
+    Ok(())
+}
+
+// A valley through four tiles with a wall across it far in the east, and the wall raised.
+const RAISED: Row = (
+    4,
+    &[
+        Do(Import(0, 0, &B)),
+        Do(Import(0, 1, &D)),
+        Do(Import(0, 2, &D)),
+        Do(Import(0, 3, &C)),
+        Step,
+        Step,
+        Step,
+        Step,
+        Do(Wall(5, &[(1, 8)])),
+    ],
+    Do(Wall(9, &[(1, 8)])),
+);
+
+// Whether the wall is raised, as it has to be where the change was through, or as it was, and only the tiles near to it are
+// stale.
+fn is_left(alloc: Global, disk: MemDisk, through: bool) -> Result<bool, Fail> {
+    let mut store = opened(alloc, disk)?;
+    let raised = through || store.count() == 6;
+    let (count, level) = if raised { (6, 9) } else { (5, 5) };
+    Ok(
+        is_answered(alloc, &mut store, Count(count))?
+            && is_answered(alloc, &mut store, Stale(&[(0, 2), (0, 3)]))?
+            && is_answered(alloc, &mut store, Filled(1, 1, Ok(level)))?,
+    )
+}
+
+// Stops the change after so many calls, in each way. Answers whether it was through by then.
+fn stop_after(alloc: Global, version: u32, calls: u64) -> Result<bool, Fail> {
+    let (_, _, change) = RAISED;
+    let mut through = false;
+    for stop in STOPS {
+        let disk = prepared_disk(alloc, version, RAISED)?;
+        let (disk, refused) = make_with(alloc, disk, calls, change)?;
+        through = refused.is_none();
+        let is_right = through || refused == Some(Refusal::Device);
+        if !is_right || !is_left(alloc, stopped(disk, stop)?, through)? {
+            return Err("another store".into());
+        }
+    }
+    Ok(through)
+}
+
+// Stops the change after each call, up to where it is through. Answers whether it comes to be.
+fn stop_after_each(alloc: Global, version: u32) -> Result<bool, Fail> {
+    for calls in 0..MANY_CALLS {
+        if stop_after(alloc, version, calls)? {
+            return Ok(true);
+        }
+    }
+    Ok(false)
+}
+
+#[test]
+fn a_stop_inside_a_wall_leaves_far_tiles_fresh(rt: HostRuntime) -> Result<(), Fail> {
+    assert!(rt; stop_after_each(rt.alloc(), 1)?);
+    assert!(rt; stop_after_each(rt.alloc(), 2)?);
     Ok(())
 }
