@@ -18,28 +18,34 @@ use watershed::Run;
 
 const GATE_A: u32 = 0;
 
-const ROOT_A: u32 = 1;
+pub(crate) const ROOT_A: u32 = 1;
 
 const GATE_B: u32 = 2;
 
-const ROOT_B: u32 = 3;
+pub(crate) const ROOT_B: u32 = 3;
 
 const MIDDLE: Point = Point { y: 1, x: 1 };
 
 /// A place, the bytes that are put there, and how the image is refused then, if it is.
-type Row<'a> = (u32, usize, &'a [u8], Option<Refusal>);
+pub(crate) type Row<'a> = (u32, usize, &'a [u8], Option<Refusal>);
 
-const OPENS: Option<Refusal> = None;
+pub(crate) const OPENS: Option<Refusal> = None;
 
 const NO_STORE: Option<Refusal> = Some(Refusal::NotAStore);
 
 const VERSION: Option<Refusal> = Some(Refusal::Version);
 
-const DAMAGED: Option<Refusal> = Some(Refusal::Damaged);
+pub(crate) const DAMAGED: Option<Refusal> = Some(Refusal::Damaged);
 
-const SMALL: Option<Refusal> = Some(Refusal::TooSmall);
+pub(crate) const SMALL: Option<Refusal> = Some(Refusal::TooSmall);
 
-fn check_rows(rt: &impl Abort, alloc: Global, image: &Image, rows: &[Row]) -> Result<(), Fail> {
+/// Makes each change of the image, and checks what is opened then.
+pub(crate) fn check_rows(
+    rt: &impl Abort,
+    alloc: Global,
+    image: &Image,
+    rows: &[Row],
+) -> Result<(), Fail> {
     for ((sector, at, bytes, refusal), number) in rows.iter().zip(0..) {
         let changed = image.with(&[Change {
             sector: *sector,

@@ -22,3 +22,5 @@ mod opening;
 mod refused_growths;
 #[cfg(test)]
 mod stopped_sessions;
+#[cfg(test)]
+mod version_2_rows;
