@@ -320,6 +320,36 @@ fn kept_planes_change_no_answer(rt: HostRuntime) -> Result<(), Fail> {
     Ok(())
 }
 
+// The middle is kept lower than all around it, as ground that water leaves, and by its height it isn't such.
+#[test]
+fn a_flat_without_a_way_is_found(rt: HostRuntime) -> Result<(), Fail> {
+    let alloc = rt.alloc();
+    let image = with_kept_planes(alloc)?.with(&[
+        Change {
+            sector: 13,
+            at: 8,
+            bytes: &[0, 0],
+        },
+        Change {
+            sector: 15,
+            at: 8,
+            bytes: &[0xff, 0xff],
+        },
+    ])?;
+    let events = [
+        Event::Elevation(MIDDLE),
+        Event::Direction(MIDDLE),
+        Event::Elevation(MIDDLE),
+    ];
+    let expected = [
+        Reply::Elevation(Height::At(1)),
+        Reply::Refused(Refusal::Damaged),
+        Reply::Elevation(Height::At(1)),
+    ];
+    assert!(rt; replies(alloc, &image, &events)?.as_slice() == expected.as_slice());
+    Ok(())
+}
+
 // An index, a level and a label that are kept there, and the level of the middle that a store answers then, or none where it
 // finds them damaged. The middle has the index 4, and the rim point that its label names the index 8.
 type Mark = (usize, [u8; 2], [u8; 2], Option<i16>);
