@@ -243,28 +243,62 @@ fn disks_of_few_sectors(rt: HostRuntime) -> Result<(), Fail> {
     Ok(())
 }
 
+// The greatest commit number.
+const WORN: [Change<'static>; 1] = [Change {
+    sector: ROOT_B,
+    at: 24,
+    bytes: &[0xff; 8],
+}];
+
+// Room is there for an upgrade too.
 #[test]
 fn a_commit_number_that_cannot_rise(rt: HostRuntime) -> Result<(), Fail> {
-    let worn = one_tile(rt.alloc())?.with(&[Change {
-        sector: ROOT_B,
-        at: 24,
-        bytes: &[0xff; 8],
-    }])?;
+    let alloc = rt.alloc();
     let events = [
         Event::Do(Command::Remove { corner: EAST }),
         Event::Do(Command::Remove { corner: HERE }),
         Event::Do(wall(12, MIDDLE)),
+        Event::Do(Command::Sink { point: MIDDLE }),
+        Event::Do(Command::Unsink { point: MIDDLE }),
+        Event::Step,
         Event::Count,
+        Event::Sinks,
         Event::Elevation(MIDDLE),
+        Event::Fill(MIDDLE),
     ];
     let expected = [
         Reply::Refused(Refusal::NoTile),
         Reply::Refused(Refusal::Worn),
         Reply::Refused(Refusal::Worn),
+        Reply::Refused(Refusal::Worn),
+        Reply::Refused(Refusal::NoSink),
+        Reply::Refused(Refusal::Worn),
         Reply::Count(1),
+        Reply::Sinks(Vec::new(alloc)),
         Reply::Elevation(Height::At(1)),
+        Reply::Fill(5),
     ];
-    assert!(rt; replies(rt.alloc(), &worn, &events)?.as_slice() == expected.as_slice());
+    let disk = one_tile(alloc)?.longer(6)?.with(&WORN)?.disk(alloc)?;
+    let writes = disk.writes();
+    let mut store = opened(alloc, disk)?;
+    assert!(rt; store.upgrade() == Err(Refusal::Worn));
+    let mut found = Vec::new(alloc);
+    store.run(&events, &mut found)?;
+    assert!(rt; found.as_slice() == expected.as_slice());
+    assert!(rt; store.version() == 1 && store.commits() == u64::MAX && store.stale(HERE));
+    assert!(rt; store.into_disk().writes() == writes);
+    Ok(())
+}
+
+// Where there is nothing to step, none is answered.
+#[test]
+fn no_step_where_the_commit_number_cannot_rise(rt: HostRuntime) -> Result<(), Fail> {
+    let alloc = rt.alloc();
+    let disk = with_kept_planes(alloc)?.with(&WORN)?.disk(alloc)?;
+    let writes = disk.writes();
+    let mut store = opened(alloc, disk)?;
+    assert!(rt; store.step() == Ok(None) && store.commits() == u64::MAX && !store.stale(HERE));
+    assert!(rt; store.into_disk().writes() == writes);
     Ok(())
 }
 
