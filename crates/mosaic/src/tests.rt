@@ -145,6 +145,26 @@ fn files_that_are_none(rt: HostRuntime) -> Result<(), Fail> {
 }
 
 #[test]
+fn a_file_that_is_open_elsewhere(rt: HostRuntime) -> Result<(), Fail> {
+    let m = cleared(&rt, "server_test_locked");
+    assert!(rt; ends(&rt, &["format", m, "3", "1"], b"", 0, b"OK 0\n"));
+    let held = FileDisk::<Brand>::open(&rt, m)?;
+    let refused = b"mosaic: cannot open server_test_locked\n";
+    for words in [
+        ["serve", m].as_slice(),
+        &["check", m],
+        &["upgrade", m],
+        &["import", m, "N00E000.hgt"],
+    ] {
+        assert!(rt; ends(&rt, words, b"count\n", 1, refused));
+    }
+    drop(held);
+    assert!(rt; ends(&rt, &["check", m], b"", 0, b"count 0 commits 1\nseams 0\n"));
+    fs::remove_file(&rt, m)?;
+    Ok(())
+}
+
+#[test]
 fn a_real_tile_comes_back(rt: HostRuntime) -> Result<(), Fail> {
     let m = cleared(&rt, "server_test_real");
     let tile = "N01E002.hgt";
