@@ -6,7 +6,8 @@ use Rattle.lattice.specs.Mosaic.{Mosaic}
 use Rattle.lattice.specs.Ground.{terrain}
 use Rattle.downstream.specs.Around.{OnLevels}
 use Rattle.downstream.specs.Asking.{Asks}
-use Rattle.downstream.specs.Flats.{Held, AreMeasured, AreFlatsOf}
+use Rattle.downstream.specs.declared.flats.Flats.{Flats}
+use Rattle.downstream.specs.Flats.{AreMeasured, AreFlatsOf}
 
 module _ {L S : Type 0} (g : Ghosts L S) where
   pub asks_nothing : (s : L) (a : S) → Asks g s a s a
@@ -19,7 +20,7 @@ module _ {L S : Type 0} (g : Ghosts L S) where
   }
 
   -- what was found of flats before a call is right after it
-  pub flats_on : (s s' : L) (a b : S) (held : Held) → Asks g s a s' b → AreFlatsOf g s a held → AreFlatsOf g s' b held
+  pub flats_on : (s s' : L) (a b : S) (held : Flats) → Asks g s a s' b → AreFlatsOf g s a held → AreFlatsOf g s' b held
   flats_on s s' a b held asks are honest = subst (λ (m : Mosaic). OnLevels m (λ level. AreMeasured (terrain m) level held)) (sym (asks.mosaic honest)) (are (asks.honest honest))
 
 pub on_ok : {T E : Type 0} (P Q : T → Type 0) (r : Result T E) → ((x : T) → P x → Q x) → IfOk r P → IfOk r Q

@@ -19,7 +19,8 @@ use Rattle.flow_d8.proofs.Compass.{same_order, order_below}
 use Rattle.downstream.specs.declared.across.Lead.{Lead}
 use Rattle.downstream.specs.Around.{beside_of, around_of}
 use Rattle.downstream.specs.Across.{lead_at, lead_by, IsMarked, IsAcross, IsVisited, AreVisited, dir_number}
-use Rattle.downstream.specs.Flats.{Held, found_of, known_or_none, distance_of, IsSet, point_at, IsWaiting, IsInside, IsMeasured, AreMeasured, IsRound, IsBeside, IsFinding, IsMeasuring}
+use Rattle.downstream.specs.declared.flats.Flats.{Flats}
+use Rattle.downstream.specs.Flats.{found_of, known_or_none, distance_of, IsSet, point_at, IsWaiting, IsInside, IsMeasured, AreMeasured, IsRound, IsBeside, IsFinding, IsMeasuring}
 use Rattle.downstream.proofs.Nearby.{beside_there, beside_some, placed, found_at}
 use Rattle.downstream.proofs.Reaching.{longer_by_one, at_old, at_end, read_is, marked, marked_on}
 
@@ -52,14 +53,14 @@ pub point_read : (leads : List Lead) (i : ℕ) (lead : Lead) → i < length lead
 point_read leads i lead below read = ap (λ (l : Lead). l.point) (read_is leads i lead below read)
 
 -- what is found stays found
-pub still_found : (old new : Held) (p : Point) (v : Option ℕ) → IsSet old new p v → (q : Point) → IsTrue (is_some (found_of old q)) → IsTrue (is_some (found_of new q))
+pub still_found : (old new : Flats) (p : Point) (v : Option ℕ) → IsSet old new p v → (q : Point) → IsTrue (is_some (found_of old q)) → IsTrue (is_some (found_of new q))
 still_found old new p v s q some = elim (same_or_not q p) [
   | inl same ↦ ap is_some (ap (found_of new) same ∙ s.here)
   | inr other ↦ ap is_some (s.apart q other) ∙ some
 ]
 
 module _ (t : Terrain Point) (level : Point → ℤ) where
-  pub still_measured : (old new : Held) (p : Point) (v : Option ℕ) → IsSet old new p v → (q : Point) (k : ℕ) → IsMeasured t level old q k → IsMeasured t level new q k
+  pub still_measured : (old new : Flats) (p : Point) (v : Option ℕ) → IsSet old new p v → (q : Point) (k : ℕ) → IsMeasured t level old q k → IsMeasured t level new q k
   still_measured old new p v s q k is = record {
     inside = is.inside;
     exact = is.exact;
@@ -135,7 +136,7 @@ module _ (t : Terrain Point) (level : Point → ℤ) where
 
   module _ (x : Point) where
     -- the search begins with x alone
-    pub finding_begun : IsTrue (t.is_ground x) → (held : Held) → AreMeasured t level held → (l : Lead) → l.point ≡ x → (leads : List Lead) → leads ≡ l ∷ [] → IsFinding t level x held [] leads 0
+    pub finding_begun : IsTrue (t.is_ground x) → (held : Flats) → AreMeasured t level held → (l : Lead) → l.point ≡ x → (leads : List Lead) → leads ≡ l ∷ [] → IsFinding t level x held [] leads 0
     finding_begun solid held are l is leads one = subst (λ ls. IsFinding t level x held [] ls 0) (sym one) (record {
       right = are.right;
       some = omega arith;
@@ -149,7 +150,7 @@ module _ (t : Terrain Point) (level : Point → ℤ) where
         only : (i : ℕ) → i < 1 → 0 ≡ i
         only i below = omega arith
 
-    module _ (held : Held) (ends : List Point) (leads : List Lead) (head : ℕ) (s : IsFinding t level x held ends leads head) (within : head < length leads) where
+    module _ (held : Flats) (ends : List Point) (leads : List Lead) (head : ℕ) (s : IsFinding t level x held ends leads head) (within : head < length leads) where
       -- the lead at the head drains
       pub end_found : CrossesFlat t level (lead_at leads head).point 0 → IsFinding t level x held (ends ++ (lead_at leads head).point ∷ []) leads (head + 1)
       end_found crosses = record {
@@ -170,7 +171,7 @@ module _ (t : Terrain Point) (level : Point → ℤ) where
           one_only (suc k) d low = absurd (omega arith)
 
       -- it lies inside the flat
-      module _ (grid : IsGrid t void) (new_held : Held) (set : IsSet held new_held (lead_at leads head).point None) (inside : IsInside t level (lead_at leads head).point) (new : List Lead) (round : IsRound t level (lead_at leads head).point leads new) where
+      module _ (grid : IsGrid t void) (new_held : Flats) (set : IsSet held new_held (lead_at leads head).point None) (inside : IsInside t level (lead_at leads head).point) (new : List Lead) (round : IsRound t level (lead_at leads head).point leads new) where
         marked_still : (q : Point) → IsMarked leads q (length leads) → IsMarked new q (length new)
         marked_still q m = marked_on leads new round.kept q (length leads) (length new) (omega arith) round.longer m
 
@@ -208,7 +209,7 @@ module _ (t : Terrain Point) (level : Point → ℤ) where
         }
 
     -- all leads are looked at
-    module _ (held : Held) (ends : List Point) (leads : List Lead) (head : ℕ) (s : IsFinding t level x held ends leads head) (all : length leads ≤ head) (inside : IsInside t level x) where
+    module _ (held : Flats) (ends : List Point) (leads : List Lead) (head : ℕ) (s : IsFinding t level x held ends leads head) (all : length leads ≤ head) (inside : IsInside t level x) where
       settled_mark : (q : Point) → IsMarked leads q (length leads) → (found_of held q ≡ Some None) ⊎ Contains ends q
       settled_mark q m = subst (λ r. (found_of held r ≡ Some None) ⊎ Contains ends r) m.here (s.settled m.place (omega (arith, m.before)))
 

@@ -15,7 +15,8 @@ use Rattle.flow_d8.proofs.Compass.{same_order, order_below}
 use Rattle.flow_d8.proofs.Unique.{one_distance}
 use Rattle.downstream.specs.Around.{beside_of, around_of}
 use Rattle.downstream.specs.Across.{IsAcross}
-use Rattle.downstream.specs.Flats.{Held, found_of, known_or_none, distance_of, IsSet, point_at, IsWaiting, IsMeasured, AreMeasured, IsBeside, IsMeasuring, IsReaching, IsCloser}
+use Rattle.downstream.specs.declared.flats.Flats.{Flats}
+use Rattle.downstream.specs.Flats.{found_of, known_or_none, distance_of, IsSet, point_at, IsWaiting, IsMeasured, AreMeasured, IsBeside, IsMeasuring, IsReaching, IsCloser}
 use Rattle.downstream.proofs.Nearby.{beside_there, beside_some, in_place}
 use Rattle.downstream.proofs.Finding.{same_or_not, not_known, one_known, still_found, still_measured}
 
@@ -32,12 +33,12 @@ at_before queue q i below = get_or_append_left queue (q ∷ []) _ i below
 
 module _ (t : Terrain Point) (level : Point → ℤ) where
   -- a point with its distance is found, or drains
-  known_here : (held : Held) (q : Point) (v : Option (Option ℕ)) → found_of held q ≡ v → IsFlatDistance t level q (known_or_none v) → IsTrue (is_some (found_of held q)) ⊎ CrossesFlat t level q 0
+  known_here : (held : Flats) (q : Point) (v : Option (Option ℕ)) → found_of held q ≡ v → IsFlatDistance t level q (known_or_none v) → IsTrue (is_some (found_of held q)) ⊎ CrossesFlat t level q 0
   known_here held q None is far = inr far.crosses
   known_here held q (Some v) is far = inl (ap is_some is)
 
   module _ (x : Point) where
-    module _ (held : Held) (queue : List Point) (head : ℕ) (s : IsMeasuring t level x held queue head) where
+    module _ (held : Flats) (queue : List Point) (head : ℕ) (s : IsMeasuring t level x held queue head) where
       -- no point of the queue is unknown
       never_unknown : (i : ℕ) → i < length queue → found_of held (point_at queue i) ≡ Some None → ⊥
       never_unknown i below unknown =
@@ -65,7 +66,7 @@ module _ (t : Terrain Point) (level : Point → ℤ) where
               ((s.unknown p unknown).1.1 way.0 (record { beside = way.1.0; same_level = way.1.1 }))
 
     -- all that lies around the head is reached
-    pub head_on : IsGrid t void → (held : Held) (queue : List Point) (head : ℕ) (p : Point) (near : ℕ) → IsReaching t level x held queue head p near 8 → IsMeasuring t level x held queue (head + 1)
+    pub head_on : IsGrid t void → (held : Flats) (queue : List Point) (head : ℕ) (p : Point) (near : ℕ) → IsReaching t level x held queue head p near 8 → IsMeasuring t level x held queue (head + 1)
     head_on grid held queue head p near s = record {
       right = s.measuring.right;
       found = s.measuring.found;
@@ -91,7 +92,7 @@ module _ (t : Terrain Point) (level : Point → ℤ) where
           );
     }
 
-    module _ (grid : IsGrid t void) (held : Held) (queue : List Point) (head : ℕ) (p : Point) (near : ℕ) (d : Dir) (s : IsReaching t level x held queue head p near (order_of d)) where
+    module _ (grid : IsGrid t void) (held : Flats) (queue : List Point) (head : ℕ) (p : Point) (near : ℕ) (d : Dir) (s : IsReaching t level x held queue head p near (order_of d)) where
       -- the next point isn't reached
       pub reach_past : (IsAcross t level p (step d p) → found_of held (step d p) ≡ Some None → ⊥) → IsReaching t level x held queue head p near (order_of d + 1)
       reach_past none = record {
@@ -106,7 +107,7 @@ module _ (t : Terrain Point) (level : Point → ℤ) where
       }
 
       -- it is
-      module _ (unknown : found_of held (step d p) ≡ Some None) (beside : IsTrue (t.is_adjacent p (step d p))) (new : Held) (set : IsSet held new (step d p) (Some (near + 1))) where
+      module _ (unknown : found_of held (step d p) ≡ Some None) (beside : IsTrue (t.is_adjacent p (step d p))) (new : Flats) (set : IsSet held new (step d p) (Some (near + 1))) where
         m : IsMeasuring t level x held queue head
         m = s.measuring
 
@@ -270,7 +271,7 @@ pub point_is : (queue : List Point) (i : ℕ) (p : Point) → i < length queue �
 point_is queue i p below read = read ∙ get_or_default queue i p _ below
 
 -- a point whose distance is known, with the levels around it
-module _ (t : Terrain Point) (grid : IsGrid t void) (level : Point → ℤ) (held : Held) (are : AreMeasured t level held) (x : Point) (found : IsTrue (is_some (found_of held x))) where
+module _ (t : Terrain Point) (grid : IsGrid t void) (level : Point → ℤ) (held : Flats) (are : AreMeasured t level held) (x : Point) (found : IsTrue (is_some (found_of held x))) where
   known_of : (v : Option (Option ℕ)) → found_of held x ≡ v → is_some v ≡ true → (k : ℕ) × (found_of held x ≡ Some (Some k))
   known_of None is some = absurd (true≢false (sym some))
   known_of (Some None) is some = absurd (are.known x is)

@@ -12,6 +12,7 @@ use Rattle.lattice.specs.Ground.{is_ground, is_outlet, terrain}
 use Rattle.flow_d8.specs.Drainage.{HasLower, CrossesFlat, IsDirection}
 use Rattle.downstream.specs.Around.{around_of, OnLevels}
 use Rattle.downstream.specs.Seen.{has_seen}
+use Rattle.downstream.specs.declared.seen.Seen.{Seen}
 use Rattle.downstream.specs.declared.across.Lead.{Lead}
 
 -- the point is ground of this level with these levels around it, none of which is lower, and is no outlet
@@ -37,7 +38,7 @@ abbrev pub AreLinked : List Lead → Type 0
 AreLinked leads = (i : ℕ) → 0 < i → i < length leads → (lead_at leads i).from < i
 
 -- .. and each point that was seen is one of those reached
-pub record AreReached (seen : List (ℤ × ℤ)) (leads : List Lead) : Type 0 where
+pub record AreReached (seen : Seen) (leads : List Lead) : Type 0 where
   pub there : (p : Point) → IsTrue (has_seen seen p) → HasPoint leads p
   pub linked : AreLinked leads
 

@@ -1,8 +1,7 @@
 -- What a search found inside flats: for each point that lies inside one its distance, the least number of steps over points
 -- of its level to one that drains, or that it isn't known yet (this product's own profile).
-use Rattle.std.specs.Prelude.{◌≡◌, ℕ, ◌+◌, ◌<◌, ◌≤◌, ◌⊎◌, ℤ, pos, Bool, true, false, ◌&&◌, IsTrue, Option, Some, None, List, All, Contains, length, is_some, slice_index_or}
-use Rattle.std.specs.Ordering.{int_eq}
-use Rattle.std.specs.Map.{lookup}
+use Rattle.std.specs.Prelude.{◌≡◌, ℕ, ◌+◌, ◌<◌, ◌≤◌, ◌⊎◌, ℤ, pos, Bool, true, false, IsTrue, Option, Some, None, List, All, Contains, length, is_some, slice_index_or}
+use Rattle.point_table.specs.Table.{value_of}
 use Rattle.lattice.specs.declared.point.Point.{Point}
 use Rattle.lattice.specs.declared.direction.Dir.{Dir}
 use Rattle.lattice.specs.Steps.{step, order_of}
@@ -11,28 +10,25 @@ use Rattle.lattice.specs.Terrain.{Terrain}
 use Rattle.lattice.specs.Ground.{terrain}
 use Rattle.flow_d8.specs.Drainage.{CrossesFlat, IsFlatDistance}
 use Rattle.downstream.specs.declared.across.Lead.{Lead}
+use Rattle.downstream.specs.declared.flats.Flats.{Flats}
 use Rattle.downstream.specs.declared.levels.FilledLevels.{Ghosts}
 use Rattle.downstream.specs.Across.{lead_at, IsMarked, IsAcross}
 use Rattle.downstream.specs.Around.{OnLevels}
 
--- points by their coordinates, each with what is found of it
-abbrev pub Held : Type 0
-Held = List ((ℤ × ℤ) × Option ℕ)
-
 -- what is found of the point
-abbrev pub found_of : Held → Point → Option (Option ℕ)
-found_of held p = lookup (λ k. int_eq p.y k.0 && int_eq p.x k.1) held
+abbrev pub found_of : Flats → Point → Option (Option ℕ)
+found_of held p = value_of held.distances p
 
 -- the distance that was found, or 0, as where the point drains
 abbrev pub known_or_none : Option (Option ℕ) → ℕ
 known_or_none (Some (Some k)) = k
 known_or_none other = 0
 
-abbrev pub distance_of : Held → Point → ℕ
+abbrev pub distance_of : Flats → Point → ℕ
 distance_of held p = known_or_none (found_of held p)
 
 -- this is found of the one point, and of the others what was
-pub record IsSet (old new : Held) (p : Point) (v : Option ℕ) : Type 0 where
+pub record IsSet (old new : Flats) (p : Point) (v : Option ℕ) : Type 0 where
   pub here : found_of new p ≡ Some v
   pub apart : (q : Point) → (q ≡ p → ⊥) → found_of new q ≡ found_of old q
 
@@ -53,16 +49,16 @@ module _ (t : Terrain Point) (level : Point → ℤ) where
     pub no_end : CrossesFlat t level p 0 → ⊥
 
   -- p lies inside a flat, so far from the way out; what lies across from it is found, or drains
-  pub record IsMeasured (held : Held) (p : Point) (k : ℕ) : Type 0 where
+  pub record IsMeasured (held : Flats) (p : Point) (k : ℕ) : Type 0 where
     pub inside : IsInside p
     pub exact : IsFlatDistance t level p k
     pub around : (q : Point) → IsAcross t level p q → IsTrue (is_some (found_of held q)) ⊎ CrossesFlat t level q 0
 
-  abbrev pub AreRight : Held → Type 0
+  abbrev pub AreRight : Flats → Type 0
   AreRight held = (p : Point) (k : ℕ) → found_of held p ≡ Some (Some k) → IsMeasured held p k
 
   -- .. and all distances are known
-  pub record AreMeasured (held : Held) : Type 0 where
+  pub record AreMeasured (held : Flats) : Type 0 where
     pub right : AreRight held
     pub known : (p : Point) → found_of held p ≡ Some None → ⊥
 
@@ -85,7 +81,7 @@ module _ (t : Terrain Point) (level : Point → ℤ) where
 
   -- The leads, of which x is the first, are ground of its level. Those before the head drain and are among the ends, or lie
   -- inside the flat and are open, and what lies across from open points is reached.
-  pub record IsFinding (x : Point) (held : Held) (ends : List Point) (leads : List Lead) (head : ℕ) : Type 0 where
+  pub record IsFinding (x : Point) (held : Flats) (ends : List Point) (leads : List Lead) (head : ℕ) : Type 0 where
     pub right : AreRight held
     pub some : 0 < length leads
     pub first : (lead_at leads 0).point ≡ x
@@ -96,7 +92,7 @@ module _ (t : Terrain Point) (level : Point → ℤ) where
 
   -- x is found. The points of the queue are ground of its level with their distances, the nearest first, and from the head
   -- on none is farther than one step more. What lies across from an open point is open too, or waits.
-  pub record IsMeasuring (x : Point) (held : Held) (queue : List Point) (head : ℕ) : Type 0 where
+  pub record IsMeasuring (x : Point) (held : Flats) (queue : List Point) (head : ℕ) : Type 0 where
     pub right : AreRight held
     pub found : IsTrue (is_some (found_of held x))
     pub unknown : (p : Point) → found_of held p ≡ Some None → IsInside p × ((level p ≡ level x) × ((q : Point) → IsAcross t level p q → (found_of held q ≡ Some None) ⊎ IsWaiting queue head q))
@@ -105,7 +101,7 @@ module _ (t : Terrain Point) (level : Point → ℤ) where
         → (distance_of held (point_at queue i) ≤ distance_of held (point_at queue j)) × (distance_of held (point_at queue j) ≤ distance_of held (point_at queue i) + 1)
 
   -- .. the point at the head is p, so far from the way out, and what lies across by its first k directions isn't open
-  pub record IsReaching (x : Point) (held : Held) (queue : List Point) (head : ℕ) (p : Point) (distance k : ℕ) : Type 0 where
+  pub record IsReaching (x : Point) (held : Flats) (queue : List Point) (head : ℕ) (p : Point) (distance k : ℕ) : Type 0 where
     pub measuring : IsMeasuring x held queue head
     pub within : head < length queue
     pub here : point_at queue head ≡ p
@@ -113,13 +109,13 @@ module _ (t : Terrain Point) (level : Point → ℤ) where
     pub near : (d : Dir) → order_of d < k → IsAcross t level p (step d p) → found_of held (step d p) ≡ Some None → ⊥
 
 -- the point in the direction has this level, and a distance less than that of p
-pub record IsCloser (held : Held) (p : Point) (height : ℤ) (around : List (Option ℤ)) (d : Dir) : Type 0 where
+pub record IsCloser (held : Flats) (p : Point) (height : ℤ) (around : List (Option ℤ)) (d : Dir) : Type 0 where
   pub level : slice_index_or around (order_of d) None ≡ Some height
   pub fits : IsTrue (fits_point (step d p))
   pub less : distance_of held (step d p) < distance_of held p
 
 -- they are those of the filled levels' mosaic
-abbrev pub AreFlatsOf : {L S : Type 0} → Ghosts L S → L → S → Held → Type 0
+abbrev pub AreFlatsOf : {L S : Type 0} → Ghosts L S → L → S → Flats → Type 0
 AreFlatsOf g s a held = g.is_honest s a → OnLevels (g.mosaic s a) (λ level. AreMeasured (terrain (g.mosaic s a)) level held)
 
 -- the point lies inside a flat of this level

@@ -1,5 +1,6 @@
 pub mod Levels
 pub mod Around
+pub mod Near
 pub mod Asking
 pub mod Seen
 pub mod Steepest

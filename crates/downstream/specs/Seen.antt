@@ -1,8 +1,8 @@
 -- Which points were seen.
-use Rattle.std.specs.Prelude.{ℤ, Bool, ◌&&◌, List}
-use Rattle.std.specs.Ordering.{int_eq}
-use Rattle.std.specs.List.{list_any}
+use Rattle.std.specs.Prelude.{Bool, is_some}
 use Rattle.lattice.specs.declared.point.Point.{Point}
+use Rattle.point_table.specs.Table.{value_of}
+use Rattle.downstream.specs.declared.seen.Seen.{Seen}
 
-abbrev pub has_seen : List (ℤ × ℤ) → Point → Bool
-has_seen keys p = list_any (λ k. int_eq p.y k.0 && int_eq p.x k.1) keys
+abbrev pub has_seen : Seen → Point → Bool
+has_seen seen p = is_some (value_of seen.points p)

@@ -24,6 +24,27 @@ pub(crate) fn around<S, L: FilledLevels<S>>(
     ensures keeps { OnOk result (L.keeps levels.old source.old levels.new source.new) }
     ensures fits { L.fits levels.new source.new }
 {
+    if let Some(near) = levels.near(source, point) {
+        return Ok(near.around);
+    }
+    point_by_point(alloc, levels, source, point)
+}
+
+// The levels around a ground point, each asked for by itself.
+fn point_by_point<S, L: FilledLevels<S>>(
+    alloc: Global,
+    levels: &mut L,
+    source: &mut S,
+    point: Point,
+) -> Result<[Option<i16>; 8], Refusal>
+    requires { L.fits levels.old source.old }
+    ensures around { L.is_honest levels.new source.new → IfOk result (λ around. IsTrue (is_ground (L.mosaic levels.old source.old) point)
+        → OnLevels (L.mosaic levels.old source.old) (λ level. around ≡ around_of (terrain (L.mosaic levels.old source.old)) level point)) }
+    ensures refusal { IfErr result (L.refuses levels.old source.old levels.new source.new) }
+    ensures asks { Asks L.FilledLevels levels.old source.old levels.new source.new }
+    ensures keeps { OnOk result (L.keeps levels.old source.old levels.new source.new) }
+    ensures fits { L.fits levels.new source.new }
+{
     let mut found = [None; 8];
     for i in 0..8 {
         found[i] = beside(alloc, levels, source, point, DIRECTIONS[i])?;

@@ -17,23 +17,14 @@ use crate::across::{follow, point_of, start};
 use crate::path::lengthen;
 use crate::seen::Seen;
 use lattice::{DIRECTIONS, Dir, Point, Refusal, neighbour};
+use point_table::PointTable;
 use std::alloc::{AllocError, Global};
-use std::collections::HashMap;
-use std::marker::Model;
 
 /// What was found of the points inside flats, so that none is searched twice: each one's distance from the nearest point
 /// of its flat that drains downhill or off the mosaic. While a flat is searched the distance is None.
 #[derive(Drop)]
 pub struct Flats {
-    distances: HashMap<(i32, i32), Option<u64>>,
-}
-
-impl Model for Flats {
-    ghost use Rattle.downstream.specs.Flats.{Held};
-
-    ghost Value = { Held };
-
-    ghost view = { λ f. f.distances.entries };
+    distances: PointTable<Option<u64>>,
 }
 
 impl Flats {
@@ -42,15 +33,14 @@ impl Flats {
         ensures { (t : Terrain Point) (level : Point → ℤ) → AreMeasured t level result }
     {
         Flats {
-            distances: HashMap::new(alloc),
+            distances: PointTable::new(alloc),
         }
     }
 
     fn found(&self, point: Point) -> Option<Option<u64>>
         ensures { result ≡ found_of self.now point }
     {
-        let distance = self.distances.get(&(point.y, point.x))?;
-        Some(*distance)
+        self.distances.get(point)
     }
 
     // The distance of a point that was found, or 0.
@@ -72,7 +62,7 @@ impl Flats {
     fn set(&mut self, point: Point, distance: Option<u64>) -> Result<(), AllocError>
         ensures { OnOk result (IsSet self.old self.new point distance) }
     {
-        self.distances.insert((point.y, point.x), distance)?;
+        self.distances.set(point, distance)?;
         Ok(())
     }
 }

@@ -1,11 +1,13 @@
 //! Where filled levels come from.
-ghost use Rattle.std.specs.Prelude.{◌≡◌, IfOk, IfErr, OnOk};
+ghost use Rattle.std.specs.Prelude.{◌≡◌, IfOk, IfErr, OnOk, IfSome};
 ghost use Rattle.lattice.specs.declared.refusal.Refusal.{Refusal};
 ghost use Rattle.lattice.specs.declared.refusal.Refusal.TheVariants.{NoMemory, Damaged};
 ghost use Rattle.lattice.specs.Mosaic.{Mosaic, IsMosaic};
 ghost use Rattle.lattice.specs.Ground.{share_tile as shared, is_sink as is_declared};
 ghost use Rattle.downstream.specs.Levels.{IsLevelAt};
+ghost use Rattle.downstream.specs.Near.{IsNear};
 
+use crate::Near;
 use lattice::{Point, Refusal};
 use std::alloc::Global;
 
@@ -40,6 +42,11 @@ pub trait FilledLevels<S> {
         ensures honest { is_honest self.new source.new → is_honest self.old source.old }
         ensures mosaic { is_honest self.new source.new → mosaic self.new source.new ≡ mosaic self.old source.old }
         ensures keeps { OnOk result (keeps self.old source.old self.new source.new) };
+
+    /// The filled level of the point and those around it, where they are at hand. None says nothing of them.
+    fn near(&self, source: &S, point: Point) -> Option<Near>
+        requires { fits self.now source.now }
+        ensures { is_honest self.now source.now → IfSome result (IsNear (mosaic self.now source.now) point) };
 
     /// Whether some one present tile holds both points.
     fn share_tile(&self, source: &S, point: Point, other: Point) -> bool

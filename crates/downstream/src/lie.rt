@@ -2,8 +2,9 @@
 ghost use Rattle.std.specs.Prelude.{IfOk, IfErr, OnOk};
 ghost use Rattle.downstream.specs.Asking.{Asks};
 ghost use Rattle.downstream.specs.Lie.{IsLie};
+ghost use Rattle.downstream.specs.Near.{IsNear};
 
-use crate::FilledLevels;
+use crate::{FilledLevels, Near};
 use crate::around::{around, leads_off};
 use crate::steepest::steepest;
 use lattice::{Dir, Point, Refusal};
@@ -35,15 +36,28 @@ pub(crate) fn lie_of<S, L: FilledLevels<S>>(
     ensures keeps { OnOk result (L.keeps levels.old source.old levels.new source.new) }
     ensures fits { L.fits levels.new source.new }
 {
+    if let Some(near) = levels.near(source, point) {
+        return Ok(lie_by(levels, source, point, &near));
+    }
     let Some(height) = levels.level(alloc, source, point)? else {
         return Ok(Lie::Drains(None));
     };
     let around = around(alloc, levels, source, point)?;
-    if let Some(direction) = steepest(height, &around) {
-        return Ok(Lie::Drains(Some(direction)));
+    Ok(lie_by(levels, source, point, &Near { height, around }))
+}
+
+// How a ground point lies that has these levels at it and around it.
+fn lie_by<S, L: FilledLevels<S>>(levels: &L, source: &S, point: Point, near: &Near) -> Lie
+    ensures { L.is_honest levels.now source.now → IsNear (L.mosaic levels.now source.now) point near.now → IsLie (L.mosaic levels.now source.now) point result }
+{
+    if let Some(direction) = steepest(near.height, &near.around) {
+        return Lie::Drains(Some(direction));
     }
-    if leads_off(levels, source, point, &around) {
-        return Ok(Lie::Drains(None));
+    if leads_off(levels, source, point, &near.around) {
+        return Lie::Drains(None);
     }
-    Ok(Lie::Inside { height, around })
+    Lie::Inside {
+        height: near.height,
+        around: near.around,
+    }
 }

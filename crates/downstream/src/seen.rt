@@ -4,22 +4,13 @@ ghost use Rattle.lattice.specs.declared.point.Point.{Point};
 ghost use Rattle.downstream.specs.Seen.{has_seen};
 
 use lattice::Point;
+use point_table::PointTable;
 use std::alloc::{AllocError, Global};
-use std::collections::HashSet;
-use std::marker::Model;
 
 /// The points that were seen.
 #[derive(Drop)]
 pub(crate) struct Seen {
-    points: HashSet<(i32, i32)>,
-}
-
-impl Model for Seen {
-    ghost use Rattle.std.specs.Prelude.{List, ℤ};
-
-    ghost Value = { List (ℤ × ℤ) };
-
-    ghost view = { λ s. s.points.keys };
+    points: PointTable<()>,
 }
 
 impl Seen {
@@ -28,7 +19,7 @@ impl Seen {
         ensures { (p : Point) → IsFalse (has_seen result p) }
     {
         Seen {
-            points: HashSet::new(alloc),
+            points: PointTable::new(alloc),
         }
     }
 
@@ -37,7 +28,10 @@ impl Seen {
         ensures fresh { IfOk result (λ fresh. fresh ≡ not (has_seen self.old point)) }
         ensures seen { OnOk result ((p : Point) → IsTrue (has_seen self.new p) → (p ≡ point) ⊎ IsTrue (has_seen self.old p)) }
     {
-        let fresh = self.points.insert((point.y, point.x))?;
-        Ok(fresh)
+        if self.points.get(point).is_some() {
+            return Ok(false);
+        }
+        self.points.set(point, ())?;
+        Ok(true)
     }
 }

@@ -10,12 +10,13 @@ use Rattle.flow_d8.specs.Drainage.{IsDirection}
 use Rattle.downstream.specs.Around.{OnLevels}
 use Rattle.downstream.specs.Asking.{Asks}
 use Rattle.downstream.specs.declared.levels.FilledLevels.{Ghosts}
-use Rattle.upstream.specs.Ways.{Held, way_of, IsFound, AreRight, AreWaysOf}
+use Rattle.upstream.specs.declared.ways.Ways.{Ways}
+use Rattle.upstream.specs.Ways.{way_of, IsFound, AreRight, AreWaysOf}
 
 none_some : (way : Option Dir) → ◌≡◌ {A = Option (Option Dir)} None (Some way) → ⊥
 none_some way e = cc
 
-pub none_found : (m : Mosaic) (held : Held) → ((p : Point) → way_of held p ≡ None) → AreRight m held
+pub none_found : (m : Mosaic) (held : Ways) → ((p : Point) → way_of held p ≡ None) → AreRight m held
 none_found m held none = record {
   drain = λ p way is. absurd (none_some way (sym (none p) ∙ is));
   elsewhere = λ p way is. absurd (none_some way (sym (none p) ∙ is));
@@ -32,7 +33,7 @@ which p q = elim (cases_Bool (same_point q p)) [
 ]
 
 -- one more is found, which is right
-pub one_found : (m : Mosaic) (old new : Held) (p : Point) (way : Option Dir) → IsFound old new p way
+pub one_found : (m : Mosaic) (old new : Ways) (p : Point) (way : Option Dir) → IsFound old new p way
     → (IsTrue (is_ground m p) → OnLevels m (λ level. IsDirection (terrain m) level p way)) → (IsFalse (is_ground m p) → way ≡ None) → AreRight m old → AreRight m new
 one_found m old new p way is drains off are = record {
   drain = λ q d here. ⊎_elim
@@ -47,5 +48,5 @@ one_found m old new p way is drains off are = record {
     found q d here same = unwrap way d (sym is.here ∙ subst (λ x. way_of new x ≡ Some d) same here)
 
 -- what was found before a call is right after it
-pub ways_on : {L S : Type 0} (g : Ghosts L S) (s s' : L) (a b : S) (held : Held) → Asks g s a s' b → AreWaysOf g s a held → AreWaysOf g s' b held
+pub ways_on : {L S : Type 0} (g : Ghosts L S) (s s' : L) (a b : S) (held : Ways) → Asks g s a s' b → AreWaysOf g s a held → AreWaysOf g s' b held
 ways_on g s s' a b held asks are honest = subst (λ (m : Mosaic). AreRight m held) (sym (asks.mosaic honest)) (are (asks.honest honest))

@@ -4,22 +4,13 @@ ghost use Rattle.lattice.specs.declared.point.Point.{Point};
 ghost use Rattle.upstream.specs.Ways.{way_of, IsFound};
 
 use lattice::{Dir, Point};
+use point_table::PointTable;
 use std::alloc::{AllocError, Global};
-use std::collections::HashMap;
-use std::marker::Model;
 
 /// The directions of points, as they were found: None where water leaves the mosaic, and where there is no ground.
 #[derive(Drop)]
 pub(crate) struct Ways {
-    directions: HashMap<(i32, i32), Option<Dir>>,
-}
-
-impl Model for Ways {
-    ghost use Rattle.upstream.specs.Ways.{Held};
-
-    ghost Value = { Held };
-
-    ghost view = { λ w. w.directions.entries };
+    directions: PointTable<Option<Dir>>,
 }
 
 impl Ways {
@@ -28,7 +19,7 @@ impl Ways {
         ensures { (p : Point) → way_of result p ≡ None }
     {
         Ways {
-            directions: HashMap::new(alloc),
+            directions: PointTable::new(alloc),
         }
     }
 
@@ -36,15 +27,14 @@ impl Ways {
     pub(crate) fn direction(&self, point: Point) -> Option<Option<Dir>>
         ensures { result ≡ way_of self.now point }
     {
-        let direction = self.directions.get(&(point.y, point.x))?;
-        Some(*direction)
+        self.directions.get(point)
     }
 
     /// Has the direction of the point from then on.
     pub(crate) fn find(&mut self, point: Point, direction: Option<Dir>) -> Result<(), AllocError>
         ensures { OnOk result (IsFound self.old self.new point direction) }
     {
-        self.directions.insert((point.y, point.x), direction)?;
+        self.directions.set(point, direction)?;
         Ok(())
     }
 }

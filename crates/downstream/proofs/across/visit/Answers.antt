@@ -1,9 +1,14 @@
-use Rattle.std.proofs.Common.{rules, inl, inr, ◌++◌, [], ◌∷◌, List, length, sym, ap, ◌∙◌, subst, arith}
+use Rattle.std.proofs.Common.{rules, ◌≡◌, Bool, true, false, not, IsTrue, inl, inr, ◌++◌, [], ◌∷◌, List, length, refl, sym, ap, ◌∙◌, subst, arith, true≢false}
 use Rattle.lattice.specs.declared.point.Point.{Point}
 use Rattle.downstream.specs.declared.across.Lead.{Lead}
+use Rattle.downstream.specs.Seen.{has_seen}
 use Rattle.downstream.specs.Across.{HasPoint, AreLinked}
 use Rattle.downstream.proofs.Reaching.{longer_by_one, linked_on, still_there, there_now}
 use Rattle.downstream.proofs.across.visit.Goals as goal
+
+turned : (b : Bool) → not b ≡ false → b ≡ true
+turned true off = refl
+turned false off = absurd (true≢false off)
 
 pub returns-in_ok-push-clause-reached : goal.returns-in_ok-push-clause-reached
 returns-in_ok-push-clause-reached c =
@@ -33,3 +38,12 @@ returns-in_ok-push-clause-more c =
     let old = c.args.leads.now.items in
     let lead : Lead = record { point = c.in-Some.to; by = c.args.direction; from = c.args.from } in
     omega (arith, c.requires.from, longer_by_one old lead, ap length c.in_ok-push.ensures.items)
+
+pub returns-else-branch-clause-reached : goal.returns-else-branch-clause-reached
+returns-else-branch-clause-reached c = record {
+  there = λ p has. elim (c.in_ok-see.ensures.seen p has) [
+    | inl is ↦ c.requires.reached.there p (subst (λ q. IsTrue (has_seen c.args.seen.now q)) (sym is) (turned (has_seen c.args.seen.now c.in-Some.to) (sym c.in_ok-see.ensures.fresh ∙ c.if-branch.false)))
+    | inr before ↦ c.requires.reached.there p before
+  ];
+  linked = c.requires.reached.linked;
+}

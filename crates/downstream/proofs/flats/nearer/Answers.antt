@@ -1,4 +1,4 @@
-use Rattle.std.proofs.Common.{rules, w16, ◌≡◌, ℕ, ◌<◌, ◌≤◌, IsTrue, None, inl, inr, sym, ap, ◌∙◌, subst, arith, get_or, true≢false}
+use Rattle.std.proofs.Common.{rules, w16, ◌≡◌, ℕ, ◌<◌, ◌≤◌, IsTrue, Some, None, inl, inr, sym, ap, ◌∙◌, subst, arith, get_or, true≢false}
 use Rattle.std.proofs.lemmas.Bool.{cases_eq, cases_lt}
 use Rattle.std.proofs.lemmas.Int.{to_z-of_z}
 use Rattle.lattice.specs.declared.direction.Dir.TheVariants.{East}
@@ -32,3 +32,14 @@ returns-then-is_closer-clause-first c e closer = elim (cases_lt (order_of e) c.l
 
 pub returns-clause-none : goal.returns-clause-none
 returns-clause-none c d closer = c.loop-i.invariant d (omega (arith, order_below d, c.loop-i-test.false)) (subst (λ h. IsCloser c.args.flats.now c.args.point h c.args.around.now d) (sym (to_z-of_z w16 c.args.height (search rules))) closer)
+
+pub returns-then-is_closer-clause-closer : goal.returns-then-is_closer-clause-closer
+returns-then-is_closer-clause-closer c =
+    let said = c.is_closer.ensures.0 c.if-is_closer.true in
+    let i = c.loop-i.i in
+    let d = get_or directions i East in
+    record {
+      level = ap (λ k. get_or c.args.around.now k None) (place_of i c.loop-i-test.true) ∙ said.0 ∙ ap Some (to_z-of_z w16 c.args.height (search rules));
+      fits = said.1.0;
+      less = subst (λ k. distance_of c.args.flats.now (step d c.args.point) < k) c.distance-distance.ensures said.1.1;
+    }

@@ -4,7 +4,7 @@ use Rattle.lattice.specs.Steps.{order_of}
 use Rattle.lattice.specs.Ground.{is_ground, terrain}
 use Rattle.downstream.specs.Around.{beside_of, OnLevels}
 use Rattle.downstream.specs.Asking.{Asks}
-use Rattle.downstream.proofs.around.around.Given as goal
+use Rattle.downstream.proofs.around.point_by_point.Given as goal
 
 abbrev pub invariant-loop-i : goal.invariant-loop-i
 invariant-loop-i g l = record {

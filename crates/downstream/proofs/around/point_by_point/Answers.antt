@@ -8,7 +8,7 @@ use Rattle.flow_d8.proofs.Compass.{dir_at_place, order_below}
 use Rattle.downstream.specs.Around.{beside_of, OnLevels}
 use Rattle.downstream.proofs.Asked.{asks_on}
 use Rattle.downstream.proofs.Nearby.{all_around}
-use Rattle.downstream.proofs.around.around.Goals as goal
+use Rattle.downstream.proofs.around.point_by_point.Goals as goal
 
 pub loop-i-preserved : goal.loop-i-preserved
 loop-i-preserved g c =
