@@ -4,9 +4,9 @@ ghost use Rattle.downstream.specs.Asking.{Asks};
 ghost use Rattle.downstream.specs.Lie.{IsLie};
 ghost use Rattle.downstream.specs.Near.{IsNear};
 
-use crate::{FilledLevels, Near};
 use crate::around::{around, leads_off};
 use crate::steepest::steepest;
+use crate::{FilledLevels, Near};
 use lattice::{Dir, Point, Refusal};
 use std::alloc::Global;
 

@@ -16,7 +16,7 @@ use Rattle.drainage.proofs.RimNodes.{filled_by_joined, way_out}
 use Rattle.drainage.proofs.Whole.{summaries}
 
 -- one level more is known
-pub right_more : (m : Mosaic) (known : Known) (levels : List (ℕ × ℤ)) (node : ℕ) (level : ℤ) → ((x : ℕ) → level_of levels x ≡ cond (node == x) (Some level) (level_of known.levels x)) → IsRimLevel m known.corners node level → IsRight m known
+pub right_more : (m : Mosaic) (known : Known) (levels : List (Option ℤ)) (node : ℕ) (level : ℤ) → ((x : ℕ) → level_of levels x ≡ cond (node == x) (Some level) (level_of known.levels x)) → IsRimLevel m known.corners node level → IsRight m known
     → IsRight m (record { side = known.side; corners = known.corners; told = known.told; entered = known.entered; levels = levels })
 right_more m known levels node level more rim right = record {
   ready = right.ready;

@@ -1,6 +1,6 @@
 -- What is known of a mosaic's water grows as tiles are told and entered.
 use Rattle.std.proofs.Common.{◌≡◌, ◌⊎◌, inl, inr, ℕ, ℤ, List, sym, ap, ◌∙◌, subst}
-use Rattle.std.specs.Prelude.{Some}
+use Rattle.std.specs.Prelude.{Option, Some}
 use Rattle.lattice.specs.Corners.{Corner}
 use Rattle.catalogue.specs.declared.samples.Samples.{Ghosts}
 use Rattle.derived.specs.Labellings.{IsFlooded}
@@ -15,7 +15,7 @@ use Rattle.drainage.proofs.Telling.{fits_before}
 module _ {S : Type 0} (g : Ghosts S) (a b : S) (known known' : Known) (kept : AreKept g a b known.side known.corners known.told known'.side known'.corners known'.told) (levels : known'.levels ≡ known.levels) where
   levels_later : IsRight (g.mosaic a) known → (x : ℕ) (level : ℤ) → level_of known'.levels x ≡ Some level → IsRimLevel (g.mosaic a) known'.corners x level
   levels_later right x level is = subst (λ (cs : List Corner). IsRimLevel (g.mosaic a) cs x level) (sym kept.same_corners)
-      (right.levels x level (ap (λ (l : List (ℕ × ℤ)). level_of l x) (sym levels) ∙ is))
+      (right.levels x level (ap (λ (l : List (Option ℤ)). level_of l x) (sym levels) ∙ is))
 
   entered_later : IsRight (g.mosaic a) known → (u : ℕ) (l : LabelledGround) → IsFlooded (g.mosaic a) (corner_at known.corners u) l → IsFlooded (g.mosaic a) (corner_at known'.corners u) l
   entered_later right u l flooded = subst (λ (cs : List Corner). IsFlooded (g.mosaic a) (corner_at cs u) l) (sym kept.same_corners) flooded
@@ -41,5 +41,5 @@ module _ {S : Type 0} (g : Ghosts S) (a b : S) (known known' : Known) (kept : Ar
 pub agrees_before : {S : Type 0} (g : Ghosts S) (a b : S) (known known' : Known) → IsGrown g a b known known' → (n : ℕ) (summaries : List Summary) → Agrees known' n summaries → Agrees known n summaries
 agrees_before g a b known known' grown n summaries agrees = record {
   fits = fits_before g a b known.side known.corners known.told known'.side known'.corners known'.told n summaries grown.kept agrees.fits;
-  knows = λ x level is. agrees.knows x level (ap (λ (l : List (ℕ × ℤ)). level_of l x) grown.levels ∙ is);
+  knows = λ x level is. agrees.knows x level (ap (λ (l : List (Option ℤ)). level_of l x) grown.levels ∙ is);
 }

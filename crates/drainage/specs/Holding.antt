@@ -1,6 +1,5 @@
 -- What is found of a mosaic's tiles, and held between two questions (this product's own profile).
-use Rattle.std.specs.Prelude.{◌≡◌, ℕ, ◌==◌, ◌<◌, ℤ, List, Option, Some, None, Ok, Err, IsTrue, length, slice_index_or}
-use Rattle.std.specs.Map.{lookup}
+use Rattle.std.specs.Prelude.{◌≡◌, ℕ, ◌<◌, ℤ, List, Option, Some, None, Ok, Err, IsTrue, length, slice_index_or}
 use Rattle.lattice.specs.Lattice.{point_of}
 use Rattle.lattice.specs.Mosaic.{Mosaic}
 use Rattle.lattice.specs.Ground.{is_ground, terrain}
@@ -30,15 +29,15 @@ pub record Known : Type 0 where
   pub corners : List Corner
   pub told : List (Option TileWays)
   pub entered : List (Option LabelledGround)
-  pub levels : List (ℕ × ℤ)
+  pub levels : List (Option ℤ)
 
 -- the labelling that is held of the tile with this place
 abbrev pub entered_at : List (Option LabelledGround) → ℕ → Option LabelledGround
 entered_at entered t = slice_index_or entered t None
 
 -- the level that is known of the rim point with this node
-abbrev pub level_of : List (ℕ × ℤ) → ℕ → Option ℤ
-level_of levels x = lookup (λ y. x == y) levels
+abbrev pub level_of : List (Option ℤ) → ℕ → Option ℤ
+level_of levels x = slice_index_or levels x None
 
 -- the filled level of the ground point on a tile's rim whose node this is
 pub record IsRimLevel (m : Mosaic) (corners : List Corner) (x : ℕ) (level : ℤ) : Type 0 where

@@ -9,3 +9,4 @@ pub mod Waters
 pub mod Between
 pub mod Reaching
 pub mod Forgetting
+pub mod Nearby

@@ -9,13 +9,13 @@ ghost use Rattle.drainage.specs.Reaching.{is_reached};
 use crate::filling::spot_of;
 use crate::growth::push;
 use crate::reaching::is_reached;
-use lattice::{Corner, Point, Refusal, Side};
+use lattice::{Corner, Point, Refusal, Side, index_in};
 use std::alloc::Global;
 use std::marker::Model;
 use tile_flood::Labelled;
 
 // As many bytes of labellings are held, four a point, but those of a few tiles at any side.
-const MOST_BYTES: usize = 512 << 20;
+const MOST_BYTES: usize = 256 << 20;
 
 const FEWEST_TILES: usize = 9;
 
@@ -80,6 +80,27 @@ impl Entered {
         spot_of(labelled, index)
     }
 
+    /// The labelling of the tile with this place, where it is held.
+    pub(crate) fn labelling(&self, t: usize) -> Option<&Labelled>
+        ensures { IfSome result (λ labelled. entered_at self.now t ≡ Some labelled.now) }
+    {
+        match self.tiles.get(t) {
+            Some(Some(labelled)) => Some(labelled),
+            _ => None,
+        }
+    }
+
+    /// The place of a tile that holds the point, of those whose labellings are held. The ones that were used last are tried
+    /// first.
+    pub(crate) fn holder(&self, side: Side, corners: &[Corner], point: Point) -> Option<usize> {
+        for t in self.by_use.iter().rev() {
+            if is_in(side, corners, *t, point) {
+                return Some(*t);
+            }
+        }
+        None
+    }
+
     /// Holds the labelling of the tile with this place, where there is memory for it.
     pub(crate) fn hold(&mut self, t: usize, labelled: Labelled)
         ensures { (u : ℕ) (l : LabelledGround) → entered_at self.new u ≡ Some l → ((u ≡ t) × (l ≡ labelled)) ⊎ (entered_at self.old u ≡ Some l) }
@@ -141,6 +162,14 @@ impl Entered {
             return;
         };
         self.by_use[at..].rotate_left(1);
+    }
+}
+
+// Whether the tile with this place holds the point.
+fn is_in(side: Side, corners: &[Corner], t: usize, point: Point) -> bool {
+    match corners.get(t) {
+        Some(corner) => index_in(side, *corner, point).is_some(),
+        None => false,
     }
 }
 

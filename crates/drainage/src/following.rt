@@ -17,7 +17,7 @@ use crate::asking::check_ground;
 use crate::filling::level;
 use crate::held::Held;
 use derived::Labellings;
-use downstream::{FilledLevels, direction_at};
+use downstream::{FilledLevels, Near, direction_at};
 use lattice::{Dir, Point, Refusal, holders, index_in};
 use std::alloc::Global;
 
@@ -130,6 +130,10 @@ impl<S: Labellings> FilledLevels<S> for Held {
         point: Point,
     ) -> Result<Option<i16>, Refusal> {
         level(alloc, source, self, point)
+    }
+
+    fn near(&self, _source: &S, point: Point) -> Option<Near> {
+        self.levels_near(point)
     }
 
     fn share_tile(&self, source: &S, point: Point, other: Point) -> bool {

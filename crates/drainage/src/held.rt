@@ -1,12 +1,15 @@
 //! What is found of a mosaic's water, held between two questions.
-ghost use Rattle.std.specs.Prelude.{◌≡◌, IfOk, IfErr};
-ghost use Rattle.lattice.specs.Mosaic.{Mosaic};
+ghost use Rattle.std.specs.Prelude.{◌≡◌, IfOk, IfErr, IfSome};
+ghost use Rattle.lattice.specs.Mosaic.{Mosaic, IsMosaic};
+ghost use Rattle.downstream.specs.Near.{IsNear};
 ghost use Rattle.lattice.specs.declared.refusal.Refusal.TheVariants.{NoMemory};
 ghost use Rattle.drainage.specs.Holding.{IsRight};
 ghost use Rattle.drainage.specs.Reaching.{DifferBetween};
 
+use crate::nearby::near;
 use crate::waters::Waters;
 use catalogue::Samples;
+use downstream::Near;
 use lattice::{Point, Refusal};
 use std::alloc::Global;
 
@@ -48,6 +51,14 @@ impl Held {
         };
         waters.forget_between(from, to);
         self.waters = Some(waters);
+    }
+
+    // The levels at the point and around it, where what is held tells them.
+    pub(crate) fn levels_near(&self, point: Point) -> Option<Near>
+        ensures { (m : Mosaic) → IsMosaic m → IsHeldOf m self.now → IfSome result (IsNear m point) }
+    {
+        let waters = self.waters.as_ref()?;
+        near(waters, point)
     }
 
     // Hands out what is held, or that nothing is found yet. Nothing is held then. NoMemory is the only refusal.

@@ -15,6 +15,7 @@ mod following;
 mod growth;
 mod held;
 mod laws;
+mod nearby;
 mod reaching;
 mod rims;
 mod shores;

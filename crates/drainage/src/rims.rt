@@ -5,21 +5,20 @@ ghost use Rattle.drainage.specs.Holding.{level_of};
 
 use lattice::Refusal;
 use std::alloc::Global;
-use std::collections::HashMap;
 use std::marker::Model;
 
-/// The filled levels that are known of rim points, by the numbers of their nodes.
+/// The filled levels that are known of rim points, by the numbers of their nodes, up to the greatest that is known.
 #[derive(Drop)]
 pub(crate) struct RimLevels {
-    levels: HashMap<u32, i16>,
+    levels: Vec<Option<i16>>,
 }
 
 impl Model for RimLevels {
-    ghost use Rattle.std.specs.Prelude.{List, ℕ, ℤ};
+    ghost use Rattle.std.specs.Prelude.{List, Option, ℤ};
 
-    ghost Value = { List (ℕ × ℤ) };
+    ghost Value = { List (Option ℤ) };
 
-    ghost view = { λ r. r.levels.entries };
+    ghost view = { λ r. r.levels.items };
 }
 
 impl RimLevels {
@@ -28,7 +27,7 @@ impl RimLevels {
         ensures { (x : ℕ) → level_of result x ≡ None }
     {
         RimLevels {
-            levels: HashMap::new(alloc),
+            levels: Vec::new(alloc),
         }
     }
 
@@ -36,8 +35,10 @@ impl RimLevels {
     pub(crate) fn level(&self, node: u32) -> Option<i16>
         ensures { result ≡ level_of self.now node }
     {
-        let level = self.levels.get(&node)?;
-        Some(*level)
+        match self.levels.get(node as usize) {
+            Some(level) => *level,
+            None => None,
+        }
     }
 
     /// Knows no level from then on. Takes no memory.
@@ -52,9 +53,11 @@ impl RimLevels {
         ensures known { OnOk result ((x : ℕ) → level_of self.new x ≡ cond (node == x) (Some level) (level_of self.old x)) }
         ensures refusal { IfErr result (λ r. (r ≡ NoMemory) × (self.new ≡ self.old)) }
     {
-        match self.levels.insert(node, level) {
-            Ok(_) => Ok(()),
-            Err(_) => Err(Refusal::NoMemory),
+        let place = node as usize;
+        if place >= self.levels.len() && self.levels.resize(place + 1, None).is_err() {
+            return Err(Refusal::NoMemory);
         }
+        self.levels[place] = Some(level);
+        Ok(())
     }
 }

@@ -12,12 +12,12 @@ pub returns-clause-there : goal.returns-clause-there
 returns-clause-there g c =
     let whole : vec_len c.args.self.now.squares ≡ length c.args.self.now.squares.items = omega (arith, c.args.self.now.squares.ok.0) in
     record {
-  square = c.in_ok-square.square;
-  told = c.in_ok-insert.ensures.updates.1;
-  there = ap (λ (items : List (Square g.row.T.Denot)). slice_get items c.len-place.result) c.in_ok-push.ensures.items
-      ∙ ap (λ i. slice_get (c.args.self.now.squares.items ++ c.in_ok-square.square ∷ []) i) (c.len-place.ensures ∙ whole) ∙ last_is c.args.self.now.squares.items c.in_ok-square.square;
-  number = c.in_ok-square.ensures.number;
-}
+      square = c.in_ok-square.square;
+      told = c.in_ok-insert.ensures.updates.1;
+      there = ap (λ (items : List (Square g.row.T.Denot)). slice_get items c.len-place.result) c.in_ok-push.ensures.items
+          ∙ ap (λ i. slice_get (c.args.self.now.squares.items ++ c.in_ok-square.square ∷ []) i) (c.len-place.ensures ∙ whole) ∙ last_is c.args.self.now.squares.items c.in_ok-square.square;
+      number = c.in_ok-square.ensures.number;
+    }
 
 pub returns-clause-same : goal.returns-clause-same
 returns-clause-same g c p =

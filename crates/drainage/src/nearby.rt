@@ -1,0 +1,81 @@
+//! The levels at a point and around it, where what is held tells them.
+ghost use Rattle.std.specs.Prelude.{◌≡◌, ◌<◌, Some, IfSome, length};
+ghost use Rattle.downstream.specs.Near.{IsNear};
+ghost use Rattle.lattice.specs.Mosaic.{Mosaic, IsMosaic};
+ghost use Rattle.lattice.specs.Steps.{step};
+ghost use Rattle.rising.specs.Others.{corner_at};
+ghost use Rattle.drainage.specs.Holding.{IsRight, entered_at};
+ghost use Rattle.drainage.specs.Nearby.{IsToldOf};
+ghost use Rattle.drainage.specs.Waters.{known_of};
+
+use crate::filling::spot_of;
+use crate::waters::Waters;
+use downstream::Near;
+use lattice::{Corner, DIRECTIONS, Dir, Point, index_in, neighbour};
+use rising::node_at;
+use tile_flood::{Labelled, NO_LABEL, OUT};
+
+/// The filled level of a ground point and those of the points around it, where they all lie in one tile whose labelling is
+/// held, and the levels of the rim points that their labels name are known. So it is of nearly every point of a tile that
+/// was asked about before.
+pub(crate) fn near(waters: &Waters, point: Point) -> Option<Near>
+    ensures { (m : Mosaic) → IsMosaic m → IsRight m (known_of waters.now) → IfSome result (IsNear m point) }
+{
+    let side = waters.shores.side;
+    let t = waters.entered.holder(side, &waters.shores.corners, point)?;
+    let corner = waters.shores.corner(t)?;
+    let labelled = waters.entered.labelling(t)?;
+    let here = level_in_tile(waters, t, corner, labelled, point)?;
+    let height = here?;
+    let mut around = [None; 8];
+    for i in 0..8 {
+        around[i] = level_beside(waters, t, corner, labelled, point, DIRECTIONS[i])?;
+    }
+    Some(Near { height, around })
+}
+
+// The level of the point in the direction, as that of a point in the tile.
+fn level_beside(
+    waters: &Waters,
+    t: usize,
+    corner: Corner,
+    labelled: &Labelled,
+    point: Point,
+    direction: Dir,
+) -> Option<Option<i16>>
+    requires place { t < length waters.now.shores.corners.items }
+    requires corner { corner_at waters.now.shores.corners.items t ≡ corner }
+    requires held { entered_at waters.now.entered t ≡ Some labelled.now }
+    ensures { IfSome result (IsToldOf (known_of waters.now) t (step direction point)) }
+{
+    let to = neighbour(point, direction)?;
+    level_in_tile(waters, t, corner, labelled, to)
+}
+
+// The filled level of the point, where the tile with this place, corner and labelling holds it, and the level of the rim
+// point that its label names is known; or that it isn't ground.
+fn level_in_tile(
+    waters: &Waters,
+    t: usize,
+    corner: Corner,
+    labelled: &Labelled,
+    point: Point,
+) -> Option<Option<i16>>
+    requires place { t < length waters.now.shores.corners.items }
+    requires corner { corner_at waters.now.shores.corners.items t ≡ corner }
+    requires held { entered_at waters.now.entered t ≡ Some labelled.now }
+    ensures { IfSome result (IsToldOf (known_of waters.now) t point) }
+{
+    let side = waters.shores.side;
+    let index = index_in(side, corner, point)?;
+    let (level, label) = spot_of(labelled, index)?;
+    if label == NO_LABEL {
+        return Some(None);
+    }
+    if label == OUT {
+        return Some(Some(level));
+    }
+    let node = node_at(side, t, u32::from(label))?;
+    let over = waters.levels.level(node)?;
+    Some(Some(level.max(over)))
+}
