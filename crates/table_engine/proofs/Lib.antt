@@ -1,4 +1,2 @@
 pub mod FreshTiles
 pub mod TableCalls
-pub mod Reached
-pub mod LeftHeld

@@ -1,2 +1,1 @@
 pub mod TableState
-pub mod Changed

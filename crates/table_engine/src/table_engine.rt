@@ -7,10 +7,10 @@ ghost use Rattle.edits.specs.LeftStale.{is_beside};
 ghost use Rattle.calls.specs.State.{fresh};
 ghost use Rattle.table_engine.specs.TableState.{stale_among};
 
-use crate::forgetting::forget_changed;
 use catalogue::{Samples, Table, height};
 use edits::{Change, Command, carry_out, commands_make_mosaics, leave_stale, plan};
 use engine::Engine;
+use forgetting::forget_changed;
 use lattice::{Corner, Height, MOST_TILES, Point, Refusal, Side};
 use std::alloc::Global;
 use std::marker::Model;

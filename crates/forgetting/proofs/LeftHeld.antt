@@ -10,15 +10,15 @@ use Rattle.lattice.specs.Height.{height_of}
 use Rattle.lattice.specs.Mosaic.{Mosaic, IsMosaic}
 use Rattle.catalogue.specs.Tiles.{AreCorners, corners_of}
 use Rattle.catalogue.proofs.OneTile.{corners_are}
-use Rattle.edits.specs.Changes.{CanBeMade, changed, all_changed}
+use Rattle.edits.specs.Changes.{CanBeMade, CanBeSet, changed, all_changed}
 use Rattle.edits.specs.declared.change.Change.{Change}
 use Rattle.edits.specs.declared.change.Change.TheVariants.{Add, Drop, Set, Sink, Unsink}
 use Rattle.drainage.specs.Between.{IsHeldOf}
 use Rattle.drainage.specs.Reaching.{is_between, DifferBetween}
 use Rattle.drainage.specs.declared.held.Held.{Held}
-use Rattle.table_engine.specs.Changed.{IsWithin, DifferIn, place_of}
-use Rattle.table_engine.specs.declared.forgetting.Span.{Span}
-use Rattle.table_engine.proofs.Reached.{between_itself, differ_there}
+use Rattle.forgetting.specs.Changed.{IsWithin, DifferIn, place_of}
+use Rattle.forgetting.specs.declared.forgetting.Span.{Span}
+use Rattle.forgetting.proofs.Reached.{between_itself, differ_there}
 
 -- a change that can be made sets a sample of a tile, if any
 pub within_if : (n : ℕ) (corners : List Corner) (sinks : List Point) (x : Change) → CanBeMade n corners sinks x → IsWithin n x
@@ -27,6 +27,13 @@ within_if n corners sinks (Drop c) can = tt
 within_if n corners sinks (Set c i s) can = can.1
 within_if n corners sinks (Sink p) can = tt
 within_if n corners sinks (Unsink p) can = tt
+
+pub set_within : (n : ℕ) (corners : List Corner) (x : Change) → CanBeSet n corners x → IsWithin n x
+set_within n corners (Add c samples) can = tt
+set_within n corners (Drop c) can = tt
+set_within n corners (Set c i s) can = can.1
+set_within n corners (Sink p) can = tt
+set_within n corners (Unsink p) can = tt
 
 -- After these changes what is held is right for the mosaic as it was, and for one from which only points of the box changed
 -- since.
@@ -38,9 +45,13 @@ pub record IsLeftFor (m : Mosaic) (changes : List Change) (span : Option Span) (
   pub same_side : (all_changed changes m).side ≡ m.side
   pub same_corners : corners_of (all_changed changes m) ≡ corners_of m
 
+-- nothing changed
+pub unmoved : (m : Mosaic) (from to : Point) → DifferBetween m m from to
+unmoved m from to = record { same_side = refl; same_corners = refl; heights = λ p out. refl; sinks = λ p out. refl }
+
 nowhere : (span : Option Span) (m : Mosaic) → DifferIn span m m
 nowhere None m = refl
-nowhere (Some span) m = record { same_side = refl; same_corners = refl; heights = λ p out. refl; sinks = λ p out. refl }
+nowhere (Some span) m = unmoved m span.from span.to
 
 -- the box is given up
 module _ (m : Mosaic) (changes : List Change) (span : Option Span) (held left : Held) (is : IsLeftFor m changes span held) (gives_up : (a b : Mosaic) → DifferIn span a b → IsHeldOf a held → IsHeldOf b left) where

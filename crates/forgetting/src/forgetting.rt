@@ -2,10 +2,11 @@
 ghost use Rattle.std.specs.Prelude.{◌≡◌, ℕ, true, All, IfSome, IfNone};
 ghost use Rattle.lattice.specs.Mosaic.{Mosaic, IsMosaic};
 ghost use Rattle.lattice.specs.declared.point.Point.{Point};
-ghost use Rattle.edits.specs.Changes.{all_changed};
+ghost use Rattle.edits.specs.Changes.{changed, all_changed};
+ghost use Rattle.edits.specs.declared.change.Change.TheVariants.{Sink, Unsink};
 ghost use Rattle.drainage.specs.Between.{IsHeldOf};
 ghost use Rattle.drainage.specs.Reaching.{is_between};
-ghost use Rattle.table_engine.specs.Changed.{IsWithin, DifferIn, place_of};
+ghost use Rattle.forgetting.specs.Changed.{IsWithin, DifferIn, place_of};
 
 use drainage::Held;
 use edits::Change;
@@ -21,7 +22,7 @@ pub(crate) struct Span {
 /// Gives up what the changes may make wrong of what is held: of the tiles that hold a point whose sample is set, or a sink
 /// that comes or goes, or a point beside it, and the levels of all rim points; everything where a tile comes or goes. Takes
 /// no memory.
-pub(crate) fn forget_changed(held: &mut Held, side: Side, changes: &[Change])
+pub fn forget_changed(held: &mut Held, side: Side, changes: &[Change])
     requires { All (IsWithin side) changes.now }
     ensures still { (m : Mosaic) → IsMosaic m → m.side ≡ side → IsHeldOf m held.old → IsHeldOf m held.new }
     ensures changed { (m : Mosaic) → IsMosaic m → m.side ≡ side → IsHeldOf m held.old → IsHeldOf (all_changed changes.now m) held.new }
@@ -43,6 +44,15 @@ pub(crate) fn forget_changed(held: &mut Held, side: Side, changes: &[Change])
         span = Some(with_point(span, point));
     }
     forget_span(held, span);
+}
+
+/// Gives up what a sink that comes or goes at the point may make wrong of what is held. Takes no memory.
+pub fn forget_near_sink(held: &mut Held, point: Point)
+    ensures still { (m : Mosaic) → IsMosaic m → IsHeldOf m held.old → IsHeldOf m held.new }
+    ensures declared { (m : Mosaic) → IsMosaic m → IsHeldOf m held.old → IsHeldOf (changed (Sink point) m) held.new }
+    ensures taken_back { (m : Mosaic) → IsMosaic m → IsHeldOf m held.old → IsHeldOf (changed (Unsink point) m) held.new }
+{
+    held.forget_between(point, point);
 }
 
 // The point whose sample the change sets, or which it declares a sink or takes back.

@@ -1,0 +1,2 @@
+pub mod LeftHeld
+pub mod Reached
