@@ -37,7 +37,7 @@ pub ends_in : {D : Type 0} {g : Ghosts D} (old new : Store D g) (events : List E
     → EndsIn g old new events answers s
 ends_in {D} {g} old new events answers (stores, (is, run)) honest s at =
     subst (λ (store : Store D g). EndsIn g old store events answers s) is
-    (let through = run.states (subst (λ (store : Store D g). g.honest (disk_of store)) (sym is) honest) s (record { at = at; same_side = at.side_is }) in
+    (let through = run.states (subst (λ (store : Store D g). g.honest (disk_of store)) (sym is) honest) s (record { at = at; same_side = at.in_state.side_is }) in
     let leaves = through.1.later.0 in
     record {
       states = through.0;

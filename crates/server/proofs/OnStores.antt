@@ -16,7 +16,7 @@ use Rattle.calls.specs.Told.{IsTold}
 use Rattle.calls.specs.Runs.{last_of}
 use Rattle.calls.specs.State.{Contents, State, working}
 use Rattle.page_codec.specs.Sizes.{sectors_asked}
-use Rattle.store.specs.Ended.{LeavesOr, HasEnded}
+use Rattle.store.specs.Ended.{LeavesOr, HasEndedAt}
 use Rattle.store.specs.Formatted.{format_2}
 use Rattle.store.specs.Standing.{StandsFor}
 use Rattle.store.specs.StoreState.{IsStoreAt, LeavesStates, StandsForOne, members}
@@ -53,7 +53,7 @@ pub record IsFound {D : Type 0} (g : Ghosts D) (store : Store D g) (side capacit
 
 module _ {D : Type 0} (g : Ghosts D) where
   store_at : (store : Store D g) (s : State) → IsAt g store s → IsStoreAt g store s
-  store_at store s at = record { at = at; same_side = at.side_is }
+  store_at store s at = record { at = at; same_side = at.in_state.side_is }
 
   pub was_read : (old : D) (store : Store D g) → IsOpened g old store → WasRead g old (disk_of store)
   was_read old store opened = record { size = opened.size; writes = opened.writes; later = opened.later; nothing = opened.nothing }
@@ -197,7 +197,7 @@ module _ {D : Type 0} (g : Ghosts D) where
   counted store new c (Ok k) same known is = is ∙ known.count ∙ same
   counted store new c (Err r) same known is = tt
 
-  pub has_upgraded : (old : D) (store new : Store D g) (result : Result ℕ Refusal) → IsOpened g old store → HasEnded g (upgrade_ending (g.size (disk_of store)) (root_of store)) (done_of result) store.tree new.tree
+  pub has_upgraded : (old : D) (store new : Store D g) (result : Result ℕ Refusal) → IsOpened g old store → HasEndedAt g (upgrade_ending (g.size (disk_of store)) (root_of store)) (done_of result) store new
       → IfOk result (λ k. k ≡ (root_of new).count) → HasUpgraded g old (disk_of new) result
   has_upgraded old store new result opened ended counts = record {
     later = let more = ended.later in omega (arith, opened.later, more);
@@ -214,7 +214,7 @@ module _ {D : Type 0} (g : Ghosts D) where
           upgrades = subst (λ (room : Bool). Upgrades room (working found.first) (done_of result) t)
               (ap₂ (λ (n c : ℕ). nat_le (sectors_asked (format_2 n c)) (g.size (disk_of store))) found.same_side found.same_capacity
               ∙ ap (λ (sectors : ℕ). nat_le (sectors_asked (format_2 side capacity)) sectors) opened.size) happens;
-          counts = counted store new found.first result found.at.at.count ended.known counts;
+          counts = counted store new found.first result found.at.at.in_state.count ended.known counts;
         };
   }
 

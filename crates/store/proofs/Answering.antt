@@ -99,7 +99,7 @@ module _ {D : Type 0} (g : Ghosts D) (old new : Store D g) where
         let t : State = step.0 in (
           t,
           (
-            record { at = step.1.0; same_side = step.1.0.side_is },
+            record { at = step.1.0; same_side = step.1.0.in_state.side_is },
             step.1.1,
             record {
               size = size;

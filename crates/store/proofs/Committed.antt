@@ -1,5 +1,5 @@
 -- A command by the trees that it goes through: what commits nothing, and the commit of what was staged.
-use Rattle.std.proofs.Common.{◌≡◌, ◌≢◌, ◌⊎◌, inl, inr, ⊎_elim, ℕ, ◌+◌, ◌≤◌, ◌<◌, ◌^◌, Bool, true, false, refl, sym, ap, ap₂, ◌∙◌, subst, arith}
+use Rattle.std.proofs.Common.{◌≡◌, ◌≢◌, ◌⊎◌, inl, inr, ⊎_elim, ℕ, ◌+◌, ◌≤◌, ◌<◌, ◌^◌, Bool, true, false, refl, sym, ap, ap₂, ◌∙◌, subst, true≢false, arith}
 use Rattle.std.specs.Prelude.{Option, Result, Ok, Err, IfErr, IsErrOf, IsTrue}
 use Rattle.std.proofs.lemmas.Bool.{or_right}
 use Rattle.disk.specs.Disk.{Image, HasRisen}
@@ -169,6 +169,31 @@ refused_first g tree command works only_now r own cause refused result is =
     let nothing : CommitsNothing {T = ℕ} g tree tree (Err r) = in_memory g tree tree (Err r) only_now refl refl works (λ s at. at) (λ device. own.0 (refusal_is r device)) in
     subst (λ (x : Result ℕ Refusal). IsApplied g command x tree tree) (sym is)
     (quiet g tree tree command works (Err r) nothing works (λ honest s at. (refl, refl)) r own.0 own.1 works cause refl (λ honest s at. refused s at))
+
+-- .. for a store that had failed
+pub failed_first : {D : Type 0} (g : Ghosts D) (tree : Tree D g) (command : Command) → has_failed tree ≡ true → IsApplied g command (Err Failed) tree tree
+failed_first g tree command fails = record {
+  size = refl;
+  version = refl;
+  side = refl;
+  capacity = refl;
+  later = omega arith;
+  device = λ is. absurd (not_device is);
+  works = tt;
+  fails = λ is. absurd (not_device is);
+  causes = ends_command command Failed refl;
+  quiet = λ works. absurd (true≢false (sym fails ∙ works));
+  counted = tt;
+  last_known = refl;
+  unwritten = λ _. refl;
+  honest = λ h. h;
+  outcome = λ h s at. (s, (at, record { failed = sym at.failed_is ∙ fails; same = refl }));
+  any_moment = λ h s at works. absurd (true≢false (sym fails ∙ at.failed_is ∙ works));
+  refused_any_moment = λ h s at works. absurd (true≢false (sym fails ∙ at.failed_is ∙ works));
+}
+  where
+    not_device : ◌≡◌ {A = Result ℕ Refusal} (Err Failed) (Err Device) → ⊥
+    not_device is = cc
 
 -- staging that was refused by the disk, or for memory before any write
 pub refused_quietly : {T : Type 0} (Works Unwritten : Type 0) (result : Result T Refusal) → IfErr result (λ r. (r ≡ Device) ⊎ (r ≡ NoMemory)) → Works ⊎ IsErrOf result Device → (IsErrOf result NoMemory → Unwritten)

@@ -3,7 +3,7 @@ use Rattle.std.proofs.Common.{◌≡◌, ◌≢◌, Bool, true, false, List, len
 use Rattle.std.specs.Prelude.{None, Result, Ok, Err, IsErrOf, IfOk, IfErr, OnOk, OnErr}
 use Rattle.disk.specs.Disk.{Image, HasRisen}
 use Rattle.disk.specs.declared.disk.Disk.{Ghosts}
-use Rattle.lattice.specs.Mosaic.{IsMosaic}
+use Rattle.lattice.specs.Mosaic.{Mosaic, IsMosaic}
 use Rattle.lattice.specs.declared.point.Point.{Point}
 use Rattle.lattice.specs.declared.refusal.Refusal.{Refusal}
 use Rattle.lattice.specs.declared.refusal.Refusal.TheVariants.{Device, Failed}
@@ -16,8 +16,11 @@ use Rattle.charts.specs.Charts.{ChartValue, HasFreshHeights}
 use Rattle.cow_tree.specs.Staged.{pages_due}
 use Rattle.cow_tree.specs.Trees.{disk_of, root_of, has_failed, sinks_of, staged_in, IsAt as IsTreeAt}
 use Rattle.cow_tree.specs.declared.tree.Tree.{Tree}
+use Rattle.drainage.specs.Between.{IsHeldOf}
+use Rattle.drainage.specs.declared.held.Held.{Held}
 use Rattle.store.specs.Queried.{IsQueried}
 use Rattle.store.specs.TreeStates.{IsInState, IsClean}
+use Rattle.store.specs.Water.{IsHolding}
 use Rattle.store.proofs.HeldTiles.{AreTilesOf, whole_filled}
 use Rattle.store.proofs.Holding.{held}
 use Rattle.store.proofs.InMemory.{is_working}
@@ -37,6 +40,10 @@ module _ {D : Type 0} (g : Ghosts D) (tree : Tree D g) (works : has_failed tree 
 
   pub mosaic_at : mosaic_of g tree ≡ s.contents.mosaic
   mosaic_at = ap (λ (sinks : List Point). mosaic_of_tiles (root_of tree).side sinks (staged_in g tree)) ((at.sound works).none_declared ∙ (at.sound works).holds.sinks) ∙ sym tiles_at.mosaic
+
+  -- what is held is right for the tree's mosaic
+  pub right_at : (held : Held) → IsHeldOf s.contents.mosaic held → IsHeldOf (mosaic_of g tree) held
+  right_at held = subst (λ (m : Mosaic). IsHeldOf m held) (sym mosaic_at)
 
   pub readable_at : g.honest (disk_of tree) → IsReadable g tree
   readable_at honest = record {
@@ -119,11 +126,16 @@ module _ {D : Type 0} (g : Ghosts D) (old new : Tree D g) (works : has_failed ol
           valid = subst IsMosaic (sym (same_mosaic_read honest)) was.valid;
         }
 
-    -- the answer of a call that the disk alone refuses
-    pub answered : {T : Type 0} (Answers : State → Result T Refusal → State → Type 0) (result : Result T Refusal)
+    -- the answer of a call that the disk alone refuses, and that leaves what is held
+    pub answered : {T : Type 0} (held : Held) → IsHeldOf s.contents.mosaic held → (Answers : State → Result T Refusal → State → Type 0) (result : Result T Refusal)
         → OnOk result (has_failed new ≡ false) → OnErr result (¬ (has_failed new ≡ false)) → IfErr result (λ r. r ≡ Device)
         → Answers s (Err Device) (failing s None) → IfOk result (λ x. Answers s (Ok x) s)
-        → (t : State) × (IsInState g new t × Answers s result t)
-    answered Answers (Ok x) still fails device refused ok = (s, (still_at still, ok))
-    answered Answers (Err r) still fails device refused ok =
-        (failing s None, (failing_at (true_where (has_failed new) fails), subst (λ (why : Refusal). Answers s (Err why) (failing s None)) (sym device) refused))
+        → (t : State) × (IsHolding g new held t × Answers s result t)
+    answered held right Answers (Ok x) still fails device refused ok = (s, (record { in_state = still_at still; right = right }, ok))
+    answered held right Answers (Err r) still fails device refused ok = (
+      failing s None,
+      (
+        record { in_state = failing_at (true_where (has_failed new) fails); right = right },
+        subst (λ (why : Refusal). Answers s (Err why) (failing s None)) (sym device) refused,
+      ),
+    )

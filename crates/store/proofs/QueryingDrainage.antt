@@ -21,13 +21,16 @@ use Rattle.cow_tree.specs.Reading.{mosaic_of, HasOnlyRead}
 use Rattle.cow_tree.specs.Trees.{disk_of, root_of, has_failed, corners_of as corners_under}
 use Rattle.cow_tree.specs.declared.tree.Tree.{Tree}
 use Rattle.drainage.specs.Asking.{IsHeldByNone, may_refuse}
+use Rattle.drainage.specs.Between.{IsHeldOf}
+use Rattle.drainage.specs.declared.held.Held.{Held}
 use Rattle.drainage.proofs.Answered.{told_of_levels}
 use Rattle.flow_d8.specs.Drainage.{AreFilledLevels}
 use Rattle.watershed.specs.Questions.{IsAnswered, IsUnanswered}
 use Rattle.calls.specs.Engines.{items_in}
 use Rattle.store.specs.TreeStates.{IsInState}
 use Rattle.store.proofs.InMemory.{corners_are}
-use Rattle.store.proofs.Querying.{valid_at, mosaic_at, true_where, still_at, failing_at}
+use Rattle.store.specs.Water.{IsHolding}
+use Rattle.store.proofs.Querying.{valid_at, mosaic_at, same_mosaic_read, true_where, still_at, failing_at}
 
 -- an answer with a list for the vector that holds it
 pub listed : {X A : Type 0} (Answers : Result (List X) Refusal → Type 0) (result : Result (Vec X A) Refusal) → MatchResult result (λ xs. Answers (Ok xs.items)) (λ r. Answers (Err r)) → Answers (items_in result)
@@ -69,12 +72,21 @@ module _ {D : Type 0} (g : Ghosts D) (old new : Tree D g) (works : has_failed ol
       (of_here (λ (m : Mosaic). IsErrOf result Void → height_of m p ≡ height.Void) void)
       may
 
+  -- what is held then is right for the state's mosaic
+  pub right_here : (held : Held) → IsHeldOf (mosaic_of g new) held → IsHeldOf here held
+  right_here held = subst (λ (m : Mosaic). IsHeldOf m held) (same_mosaic_read g old new works keeps honest ∙ mosaic_at g old works s at)
+
   -- the answer of a question whose reads the disk alone refuses
-  pub read_answered : {T : Type 0} (Answers : State → Result T Refusal → State → Type 0) (result : Result T Refusal) (read : Result (Unit {0}) Refusal) → IfErr read (λ r. result ≡ Err r)
+  pub read_answered : {T : Type 0} (held : Held) → IsHeldOf here held → (Answers : State → Result T Refusal → State → Type 0) (result : Result T Refusal) (read : Result (Unit {0}) Refusal) → IfErr read (λ r. result ≡ Err r)
       → OnOk read (has_failed new ≡ false) → OnErr read (¬ (has_failed new ≡ false)) → IfErr read (λ r. r ≡ Device)
       → Answers s (Err Device) (failing s None) → (IsOk read → Answers s result s)
-      → (t : State) × (IsInState g new t × Answers s result t)
-  read_answered Answers result (Ok u) passed still fails device refused ok = (s, (still_at g old new works keeps honest s at still, ok refl))
-  read_answered {T} Answers result (Err r) passed still fails device refused ok =
-      let is : result ≡ Err Device = passed ∙ ap (λ (why : Refusal). Err why) device in
-      (failing s None, (failing_at g old new works keeps honest s at (true_where (has_failed new) fails), subst (λ (answer : Result T Refusal). Answers s answer (failing s None)) (sym is) refused))
+      → (t : State) × (IsHolding g new held t × Answers s result t)
+  read_answered held right Answers result (Ok u) passed still fails device refused ok = (s, (record { in_state = still_at g old new works keeps honest s at still; right = right }, ok refl))
+  read_answered {T} held right Answers result (Err r) passed still fails device refused ok =
+      let is : result ≡ Err Device = passed ∙ ap (λ (why : Refusal). Err why) device in (
+        failing s None,
+        (
+          record { in_state = failing_at g old new works keeps honest s at (true_where (has_failed new) fails); right = right },
+          subst (λ (answer : Result T Refusal). Answers s answer (failing s None)) (sym is) refused,
+        ),
+      )

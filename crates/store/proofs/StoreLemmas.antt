@@ -31,7 +31,7 @@ use Rattle.store.specs.Editing.{WritesFew}
 use Rattle.store.specs.Queried.{Queries}
 use Rattle.store.specs.Standing.{StandsFor}
 use Rattle.store.specs.Ended.{LeavesOr}
-use Rattle.store.specs.Stepped.{StepsOn, IsStepped}
+use Rattle.store.specs.Stepped.{StepsOn, HasStepped}
 use Rattle.store.specs.States.{StandsForState, StandsForMade}
 use Rattle.store.specs.Stores.{IsAt, disk_of, root_of, side_of, capacity_of, has_failed}
 use Rattle.store.specs.declared.store.Store.{Store}
@@ -118,7 +118,7 @@ module _ {D : Type 0} (g : Ghosts D) (old new : Store D g) (s t : State) (c : Co
     where
       by : (b : Bool) → s.failed ≡ b → LeavesOnly g (disk_of old) (disk_of new) Allowed
       by false works = applied r (any works) (refused works) applies
-      by true gone = unmoved is (failed (is.at.failed_is ∙ gone)).1 (nothing_done_on g (disk_of old) only_now honest).run
+      by true gone = unmoved is (failed (is.at.in_state.failed_is ∙ gone)).1 (nothing_done_on g (disk_of old) only_now honest).run
 
 -- ---- calls, as of any engine
 
@@ -145,7 +145,7 @@ module _ {D : Type 0} (g : Ghosts D) (old new : Store D g) {T : Type 0} (event :
         happens = λ h s at.
             let step = outcome h s at.at in (
               step.0,
-              (record { at = step.1.0; same_side = step.1.0.side_is }, right_as event tell Answers is (capacity_of old) s step.0 result step.1.1, queried g old new result s (step.0 ∷ []) reads h at),
+              (record { at = step.1.0; same_side = step.1.0.in_state.side_is }, right_as event tell Answers is (capacity_of old) s step.0 result step.1.1, queried g old new result s (step.0 ∷ []) reads h at),
             );
       }
 
@@ -243,7 +243,7 @@ commands g only_now old new c result is few failed still_failed = record {
       let t : State = step.0 in (
         t,
         (
-          record { at = step.1.0; same_side = step.1.0.side_is },
+          record { at = step.1.0; same_side = step.1.0.in_state.side_is },
           right_command (capacity_of old) s t c result step.1.1,
           commanded g old new s t c result is.size is.side is.capacity (only_now (disk_of old)) (is.honest h) (is.any_moment h s at.at) (is.refused_any_moment h s at.at) failed at step.1.1,
         ),
@@ -284,11 +284,11 @@ step_leaves g old new s t only_now honest any failed is = by s.failed refl
     by : (b : Bool) → s.failed ≡ b → LeavesOnly g (disk_of old) (disk_of new) Allowed
     by false works = weaker_on g (disk_of old) (disk_of new) (LeavesOr g old.tree s t) Allowed (λ image. ⊎_elim (λ was. (s, (0, omega arith, refl), inl was)) (λ later. (t, (1, omega arith, refl), later))) (any works)
     by true gone =
-        subst (λ (disk : _). LeavesOnly g (disk_of old) disk Allowed) (sym (failed (is.at.failed_is ∙ gone)))
+        subst (λ (disk : _). LeavesOnly g (disk_of old) disk Allowed) (sym (failed (is.at.in_state.failed_is ∙ gone)))
         (weaker_on g (disk_of old) (disk_of old) (g.may (disk_of old)) Allowed (allowed old s (t ∷ []) is) (nothing_done_on g (disk_of old) only_now honest).run)
 
 pub steps : {D : Type 0} (g : Ghosts D) → ((disk : D) (image : Image) → g.honest disk → g.since disk (g.moment disk) image → g.may disk image) → (old new : Store D g) (result : Result (Option Corner) Refusal)
-    → IsStepped g result old.tree new.tree → g.writes (disk_of new) ≤ g.writes (disk_of old) + (writes_a_step (number_of (root_of old).version) (side_of old) + 3)
+    → HasStepped g result old new → g.writes (disk_of new) ≤ g.writes (disk_of old) + (writes_a_step (number_of (root_of old).version) (side_of old) + 3)
     → (has_failed old ≡ true → (result ≡ Err Failed) × (disk_of new ≡ disk_of old)) → (has_failed old ≡ true → has_failed new ≡ true) → IsCall (members g) old ask.Step (answered reply.Stepped result) new
 steps g only_now old new result is few failed still_failed = record {
   side = λ _. is.side;
@@ -304,7 +304,7 @@ steps g only_now old new result is few failed still_failed = record {
       let t : State = step.0 in (
         t,
         (
-          record { at = step.1.0; same_side = step.1.0.side_is },
+          record { at = step.1.0; same_side = step.1.0.in_state.side_is },
           right_step (capacity_of old) s t result step.1.1,
           record { size = is.size; side = is.side; capacity = is.capacity; run = step_leaves g old new s t (only_now (disk_of old)) (is.honest h) step.1.2 (λ had. (failed had).1) at },
         ),

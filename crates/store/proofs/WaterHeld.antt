@@ -1,45 +1,164 @@
--- What is held of a mosaic's water stays right where only reads were made, and where it is forgotten.
-use Rattle.std.proofs.Common.{◌≡◌, ap, ap₂, sym, ◌∙◌, subst, List}
-use Rattle.std.proofs.Math.Logic.{∥∥₁_map}
+-- What is held of a mosaic's water stays right through the calls of a store.
+use Rattle.std.proofs.Common.{◌≡◌, ◌⊎◌, inl, inr, ℕ, Bool, Option, Some, None, sym, ap, subst}
+use Rattle.std.specs.Prelude.{Result, Ok, Err, OnOk}
 use Rattle.disk.specs.declared.disk.Disk.{Ghosts}
-use Rattle.lattice.specs.Mosaic.{Mosaic, IsMosaic}
-use Rattle.lattice.specs.declared.point.Point.{Point}
-use Rattle.page_codec.specs.Roots.{RootValue}
-use Rattle.cow_tree.specs.Reading.{mosaic_of, HasOnlyRead}
-use Rattle.cow_tree.specs.Stored.{StoredTile, AreWhole, mosaic_of_tiles}
-use Rattle.cow_tree.specs.Trees.{disk_of, root_of, sinks_of, staged_in}
+use Rattle.lattice.specs.Corners.{Corner}
+use Rattle.lattice.specs.Mosaic.{Mosaic}
+use Rattle.lattice.specs.declared.refusal.Refusal.{Refusal}
+use Rattle.lattice.specs.declared.refusal.Refusal.TheVariants.{Device, NoMemory, Failed, Worn, TooSmall, NotOld}
+use Rattle.edits.specs.declared.command.Command.{Command}
+use Rattle.edits.specs.Effect.{effect}
+use Rattle.calls.specs.Outcomes.{Applies, AppliesNot}
+use Rattle.calls.specs.State.{Contents, State, working}
+use Rattle.calls.specs.Steps.{Steps, StepsNot, Upgrades, UpgradesNot}
+use Rattle.cow_tree.specs.Trees.{disk_of, root_of}
 use Rattle.cow_tree.specs.declared.tree.Tree.{Tree}
 use Rattle.drainage.specs.Between.{IsHeldOf}
 use Rattle.drainage.specs.declared.held.Held.{Held}
-use Rattle.store.specs.Kept.{KeepRight}
-use Rattle.store.specs.Labelling.{IsSure}
-use Rattle.store.specs.Water.{IsHeldRight}
+use Rattle.store.specs.Applied.{IsApplied, IsDone}
+use Rattle.store.specs.Ended.{Ending, EndsAt, HasEnded}
+use Rattle.store.specs.Stepped.{IsStepped, step_ending}
+use Rattle.store.specs.TreeStates.{IsInState}
+use Rattle.store.specs.Upgraded.{IsUpgraded, upgrade_ending}
+use Rattle.store.specs.Water.{IsHolding}
 
-module _ {D : Type 0} (g : Ghosts D) where
-  -- nothing is held
-  pub forgotten : (tree : Tree D g) (held : Held) → ((m : Mosaic) → IsHeldOf m held) → ∥ IsHeldRight g tree held ∥₁
-  forgotten tree held none = ∣ (λ _. none (mosaic_of g tree)) ∣₁
+-- ---- commands
 
-  -- nothing is held in its place
-  pub lent : (tree : Tree D g) (held nothing : Held) → held ≡ nothing → ((m : Mosaic) → IsHeldOf m nothing) → ∥ IsHeldRight g tree held ∥₁
-  lent tree held nothing same none = forgotten tree held (λ m. subst (IsHeldOf m) (sym same) (none m))
+-- what is held is right for the mosaic that was, and, where the command was done, for the one that it makes of it
+abbrev pub IsLeftBy : ℕ → Mosaic → Command → Result ℕ Refusal → Held → Type 0
+IsLeftBy capacity m command result held = IsHeldOf m held × OnOk result ((made : Mosaic) → effect capacity m command ≡ Ok made → IsHeldOf made held)
 
-  -- the mosaic as the next commit will have it stayed, with what is kept of its tiles
-  pub held_still : (old new : Tree D g) (held : Held) → (g.honest (disk_of new) → g.honest (disk_of old)) → root_of new ≡ root_of old → (g.honest (disk_of new) → staged_in g new ≡ staged_in g old) → sinks_of new ≡ sinks_of old
-      → ∥ IsHeldRight g old held ∥₁ → ∥ IsHeldRight g new held ∥₁
-  held_still old new held honest root staged sinks right = ∥∥₁_map right (λ was sure.
-      let tiles = staged sure.readable.honest in
-      let same : mosaic_of g new ≡ mosaic_of g old =
-      ap₂ (λ (r : RootValue) (ps : List Point). mosaic_of_tiles r.side ps (staged_in g new)) root sinks ∙ ap (mosaic_of_tiles (root_of old).side (sinks_of old)) tiles in
-      subst (λ (m : Mosaic). IsHeldOf m held) (sym same)
-      (was (record {
-        readable = record {
-          honest = honest sure.readable.honest;
-          pages = subst AreWhole tiles sure.readable.pages;
-          valid = subst IsMosaic same sure.readable.valid;
-        };
-        kept = subst (λ (ts : List StoredTile). KeepRight (mosaic_of g old) ts) tiles (subst (λ (m : Mosaic). KeepRight m (staged_in g new)) same sure.kept);
-      })))
+-- nothing is held
+pub forgotten : (capacity : ℕ) (m : Mosaic) (command : Command) (result : Result ℕ Refusal) (held : Held) → ((m : Mosaic) → IsHeldOf m held) → IsLeftBy capacity m command result held
+forgotten capacity m command (Ok k) held none = (none m, λ made _. none made)
+forgotten capacity m command (Err r) held none = (none m, tt)
 
-  pub held_read : (old new : Tree D g) (held : Held) → HasOnlyRead g old new → ∥ IsHeldRight g old held ∥₁ → ∥ IsHeldRight g new held ∥₁
-  held_read old new held keeps = held_still old new held keeps.honest keeps.root keeps.staged keeps.sinks
+pub left_by : (capacity : ℕ) (m : Mosaic) (command : Command) (result : Result ℕ Refusal) (held : Held) → IsHeldOf m held → ((made : Mosaic) → effect capacity m command ≡ Ok made → IsHeldOf made held) → IsLeftBy capacity m command result held
+left_by capacity m command (Ok k) held still made = (still, made)
+left_by capacity m command (Err r) held still made = (still, tt)
+
+refused_left : (capacity : ℕ) (m : Mosaic) (command : Command) (result : Result ℕ Refusal) (r : Refusal) (held : Held) → result ≡ Err r → IsHeldOf m held → IsLeftBy capacity m command result held
+refused_left capacity m command (Ok k) r held is still = absurd (cc)
+refused_left capacity m command (Err x) r held is still = (still, tt)
+
+-- a command that is refused leaves the mosaic
+refused : (capacity : ℕ) (s : State) (c : Command) (r : Refusal) (t : State) → AppliesNot capacity s c r t → t.contents.mosaic ≡ s.contents.mosaic
+refused capacity s c Failed t is = ap (λ (z : State). z.contents.mosaic) is.same
+refused capacity s c Device t is = ap (λ (z : State). z.contents.mosaic) is.fails
+refused capacity s c NoMemory t is = ap (λ (z : State). z.contents.mosaic) is.same
+refused capacity s c Worn t is = ap (λ (z : State). z.contents.mosaic) is.stays.same
+refused capacity s c r t is = ap (λ (z : State). z.contents.mosaic) is.stays.same
+
+left_right : (capacity : ℕ) (s t : State) (c : Command) (result : Result ℕ Refusal) (held : Held) → IsLeftBy capacity s.contents.mosaic c result held → Applies capacity s c result t → IsHeldOf t.contents.mosaic held
+left_right capacity s t c (Ok k) held left is = subst (λ (z : State). IsHeldOf z.contents.mosaic held) (sym is.effect_is.1.1) (left.1 is.effect_is.0 is.effect_is.1.0)
+left_right capacity s t c (Err r) held left is = subst (λ (m : Mosaic). IsHeldOf m held) (sym (refused capacity s c r t is)) left.0
+
+-- ---- steps and upgrades
+
+-- a step leaves the mosaic
+steps_not : (s : State) (r : Refusal) (t : State) → StepsNot s r t → t.contents.mosaic ≡ s.contents.mosaic
+steps_not s Failed t is = ap (λ (z : State). z.contents.mosaic) is.same
+steps_not s Device t is = ap (λ (z : State). z.contents.mosaic) is.1.1.fails
+steps_not s NoMemory t is = ap (λ (z : State). z.contents.mosaic) is.same
+steps_not s Worn t is = ap (λ (z : State). z.contents.mosaic) is.0.stays.same
+steps_not s r t is = absurd is
+
+steps : (s t : State) (result : Result (Option Corner) Refusal) → Steps s result t → t.contents.mosaic ≡ s.contents.mosaic
+steps s t (Ok None) is = ap (λ (z : State). z.contents.mosaic) is.0.same
+steps s t (Ok (Some c)) is = ap (λ (z : State). z.contents.mosaic) is.1.made_is
+steps s t (Err r) is = steps_not s r t is
+
+-- .. and so does an upgrade
+upgrades_not : (room : Bool) (s : State) (r : Refusal) (t : State) → UpgradesNot room s r t → t.contents.mosaic ≡ s.contents.mosaic
+upgrades_not room s Failed t is = ap (λ (z : State). z.contents.mosaic) is.same
+upgrades_not room s NotOld t is = ap (λ (z : State). z.contents.mosaic) is.0.same
+upgrades_not room s TooSmall t is = ap (λ (z : State). z.contents.mosaic) is.0.same
+upgrades_not room s Worn t is = ap (λ (z : State). z.contents.mosaic) is.0.stays.same
+upgrades_not room s Device t is = ap (λ (z : State). z.contents.mosaic) is.1.fails
+upgrades_not room s NoMemory t is = ap (λ (z : State). z.contents.mosaic) is.same
+upgrades_not room s r t is = absurd is
+
+upgrades : (room : Bool) (s t : State) (result : Result (Unit {0}) Refusal) → Upgrades room s result t → t.contents.mosaic ≡ s.contents.mosaic
+upgrades room s t (Ok u) is = ap (λ (z : State). z.contents.mosaic) is.1.made_is
+upgrades room s t (Err r) is = upgrades_not room s r t is
+
+-- ---- an opening, after which nothing is held
+
+module _ {D : Type 0} (g : Ghosts D) (tree : Tree D g) (held : Held) (none : (m : Mosaic) → IsHeldOf m held) where
+  holding_none : (s : State) → IsInState g tree s → IsHolding g tree held s
+  holding_none s at = record { in_state = at; right = none s.contents.mosaic }
+
+  -- at one of two
+  pub one_holding : (a b : Contents) → IsInState g tree (working a) ⊎ IsInState g tree (working b) → IsHolding g tree held (working a) ⊎ IsHolding g tree held (working b)
+  one_holding a b (inl at) = inl (holding_none (working a) at)
+  one_holding a b (inr at) = inr (holding_none (working b) at)
+
+  -- at what was known last, or at the commit in doubt
+  pub known_holding : (s : State) → IsInState g tree (working s.contents) ⊎ ((doubted : Contents) × (s.doubt ≡ Some doubted) × IsInState g tree (working doubted))
+      → IsHolding g tree held (working s.contents) ⊎ ((doubted : Contents) × (s.doubt ≡ Some doubted) × IsHolding g tree held (working doubted))
+  known_holding s (inl at) = inl (holding_none (working s.contents) at)
+  known_holding s (inr (doubted, some, at)) = inr (doubted, some, holding_none (working doubted) at)
+
+-- ---- with what is held
+
+module _ {D : Type 0} (g : Ghosts D) (old new : Tree D g) where
+  -- a command that leaves what is held right
+  pub done_holding : (was now : Held) (c : Command) (result : Result ℕ Refusal)
+      → (g.honest (disk_of new) → (s : State) → IsInState g old s → IsHeldOf s.contents.mosaic was → IsLeftBy (root_of old).capacity s.contents.mosaic c result now)
+      → IsApplied g c result old new → IsDone g c result old new (λ s. IsHolding g old was s) (λ t. IsHolding g new now t)
+  done_holding was now c result left is = record {
+    size = is.size;
+    version = is.version;
+    side = is.side;
+    capacity = is.capacity;
+    later = is.later;
+    device = is.device;
+    works = is.works;
+    fails = is.fails;
+    causes = is.causes;
+    quiet = is.quiet;
+    counted = is.counted;
+    last_known = is.last_known;
+    unwritten = is.unwritten;
+    honest = is.honest;
+    outcome = λ honest s at.
+        let step = is.outcome honest s at.in_state in
+        (step.0, (record { in_state = step.1.0; right = left_right (root_of old).capacity s step.0 c result now (left honest s at.in_state at.right) step.1.1 }, step.1.1));
+    any_moment = λ honest s at. is.any_moment honest s at.in_state;
+    refused_any_moment = λ honest s at. is.refused_any_moment honest s at.in_state;
+  }
+
+  -- a command that is refused, and leaves what is held
+  pub unchanged_holding : (held : Held) (c : Command) (result : Result ℕ Refusal) {r : Refusal} → result ≡ Err r
+      → IsApplied g c result old new → IsDone g c result old new (λ s. IsHolding g old held s) (λ t. IsHolding g new held t)
+  unchanged_holding held c result {r} refused = done_holding held held c result (λ honest s at right. refused_left (root_of old).capacity s.contents.mosaic c result r held refused right)
+
+  -- a call that leaves the mosaic, and what is held
+  ended_holding : {T : Type 0} (ending : Ending T) (held : Held) (result : Result T Refusal) → ((s t : State) → ending.Happens s result t → t.contents.mosaic ≡ s.contents.mosaic)
+      → HasEnded g ending result old new → EndsAt g ending result old new (λ s. IsHolding g old held s) (λ t. IsHolding g new held t)
+  ended_holding ending held result same is = record {
+    size = is.size;
+    side = is.side;
+    capacity = is.capacity;
+    later = is.later;
+    device = is.device;
+    works = is.works;
+    fails = is.fails;
+    causes = is.causes;
+    quiet = is.quiet;
+    known = is.known;
+    last_known = is.last_known;
+    unwritten = is.unwritten;
+    idle = is.idle;
+    honest = is.honest;
+    outcome = λ honest s at.
+        let step = is.outcome honest s at.in_state in
+        (step.0, (record { in_state = step.1.0; right = subst (λ (m : Mosaic). IsHeldOf m held) (sym (same s step.0 step.1.1)) at.right }, step.1.1, step.1.2));
+  }
+
+  pub stepped_holding : (held : Held) (result : Result (Option Corner) Refusal) → IsStepped g result old new → EndsAt g step_ending result old new (λ s. IsHolding g old held s) (λ t. IsHolding g new held t)
+  stepped_holding held result = ended_holding step_ending held result (λ s t. steps s t result)
+
+  pub upgraded_holding : (held : Held) (result : Result (Unit {0}) Refusal) → IsUpgraded g result old new
+      → EndsAt g (upgrade_ending (g.size (disk_of old)) (root_of old)) result old new (λ s. IsHolding g old held s) (λ t. IsHolding g new held t)
+  upgraded_holding held result = ended_holding (upgrade_ending (g.size (disk_of old)) (root_of old)) held result (λ s t. upgrades _ s t result)

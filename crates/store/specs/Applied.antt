@@ -14,6 +14,7 @@ use Rattle.cow_tree.specs.Trees.{disk_of, root_of, has_failed}
 use Rattle.cow_tree.specs.declared.tree.Tree.{Tree}
 use Rattle.store.specs.Standing.{StandsFor}
 use Rattle.store.specs.States.{StandsForMade}
+use Rattle.store.specs.Stores.{IsAt}
 use Rattle.store.specs.TreeStates.{IsInState}
 use Rattle.store.specs.declared.store.Store.{Store}
 
@@ -41,8 +42,9 @@ SetsSinks (Sink p) = Unit {0}
 SetsSinks (Unsink p) = Unit {0}
 SetsSinks _ = ⊥
 
--- the command was done, and answered so
-pub record IsApplied {D : Type 0} (g : Ghosts D) (command : Command) (result : Result ℕ Refusal) (old new : Tree D g) : Type 0 where
+-- The command was done, and answered so: from each state that it may have been in before, by the one test, to one that it
+-- may be in then, by the other.
+pub record IsDone {D : Type 0} (g : Ghosts D) (command : Command) (result : Result ℕ Refusal) (old new : Tree D g) (Was Is : State → Type 0) : Type 0 where
   pub size : g.size (disk_of new) ≡ g.size (disk_of old)
   pub version : (root_of new).version ≡ (root_of old).version
   pub side : (root_of new).side ≡ (root_of old).side
@@ -61,13 +63,17 @@ pub record IsApplied {D : Type 0} (g : Ghosts D) (command : Command) (result : R
   pub unwritten : IfErr result (λ r. r ≢ Device → g.writes (disk_of new) ≡ g.writes (disk_of old))
   pub honest : g.honest (disk_of new) → g.honest (disk_of old)
   -- the answer, and the state that it leaves
-  pub outcome : g.honest (disk_of new) → (s : State) → IsInState g old s → (t : State) × (IsInState g new t × Applies (root_of old).capacity s command result t)
+  pub outcome : g.honest (disk_of new) → (s : State) → Was s → (t : State) × (Is t × Applies (root_of old).capacity s command result t)
   -- a stop at any moment leaves the contents as they were, or as the command makes them
-  pub any_moment : g.honest (disk_of new) → (s : State) → IsInState g old s → s.failed ≡ false → LeavesOnly g (disk_of old) (disk_of new) (MayHaveMade g old s.contents command)
+  pub any_moment : g.honest (disk_of new) → (s : State) → Was s → s.failed ≡ false → LeavesOnly g (disk_of old) (disk_of new) (MayHaveMade g old s.contents command)
   -- .. and where it is refused for another reason than the disk, as they were
-  pub refused_any_moment : g.honest (disk_of new) → (s : State) → IsInState g old s → s.failed ≡ false
+  pub refused_any_moment : g.honest (disk_of new) → (s : State) → Was s → s.failed ≡ false
       → IfErr result (λ r. r ≢ Device → LeavesOnly g (disk_of old) (disk_of new) (HasContents g old s.contents))
+
+-- .. by a tree
+abbrev pub IsApplied : {D : Type 0} (g : Ghosts D) → Command → Result ℕ Refusal → Tree D g → Tree D g → Type 0
+IsApplied g command result old new = IsDone g command result old new (λ s. IsInState g old s) (λ t. IsInState g new t)
 
 -- .. by the store
 abbrev pub HasApplied : {D : Type 0} (g : Ghosts D) → Store D g → Store D g → Command → Result ℕ Refusal → Type 0
-HasApplied g old new command result = IsApplied g command result old.tree new.tree
+HasApplied g old new command result = IsDone g command result old.tree new.tree (λ s. IsAt g old s) (λ t. IsAt g new t)

@@ -11,7 +11,9 @@ use Rattle.cow_tree.specs.Trees.{disk_of, root_of, has_failed}
 use Rattle.cow_tree.specs.declared.tree.Tree.{Tree}
 use Rattle.store.specs.Applied.{HasContents}
 use Rattle.store.specs.States.{StandsForState}
+use Rattle.store.specs.Stores.{IsAt}
 use Rattle.store.specs.TreeStates.{IsInState}
+use Rattle.store.specs.declared.store.Store.{Store}
 
 -- an image of the tree's disk stands for the contents of the one state, or for the other state
 abbrev pub LeavesOr : {D : Type 0} (g : Ghosts D) → Tree D g → State → State → Image → Type 0
@@ -25,8 +27,9 @@ pub record Ending (T : Type 0) : Type 1 where
   pub Knows : RootValue → T → RootValue → Type 0
   pub Happens : State → Result T Refusal → State → Type 0
 
--- the call was made, and answered so
-pub record HasEnded {D T : Type 0} (g : Ghosts D) (ending : Ending T) (result : Result T Refusal) (old new : Tree D g) : Type 0 where
+-- The call was made, and answered so: from each state that it may have been in before, by the one test, to one that it may
+-- be in then, by the other.
+pub record EndsAt {D T : Type 0} (g : Ghosts D) (ending : Ending T) (result : Result T Refusal) (old new : Tree D g) (Was Is : State → Type 0) : Type 0 where
   pub size : g.size (disk_of new) ≡ g.size (disk_of old)
   pub side : (root_of new).side ≡ (root_of old).side
   pub capacity : (root_of new).capacity ≡ (root_of old).capacity
@@ -46,5 +49,13 @@ pub record HasEnded {D T : Type 0} (g : Ghosts D) (ending : Ending T) (result : 
   pub honest : g.honest (disk_of new) → g.honest (disk_of old)
   -- the answer, and the state that it leaves; a stop at any moment leaves the contents as they were, or what that state
   -- stands for
-  pub outcome : g.honest (disk_of new) → (s : State) → IsInState g old s
-      → (t : State) × (IsInState g new t × ending.Happens s result t × (s.failed ≡ false → LeavesOnly g (disk_of old) (disk_of new) (LeavesOr g old s t)))
+  pub outcome : g.honest (disk_of new) → (s : State) → Was s
+      → (t : State) × (Is t × ending.Happens s result t × (s.failed ≡ false → LeavesOnly g (disk_of old) (disk_of new) (LeavesOr g old s t)))
+
+-- .. by a tree
+abbrev pub HasEnded : {D T : Type 0} (g : Ghosts D) → Ending T → Result T Refusal → Tree D g → Tree D g → Type 0
+HasEnded g ending result old new = EndsAt g ending result old new (λ s. IsInState g old s) (λ t. IsInState g new t)
+
+-- .. by a store
+abbrev pub HasEndedAt : {D T : Type 0} (g : Ghosts D) → Ending T → Result T Refusal → Store D g → Store D g → Type 0
+HasEndedAt g ending result old new = EndsAt g ending result old.tree new.tree (λ s. IsAt g old s) (λ t. IsAt g new t)

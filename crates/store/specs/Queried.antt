@@ -12,7 +12,6 @@ use Rattle.calls.specs.State.{State}
 use Rattle.cow_tree.specs.Stored.{StoredTile}
 use Rattle.cow_tree.specs.Trees.{disk_of, root_of, has_failed}
 use Rattle.cow_tree.specs.declared.tree.Tree.{Tree}
-use Rattle.store.specs.TreeStates.{IsInState}
 use Rattle.store.specs.declared.store.Store.{Store}
 
 -- the query was made, and answered so, by the store's tree
@@ -35,10 +34,6 @@ pub record IsQueried {D T : Type 0} (g : Ghosts D) (old new : Tree D g) (result 
 -- .. and by the store
 abbrev pub Queries : {D T : Type 0} (g : Ghosts D) → Store D g → Store D g → Result T Refusal → Type 0
 Queries g old new result = IsQueried g old.tree new.tree result
-
--- the answer is right in each state that the store may have been in, and leaves it in a state that the answer may leave
-abbrev pub IsAnswered : {D T : Type 0} (g : Ghosts D) → Tree D g → Tree D g → (State → Result T Refusal → State → Type 0) → Result T Refusal → Type 0
-IsAnswered g old new Answers result = g.honest (disk_of new) → (s : State) → IsInState g old s → (t : State) × (IsInState g new t × Answers s result t)
 
 -- the corner's one tile among these
 pub record IsTileOf (tiles : List StoredTile) (c : Corner) (t : StoredTile) : Type 0 where

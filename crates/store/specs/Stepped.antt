@@ -13,10 +13,11 @@ use Rattle.calls.specs.Told.{may_refuse_step}
 use Rattle.cow_tree.specs.Stored.{Stored, next_commit}
 use Rattle.cow_tree.specs.Trees.{disk_of, root_of, has_failed, sinks_of, staged_in}
 use Rattle.cow_tree.specs.declared.tree.Tree.{Tree}
-use Rattle.store.specs.Ended.{Ending, HasEnded}
+use Rattle.store.specs.Ended.{Ending, HasEnded, HasEndedAt}
 use Rattle.store.specs.Standing.{Holds}
 use Rattle.store.specs.Staging.{CommitsNothing}
 use Rattle.store.specs.TreeStates.{IsInState}
+use Rattle.store.specs.declared.store.Store.{Store}
 
 -- the corners of those entries that keep nothing
 abbrev pub stale_among : List EntryValue → List Corner
@@ -36,9 +37,13 @@ step_ending = record {
   Happens = λ s result t. Steps s result t;
 }
 
--- the step was made, and answered so
+-- the step was made, and answered so, by a tree
 abbrev pub IsStepped : {D : Type 0} (g : Ghosts D) → Result (Option Corner) Refusal → Tree D g → Tree D g → Type 0
 IsStepped g result old new = HasEnded g step_ending result old new
+
+-- .. by the store
+abbrev pub HasStepped : {D : Type 0} (g : Ghosts D) → Result (Option Corner) Refusal → Store D g → Store D g → Type 0
+HasStepped g result old new = HasEndedAt g step_ending result old new
 
 -- the next commit of what was stored, at the same count, would hold what the step of the tile makes of the contents
 pub record WillHoldStep {D : Type 0} (g : Ghosts D) (old mid : Tree D g) (c : Corner) (s : State) (stored : Stored) : Type 0 where

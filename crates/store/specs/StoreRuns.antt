@@ -22,7 +22,7 @@ module _ {D : Type 0} {g : Ghosts D} where
   -- an image that the state allows
   pub allowed : (store : Store D g) (s : State) (others : List State) → IsStoreAt g store s → (image : Image) → g.may (disk_of store) image
       → StandsForOne (g.size (disk_of store)) (side_of store) (capacity_of store) (s ∷ others) image
-  allowed store s others is image may = (s, first_contained s others, is.at.images image may)
+  allowed store s others is image may = (s, first_contained s others, is.at.in_state.images image may)
 
   -- nothing was done, on a disk whose law says that since the present moment there is no other image
   pub nothing_done : (store : Store D g) (s : State) (others : List State)

@@ -5,7 +5,7 @@ use Rattle.page_codec.specs.Roots.{RootValue}
 use Rattle.calls.specs.State.{State}
 use Rattle.cow_tree.specs.Trees.{disk_of as disk_under, root_of as root_under, has_failed as have_failed}
 use Rattle.roots.specs.declared.roots.NotOpened.{NotOpened}
-use Rattle.store.specs.TreeStates.{IsInState}
+use Rattle.store.specs.Water.{IsHolding}
 use Rattle.store.specs.declared.store.Store.{Store}
 
 module _ {D : Type 0} {g : Ghosts D} where
@@ -31,6 +31,6 @@ module _ {D : Type 0} {g : Ghosts D} where
   disk_after (Ok store) = disk_of store
   disk_after (Err e) = e.disk
 
--- the store is in this state
+-- the store is in this state, for which what it holds of the water is right
 abbrev pub IsAt : {D : Type 0} (g : Ghosts D) → Store D g → State → Type 0
-IsAt g store s = IsInState g store.tree s
+IsAt g store s = IsHolding g store.tree store.held s

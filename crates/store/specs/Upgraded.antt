@@ -10,7 +10,7 @@ use Rattle.page_codec.specs.Roots.{RootValue, format_of}
 use Rattle.calls.specs.Steps.{Upgrades}
 use Rattle.cow_tree.specs.Trees.{disk_of, root_of}
 use Rattle.cow_tree.specs.declared.tree.Tree.{Tree}
-use Rattle.store.specs.Ended.{Ending, HasEnded}
+use Rattle.store.specs.Ended.{Ending, HasEnded, HasEndedAt}
 use Rattle.store.specs.declared.store.Store.{Store}
 
 -- whether so many sectors are as many as the second version asks of the store with this root
@@ -41,10 +41,10 @@ upgrade_ending sectors root = record {
   Happens = λ s result t. Upgrades (has_room sectors root) s result t;
 }
 
--- the upgrade was made, and answered so
+-- the upgrade was made, and answered so, by a tree
 abbrev pub IsUpgraded : {D : Type 0} (g : Ghosts D) → Result (Unit {0}) Refusal → Tree D g → Tree D g → Type 0
 IsUpgraded g result old new = HasEnded g (upgrade_ending (g.size (disk_of old)) (root_of old)) result old new
 
 -- .. by the store
 abbrev pub HasUpgraded : {D : Type 0} (g : Ghosts D) → Store D g → Store D g → Result (Unit {0}) Refusal → Type 0
-HasUpgraded g old new result = IsUpgraded g result old.tree new.tree
+HasUpgraded g old new result = HasEndedAt g (upgrade_ending (g.size (disk_of old.tree)) (root_of old.tree)) result old new

@@ -1,11 +1,13 @@
--- What is held of the water of a tree's mosaic (this product's own profile).
+-- The state that a store is in, by its tree and by what it holds of the water (this product's own profile).
 use Rattle.disk.specs.declared.disk.Disk.{Ghosts}
-use Rattle.cow_tree.specs.Reading.{mosaic_of}
+use Rattle.calls.specs.State.{State}
 use Rattle.cow_tree.specs.declared.tree.Tree.{Tree}
 use Rattle.drainage.specs.Between.{IsHeldOf}
 use Rattle.drainage.specs.declared.held.Held.{Held}
-use Rattle.store.specs.Labelling.{IsSure}
+use Rattle.store.specs.TreeStates.{IsInState}
 
--- it is right for the mosaic that the tree stands for, where the tree is sure
-abbrev pub IsHeldRight : {D : Type 0} (g : Ghosts D) → Tree D g → Held → Type 0
-IsHeldRight g tree held = IsSure g tree → IsHeldOf (mosaic_of g tree) held
+-- a store with this tree, which holds this, is in this state
+pub record IsHolding {D : Type 0} (g : Ghosts D) (tree : Tree D g) (held : Held) (s : State) : Type 0 where
+  pub in_state : IsInState g tree s
+  -- what is held is right for the mosaic
+  pub right : IsHeldOf s.contents.mosaic held

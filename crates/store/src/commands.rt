@@ -13,18 +13,20 @@ ghost use Rattle.calls.specs.Told.{may_refuse_command};
 ghost use Rattle.cow_tree.specs.Trees.{corners_of};
 ghost use Rattle.store.specs.Standing.{StandsFor};
 ghost use Rattle.store.specs.States.{StandsForMade};
-ghost use Rattle.store.specs.Applied.{SetsSamples, SetsSinks, IsApplied, HasApplied};
+ghost use Rattle.store.specs.Applied.{SetsSamples, SetsSinks, HasApplied};
 ghost use Rattle.store.specs.Editing.{WritesFew};
-ghost use Rattle.store.specs.Stores.{disk_of, root_of, side_of, capacity_of, has_failed, IsAt};
+ghost use Rattle.store.specs.Stores.{disk_of, root_of, side_of, capacity_of, has_failed};
+ghost use Rattle.store.specs.TreeStates.{IsInState};
 
 use crate::Store;
 use crate::committing::commit_staged;
 use crate::editing::{plan_changes, stage_changes};
-use crate::sinking::plan_sinks;
+use crate::sinking::{forget_near, plan_sinks};
 use crate::staling::{drop_near, drop_near_changes, drop_near_sink};
 use cow_tree::Plane;
 use disk::Disk;
 use edits::{Command, commands_make_mosaics};
+use forgetting::forget_changed;
 use lattice::{Corner, Refusal};
 
 impl<D: Disk> Store<D> {
@@ -57,7 +59,7 @@ impl<D: Disk> Store<D> {
     // Adds a tile with the bytes as they are.
     fn import(&mut self, corner: Corner, bytes: &[u8]) -> Result<u64, Refusal>
         requires { has_failed self.old ≡ false }
-        ensures { IsApplied D.Disk (Import corner bytes.now) result self.old.tree self.new.tree }
+        ensures { HasApplied D.Disk self.old self.new (Import corner bytes.now) result }
     {
         self.can_import(corner, bytes)?;
         // What is made is a mosaic.
@@ -71,7 +73,7 @@ impl<D: Disk> Store<D> {
     // Takes a tile out.
     fn remove(&mut self, corner: Corner) -> Result<u64, Refusal>
         requires { has_failed self.old ≡ false }
-        ensures { IsApplied D.Disk (Remove corner) result self.old.tree self.new.tree }
+        ensures { HasApplied D.Disk self.old self.new (Remove corner) result }
     {
         self.can_remove(corner)?;
         commands_make_mosaics();
@@ -85,14 +87,16 @@ impl<D: Disk> Store<D> {
     fn edit(&mut self, command: &Command) -> Result<u64, Refusal>
         requires not_failed { has_failed self.old ≡ false }
         requires samples { SetsSamples command.now }
-        ensures applied { IsApplied D.Disk command.now result self.old.tree self.new.tree }
+        ensures applied { HasApplied D.Disk self.old self.new command.now result }
         ensures writes { WritesFew (root_of self.old).version command.now (D.writes (disk_of self.old)) (D.writes (disk_of self.new)) }
     {
         let changes = plan_changes(self.alloc, &mut self.tree, command)?;
         if self.tree.current().number() == u64::MAX {
             return Err(Refusal::Worn);
         }
-        self.held.forget();
+        // Right for the mosaic as it was and as it becomes, whether the commit is made or not.
+        let side = self.tree.current().side();
+        forget_changed(&mut self.held, side, &changes);
         drop_near_changes(&mut self.tree, &changes);
         let staged = stage_changes(&mut self.tree, &changes);
         commit_staged(&mut self.tree, staged)
@@ -102,14 +106,14 @@ impl<D: Disk> Store<D> {
     fn change_sinks(&mut self, command: &Command) -> Result<u64, Refusal>
         requires not_failed { has_failed self.old ≡ false }
         requires sinks { SetsSinks command.now }
-        ensures applied { IsApplied D.Disk command.now result self.old.tree self.new.tree }
+        ensures applied { HasApplied D.Disk self.old self.new command.now result }
         ensures writes { D.writes (disk_of self.new) ≤ D.writes (disk_of self.old) + 3 }
     {
         let sinks = plan_sinks(&mut self.tree, command)?;
         if self.tree.current().number() == u64::MAX {
             return Err(Refusal::Worn);
         }
-        self.held.forget();
+        forget_near(&mut self.held, command);
         self.tree.declare(&sinks);
         drop_near_sink(&mut self.tree, command);
         commit_staged(&mut self.tree, Ok(()))
@@ -124,7 +128,7 @@ impl<D: Disk> Store<D> {
         ensures absent { OnOk result (¬ Contains (corners_of self.now.tree) corner) }
         ensures room { OnOk result (length (corners_of self.now.tree) < capacity_of self.now) }
         ensures number { OnOk result ((root_of self.now).number + 1 < 2 ^ 64) }
-        ensures refused { (s : State) → IsAt D.Disk self.now s → IfErr result (λ r. AppliesNot (capacity_of self.now) s (Import corner bytes.now) r s) }
+        ensures refused { (s : State) → IsInState D.Disk self.now.tree s → IfErr result (λ r. AppliesNot (capacity_of self.now) s (Import corner bytes.now) r s) }
         ensures own { IfErr result (λ r. (r ≢ Device) × (r ≢ Failed)) }
         ensures causes { IfErr result (λ r. IsTrue (may_refuse_command (Import corner bytes.now) r)) }
     {
@@ -162,7 +166,7 @@ impl<D: Disk> Store<D> {
         requires { has_failed self.now ≡ false }
         ensures present { OnOk result (Contains (corners_of self.now.tree) corner) }
         ensures number { OnOk result ((root_of self.now).number + 1 < 2 ^ 64) }
-        ensures refused { (s : State) → IsAt D.Disk self.now s → IfErr result (λ r. AppliesNot (capacity_of self.now) s (Remove corner) r s) }
+        ensures refused { (s : State) → IsInState D.Disk self.now.tree s → IfErr result (λ r. AppliesNot (capacity_of self.now) s (Remove corner) r s) }
         ensures own { IfErr result (λ r. (r ≢ Device) × (r ≢ Failed)) }
         ensures causes { IfErr result (λ r. IsTrue (may_refuse_command (Remove corner) r)) }
     {

@@ -1,6 +1,6 @@
-//! A store as samples with labellings: that of a fresh tile is read from what is kept of it, a stale tile is flooded.
+//! A store's tree as samples with labellings: that of a fresh tile is read from what is kept of it, a stale tile is flooded.
 ghost use Rattle.std.specs.Prelude.{◌≡◌, ◌≢◌, ◌*◌, false, Some, Err, IsTrue, IfOk, IfErr, vec_len};
-ghost use Rattle.std.proofs.Common.{refl};
+ghost use Rattle.std.proofs.Common.{refl, ◌∙◌};
 ghost use Rattle.lattice.specs.declared.refusal.Refusal.TheVariants.{Damaged, NoMemory};
 ghost use Rattle.catalogue.specs.Endings.{ends_any};
 ghost use Rattle.catalogue.specs.Readers.{reads_of};
@@ -12,7 +12,6 @@ ghost use Rattle.derived.specs.Labellings.{IsFlooded};
 ghost use Rattle.store.specs.Labelling.{IsSure, Consults};
 ghost use Rattle.store.specs.Queried.{IsTileOf};
 
-use crate::Store;
 use crate::queries::read_plane;
 use catalogue::Samples;
 use cow_tree::{Plane, Tree};
@@ -20,38 +19,56 @@ use derived::{KeptPlanes, Labellings, flooded, labelled_from};
 use disk::Disk;
 use lattice::{Corner, Point, Refusal, Side};
 use std::alloc::Global;
+use std::marker::{Brand, PhantomData};
 use tile_flood::Labelled;
 
-impl<D: Disk> Samples for Store<D> {
-    ghost side_of = { λ store. (root_under store.tree).side };
+/// What is taken to hold where samples are said to be honest. A caller at `Brand` picks it.
+pub(crate) trait Premise {
+    ghost holds: { Type 0 };
+}
 
-    ghost corners = { λ store. corners_of store.tree };
+impl Premise for Brand {
+    ghost holds = { Unit {0} };
+}
 
-    ghost sinks_of = { λ store. sinks_of store.tree };
+/// A store's tree that is asked about water: it is honest where the tree is sure and the premise holds.
+#[derive(Drop)]
+pub(crate) struct Asked<'a, D: Disk, P: Premise> {
+    pub(crate) tree: &'a mut Tree<D>,
+    pub(crate) premise: PhantomData<P>,
+}
 
-    ghost mosaic = { λ store. mosaic_of D.Disk store.tree };
+impl<'a, D: Disk, P: Premise> Samples for Asked<'a, D, P> {
+    ghost side_of = { λ asked. (root_under asked.tree.now).side };
 
-    ghost is_honest = { λ store. IsSure D.Disk store.tree };
+    ghost corners = { λ asked. corners_of asked.tree.now };
 
-    ghost keeps = { λ old new. HasOnlyRead D.Disk old.tree new.tree };
+    ghost sinks_of = { λ asked. sinks_of asked.tree.now };
 
-    ghost failures = { λ store. D.failures (disk_under store.tree) };
+    ghost mosaic = { λ asked. mosaic_of D.Disk asked.tree.now };
 
-    ghost is_ready = { λ store. have_failed store.tree ≡ false };
+    ghost is_honest = { λ asked. IsSure D.Disk asked.tree.now × P.holds };
+
+    // It is the same tree, of which nothing was changed.
+    ghost keeps = { λ old new. (new.tree.ghost_name ≡ old.tree.ghost_name) × HasOnlyRead D.Disk old.tree.now new.tree.now };
+
+    ghost failures = { λ asked. D.failures (disk_under asked.tree.now) };
+
+    ghost is_ready = { λ asked. have_failed asked.tree.now ≡ false };
 
     ghost never_refuses = { λ _. ⊥ };
 
-    ghost is_mosaic = { λ _ sure. sure.readable.valid };
+    ghost is_mosaic = { λ _ sure. sure.0.readable.valid };
 
     ghost same_side = { λ _ _. refl };
 
-    ghost same_corners = { λ store _. corners_in_mosaic (root_under store.tree).side (sinks_of store.tree) (D.seen (disk_under store.tree)) (chart_of store.tree).staged };
+    ghost same_corners = { λ asked _. corners_in_mosaic (root_under asked.tree.now).side (sinks_of asked.tree.now) (D.seen (disk_under asked.tree.now)) (chart_of asked.tree.now).staged };
 
     ghost same_sinks = { λ _ _. refl };
 
-    ghost keeps_itself = { λ store. read_nothing _ D.only_now store.tree };
+    ghost keeps_itself = { λ asked. (refl, read_nothing _ D.only_now asked.tree.now) };
 
-    ghost keeps_on = { λ a b c. read_again _ a.tree b.tree c.tree };
+    ghost keeps_on = { λ a b c one two. (two.0 ∙ one.0, read_again _ a.tree.now b.tree.now c.tree.now one.1 two.1) };
 
     ghost sure_is_honest = { λ _ never. absurd never };
 
@@ -64,7 +81,7 @@ impl<D: Disk> Samples for Store<D> {
     }
 
     fn count(&self) -> usize {
-        Samples::count(&self.tree)
+        Samples::count(&*self.tree)
     }
 
     fn present_corners(&self, alloc: Global) -> Result<Vec<Corner>, Refusal> {
@@ -84,10 +101,10 @@ impl<D: Disk> Samples for Store<D> {
     }
 }
 
-impl<D: Disk> Labellings for Store<D> {
+impl<'a, D: Disk, P: Premise> Labellings for Asked<'a, D, P> {
     fn labelling(&mut self, alloc: Global, corner: Corner) -> Result<Labelled, Refusal> {
         if self.tree.keeps(corner) {
-            kept_labelling(alloc, &mut self.tree, corner)
+            kept_labelling(alloc, self.tree, corner)
         } else {
             flooded(alloc, self, corner)
         }

@@ -8,6 +8,7 @@
 //! answers.
 #![tactic(auto)]
 
+mod asking;
 mod commands;
 mod committing;
 mod editing;

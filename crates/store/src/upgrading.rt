@@ -32,7 +32,6 @@ impl<D: Disk> Store<D> {
         if self.tree.has_failed() {
             return Err(Refusal::Failed);
         }
-        self.held.forget();
         upgrade_tree(&mut self.tree)
     }
 }

@@ -17,7 +17,7 @@ returns-in-Ok-clause-survives c s at =
     let t : State = last_of s done.states in
     let behind : c.into_inner-disk.result ≡ (disk_of new).inner = c.into_inner-disk.ensures ∙ ap (λ d. d.inner) c.into_disk.ensures in
     let size : sectors_of c.stop.new.self ≡ sectors_of (disk_of new).inner = c.stop.ensures.sectors ∙ ap sectors_of behind in
-    let each = left_by_cut _ (MayLeave (state_of c.stop.new.self)) (sectors_of (disk_of new).inner) (sectors_of c.stop.new.self) (side_of new) (capacity_of new) t done.at.at.images size
+    let each = left_by_cut _ (MayLeave (state_of c.stop.new.self)) (sectors_of (disk_of new).inner) (sectors_of c.stop.new.self) (side_of new) (capacity_of new) t done.at.at.in_state.images size
     (λ image left. subst (λ (disk : MemDisk). MayLeave (state_of disk) image) behind (c.stop.ensures.may image left)) in
     let opens = c.in-Ok.ensures.at tt (side_of new) (capacity_of new) t.contents (doubted_or_known t) each in (
       ran.0,
@@ -34,6 +34,6 @@ returns-in-Err-clause-sure c s at =
     let t : State = last_of s done.states in
     let behind : c.into_inner-disk.result ≡ (disk_of new).inner = c.into_inner-disk.ensures ∙ ap (λ d. d.inner) c.into_disk.ensures in
     let size : sectors_of c.stop.new.self ≡ sectors_of (disk_of new).inner = c.stop.ensures.sectors ∙ ap sectors_of behind in
-    let each = left_by_cut _ (MayLeave (state_of c.stop.new.self)) (sectors_of (disk_of new).inner) (sectors_of c.stop.new.self) (side_of new) (capacity_of new) t done.at.at.images size
+    let each = left_by_cut _ (MayLeave (state_of c.stop.new.self)) (sectors_of (disk_of new).inner) (sectors_of c.stop.new.self) (side_of new) (capacity_of new) t done.at.at.in_state.images size
     (λ image left. subst (λ (disk : MemDisk). MayLeave (state_of disk) image) behind (c.stop.ensures.may image left)) in
     c.in-Err.ensures.sure tt (side_of new) (capacity_of new) t.contents (doubted_or_known t) each

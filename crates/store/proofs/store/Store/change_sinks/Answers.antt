@@ -19,29 +19,8 @@ use Rattle.store.proofs.InMemory.{worn_at, corners_are}
 use Rattle.store.proofs.Nearby.{sink_stale}
 use Rattle.store.proofs.Staled.{staled_as}
 use Rattle.store.proofs.SinksHeld.{sinks_hold}
-use Rattle.store.proofs.WaterHeld.{forgotten, held_still}
+use Rattle.store.proofs.WaterHeld.{done_holding, left_by, unchanged_holding}
 use Rattle.store.proofs.store.Store.change_sinks.Goals as goal
-
-pub invariant_of-self : goal.invariant_of-self
-invariant_of-self g c =
-    let old = c.args.self.now in
-    let is = c.plan_sinks.ensures in
-    record {
-      clean = λ works. is.clean works (old.clean c.requires.not_failed);
-      right = held_still g.D.Disk old.tree c.plan_sinks.new.tree old.held is.reads.honest is.reads.root is.staged is.sinks old.right;
-    }
-
-pub invariant_of-self-then-number : goal.invariant_of-self-then-number
-invariant_of-self-then-number g c =
-    let old = c.args.self.now in
-    let is = c.plan_sinks.ensures in
-    record {
-      clean = λ works. is.clean works (old.clean c.requires.not_failed);
-      right = held_still g.D.Disk old.tree c.plan_sinks.new.tree old.held is.reads.honest is.reads.root is.staged is.sinks old.right;
-    }
-
-pub invariant_of-self-2-clause-right : goal.invariant_of-self-2-clause-right
-invariant_of-self-2-clause-right g c = forgotten g.D.Disk c.commit_staged.new.tree c.forget.new.self c.forget.ensures
 
 pub returns-in_err-sinks-clause-applied : goal.returns-in_err-sinks-clause-applied
 returns-in_err-sinks-clause-applied g c =
@@ -51,7 +30,8 @@ returns-in_err-sinks-clause-applied g c =
     let command = c.args.command.now in
     let r : Refusal = c.in_err-sinks.field-0.0 in
     let is = c.in_err-sinks.ensures in
-    subst (λ (result : Result ℕ Refusal). IsApplied d command result old new) (sym (refused_as c.from_residual.result r c.from_residual.ensures.1))
+    unchanged_holding d old new c.args.self.now.held command c.from_residual.result (refused_as c.from_residual.result r c.from_residual.ensures.1)
+    (subst (λ (result : Result ℕ Refusal). IsApplied d command result old new) (sym (refused_as c.from_residual.result r c.from_residual.ensures.1))
     (⊎_elim
     (λ device.
     subst (λ (x : Refusal). IsApplied d command (Err x) old new) (sym device) (fails_before d old new command c.requires.not_failed (Err r) is.reads (ap (λ (x : Refusal). Err x) device)))
@@ -59,7 +39,7 @@ returns-in_err-sinks-clause-applied g c =
     let goes_on = is.quiet other in
     quiet d old new command c.requires.not_failed (Err r) is.reads goes_on.1 (λ honest s at. (is.staged honest, is.sinks)) r other goes_on.0 goes_on.1 (may_end_it command r is.causes) is.writes
     (λ honest s at. is.refused honest s at other))
-    (device_or_not r))
+    (device_or_not r)))
 
 pub returns-then-number-clause-applied : goal.returns-then-number-clause-applied
 returns-then-number-clause-applied g c =
@@ -69,9 +49,10 @@ returns-then-number-clause-applied g c =
     let command = c.args.command.now in
     let sinks = c.in_ok-sinks.sinks in
     let is = c.in_ok-sinks.ensures in
-    quiet d old new command c.requires.not_failed (Ok sinks) is.reads is.reads.works (λ honest s at. (is.staged honest, is.sinks)) Worn (λ e. cc) (λ e. cc) is.reads.works refl is.writes
+    unchanged_holding d old new c.args.self.now.held command (Err Worn) refl
+    (quiet d old new command c.requires.not_failed (Ok sinks) is.reads is.reads.works (λ honest s at. (is.staged honest, is.sinks)) Worn (λ e. cc) (λ e. cc) is.reads.works refl is.writes
     (λ honest s at. worn_at d old c.requires.not_failed s at command (with_sinks sinks.items s.contents.mosaic) (is.made honest s at)
-    (sym (ap (λ (r : RootValue). r.number) (c.current.ensures ∙ is.reads.root)) ∙ sym c.number.ensures ∙ c.if-number.true))
+    (sym (ap (λ (r : RootValue). r.number) (c.current.ensures ∙ is.reads.root)) ∙ sym c.number.ensures ∙ c.if-number.true)))
 
 pub returns-clause-applied : goal.returns-clause-applied
 returns-clause-applied g c =
@@ -86,7 +67,12 @@ returns-clause-applied g c =
     let drops = c.drop_near_sink.ensures in
     let same : disk_of mid ≡ disk_of planned = drops.disk ∙ does.disk in
     let declared = in_memory d planned mid (Ok tt) g.met.D.Disk.only_now same (drops.root ∙ does.root) (drops.failed ∙ does.failed ∙ is.reads.works) (λ s at. drops.at s (does.at s at)) (λ refused. never_refused tt Device refused) in
-    c.commit_staged.ensures.command old command (record {
+    done_holding d old c.commit_staged.new.tree c.args.self.now.held c.forget_near.new.held command c.commit_staged.result
+    (λ honest s at right.
+    let valid = (at.sound c.requires.not_failed).holds.valid in
+    left_by (root_of old).capacity s.contents.mosaic command c.commit_staged.result c.forget_near.new.held (c.forget_near.ensures.still s.contents.mosaic valid right)
+    (λ made is_made. c.forget_near.ensures.made (root_of old).capacity s.contents.mosaic made valid is_made right))
+    (c.commit_staged.ensures.command old command (record {
       working = c.requires.not_failed;
       uncommitted = uncommitted_on d old planned mid sinks (Ok tt) is.reads declared;
       refused = tt;
@@ -103,4 +89,4 @@ returns-clause-applied g c =
           sinks_hold d old mid c.requires.not_failed command s at sinks.items is.valid (is.made planned_honest s at) (drops.sinks ∙ does.sinks ∙ c.deref.ensures.0)
           (drops.staged ∙ staled_as (near_sink (root_of c.declare.new.self).side (corners_of c.declare.new.self) command) (goes_stale m command) (staged_in d c.declare.new.self) (λ t there. test t.corner)
           ∙ ap (staled (goes_stale m command)) (does.staged ∙ is.staged planned_honest));
-    })
+    }))

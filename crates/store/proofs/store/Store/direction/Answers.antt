@@ -1,45 +1,8 @@
-use Rattle.std.proofs.Common.{ℕ, Result}
-use Rattle.lattice.specs.Ground.{terrain}
-use Rattle.lattice.specs.Mosaic.{Mosaic}
-use Rattle.lattice.specs.declared.refusal.Refusal.{Refusal}
-use Rattle.calls.specs.State.{State}
-use Rattle.watershed.specs.Questions.{DrainsBy}
-use Rattle.calls.specs.Outcomes.{Directs}
-use Rattle.calls.proofs.Answered.{directs}
-use Rattle.catalogue.proofs.Asking.{asked_risen, asked_works, asked_fails, asked_quiet}
-use Rattle.store.proofs.Labelled.{still_sure}
-use Rattle.store.proofs.Querying.{stays_at, queried, fails_so}
-use Rattle.store.proofs.QueryingDrainage.{read_answered, told_here}
-use Rattle.store.proofs.WaterHeld.{lent}
+use Rattle.store.proofs.Querying.{right_at}
 use Rattle.store.proofs.store.Store.direction.Goals as goal
-
-pub invariant_of-self : goal.invariant_of-self
-invariant_of-self g c =
-    let self = c.args.self.now in
-    record { clean = self.clean; right = lent g.D.Disk self.tree c.replace-held.new.dest c.new.result c.replace-held.ensures.after c.new.ensures }
-
-pub returns-clause-reads : goal.returns-clause-reads
-returns-clause-reads g c =
-    let old = c.args.self.now in
-    let works = c.in_ok-check_working.ensures.works in
-    let new = c.direction_held-code.new.samples in
-    let result = c.direction_held-code.result in
-    let asked = c.direction_held-code.ensures.asked in
-    queried g.D.Disk old.tree new.tree works asked.reads.keeps result (asked_risen _ _ new result asked) (asked_works _ _ new result asked works) (asked_fails _ _ new result asked)
-    (asked_quiet _ _ new result asked works)
 
 pub returns-clause-outcome : goal.returns-clause-outcome
 returns-clause-outcome g c honest s at =
-    let d = g.D.Disk in
-    let old = c.args.self.now.tree in
-    let new = c.direction_held-code.new.samples.tree in
+    let old = c.args.self.now in
     let works = c.in_ok-check_working.ensures.works in
-    let ensures = c.direction_held-code.ensures in
-    let asked = ensures.asked in
-    let keeps = asked.reads.keeps in
-    let result : Result ℕ Refusal = c.direction_held-code.result in
-    let sure = still_sure d old new works keeps honest s at in
-    read_answered d old new works keeps honest s at (λ (s : State) (r : Result ℕ Refusal) (t : State). Directs s c.args.point (r) t) result asked.read asked.passed (asked.reads.ready works) asked.reads.unready
-    (asked.reads.only_device works) (fails_so d old new works keeps honest s at)
-    (λ unread. directs s s (stays_at d old works s at) c.args.point result (told_here d old new works keeps honest s at c.args.point (λ (m : Mosaic) code level. DrainsBy (terrain m) level c.args.point code) result (asked.own unread) (asked.sound sure works)
-    (ensures.direction sure) (ensures.on_ground sure) ensures.outside (ensures.void sure) ensures.causes))
+    c.ask_direction.ensures.outcome (right_at g.D.Disk old.tree works s at.in_state old.held at.right) honest s at

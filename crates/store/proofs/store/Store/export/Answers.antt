@@ -10,7 +10,6 @@ use Rattle.cow_tree.proofs.Due.{located_tile}
 use Rattle.store.proofs.EditingSteps.{refused_as}
 use Rattle.store.proofs.Querying.{stays_at, still_clean, still_at, failing_at, fails_so}
 use Rattle.store.proofs.QueryingPages.{no_tile_of, tile, tile_of, exported}
-use Rattle.store.proofs.WaterHeld.{held_read}
 use Rattle.store.proofs.store.Store.export.Goals as goal
 
 pub returns-then-not-present-clause-outcome : goal.returns-then-not-present-clause-outcome
@@ -18,7 +17,7 @@ returns-then-not-present-clause-outcome g c honest s at =
     let d = g.D.Disk in
     let tree = c.args.self.now.tree in
     let works = c.in_ok-check_working.ensures.works in
-    (s, (at, (stays_at d tree works s at, no_tile_of d tree works s at c.args.corner (λ has. both_ways c.present.result c.if-not-present.true (c.present.ensures.answer.1 has)))))
+    (s, (at, (stays_at d tree works s at.in_state, no_tile_of d tree works s at.in_state c.args.corner (λ has. both_ways c.present.result c.if-not-present.true (c.present.ensures.answer.1 has)))))
 
 pub invariant_of-self : goal.invariant_of-self
 invariant_of-self g c =
@@ -26,7 +25,7 @@ invariant_of-self g c =
     let old = c.args.self.now in
     let new = c.read_plane.new.tree in
     let keeps = c.read_plane.ensures.reads.keeps in
-    record { clean = still_clean d old.tree new c.in_ok-check_working.ensures.works keeps old.clean; right = held_read d old.tree new old.held keeps old.right }
+    record { clean = still_clean d old.tree new c.in_ok-check_working.ensures.works keeps old.clean }
 
 pub read_plane-requires-clause-held : goal.read_plane-requires-clause-held
 read_plane-requires-clause-held g c =
@@ -41,8 +40,8 @@ returns-clause-outcome g c honest s at =
     let works = c.in_ok-check_working.ensures.works in
     let present = c.present.ensures.answer.0 c.if-not-present.false in
     let reads = c.in_ok-read_plane.ensures.reads in
-    let bytes = c.in_ok-read_plane.ensures.bytes honest (tile d old works s at c.args.corner present) _ (tile_of d old works s at c.args.corner present) refl in
-    (s, (still_at d old new works reads.keeps honest s at reads.not_failed, (stays_at d old works s at, exported d old works s at c.args.corner present c.read_plane.new.bytes.items bytes)))
+    let bytes = c.in_ok-read_plane.ensures.bytes honest (tile d old works s at.in_state c.args.corner present) _ (tile_of d old works s at.in_state c.args.corner present) refl in
+    (s, (record { in_state = still_at d old new works reads.keeps honest s at.in_state reads.not_failed; right = at.right }, (stays_at d old works s at.in_state, exported d old works s at.in_state c.args.corner present c.read_plane.new.bytes.items bytes)))
 
 pub returns-in_err-read_plane-clause-outcome : goal.returns-in_err-read_plane-clause-outcome
 returns-in_err-read_plane-clause-outcome g c honest s at =
@@ -53,9 +52,9 @@ returns-in_err-read_plane-clause-outcome g c honest s at =
     let reads = c.in_err-read_plane.ensures.reads in (
       failing s None,
       (
-        failing_at d old new works reads.keeps honest s at reads.failed,
+        record { in_state = failing_at d old new works reads.keeps honest s at.in_state reads.failed; right = at.right },
         subst (λ (result : Result (Vec ℕ) Refusal). Exports s c.args.corner (items_in result) (failing s None))
             (sym (refused_as c.from_residual-in_err-read_plane.result c.in_err-read_plane.field-0.0 c.from_residual-in_err-read_plane.ensures.1 ∙ ap (λ (r : Refusal). Err r) (reads.only_device works)))
-            (fails_so d old new works reads.keeps honest s at),
+            (fails_so d old new works reads.keeps honest s at.in_state),
       ),
     )

@@ -19,20 +19,8 @@ use Rattle.store.proofs.EditingReads.{device_or_not}
 use Rattle.store.proofs.EditingSteps.{uncommitted_on, refused_as}
 use Rattle.store.proofs.SteppedTiles.{planes_right, step_holds, stale_present}
 use Rattle.store.proofs.SteppedTrees.{fails_before, refused_quietly, may_end_step}
-use Rattle.store.proofs.WaterHeld.{forgotten, held_still}
+use Rattle.store.proofs.WaterHeld.{stepped_holding}
 use Rattle.store.proofs.store.Store.keep.Goals as goal
-
-pub invariant_of-self : goal.invariant_of-self
-invariant_of-self g c =
-    let old = c.args.self.now in
-    let is = c.plan_planes.ensures in
-    record {
-      clean = λ works. is.clean works (old.clean c.requires.not_failed);
-      right = held_still g.D.Disk old.tree c.plan_planes.new.tree old.held is.reads.honest is.reads.root is.staged is.sinks old.right;
-    }
-
-pub invariant_of-self-2-clause-right : goal.invariant_of-self-2-clause-right
-invariant_of-self-2-clause-right g c = forgotten g.D.Disk c.commit_step.new.tree c.forget.new.self c.forget.ensures
 
 pub plan_planes-requires-clause-present : goal.plan_planes-requires-clause-present
 plan_planes-requires-clause-present g c =
@@ -52,14 +40,15 @@ returns-in_err-planes-clause-stepped g c =
     let is = c.in_err-planes.ensures in
     let works = c.requires.not_failed in
     let stale : (s : State) → IsInState d old s → Contains s.contents.stale c.args.corner = λ s at. subst (λ (cs : List Corner). Contains cs c.args.corner) at.stale c.requires.stale in
-    subst (λ (result : Result (Option Corner) Refusal). IsStepped d result old new) (sym (refused_as c.from_residual.result r c.from_residual.ensures.1))
+    stepped_holding d old new c.args.self.now.held c.from_residual.result
+    (subst (λ (result : Result (Option Corner) Refusal). IsStepped d result old new) (sym (refused_as c.from_residual.result r c.from_residual.ensures.1))
     (⊎_elim
     (λ device.
     subst (λ (x : Refusal). IsStepped d (Err x) old new) (sym device) (fails_before d old new works (Err r) is.reads c.args.corner stale (ap (λ (x : Refusal). Err x) device)))
     (λ other.
     let goes_on = is.quiet other in
     refused_quietly d old new works (Err r) is.reads goes_on.1 (λ honest s at. (is.staged honest, is.sinks)) r other goes_on.0 (may_end_step r is.causes) is.writes (λ honest s at. is.refused s at other))
-    (device_or_not r))
+    (device_or_not r)))
 
 pub returns-clause-stepped : goal.returns-clause-stepped
 returns-clause-stepped g c =
@@ -79,7 +68,8 @@ returns-clause-stepped g c =
     let stale : (s : State) → IsInState d old s → Contains s.contents.stale corner = λ s at. subst (λ (cs : List Corner). Contains cs corner) at.stale c.requires.stale in
     let levels_whole : length levels ≡ 2 * (n * n) = omega (arith, c.deref.ensures.len, is.levels) in
     let labels_whole : length labels ≡ 2 * (n * n) = omega (arith, c.deref-2.ensures.len, is.labels) in
-    c.commit_step.ensures.step old (record {
+    stepped_holding d old c.commit_step.new.tree c.args.self.now.held c.commit_step.result
+    (c.commit_step.ensures.step old (record {
       working = works;
       uncommitted = uncommitted_on d old planned mid planes result is.reads does.uncommitted;
       refused = IfErr-weaker result _ _ (λ r. ⊎_elim (λ device. inl device) (λ no_room. inr (no_room.0, no_room.1, no_room.2 ∙ is.writes))) does.refused;
@@ -104,4 +94,4 @@ returns-clause-stepped g c =
                 (subst (λ (ts : List StoredTile). Holds n (root_of old).capacity (next_commit sound.stored sound.stored.sinks ts s.contents.count) (stepped corner s.contents)) (sym tiles) holds);
           })
           staged;
-    })
+    }))

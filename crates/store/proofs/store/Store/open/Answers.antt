@@ -1,11 +1,8 @@
 use Rattle.std.proofs.Common.{⊎_elim}
 use Rattle.store.proofs.Opened.{in_one}
 use Rattle.store.proofs.Openings.{refused_for, found_one}
-use Rattle.store.proofs.WaterHeld.{forgotten}
+use Rattle.store.proofs.WaterHeld.{one_holding}
 use Rattle.store.proofs.store.Store.open.Goals as goal
-
-pub invariant_of-result-clause-right : goal.invariant_of-result-clause-right
-invariant_of-result-clause-right g c = forgotten g.D.Disk c.in-Ok.tree c.new.result c.new.ensures
 
 pub returns-in-Err-clause-sure : goal.returns-in-Err-clause-sure
 returns-in-Err-clause-sure g c honest side capacity a b each =
@@ -24,5 +21,6 @@ returns-in-Ok-clause-at g c honest side capacity a b each =
     let seen = d.seen c.args.disk in
     let was_honest = (c.in-Ok.ensures.nothing honest).honest in
     let at = c.in-Ok.ensures.at honest in
-    in_one d tree at.0 at.1.1.0 at.1.1.1 (g.met.D.Disk.seen_may tree.roots.disk honest) side capacity c.in-Ok.ensures.sinks a b
-    (found_one (d.size c.args.disk) seen side capacity at.0 a b at.1.0 (each seen (g.met.D.Disk.seen_may c.args.disk was_honest)))
+    let (n, (m, one)) = in_one d tree at.0 at.1.1.0 at.1.1.1 (g.met.D.Disk.seen_may tree.roots.disk honest) side capacity c.in-Ok.ensures.sinks a b
+    (found_one (d.size c.args.disk) seen side capacity at.0 a b at.1.0 (each seen (g.met.D.Disk.seen_may c.args.disk was_honest))) in
+    (n, (m, one_holding d tree c.new.result c.new.ensures a b one))

@@ -6,7 +6,6 @@ use Rattle.catalogue.specs.Seams.{IsSeamCount}
 use Rattle.calls.specs.State.{State}
 use Rattle.store.specs.Queried.{CountsSeams}
 use Rattle.store.proofs.Querying.{mosaic_at, stays_at, still_clean, still_readable, fails_so, answered}
-use Rattle.store.proofs.WaterHeld.{held_read}
 use Rattle.store.proofs.store.Store.seams.Goals as goal
 
 pub invariant_of-self : goal.invariant_of-self
@@ -15,7 +14,7 @@ invariant_of-self g c =
     let old = c.args.self.now in
     let new = c.seams.new.samples in
     let keeps = c.seams.ensures.reads.keeps in
-    record { clean = still_clean d old.tree new c.in_ok-check_working.ensures.works keeps old.clean; right = held_read d old.tree new old.held keeps old.right }
+    record { clean = still_clean d old.tree new c.in_ok-check_working.ensures.works keeps old.clean }
 
 pub returns-clause-outcome : goal.returns-clause-outcome
 returns-clause-outcome g c honest s at =
@@ -24,6 +23,6 @@ returns-clause-outcome g c honest s at =
     let new = c.seams.new.samples in
     let works = c.in_ok-check_working.ensures.works in
     let reads = c.seams.ensures.reads in
-    let readable = still_readable d old new works reads.keeps honest s at in
-    answered d old new works reads.keeps honest s at (λ (s : State) (r : Result ℕ Refusal) (t : State). CountsSeams s r t) c.seams.result (reads.ready works) reads.unready (reads.only_device works)
-    (fails_so d old new works reads.keeps honest s at) (IfOk-weaker c.seams.result _ _ (λ count is. (stays_at d old works s at, subst (λ (m : Mosaic). IsSeamCount m count) (mosaic_at d old works s at) is)) (c.seams.ensures.value readable))
+    let readable = still_readable d old new works reads.keeps honest s at.in_state in
+    answered d old new works reads.keeps honest s at.in_state c.args.self.now.held at.right (λ (s : State) (r : Result ℕ Refusal) (t : State). CountsSeams s r t) c.seams.result (reads.ready works) reads.unready (reads.only_device works)
+    (fails_so d old new works reads.keeps honest s at.in_state) (IfOk-weaker c.seams.result _ _ (λ count is. (stays_at d old works s at.in_state, subst (λ (m : Mosaic). IsSeamCount m count) (mosaic_at d old works s at.in_state) is)) (c.seams.ensures.value readable))

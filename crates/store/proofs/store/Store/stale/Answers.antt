@@ -20,4 +20,4 @@ returns-clause-value g c = by_root c.args.corner c.args.self.now.tree.root c.ent
 
 pub returns-clause-state : goal.returns-clause-state
 returns-clause-state g c s at =
-    by_root c.args.corner c.args.self.now.tree.root c.entries.result.now c.is_stale.result (c.entries.ensures.value ∙ ap (λ (r : RootValue). r.entries) c.current.ensures) c.is_stale.ensures ∙ ap (is_listed c.args.corner) at.stale
+    by_root c.args.corner c.args.self.now.tree.root c.entries.result.now c.is_stale.result (c.entries.ensures.value ∙ ap (λ (r : RootValue). r.entries) c.current.ensures) c.is_stale.ensures ∙ ap (is_listed c.args.corner) at.in_state.stale

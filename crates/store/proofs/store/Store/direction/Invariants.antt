@@ -1,0 +1,7 @@
+use Rattle.cow_tree.specs.Reading.{mosaic_of}
+use Rattle.drainage.specs.Between.{IsHeldOf}
+use Rattle.store.proofs.store.Store.direction.Given as goal
+
+-- what is held now is right
+abbrev pub ghosts-ask_direction : goal.ghosts-ask_direction
+ghosts-ask_direction g a = record { holds = IsHeldOf (mosaic_of g.D.Disk a.tree.now) a.held.now }

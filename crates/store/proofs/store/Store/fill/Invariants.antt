@@ -1,0 +1,7 @@
+use Rattle.cow_tree.specs.Reading.{mosaic_of}
+use Rattle.drainage.specs.Between.{IsHeldOf}
+use Rattle.store.proofs.store.Store.fill.Given as goal
+
+-- what is held now is right
+abbrev pub ghosts-ask_fill : goal.ghosts-ask_fill
+ghosts-ask_fill g a = record { holds = IsHeldOf (mosaic_of g.D.Disk a.tree.now) a.held.now }

@@ -1,0 +1,116 @@
+//! Questions about water, asked of a store's tree with what the store holds.
+//!
+//! Each is asked over any premise. `Store` asks at `Brand`, and picks as the premise that what it holds then is right.
+ghost use Rattle.std.specs.Prelude.{◌≡◌, ◌≤◌, length, false, IsTrue, IfErr};
+ghost use Rattle.lattice.specs.Limits.{most_tiles};
+ghost use Rattle.calls.specs.Engines.{items_in};
+ghost use Rattle.calls.specs.Outcomes.{Fills, Directs, Traces, Sheds};
+ghost use Rattle.calls.specs.State.{State};
+ghost use Rattle.calls.specs.Told.{may_refuse};
+ghost use Rattle.calls.specs.declared.event.Event.TheVariants as ask;
+ghost use Rattle.cow_tree.specs.Reading.{mosaic_of};
+ghost use Rattle.cow_tree.specs.Trees.{disk_of, has_failed, corners_of};
+ghost use Rattle.drainage.specs.Between.{IsHeldOf};
+ghost use Rattle.store.specs.Queried.{IsQueried};
+ghost use Rattle.store.specs.TreeStates.{IsClean};
+ghost use Rattle.store.specs.Water.{IsHolding};
+
+use crate::labelling::{Asked, Premise};
+use cow_tree::Tree;
+use disk::Disk;
+use drainage::{Held, direction_held, fill_held, trace_held, watershed_held};
+use lattice::{Point, Refusal};
+use std::alloc::Global;
+use std::marker::PhantomData;
+use watershed::Run;
+
+// The filled level of the point.
+pub(crate) fn ask_fill<D: Disk, P: Premise>(
+    alloc: Global,
+    tree: &mut Tree<D>,
+    held: &mut Held,
+    point: Point,
+) -> Result<i16, Refusal>
+    requires works { has_failed tree.old ≡ false }
+    requires right { P.holds → IsHeldOf (mosaic_of D.Disk tree.old) held.old }
+    ensures reads { IsQueried D.Disk tree.old tree.new result }
+    ensures clean { has_failed tree.new ≡ false → IsClean tree.old → IsClean tree.new }
+    ensures causes { IfErr result (λ r. IsTrue (may_refuse (ask.Fill point) r)) }
+    ensures outcome { P.holds → D.honest (disk_of tree.new) → (s : State) → IsHolding D.Disk tree.old held.old s
+        → (t : State) × (IsHolding D.Disk tree.new held.new t × Fills s point result t) }
+{
+    let mut asked = Asked::<D, P> {
+        tree,
+        premise: PhantomData,
+    };
+    fill_held(alloc, &mut asked, held, point)
+}
+
+// The code of its direction.
+pub(crate) fn ask_direction<D: Disk, P: Premise>(
+    alloc: Global,
+    tree: &mut Tree<D>,
+    held: &mut Held,
+    point: Point,
+) -> Result<u8, Refusal>
+    requires works { has_failed tree.old ≡ false }
+    requires few { length (corners_of tree.old) ≤ most_tiles }
+    requires right { P.holds → IsHeldOf (mosaic_of D.Disk tree.old) held.old }
+    ensures reads { IsQueried D.Disk tree.old tree.new result }
+    ensures clean { has_failed tree.new ≡ false → IsClean tree.old → IsClean tree.new }
+    ensures causes { IfErr result (λ r. IsTrue (may_refuse (ask.Direction point) r)) }
+    ensures outcome { P.holds → D.honest (disk_of tree.new) → (s : State) → IsHolding D.Disk tree.old held.old s
+        → (t : State) × (IsHolding D.Disk tree.new held.new t × Directs s point result t) }
+{
+    let mut asked = Asked::<D, P> {
+        tree,
+        premise: PhantomData,
+    };
+    direction_held(alloc, &mut asked, held, point)
+}
+
+// Its flow path.
+pub(crate) fn ask_trace<D: Disk, P: Premise>(
+    alloc: Global,
+    tree: &mut Tree<D>,
+    held: &mut Held,
+    point: Point,
+) -> Result<Vec<Point>, Refusal>
+    requires works { has_failed tree.old ≡ false }
+    requires few { length (corners_of tree.old) ≤ most_tiles }
+    requires right { P.holds → IsHeldOf (mosaic_of D.Disk tree.old) held.old }
+    ensures reads { IsQueried D.Disk tree.old tree.new result }
+    ensures clean { has_failed tree.new ≡ false → IsClean tree.old → IsClean tree.new }
+    ensures causes { IfErr result (λ r. IsTrue (may_refuse (ask.Trace point) r)) }
+    ensures outcome { P.holds → D.honest (disk_of tree.new) → (s : State) → IsHolding D.Disk tree.old held.old s
+        → (t : State) × (IsHolding D.Disk tree.new held.new t × Traces s point (items_in result) t) }
+{
+    let mut asked = Asked::<D, P> {
+        tree,
+        premise: PhantomData,
+    };
+    trace_held(alloc, &mut asked, held, point)
+}
+
+// Its watershed.
+pub(crate) fn ask_watershed<D: Disk, P: Premise>(
+    alloc: Global,
+    tree: &mut Tree<D>,
+    held: &mut Held,
+    point: Point,
+) -> Result<Vec<Run>, Refusal>
+    requires works { has_failed tree.old ≡ false }
+    requires few { length (corners_of tree.old) ≤ most_tiles }
+    requires right { P.holds → IsHeldOf (mosaic_of D.Disk tree.old) held.old }
+    ensures reads { IsQueried D.Disk tree.old tree.new result }
+    ensures clean { has_failed tree.new ≡ false → IsClean tree.old → IsClean tree.new }
+    ensures causes { IfErr result (λ r. IsTrue (may_refuse (ask.Watershed point) r)) }
+    ensures outcome { P.holds → D.honest (disk_of tree.new) → (s : State) → IsHolding D.Disk tree.old held.old s
+        → (t : State) × (IsHolding D.Disk tree.new held.new t × Sheds s point (items_in result) t) }
+{
+    let mut asked = Asked::<D, P> {
+        tree,
+        premise: PhantomData,
+    };
+    watershed_held(alloc, &mut asked, held, point)
+}
