@@ -1,4 +1,4 @@
-use Rattle.std.proofs.Common.{◌≡◌, Bool, true, false, not, if◌then◌else◌, length, sym, subst}
+use Rattle.std.proofs.Common.{◌≡◌, Bool, true, false, not, if◌then◌else◌, length, subst}
 use Rattle.std.specs.Prelude.{nat_lt, Result, Ok, Err}
 use Rattle.lattice.specs.Ground.{is_sink}
 use Rattle.lattice.specs.Height.{height_of}
