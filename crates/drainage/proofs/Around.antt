@@ -20,7 +20,7 @@ use Rattle.tile_flood.specs.Blocks.{LabelledGround}
 use Rattle.tile_flood.specs.Labelling.{OUT, NO_LABEL}
 use Rattle.drainage.specs.Holding.{Known, IsRimLevel, IsRight, entered_at, level_of}
 use Rattle.drainage.specs.Nearby.{IsToldOf}
-use Rattle.drainage.proofs.Filled.{void_there, level_inside, level_over}
+use Rattle.drainage.proofs.Filled.{level_inside, level_over}
 use Rattle.drainage.proofs.Found.{start_is}
 
 -- a point by its index in a tile whose labelling is held, with its level and its label there
@@ -35,14 +35,7 @@ module _ (known : Known) (p : Point) (t e : ℕ) (c : Corner) (small : t < lengt
   at : corner_at known.corners t ≡ get_or known.corners t (corner_at known.corners t)
   at = sym (get_or_default known.corners t (corner_at known.corners t) (record { lat = pos 0; lon = pos 0 }) small)
 
-  -- its label is that of a void
-  pub told_void : label ≡ NO_LABEL → IsToldOf known t p None
-  told_void none = record {
-    held = holds;
-    level = λ m is right. void_there m is p known right known.corners refl t e (small, index_here) (corner_at known.corners t) at level label (labelled, (right.entered t labelled held, (level_is, label_is))) none;
-  }
-
-  -- or OUT
+  -- its label is OUT
   pub told_out : label ≢ NO_LABEL → label ≡ OUT → IsToldOf known t p (Some level)
   told_out ground out = record {
     held = holds;

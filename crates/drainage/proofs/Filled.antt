@@ -1,5 +1,5 @@
 -- The filled level of a point, from its own tile and the water's way out.
-use Rattle.std.proofs.Common.{◌≡◌, ◌≢◌, ℕ, ◌<◌, ℤ, pos, IsTrue, List, length, get_or, slice_index, slice_index_or, sym, ◌∙◌, subst}
+use Rattle.std.proofs.Common.{◌≡◌, ◌≢◌, ℕ, ◌<◌, ℤ, pos, IsTrue, List, length, get_or, slice_index, slice_index_or, refl, sym, ◌∙◌, subst}
 use Rattle.std.specs.Prelude.{IsFalse}
 use Rattle.std.specs.Int.{int_max}
 use Rattle.std.proofs.lemmas.List.{get_or_default}
@@ -8,7 +8,10 @@ use Rattle.lattice.specs.Corners.{Corner}
 use Rattle.lattice.specs.Lattice.{IsIndexOf, point_of}
 use Rattle.lattice.specs.Terrain.{IsFilledLevel}
 use Rattle.lattice.specs.Mosaic.{Mosaic, IsMosaic, void}
-use Rattle.lattice.specs.Ground.{is_ground, terrain}
+use Rattle.lattice.specs.Ground.{is_ground, is_height, metres, terrain}
+use Rattle.lattice.specs.Height.{height_of}
+use Rattle.lattice.specs.declared.height.Height.{Height}
+use Rattle.lattice.specs.declared.height.Height.TheVariants.{Outside, Void, At}
 use Rattle.tile_flood.specs.Blocks.{LabelledGround}
 use Rattle.tile_flood.specs.Labelling.{OUT, NO_LABEL}
 use Rattle.border_graph.specs.Joining.{Rim}
@@ -19,6 +22,11 @@ use Rattle.drainage.specs.Holding.{Known, IsRimLevel, IsGroundNode, IsRight}
 use Rattle.drainage.proofs.Agreeing.{joined_at}
 use Rattle.drainage.proofs.Asked.{IsAt, is_at}
 use Rattle.drainage.proofs.Over.{ground_by_label, void_by_label, out_level, ground_node, over_level}
+
+no_metres : (h : Height) → IsFalse (is_height h) → metres h ≡ void
+no_metres (At v) none = absurd (cc)
+no_metres Void none = refl
+no_metres Outside none = refl
 
 -- a point by its index in a tile that holds it, with its level and its label by a valid labelling of the tile's block
 module _ (m : Mosaic) (is : IsMosaic m) (p : Point) (known : Known) (right : IsRight m known) (seen : List Corner) (same_seen : seen ≡ known.corners) (t e : ℕ) (some : (t < length seen) × IsIndexOf known.side (corner_at seen t) p e)
@@ -40,6 +48,9 @@ module _ (m : Mosaic) (is : IsMosaic m) (p : Point) (known : Known) (right : IsR
   pub void_there : label ≡ NO_LABEL → IsFalse (is_ground m p)
   void_there none = subst (λ q. IsFalse (is_ground m q)) at_point.point
       (void_by_label m is known.side known.corners known.told right.ready t small spot.0 tile e at_point.below (sym spot.1.1.1 ∙ none))
+
+  pub no_height_there : label ≡ NO_LABEL → metres (height_of m p) ≡ void
+  no_height_there none = no_metres (height_of m p) (void_there none)
 
   -- or another point's
   module _ (ground : label ≢ NO_LABEL) where

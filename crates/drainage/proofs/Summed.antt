@@ -9,7 +9,8 @@ use Rattle.std.specs.Prelude.{slice_index, slice_index_or}
 use Rattle.lattice.specs.Corners.{Corner}
 use Rattle.lattice.specs.Lattice.{point_of}
 use Rattle.lattice.specs.Mosaic.{Mosaic, IsMosaic, void}
-use Rattle.lattice.specs.Ground.{is_outlet}
+use Rattle.lattice.specs.Ground.{is_outlet, metres}
+use Rattle.lattice.specs.Height.{height_of}
 use Rattle.lattice.specs.Block.{Block, IsBlockOf, block_terrain, is_solid, is_rim, rim_number}
 use Rattle.lattice.proofs.Lawful.{block_is_lawful}
 use Rattle.lattice.proofs.Levels.{level_is_unique, level_of_outlet}
@@ -24,11 +25,11 @@ use Rattle.border_graph.specs.declared.summary.RimPoint.{RimPoint}
 use Rattle.border_graph.specs.Joining.{nowhere, IsRimOf, IsSummaryOf}
 use Rattle.lattice.proofs.RimNumbers.{one_rim_point}
 use Rattle.derived.specs.Labellings.{IsFlooded}
-use Rattle.drainage.specs.Flooded.{IsRimPointIn, AreRimPointsIn}
+use Rattle.drainage.specs.Flooded.{IsRimPointIn, HasOtherRimHeight, AreRimPointsIn}
 
 module _ (m : Mosaic) (is : IsMosaic m) (c : Corner) (block : Block) (given : IsBlockOf m c block) where
-  module _ (labels : List ℕ) (rim : List RimPoint) (points : AreRimPointsIn m c block.heights labels rim (4 * (m.side - 1))) where
-    at_number : (e : ℕ) → e < m.side * m.side → IsRimPointIn m c block.heights labels (rim_number m.side e) (slice_index_or rim (rim_number m.side e) nowhere)
+  module _ (labels : List ℕ) (rim : List RimPoint) (points : AreRimPointsIn m c labels rim (4 * (m.side - 1))) where
+    at_number : (e : ℕ) → e < m.side * m.side → IsRimPointIn m c labels (rim_number m.side e) (slice_index_or rim (rim_number m.side e) nowhere)
     at_number e small = points.each (rim_number m.side e) (rim_number_below m.side e is.side_low small)
 
     index_is : (e : ℕ) (small : e < m.side * m.side) → IsTrue (is_rim m.side e) → (at_number e small).index ≡ e
@@ -39,7 +40,7 @@ module _ (m : Mosaic) (is : IsMosaic m) (c : Corner) (block : Block) (given : Is
     pub rim_is : (spills : List Spill) → IsRimOf m c block.heights labels (record { corner = c; rim = rim; spills = spills })
     rim_is spills = record {
       whole = points.whole;
-      height = λ e small on. (at_number e small).height ∙ ap (λ i. slice_index_or block.heights i void) (index_is e small on);
+      height = λ e small on. (at_number e small).height ∙ (ap (λ i. metres (height_of m (point_of m.side c i))) (index_is e small on) ∙ sym (given.heights.values e small));
       label = λ e small on. (at_number e small).label ∙ ap (λ i. slice_index labels i) (index_is e small on);
       outlet = λ e small on _. (at_number e small).outlet ∙ ap (λ i. is_outlet m (point_of m.side c i)) (index_is e small on);
     }
@@ -73,41 +74,36 @@ rim_level n heights sinks levels labels is e small on = elim (cases_Bool (is_sol
       | inr differs ↦ absurd (true≢false (sym (solid_if n heights e small differs) ∙ off))
     ]
 
--- the summary of a labelling: its rim points by their levels, and its spills
-pub summary_is : (m : Mosaic) → IsMosaic m → (c : Corner) (labelled : LabelledGround) → IsFlooded m c labelled → (rim : List RimPoint) → AreRimPointsIn m c labelled.levels labelled.labels rim (4 * (m.side - 1))
+-- .. and the height of its point, void for void
+pub rim_holds : (m : Mosaic) (c : Corner) (labelled : LabelledGround) → IsFlooded m c labelled → HasOtherRimHeight m c labelled.levels → ⊥
+rim_holds m c labelled flooded other =
+    let block = flooded.valid.0 in
+    let given = flooded.valid.1.0 in
+    let here : IsLabelling (block_of m.side block.heights block.sinks) labelled.levels labelled.labels =
+    subst (λ n. IsLabelling (block_of n block.heights block.sinks) labelled.levels labelled.labels) given.side flooded.valid.1.1 in
+    other.differs (rim_level m.side block.heights block.sinks labelled.levels labelled.labels here other.index other.rim.small other.rim.rim ∙ given.heights.values other.index other.rim.small)
+
+-- the summary of a labelling: its rim points, and its spills
+pub summary_is : (m : Mosaic) → IsMosaic m → (c : Corner) (labelled : LabelledGround) → IsFlooded m c labelled → (rim : List RimPoint) → AreRimPointsIn m c labelled.labels rim (4 * (m.side - 1))
     → (spills : List Spill) → AreSpills labelled.side labelled.levels labelled.levels labelled.labels spills → IsSummaryOf m (record { corner = c; rim = rim; spills = spills })
 summary_is m is c labelled flooded rim points spills found =
     let block = flooded.valid.0 in
     let given = flooded.valid.1.0 in
     let labelling = flooded.valid.1.1 in
-    let here : IsLabelling (block_of m.side block.heights block.sinks) labelled.levels labelled.labels =
-    subst (λ n. IsLabelling (block_of n block.heights block.sinks) labelled.levels labelled.labels) given.side labelling in
-    let of_heights : AreRimPointsIn m c block.heights labelled.labels rim (4 * (m.side - 1)) = record {
-      whole = points.whole;
-      each = λ k less.
-          let p = points.each k less in
-          record {
-            index = p.index;
-            number = p.number;
-            height = p.height ∙ rim_level m.side block.heights block.sinks labelled.levels labelled.labels here p.index p.number.small p.number.rim;
-            label = p.label;
-            outlet = p.outlet;
-          };
-    } in
-    border_is m is c block given labelled.labels rim of_heights labelled.levels spills labelling
+    border_is m is c block given labelled.labels rim points labelled.levels spills labelling
     (spills_of_ground block.side block.heights block.sinks labelled.levels labelled.labels (lowest_height m is c block.heights given.heights) labelling spills
     (subst (λ n. AreSpills n labelled.levels labelled.levels labelled.labels spills) (flooded.side ∙ sym given.side) found))
 
 -- one rim point more
-pub one_more_point : (s : Mosaic) (c : Corner) (heights : List ℤ) (labels : List ℕ) (rim : List RimPoint) (k : ℕ) (p : RimPoint)
-    → IsRimPointIn s c heights labels k p → AreRimPointsIn s c heights labels rim k → AreRimPointsIn s c heights labels (rim ++ p ∷ []) (k + 1)
-one_more_point s c heights labels rim k p here done = record {
+pub one_more_point : (s : Mosaic) (c : Corner) (labels : List ℕ) (rim : List RimPoint) (k : ℕ) (p : RimPoint)
+    → IsRimPointIn s c labels k p → AreRimPointsIn s c labels rim k → AreRimPointsIn s c labels (rim ++ p ∷ []) (k + 1)
+one_more_point s c labels rim k p here done = record {
   whole = length-append rim (p ∷ []) ∙ ap (λ n. n + 1) done.whole;
   each = λ i less. elim (cases_lt i k) [
-    | inl earlier ↦ subst (IsRimPointIn s c heights labels i) (sym (get_or_append_left rim (p ∷ []) nowhere i (subst (λ n. i < n) (sym done.whole) earlier))) (done.each i earlier)
+    | inl earlier ↦ subst (IsRimPointIn s c labels i) (sym (get_or_append_left rim (p ∷ []) nowhere i (subst (λ n. i < n) (sym done.whole) earlier))) (done.each i earlier)
     | inr later ↦
         let last : k ≡ i = omega arith in
-        subst (λ j. IsRimPointIn s c heights labels j (slice_index_or (rim ++ p ∷ []) j nowhere)) last
-        (subst (IsRimPointIn s c heights labels k) (sym (ap (λ j. slice_index_or (rim ++ p ∷ []) j nowhere) (sym done.whole) ∙ get_or-append_seam rim p [] nowhere)) here)
+        subst (λ j. IsRimPointIn s c labels j (slice_index_or (rim ++ p ∷ []) j nowhere)) last
+        (subst (IsRimPointIn s c labels k) (sym (ap (λ j. slice_index_or (rim ++ p ∷ []) j nowhere) (sym done.whole) ∙ get_or-append_seam rim p [] nowhere)) here)
   ];
 }

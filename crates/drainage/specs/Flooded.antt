@@ -1,27 +1,34 @@
 -- Tiles flooded each by itself, and what their summaries say (this product's own profile, after the tiled flooding of
 -- Barnes 2016).
-use Rattle.std.specs.Prelude.{◌≡◌, ℕ, ◌<◌, ℤ, pos, List, length, slice_index, slice_index_or}
+use Rattle.std.specs.Prelude.{◌≡◌, ◌≢◌, ℕ, ◌<◌, ℤ, pos, List, length, slice_index, slice_index_or}
 use Rattle.lattice.specs.Corners.{Corner}
 use Rattle.lattice.specs.Lattice.{point_of}
 use Rattle.lattice.specs.Mosaic.{Mosaic, void}
-use Rattle.lattice.specs.Ground.{is_outlet}
+use Rattle.lattice.specs.Ground.{is_outlet, metres}
+use Rattle.lattice.specs.Height.{height_of}
 use Rattle.border_graph.specs.declared.summary.RimPoint.{RimPoint}
 use Rattle.border_graph.specs.Joining.{nowhere}
 use Rattle.lattice.specs.RimPoints.{IsRimPoint}
 
--- what a summary says of the rim point with this number, from the heights (on a rim they are the levels) and the labels of
--- its block
-pub record IsRimPointIn (m : Mosaic) (c : Corner) (heights : List ℤ) (labels : List ℕ) (k : ℕ) (p : RimPoint) : Type 0 where
+-- what a summary says of the rim point with this number: its height, void for void, and its label by those of its block
+pub record IsRimPointIn (m : Mosaic) (c : Corner) (labels : List ℕ) (k : ℕ) (p : RimPoint) : Type 0 where
   pub index : ℕ
   pub number : IsRimPoint m.side k index
-  pub height : p.height ≡ slice_index_or heights index void
+  pub height : p.height ≡ metres (height_of m (point_of m.side c index))
   pub label : p.label ≡ slice_index labels index
   pub outlet : p.outlet ≡ is_outlet m (point_of m.side c index)
 
+-- the level of some rim point isn't its height, void for void
+pub record HasOtherRimHeight (m : Mosaic) (c : Corner) (levels : List ℤ) : Type 0 where
+  pub number : ℕ
+  pub index : ℕ
+  pub rim : IsRimPoint m.side number index
+  pub differs : slice_index_or levels index void ≢ metres (height_of m (point_of m.side c index))
+
 -- the first rim points, by rim number
-pub record AreRimPointsIn (m : Mosaic) (c : Corner) (heights : List ℤ) (labels : List ℕ) (rim : List RimPoint) (count : ℕ) : Type 0 where
+pub record AreRimPointsIn (m : Mosaic) (c : Corner) (labels : List ℕ) (rim : List RimPoint) (count : ℕ) : Type 0 where
   pub whole : length rim ≡ count
-  pub each : (k : ℕ) → k < count → IsRimPointIn m c heights labels k (slice_index_or rim k nowhere)
+  pub each : (k : ℕ) → k < count → IsRimPointIn m c labels k (slice_index_or rim k nowhere)
 
 abbrev pub corner_at : List Corner → ℕ → Corner
 corner_at corners k = slice_index_or corners k (record { lat = pos 0; lon = pos 0 })

@@ -18,10 +18,11 @@ ghost use Rattle.drainage.specs.Holding.{IsRight, IsRimLevel, IsGroundNode};
 ghost use Rattle.drainage.specs.Waters.{known_of};
 
 use crate::asking::check_ground;
+use crate::heights::is_height;
 use crate::held::Held;
 use crate::waters::Waters;
 use derived::Labellings;
-use lattice::{Corner, Point, Refusal, Side, index_in};
+use lattice::{Corner, Point, Refusal, Side, VOID, index_in};
 use rising::{level_from, node_at};
 use std::alloc::Global;
 use tile_flood::{Labelled, NO_LABEL, OUT};
@@ -88,7 +89,8 @@ pub fn level<S: Labellings>(
 }
 
 // The filled level of the point: the greater of its level in its own tile and that of the rim point which its label names.
-// Only of the tiles on the water's way out the labelling is asked.
+// Only of the tiles on the water's way out the labelling is asked. Where the label is that of a void, it is seen that the
+// point has no height.
 fn level_in<S: Labellings>(
     alloc: Global,
     samples: &mut S,
@@ -109,6 +111,9 @@ fn level_in<S: Labellings>(
     let corner = waters.shores.corners[t];
     let (level, label) = waters.spot(alloc, samples, t, corner, index)?;
     if label == NO_LABEL {
+        if !is_height(samples, point, VOID)? {
+            return Err(Refusal::Damaged);
+        }
         return Ok(None);
     }
     if label == OUT {

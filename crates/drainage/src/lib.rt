@@ -13,6 +13,7 @@ mod entered;
 mod filling;
 mod following;
 mod growth;
+mod heights;
 mod held;
 mod laws;
 mod nearby;

@@ -16,8 +16,8 @@ use rising::node_at;
 use tile_flood::{Labelled, NO_LABEL, OUT};
 
 /// The filled level of a ground point and those of the points around it, where they all lie in one tile whose labelling is
-/// held, and the levels of the rim points that their labels name are known. So it is of nearly every point of a tile that
-/// was asked about before.
+/// held, which marks none as a void, and the levels of the rim points that their labels name are known. So it is of nearly
+/// every point of a tile that was asked about before.
 pub(crate) fn near(waters: &Waters, point: Point) -> Option<Near>
     ensures { (m : Mosaic) → IsMosaic m → IsRight m (known_of waters.now) → IfSome result (IsNear m point) }
 {
@@ -25,11 +25,11 @@ pub(crate) fn near(waters: &Waters, point: Point) -> Option<Near>
     let t = waters.entered.holder(side, &waters.shores.corners, point)?;
     let corner = waters.shores.corner(t)?;
     let labelled = waters.entered.labelling(t)?;
-    let here = level_in_tile(waters, t, corner, labelled, point)?;
-    let height = here?;
+    let height = level_in_tile(waters, t, corner, labelled, point)?;
     let mut around = [None; 8];
     for i in 0..8 {
-        around[i] = level_beside(waters, t, corner, labelled, point, DIRECTIONS[i])?;
+        let level = level_beside(waters, t, corner, labelled, point, DIRECTIONS[i])?;
+        around[i] = Some(level);
     }
     Some(Near { height, around })
 }
@@ -42,40 +42,40 @@ fn level_beside(
     labelled: &Labelled,
     point: Point,
     direction: Dir,
-) -> Option<Option<i16>>
+) -> Option<i16>
     requires place { t < length waters.now.shores.corners.items }
     requires corner { corner_at waters.now.shores.corners.items t ≡ corner }
     requires held { entered_at waters.now.entered t ≡ Some labelled.now }
-    ensures { IfSome result (IsToldOf (known_of waters.now) t (step direction point)) }
+    ensures { IfSome result (λ level. IsToldOf (known_of waters.now) t (step direction point) (Some level)) }
 {
     let to = neighbour(point, direction)?;
     level_in_tile(waters, t, corner, labelled, to)
 }
 
 // The filled level of the point, where the tile with this place, corner and labelling holds it, and the level of the rim
-// point that its label names is known; or that it isn't ground.
+// point that its label names is known. Whether a point that is marked as a void has a height isn't held.
 fn level_in_tile(
     waters: &Waters,
     t: usize,
     corner: Corner,
     labelled: &Labelled,
     point: Point,
-) -> Option<Option<i16>>
+) -> Option<i16>
     requires place { t < length waters.now.shores.corners.items }
     requires corner { corner_at waters.now.shores.corners.items t ≡ corner }
     requires held { entered_at waters.now.entered t ≡ Some labelled.now }
-    ensures { IfSome result (IsToldOf (known_of waters.now) t point) }
+    ensures { IfSome result (λ level. IsToldOf (known_of waters.now) t point (Some level)) }
 {
     let side = waters.shores.side;
     let index = index_in(side, corner, point)?;
     let (level, label) = spot_of(labelled, index)?;
     if label == NO_LABEL {
-        return Some(None);
+        return None;
     }
     if label == OUT {
-        return Some(Some(level));
+        return Some(level);
     }
     let node = node_at(side, t, u32::from(label))?;
     let over = waters.levels.level(node)?;
-    Some(Some(level.max(over)))
+    Some(level.max(over))
 }

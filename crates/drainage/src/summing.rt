@@ -1,5 +1,5 @@
 //! One tile flooded by itself, and what the tiles around need to know of it.
-ghost use Rattle.std.specs.Prelude.{◌≡◌, ◌-◌, ◌*◌, ◌<◌, ◌⊎◌, IsTrue, IfOk, IfErr, Contains, length};
+ghost use Rattle.std.specs.Prelude.{◌≡◌, ◌-◌, ◌*◌, ◌<◌, ◌⊎◌, IsTrue, IfOk, IfErr, MatchOption, Contains, length};
 ghost use Rattle.lattice.specs.declared.refusal.Refusal.TheVariants.{NoMemory};
 ghost use Rattle.border_graph.specs.Joining.{IsSummaryOf};
 ghost use Rattle.catalogue.specs.Asked.{Asked};
@@ -7,9 +7,10 @@ ghost use Rattle.catalogue.specs.Endings.{ends_any};
 ghost use Rattle.catalogue.specs.Readers.{OnlyReads, reads_of};
 ghost use Rattle.catalogue.specs.Reading.{MayRefuse};
 ghost use Rattle.derived.specs.Labellings.{IsFlooded};
-ghost use Rattle.drainage.specs.Flooded.{IsRimPointIn, AreRimPointsIn};
+ghost use Rattle.drainage.specs.Flooded.{IsRimPointIn, HasOtherRimHeight, AreRimPointsIn};
 
 use crate::growth::push;
+use crate::heights::is_height;
 use border_graph::{RimPoint, Summary};
 use catalogue::{Samples, outlet};
 use derived::Labellings;
@@ -18,9 +19,10 @@ use std::alloc::Global;
 use tile_flood::{Labelled, spills};
 
 /// The labelling of the corner's tile, and its summary. Beside what gives the labelling it reads the points around the
-/// tile's rim.
+/// tile's rim and those on it.
 ///
-/// It is refused for want of memory, as a read is, or with Damaged as a labelling is.
+/// It is refused for want of memory, as a read is, or with Damaged as a labelling is, or where the level of a rim point
+/// isn't its height.
 pub(crate) fn flood_tile<S: Labellings>(
     alloc: Global,
     samples: &mut S,
@@ -35,49 +37,61 @@ pub(crate) fn flood_tile<S: Labellings>(
 {
     let labelled = samples.labelling(alloc, corner)?;
     let spills = spills(alloc, &labelled)?;
-    let rim = rim_of(alloc, samples, corner, &labelled)?;
+    let Some(rim) = rim_of(alloc, samples, corner, &labelled)? else {
+        return Err(Refusal::Damaged);
+    };
     Ok((labelled, Summary::new(corner, rim, spills)))
 }
 
-// The rim of the corner's tile, by rim number.
+// The rim of the corner's tile, by rim number; none where the level of some rim point isn't its height, void for void.
 fn rim_of<S: Samples>(
     alloc: Global,
     samples: &mut S,
     corner: Corner,
     labelled: &Labelled,
-) -> Result<Vec<RimPoint>, Refusal>
+) -> Result<Option<Vec<RimPoint>>, Refusal>
     requires labelled_side { labelled.now.side ≡ S.side_of samples.old }
-    ensures rim { S.is_honest samples.new → IfOk result (λ rim. AreRimPointsIn (S.mosaic samples.old) corner labelled.now.levels labelled.now.labels rim.items (4 * (S.side_of samples.old - 1))) }
+    ensures rim { S.is_honest samples.new → IfOk result (λ found. MatchOption found (HasOtherRimHeight (S.mosaic samples.old) corner labelled.now.levels)
+        (λ rim. AreRimPointsIn (S.mosaic samples.old) corner labelled.now.labels rim.items (4 * (S.side_of samples.old - 1)))) }
     ensures refusal { IfErr result (λ r. (r ≡ NoMemory) ⊎ MayRefuse (S.failures samples.old) (S.failures samples.new) r) }
     ensures reads { OnlyReads S.Samples samples.old samples.new (reads_of result) }
 {
     let count = labelled.side().rim();
     let mut rim = Vec::new(alloc);
     for number in 0..count {
-        let point = rim_point(samples, corner, labelled, number)?;
+        let Some(point) = rim_point(samples, corner, labelled, number)? else {
+            return Ok(None);
+        };
         push(&mut rim, point)?;
     }
-    Ok(rim)
+    Ok(Some(rim))
 }
 
-// The rim point with this number. The level of a rim point inside its tile is its height.
+// The rim point with this number. With a valid labelling its level inside its tile is its height, and where that isn't so
+// there is none.
 fn rim_point<S: Samples>(
     samples: &mut S,
     corner: Corner,
     labelled: &Labelled,
     number: u32,
-) -> Result<RimPoint, Refusal>
+) -> Result<Option<RimPoint>, Refusal>
     requires labelled_side { labelled.now.side ≡ S.side_of samples.old }
     requires number { number < 4 * (S.side_of samples.old - 1) }
-    ensures point { S.is_honest samples.new → IfOk result (λ point. IsRimPointIn (S.mosaic samples.old) corner labelled.now.levels labelled.now.labels number point) }
+    ensures point { S.is_honest samples.new → IfOk result (λ found. MatchOption found (HasOtherRimHeight (S.mosaic samples.old) corner labelled.now.levels)
+        (λ point. IsRimPointIn (S.mosaic samples.old) corner labelled.now.labels number point)) }
     ensures reads { OnlyReads S.Samples samples.old samples.new result }
 {
     let side = labelled.side();
     let index = rim_index(side, number);
-    let is_outlet = outlet(samples, point_at(side, corner, index))?;
-    Ok(RimPoint {
-        height: labelled.levels()[index as usize],
+    let point = point_at(side, corner, index);
+    let level = labelled.levels()[index as usize];
+    if !is_height(samples, point, level)? {
+        return Ok(None);
+    }
+    let is_outlet = outlet(samples, point)?;
+    Ok(Some(RimPoint {
+        height: level,
         label: labelled.labels()[index as usize],
         outlet: is_outlet,
-    })
+    }))
 }

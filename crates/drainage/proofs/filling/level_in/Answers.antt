@@ -1,25 +1,31 @@
-use Rattle.std.proofs.Common.{◌≡◌, ◌∙◌, ℤ, List, Ok, Err, rules, sym, subst, SFits, w16}
+use Rattle.std.proofs.Common.{◌≡◌, ◌∙◌, ℤ, List, Result, Ok, Err, rules, sym, ap, subst, SFits, w16}
 use Rattle.std.specs.Prelude.{Option}
 use Rattle.std.specs.Int.{int_max}
+use Rattle.std.proofs.lemmas.Bool.{false≢true}
+use Rattle.std.proofs.lemmas.Bool.Decides.{Decides-int_eq}
 use Rattle.std.proofs.lemmas.Int.{to_z-of_z}
 use Rattle.std.proofs.lemmas.Result.{err_from_is_err_and}
 use Rattle.lattice.specs.Corners.{Corner}
-use Rattle.lattice.specs.Mosaic.{Mosaic}
-use Rattle.lattice.specs.Ground.{terrain}
+use Rattle.lattice.specs.Mosaic.{Mosaic, void}
+use Rattle.lattice.specs.Ground.{metres, terrain}
+use Rattle.lattice.specs.Height.{height_of}
 use Rattle.lattice.specs.Terrain.{IsFilledLevel}
 use Rattle.lattice.specs.declared.refusal.Refusal.{Refusal}
 use Rattle.catalogue.specs.Asked.{Asked}
+use Rattle.catalogue.specs.Readers.{OnlyReads}
 use Rattle.catalogue.specs.Tiles.{corners_of}
-use Rattle.catalogue.proofs.Asking.{asked_on, asked_passed}
-use Rattle.catalogue.proofs.Reading.{reads_nothing, reads_on}
+use Rattle.catalogue.specs.declared.samples.Samples.{Ghosts}
+use Rattle.catalogue.proofs.Asking.{asked_on, asked_passed, asked_refused}
+use Rattle.catalogue.proofs.Reading.{reads_nothing, reads_as, reads_on}
 use Rattle.border_graph.specs.Joining.{Rim}
 use Rattle.border_graph.specs.Linking.{node_number}
 use Rattle.drainage.specs.Asking.{IsHeldByNone}
-use Rattle.drainage.specs.Holding.{IsRimLevel, IsGroundNode}
+use Rattle.drainage.specs.Holding.{Known, IsRimLevel, IsGroundNode, IsRight, IsGrown}
+use Rattle.drainage.specs.Kept.{right_still}
 use Rattle.drainage.specs.Waters.{known_of}
-use Rattle.drainage.proofs.Filled.{void_there, level_inside, rim_there, level_over}
+use Rattle.drainage.proofs.Filled.{void_there, no_height_there, level_inside, rim_there, level_over}
 use Rattle.drainage.proofs.Holders.{no_ground}
-use Rattle.drainage.proofs.Questioned.{answered, asked_reads}
+use Rattle.drainage.proofs.Questioned.{answered, asked_reads, stopped}
 use Rattle.drainage.proofs.filling.level_in.Goals as goal
 
 pub returns-in_default-clause-level : goal.returns-in_default-clause-level
@@ -34,16 +40,64 @@ returns-in_default-clause-level g c honest =
 pub returns-in_default-clause-asked : goal.returns-in_default-clause-asked
 returns-in_default-clause-asked g c = answered g.S.Samples c.args.samples.now c.args.samples.now _ (reads_nothing g.S.Samples g.met.S.Samples.keeps_itself c.args.samples.now (tt {0}))
 
+-- what is right after a question is so after a further read
+right_read : {S T : Type 0} (g : Ghosts S) (a b d : S) (known known' : Known) (result : Result T Refusal) → IsGrown g a b known known' → OnlyReads g b d result → g.is_honest d → IsRight (g.mosaic a) known → IsRight (g.mosaic d) known'
+right_read g a b d known known' result grown reads honest right = subst (λ (m : Mosaic). IsRight m known') (sym (reads.mosaic honest)) (right_still g a b known known' grown (reads.honest honest) right)
+
+pub returns-in_err-is_height-clause-asked : goal.returns-in_err-is_height-clause-asked
+returns-in_err-is_height-clause-asked g c =
+    let a = c.args.samples.now in
+    let b = c.spot.new.samples in
+    let d = c.is_height.new.samples in
+    let p = err_from_is_err_and c.from_residual-in_err-is_height.result c.from_residual-in_err-is_height.ensures.1 in
+    rw p.1 (subst (λ (r : Refusal). Asked {T = Option ℤ} g.S.Samples a d (Err r)) (sym p.2)
+    (asked_on g.S.Samples g.met.S.Samples.keeps_on a b d (tt {0}) (Err c.in_err-is_height.field-0.0) c.in_ok-level.ensures.reads
+    (asked_refused g.S.Samples b d c.in_err-is_height.field-0.0 c.in_err-is_height.ensures.reads)))
+
+pub returns-then-not-branch-clause-right : goal.returns-then-not-branch-clause-right
+returns-then-not-branch-clause-right g c honest =
+    let spotted = c.in_ok-level.ensures in
+    let seen = c.in_ok-is_height.ensures.reads in
+    right_read g.S.Samples c.args.samples.now c.spot.new.samples c.is_height.new.samples (known_of c.args.waters.now) (known_of c.spot.new.self) (Ok c.in_ok-is_height.field-0) spotted.grown seen honest
+    (c.requires.right (spotted.reads.honest (seen.honest honest)))
+
+pub returns-then-not-branch-clause-asked : goal.returns-then-not-branch-clause-asked
+returns-then-not-branch-clause-asked g c =
+    let a = c.args.samples.now in
+    let b = c.spot.new.samples in
+    let d = c.is_height.new.samples in
+    let spotted = c.in_ok-level.ensures in
+    let seen = c.in_ok-is_height.ensures in
+    stopped g.S.Samples a d (reads_on g.S.Samples g.met.S.Samples.keeps_on a b d tt (Ok tt) spotted.reads (reads_as g.S.Samples b d c.in_ok-is_height.field-0 tt seen.reads)) (λ honest.
+    let mid = seen.reads.honest honest in
+    let before = spotted.reads.honest mid in
+    let none = no_height_there (g.S.Samples.mosaic a) (g.met.S.Samples.is_mosaic a before) c.args.point (known_of c.args.waters.now) (c.requires.right before) c.deref.result.now c.deref.ensures.value c.in-Some.t c.in-Some.index c.in-Some.ensures.some
+    c.index-corner.result.now c.index-corner.ensures c.in_ok-level.level c.in_ok-level.label (spotted.spot mid (c.requires.right before)) c.if-label.true in
+    let same : metres (height_of (g.S.Samples.mosaic b) c.args.point) ≡ void = ap (λ (m : Mosaic). metres (height_of m c.args.point)) (spotted.reads.mosaic mid) ∙ none in
+    false≢true (sym c.if-not-branch.true ∙ (seen.value honest ∙ (Decides-int_eq void _).1 (sym same))))
+
 pub returns-then-label-clause-level : goal.returns-then-label-clause-level
 returns-then-label-clause-level g c honest =
     let a = c.args.samples.now in
     let spotted = c.in_ok-level.ensures in
-    let before = spotted.reads.honest honest in
+    let mid = c.in_ok-is_height.ensures.reads.honest honest in
+    let before = spotted.reads.honest mid in
     void_there (g.S.Samples.mosaic a) (g.met.S.Samples.is_mosaic a before) c.args.point (known_of c.args.waters.now) (c.requires.right before) c.deref.result.now c.deref.ensures.value c.in-Some.t c.in-Some.index c.in-Some.ensures.some
-    c.index-corner.result.now c.index-corner.ensures c.in_ok-level.level c.in_ok-level.label (spotted.spot honest (c.requires.right before)) c.if-label.true
+    c.index-corner.result.now c.index-corner.ensures c.in_ok-level.level c.in_ok-level.label (spotted.spot mid (c.requires.right before)) c.if-label.true
+
+pub returns-then-label-clause-right : goal.returns-then-label-clause-right
+returns-then-label-clause-right g c honest =
+    let spotted = c.in_ok-level.ensures in
+    let seen = c.in_ok-is_height.ensures.reads in
+    right_read g.S.Samples c.args.samples.now c.spot.new.samples c.is_height.new.samples (known_of c.args.waters.now) (known_of c.spot.new.self) (Ok c.in_ok-is_height.field-0) spotted.grown seen honest
+    (c.requires.right (spotted.reads.honest (seen.honest honest)))
 
 pub returns-then-label-clause-asked : goal.returns-then-label-clause-asked
-returns-then-label-clause-asked g c = answered g.S.Samples c.args.samples.now c.spot.new.samples _ c.in_ok-level.ensures.reads
+returns-then-label-clause-asked g c =
+    let a = c.args.samples.now in
+    let b = c.spot.new.samples in
+    let d = c.is_height.new.samples in
+    answered g.S.Samples a d _ (reads_on g.S.Samples g.met.S.Samples.keeps_on a b d tt (Ok tt) c.in_ok-level.ensures.reads (reads_as g.S.Samples b d c.in_ok-is_height.field-0 tt c.in_ok-is_height.ensures.reads))
 
 pub returns-then-label-2-clause-level : goal.returns-then-label-2-clause-level
 returns-then-label-2-clause-level g c honest =

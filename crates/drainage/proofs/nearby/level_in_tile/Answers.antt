@@ -3,13 +3,8 @@ use Rattle.std.specs.Int.{int_max}
 use Rattle.std.proofs.lemmas.Int.{to_z-of_z}
 use Rattle.drainage.specs.Nearby.{IsToldOf}
 use Rattle.drainage.specs.Waters.{known_of}
-use Rattle.drainage.proofs.Around.{told_void, told_out, told_over}
+use Rattle.drainage.proofs.Around.{told_out, told_over}
 use Rattle.drainage.proofs.nearby.level_in_tile.Goals as goal
-
-pub returns-then-label : goal.returns-then-label
-returns-then-label c =
-    told_void (known_of c.args.waters.now) c.args.point c.args.t c.in_ok-index.index c.args.corner c.requires.place c.requires.corner c.in_ok-index.ensures.index c.args.labelled.now c.requires.held
-    c.in_ok-level.level c.in_ok-level.label c.in_ok-level.ensures.some.0 c.in_ok-level.ensures.some.1 c.if-label.true
 
 pub returns-then-label-2 : goal.returns-then-label-2
 returns-then-label-2 c =

@@ -2,7 +2,7 @@ use Rattle.std.proofs.Common.{rules, SFits, w16, to_z, of_z, ◌<◌, ℤ, Some,
 use Rattle.std.proofs.lemmas.Bool.{cases_eq}
 use Rattle.std.proofs.lemmas.Int.{to_z-of_z}
 use Rattle.lattice.specs.declared.direction.Dir.TheVariants.{East}
-use Rattle.lattice.specs.Steps.{step, order_of}
+use Rattle.lattice.specs.Steps.{step, directions, order_of}
 use Rattle.flow_d8.proofs.Compass.{dir_at_place, order_below}
 use Rattle.drainage.specs.Nearby.{IsToldOf}
 use Rattle.drainage.specs.Waters.{known_of}
@@ -12,16 +12,18 @@ use Rattle.drainage.proofs.nearby.near.Goals as goal
 pub loop-i-preserved : goal.loop-i-preserved
 loop-i-preserved c =
     let i = c.loop-i.i in
-    let v = c.in_ok-around.field-0 in
+    let known = known_of c.args.waters.now in
+    let in_range : SFits w16 c.in_ok-level.level = search rules in
+    let v = Some (to_z w16 (of_z w16 c.in_ok-level.level)) in
+    let beside = subst (λ (l : ℤ). IsToldOf known c.in_ok-t.t (step (get_or directions i East) c.args.point) (Some l)) (sym (to_z-of_z w16 c.in_ok-level.level in_range)) c.in_ok-level.ensures in
     let around = c.loop-i.around in
     let inv = c.loop-i.invariant in
-    let known = known_of c.args.waters.now in
     let within : i < length around = let small = c.loop-i-test.true in let eight = inv.eight in omega arith in
     record {
       eight = length-set around i v ∙ inv.eight;
       each = λ d below. elim (cases_eq (order_of d) i) [
         | inl this ↦ subst (IsToldOf known c.in_ok-t.t (step d c.args.point)) (sym (ap (λ k. get_or (set around i v) k None) this ∙ get_or-set_same around i v None within))
-            (subst (λ e. IsToldOf known c.in_ok-t.t (step e c.args.point) v) (dir_at_place d East i this) c.in_ok-around.ensures)
+            (subst (λ e. IsToldOf known c.in_ok-t.t (step e c.args.point) v) (dir_at_place d East i this) beside)
         | inr other ↦ subst (IsToldOf known c.in_ok-t.t (step d c.args.point)) (sym (get_or-set_other around i (order_of d) v None other)) (inv.each d (omega arith))
       ];
     }
@@ -30,7 +32,7 @@ pub returns : goal.returns
 returns c m is right =
     let known = known_of c.args.waters.now in
     let in_range : SFits w16 c.in_ok-height.height = search rules in
-    let here : IsToldOf known c.in_ok-t.t c.args.point (Some c.in_ok-height.height) = subst (IsToldOf known c.in_ok-t.t c.args.point) c.in_ok-height.was c.in_ok-here.ensures in
+    let here : IsToldOf known c.in_ok-t.t c.args.point (Some c.in_ok-height.height) = c.in_ok-height.ensures in
     near_is m is known right c.in_ok-t.t c.in_ok-corner.ensures.some.0 c.args.point (to_z w16 (of_z w16 c.in_ok-height.height)) c.loop-i.around c.loop-i.invariant.eight
     (subst (λ (v : ℤ). IsToldOf known c.in_ok-t.t c.args.point (Some v)) (sym (to_z-of_z w16 c.in_ok-height.height in_range)) here)
     (λ d. c.loop-i.invariant.each d (let all = c.loop-i-test.false in omega (arith, order_below d)))

@@ -1,13 +1,14 @@
 use Rattle.std.proofs.Common.{◌≡◌, ◌-◌, ◌*◌, Ok, Err, sym, ◌∙◌, subst}
+use Rattle.std.specs.Prelude.{MatchOption}
 use Rattle.std.proofs.lemmas.Result.{err_from_is_err_and}
 use Rattle.lattice.specs.Mosaic.{Mosaic}
 use Rattle.lattice.specs.declared.refusal.Refusal.TheVariants.{NoMemory}
 use Rattle.catalogue.proofs.Asking.{asked_on, asked_by_reads}
 use Rattle.catalogue.proofs.Reading.{reads_on}
 use Rattle.border_graph.specs.Joining.{IsSummaryOf}
-use Rattle.drainage.specs.Flooded.{AreRimPointsIn}
-use Rattle.drainage.proofs.Questioned.{answered, asked_reads, passed_on, refused_by, wanting}
-use Rattle.drainage.proofs.Summed.{summary_is}
+use Rattle.drainage.specs.Flooded.{HasOtherRimHeight, AreRimPointsIn}
+use Rattle.drainage.proofs.Questioned.{answered, asked_reads, passed_on, refused_by, stopped, wanting}
+use Rattle.drainage.proofs.Summed.{rim_holds, summary_is}
 use Rattle.drainage.proofs.summing.flood_tile.Goals as goal
 
 pub returns-clause-border : goal.returns-clause-border
@@ -19,11 +20,14 @@ returns-clause-border g c honest =
     let reads = c.in_ok-labelled.ensures.asked.reads in
     let first = reads.honest mid in
     let side : g.S.Samples.side_of c.labelling.new.self ≡ m.side = reads.side ∙ sym (g.met.S.Samples.same_side old first) in
-    let points : AreRimPointsIn m c.args.corner labelled.levels labelled.labels c.in_ok-rim.rim.items (4 * (m.side - 1)) =
-    subst (λ n. AreRimPointsIn m c.args.corner labelled.levels labelled.labels c.in_ok-rim.rim.items (4 * (n - 1))) side
-    (subst (λ (s : Mosaic). AreRimPointsIn s c.args.corner labelled.levels labelled.labels c.in_ok-rim.rim.items (4 * (g.S.Samples.side_of c.labelling.new.self - 1))) (reads.mosaic mid) (c.in_ok-rim.ensures.rim honest)) in
+    let found : AreRimPointsIn (g.S.Samples.mosaic c.labelling.new.self) c.args.corner labelled.labels c.in-Some.rim.items (4 * (g.S.Samples.side_of c.labelling.new.self - 1)) =
+    subst (λ found. MatchOption found (HasOtherRimHeight (g.S.Samples.mosaic c.labelling.new.self) c.args.corner labelled.levels)
+    (λ rim. AreRimPointsIn (g.S.Samples.mosaic c.labelling.new.self) c.args.corner labelled.labels rim.items (4 * (g.S.Samples.side_of c.labelling.new.self - 1)))) c.in-Some.is (c.in_ok-rim.ensures.rim honest) in
+    let points : AreRimPointsIn m c.args.corner labelled.labels c.in-Some.rim.items (4 * (m.side - 1)) =
+    subst (λ n. AreRimPointsIn m c.args.corner labelled.labels c.in-Some.rim.items (4 * (n - 1))) side
+    (subst (λ (s : Mosaic). AreRimPointsIn s c.args.corner labelled.labels c.in-Some.rim.items (4 * (g.S.Samples.side_of c.labelling.new.self - 1))) (reads.mosaic mid) found) in
     subst (IsSummaryOf m) (sym c.new.ensures)
-    (summary_is m (g.met.S.Samples.is_mosaic old first) c.args.corner labelled (c.in_ok-labelled.ensures.flooded mid) c.in_ok-rim.rim.items points c.in_ok-spills.spills.items c.in_ok-spills.ensures.of_any)
+    (summary_is m (g.met.S.Samples.is_mosaic old first) c.args.corner labelled (c.in_ok-labelled.ensures.flooded mid) c.in-Some.rim.items points c.in_ok-spills.spills.items c.in_ok-spills.ensures.of_any)
 
 pub returns-clause-asked : goal.returns-clause-asked
 returns-clause-asked g c =
@@ -31,6 +35,20 @@ returns-clause-asked g c =
     let b = c.labelling.new.self in
     let d = c.rim_of.new.samples in
     answered g.S.Samples a d _ (reads_on g.S.Samples g.met.S.Samples.keeps_on a b d tt (Ok tt) (asked_reads g.S.Samples a b c.in_ok-labelled.labelled c.in_ok-labelled.ensures.asked) c.in_ok-rim.ensures.reads)
+
+pub returns-in_default-clause-asked : goal.returns-in_default-clause-asked
+returns-in_default-clause-asked g c =
+    let a = c.args.samples.now in
+    let b = c.labelling.new.self in
+    let d = c.rim_of.new.samples in
+    let labelled = c.in_ok-labelled.labelled in
+    let reads = c.in_ok-labelled.ensures.asked.reads in
+    stopped g.S.Samples a d (reads_on g.S.Samples g.met.S.Samples.keeps_on a b d tt (Ok tt) (asked_reads g.S.Samples a b labelled c.in_ok-labelled.ensures.asked) c.in_ok-rim.ensures.reads) (λ honest.
+    let mid = c.in_ok-rim.ensures.reads.honest honest in
+    let other : HasOtherRimHeight (g.S.Samples.mosaic b) c.args.corner labelled.levels =
+    subst (λ found. MatchOption found (HasOtherRimHeight (g.S.Samples.mosaic b) c.args.corner labelled.levels)
+    (λ rim. AreRimPointsIn (g.S.Samples.mosaic b) c.args.corner labelled.labels rim.items (4 * (g.S.Samples.side_of b - 1)))) c.in_default.is (c.in_ok-rim.ensures.rim honest) in
+    rim_holds (g.S.Samples.mosaic a) c.args.corner labelled (c.in_ok-labelled.ensures.flooded mid) (subst (λ (m : Mosaic). HasOtherRimHeight m c.args.corner labelled.levels) (reads.mosaic mid) other))
 
 pub returns-in_err-rim-clause-asked : goal.returns-in_err-rim-clause-asked
 returns-in_err-rim-clause-asked g c =

@@ -1,8 +1,9 @@
 use Rattle.std.proofs.Common.{◌+◌, Ok, sym, subst, List}
+use Rattle.std.specs.Prelude.{Option, MatchOption}
 use Rattle.lattice.specs.Mosaic.{Mosaic}
 use Rattle.border_graph.specs.declared.summary.RimPoint.{RimPoint}
 use Rattle.catalogue.proofs.Reading.{reads_on, reads_as}
-use Rattle.drainage.specs.Flooded.{IsRimPointIn, AreRimPointsIn}
+use Rattle.drainage.specs.Flooded.{IsRimPointIn, HasOtherRimHeight, AreRimPointsIn}
 use Rattle.drainage.proofs.Summed.{one_more_point}
 use Rattle.drainage.proofs.summing.rim_of.Goals as goal
 
@@ -12,11 +13,13 @@ loop-number-preserved g c =
     let so = c.loop-number.invariant in
     let read = c.in_ok-point.ensures.reads in
     record {
-      reads = reads_on g.S.Samples g.met.S.Samples.keeps_on now c.loop-number.samples c.rim_point.new.samples tt (Ok tt) so.reads (reads_as g.S.Samples c.loop-number.samples c.rim_point.new.samples c.in_ok-point.point tt read);
+      reads = reads_on g.S.Samples g.met.S.Samples.keeps_on now c.loop-number.samples c.rim_point.new.samples tt (Ok tt) so.reads (reads_as g.S.Samples c.loop-number.samples c.rim_point.new.samples c.in_ok-point.field-0 tt read);
       points = λ honest.
           let mid = read.honest honest in
-          subst (λ (l : List RimPoint). AreRimPointsIn (g.S.Samples.mosaic now) c.args.corner c.args.labelled.now.levels c.args.labelled.now.labels l (c.loop-number.number + 1)) (sym c.in_ok-push.ensures.pushed)
-          (one_more_point (g.S.Samples.mosaic now) c.args.corner c.args.labelled.now.levels c.args.labelled.now.labels c.loop-number.rim.items c.loop-number.number c.in_ok-point.point
-          (subst (λ (m : Mosaic). IsRimPointIn m c.args.corner c.args.labelled.now.levels c.args.labelled.now.labels c.loop-number.number c.in_ok-point.point) (so.reads.mosaic mid) (c.in_ok-point.ensures.point honest))
+          let here = subst (λ (found : Option RimPoint). MatchOption found (HasOtherRimHeight (g.S.Samples.mosaic c.loop-number.samples) c.args.corner c.args.labelled.now.levels)
+          (λ point. IsRimPointIn (g.S.Samples.mosaic c.loop-number.samples) c.args.corner c.args.labelled.now.labels c.loop-number.number point)) c.in-Some.is (c.in_ok-point.ensures.point honest) in
+          subst (λ (l : List RimPoint). AreRimPointsIn (g.S.Samples.mosaic now) c.args.corner c.args.labelled.now.labels l (c.loop-number.number + 1)) (sym {A = List RimPoint} c.in_ok-push.ensures.pushed)
+          (one_more_point (g.S.Samples.mosaic now) c.args.corner c.args.labelled.now.labels c.loop-number.rim.items c.loop-number.number c.in-Some.point
+          (subst (λ (m : Mosaic). IsRimPointIn m c.args.corner c.args.labelled.now.labels c.loop-number.number c.in-Some.point) (so.reads.mosaic mid) here)
           (so.points mid));
     }

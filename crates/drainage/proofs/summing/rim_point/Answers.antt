@@ -1,0 +1,74 @@
+use Rattle.std.proofs.Common.{◌≡◌, ◌∙◌, ℕ, ◌*◌, ◌<◌, ℤ, pos, List, length, Err, rules, sym, ap, subst, to_z, of_z, SFits, w16}
+use Rattle.std.specs.Prelude.{Option, slice_index_or}
+use Rattle.std.proofs.lemmas.Bool.{false≢true}
+use Rattle.std.proofs.lemmas.Bool.Decides.{Decides-int_eq}
+use Rattle.std.proofs.lemmas.Int.{to_z-of_z}
+use Rattle.std.proofs.lemmas.List.{get_or_default}
+use Rattle.std.proofs.lemmas.Result.{err_from_is_err_and}
+use Rattle.lattice.specs.declared.refusal.Refusal.{Refusal}
+use Rattle.lattice.specs.Ground.{is_outlet, metres}
+use Rattle.lattice.specs.Height.{height_of}
+use Rattle.lattice.specs.Lattice.{point_of}
+use Rattle.lattice.specs.Mosaic.{Mosaic, void}
+use Rattle.lattice.specs.RimPoints.{IsRimPoint}
+use Rattle.border_graph.specs.declared.summary.RimPoint.{RimPoint}
+use Rattle.catalogue.specs.Readers.{OnlyReads}
+use Rattle.catalogue.proofs.Reading.{reads_as, reads_on, reads_refused}
+use Rattle.drainage.proofs.summing.rim_point.Goals as goal
+
+-- a level as it was read
+same_level : (read levels : List ℤ) (e : ℕ) → e < length read → read ≡ levels → SFits w16 (slice_index_or read e (pos 0)) → to_z w16 (of_z w16 (slice_index_or read e (pos 0))) ≡ slice_index_or levels e void
+same_level read levels e small same fits = to_z-of_z w16 (slice_index_or read e (pos 0)) fits ∙ (get_or_default read e (pos 0) void small ∙ ap (λ (l : List ℤ). slice_index_or l e void) same)
+
+pub returns-then-not-branch-clause-point : goal.returns-then-not-branch-clause-point
+returns-then-not-branch-clause-point g c honest =
+    let a = c.args.samples.now in
+    let m = g.S.Samples.mosaic a in
+    let e = c.rim_index-index.result in
+    let rim = c.rim_index-index.ensures in
+    let seen = c.in_ok-is_height.ensures in
+    let side : c.side-side.result ≡ m.side = c.side-side.ensures ∙ (c.requires.labelled_side ∙ sym (g.met.S.Samples.same_side a (seen.reads.honest honest))) in
+    let point : c.point_at-point.result ≡ point_of m.side c.args.corner e = c.point_at-point.ensures.value ∙ ap (λ n. point_of n c.args.corner e) side in
+    let levels = c.levels.ensures in
+    let small : e < length c.levels.result.now = subst (λ k. e < k) (sym (ap length levels.value ∙ (levels.whole ∙ ap (λ n. n * n) (sym c.side-side.ensures)))) rim.small in
+    let fits : SFits w16 (slice_index_or c.levels.result.now e (pos 0)) = search rules in
+    let level = same_level c.levels.result.now c.args.labelled.now.levels e small levels.value fits in
+    record {
+      number = c.args.number;
+      index = e;
+      rim = subst (λ n. IsRimPoint n c.args.number e) side (record { small = rim.small; rim = rim.rim; number = rim.number });
+      differs = λ same. false≢true (sym c.if-not-branch.true ∙ (seen.value honest ∙ (Decides-int_eq _ _).1 (level ∙ (same ∙ ap (λ p. metres (height_of m p)) (sym point)))));
+    }
+
+pub returns-in_err-is_outlet-clause-reads : goal.returns-in_err-is_outlet-clause-reads
+returns-in_err-is_outlet-clause-reads g c =
+    let a = c.args.samples.now in
+    let b = c.is_height.new.samples in
+    let d = c.outlet.new.samples in
+    let p = err_from_is_err_and c.from_residual-in_err-is_outlet.result c.from_residual-in_err-is_outlet.ensures.1 in
+    rw p.1 (subst (λ (r : Refusal). OnlyReads {T = Option RimPoint} g.S.Samples a d (Err r)) (sym p.2)
+    (reads_on g.S.Samples g.met.S.Samples.keeps_on a b d c.in_ok-is_height.field-0 (Err c.in_err-is_outlet.field-0.0) c.in_ok-is_height.ensures.reads
+    (reads_refused g.S.Samples b d c.in_err-is_outlet.field-0.0 c.in_err-is_outlet.ensures.reads)))
+
+pub returns-clause-point : goal.returns-clause-point
+returns-clause-point g c honest =
+    let a = c.args.samples.now in
+    let m = g.S.Samples.mosaic a in
+    let e = c.rim_index-index.result in
+    let rim = c.rim_index-index.ensures in
+    let seen = c.in_ok-is_height.ensures.reads in
+    let mid = c.in_ok-is_outlet.ensures.reads.honest honest in
+    let side : c.side-side.result ≡ m.side = c.side-side.ensures ∙ (c.requires.labelled_side ∙ sym (g.met.S.Samples.same_side a (seen.honest mid))) in
+    let point : c.point_at-point.result ≡ point_of m.side c.args.corner e = c.point_at-point.ensures.value ∙ ap (λ n. point_of n c.args.corner e) side in
+    record {
+      index = e;
+      number = subst (λ n. IsRimPoint n c.args.number e) side (record { small = rim.small; rim = rim.rim; number = rim.number });
+      height = (Decides-int_eq _ _).0 (sym (c.in_ok-is_height.ensures.value mid) ∙ c.if-not-branch.false) ∙ ap (λ p. metres (height_of m p)) point;
+      label = search rules;
+      outlet = c.in_ok-is_outlet.ensures.value honest ∙ (ap (λ (s : Mosaic). is_outlet s c.point_at-point.result) (seen.mosaic mid) ∙ ap (is_outlet m) point);
+    }
+
+pub returns-clause-reads : goal.returns-clause-reads
+returns-clause-reads g c =
+    reads_on g.S.Samples g.met.S.Samples.keeps_on c.args.samples.now c.is_height.new.samples c.outlet.new.samples c.in_ok-is_height.field-0 _ c.in_ok-is_height.ensures.reads
+    (reads_as g.S.Samples c.is_height.new.samples c.outlet.new.samples c.in_ok-is_outlet.is_outlet _ c.in_ok-is_outlet.ensures.reads)

@@ -1,0 +1,25 @@
+//! Heights, beside what is kept of their points.
+ghost use Rattle.std.specs.Prelude.{◌≡◌, IfOk};
+ghost use Rattle.std.specs.Ordering.{int_eq};
+ghost use Rattle.lattice.specs.Height.{height_of};
+ghost use Rattle.lattice.specs.Ground.{metres as metres_of};
+ghost use Rattle.catalogue.specs.Readers.{OnlyReads};
+
+use catalogue::{Samples, height};
+use lattice::{Height, Point, Refusal, VOID};
+
+/// Whether this is the height of the point in metres, or the mark of a void where the point has none. It reads the point
+/// alone.
+pub(crate) fn is_height<S: Samples>(
+    samples: &mut S,
+    point: Point,
+    metres: i16,
+) -> Result<bool, Refusal>
+    ensures value { S.is_honest samples.new → IfOk result (λ answer. answer ≡ int_eq metres (metres_of (height_of (S.mosaic samples.old) point))) }
+    ensures reads { OnlyReads S.Samples samples.old samples.new result }
+{
+    match height(samples, point)? {
+        Height::At(found) => Ok(metres == found),
+        Height::Outside | Height::Void => Ok(metres == VOID),
+    }
+}
