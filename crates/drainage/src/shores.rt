@@ -62,7 +62,8 @@ impl Shores {
         Some(*corner)
     }
 
-    /// The labelling of the tile with this place and corner, whose ways it has from then on.
+    /// The labelling of the tile with this place and corner, whose ways it has from then on. Where it had them, the tile
+    /// isn't summed again.
     ///
     /// Damaged where there is no such tile, or as its labelling is. Otherwise it is refused for want of memory, or as a read
     /// is.
@@ -85,6 +86,9 @@ impl Shores {
     {
         if t >= self.told.len() || !samples.present(corner) {
             return Err(Refusal::Damaged);
+        }
+        if self.told[t].is_some() {
+            return Ok(samples.labelling(alloc, corner)?);
         }
         let (labelled, summary) = flood_tile(alloc, samples, corner)?;
         self.learn(alloc, t, summary)?;

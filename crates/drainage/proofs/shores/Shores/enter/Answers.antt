@@ -1,8 +1,9 @@
-use Rattle.std.proofs.Common.{◌≤◌, ◌∙◌, true≢false, List, Contains, length, sym, subst, arith, rules}
+use Rattle.std.proofs.Common.{◌<◌, ◌≤◌, ◌∙◌, true≢false, List, Contains, length, refl, sym, subst, arith, rules}
 use Rattle.std.proofs.lemmas.List.{get_or_default}
 use Rattle.lattice.specs.Corners.{Corner}
 use Rattle.catalogue.proofs.Reading.{reads_nothing}
 use Rattle.drainage.proofs.Questioned.{answered, asked_reads, stopped}
+use Rattle.drainage.proofs.Telling.{some_there}
 use Rattle.drainage.proofs.shores.Shores.enter.Goals as goal
 use Rattle.drainage.proofs.shores.Shores.enter.Goals.{then-t-len-via-then-t-len, then-t-len-via-else-t-len+then-not-present}
 
@@ -53,3 +54,19 @@ returns-clause-reads g c = asked_reads g.S.Samples c.args.samples.now c.flood_ti
 
 pub returns-clause-asked : goal.returns-clause-asked
 returns-clause-asked g c ready = answered g.S.Samples c.args.samples.now c.flood_tile.new.samples c.in_ok-labelled.labelled (returns-clause-reads g c)
+
+pub returns-then-is_some-clause-told : goal.returns-then-is_some-clause-told
+returns-then-is_some-clause-told g c =
+    let inside : c.args.t < length c.args.self.now.told.items = (let size = c.len.ensures in search rules) in
+    some_there c.args.self.now.told.items c.args.t c.index.result.now inside c.index.ensures (sym c.is_some.ensures ∙ c.if-is_some.true)
+
+pub returns-then-is_some-clause-kept : goal.returns-then-is_some-clause-kept
+returns-then-is_some-clause-kept g c =
+    let reads = c.in_ok-labelling.ensures.asked.reads in
+    record { honest = reads.honest; mosaic = reads.mosaic; same_side = refl; same_corners = refl; still = λ u ways is. is; right = λ _ told. told }
+
+pub returns-then-is_some-clause-reads : goal.returns-then-is_some-clause-reads
+returns-then-is_some-clause-reads g c = asked_reads g.S.Samples c.args.samples.now c.labelling.new.self _ c.in_ok-labelling.ensures.asked
+
+pub returns-then-is_some-clause-asked : goal.returns-then-is_some-clause-asked
+returns-then-is_some-clause-asked g c ready = answered g.S.Samples c.args.samples.now c.labelling.new.self _ (returns-then-is_some-clause-reads g c)
