@@ -85,12 +85,7 @@ pub(crate) fn make_counted(
     for (change, wanted) in rows {
         let (left, refused, writes) = counted(alloc, disk, *change)?;
         let is_right = refused.is_none() && writes == *wanted;
-        assert_row(
-            rt,
-            is_right,
-            "a change with another number of writes",
-            *wanted,
-        );
+        assert_row(rt, is_right, "not so many writes", *wanted);
         disk = left;
     }
     Ok(disk)
