@@ -1,3 +1,4 @@
 pub mod CommandLineLemmas
 pub mod OnStores
 pub mod ProgramLemmas
+pub mod Sessions

@@ -1,10 +1,11 @@
 -- What was done to a store, as what was done to its disk.
 use Rattle.std.proofs.Common.{◌≡◌, ◌⊎◌, inl, inr, ⊎_elim, ℕ, ◌≤◌, Bool, false, List, [], ◌∷◌, map, Option, Result, Ok, Err, IfOk, refl, sym, ap, ap₂, ◌∙◌, subst, arith}
-use Rattle.std.specs.Prelude.{Vec, nat_le}
+use Rattle.std.specs.Prelude.{Vec, nat_le, IsErrOf}
 use Rattle.disk.specs.Disk.{Image}
 use Rattle.disk.specs.Stops.{AddsNothing, LeavesOnly, nothing_twice, weaker}
 use Rattle.disk.specs.declared.disk.Disk.{Ghosts}
 use Rattle.lattice.specs.declared.refusal.Refusal.{Refusal}
+use Rattle.lattice.specs.declared.refusal.Refusal.TheVariants.{Device}
 use Rattle.edits.specs.declared.command.Command.{Command}
 use Rattle.calls.specs.declared.event.Event.TheVariants as ask
 use Rattle.calls.specs.declared.event.Reply.TheVariants as reply
@@ -30,6 +31,7 @@ use Rattle.serving.specs.Promises.{side_in}
 use Rattle.serving.specs.Served.{Outcome}
 use Rattle.serving.specs.declared.session.ServeFault.{ServeFault}
 use Rattle.server.specs.Report.{IsReportText, Reports}
+use Rattle.server.specs.Sessions.{TellsCall}
 use Rattle.server.specs.OnDisks.{StandsForEither, HoldsEither, WasRead, GoesFrom, LeavesLater, IsSession, HasServed, IsApplied, HasApplied, HasReported, HasMeasured, HasUpgraded, done_of}
 
 -- what an opening that succeeds promises
@@ -112,16 +114,21 @@ module _ {D : Type 0} (g : Ghosts D) where
 
   pub has_served : (old : D) (store : Store D g) (stores : List (Store D g)) (before after written now : Option (List ℕ)) (result : Result (Unit {0}) ServeFault) → IsOpened g old store
       → Outcome (Replied IsTold (λ _. side_of store)) before after written now (has_failed store) (map has_failed stores) result
+      → Outcome (TellsCall g) before after written now store stores result
       → (g.honest (disk_of (last_of store stores)) → g.honest (disk_of store))
       → g.failures (disk_of store) ≤ g.failures (disk_of (last_of store stores))
       → (g.honest (disk_of (last_of store stores)) → (s : State) → IsStoreAt g store s → (states : List State)
       × (Outcome (Replied (Happens (capacity_of store)) side_in) before after written now s states result × LeaveLater (members g) (store ∷ stores) (last_of store stores) (s ∷ states)))
       → HasServed g old (disk_of (last_of store stores)) before after written now result
-  has_served old store stores before after written now result opened told honest later goes = record {
+  has_served old store stores before after written now result opened told answers honest later goes = record {
     later = omega (arith, opened.later, later);
     honest = λ h. (opened.nothing (honest h)).honest;
-    side = side_of store;
-    fails = map has_failed stores;
+    store = store;
+    stores = stores;
+    opened = was_read old store opened;
+    works = opened.works;
+    left = refl;
+    answers = answers;
     told = subst (λ (b : Bool). Outcome (Replied IsTold (λ _. side_of store)) before after written now b (map has_failed stores) result) opened.works told;
     session = session;
   }
@@ -229,6 +236,7 @@ module _ {D : Type 0} (g : Ghosts D) where
       later = let more = reads.later in omega (arith, opened.later, more);
       nothing = λ h. nothing_twice g old (disk_of store) (disk_of new) (opened.nothing (reads.nothing h).honest) (reads.nothing h);
     };
+    device = λ device. let risen = reads.device (of_items result device) in omega (arith, opened.later, risen);
     lines = as_list result lines;
     report = λ h side capacity a b holds.
         let found = found_in old store opened (reads.nothing h).honest side capacity a b holds in
@@ -239,3 +247,7 @@ module _ {D : Type 0} (g : Ghosts D) where
       as_list : (answer : Result (Vec ℕ A) Refusal) → IfOk answer (λ text. IsReportText text.items) → IfOk (items_in answer) IsReportText
       as_list (Ok text) is = is
       as_list (Err r) is = tt
+
+      of_items : (answer : Result (Vec ℕ A) Refusal) → IsErrOf (items_in answer) Device → IsErrOf answer Device
+      of_items (Ok text) is = absurd (cc)
+      of_items (Err r) is = let same : r ≡ Device = cc in ap Err same

@@ -4,3 +4,4 @@ pub mod OnDisks
 pub mod Paths
 pub mod Program
 pub mod Report
+pub mod Sessions

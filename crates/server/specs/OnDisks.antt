@@ -1,6 +1,6 @@
 -- What a subcommand does on the disk of a store: what it finds there, what it does, and what a stop (a power cut) at any
 -- moment leaves (this product's own profile).
-use Rattle.std.specs.Prelude.{◌≡◌, ◌⊎◌, ◌≤◌, ◌+◌, ◌*◌, ℕ, nat_le, Bool, false, List, [], ◌∷◌, codes, ◌++◌, take, Option, Some, None, IfSome, Result, Ok, Err, IsErrOf, OnOk, IfOk}
+use Rattle.std.specs.Prelude.{◌≡◌, ◌⊎◌, ◌≤◌, ◌+◌, ◌*◌, ℕ, nat_le, false, List, [], ◌∷◌, map, codes, ◌++◌, take, Option, Some, None, IfSome, Result, Ok, Err, IsErrOf, OnOk, IfOk}
 use Rattle.disk.specs.Disk.{Image, HasRisen}
 use Rattle.disk.specs.Stops.{AddsNothing}
 use Rattle.disk.specs.declared.disk.Disk.{Ghosts}
@@ -24,8 +24,11 @@ use Rattle.serving.specs.declared.session.ServeFault.{ServeFault}
 use Rattle.store.specs.Formatted.{format_2}
 use Rattle.store.specs.Standing.{StandsFor}
 use Rattle.store.specs.StoreState.{StandsForOne}
+use Rattle.store.specs.Stores.{disk_of, side_of, has_failed}
+use Rattle.store.specs.declared.store.Store.{Store}
 use Rattle.server.specs.Endings.{EndsAnswering, EndsSession, Tells, TellsRefusal, count_line}
 use Rattle.server.specs.Report.{IsReportText, Reports}
+use Rattle.server.specs.Sessions.{TellsCall}
 
 -- the bytes that a reader has, if there is one and they are known
 abbrev pub given_by : {R : Type 0} → (R → Option (List ℕ)) → Option R → Option (List ℕ)
@@ -102,10 +105,15 @@ module _ {D : Type 0} (g : Ghosts D) where
   pub record HasServed (old new : D) (before after written now : Option (List ℕ)) (result : Result (Unit {0}) ServeFault) : Type 0 where
     pub later : g.failures old ≤ g.failures new
     pub honest : g.honest new → g.honest old
-    -- on any disk: what each reply tells of whether the store has failed
-    pub side : ℕ
-    pub fails : List Bool
-    pub told : Outcome (Replied IsTold (λ _. side)) before after written now false fails result
+    -- on any disk: what was opened, and the stores that the items led to, one after each
+    pub store : Store D g
+    pub stores : List (Store D g)
+    pub opened : WasRead old (disk_of store)
+    pub works : has_failed store ≡ false
+    pub left : disk_of (last_of store stores) ≡ new
+    -- .. the calls, and what the replies tell of them, also of whether the store has failed
+    pub answers : Outcome (TellsCall g) before after written now store stores result
+    pub told : Outcome (Replied IsTold (λ _. side_of store)) before after written now false (map has_failed stores) result
     -- on an honest one that holds a store
     pub session : g.honest new → (n capacity : ℕ) (a b : Contents) → HoldsEither old n capacity a b → IsSession old new n capacity before after written now result a b
 
@@ -182,6 +190,7 @@ module _ {D : Type 0} (g : Ghosts D) where
 
   pub record HasReported (old new : D) (result : Result (List ℕ) Refusal) : Type 0 where
     pub read : WasRead old new
+    pub device : IsErrOf result Device → HasRisen (g.failures old) (g.failures new)
     pub lines : IfOk result IsReportText
     pub report : g.honest new → (side capacity : ℕ) (a b : Contents) → HoldsEither old side capacity a b
         → (first : Contents) × (((first ≡ a) ⊎ (first ≡ b)) × ((left : State) × Reports (working first) result left))

@@ -1,7 +1,9 @@
 use Rattle.std.proofs.Common.{inl, inr, refl, sym, ◌∙◌, ap, subst}
 use Rattle.store.specs.Stores.{disk_of}
 use Rattle.server.specs.OnDisks.{HasServed}
+use Rattle.server.specs.Sessions.{TellsCall}
 use Rattle.server.proofs.OnStores.{IsOpened, has_served}
+use Rattle.server.proofs.Sessions.{outcome}
 use Rattle.server.proofs.disks.serve_store.Goals as goal
 
 pub returns-in-Err : goal.returns-in-Err
@@ -31,8 +33,10 @@ returns g c =
       at = c.in-Ok.ensures.at;
     } in
     let (stores, (last, serves)) = c.serve-served.ensures in
+    let answers = outcome _ (TellsCall g.D.Disk) (g.R.Read.remaining c.args.reader.now) (g.R.Read.remaining c.serve-served.new.reader) (g.W.Write.contents c.args.writer.now) (g.W.Write.contents c.serve-served.new.writer)
+    c.in-Ok.store stores c.serve-served.result serves.answers (λ s i text t told. record { replied = told.replied; done = told.done; fault = told.fault; blamed = told.blamed }) in
     let served = has_served g.D.Disk c.args.disk c.in-Ok.store stores (g.R.Read.remaining c.args.reader.now) (g.R.Read.remaining c.serve-served.new.reader) (g.W.Write.contents c.args.writer.now)
-    (g.W.Write.contents c.serve-served.new.writer) c.serve-served.result opened serves.told serves.honest serves.failures
+    (g.W.Write.contents c.serve-served.new.writer) c.serve-served.result opened serves.told answers serves.honest serves.failures
     (λ honest s at. let run = serves.states honest s at in (run.0, (run.1.outcome, run.1.later))) in
     inr (
       c.serve-served.result,
