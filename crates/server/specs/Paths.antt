@@ -1,10 +1,18 @@
--- Why there is no disk at a path (this product's own profile).
-use Rattle.std.specs.Prelude.{◌≡◌, ◌⊎◌, ◌<◌, ◌≤◌, ℕ, List, ◌++◌, codes, Option}
+-- What is at a path: a disk as it was opened, or why there is none (this product's own profile).
+use Rattle.std.specs.Prelude.{◌≡◌, ◌⊎◌, ◌<◌, ◌≤◌, ℕ, List, [], ◌++◌, codes, Option}
+use Rattle.disk.specs.FileDisk.{calls_of, failures_of, writes_of}
+use Rattle.disk.specs.declared.file.FileDisk.{FileDisk}
 use Rattle.lattice.specs.Limits.{most_tiles}
 use Rattle.lattice.specs.declared.refusal.Refusal.TheVariants.{BadSide, BadCapacity}
 use Rattle.server.specs.Endings.{Tells, TellsRefusal}
 use Rattle.server.specs.declared.files.PathFault.{PathFault}
 use Rattle.server.specs.declared.files.PathFault.TheVariants.{Refused, Exists, Closed}
+
+-- a file was opened as a disk, and no call of it was made yet
+pub record IsUntouched {V : Type 0} (disk : FileDisk V) : Type 0 where
+  pub calls : calls_of disk ≡ []
+  pub failures : failures_of disk ≡ 0
+  pub writes : writes_of disk ≡ 0
 
 -- a store of this side and capacity is made
 pub record IsTaken (side capacity : ℕ) : Type 0 where

@@ -1,9 +1,8 @@
 -- What the program does with its words: what it writes, what it does on a store's file, and its exit status (this
 -- product's own profile).
-use Rattle.std.specs.Prelude.{◌≡◌, ◌⊎◌, ◌<◌, ◌≤◌, ℕ, List, [], Option, Result}
+use Rattle.std.specs.Prelude.{◌≡◌, ◌⊎◌, ◌<◌, ◌≤◌, ℕ, List, Option, Some, None, Result}
 use Rattle.std.specs.declared.marker.Brand.{Brand}
 use Rattle.disk.specs.Disk.{Image}
-use Rattle.disk.specs.FileDisk.{calls_of}
 use Rattle.disk.specs.FileWorlds.{giving}
 use Rattle.disk.specs.declared.disk.Disk.{Ghosts}
 use Rattle.disk.specs.declared.file.FileDisk.{FileDisk}
@@ -22,7 +21,7 @@ use Rattle.store.specs.Formatted.{format_2}
 use Rattle.server.specs.CommandLine.{AskedBy, AskNothing}
 use Rattle.server.specs.Endings.{Begins, EndsSession, TellsRefusal, bad_words}
 use Rattle.server.specs.OnDisks.{HasMeasured, ServesLines, ImportsTile, MakesStore, ChecksStore, TellsClosed, UpgradesStore}
-use Rattle.server.specs.Paths.{IsTaken, MakesNone, TellsFault}
+use Rattle.server.specs.Paths.{IsTaken, IsUntouched, MakesNone, TellsFault}
 use Rattle.server.specs.declared.arguments.Arguments.{Arguments}
 use Rattle.server.specs.declared.arguments.Arguments.TheVariants.{Format, Import, Serve, Table, Check, Upgrade}
 use Rattle.server.specs.declared.files.PathFault.{PathFault}
@@ -46,53 +45,66 @@ RunsTable side capacity before after written new status =
 -- ---- on a file, whose reads give these images as time goes on
 
 module _ (images : ℕ → Image) where
-  -- a file was opened as a disk, and this was done to it
-  abbrev pub OnFile : (Ghosts (FileDisk Brand) → FileDisk Brand → FileDisk Brand → Type 0) → Type 0
-  OnFile Did = (old new : FileDisk Brand) × ((calls_of old ≡ []) × Did (giving images) old new)
+  -- a file was opened as a disk, and this was done to it: it is the disk that is handed back
+  abbrev pub OnFile : (Ghosts (FileDisk Brand) → FileDisk Brand → FileDisk Brand → Type 0) → Option (FileDisk Brand) → Type 0
+  OnFile Did None = ⊥
+  OnFile Did (Some left) = (old : FileDisk Brand) × IsUntouched old × Did (giving images) old left
 
   -- a file of the least size is made, or why it isn't is told
-  abbrev pub RunsFormat : (path : List ℕ) → (side capacity : ℕ) → (written new : Option (List ℕ)) → ℕ → Type 0
-  RunsFormat path side capacity written new status =
-      ((fault : PathFault) × MakesNone side capacity fault × TellsFault path fault written new status)
-      ⊎ (IsTaken side capacity × OnFile (λ g old made. (g.size old ≡ sectors_asked (format_2 side capacity)) × MakesStore g side capacity old made written new status))
+  abbrev pub RunsFormat : (path : List ℕ) → (side capacity : ℕ) → (written new : Option (List ℕ)) → Option (FileDisk Brand) → ℕ → Type 0
+  RunsFormat path side capacity written new disk status =
+      ((fault : PathFault) × (disk ≡ None) × MakesNone side capacity fault × TellsFault path fault written new status)
+      ⊎ (IsTaken side capacity × OnFile (λ g old made. (g.size old ≡ sectors_asked (format_2 side capacity)) × MakesStore g side capacity old made written new status) disk)
 
   -- the name of the tile's file is tested first
-  abbrev pub RunsImport : (path tile : List ℕ) → (written new : Option (List ℕ)) → ℕ → Type 0
-  RunsImport path tile written new status =
-      (((c : Corner) → ¬ IsFileName tile c) × TellsRefusal BadName written new status)
+  abbrev pub RunsImport : (path tile : List ℕ) → (written new : Option (List ℕ)) → Option (FileDisk Brand) → ℕ → Type 0
+  RunsImport path tile written new disk status =
+      ((disk ≡ None) × ((c : Corner) → ¬ IsFileName tile c) × TellsRefusal BadName written new status)
       ⊎ ((c : Corner) × IsFileName tile c × (
-      TellsFault path Closed written new status
-      ⊎ OnFile (λ g old left. (given : Option (List ℕ)) × ImportsTile g c tile given old left written new status)))
+      ((disk ≡ None) × TellsFault path Closed written new status)
+      ⊎ OnFile (λ g old left. (given : Option (List ℕ)) × ImportsTile g c tile given old left written new status) disk))
 
-  abbrev pub RunsServe : (path : List ℕ) → (before after written new : Option (List ℕ)) → ℕ → Type 0
-  RunsServe path before after written new status =
-      ((after ≡ before) × TellsFault path Closed written new status) ⊎ OnFile (λ g old left. ServesLines g old left before after written new status)
+  abbrev pub RunsServe : (path : List ℕ) → (before after written new : Option (List ℕ)) → Option (FileDisk Brand) → ℕ → Type 0
+  RunsServe path before after written new disk status =
+      ((disk ≡ None) × (after ≡ before) × TellsFault path Closed written new status)
+      ⊎ OnFile (λ g old left. ServesLines g old left before after written new status) disk
 
-  abbrev pub RunsCheck : (path : List ℕ) → (written new : Option (List ℕ)) → ℕ → Type 0
-  RunsCheck path written new status = TellsFault path Closed written new status ⊎ OnFile (λ g old left. ChecksStore g old left written new status)
+  abbrev pub RunsCheck : (path : List ℕ) → (written new : Option (List ℕ)) → Option (FileDisk Brand) → ℕ → Type 0
+  RunsCheck path written new disk status =
+      ((disk ≡ None) × TellsFault path Closed written new status) ⊎ OnFile (λ g old left. ChecksStore g old left written new status) disk
 
-  -- the file is opened to see how many sectors are asked, made as long, and opened to be upgraded where it has as many
-  abbrev pub RunsUpgrade : (path : List ℕ) → (written new : Option (List ℕ)) → ℕ → Type 0
-  RunsUpgrade path written new status =
-      TellsFault path Closed written new status
-      ⊎ OnFile (λ g old left. TellsClosed g old left written new status)
-      ⊎ ((sectors : ℕ) × OnFile (λ g old left. HasMeasured g old left sectors)
-      × (TellsRefusal Device written new status ⊎ TellsFault path Closed written new status ⊎ OnFile (λ g old left. (sectors ≤ g.size old) × UpgradesStore g old left written new status)))
+  -- the file is made as long as so many sectors, and opened to be upgraded where it has as many
+  abbrev pub RunsGrown : (path : List ℕ) → (sectors : ℕ) → (written new : Option (List ℕ)) → Option (FileDisk Brand) → ℕ → Type 0
+  RunsGrown path sectors written new disk status =
+      ((disk ≡ None) × (TellsRefusal Device written new status ⊎ TellsFault path Closed written new status))
+      ⊎ OnFile (λ g old left. (sectors ≤ g.size old) × UpgradesStore g old left written new status) disk
+
+  -- the file is opened first to see how many sectors are asked
+  abbrev pub RunsUpgrade : (path : List ℕ) → (written new : Option (List ℕ)) → Option (FileDisk Brand) → ℕ → Type 0
+  RunsUpgrade path written new disk status =
+      ((disk ≡ None) × TellsFault path Closed written new status)
+      ⊎ OnFile (λ g old left. TellsClosed g old left written new status) disk
+      ⊎ ((sectors : ℕ) × (first : FileDisk Brand) × OnFile (λ g old left. HasMeasured g old left sectors) (Some first) × RunsGrown path sectors written new disk status)
 
   -- ---- by its words
 
-  abbrev pub RunsAs : Arguments → (before after written new : Option (List ℕ)) → ℕ → Type 0
-  RunsAs (Format path side capacity) before after written new status = (after ≡ before) × RunsFormat path.now side capacity written new status
-  RunsAs (Import path tile) before after written new status = (after ≡ before) × RunsImport path.now tile.now written new status
-  RunsAs (Serve path) before after written new status = RunsServe path.now before after written new status
-  RunsAs (Table side capacity) before after written new status = RunsTable side capacity before after written new status
-  RunsAs (Upgrade path) before after written new status = (after ≡ before) × RunsUpgrade path.now written new status
-  RunsAs (Check path) before after written new status = (after ≡ before) × RunsCheck path.now written new status
+  abbrev pub RunsAs : Arguments → (before after written new : Option (List ℕ)) → Option (FileDisk Brand) → ℕ → Type 0
+  RunsAs (Format path side capacity) before after written new disk status = (after ≡ before) × RunsFormat path.now side capacity written new disk status
+  RunsAs (Import path tile) before after written new disk status = (after ≡ before) × RunsImport path.now tile.now written new disk status
+  RunsAs (Serve path) before after written new disk status = RunsServe path.now before after written new disk status
+  RunsAs (Table side capacity) before after written new disk status = (disk ≡ None) × RunsTable side capacity before after written new status
+  RunsAs (Upgrade path) before after written new disk status = (after ≡ before) × RunsUpgrade path.now written new disk status
+  RunsAs (Check path) before after written new disk status = (after ≡ before) × RunsCheck path.now written new disk status
 
-  -- What the program with these words makes of what the reader and the writer had before and have after, and its exit
-  -- status: other words than it takes are told, and so is want of memory for them; else it does what they ask for.
+  -- What the program with these words makes of what the reader and the writer had before and have after, the disk that it
+  -- hands back, and its exit status: other words than it takes are told, and so is want of memory for them; else it does
+  -- what they ask for.
+  abbrev pub CarriesOut : (words : List (List ℕ)) → (before after written new : Option (List ℕ)) → Option (FileDisk Brand) → ℕ → Type 0
+  CarriesOut words before after written new disk status =
+      ((disk ≡ None) × AskNothing words × Begins written new bad_words × (status ≡ 2))
+      ⊎ ((disk ≡ None) × TellsRefusal NoMemory written new status)
+      ⊎ ((a : Arguments) × AskedBy words a × RunsAs a before after written new disk status)
+
+  -- the same, where the disk is closed
   abbrev pub Runs : (words : List (List ℕ)) → (before after written new : Option (List ℕ)) → ℕ → Type 0
-  Runs words before after written new status =
-      (AskNothing words × Begins written new bad_words × (status ≡ 2))
-      ⊎ TellsRefusal NoMemory written new status
-      ⊎ ((a : Arguments) × AskedBy words a × RunsAs a before after written new status)
+  Runs words before after written new status = (disk : Option (FileDisk Brand)) × CarriesOut words before after written new disk status

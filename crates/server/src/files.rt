@@ -3,15 +3,15 @@
 //! No contract sees what a file holds. So what is done to one is said for whatever images its reads may give: where each
 //! answer in the record of the file's calls is right for them, the file was an honest disk, and what holds of a store on
 //! such a disk holds of it.
-ghost use Rattle.std.specs.Prelude.{◌≡◌, ◌≤◌, ℕ, [], IfOk, IfErr};
+ghost use Rattle.std.specs.Prelude.{◌≡◌, ◌≤◌, ℕ, IfOk, IfErr};
 ghost use Rattle.disk.specs.Disk.{Image};
-ghost use Rattle.disk.specs.FileDisk.{calls_of, grown_sectors, sectors_of};
+ghost use Rattle.disk.specs.FileDisk.{grown_sectors, sectors_of};
 ghost use Rattle.disk.specs.FileWorlds.{giving};
 ghost use Rattle.lattice.specs.declared.refusal.Refusal.TheVariants.{Device};
 ghost use Rattle.page_codec.specs.Sizes.{sectors_asked};
 ghost use Rattle.store.specs.Formatted.{format_2};
 ghost use Rattle.server.specs.OnDisks.{ChecksStore, HasMeasured, ImportsTile, IsClosed, MakesStore, ServesLines, UpgradesStore, given_by};
-ghost use Rattle.server.specs.Paths.{IsTaken, MakesNone, TellsFault};
+ghost use Rattle.server.specs.Paths.{IsTaken, IsUntouched, MakesNone, TellsFault};
 ghost use Rattle.server.specs.declared.files.PathFault.TheVariants.{Closed};
 
 use crate::disks::{
@@ -43,7 +43,7 @@ pub fn new_disk(
     side: u32,
     capacity: u32,
 ) -> Result<FileDisk<Brand>, PathFault>
-    ensures made { IfOk result (λ disk. IsTaken side capacity × (calls_of disk ≡ []) × (sectors_of disk ≡ sectors_asked (format_2 side capacity))) }
+    ensures made { IfOk result (λ disk. IsTaken side capacity × IsUntouched disk × (sectors_of disk ≡ sectors_asked (format_2 side capacity))) }
     ensures none { IfErr result (MakesNone side capacity) }
 {
     let format = match Format::new(Version::Two, side, capacity) {
@@ -59,10 +59,13 @@ pub fn new_disk(
 
 /// Opens the file of a store.
 pub fn open_disk(rt: &HostRuntime, path: &str) -> Result<FileDisk<Brand>, PathFault>
-    ensures opened { IfOk result (λ disk. calls_of disk ≡ []) }
+    ensures opened { IfOk result IsUntouched }
     ensures none { IfErr result (λ fault. fault ≡ Closed) }
 {
-    FileDisk::<Brand>::open(rt, path).map_err(|_| PathFault::Closed)
+    match FileDisk::<Brand>::open(rt, path) {
+        Ok(disk) => Ok(disk),
+        Err(_) => Err(PathFault::Closed),
+    }
 }
 
 /// Makes the file of a store as long as so many sectors, where it is shorter.
@@ -75,10 +78,13 @@ pub fn grow_file(rt: &HostRuntime, path: &str, sectors: u32) -> Result<Grown, Re
 
 /// Opens the file of a store that was made longer.
 pub fn open_grown(grown: Grown) -> Result<FileDisk<Brand>, PathFault>
-    ensures opened { IfOk result (λ disk. (calls_of disk ≡ []) × (sectors_of disk ≡ grown_sectors grown)) }
+    ensures opened { IfOk result (λ disk. IsUntouched disk × (sectors_of disk ≡ grown_sectors grown)) }
     ensures none { IfErr result (λ fault. fault ≡ Closed) }
 {
-    FileDisk::<Brand>::open_grown(grown).map_err(|_| PathFault::Closed)
+    match FileDisk::<Brand>::open_grown(grown) {
+        Ok(disk) => Ok(disk),
+        Err(_) => Err(PathFault::Closed),
+    }
 }
 
 /// Tells why there is no disk at the path, and answers the exit status.

@@ -10,7 +10,7 @@ mod endings;
 mod files;
 mod reporting;
 
-pub use commands::{no_room, program};
+pub use commands::{Ended, carry_out, no_room, program};
 pub use disks::{check_store, import_tile, make_store, measure_store, serve_store, upgrade_store};
 pub use engine::Engine;
 pub use files::{
