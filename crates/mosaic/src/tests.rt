@@ -1,6 +1,9 @@
 //! The program's words, and what it does on files of stores.
+mod sessions;
+
 use disk::FileDisk;
 use server::program;
+use sessions::{tile, written};
 use std::alloc::{AllocError, Global};
 use std::fs;
 use std::marker::Brand;
@@ -9,16 +12,6 @@ use store::Store;
 
 /// 9 9 9 / 9 1 9 / 9 9 5, rows from the north.
 const TILE: &[u8] = b"\x00\x09\x00\x09\x00\x09\x00\x09\x00\x01\x00\x09\x00\x09\x00\x09\x00\x05";
-
-/// 9 9 9 / 9 9 7 / 9 9 9.
-const G: &[u8] = b"\x00\x09\x00\x09\x00\x09\x00\x09\x00\x09\x00\x07\x00\x09\x00\x09\x00\x09";
-
-/// 9 9 9 / 8 9 9 / 9 9 9.
-const H: &[u8] = b"\x00\x09\x00\x09\x00\x09\x00\x08\x00\x09\x00\x09\x00\x09\x00\x09\x00\x09";
-
-/// A step, the tile once more as the eastern neighbour, which makes both stale, and steps until no tile is.
-const STEPS: &[u8] =
-    b"step\nimport N00E001 18\n\x00\x09\x00\x09\x00\x09\x00\x09\x00\x01\x00\x09\x00\x09\x00\x09\x00\x05step\nstep\nstep\n";
 
 fn run(rt: &HostRuntime, words: &[&str], input: &[u8]) -> (u8, Vec<u8>) {
     match owned(rt.alloc(), words) {
@@ -57,22 +50,21 @@ fn cleared<'a>(rt: &HostRuntime, path: &'a str) -> &'a str {
 #[test]
 fn a_store_on_a_file(rt: HostRuntime) -> Result<(), Fail> {
     let m = cleared(&rt, "server_test_m");
+    let x = cleared(&rt, "server_test_none_made");
     let tile = "N00E000.hgt";
     fs::write(&rt, tile, TILE)?;
     assert!(rt; ends(&rt, &["format", m, "3", "2"], b"", 0, b"OK 0\n"));
     assert_eq!(rt; fs::metadata(&rt, m)?.len(), 139_264);
-    let exists = b"mosaic: exists server_test_m\n";
-    assert!(rt; ends(&rt, &["format", m, "3", "2"], b"", 1, exists));
-    assert!(rt; ends(&rt, &["import", m, "A.hgt"], b"", 1, b"ERR 2 BadName\n"));
     assert!(rt; ends(&rt, &["import", m, tile], b"", 0, b"OK 1\n"));
     assert!(rt; ends(&rt, &["import", m, tile], b"", 1, b"ERR 4 TileThere\n"));
-    assert!(rt; ends(&rt, &["serve", m], b"elev 0 2\ncount\n", 0, b"OK 5\nOK 1\n"));
     let report = b"count 1 commits 2\nN00E000 stale\nseams 0\n";
     assert!(rt; ends(&rt, &["check", m], b"", 0, report));
-    let replies = b"OK N00E000\nOK 2\nOK N00E000\nOK N00E001\nOK none\n";
-    assert!(rt; ends(&rt, &["serve", m], STEPS, 0, replies));
-    let report = b"count 2 commits 6\nN00E000 fresh\nN00E001 fresh\nseams 1\n";
-    assert!(rt; ends(&rt, &["check", m], b"", 0, report));
+    let exists = b"mosaic: exists server_test_m\n";
+    assert!(rt; ends(&rt, &["format", m, "3", "2"], b"", 1, exists));
+    assert!(rt; ends(&rt, &["format", x, "2", "1"], b"", 1, b"ERR 32 BadSide\n"));
+    assert!(rt; fs::metadata(&rt, x).is_err());
+    assert!(rt; ends(&rt, &["import", m, "A.hgt"], b"", 1, b"ERR 2 BadName\n"));
+    assert!(rt; ends(&rt, &["serve", m], b"elev 0 2\ncount\n", 0, b"OK 5\nOK 1\n"));
     fs::remove_file(&rt, m)?;
     fs::remove_file(&rt, tile)?;
     Ok(())
@@ -82,6 +74,15 @@ fn a_store_on_a_file(rt: HostRuntime) -> Result<(), Fail> {
 fn stores_that_are_not_made(rt: HostRuntime) {
     let x = cleared(&rt, "server_test_x");
     assert!(rt; ends(&rt, &["format", x, "2", "1"], b"", 1, b"ERR 32 BadSide\n"));
+    assert!(rt;
+        ends(
+            &rt,
+            &["format", x, "3602", "1"],
+            b"",
+            1,
+            b"ERR 32 BadSide\n"
+        )
+    );
     let refused = b"ERR 33 BadCapacity\n";
     assert!(rt; ends(&rt, &["format", x, "3", "241"], b"", 1, refused));
     assert!(rt; fs::metadata(&rt, x).is_err());
@@ -93,14 +94,19 @@ fn seams_of_a_file(rt: HostRuntime) -> Result<(), Fail> {
     let m = cleared(&rt, "server_test_seams");
     let west = "n00e000.srtm.HGT";
     let east = "N00E001.hgt";
-    fs::write(&rt, west, G)?;
-    fs::write(&rt, east, H)?;
+    fs::write(&rt, west, tile(b'G'))?;
+    fs::write(&rt, east, tile(b'H'))?;
     assert!(rt; ends(&rt, &["format", m, "3", "4"], b"", 0, b"OK 0\n"));
     assert!(rt; ends(&rt, &["check", m], b"", 0, b"count 0 commits 1\nseams 0\n"));
-    assert!(rt; ends(&rt, &["import", m, east], b"", 0, b"OK 1\n"));
-    assert!(rt; ends(&rt, &["import", m, west], b"", 0, b"OK 2\n"));
+    assert!(rt; ends(&rt, &["import", m, west], b"", 0, b"OK 1\n"));
+    assert!(rt; ends(&rt, &["import", m, east], b"", 0, b"OK 2\n"));
+    let lines = b"elev 1 2\nexport N00E000\nexport N00E001\n";
+    let replies = written(rt.alloc(), b"OK 7\nOK 18\n$GOK 18\n$H")?;
+    assert!(rt; ends(&rt, &["serve", m], lines, 0, &replies));
     let report = b"count 2 commits 3\nN00E000 stale\nN00E001 stale\nseams 1\n";
     assert!(rt; ends(&rt, &["check", m], b"", 0, report));
+    let lines = b"remove N00E000\nelev 1 2\n";
+    assert!(rt; ends(&rt, &["serve", m], lines, 0, b"OK 3\nOK 8\n"));
     fs::remove_file(&rt, m)?;
     fs::remove_file(&rt, west)?;
     fs::remove_file(&rt, east)?;
@@ -186,15 +192,18 @@ fn a_real_tile_comes_back(rt: HostRuntime) -> Result<(), Fail> {
 
 #[test]
 fn programs(rt: HostRuntime) {
-    let (status, output) = run(&rt, &["table", "3", "1"], b"count\n");
-    assert_eq!(rt; status, 0);
-    assert!(rt; output.as_slice() == b"OK 0\n".as_slice());
-    let (status, output) = run(&rt, &["table", "2", "0"], b"");
-    assert_eq!(rt; status, 1);
-    assert!(rt; output.as_slice() == b"ERR 32 BadSide\n".as_slice());
-    let (status, output) = run(&rt, &["table", "1201", "241"], b"");
-    assert_eq!(rt; status, 1);
-    assert!(rt; output.as_slice() == b"ERR 33 BadCapacity\n".as_slice());
+    assert!(rt; ends(&rt, &["table", "3", "1"], b"count\n", 0, b"OK 0\n"));
+    assert!(rt; ends(&rt, &["table", "2", "0"], b"", 1, b"ERR 32 BadSide\n"));
+    assert!(rt; ends(&rt, &["table", "3602", "1"], b"", 1, b"ERR 32 BadSide\n"));
+    assert!(rt;
+        ends(
+            &rt,
+            &["table", "1201", "241"],
+            b"",
+            1,
+            b"ERR 33 BadCapacity\n"
+        )
+    );
     for words in [
         ["table", "3"].as_slice(),
         &["help"],
