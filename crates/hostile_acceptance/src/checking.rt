@@ -3,7 +3,7 @@ use crate::asserting::assert_row;
 use crate::good_images::HERE;
 use crate::image::Image;
 use crate::opening::{Root, bytes_of_tile, expected_opening, listed};
-use disk::MemDisk;
+use disk::{Disk, MemDisk};
 use edits::Command;
 use lattice::{Point, Refusal};
 use std::alloc::Global;
@@ -45,8 +45,11 @@ pub(crate) fn check(
     Ok(None)
 }
 
-pub(crate) fn opened(alloc: Global, disk: MemDisk) -> Result<Store<MemDisk>, Fail> {
-    Ok(Store::open(alloc, disk).map_err(|_| "not opened")?)
+pub(crate) fn opened<D: Disk + Drop>(alloc: Global, disk: D) -> Result<Store<D>, Fail> {
+    match Store::open(alloc, disk) {
+        Ok(store) => Ok(store),
+        Err(not_opened) => Err(not_opened.refusal.into()),
+    }
 }
 
 // Whether the store has what the image says.
