@@ -84,10 +84,18 @@ fn copy_sector(random: &mut Random, image: &Image) -> Result<Image, Fail> {
     }])
 }
 
+// A disk that is too small for any store.
+fn cut_short(random: &mut Random, image: &Image) -> Result<Image, Fail> {
+    let mut sectors = image.sectors.clone()?;
+    sectors.truncate(8 + random.next_below(8) as usize);
+    Ok(Image { sectors })
+}
+
 fn change(random: &mut Random, image: &Image) -> Result<Image, Fail> {
-    match random.next_below(8) {
-        0 => copy_sector(random, image),
-        1 => change_byte(random, image),
+    match random.next_below(16) {
+        0 | 1 => copy_sector(random, image),
+        2 | 3 => change_byte(random, image),
+        4 => cut_short(random, image),
         _ => change_number(random, image),
     }
 }
