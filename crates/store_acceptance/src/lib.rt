@@ -25,10 +25,6 @@ mod sinks;
 #[cfg(test)]
 mod standing;
 #[cfg(test)]
-mod steps;
-#[cfg(test)]
 mod stops;
 #[cfg(test)]
 mod upgrades;
-#[cfg(test)]
-mod writes;

@@ -1,6 +1,6 @@
 //! Stops and faults at each call of each change, of each query and of an opening, on stores of tiles of side 3.
 use super::asserting::assert_row;
-use super::change::{CHANGES, Change, Row, UPGRADES, make, prepared_disk};
+use super::change::{CHANGES, Row, UPGRADES, make, prepared_disk};
 use super::fixtures::{A, B, EAST, HERE, at, opened, store_of};
 use super::standing::{Model, Standing};
 use cow_tree::NotOpened;
@@ -16,11 +16,11 @@ use store::Store;
 // records.
 const CALLS_TO_OPEN: u64 = 7;
 
-/// More calls of the disk than opening one of these stores and any change or query of it makes.
-pub(crate) const MANY_CALLS: u64 = 120;
+// More calls of the disk than opening one of these stores and any change or query of it makes.
+const MANY_CALLS: u64 = 120;
 
-/// What a stop leaves of the gates, where they are unsettled, and of all else that is.
-pub(crate) const STOPS: [(Torn, Torn); 6] = [
+// What a stop leaves of the gates, where they are unsettled, and of all else that is.
+const STOPS: [(Torn, Torn); 6] = [
     (Torn::Old, Torn::Old),
     (Torn::New, Torn::New),
     (Torn::Fill(0), Torn::Fill(0)),
@@ -72,14 +72,10 @@ fn finds_made(alloc: Global, disk: MemDisk, case: &Case) -> Result<(MemDisk, boo
     Ok((store.into_disk(), made))
 }
 
-/// Opens the disk's store and makes the change, with so many calls of the disk. Answers how it is refused, if it is.
-pub(crate) fn make_with(
-    alloc: Global,
-    disk: MemDisk,
-    calls: u64,
-    change: Change,
-) -> Result<(MemDisk, Option<Refusal>), Fail> {
-    match Store::open(alloc, FuseDisk::new(disk, calls)) {
+// Opens the store and makes the change, with so many calls of the disk. Answers how it is refused, if it is.
+fn make_with(alloc: Global, calls: u64, case: &Case) -> Result<(MemDisk, Option<Refusal>), Fail> {
+    let (_, _, change) = case.row;
+    match Store::open(alloc, FuseDisk::new(case.disk(alloc)?, calls)) {
         Ok(mut store) => {
             let refused = make(alloc, &mut store, change)?;
             Ok((store.into_disk().into_inner(), refused))
@@ -88,8 +84,7 @@ pub(crate) fn make_with(
     }
 }
 
-/// What the stop leaves of the disk.
-pub(crate) fn stopped(disk: MemDisk, stop: (Torn, Torn)) -> Result<MemDisk, Fail> {
+fn stopped(disk: MemDisk, stop: (Torn, Torn)) -> Result<MemDisk, Fail> {
     let mut disk = disk;
     for gate in [0, 2] {
         if gate < disk.sectors() {
@@ -114,10 +109,9 @@ fn stopped_in_openings(alloc: Global, disk: MemDisk, stop: (Torn, Torn)) -> Resu
 
 // Stops the change after so many calls, in each way. Answers whether it was through by then.
 fn stop_after(alloc: Global, calls: u64, case: &Case) -> Result<bool, Fail> {
-    let (_, _, change) = case.row;
     let mut through = false;
     for stop in STOPS {
-        let (disk, refused) = make_with(alloc, case.disk(alloc)?, calls, change)?;
+        let (disk, refused) = make_with(alloc, calls, case)?;
         through = refused.is_none();
         if !through && refused != Some(Refusal::Device) {
             return Err("refused otherwise".into());
