@@ -7,6 +7,8 @@ mod answers;
 #[cfg(test)]
 mod commands;
 #[cfg(test)]
+mod counting;
+#[cfg(test)]
 mod line_tests;
 #[cfg(test)]
 mod region;

@@ -1,4 +1,5 @@
 //! Lines and payloads as they are read, the event that a line asks for, and the text of an answer.
+use crate::counting::Counting;
 use calls::Event;
 use edits::Command;
 use lattice::{Corner, Point, Refusal};
@@ -302,6 +303,31 @@ fn texts_of_lists(rt: HostRuntime) -> Result<(), Fail> {
     ];
     let wanted = b"OK 2\n0 -3\n-2147483648 12\nOK 0\nOK 4 2\n2 0 2\n-1 -4 -4\n";
     assert!(rt; are_written(&mut Vec::new(alloc), &texts, wanted));
+    Ok(())
+}
+
+#[test]
+fn long_replies_leave_by_one_write(rt: HostRuntime) -> Result<(), Fail> {
+    let alloc = rt.alloc();
+    let mut points = Vec::new(alloc);
+    points.resize(
+        100_000,
+        Point {
+            y: -100_000,
+            x: 1_000_000,
+        },
+    )?;
+    let mut runs = Vec::new(alloc);
+    runs.resize(100_000, run(-100_000, 1_000_000, 1_000_000))?;
+    let replies = [
+        (Text::path(alloc, &points)?, 10 + 100_000 * 16),
+        (Text::runs(alloc, &runs)?, 17 + 100_000 * 24),
+    ];
+    for (text, bytes) in &replies {
+        let mut writer = Counting::new();
+        let written = text.write(&mut writer);
+        assert!(rt; written.is_ok() && writer.bytes == *bytes && writer.writes == 1);
+    }
     Ok(())
 }
 

@@ -1,18 +1,20 @@
 //! Opens images, and compares what is found with the plain reading of them.
 use crate::asserting::assert_row;
-use crate::good_images::HERE;
+use crate::good_images::{A, EAST, HERE, import, wall};
 use crate::image::Image;
 use crate::opening::{Root, bytes_of_tile, expected_opening, listed};
-use disk::MemDisk;
+use arrayvec::ArrayVec;
+use disk::{Disk, MemDisk};
 use edits::Command;
-use lattice::{Point, Refusal};
+use lattice::{Corner, Point, Refusal};
 use std::alloc::Global;
 use std::process::Abort;
 use std::test::Fail;
 use store::{Event, Reply, Store};
 
 /// Opens the image: it is refused by its right number, or what is opened has the right contents, answers twice the same,
-/// writes nothing until a command, and does that command. Answers the refusal. The number is for messages.
+/// writes nothing until it is to change, and answers whatever is to change it: a removal, and all else. Answers the refusal.
+/// The number is for messages.
 pub(crate) fn check(
     rt: &impl Abort,
     alloc: Global,
@@ -42,11 +44,16 @@ pub(crate) fn check(
     assert_row(rt, disk.writes() == writes, "written image", number);
     let removes = removes_a_tile(alloc, opened(alloc, disk)?, &root)?;
     assert_row(rt, removes, "a removal from image", number);
+    let changes = has_changes(alloc, image, &root)?;
+    assert_row(rt, changes, "changes of image", number);
     Ok(None)
 }
 
-pub(crate) fn opened(alloc: Global, disk: MemDisk) -> Result<Store<MemDisk>, Fail> {
-    Ok(Store::open(alloc, disk).map_err(|_| "not opened")?)
+pub(crate) fn opened<D: Disk + Drop>(alloc: Global, disk: D) -> Result<Store<D>, Fail> {
+    match Store::open(alloc, disk) {
+        Ok(store) => Ok(store),
+        Err(not_opened) => Err(not_opened.refusal.into()),
+    }
 }
 
 // Whether the store has what the image says.
@@ -116,31 +123,38 @@ fn is_answer(reply: &Reply, keeps_planes: bool) -> bool {
         Reply::Refused(refusal) => {
             *refusal == Refusal::Outside
                 || *refusal == Refusal::Void
+                || *refusal == Refusal::NoTile
                 || (keeps_planes && *refusal == Refusal::Damaged)
         }
         _ => true,
     }
 }
 
-// Questions about the middle of the first tiles, and about a point of none.
+// Questions about the first tiles and a point in each, and about a tile and a point of none.
 fn queries(alloc: Global, root: &Root) -> Result<Vec<Event>, Fail> {
-    let edge = i32::try_from(root.side).unwrap_or(1).wrapping_sub(1);
-    let mut events = Vec::new(alloc);
+    let mut events = vec![in alloc; Event::Tiles, Event::Sinks, Event::Count]?;
     for entry in root.entries.iter().take(2) {
-        let south = i32::from(entry.corner.lat).wrapping_mul(edge);
-        let west = i32::from(entry.corner.lon).wrapping_mul(edge);
-        let middle = Point {
-            y: south.wrapping_add(1),
-            x: west.wrapping_add(1),
-        };
-        ask_all(&mut events, middle)?;
+        ask_all(&mut events, entry.corner, inside(root, entry.corner))?;
     }
-    ask_all(&mut events, Point { y: -99, x: 99 })?;
+    let nowhere = Corner { lat: -50, lon: 50 };
+    ask_all(&mut events, nowhere, Point { y: -99, x: 99 })?;
     Ok(events)
 }
 
-fn ask_all(events: &mut Vec<Event>, point: Point) -> Result<(), Fail> {
+// A point inside the tile.
+fn inside(root: &Root, corner: Corner) -> Point {
+    let edge = i32::try_from(root.side).unwrap_or(1).wrapping_sub(1);
+    let south = i32::from(corner.lat).wrapping_mul(edge);
+    let west = i32::from(corner.lon).wrapping_mul(edge);
+    Point {
+        y: south.wrapping_add(1),
+        x: west.wrapping_add(1),
+    }
+}
+
+fn ask_all(events: &mut Vec<Event>, corner: Corner, point: Point) -> Result<(), Fail> {
     for event in [
+        Event::Export(corner),
         Event::Elevation(point),
         Event::Fill(point),
         Event::Direction(point),
@@ -174,5 +188,63 @@ fn removes_a_tile(alloc: Global, store: Store<MemDisk>, root: &Root) -> Result<b
             && found.commits == root.commits.wrapping_add(removed)
             && tiles == root.entries.len() as u64
             && found.sinks.as_slice() == root.sinks.as_slice(),
+    )
+}
+
+// A step, each command and a step once more.
+fn changes(alloc: Global, corner: Corner, point: Point) -> Result<[Event; 9], Fail> {
+    let mut points = ArrayVec::new();
+    let _ = points.try_push(point);
+    let importing = import(alloc, EAST, &A)?;
+    let (from, to) = (point, point);
+    Ok([
+        Event::Step,
+        Event::Do(importing),
+        Event::Do(Command::Sink { point }),
+        Event::Do(Command::Patch {
+            from,
+            to,
+            height: 4,
+        }),
+        Event::Do(wall(12, point)),
+        Event::Do(Command::Burn { depth: 1, points }),
+        Event::Do(Command::Unsink { point }),
+        Event::Step,
+        Event::Do(Command::Remove { corner }),
+    ])
+}
+
+// Whether each of these is made or refused, and an upgrade where there is room for one, and the image has what was made.
+fn has_changes(alloc: Global, image: &Image, root: &Root) -> Result<bool, Fail> {
+    let corner = root.entries.first().map_or(HERE, |entry| entry.corner);
+    let events = changes(alloc, corner, inside(root, corner))?;
+    let mut store = opened(alloc, image.longer(48)?.disk(alloc)?)?;
+    let mut replies = Vec::new(alloc);
+    store.run(&events, &mut replies)?;
+    let upgraded = u64::from(store.upgrade().is_ok());
+    let left = Image::of(alloc, &mut store.into_disk())?;
+    let found = expected_opening(alloc, &left.sectors)?;
+    let commands = replies.iter().filter(|reply| is_done(reply)).count() as u64;
+    let steps = replies.iter().filter(|reply| is_step(reply)).count() as u64;
+    let commits = commands.wrapping_add(steps).wrapping_add(upgraded);
+    Ok(
+        replies.iter().all(|reply| !is_fault(reply))
+            && found.count == root.count.wrapping_add(commands)
+            && found.commits == root.commits.wrapping_add(commits),
+    )
+}
+
+fn is_done(reply: &Reply) -> bool {
+    matches!(reply, Reply::Done(_))
+}
+
+fn is_step(reply: &Reply) -> bool {
+    matches!(reply, Reply::Stepped(Some(_)))
+}
+
+fn is_fault(reply: &Reply) -> bool {
+    matches!(
+        reply,
+        Reply::Refused(Refusal::Device | Refusal::Failed | Refusal::NoMemory)
     )
 }

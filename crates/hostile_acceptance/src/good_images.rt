@@ -5,6 +5,7 @@ use arrayvec::ArrayVec;
 use disk::MemDisk;
 use edits::{Bytes, Command};
 use lattice::{Corner, Point};
+use memory_store::store_in_memory;
 use std::alloc::Global;
 use std::test::Fail;
 use store::Store;
@@ -40,9 +41,34 @@ pub(crate) fn image_after(
     let sectors = capacity.saturating_mul(8).saturating_add(8);
     let mut disk = MemDisk::new(alloc, sectors)?;
     Store::format_1(&mut disk, 3, capacity).map_err(|_| "not formatted")?;
-    let mut store = Store::open(alloc, disk).map_err(|_| "not opened")?;
+    let store = Store::open(alloc, disk).map_err(|_| "not opened")?;
+    left_by(alloc, store, commands, 0)
+}
+
+/// The image of a store of the second version of so many tiles at most, after these commands and so many steps.
+pub(crate) fn image_of_version_2(
+    alloc: Global,
+    capacity: u32,
+    commands: &[Command],
+    steps: u32,
+) -> Result<Image, Fail> {
+    let sectors = capacity.saturating_mul(12).saturating_add(10);
+    let store = store_in_memory(alloc, sectors, 3, capacity).map_err(|_| "not made")?;
+    left_by(alloc, store, commands, steps)
+}
+
+fn left_by(
+    alloc: Global,
+    store: Store<MemDisk>,
+    commands: &[Command],
+    steps: u32,
+) -> Result<Image, Fail> {
+    let mut store = store;
     for command in commands {
         store.apply(command).map_err(|_| "a command is refused")?;
+    }
+    for _ in 0..steps {
+        store.step().map_err(|_| "a step is refused")?;
     }
     Image::of(alloc, &mut store.into_disk())
 }
@@ -69,17 +95,32 @@ pub(crate) fn two_tiles(alloc: Global) -> Result<Image, Fail> {
     image_after(alloc, 2, &commands)
 }
 
-/// Three tiles around a corner, one of them with a void, after a wall and a removal.
-pub(crate) fn edited(alloc: Global) -> Result<Image, Fail> {
-    let commands = [
+// Three tiles around a corner are left, one of them with a void, after a wall and a removal.
+fn edits(alloc: Global) -> Result<[Command; 6], Fail> {
+    Ok([
         import(alloc, HERE, &A)?,
         import(alloc, EAST, &B)?,
         import(alloc, SOUTH, &V)?,
         import(alloc, SOUTH_WEST, &B)?,
         wall(12, Point { y: 0, x: 1 }),
         Command::Remove { corner: EAST },
-    ];
-    image_after(alloc, 4, &commands)
+    ])
+}
+
+/// Three tiles around a corner, by the first version.
+pub(crate) fn edited(alloc: Global) -> Result<Image, Fail> {
+    image_after(alloc, 4, &edits(alloc)?)
+}
+
+/// The same by the second version, with the planes of the first tile kept.
+pub(crate) fn edited_by_version_2(alloc: Global) -> Result<Image, Fail> {
+    image_of_version_2(alloc, 4, &edits(alloc)?, 1)
+}
+
+/// A at N00E000 with its planes kept, in a store of one tile by the second version: 22 sectors, and root A is current, at
+/// commit 3.
+pub(crate) fn one_tile_by_version_2(alloc: Global) -> Result<Image, Fail> {
+    image_of_version_2(alloc, 1, &[import(alloc, HERE, &A)?], 1)
 }
 
 /// As `one_tile`, with the middle of A and a point outside declared sinks.
@@ -129,15 +170,28 @@ pub(crate) fn with_kept_planes(alloc: Global) -> Result<Image, Fail> {
     ])
 }
 
+/// The pages of the records of a tile: of heights, levels and labels.
+pub(crate) fn records_of_tile(
+    alloc: Global,
+    image: &Image,
+    number: usize,
+) -> Result<[u32; 3], Fail> {
+    let root = expected_opening(alloc, &image.sectors)?;
+    Ok(root.entries.get(number).ok_or("no tile")?.records)
+}
+
+/// The first page that this one lists.
+pub(crate) fn first_listed(image: &Image, page: u32) -> Result<u32, Fail> {
+    let bytes = image.sectors.get(page as usize).ok_or("no page")?;
+    Ok(u32_at(bytes, 0))
+}
+
 /// The page of the record of heights of a tile, and the first page that it lists.
 pub(crate) fn pages_of_tile(
     alloc: Global,
     image: &Image,
     number: usize,
 ) -> Result<(u32, u32), Fail> {
-    let root = expected_opening(alloc, &image.sectors)?;
-    let entry = root.entries.get(number).ok_or("no tile")?;
-    let [record, ..] = entry.records;
-    let bytes = image.sectors.get(record as usize).ok_or("no record")?;
-    Ok((record, u32_at(bytes, 0)))
+    let [record, ..] = records_of_tile(alloc, image, number)?;
+    Ok((record, first_listed(image, record)?))
 }

@@ -45,6 +45,15 @@ impl Image {
         Ok(disk)
     }
 
+    /// The same image with so many sectors of zeros behind it.
+    pub(crate) fn longer(&self, sectors: u32) -> Result<Image, Fail> {
+        let mut longer = self.sectors.clone()?;
+        for _ in 0..sectors {
+            longer.push([0; 4096])?;
+        }
+        Ok(Image { sectors: longer })
+    }
+
     /// The same image with changes, as far as it has their places.
     pub(crate) fn with(&self, changes: &[Change]) -> Result<Image, Fail> {
         let mut sectors = self.sectors.clone()?;

@@ -18,28 +18,34 @@ use watershed::Run;
 
 const GATE_A: u32 = 0;
 
-const ROOT_A: u32 = 1;
+pub(crate) const ROOT_A: u32 = 1;
 
 const GATE_B: u32 = 2;
 
-const ROOT_B: u32 = 3;
+pub(crate) const ROOT_B: u32 = 3;
 
 const MIDDLE: Point = Point { y: 1, x: 1 };
 
 /// A place, the bytes that are put there, and how the image is refused then, if it is.
-type Row<'a> = (u32, usize, &'a [u8], Option<Refusal>);
+pub(crate) type Row<'a> = (u32, usize, &'a [u8], Option<Refusal>);
 
-const OPENS: Option<Refusal> = None;
+pub(crate) const OPENS: Option<Refusal> = None;
 
 const NO_STORE: Option<Refusal> = Some(Refusal::NotAStore);
 
 const VERSION: Option<Refusal> = Some(Refusal::Version);
 
-const DAMAGED: Option<Refusal> = Some(Refusal::Damaged);
+pub(crate) const DAMAGED: Option<Refusal> = Some(Refusal::Damaged);
 
-const SMALL: Option<Refusal> = Some(Refusal::TooSmall);
+pub(crate) const SMALL: Option<Refusal> = Some(Refusal::TooSmall);
 
-fn check_rows(rt: &impl Abort, alloc: Global, image: &Image, rows: &[Row]) -> Result<(), Fail> {
+/// Makes each change of the image, and checks what is opened then.
+pub(crate) fn check_rows(
+    rt: &impl Abort,
+    alloc: Global,
+    image: &Image,
+    rows: &[Row],
+) -> Result<(), Fail> {
     for ((sector, at, bytes, refusal), number) in rows.iter().zip(0..) {
         let changed = image.with(&[Change {
             sector: *sector,
@@ -237,28 +243,62 @@ fn disks_of_few_sectors(rt: HostRuntime) -> Result<(), Fail> {
     Ok(())
 }
 
+// The greatest commit number.
+const WORN: [Change<'static>; 1] = [Change {
+    sector: ROOT_B,
+    at: 24,
+    bytes: &[0xff; 8],
+}];
+
+// Room is there for an upgrade too.
 #[test]
 fn a_commit_number_that_cannot_rise(rt: HostRuntime) -> Result<(), Fail> {
-    let worn = one_tile(rt.alloc())?.with(&[Change {
-        sector: ROOT_B,
-        at: 24,
-        bytes: &[0xff; 8],
-    }])?;
+    let alloc = rt.alloc();
     let events = [
         Event::Do(Command::Remove { corner: EAST }),
         Event::Do(Command::Remove { corner: HERE }),
         Event::Do(wall(12, MIDDLE)),
+        Event::Do(Command::Sink { point: MIDDLE }),
+        Event::Do(Command::Unsink { point: MIDDLE }),
+        Event::Step,
         Event::Count,
+        Event::Sinks,
         Event::Elevation(MIDDLE),
+        Event::Fill(MIDDLE),
     ];
     let expected = [
         Reply::Refused(Refusal::NoTile),
         Reply::Refused(Refusal::Worn),
         Reply::Refused(Refusal::Worn),
+        Reply::Refused(Refusal::Worn),
+        Reply::Refused(Refusal::NoSink),
+        Reply::Refused(Refusal::Worn),
         Reply::Count(1),
+        Reply::Sinks(Vec::new(alloc)),
         Reply::Elevation(Height::At(1)),
+        Reply::Fill(5),
     ];
-    assert!(rt; replies(rt.alloc(), &worn, &events)?.as_slice() == expected.as_slice());
+    let disk = one_tile(alloc)?.longer(6)?.with(&WORN)?.disk(alloc)?;
+    let writes = disk.writes();
+    let mut store = opened(alloc, disk)?;
+    assert!(rt; store.upgrade() == Err(Refusal::Worn));
+    let mut found = Vec::new(alloc);
+    store.run(&events, &mut found)?;
+    assert!(rt; found.as_slice() == expected.as_slice());
+    assert!(rt; store.version() == 1 && store.commits() == u64::MAX && store.stale(HERE));
+    assert!(rt; store.into_disk().writes() == writes);
+    Ok(())
+}
+
+// Where there is nothing to step, none is answered.
+#[test]
+fn no_step_where_the_commit_number_cannot_rise(rt: HostRuntime) -> Result<(), Fail> {
+    let alloc = rt.alloc();
+    let disk = with_kept_planes(alloc)?.with(&WORN)?.disk(alloc)?;
+    let writes = disk.writes();
+    let mut store = opened(alloc, disk)?;
+    assert!(rt; store.step() == Ok(None) && store.commits() == u64::MAX && !store.stale(HERE));
+    assert!(rt; store.into_disk().writes() == writes);
     Ok(())
 }
 
@@ -314,6 +354,36 @@ fn kept_planes_change_no_answer(rt: HostRuntime) -> Result<(), Fail> {
     Ok(())
 }
 
+// The middle is kept lower than all around it, as ground that water leaves, and by its height it isn't such.
+#[test]
+fn a_flat_without_a_way_is_found(rt: HostRuntime) -> Result<(), Fail> {
+    let alloc = rt.alloc();
+    let image = with_kept_planes(alloc)?.with(&[
+        Change {
+            sector: 13,
+            at: 8,
+            bytes: &[0, 0],
+        },
+        Change {
+            sector: 15,
+            at: 8,
+            bytes: &[0xff, 0xff],
+        },
+    ])?;
+    let events = [
+        Event::Elevation(MIDDLE),
+        Event::Direction(MIDDLE),
+        Event::Elevation(MIDDLE),
+    ];
+    let expected = [
+        Reply::Elevation(Height::At(1)),
+        Reply::Refused(Refusal::Damaged),
+        Reply::Elevation(Height::At(1)),
+    ];
+    assert!(rt; replies(alloc, &image, &events)?.as_slice() == expected.as_slice());
+    Ok(())
+}
+
 // An index, a level and a label that are kept there, and the level of the middle that a store answers then, or none where it
 // finds them damaged. The middle has the index 4, and the rim point that its label names the index 8.
 type Mark = (usize, [u8; 2], [u8; 2], Option<i16>);
@@ -322,24 +392,27 @@ const NO_LEVEL: [u8; 2] = [0, 0x80];
 
 const NO_LABEL: [u8; 2] = [0xfe, 0xff];
 
-const MARKS: [Mark; 6] = [
+const MARKS: [Mark; 9] = [
     // No rim number; a void's label at a level; a void's level with a label; both, where there is ground.
     (4, [5, 0], [8, 0], None),
     (4, [5, 0], NO_LABEL, None),
     (4, NO_LEVEL, [7, 0], None),
     (4, NO_LEVEL, NO_LABEL, None),
-    // A rim point that is void by what is kept.
+    // A rim point that is void by what is kept: one that another's label names, and one that only its own does.
     (8, NO_LEVEL, NO_LABEL, None),
-    // A level that fits is taken as it stands, so what is kept is read.
+    (0, NO_LEVEL, NO_LABEL, None),
+    // Rim points of another level than their height.
+    (8, [6, 0], [7, 0], None),
+    (0, [8, 0], [0, 0], None),
+    // A level inside that fits is taken as it stands, so what is kept is read.
     (4, [7, 0], [7, 0], Some(7)),
 ];
 
-// Whether a store with these marks among its kept planes answers so. Whatever it is, the store goes on: its heights are
-// read, and once a wall has made the tile stale it is flooded.
-fn is_found(alloc: Global, mark: Mark) -> Result<bool, Fail> {
-    let (index, level, label, answer) = mark;
+// The image with these marks among its kept planes.
+fn marked(alloc: Global, mark: Mark) -> Result<Image, Fail> {
+    let (index, level, label, _) = mark;
     let at = index.wrapping_mul(2);
-    let image = with_kept_planes(alloc)?.with(&[
+    with_kept_planes(alloc)?.with(&[
         Change {
             sector: 13,
             at,
@@ -350,7 +423,12 @@ fn is_found(alloc: Global, mark: Mark) -> Result<bool, Fail> {
             at,
             bytes: &label,
         },
-    ])?;
+    ])
+}
+
+// Whether a store of the image answers the filled level of the middle so. Whatever it is, the store goes on: its heights are
+// read, and once a wall has made the tile stale it is flooded.
+fn fills(alloc: Global, image: &Image, answer: Option<i16>) -> Result<bool, Fail> {
     let events = [
         Event::Elevation(MIDDLE),
         Event::Fill(MIDDLE),
@@ -365,14 +443,147 @@ fn is_found(alloc: Global, mark: Mark) -> Result<bool, Fail> {
         Reply::Done(2),
         Reply::Fill(12),
     ];
-    Ok(replies(alloc, &image, &events)?.as_slice() == expected.as_slice())
+    Ok(replies(alloc, image, &events)?.as_slice() == expected.as_slice())
 }
 
 #[test]
 fn wrong_marks_are_found(rt: HostRuntime) -> Result<(), Fail> {
+    let alloc = rt.alloc();
     for (mark, row) in MARKS.iter().zip(0..) {
-        assert_row(&rt, is_found(rt.alloc(), *mark)?, "a mark by row", row);
+        let (.., answer) = *mark;
+        let found = fills(alloc, &marked(alloc, *mark)?, answer)?;
+        assert_row(&rt, found, "a mark by row", row);
     }
+    Ok(())
+}
+
+// Whether a store of the image finds it damaged by each question that follows water from the point, or to it, and still reads
+// its heights.
+fn is_found_from(alloc: Global, image: &Image, point: Point) -> Result<bool, Fail> {
+    let events = [
+        Event::Direction(point),
+        Event::Elevation(MIDDLE),
+        Event::Trace(point),
+        Event::Watershed(point),
+        Event::Elevation(MIDDLE),
+    ];
+    let expected = [
+        Reply::Refused(Refusal::Damaged),
+        Reply::Elevation(Height::At(1)),
+        Reply::Refused(Refusal::Damaged),
+        Reply::Refused(Refusal::Damaged),
+        Reply::Elevation(Height::At(1)),
+    ];
+    Ok(replies(alloc, image, &events)?.as_slice() == expected.as_slice())
+}
+
+// The middle, and two points beside it, with the indices 0 and 8.
+const AROUND: [Point; 3] = [MIDDLE, Point { y: 2, x: 0 }, Point { y: 0, x: 2 }];
+
+fn is_found_around(alloc: Global, image: &Image) -> Result<bool, Fail> {
+    for point in AROUND {
+        if !is_found_from(alloc, image, point)? {
+            return Ok(false);
+        }
+    }
+    Ok(true)
+}
+
+#[test]
+fn wrong_marks_are_found_from_beside(rt: HostRuntime) -> Result<(), Fail> {
+    let alloc = rt.alloc();
+    for (mark, row) in MARKS.iter().zip(0..) {
+        let (.., answer) = *mark;
+        let image = marked(alloc, *mark)?;
+        let found = is_found_around(alloc, &image)? != answer.is_some();
+        assert_row(&rt, found, "a mark by row", row);
+    }
+    Ok(())
+}
+
+// A rim point has no height, or another one than by what is kept.
+#[test]
+fn heights_of_the_rim_are_seen(rt: HostRuntime) -> Result<(), Fail> {
+    let alloc = rt.alloc();
+    let image = with_kept_planes(alloc)?;
+    let (_, page) = pages_of_tile(alloc, &image, 0)?;
+    let rows: [(usize, [u8; 2]); 3] = [(0, [0x80, 0]), (0, [0, 8]), (16, [0, 6])];
+    for ((at, bytes), row) in rows.iter().zip(0..) {
+        let changed = image.with(&[Change {
+            sector: page,
+            at: *at,
+            bytes,
+        }])?;
+        assert_row(&rt, fills(alloc, &changed, None)?, "a height by row", row);
+    }
+    Ok(())
+}
+
+// 9 9 9 9 / 9 1 1 9 / 9 1 1 9 / 9 9 9 5, and what is kept of it: 9 9 9 9 / 9 void 5 9 / 9 5 5 9 / 9 9 9 5 and
+// 0 1 2 3 / 4 void 11 5 / 6 11 11 7 / 8 9 10 11.
+const BOWL: [u8; 32] = [
+    0, 9, 0, 9, 0, 9, 0, 9, 0, 9, 0, 1, 0, 1, 0, 9, 0, 9, 0, 1, 0, 1, 0, 9, 0, 9, 0, 9, 0, 9, 0, 5,
+];
+
+const BOWL_LEVELS: [u8; 32] = [
+    9, 0, 9, 0, 9, 0, 9, 0, 9, 0, 0, 0x80, 5, 0, 9, 0, 9, 0, 5, 0, 5, 0, 9, 0, 9, 0, 9, 0, 9, 0, 5,
+    0,
+];
+
+const BOWL_LABELS: [u8; 32] = [
+    0, 0, 1, 0, 2, 0, 3, 0, 4, 0, 0xfe, 0xff, 11, 0, 5, 0, 6, 0, 11, 0, 11, 0, 7, 0, 8, 0, 9, 0,
+    10, 0, 11, 0,
+];
+
+fn change<'a>(sector: u32, at: usize, bytes: &'a [u8]) -> Change<'a> {
+    Change { sector, at, bytes }
+}
+
+// A store of that tile, as by a step, but for the marks of a void.
+fn void_in_a_bowl(alloc: Global) -> Result<Image, Fail> {
+    let mut disk = MemDisk::new(alloc, 16)?;
+    Store::format_1(&mut disk, 4, 1).map_err(|_| "not formatted")?;
+    let mut store = opened(alloc, disk)?;
+    store
+        .apply(&import(alloc, HERE, &BOWL)?)
+        .map_err(|_| "a command is refused")?;
+    let changes = [
+        change(ROOT_B, 72, &[12, 0, 0, 0, 14]),
+        change(12, 0, &[13]),
+        change(13, 0, &BOWL_LEVELS),
+        change(14, 0, &[15]),
+        change(15, 0, &BOWL_LABELS),
+    ];
+    Image::of(alloc, &mut store.into_disk())?.with(&changes)
+}
+
+// A question that comes to the marked point finds it, also where the levels around are held; others are answered.
+#[test]
+fn a_mark_of_a_void_is_found_among_inner_points(rt: HostRuntime) -> Result<(), Fail> {
+    let alloc = rt.alloc();
+    let (inner, east, corner) = (
+        Point { y: 1, x: 2 },
+        Point { y: 2, x: 3 },
+        Point { y: 0, x: 3 },
+    );
+    let events = [
+        Event::Fill(inner),
+        Event::Fill(east),
+        Event::Direction(corner),
+        Event::Direction(inner),
+        Event::Direction(inner),
+        Event::Elevation(inner),
+    ];
+    let expected = [
+        Reply::Fill(5),
+        Reply::Fill(9),
+        Reply::Direction(0),
+        Reply::Refused(Refusal::Damaged),
+        Reply::Refused(Refusal::Damaged),
+        Reply::Elevation(Height::At(1)),
+    ];
+    let image = void_in_a_bowl(alloc)?;
+    assert!(rt; replies(alloc, &image, &events)?.as_slice() == expected.as_slice());
     Ok(())
 }
 

@@ -19,6 +19,12 @@ mod mutations;
 #[cfg(test)]
 mod opening;
 #[cfg(test)]
+mod query_faults;
+#[cfg(test)]
 mod refused_growths;
 #[cfg(test)]
 mod stopped_sessions;
+#[cfg(test)]
+mod stores;
+#[cfg(test)]
+mod version_2_rows;

@@ -1,6 +1,9 @@
 //! Good images with changes that look random: whatever they are, an image is refused by its right number, or opens.
 use crate::checking::check;
-use crate::good_images::{edited, one_tile, two_tiles, with_kept_planes, with_sinks};
+use crate::good_images::{
+    edited, edited_by_version_2, one_tile, one_tile_by_version_2, two_tiles, with_kept_planes,
+    with_sinks,
+};
 use crate::image::{Change, Image};
 use lattice::Refusal;
 use seeded_random::Random;
@@ -9,7 +12,7 @@ use std::process::Abort;
 use std::test::Fail;
 
 /// How many changed images are tried of each good one.
-const IMAGES: u64 = 500;
+const IMAGES: u64 = 450;
 
 /// Where the fields of roots and records begin, and where some of them end.
 const PLACES: [usize; 30] = [
@@ -18,7 +21,7 @@ const PLACES: [usize; 30] = [
 ];
 
 /// Numbers at the ends of what is allowed.
-const NUMBERS: [u32; 24] = [
+const NUMBERS: [u32; 27] = [
     0,
     1,
     2,
@@ -33,11 +36,14 @@ const NUMBERS: [u32; 24] = [
     15,
     16,
     17,
+    22,
     0xa7,
     240,
     241,
     1201,
     1202,
+    3601,
+    3602,
     65_446,
     0x7fff_ffff,
     0x8000_0000,
@@ -78,10 +84,18 @@ fn copy_sector(random: &mut Random, image: &Image) -> Result<Image, Fail> {
     }])
 }
 
+// A disk that is too small for any store.
+fn cut_short(random: &mut Random, image: &Image) -> Result<Image, Fail> {
+    let mut sectors = image.sectors.clone()?;
+    sectors.truncate(8 + random.next_below(8) as usize);
+    Ok(Image { sectors })
+}
+
 fn change(random: &mut Random, image: &Image) -> Result<Image, Fail> {
-    match random.next_below(8) {
-        0 => copy_sector(random, image),
-        1 => change_byte(random, image),
+    match random.next_below(16) {
+        0 | 1 => copy_sector(random, image),
+        2 | 3 => change_byte(random, image),
+        4 => cut_short(random, image),
         _ => change_number(random, image),
     }
 }
@@ -141,4 +155,14 @@ fn of_sinks(rt: HostRuntime) -> Result<(), Fail> {
 #[test]
 fn of_kept_planes(rt: HostRuntime) -> Result<(), Fail> {
     try_many(&rt, rt.alloc(), &with_kept_planes(rt.alloc())?, 5)
+}
+
+#[test]
+fn of_one_tile_by_the_second_version(rt: HostRuntime) -> Result<(), Fail> {
+    try_many(&rt, rt.alloc(), &one_tile_by_version_2(rt.alloc())?, 6)
+}
+
+#[test]
+fn of_edited_tiles_by_the_second_version(rt: HostRuntime) -> Result<(), Fail> {
+    try_many(&rt, rt.alloc(), &edited_by_version_2(rt.alloc())?, 7)
 }

@@ -1,11 +1,10 @@
-//! Calls of a store, each made until it is answered. With ample memory none is refused. `examples/scarce_calls` runs the
-//! last test again and again, with each request for memory refused in turn.
+//! Calls of a store of either version, each made until it is answered. With ample memory none is refused.
+//! `examples/scarce_calls` runs the last two tests again and again, with each request for memory refused in turn.
 use crate::good_images::{A, EAST, HERE, import, wall};
 use arrayvec::ArrayVec;
 use disk::MemDisk;
 use edits::Command;
 use lattice::{Height, Point, Refusal};
-use memory_store::store_in_memory;
 use std::alloc::Global;
 use std::test::Fail;
 use store::{Event, Reply, Store};
@@ -52,8 +51,8 @@ fn line(y: i32) -> Run {
     }
 }
 
-// Each command and a step, with what lists what they leave, and what they come to there.
-fn changes(alloc: Global) -> Result<[Event; 11], Fail> {
+// A step, and each command and a step once more with what lists what they leave, and what they come to there.
+fn changes(alloc: Global) -> Result<[Event; 12], Fail> {
     let importing = import(alloc, EAST, &V)?;
     let from = Point { y: 1, x: 3 };
     let (to, height) = (from, 4);
@@ -71,10 +70,11 @@ fn changes(alloc: Global) -> Result<[Event; 11], Fail> {
         Event::Do(Command::Remove { corner: HERE }),
         Event::Tiles,
         Event::Reopen,
+        Event::Step,
     ])
 }
 
-fn outcomes(alloc: Global) -> Result<[Reply; 11], Fail> {
+fn outcomes(alloc: Global) -> Result<[Reply; 12], Fail> {
     let sinks = vec![in alloc; MIDDLE]?;
     let tiles = vec![in alloc; EAST]?;
     Ok([
@@ -89,6 +89,7 @@ fn outcomes(alloc: Global) -> Result<[Reply; 11], Fail> {
         Reply::Done(8),
         Reply::Tiles(tiles),
         Reply::Reopened,
+        Reply::Stepped(Some(EAST)),
     ])
 }
 
@@ -148,10 +149,34 @@ fn opened(alloc: Global, disk: MemDisk) -> Result<(Store<MemDisk>, bool), Fail> 
     Ok((store, true))
 }
 
-// A store of A at N00E000, on a disk for two tiles.
-fn store_of_a(alloc: Global) -> Result<Store<MemDisk>, Fail> {
+// Makes a store of the first version one of the second, once more where memory was refused to it or to its disk; answers
+// whether it was.
+fn upgraded(store: &mut Store<MemDisk>) -> Result<bool, Fail> {
+    if store.version() == 2 {
+        return Ok(false);
+    }
+    match store.upgrade() {
+        Ok(()) => return Ok(false),
+        Err(Refusal::NoMemory) => {}
+        Err(Refusal::Device) => store.reopen().map_err(|_| "not reopened")?,
+        Err(_) => return Err("an upgrade is refused otherwise".into()),
+    }
+    if store.version() == 1 {
+        store.upgrade().map_err(|_| "no upgrade when asked again")?;
+    }
+    Ok(true)
+}
+
+// A store of A at N00E000, of this version, on a disk for two tiles by the second.
+fn store_of_a(alloc: Global, version: u32) -> Result<Store<MemDisk>, Fail> {
     let importing = import(alloc, HERE, &A)?;
-    let mut store = store_in_memory(alloc, 34, 3, 2).map_err(|_| "no room to begin")?;
+    let mut disk = MemDisk::new(alloc, 34)?;
+    let formatted = match version {
+        1 => Store::format_1(&mut disk, 3, 2),
+        _ => Store::format(&mut disk, 3, 2),
+    };
+    formatted.map_err(|_| "no room to begin")?;
+    let mut store = Store::open(alloc, disk).map_err(|_| "no room to begin")?;
     store.apply(&importing).map_err(|_| "no room to begin")?;
     Ok(store)
 }
@@ -173,46 +198,76 @@ fn ask_in_runs(
     Ok(refused)
 }
 
-// Asks a store everything, the questions one by one and by threes, and opens what is left; answers how often memory was
+// Asks the questions one by one and by threes, and for the seams; answers how often memory was refused.
+fn ask_questions(
+    alloc: Global,
+    store: &mut Store<MemDisk>,
+    questions: &[Event],
+    answers: &[Reply],
+) -> Result<u32, Fail> {
+    let one_by_one = ask_in_runs(alloc, store, questions, answers, 1)?;
+    let by_threes = ask_in_runs(alloc, store, questions, answers, 3)?;
+    if store.seams() != Ok(0) {
+        return Err("other seams".into());
+    }
+    Ok(one_by_one.saturating_add(by_threes))
+}
+
+// Asks a store everything, the questions before a step and after it, and opens what is left; answers how often memory was
 // refused.
-fn refusals(alloc: Global) -> Result<u32, Fail> {
-    let mut store = store_of_a(alloc)?;
+fn refusals(alloc: Global, version: u32) -> Result<u32, Fail> {
+    let mut store = store_of_a(alloc, version)?;
     let questions = questions();
     let answers = answers(alloc)?;
     let changes = changes(alloc)?;
     let outcomes = outcomes(alloc)?;
-    let one_by_one = ask_in_runs(alloc, &mut store, &questions, &answers, 1)?;
-    let by_threes = ask_in_runs(alloc, &mut store, &questions, &answers, 3)?;
-    let changing = ask_in_runs(alloc, &mut store, &changes, &outcomes, 1)?;
+    let stale = ask_questions(alloc, &mut store, &questions, &answers)?;
+    let step = ask_in_runs(alloc, &mut store, &changes[..1], &outcomes[..1], 1)?;
+    let fresh = ask_questions(alloc, &mut store, &questions, &answers)?;
+    let changing = ask_in_runs(alloc, &mut store, &changes[1..], &outcomes[1..], 1)?;
+    let upgrade = u32::from(upgraded(&mut store)?);
     let (store, again) = opened(alloc, store.into_disk())?;
-    if store.count() != 8 {
-        return Err("another count".into());
+    if store.count() != 8 || store.version() != 2 || store.stale(EAST) {
+        return Err("another store".into());
     }
-    let asking = one_by_one.saturating_add(by_threes);
+    let asking = stale.saturating_add(fresh);
+    let changed = step.saturating_add(changing).saturating_add(upgrade);
     Ok(
         asking
-            .saturating_add(changing)
+            .saturating_add(changed)
             .saturating_add(u32::from(again)),
     )
 }
 
 #[test]
 fn ample_memory_is_enough(rt: HostRuntime) -> Result<(), Fail> {
-    assert_eq!(rt; refusals(rt.alloc())?, 0);
+    assert!(rt; refusals(rt.alloc(), 1)? == 0);
+    assert!(rt; refusals(rt.alloc(), 2)? == 0);
     Ok(())
 }
 
 #[test]
 fn opening_succeeds_with_ample_memory(rt: HostRuntime) -> Result<(), Fail> {
-    let store = store_of_a(rt.alloc())?;
-    let (store, refused) = opened(rt.alloc(), store.into_disk())?;
-    assert!(rt; !refused);
-    assert_eq!(rt; store.count(), 1);
+    for version in [1, 2] {
+        let store = store_of_a(rt.alloc(), version)?;
+        let (store, refused) = opened(rt.alloc(), store.into_disk())?;
+        assert!(rt; !refused && store.count() == 1 && store.version() == version);
+    }
     Ok(())
 }
 
 #[test]
-fn what_was_refused_is_answered_when_asked_again(rt: HostRuntime) -> Result<(), Fail> {
-    assert!(rt; refusals(rt.alloc())? < 2);
+fn what_was_refused_is_answered_when_asked_again_by_the_first_version(
+    rt: HostRuntime,
+) -> Result<(), Fail> {
+    assert!(rt; refusals(rt.alloc(), 1)? < 2);
+    Ok(())
+}
+
+#[test]
+fn what_was_refused_is_answered_when_asked_again_by_the_second_version(
+    rt: HostRuntime,
+) -> Result<(), Fail> {
+    assert!(rt; refusals(rt.alloc(), 2)? < 2);
     Ok(())
 }

@@ -1,116 +1,256 @@
-//! Sessions of lines on a disk that fails: from some call on, with a stop then, or in one call alone.
-use disk::{FaultOnceDisk, Faults, FaultyDisk, FuseDisk, MemDisk, Torn};
-use memory_store::store_in_memory;
+//! Sessions of lines on a disk that fails: from some call on, with a stop then and stops in the openings that follow, or in
+//! one call alone.
+use crate::asserting::assert_row;
+use crate::checking::opened;
+use crate::stores::empty_store;
+use disk::{Disk, FaultOnceDisk, Faults, FaultyDisk, FuseDisk, MemDisk, Torn};
+use lattice::Refusal;
 use serving::serve;
 use std::alloc::Global;
 use std::test::Fail;
 use store::Store;
 
-/// More calls of the disk than the session makes.
+/// More calls of the disk than a session makes.
 const MANY_CALLS: u64 = 80;
 
-/// 9 9 9 / 9 9 7 / 9 9 9, and a tile to the east of it: 9 9 9 / 8 9 9 / 9 9 9.
-const LINES: &[u8] = b"import N00E000 18\n\0\x09\0\x09\0\x09\0\x09\0\x09\0\x07\0\x09\0\x09\0\x09\
-import N00E001 18\n\0\x09\0\x09\0\x09\0\x08\0\x09\0\x09\0\x09\0\x09\0\x09\
-elev 1 2\nsink 1 1\nstep\nremove N00E000\ntiles\n";
+/// What a stop leaves of the gates, where they are unsettled, and of all else that is.
+const STOPS: [(Torn, Torn); 6] = [
+    (Torn::Old, Torn::Old),
+    (Torn::New, Torn::New),
+    (Torn::Fill(0), Torn::Fill(0)),
+    (Torn::Fill(0xa7), Torn::Fill(0xa7)),
+    (Torn::Fill(0), Torn::Old),
+    (Torn::Fill(0xa7), Torn::Old),
+];
 
-/// The reply to each, and how many commands were told to be done by then.
-const REPLIES: [(&[u8], u64); 7] = [
+/// Lines to a store of two tiles, the reply to each with how many commands were told to be done by then, and what is replied
+/// to `QUESTIONS` after so many commands.
+#[derive(Clone, Copy)]
+struct Session {
+    lines: &'static [u8],
+    replies: &'static [(&'static [u8], u64)],
+    left: &'static [&'static [u8]],
+}
+
+const QUESTIONS: &[u8] = b"tiles\nsinks\nelev 1 2\nexport N00E000\nexport N00E001\n";
+
+const EMPTY: &[u8] = b"OK 0\nOK 0\nERR 7 Outside\nERR 5 NoTile\nERR 5 NoTile\n";
+
+// With 9 9 9 / 9 9 7 / 9 9 9, with 9 9 9 / 8 9 9 / 9 9 9 to the east of it, and with the latter alone.
+
+const WITH_WEST: &[u8] = b"OK 1 N00E000\nOK 0\nOK 7\n\
+OK 18\n\0\x09\0\x09\0\x09\0\x09\0\x09\0\x07\0\x09\0\x09\0\x09ERR 5 NoTile\n";
+
+const WITH_BOTH: &[u8] = b"OK 2 N00E000 N00E001\nOK 0\nOK 7\n\
+OK 18\n\0\x09\0\x09\0\x09\0\x09\0\x09\0\x07\0\x09\0\x09\0\x09\
+OK 18\n\0\x09\0\x09\0\x09\0\x08\0\x09\0\x09\0\x09\0\x09\0\x09";
+
+const WITH_SINK: &[u8] = b"OK 2 N00E000 N00E001\nOK 1\n1 1\nOK 7\n\
+OK 18\n\0\x09\0\x09\0\x09\0\x09\0\x09\0\x07\0\x09\0\x09\0\x09\
+OK 18\n\0\x09\0\x09\0\x09\0\x08\0\x09\0\x09\0\x09\0\x09\0\x09";
+
+const WITH_EAST: &[u8] = b"OK 1 N00E001\nOK 0\nOK 8\nERR 5 NoTile\n\
+OK 18\n\0\x09\0\x09\0\x09\0\x08\0\x09\0\x09\0\x09\0\x09\0\x09";
+
+/// Each tile's bytes, and the height where they meet, which is then the other one's.
+const SEAMS: Session = Session {
+    lines: b"import N00E000 18\n\0\x09\0\x09\0\x09\0\x09\0\x09\0\x07\0\x09\0\x09\0\x09\
+import N00E001 18\n\0\x09\0\x09\0\x09\0\x08\0\x09\0\x09\0\x09\0\x09\0\x09\
+elev 1 2\nexport N00E000\nexport N00E001\nremove N00E000\nelev 1 2\n",
+    replies: &REPLIES_OF_SEAMS,
+    left: &LEFT_OF_SEAMS,
+};
+
+const REPLIES_OF_SEAMS: [(&[u8], u64); 7] = [
+    (b"OK 1\n", 1),
+    (b"OK 2\n", 2),
+    (b"OK 7\n", 2),
+    (
+        b"OK 18\n\0\x09\0\x09\0\x09\0\x09\0\x09\0\x07\0\x09\0\x09\0\x09",
+        2,
+    ),
+    (
+        b"OK 18\n\0\x09\0\x09\0\x09\0\x08\0\x09\0\x09\0\x09\0\x09\0\x09",
+        2,
+    ),
+    (b"OK 3\n", 3),
+    (b"OK 8\n", 3),
+];
+
+const LEFT_OF_SEAMS: [&[u8]; 4] = [EMPTY, WITH_WEST, WITH_BOTH, WITH_EAST];
+
+/// A sink comes and goes, and planes are kept.
+const SINKS: Session = Session {
+    lines: b"import N00E000 18\n\0\x09\0\x09\0\x09\0\x09\0\x09\0\x07\0\x09\0\x09\0\x09\
+import N00E001 18\n\0\x09\0\x09\0\x09\0\x08\0\x09\0\x09\0\x09\0\x09\0\x09\
+elev 1 2\nsink 1 1\nstep\nunsink 1 1\nremove N00E000\ntiles\n",
+    replies: &REPLIES_OF_SINKS,
+    left: &LEFT_OF_SINKS,
+};
+
+const REPLIES_OF_SINKS: [(&[u8], u64); 8] = [
     (b"OK 1\n", 1),
     (b"OK 2\n", 2),
     (b"OK 7\n", 2),
     (b"OK 3\n", 3),
     (b"OK N00E000\n", 3),
     (b"OK 4\n", 4),
-    (b"OK 1 N00E001\n", 4),
+    (b"OK 5\n", 5),
+    (b"OK 1 N00E001\n", 5),
 ];
+
+const LEFT_OF_SINKS: [&[u8]; 6] = [EMPTY, WITH_WEST, WITH_BOTH, WITH_SINK, WITH_BOTH, WITH_EAST];
+
+/// Versions, sessions, and how many commands these have.
+const ROWS: [(u32, Session, u64); 4] = [(1, SEAMS, 3), (2, SEAMS, 3), (1, SINKS, 5), (2, SINKS, 5)];
 
 /// What is replied from a fault on.
 const FAILED: &[u8] = b"ERR 20 Device\nERR 22 Failed\nERR 22 Failed\nERR 22 Failed\nERR 22 Failed\n\
-ERR 22 Failed\nERR 22 Failed\n";
-
-/// How many tiles and sinks there are after so many commands.
-const LEFT: [(usize, usize); 5] = [(0, 0), (1, 0), (2, 0), (2, 1), (1, 1)];
+ERR 22 Failed\nERR 22 Failed\nERR 22 Failed\n";
 
 // How many commands were told to be done, where the replies are right up to a fault.
-fn told_in(output: &[u8]) -> Option<u64> {
+fn told_in(session: &Session, output: &[u8]) -> Option<u64> {
     let mut rest = output;
     let mut told = 0;
-    for (reply, count) in REPLIES {
+    for (reply, count) in session.replies {
         if rest.starts_with(reply) {
             rest = &rest[reply.len()..];
-            told = count;
+            told = *count;
         }
     }
-    if FAILED.starts_with(rest) {
-        Some(told)
-    } else {
-        None
-    }
-}
-
-fn new_disk(alloc: Global) -> Result<MemDisk, Fail> {
-    let store = store_in_memory(alloc, 34, 3, 2).map_err(|_| "not made")?;
-    Ok(store.into_disk())
+    FAILED.starts_with(rest).then_some(told)
 }
 
 // Serves the lines: what is on the disk then, and how many commands were told to be done.
 fn serve_on<F: Faults>(
     alloc: Global,
     disk: FaultyDisk<MemDisk, F>,
+    session: &Session,
 ) -> Result<(MemDisk, u64), Fail> {
     let mut output = Vec::new(alloc);
     let disk = match Store::open(alloc, disk) {
         Ok(mut store) => {
-            let mut reader = LINES;
+            let mut reader = session.lines;
             serve(alloc, &mut reader, &mut output, &mut store)?;
             store.into_disk()
         }
         Err(not_opened) => not_opened.disk,
     };
-    let told = told_in(&output).ok_or("another reply")?;
+    let told = told_in(session, &output).ok_or("another reply")?;
     Ok((disk.into_inner(), told))
 }
 
-// Whether what opens has the commands that were told to be done, and at most one more, each whole.
-fn has_told(alloc: Global, disk: MemDisk, told: u64) -> Result<bool, Fail> {
-    let store = Store::open(alloc, disk).map_err(|_| "not opened")?;
+// How many commands an opening finds, where these are those that were told to be done, or one more, each whole.
+fn commands_found(
+    alloc: Global,
+    disk: MemDisk,
+    session: &Session,
+    told: u64,
+) -> Result<(MemDisk, u64), Fail> {
+    let mut store = opened(alloc, disk)?;
     let done = store.count();
-    let left = (store.tiles()?.len(), store.sinks()?.len());
-    Ok((told == done || told.saturating_add(1) == done) && LEFT.get(done as usize) == Some(&left))
+    let mut reader = QUESTIONS;
+    let mut output = Vec::new(alloc);
+    serve(alloc, &mut reader, &mut output, &mut store)?;
+    let is_whole = match session.left.get(done as usize) {
+        Some(left) => output.as_slice() == *left,
+        None => false,
+    };
+    if is_whole && (told == done || told.saturating_add(1) == done) {
+        Ok((store.into_disk(), done))
+    } else {
+        Err("a command that was told is gone".into())
+    }
 }
 
-// A stop after each call; answers how many commands are told to be done where no call fails.
-fn stop_after_each_call(alloc: Global, torn: Torn) -> Result<u64, Fail> {
+fn stopped(disk: MemDisk, stop: (Torn, Torn)) -> Result<MemDisk, Fail> {
+    let mut disk = disk;
+    for gate in [0, 2] {
+        if gate < disk.sectors() {
+            disk.stop_at(gate, stop.0)?;
+        }
+    }
+    disk.stop(stop.1)?;
+    Ok(disk)
+}
+
+// Opens the disk again and again, each time up to a stop one call later, until it is open.
+fn stopped_in_openings(alloc: Global, disk: MemDisk, stop: (Torn, Torn)) -> Result<MemDisk, Fail> {
+    let mut disk = disk;
+    for calls in 0..MANY_CALLS {
+        match Store::open(alloc, FuseDisk::new(disk, calls)) {
+            Ok(store) => return stopped(store.into_disk().into_inner(), stop),
+            Err(refused) if refused.refusal == Refusal::Device => {
+                disk = stopped(refused.disk.into_inner(), stop)?;
+            }
+            Err(_) => return Err("an opening is refused otherwise".into()),
+        }
+    }
+    Err("no opening has calls enough".into())
+}
+
+// A stop of this kind after each call; answers how many commands are told to be done where no call fails.
+fn stop_after_each_call(
+    alloc: Global,
+    version: u32,
+    session: &Session,
+    stop: (Torn, Torn),
+) -> Result<u64, Fail> {
     let mut told = 0;
     for calls in 0..MANY_CALLS {
-        let (mut disk, found) = serve_on(alloc, FuseDisk::new(new_disk(alloc)?, calls))?;
-        disk.stop(torn)?;
-        if !has_told(alloc, disk, found)? {
-            return Err("a command that was told is gone".into());
+        let fuse = FuseDisk::new(empty_store(alloc, version, 2)?.into_disk(), calls);
+        let (disk, by_then) = serve_on(alloc, fuse, session)?;
+        told = by_then;
+        let (disk, done) = commands_found(alloc, stopped(disk, stop)?, session, told)?;
+        let disk = stopped_in_openings(alloc, disk, stop)?;
+        let (_, again) = commands_found(alloc, disk, session, told)?;
+        if again != done {
+            return Err("an opening changed the store".into());
         }
-        told = found;
+    }
+    Ok(told)
+}
+
+// Stops of each kind; answers whether all commands are told to be done, each time that no call fails.
+fn stop_in_each_way(
+    alloc: Global,
+    version: u32,
+    session: &Session,
+    commands: u64,
+) -> Result<bool, Fail> {
+    let mut are_through = true;
+    for stop in STOPS {
+        are_through &= stop_after_each_call(alloc, version, session, stop)? == commands;
+    }
+    Ok(are_through)
+}
+
+// A fault in each call; answers how many commands are told to be done where no call fails.
+fn fault_in_each_call(alloc: Global, version: u32, session: &Session) -> Result<u64, Fail> {
+    let mut told = 0;
+    for call in 0..MANY_CALLS {
+        let faulty = FaultOnceDisk::new(empty_store(alloc, version, 2)?.into_disk(), call);
+        let (disk, by_then) = serve_on(alloc, faulty, session)?;
+        told = by_then;
+        commands_found(alloc, disk, session, told)?;
     }
     Ok(told)
 }
 
 #[test]
 fn what_was_told_is_there_after_a_stop(rt: HostRuntime) -> Result<(), Fail> {
-    for torn in [Torn::Old, Torn::New, Torn::Fill(0), Torn::Fill(0xa7)] {
-        assert_eq!(rt; stop_after_each_call(rt.alloc(), torn)?, 4);
+    for ((version, session, commands), row) in ROWS.iter().zip(1..5) {
+        let are_through = stop_in_each_way(rt.alloc(), *version, session, *commands)?;
+        assert_row(&rt, are_through, "a session that isn't through", row);
     }
     Ok(())
 }
 
 #[test]
 fn what_was_told_is_there_after_a_fault(rt: HostRuntime) -> Result<(), Fail> {
-    let alloc = rt.alloc();
-    let mut told = 0;
-    for call in 0..MANY_CALLS {
-        let (disk, found) = serve_on(alloc, FaultOnceDisk::new(new_disk(alloc)?, call))?;
-        assert!(rt; has_told(alloc, disk, found)?, "a fault at {call}");
-        told = found;
+    for ((version, session, commands), row) in ROWS.iter().zip(1..5) {
+        let told = fault_in_each_call(rt.alloc(), *version, session)?;
+        assert_row(&rt, told == *commands, "a session that isn't through", row);
     }
-    assert_eq!(rt; told, 4);
     Ok(())
 }

@@ -1,13 +1,10 @@
 //! Where water stands and goes in stores of tiles of side 3.
-use super::fixtures::{A, B};
+use super::fixtures::{A, B, C};
 use super::script::Asked::{Import, Wall};
 use super::script::Step::{Done, Drains, Filled, NotTraced, Shed, Traced};
 use super::script::follow;
 use lattice::Refusal;
 use std::test::Fail;
-
-// 9 9 9 / 1 1 3 / 9 9 9: to the east of B the valley goes on, and ends higher.
-const C: [u8; 18] = [0, 9, 0, 9, 0, 9, 0, 1, 0, 1, 0, 3, 0, 9, 0, 9, 0, 9];
 
 #[test]
 fn a_basin_that_spills(rt: HostRuntime) -> Result<(), Fail> {

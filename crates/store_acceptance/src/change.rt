@@ -1,11 +1,10 @@
 //! What is stopped: a store before a change, and the change.
 use self::Change::{Do, Step, Upgrade};
-use super::fixtures::{A, B, H, V, store_of_version_1};
+use super::fixtures::{A, B, H, V, empty_store, sectors_for, store_of_version_1};
 use super::script::Asked::{Burn, Import, Patch, Remove, Sink, Unsink, Wall};
 use super::script::{Asked, command};
 use disk::{Disk, MemDisk};
 use lattice::Refusal;
-use memory_store::store_in_memory;
 use std::alloc::Global;
 use std::test::Fail;
 use store::Store;
@@ -21,9 +20,9 @@ pub(crate) enum Change<'a> {
 /// How many tiles the store takes at most, what was done to it before, and the change.
 pub(crate) type Row = (u32, &'static [Change<'static>], Change<'static>);
 
-const ONE_TILE: [Change<'static>; 1] = [Do(Import(0, 0, &A))];
+pub(crate) const ONE_TILE: [Change<'static>; 1] = [Do(Import(0, 0, &A))];
 
-const ONE_SINK: [Change<'static>; 2] = [Do(Import(0, 0, &A)), Do(Sink(1, 1))];
+pub(crate) const ONE_SINK: [Change<'static>; 2] = [Do(Import(0, 0, &A)), Do(Sink(1, 1))];
 
 const ONE_FRESH: [Change<'static>; 3] = [Do(Import(0, 0, &A)), Do(Sink(1, 1)), Step];
 
@@ -35,9 +34,10 @@ const FIRST_FRESH: [Change<'static>; 3] = [Do(Import(0, 0, &V)), Do(Import(0, 1,
 const BOTH_FRESH: [Change<'static>; 4] = [Do(Import(0, 0, &V)), Do(Import(0, 1, &H)), Step, Step];
 
 /// Changes that stores of either version take.
-pub(crate) const CHANGES: [Row; 18] = [
+pub(crate) const CHANGES: [Row; 19] = [
     (2, &ONE_TILE, Do(Import(0, 1, &B))),
     (2, &ONE_TILE, Do(Sink(1, 1))),
+    (2, &ONE_TILE, Step),
     (4, &TWO_TILES, Do(Import(1, 0, &A))),
     (4, &TWO_TILES, Do(Remove(0, 0))),
     (4, &TWO_TILES, Do(Patch((1, 1), (1, 1), 4))),
@@ -57,8 +57,9 @@ pub(crate) const CHANGES: [Row; 18] = [
 ];
 
 /// Upgrades of stores of the first version.
-pub(crate) const UPGRADES: [Row; 5] = [
+pub(crate) const UPGRADES: [Row; 6] = [
     (1, &[], Upgrade),
+    (2, &ONE_TILE, Upgrade),
     (1, &ONE_FRESH, Upgrade),
     (2, &TWO_TILES, Upgrade),
     (2, &FIRST_FRESH, Upgrade),
@@ -82,12 +83,9 @@ pub(crate) fn make<D: Disk>(
 /// store is to be upgraded the smallest that allows it.
 pub(crate) fn prepared_disk(alloc: Global, version: u32, row: Row) -> Result<MemDisk, Fail> {
     let (capacity, prepared, change) = row;
-    let by_version_1 = capacity.saturating_mul(8).saturating_add(8);
-    let by_version_2 = capacity.saturating_mul(12).saturating_add(10);
     let mut store = match (version, change) {
-        (1, Upgrade) => store_of_version_1(alloc, by_version_2, 3, capacity)?,
-        (1, _) => store_of_version_1(alloc, by_version_1, 3, capacity)?,
-        _ => store_in_memory(alloc, by_version_2, 3, capacity)?,
+        (1, Upgrade) => store_of_version_1(alloc, sectors_for(2, capacity), 3, capacity)?,
+        _ => empty_store(alloc, version, capacity)?,
     };
     for change in prepared {
         if let Some(refusal) = make(alloc, &mut store, *change)? {

@@ -3,6 +3,7 @@ use arrayvec::ArrayVec;
 use disk::{Disk, MemDisk};
 use edits::{Bytes, Command};
 use lattice::{Corner, Point};
+use memory_store::store_in_memory;
 use std::alloc::Global;
 use std::test::Fail;
 use store::Store;
@@ -18,6 +19,15 @@ pub(crate) const A: [u8; 18] = [0, 9, 0, 9, 0, 9, 0, 9, 0, 1, 0, 9, 0, 9, 0, 9, 
 
 /// 9 9 9 / 9 1 1 / 9 9 9.
 pub(crate) const B: [u8; 18] = [0, 9, 0, 9, 0, 9, 0, 9, 0, 1, 0, 1, 0, 9, 0, 9, 0, 9];
+
+/// 9 9 9 / 1 1 3 / 9 9 9: to the east of B the valley goes on, and ends higher.
+pub(crate) const C: [u8; 18] = [0, 9, 0, 9, 0, 9, 0, 1, 0, 1, 0, 3, 0, 9, 0, 9, 0, 9];
+
+/// 9 9 9 / 1 1 1 / 9 9 9: the valley goes through.
+pub(crate) const D: [u8; 18] = [0, 9, 0, 9, 0, 9, 0, 1, 0, 1, 0, 1, 0, 9, 0, 9, 0, 9];
+
+/// 9 9 9 / 9 9 7 / 9 9 9.
+pub(crate) const G: [u8; 18] = [0, 9, 0, 9, 0, 9, 0, 9, 0, 9, 0, 7, 0, 9, 0, 9, 0, 9];
 
 /// 9 9 9 / 8 9 9 / 9 9 9.
 pub(crate) const H: [u8; 18] = [0, 9, 0, 9, 0, 9, 0, 8, 0, 9, 0, 9, 0, 9, 0, 9, 0, 9];
@@ -76,15 +86,36 @@ pub(crate) fn store_of_version_1(
     opened(alloc, disk)
 }
 
-/// A store of the first version of so many tiles at most, with these, on the smallest disk: behind two roots and two
-/// gates it has a record and a page for each of four planes a tile, and for two planes more.
+/// How many sectors a store of this version asks of its disk, for so many tiles of side 3 at most: behind two roots and two
+/// gates a record and a page, by the second version an index page too, for each of four planes a tile, and for two planes
+/// more.
+pub(crate) fn sectors_for(version: u32, capacity: u32) -> u32 {
+    let pages: u32 = if version == 1 { 2 } else { 3 };
+    let planes = capacity.saturating_mul(4).saturating_add(2);
+    planes.saturating_mul(pages).saturating_add(4)
+}
+
+/// An empty store of this version, for so many tiles of side 3 at most, on the smallest disk.
+pub(crate) fn empty_store(
+    alloc: Global,
+    version: u32,
+    capacity: u32,
+) -> Result<Store<MemDisk>, Fail> {
+    let sectors = sectors_for(version, capacity);
+    if version == 1 {
+        store_of_version_1(alloc, sectors, 3, capacity)
+    } else {
+        Ok(store_in_memory(alloc, sectors, 3, capacity)?)
+    }
+}
+
+/// A store of the first version of so many tiles at most, with these, on the smallest disk.
 pub(crate) fn store_of(
     alloc: Global,
     capacity: u32,
     tiles: &[(Corner, [u8; 18])],
 ) -> Result<Store<MemDisk>, Fail> {
-    let sectors = capacity.saturating_mul(8).saturating_add(8);
-    let mut store = store_of_version_1(alloc, sectors, 3, capacity)?;
+    let mut store = empty_store(alloc, 1, capacity)?;
     for (corner, bytes) in tiles {
         store.apply(&import(alloc, *corner, bytes)?)?;
     }

@@ -25,6 +25,10 @@ mod sinks;
 #[cfg(test)]
 mod standing;
 #[cfg(test)]
+mod steps;
+#[cfg(test)]
 mod stops;
 #[cfg(test)]
 mod upgrades;
+#[cfg(test)]
+mod writes;

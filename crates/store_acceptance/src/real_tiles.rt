@@ -1,8 +1,11 @@
 //! Tiles of 1201 by 1201 samples, and one of 3601 by 3601.
-use super::fixtures::{EAST, HERE, at, opened};
+use super::change::Change::{Do, Step};
+use super::fixtures::{EAST, HERE, at, exports, opened};
+use super::script::Asked::{Burn, Import};
+use super::writes::make_counted;
 use disk::MemDisk;
 use edits::{Bytes, Command};
-use lattice::Corner;
+use lattice::{Corner, Height};
 use memory_store::store_in_memory;
 use std::alloc::Global;
 use std::test::Fail;
@@ -57,6 +60,20 @@ fn two_neighbours_come_back_byte_for_byte(rt: HostRuntime) -> Result<(), Fail> {
     Ok(())
 }
 
+#[test]
+fn a_tile_of_the_first_version_is_written_once(rt: HostRuntime) -> Result<(), Fail> {
+    let alloc = rt.alloc();
+    let mut disk = MemDisk::new(alloc, 4240)?;
+    Store::format_1(&mut disk, 1201, 1)?;
+    let bytes = tile(alloc, 0)?;
+    let rows = [
+        (Do(Import(0, 0, &bytes)), 708),
+        (Do(Burn(1, &[(600, 600)])), 5),
+    ];
+    make_counted(&rt, alloc, disk, &rows)?;
+    Ok(())
+}
+
 // Samples along an edge of the largest tiles, and the sectors of a store of one of them.
 const LARGEST_SIDE: u32 = 3601;
 
@@ -66,32 +83,33 @@ const LARGEST_SECTORS: u32 = 38_044;
 const PIT: u32 = 1800 * LARGEST_SIDE + 1800;
 
 // The bytes of a tile that falls to the north by 4 a row, each row with heights up to 3 above its own, but for a pit of
-// height 0 in the middle.
-fn slope(alloc: Global) -> Result<Vec<u8>, Fail> {
+// this height in the middle.
+fn slope(alloc: Global, pit: i16) -> Result<Vec<u8>, Fail> {
     let mut bytes = Vec::new(alloc);
     for i in 0..LARGEST_SIDE * LARGEST_SIDE {
         let row = i / LARGEST_SIDE;
         let height = row.wrapping_mul(4).wrapping_add(i % 4);
-        let sample = if i == PIT { 0 } else { height as u16 };
+        let sample = if i == PIT { pit } else { height as i16 };
         bytes.extend_from_slice(&sample.to_be_bytes())?;
     }
     Ok(bytes)
 }
 
 #[test]
-fn the_largest_tile_is_kept_filled_and_comes_back(rt: HostRuntime) -> Result<(), Fail> {
+fn the_largest_tile_comes_back_is_burnt_and_kept_filled(rt: HostRuntime) -> Result<(), Fail> {
     let alloc = rt.alloc();
-    let mut store = store_in_memory(alloc, LARGEST_SECTORS, LARGEST_SIDE, 1)?;
-    let import = Command::Import {
-        corner: HERE,
-        bytes: Bytes::new(slope(alloc)?),
-    };
-    store.apply(&import)?;
-    assert!(rt; store.step() == Ok(Some(HERE)));
-    let mut opened = opened(alloc, store.into_disk())?;
-    assert!(rt; !opened.stale(HERE));
+    let disk = store_in_memory(alloc, LARGEST_SECTORS, LARGEST_SIDE, 1)?.into_disk();
+    let bytes = slope(alloc, 0)?;
+    let disk = make_counted(&rt, alloc, disk, &[(Do(Import(0, 0, &bytes)), 6342)])?;
+    let mut store = opened(alloc, disk)?;
+    assert!(rt; exports(&mut store, HERE, &bytes)?);
+    // The last sample, in the last page.
+    assert!(rt; store.elevation(at(0, 3600)) == Ok(Height::At(14_400)));
+    let rows = [(Do(Burn(1, &[(1800, 1800)])), 6), (Step, 12_683)];
+    let mut store = opened(alloc, make_counted(&rt, alloc, store.into_disk(), &rows)?)?;
+    assert!(rt; !store.stale(HERE));
     // The pit is filled up to the lowest point of the row above.
-    assert!(rt; opened.fill(at(1800, 1800)) == Ok(4 * 1799));
-    assert!(rt; opened.export(HERE)?.as_slice() == slope(alloc)?.as_slice());
+    assert!(rt; store.fill(at(1800, 1800)) == Ok(4 * 1799));
+    assert!(rt; exports(&mut store, HERE, &slope(alloc, -1)?)?);
     Ok(())
 }

@@ -1,6 +1,6 @@
 //! What a store of tiles of side 3 answers, command by command and query by query.
 use super::asserting::assert_row;
-use super::fixtures::{A, B, H, V, opened};
+use super::fixtures::{A, B, G, H, V, opened};
 use super::script::Asked::{Burn, Import, Patch, Remove, Wall};
 use super::script::Step::{
     Count, Done, Elevation, Exports, Filled, NotExported, Refused, Seams, Tiles,
@@ -10,9 +10,6 @@ use disk::{CountedDisk, MemDisk};
 use lattice::{Height, Refusal};
 use std::test::Fail;
 use store::Store;
-
-// 9 9 9 / 9 9 7 / 9 9 9.
-const G: [u8; 18] = [0, 9, 0, 9, 0, 9, 0, 9, 0, 9, 0, 7, 0, 9, 0, 9, 0, 9];
 
 // 9 9 9 / 9 9 void / 9 9 9.
 const K: [u8; 18] = [0, 9, 0, 9, 0, 9, 0, 9, 0, 9, 128, 0, 0, 9, 0, 9, 0, 9];

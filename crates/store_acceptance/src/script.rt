@@ -1,5 +1,5 @@
 //! Scripts: commands, questions and the right answers, one after another, for a store.
-use super::fixtures::{at, burn, import, patch, sink, store_of, unsink, wall};
+use super::fixtures::{at, burn, empty_store, import, patch, sink, unsink, wall};
 use disk::Disk;
 use edits::Command;
 use lattice::{Corner, Height, Point, Refusal};
@@ -40,23 +40,45 @@ pub(crate) enum Step<'a> {
     Sinks(&'a [(i32, i32)]),
     Seams(u64),
     Count(u64),
+    Commits(u64),
+    /// The tile whose planes a step keeps, if there is one.
+    Stepped(Option<(i16, i16)>),
+    /// All tiles that are stale.
+    Stale(&'a [(i16, i16)]),
 }
 
-/// Follows the script on a new store of so many tiles at most.
+/// Follows the script on a new store of either version, of so many tiles at most.
 pub(crate) fn follow(
     rt: &impl Abort,
     alloc: Global,
     capacity: u32,
     script: &[Step],
 ) -> Result<(), Fail> {
-    let mut store = store_of(alloc, capacity, &[])?;
+    follow_by(rt, alloc, 1, capacity, script)?;
+    follow_by(rt, alloc, 2, capacity, script)
+}
+
+fn follow_by(
+    rt: &impl Abort,
+    alloc: Global,
+    version: u32,
+    capacity: u32,
+    script: &[Step],
+) -> Result<(), Fail> {
+    let mut store = empty_store(alloc, version, capacity)?;
     for (step, number) in script.iter().zip(1..u32::MAX) {
-        assert!(rt; is_answered(alloc, &mut store, *step)?, "step {number}");
+        let answered = is_answered(alloc, &mut store, *step)?;
+        assert!(rt; answered, "version {version}, step {number}");
     }
     Ok(())
 }
 
-fn is_answered<D: Disk>(alloc: Global, store: &mut Store<D>, step: Step) -> Result<bool, Fail> {
+/// Whether the store answers so.
+pub(crate) fn is_answered<D: Disk>(
+    alloc: Global,
+    store: &mut Store<D>,
+    step: Step,
+) -> Result<bool, Fail> {
     match step {
         Step::Done(asked, count) => Ok(store.apply(&command(alloc, asked)?) == Ok(count)),
         Step::Refused(asked, refusal) => Ok(store.apply(&command(alloc, asked)?) == Err(refusal)),
@@ -79,7 +101,20 @@ fn is_answered<D: Disk>(alloc: Global, store: &mut Store<D>, step: Step) -> Resu
         Step::Sinks(points) => Ok(are_points(&store.sinks()?, points)),
         Step::Seams(count) => Ok(store.seams() == Ok(count)),
         Step::Count(count) => Ok(store.count() == count),
+        Step::Commits(commits) => Ok(store.commits() == commits),
+        Step::Stepped(tile) => Ok(store.step()? == named(tile)?),
+        Step::Stale(corners) => Ok(are_corners(&stale_tiles(alloc, store)?, corners)),
     }
+}
+
+fn stale_tiles<D: Disk>(alloc: Global, store: &mut Store<D>) -> Result<Vec<Corner>, Fail> {
+    let mut stale = Vec::new(alloc);
+    for corner in &store.tiles()? {
+        if store.stale(*corner) {
+            stale.push(*corner)?;
+        }
+    }
+    Ok(stale)
 }
 
 pub(crate) fn command(alloc: Global, asked: Asked) -> Result<Command, Fail> {
@@ -100,6 +135,13 @@ pub(crate) fn command(alloc: Global, asked: Asked) -> Result<Command, Fail> {
 
 fn corner(lat: i16, lon: i16) -> Result<Corner, Fail> {
     Ok(Corner::new(lat, lon).ok_or("no corner")?)
+}
+
+fn named(tile: Option<(i16, i16)>) -> Result<Option<Corner>, Fail> {
+    match tile {
+        Some((lat, lon)) => Ok(Some(corner(lat, lon)?)),
+        None => Ok(None),
+    }
 }
 
 fn listed(alloc: Global, points: &[(i32, i32)]) -> Result<Vec<Point>, Fail> {

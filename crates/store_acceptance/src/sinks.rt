@@ -1,10 +1,9 @@
-//! Declared sinks, call by call, and how many writes each makes.
+//! Declared sinks, call by call.
 use super::asserting::assert_row;
-use super::fixtures::{A, HERE, V, at, import, opened, sink, store_of};
+use super::fixtures::{A, HERE, V, at, import, sink};
 use super::script::Asked::{Import, Remove, Sink, Unsink};
 use super::script::Step::{Done, Drains, Filled, Refused, Shed, Sinks};
-use super::script::{command, follow};
-use disk::{CountedDisk, MemDisk};
+use super::script::follow;
 use lattice::Refusal;
 use memory_store::store_in_memory;
 use std::test::Fail;
@@ -53,26 +52,5 @@ fn sixteen_sinks_are_the_most(rt: HostRuntime) -> Result<(), Fail> {
     }
     assert!(rt; store.apply(&sink(at(4, 4))) == Err(Refusal::SinksFull));
     assert!(rt; store.apply(&sink(at(0, 0))) == Err(Refusal::SinkThere));
-    Ok(())
-}
-
-#[test]
-fn three_writes_a_sink(rt: HostRuntime) -> Result<(), Fail> {
-    let alloc = rt.alloc();
-    let mut disk: MemDisk = store_of(alloc, 4, &[(HERE, A)])?.into_disk();
-    let steps = [
-        (Sink(1, 1), Ok(2), 3),
-        (Sink(1, 1), Err(Refusal::SinkThere), 0),
-        (Unsink(1, 1), Ok(3), 3),
-        (Unsink(1, 1), Err(Refusal::NoSink), 0),
-    ];
-    for (asked, answer, writes) in steps {
-        let mut store = opened(alloc, CountedDisk::new(disk))?;
-        let found = store.apply(&command(alloc, asked)?);
-        let counted = store.into_disk();
-        let is_right = found == answer && counted.faults().writes == writes;
-        assert_row(&rt, is_right, "writes", writes);
-        disk = counted.into_inner();
-    }
     Ok(())
 }

@@ -1,7 +1,7 @@
-//! Stops and faults at each call of each change, of each query and of an opening, on stores of tiles of side 3.
+//! Stops and faults at each call of each change and of an opening, on stores of tiles of side 3.
 use super::asserting::assert_row;
-use super::change::{CHANGES, Row, UPGRADES, make, prepared_disk};
-use super::fixtures::{A, B, EAST, HERE, at, opened, store_of};
+use super::change::{CHANGES, Change, Row, UPGRADES, make, prepared_disk};
+use super::fixtures::{A, HERE, at, opened, store_of};
 use super::standing::{Model, Standing};
 use cow_tree::NotOpened;
 use disk::{Disk, FaultOnceDisk, FuseDisk, MemDisk, Torn};
@@ -12,15 +12,14 @@ use std::process::Abort;
 use std::test::Fail;
 use store::Store;
 
-// How many calls opening a store of the first version with two tiles makes: a sync, both gates, both roots and two
-// records.
-const CALLS_TO_OPEN: u64 = 7;
+// How many calls opening a store of the first version with one tile makes: a sync, both gates, both roots and a record.
+const CALLS_TO_OPEN: u64 = 6;
 
-// More calls of the disk than opening one of these stores and any change or query of it makes.
-const MANY_CALLS: u64 = 120;
+/// More calls of the disk than opening one of these stores and any change of it makes.
+pub(crate) const MANY_CALLS: u64 = 120;
 
-// What a stop leaves of the gates, where they are unsettled, and of all else that is.
-const STOPS: [(Torn, Torn); 6] = [
+/// What a stop leaves of the gates, where they are unsettled, and of all else that is.
+pub(crate) const STOPS: [(Torn, Torn); 6] = [
     (Torn::Old, Torn::Old),
     (Torn::New, Torn::New),
     (Torn::Fill(0), Torn::Fill(0)),
@@ -72,10 +71,14 @@ fn finds_made(alloc: Global, disk: MemDisk, case: &Case) -> Result<(MemDisk, boo
     Ok((store.into_disk(), made))
 }
 
-// Opens the store and makes the change, with so many calls of the disk. Answers how it is refused, if it is.
-fn make_with(alloc: Global, calls: u64, case: &Case) -> Result<(MemDisk, Option<Refusal>), Fail> {
-    let (_, _, change) = case.row;
-    match Store::open(alloc, FuseDisk::new(case.disk(alloc)?, calls)) {
+/// Opens the disk's store and makes the change, with so many calls of the disk. Answers how it is refused, if it is.
+pub(crate) fn make_with(
+    alloc: Global,
+    disk: MemDisk,
+    calls: u64,
+    change: Change,
+) -> Result<(MemDisk, Option<Refusal>), Fail> {
+    match Store::open(alloc, FuseDisk::new(disk, calls)) {
         Ok(mut store) => {
             let refused = make(alloc, &mut store, change)?;
             Ok((store.into_disk().into_inner(), refused))
@@ -84,7 +87,8 @@ fn make_with(alloc: Global, calls: u64, case: &Case) -> Result<(MemDisk, Option<
     }
 }
 
-fn stopped(disk: MemDisk, stop: (Torn, Torn)) -> Result<MemDisk, Fail> {
+/// What the stop leaves of the disk.
+pub(crate) fn stopped(disk: MemDisk, stop: (Torn, Torn)) -> Result<MemDisk, Fail> {
     let mut disk = disk;
     for gate in [0, 2] {
         if gate < disk.sectors() {
@@ -109,9 +113,10 @@ fn stopped_in_openings(alloc: Global, disk: MemDisk, stop: (Torn, Torn)) -> Resu
 
 // Stops the change after so many calls, in each way. Answers whether it was through by then.
 fn stop_after(alloc: Global, calls: u64, case: &Case) -> Result<bool, Fail> {
+    let (_, _, change) = case.row;
     let mut through = false;
     for stop in STOPS {
-        let (disk, refused) = make_with(alloc, calls, case)?;
+        let (disk, refused) = make_with(alloc, case.disk(alloc)?, calls, change)?;
         through = refused.is_none();
         if !through && refused != Some(Refusal::Device) {
             return Err("refused otherwise".into());
@@ -258,84 +263,11 @@ fn a_fault_at_each_call_of_an_upgrade(rt: HostRuntime) -> Result<(), Fail> {
     fault_in_each_change(&rt, rt.alloc(), 1, &UPGRADES)
 }
 
-#[derive(Clone, Copy)]
-enum Query {
-    Elevation,
-    Fill,
-    Direction,
-    Trace,
-    Watershed,
-    Export,
-    Seams,
-}
-
-const QUERIES: [Query; 7] = [
-    Query::Elevation,
-    Query::Fill,
-    Query::Direction,
-    Query::Trace,
-    Query::Watershed,
-    Query::Export,
-    Query::Seams,
-];
-
-// How the query is refused, if it is.
-fn refusal<D: Disk>(store: &mut Store<D>, query: Query) -> Option<Refusal> {
-    let point = at(0, 2);
-    match query {
-        Query::Elevation => store.elevation(point).err(),
-        Query::Fill => store.fill(point).err(),
-        Query::Direction => store.direction(point).err(),
-        Query::Trace => store.trace(point).err(),
-        Query::Watershed => store.watershed(point).err(),
-        Query::Export => store.export(EAST).err(),
-        Query::Seams => store.seams().err(),
-    }
-}
-
-// Has this call of the query fail. Answers whether no such call is made.
-fn fault_in(alloc: Global, call: u64, query: Query) -> Result<bool, Fail> {
-    let disk = store_of(alloc, 4, &[(HERE, A), (EAST, B)])?.into_disk();
-    let faulty = FaultOnceDisk::new(disk, call.saturating_add(CALLS_TO_OPEN));
-    let mut store = opened(alloc, faulty)?;
-    let refused = refusal(&mut store, query);
-    if refused.is_none() {
-        return Ok(true);
-    }
-    if refused != Some(Refusal::Device) || !refuses_all(&mut store) {
-        return Err("not failed".into());
-    }
-    if store.count() != 2 || store.reopen().is_err() {
-        return Err("not reopened".into());
-    }
-    if store.elevation(at(0, 2)) != Ok(Height::At(5)) {
-        return Err("another height".into());
-    }
-    Ok(false)
-}
-
-#[test]
-fn a_fault_at_each_call_of_each_query(rt: HostRuntime) -> Result<(), Fail> {
-    let alloc = rt.alloc();
-    for query in QUERIES {
-        let mut through = false;
-        for call in 0..MANY_CALLS {
-            if fault_in(alloc, call, query)? {
-                through = 0 < call;
-                break;
-            }
-        }
-        assert!(rt; through);
-    }
-    Ok(())
-}
-
 #[test]
 fn a_fault_in_a_read(rt: HostRuntime) -> Result<(), Fail> {
     let alloc = rt.alloc();
     let disk = store_of(alloc, 4, &[(HERE, A)])?.into_disk();
-    // Opening a store with one tile reads one record.
-    let faulty = FaultOnceDisk::new(disk, CALLS_TO_OPEN - 1);
+    let faulty = FaultOnceDisk::new(disk, CALLS_TO_OPEN);
     let mut store = opened(alloc, faulty)?;
     let point = at(0, 2);
     assert!(rt; store.elevation(point) == Err(Refusal::Device));

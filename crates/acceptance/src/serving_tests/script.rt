@@ -86,7 +86,15 @@ pub(crate) fn store(alloc: Global, samples: u32, capacity: u32) -> Result<Store<
     Ok(store_in_memory(alloc, sectors, samples, capacity).map_err(|_| "not made")?)
 }
 
-/// Serves the session to both, each made anew, and compares the replies.
+/// Such a store by the first version.
+fn store_of_version_1(alloc: Global, samples: u32, capacity: u32) -> Result<Store<MemDisk>, Fail> {
+    let sectors = capacity.saturating_mul(8).saturating_add(8);
+    let mut disk = MemDisk::new(alloc, sectors)?;
+    Store::format_1(&mut disk, samples, capacity).map_err(|_| "not formatted")?;
+    Ok(Store::open(alloc, disk).map_err(|_| "not opened")?)
+}
+
+/// Serves the session to a mosaic in memory and to a store of either version, each made anew, and compares the replies.
 pub(crate) fn check(
     rt: &impl Abort,
     alloc: Global,
@@ -104,5 +112,11 @@ pub(crate) fn check(
     );
     let by_store = replies(alloc, &mut store(alloc, samples, capacity)?, &input)?;
     assert!(rt; by_store.as_slice() == wanted.as_slice(), "the store");
+    let mut first = store_of_version_1(alloc, samples, capacity)?;
+    let by_first = replies(alloc, &mut first, &input)?;
+    assert!(rt;
+        by_first.as_slice() == wanted.as_slice(),
+        "the first version"
+    );
     Ok(())
 }

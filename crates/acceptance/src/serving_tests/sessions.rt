@@ -1,8 +1,8 @@
 //! Sessions by readers and writers of many kinds.
 use super::script::{bytes_of, check, table};
+use crate::counting::Counting;
 use serving::{ServeFault, serve};
-use std::alloc::Global;
-use std::io::{self, Read, Write};
+use std::io::{self, Read};
 use std::test::Fail;
 
 /// Gives the bytes in two reads, the first of `cut` bytes.
@@ -45,38 +45,6 @@ impl Read for Broken<'_> {
     }
 }
 
-/// Gives a byte at each read.
-#[derive(Drop)]
-struct ByteByByte<'a> {
-    bytes: &'a [u8],
-}
-
-impl Read for ByteByByte<'_> {
-    fn read(&mut self, buf: &mut [u8]) -> io::Result<usize> {
-        let count = self.bytes.len().min(buf.len()).min(1);
-        buf[..count].copy_from_slice(&self.bytes[..count]);
-        self.bytes = &self.bytes[count..];
-        Ok(count)
-    }
-}
-
-/// Takes all that it is given, and counts the calls.
-#[derive(Drop)]
-struct Counting {
-    writes: u32,
-}
-
-impl Write for Counting {
-    fn write(&mut self, buf: &[u8]) -> io::Result<usize> {
-        self.writes = self.writes.saturating_add(1);
-        Ok(buf.len())
-    }
-
-    fn flush(&mut self) -> io::Result<()> {
-        Ok(())
-    }
-}
-
 #[test]
 fn an_empty_mosaic(rt: HostRuntime) -> Result<(), Fail> {
     let session = b"count\nelev 0 0\nexport N00E000\n";
@@ -95,22 +63,6 @@ fn an_import(rt: HostRuntime) -> Result<(), Fail> {
         session,
         b"OK 1\nOK 5\nOK 9\nOK 18\n$A",
     )
-}
-
-#[test]
-fn a_hundred_thousand_reads(rt: HostRuntime) -> Result<(), Fail> {
-    let alloc = rt.alloc();
-    let mut input = Vec::new(alloc);
-    let mut wanted = Vec::new(alloc);
-    for _ in 0..17_000_u32 {
-        input.extend_from_slice(b"count\n")?;
-        wanted.extend_from_slice(b"OK 0\n")?;
-    }
-    let mut reader = ByteByByte { bytes: &input };
-    let mut output = Vec::new(alloc);
-    serve(alloc, &mut reader, &mut output, &mut table(alloc, 3, 1)?)?;
-    assert!(rt; output.as_slice() == wanted.as_slice());
-    Ok(())
 }
 
 #[test]
@@ -196,7 +148,7 @@ fn a_write_for_each_reply(rt: HostRuntime) -> Result<(), Fail> {
         b"import N00E000 18\n$Aexport N00E000\ntiles\ntrace 0 0\nwatershed 0 2\nelev 9 9\n";
     let input = bytes_of(alloc, session)?;
     let mut reader = input.as_slice();
-    let mut writer = Counting { writes: 0 };
+    let mut writer = Counting::new();
     serve(alloc, &mut reader, &mut writer, &mut table(alloc, 3, 4)?)?;
     // The bytes of the tile leave by one of their own.
     assert!(rt; writer.writes == 7);

@@ -1,14 +1,59 @@
 //! Sessions over a store on a disk in memory.
 use super::script::{bytes_of, check, replies, store};
 use disk::FaultOnceDisk;
+use std::alloc::Global;
+use std::process::Abort;
 use std::test::Fail;
 use store::Store;
 
-/// How many calls opening a store without tiles makes: a sync, both gates and the root behind the open one.
-const CALLS_TO_OPEN: u64 = 4;
+/// Lines to a store that was opened anew after others, and of the first one each call fails in turn.
+#[derive(Clone, Copy)]
+struct Faulty {
+    before: &'static [u8],
+    /// How many calls the opening makes, and how many the first line.
+    calls: (u64, u64),
+    lines: &'static [u8],
+    /// What is replied where one of these calls fails.
+    replies: &'static [u8],
+    /// What is asked once the disk was opened again, and replied after a fault in the last of the calls and in the others.
+    questions: &'static [u8],
+    last: &'static [u8],
+    others: &'static [u8],
+}
 
-/// How many calls the first import makes: a page, an index page, a record and a root, a sync, the gate, a sync.
-const CALLS_TO_IMPORT: u64 = 7;
+// Without tiles an opening makes a sync and reads both gates and the root behind the open one; later both roots, and for
+// a tile a record and an index page. An import writes a page, an index page, a record and a root, and makes a sync, opens
+// the gate, and makes a sync; where the gate is open at first, it is closed and that is synced.
+
+const FIRST_IMPORT: Faulty = Faulty {
+    before: b"",
+    calls: (4, 7),
+    lines: b"import N00E000 18\n$Aelev 0 2\ncount\nexport N00E000\ntiles\nwall 3 1 1\n",
+    replies: b"ERR 20 Device\nERR 22 Failed\nOK 0\nERR 22 Failed\nERR 22 Failed\nERR 22 Failed\n",
+    questions: b"count\nelev 0 2\n",
+    last: b"OK 1\nOK 5\n",
+    others: b"OK 0\nERR 7 Outside\n",
+};
+
+const SECOND_IMPORT: Faulty = Faulty {
+    before: b"import N00E000 18\n$A",
+    calls: (7, 9),
+    lines: b"import N00E001 18\n$Belev 0 2\ncount\n",
+    replies: b"ERR 20 Device\nERR 22 Failed\nOK 1\n",
+    questions: b"count\nelev 0 2\nelev 1 4\n",
+    last: b"OK 2\nOK 5\nOK 1\n",
+    others: b"OK 1\nOK 5\nERR 7 Outside\n",
+};
+
+const ELEVATION: Faulty = Faulty {
+    before: b"import N00E000 18\n$A",
+    calls: (7, 1),
+    lines: b"elev 0 2\ncount\n",
+    replies: b"ERR 20 Device\nOK 1\n",
+    questions: b"elev 0 2\n",
+    last: b"OK 5\n",
+    others: b"",
+};
 
 #[test]
 fn a_store_is_served(rt: HostRuntime) -> Result<(), Fail> {
@@ -18,19 +63,32 @@ fn a_store_is_served(rt: HostRuntime) -> Result<(), Fail> {
     check(&rt, rt.alloc(), 3, 2, session, wanted)
 }
 
-#[test]
-fn a_fault_in_an_import(rt: HostRuntime) -> Result<(), Fail> {
-    let alloc = rt.alloc();
-    let session = b"import N00E000 18\n$Aelev 0 2\ncount\nexport N00E000\ntiles\nwall 3 1 1\n";
-    let input = bytes_of(alloc, session)?;
-    let wanted =
-        b"ERR 20 Device\nERR 22 Failed\nOK 0\nERR 22 Failed\nERR 22 Failed\nERR 22 Failed\n";
-    for call in 0..CALLS_TO_IMPORT {
-        let fresh = store(alloc, 3, 2)?.into_disk();
-        let disk = FaultOnceDisk::new(fresh, CALLS_TO_OPEN + call);
-        let mut faulty = Store::open(alloc, disk).map_err(|_| "not opened")?;
-        let output = replies(alloc, &mut faulty, &input)?;
-        assert!(rt; output.as_slice() == wanted.as_slice(), "at call {call}");
+// Whether the replies are right where this call of the first line fails, and once the disk was opened again.
+fn is_told(alloc: Global, faulty: &Faulty, call: u64) -> Result<bool, Fail> {
+    let (to_open, calls) = faulty.calls;
+    let mut fresh = store(alloc, 3, 2)?;
+    replies(alloc, &mut fresh, &bytes_of(alloc, faulty.before)?)?;
+    let disk = FaultOnceDisk::new(fresh.into_disk(), to_open.saturating_add(call));
+    let mut failing = Store::open(alloc, disk).map_err(|_| "not opened")?;
+    let output = replies(alloc, &mut failing, &bytes_of(alloc, faulty.lines)?)?;
+    let mut again = Store::open(alloc, failing.into_disk()).map_err(|_| "not opened")?;
+    let later = replies(alloc, &mut again, faulty.questions)?;
+    let is_last = call.saturating_add(1) == calls;
+    let wanted = if is_last { faulty.last } else { faulty.others };
+    Ok(output.as_slice() == faulty.replies && later.as_slice() == wanted)
+}
+
+fn fault_at_each_call(rt: &impl Abort, alloc: Global, faulty: &Faulty) -> Result<(), Fail> {
+    for call in 0..faulty.calls.1 {
+        let is_told = is_told(alloc, faulty, call)?;
+        assert!(rt; is_told, "at call {call}");
     }
     Ok(())
+}
+
+#[test]
+fn a_fault_at_each_call_of_a_line(rt: HostRuntime) -> Result<(), Fail> {
+    fault_at_each_call(&rt, rt.alloc(), &FIRST_IMPORT)?;
+    fault_at_each_call(&rt, rt.alloc(), &SECOND_IMPORT)?;
+    fault_at_each_call(&rt, rt.alloc(), &ELEVATION)
 }
