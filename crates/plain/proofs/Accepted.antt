@@ -1,7 +1,7 @@
 -- What is known of a command that isn't refused.
-use Rattle.std.proofs.Common.{◌≡◌, ◌∙◌, ℕ, ◌*◌, ℤ, pos, negsuc, ◌-ℤ◌, ◌≤ℤ◌, int_le, int_lt, Bool, true, false, cond, not, ◌&&◌, List, [], ◌∷◌, length, get_or, filter, Option, Some, None, Result, Ok, Err, nat_lt, nat_eq, inl, inr, refl, sym, ap₂, subst, arith}
+use Rattle.std.proofs.Common.{◌≡◌, ◌∙◌, ℕ, ℤ, pos, negsuc, ◌-ℤ◌, ◌≤ℤ◌, int_le, int_lt, Bool, true, false, cond, not, ◌&&◌, List, [], ◌∷◌, length, get_or, filter, Option, Some, None, Result, Ok, Err, nat_lt, inl, inr, refl, sym, ap₂, subst, arith}
 use Rattle.std.proofs.lemmas.Int.{ints, clamps}
-use Rattle.std.proofs.lemmas.Bool.{cases_lt, cond_both, and_parts, or_cases, not-false, false≢true, eqb-true}
+use Rattle.std.proofs.lemmas.Bool.{cases_lt, cond_both, and_parts, or_cases, not-false, false≢true}
 use Rattle.std.proofs.lemmas.List.{get_or_past}
 use Rattle.std.proofs.lemmas.List.Elements.{All-head, All-tail, All-filter, All-map, All-weaker}
 use Rattle.std.specs.Int.{int_max}
@@ -12,18 +12,17 @@ use Rattle.lattice.specs.declared.point.Point.{Point}
 use Rattle.lattice.specs.declared.height.Height.{Height}
 use Rattle.lattice.specs.declared.height.Height.TheVariants.{Outside, Void, At}
 use Rattle.lattice.specs.declared.refusal.Refusal.{Refusal}
-use Rattle.lattice.specs.declared.refusal.Refusal.TheVariants.{BadLength, TileThere, NoTile, Full, NothingVoid, BadHeight, BadDepth, BadBox, Repeated, TooDeep, SinkThere, SinksFull, NoSink}
+use Rattle.lattice.specs.declared.refusal.Refusal.TheVariants.{NothingVoid, BadHeight, BadDepth, BadBox, Repeated, TooDeep, SinkThere, SinksFull, NoSink}
 use Rattle.lattice.specs.Lattice.{holds, index_of}
-use Rattle.lattice.specs.Mosaic.{Mosaic, IsTile, IsMosaic, IsSample, is_present, is_void, void}
+use Rattle.lattice.specs.Mosaic.{Mosaic, IsTile, IsMosaic, IsSample, is_void, void}
 use Rattle.lattice.specs.Height.{sample_at, first_height, by_seam_rule, height_of}
 use Rattle.lattice.specs.Limits.{most_sinks}
 use Rattle.lattice.specs.Ground.{metres, same_point, is_sink}
 use Rattle.lattice.proofs.IntTests.{le_true}
-use Rattle.hgt.specs.Bytes.{samples_in}
 use Rattle.edits.specs.declared.command.Command.{Command}
 use Rattle.edits.specs.declared.command.Command.TheVariants.{Import, Remove, Patch, Burn, Wall, Sink, Unsink}
 use Rattle.edits.specs.Effect as effects
-use Rattle.catalogue.specs.Tiles.{added, without, with_sinks}
+use Rattle.catalogue.specs.Tiles.{with_sinks}
 use Rattle.edits.specs.Sinks.{with_point, sunk_at}
 use Rattle.edits.specs.Effect.{effect, edited, patched, burnt, walled, is_named, is_repeated, is_depth, is_box, has_void, is_in_box, is_void_at, fault_at, first_fault, unless_fault}
 use Rattle.plain.specs.Answers.{refusal_of}
@@ -41,20 +40,6 @@ pass false r x h = (refl, h, refl)
 no_fault : (o : Option Refusal) (m : Mosaic) → refusal_of (unless_fault o m) ≡ None → (o ≡ None) × (unless_fault o m ≡ Ok m)
 no_fault None m h = (refl, refl)
 no_fault (Some r) m h = absurd (some_not_none h)
-
-pub accepted_import : (k : ℕ) (m : Mosaic) (c : Corner) (bytes : List ℕ) → refusal_of (effect k m (Import c bytes)) ≡ None →
-    (length bytes ≡ 2 * (m.side * m.side)) × (is_present m c ≡ false) × (effect k m (Import c bytes) ≡ Ok (added (record { corner = c; samples = samples_in bytes }) m))
-accepted_import k m c bytes h =
-    let new : Result Mosaic Refusal = Ok (added (record { corner = c; samples = samples_in bytes }) m) in
-    let third = cond (not (nat_lt (length m.tiles) k)) (Err Full) new in
-    let second = cond (is_present m c) (Err TileThere) third in
-    let one = pass (not (nat_eq (length bytes) (2 * (m.side * m.side)))) BadLength second h in
-    let two = pass (is_present m c) TileThere third one.1 in
-    let three = pass (not (nat_lt (length m.tiles) k)) Full new two.1 in
-    (eqb-true (length bytes) (2 * (m.side * m.side)) (not-false (nat_eq (length bytes) (2 * (m.side * m.side))) one.0), two.0, one.2 ∙ two.2 ∙ three.2)
-
-pub accepted_remove : (k : ℕ) (m : Mosaic) (c : Corner) → refusal_of (effect k m (Remove c)) ≡ None → effect k m (Remove c) ≡ Ok (without c m)
-accepted_remove k m c h = (pass (not (is_present m c)) NoTile (Ok (without c m)) h).2
 
 pub accepted_sink : (h : Height) (m : Mosaic) (p : Point) → refusal_of (sunk_at h p m) ≡ None → sunk_at h p m ≡ Ok (with_sinks (with_point p m.sinks) m)
 accepted_sink Outside m p h = absurd (some_not_none h)

@@ -12,12 +12,11 @@ use Rattle.lattice.specs.declared.refusal.Refusal.{Refusal}
 use Rattle.lattice.specs.declared.refusal.Refusal.TheVariants.{Repeated}
 use Rattle.lattice.specs.Lattice.{point_of}
 use Rattle.lattice.specs.Mosaic.{Tile, Mosaic, IsSample}
-use Rattle.lattice.specs.Height.{height_of}
 use Rattle.hgt.specs.Bytes.{sample_of, samples_in}
 use Rattle.catalogue.specs.Tiles.{with_tile}
 use Rattle.lattice.specs.Points.{is_point_before}
 use Rattle.edits.specs.Sinks.{with_point}
-use Rattle.edits.specs.Effect.{changed_from, is_named, is_repeated, is_in_box, is_void_at, has_void_from, fault_at, first_fault, unless_fault}
+use Rattle.edits.specs.Effect.{changed_from, is_in_box, is_void_at, has_void_from, unless_fault}
 use Rattle.plain.specs.Answers.{refusal_of}
 
 -- where the depth or the height passed, the points decide
@@ -29,22 +28,10 @@ pub refusal-points : (repeated : Bool) (o : Option Refusal) (m : Mosaic) → ref
 refusal-points true o m = refl
 refusal-points false o m = refusal-unless_fault o m
 
--- the next point of a burn
-pub first_fault_more : (m : Mosaic) (depth : ℤ) (points : List Point) (i : ℕ) (d : Point) → i < length points →
-    first_fault m depth (drop i points) ≡ fault_at depth (height_of m (get_or points i d)) (first_fault m depth (drop (i + 1) points))
-first_fault_more m depth points i d inside = at_drop_more (first_fault m depth) points i d inside
-
-pub is_repeated_more : (points : List Point) (i : ℕ) (d : Point) → i < length points →
-    is_repeated (drop i points) ≡ (is_named (drop (i + 1) points) (get_or points i d) || is_repeated (drop (i + 1) points))
-is_repeated_more points i d inside = at_drop_more is_repeated points i d inside
-
 pub has_void_more : (m : Mosaic) (from to : Point) (c : Corner) (e : ℕ) (samples : List ℤ) → e < length samples →
     has_void_from m from to c e (drop e samples) ≡
     ((is_in_box from to (point_of m.side c e) && is_void_at m (point_of m.side c e)) || has_void_from m from to c (e + 1) (drop (e + 1) samples))
 has_void_more m from to c e samples inside = at_drop_more (has_void_from m from to c e) samples e (pos 0) inside
-
-pub has_void_end : (m : Mosaic) (from to : Point) (c : Corner) (e : ℕ) (samples : List ℤ) → length samples ≤ e → has_void_from m from to c e (drop e samples) ≡ false
-has_void_end m from to c e samples past = at_drop_all (has_void_from m from to c e) samples e past
 
 pub changed_more : (f : ℕ → ℤ → ℤ) (e : ℕ) (samples : List ℤ) (d : ℤ) → e < length samples →
     changed_from f e (drop e samples) ≡ f e (get_or samples e d) ∷ changed_from f (e + 1) (drop (e + 1) samples)

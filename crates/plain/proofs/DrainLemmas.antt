@@ -21,7 +21,7 @@ use Rattle.plain.specs.Levels.{level_of}
 use Rattle.plain.specs.Flats.{is_lower, is_level}
 use Rattle.plain.specs.Drains.{falls_faster, outranks, is_steepest, DrainsBy, IsFirstOf}
 use Rattle.plain.proofs.GroundLemmas.{adjacent_fits}
-use Rattle.plain.proofs.FlatLemmas.{lower_is, lower_from, level_is, level_from}
+use Rattle.plain.proofs.FlatLemmas.{lower_is, lower_from, level_is}
 
 abbrev step_at : Point → Dir → Step
 step_at p d = record { direction = d; to = step d p }
@@ -303,9 +303,6 @@ nearer_less m cells p q j k own other near =
     let here : suc near.nearer.0 ≡ k = one_distance (terrain m) (level_of cells) p (suc near.nearer.0) k near.nearer.1.1 own in
     let there : near.nearer.0 ≡ j = one_distance (terrain m) (level_of cells) q near.nearer.0 j near.nearer.1.0 other in
     omega arith
-
-pub nearer_level : (m : Mosaic) (cells : List Cell) (p q : Point) → IsNearer (terrain m) (level_of cells) p q → is_level m cells p q ≡ true
-nearer_level m cells p q near = level_from m cells p q near.beside near.same_level
 
 -- the next step isn't to a nearer point either
 pub not_at : (Q : Point → Type 0) (ss : List Step) (i : ℕ) (x d : Step) → i < length ss → (Q (get_or ss i x).to → ⊥) → Q (get_or ss i d).to → ⊥

@@ -1,6 +1,6 @@
 -- What the tiles say of a point, tile by tile, and the height that this comes to.
-use Rattle.std.proofs.Common.{◌≡◌, ◌∙◌, ℕ, ◌+◌, ◌<◌, ◌≤◌, ℤ, Bool, true, false, cond, not, List, [], ◌∷◌, length, get_or, drop, map, filter, Option, Some, None, ap}
-use Rattle.std.proofs.lemmas.List.{at_drop_more, at_drop_all}
+use Rattle.std.proofs.Common.{◌≡◌, ◌∙◌, ℕ, ◌+◌, ◌<◌, ℤ, Bool, true, false, cond, not, List, ◌∷◌, length, get_or, drop, map, filter, Option, Some, None, ap}
+use Rattle.std.proofs.lemmas.List.{at_drop_more}
 use Rattle.std.specs.Ordering.{int_eq}
 use Rattle.std.specs.List.{list_any}
 use Rattle.lattice.specs.declared.point.Point.{Point}
@@ -51,6 +51,3 @@ module _ (n : ℕ) (p : Point) (tiles : List Tile) (i : ℕ) (t : Tile) (inside 
       by_height : (h : Bool) → height_from h (sample_at n t p ∷ told n p (drop (i + 1) tiles)) ≡ At (sample_at n t p)
       by_height true = ap (λ b. cond b (first_height (told n p (drop (i + 1) tiles))) (At (sample_at n t p))) some
       by_height false = ap (λ b. cond b (first_height (told n p (drop (i + 1) tiles))) (At (sample_at n t p))) some
-
-pub told_end : (n : ℕ) (p : Point) (tiles : List Tile) (i : ℕ) → length tiles ≤ i → told n p (drop i tiles) ≡ []
-told_end n p tiles i past = at_drop_all (told n p) tiles i past

@@ -3,7 +3,7 @@ use Rattle.std.proofs.Common.{◌≡◌, ℕ, ◌*◌, ◌<◌, ◌≤◌, ℤ, 
 use Rattle.std.specs.List.{AllZip}
 use Rattle.std.proofs.lemmas.List.Elements.{All-nil, All-cons, All-head, All-tail, All-filter}
 use Rattle.lattice.specs.Corners.{Corner, is_before, same_corner}
-use Rattle.lattice.specs.Mosaic.{Tile, Mosaic, IsTile, empty_mosaic}
+use Rattle.lattice.specs.Mosaic.{Tile, Mosaic, IsTile}
 use Rattle.page_codec.specs.Sizes.{pages_of}
 use Rattle.hgt.specs.Bytes.{samples_in}
 use Rattle.hgt.proofs.BytesLemmas.{samples_are_samples_in, AreHgtBytes-samples_in}
@@ -77,9 +77,6 @@ corners_held n stored m are = same stored ∙ ap corners_of (sym are.mosaic)
     same (t ∷ rest) = ap (λ (cs : List Corner). t.corner ∷ cs) (same rest)
 
 -- ---- no tiles
-
-pub no_tiles_of : (n : ℕ) → AreTilesOf n [] (empty_mosaic n)
-no_tiles_of n = record { mosaic = refl; filled = All-nil (IsFilled n) }
 
 -- ---- a tile that comes in
 

@@ -1,26 +1,21 @@
 -- A step by the trees that it goes through: what commits nothing, and the commit of what was staged.
-use Rattle.std.proofs.Common.{◌≡◌, ◌≢◌, ◌⊎◌, inl, ⊎_elim, ℕ, ◌+◌, ◌*◌, ◌≤◌, ◌<◌, ◌^◌, nat_eq, true, false, List, [], refl, sym, ap, ◌∙◌, subst, arith}
-use Rattle.std.specs.Prelude.{Option, Some, None, Result, Ok, Err, IsTrue, Contains, if◌then◌else◌}
-use Rattle.disk.specs.Disk.{Image, HasRisen}
+use Rattle.std.proofs.Common.{◌≡◌, ◌≢◌, ◌⊎◌, inl, ⊎_elim, ℕ, ◌+◌, ◌≤◌, ◌<◌, ◌^◌, true, false, refl, sym, ap, ◌∙◌, subst, arith}
+use Rattle.std.specs.Prelude.{Option, Some, Result, Ok, Err, IsTrue, Contains}
+use Rattle.disk.specs.Disk.{HasRisen}
 use Rattle.disk.specs.Stops.{LeavesOnly, weaker, in_turn}
 use Rattle.disk.specs.declared.disk.Disk.{Ghosts}
 use Rattle.lattice.specs.Corners.{Corner}
 use Rattle.lattice.specs.declared.refusal.Refusal.{Refusal}
 use Rattle.lattice.specs.declared.refusal.Refusal.TheVariants.{Device, NoMemory, Failed, Worn}
-use Rattle.layout.specs.Sizes.{pages_of, index_pages_by, plane_pages_of}
-use Rattle.layout.specs.declared.version.Version.{Version}
-use Rattle.layout.specs.declared.version.Version.TheVariants.{One, Two}
-use Rattle.page_codec.specs.Formats.{number_of}
-use Rattle.page_codec.specs.Roots.{RootValue, format_of}
+use Rattle.page_codec.specs.Roots.{RootValue}
 use Rattle.catalogue.specs.Endings.{ends_any}
 use Rattle.calls.specs.State.{Contents, State, last_number, failing}
 use Rattle.calls.specs.Steps.{Steps, StepsNot, stepped, step_in_doubt}
-use Rattle.calls.specs.Told.{may_refuse_step, writes_a_step}
+use Rattle.calls.specs.Told.{may_refuse_step}
 use Rattle.cow_tree.specs.Layout.{Stands}
 use Rattle.cow_tree.specs.Stored.{Stored, next_commit}
 use Rattle.cow_tree.specs.Trees.{disk_of, root_of, has_failed, sinks_of, staged_in, IsAt as IsTreeAt}
 use Rattle.cow_tree.specs.declared.tree.Tree.{Tree}
-use Rattle.store.specs.Kept.{stale_in}
 use Rattle.store.specs.Staging.{CommitsNothing}
 use Rattle.store.specs.Stepped.{IsStepped, IsStepStaged, step_ending}
 use Rattle.store.specs.TreeStates.{IsInState}
@@ -51,30 +46,6 @@ module _ {D : Type 0} (g : Ghosts D) (old new : Tree D g) (works : has_failed ol
 -- a store that had failed
 pub had_failed : {D : Type 0} (g : Ghosts D) (tree : Tree D g) → has_failed tree ≡ true → IsStepped g (Err Failed) tree tree
 had_failed g tree fails = ended.had_failed g step_ending tree fails refl (λ s at failed. record { failed = failed; same = refl })
-
--- where no tile is stale, or the commit number can't grow
-pub names_none : {D : Type 0} (g : Ghosts D) (tree : Tree D g) → has_failed tree ≡ false → ((disk : D) (image : Image) → g.honest disk → g.since disk (g.moment disk) image → g.may disk image)
-    → stale_in (root_of tree) ≡ [] → IsStepped g (Ok None) tree tree
-names_none g tree works only_now none =
-    ended.stays_first g step_ending tree works only_now (Ok None) (ended.no_fault None) tt refl
-    (λ s at. (record { working = is_working g tree works s at; same = refl }, sym at.stale ∙ none))
-
-nothing_within : (c : Corner) → Contains [] c → ⊥
-nothing_within c (k, below, here) = omega (arith, below)
-
-pub worn_out : {D : Type 0} (g : Ghosts D) (tree : Tree D g) → has_failed tree ≡ false → ((disk : D) (image : Image) → g.honest disk → g.since disk (g.moment disk) image → g.may disk image)
-    → (c : Corner) → Contains (stale_in (root_of tree)) c → (root_of tree).number ≡ last_number → IsStepped g (Err Worn) tree tree
-worn_out g tree works only_now c stale worn =
-    ended.stays_first g step_ending tree works only_now (Err Worn) (ended.other_refusal Worn (λ is. cc)) (refl, λ is. cc) tt
-    (λ s at. (record { stays = record { working = is_working g tree works s at; same = refl }; worn = sym at.number ∙ worn }, λ none. nothing_within c (subst (λ (cs : List Corner). Contains cs c) (at.stale ∙ none) stale)))
-
--- what a step writes at most, by the version of the format
-pub step_writes : (root : RootValue) → writes_a_step (number_of root.version) root.side ≡ 2 * plane_pages_of (format_of root)
-step_writes root = by root.version
-  where
-    by : (v : Version) → 2 * (1 + index_pages_by (if nat_eq (number_of v) 1 then One else Two) (pages_of root.side) + pages_of root.side) ≡ 2 * (1 + index_pages_by v (pages_of root.side) + pages_of root.side)
-    by One = refl
-    by Two = refl
 
 -- what may end any call that reads may end a step
 pub may_end_step : (r : Refusal) → IsTrue (ends_any r) → IsTrue (may_refuse_step r)

@@ -35,7 +35,7 @@ use Rattle.calls.specs.Told.{Matches, Knows, WritesFew, may_refuse, may_refuse_q
 use Rattle.calls.proofs.Applying.{plan_refused}
 use Rattle.edits.specs.Touched.{stale_after}
 use Rattle.drainage.specs.declared.held.Held as water
-use Rattle.table_engine.specs.TableState.{Held, held_of, contents_of, stale_among, table, IsKept}
+use Rattle.table_engine.specs.TableState.{Held, held_of, contents_of, stale_among, table}
 use Rattle.table_engine.proofs.FreshTiles.{one_less}
 
 few_writes : (side : ℕ) (c : Command) → WritesFew 2 side (ask.Do c) 0 0

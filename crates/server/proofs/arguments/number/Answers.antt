@@ -1,12 +1,7 @@
-use Rattle.std.proofs.Common.{rules, ◌≡◌, ◌∙◌, ℕ, sym, Option, Some, None, List}
-use Rattle.std.specs.Prelude.{MatchOption}
+use Rattle.std.proofs.Common.{rules, ◌≡◌, ◌∙◌, sym, Some, None}
 use Rattle.clap.specs.Words.{first_of, found_of, rows_of}
 use Rattle.clap.proofs.WalkLemmas.{first_value-rows}
-use Rattle.server.specs.CommandLine.{IsNatIn}
 use Rattle.server.proofs.arguments.number.Goals as goal
-
-abbrev IsNumber : Option (List ℕ) → Option ℕ → Type 0
-IsNumber text result = MatchOption result ((n : ℕ) → IsNatIn text n → ⊥) (IsNatIn text)
 
 pub returns-in_err-text : goal.returns-in_err-text
 returns-in_err-text c =
