@@ -219,8 +219,8 @@ fn refusals(alloc: Global, version: u32) -> Result<u32, Fail> {
     let mut store = store_of_a(alloc, version)?;
     let questions = questions();
     let answers = answers(alloc)?;
-    let changes = changes(alloc)?;
-    let outcomes = outcomes(alloc)?;
+    let (changes, outcomes) = (changes(alloc)?, outcomes(alloc)?);
+    let (changes, outcomes) = (&changes[..], &outcomes[..]);
     let stale = ask_questions(alloc, &mut store, &questions, &answers)?;
     let step = ask_in_runs(alloc, &mut store, &changes[..1], &outcomes[..1], 1)?;
     let fresh = ask_questions(alloc, &mut store, &questions, &answers)?;
