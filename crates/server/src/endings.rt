@@ -18,7 +18,7 @@ pub const REFUSED: u8 = 1;
 pub const BAD_WORDS: u8 = 2;
 
 /// Ends a session, and answers the exit status.
-pub fn end_session<W: Write>(writer: &mut W, served: Result<(), ServeFault>) -> u8
+pub(crate) fn end_session<W: Write>(writer: &mut W, served: Result<(), ServeFault>) -> u8
     ensures { EndsSession served (W.contents writer.old) (W.contents writer.new) result }
 {
     match served {
@@ -28,7 +28,7 @@ pub fn end_session<W: Write>(writer: &mut W, served: Result<(), ServeFault>) -> 
 }
 
 /// Tells that a store was made, or why it wasn't, and answers the exit status.
-pub fn end_format<W: Write>(writer: &mut W, answer: Result<(), Refusal>) -> u8
+pub(crate) fn end_format<W: Write>(writer: &mut W, answer: Result<(), Refusal>) -> u8
     ensures { EndsAnswering (λ _. count_line 0) answer (W.contents writer.old) (W.contents writer.new) result }
 {
     match answer {
@@ -38,7 +38,7 @@ pub fn end_format<W: Write>(writer: &mut W, answer: Result<(), Refusal>) -> u8
 }
 
 /// Tells how many commands were accepted, or a refusal, and answers the exit status.
-pub fn end_command<W: Write>(writer: &mut W, answer: Result<u64, Refusal>) -> u8
+pub(crate) fn end_command<W: Write>(writer: &mut W, answer: Result<u64, Refusal>) -> u8
     ensures { EndsAnswering count_line answer (W.contents writer.old) (W.contents writer.new) result }
 {
     match answer {
@@ -48,7 +48,7 @@ pub fn end_command<W: Write>(writer: &mut W, answer: Result<u64, Refusal>) -> u8
 }
 
 /// Tells a report, or why there is none, and answers the exit status.
-pub fn end_report<W: Write>(writer: &mut W, answer: Result<Vec<u8>, Refusal>) -> u8
+pub(crate) fn end_report<W: Write>(writer: &mut W, answer: Result<Vec<u8>, Refusal>) -> u8
     ensures { EndsAnswering (λ text. text) (items_in answer) (W.contents writer.old) (W.contents writer.new) result }
 {
     match answer {
@@ -58,7 +58,7 @@ pub fn end_report<W: Write>(writer: &mut W, answer: Result<Vec<u8>, Refusal>) ->
 }
 
 /// Writes a reply, and answers the exit status.
-pub fn reply<W: Write>(writer: &mut W, reply: Text) -> u8
+pub(crate) fn reply<W: Write>(writer: &mut W, reply: Text) -> u8
     ensures { EndsReplying reply (W.contents writer.old) (W.contents writer.new) result }
 {
     match reply.write(writer) {
@@ -68,7 +68,7 @@ pub fn reply<W: Write>(writer: &mut W, reply: Text) -> u8
 }
 
 /// Writes a reply of several lines, and answers the exit status.
-pub fn reply_text<W: Write>(writer: &mut W, text: &[u8]) -> u8
+pub(crate) fn reply_text<W: Write>(writer: &mut W, text: &[u8]) -> u8
     ensures { EndsReplying text.now (W.contents writer.old) (W.contents writer.new) result }
 {
     match write_bytes(writer, text) {
@@ -78,7 +78,7 @@ pub fn reply_text<W: Write>(writer: &mut W, text: &[u8]) -> u8
 }
 
 /// Whether all has left, as an exit status.
-pub fn flush<W: Write>(writer: &mut W) -> u8
+pub(crate) fn flush<W: Write>(writer: &mut W) -> u8
     ensures { EndsFlushing (W.contents writer.old) (W.contents writer.new) result }
 {
     match writer.flush() {
@@ -88,7 +88,7 @@ pub fn flush<W: Write>(writer: &mut W) -> u8
 }
 
 /// The line that tells which stream failed.
-pub fn fault_line(fault: ServeFault) -> &'static [u8]
+pub(crate) fn fault_line(fault: ServeFault) -> &'static [u8]
     ensures { result.now ≡ fault_line fault }
 {
     match fault {
@@ -98,7 +98,7 @@ pub fn fault_line(fault: ServeFault) -> &'static [u8]
 }
 
 /// Tells of a refusal, and answers the exit status.
-pub fn refuse<W: Write>(writer: &mut W, refusal: Refusal) -> u8
+pub(crate) fn refuse<W: Write>(writer: &mut W, refusal: Refusal) -> u8
     ensures status { result ≡ REFUSED }
     ensures line { Begins (W.contents writer.old) (W.contents writer.new) (refusal_text refusal) }
 {
@@ -109,7 +109,7 @@ pub fn refuse<W: Write>(writer: &mut W, refusal: Refusal) -> u8
 }
 
 /// Ends with a line of the program's own, which is tried once.
-pub fn end_with<W: Write>(writer: &mut W, line: &[u8], status: u8) -> u8
+pub(crate) fn end_with<W: Write>(writer: &mut W, line: &[u8], status: u8) -> u8
     ensures status { result ≡ status }
     ensures line { Begins (W.contents writer.old) (W.contents writer.new) line.now }
 {
@@ -119,7 +119,7 @@ pub fn end_with<W: Write>(writer: &mut W, line: &[u8], status: u8) -> u8
 }
 
 /// Tells in one line what is wrong, and with what, and answers the exit status.
-pub fn tell<W: Write>(alloc: Global, writer: &mut W, words: &[u8], about: &[u8]) -> u8
+pub(crate) fn tell<W: Write>(alloc: Global, writer: &mut W, words: &[u8], about: &[u8]) -> u8
     ensures { Tells (words.now ++ about.now) (W.contents writer.old) (W.contents writer.new) result }
 {
     match line_about(alloc, words, about) {

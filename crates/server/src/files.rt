@@ -37,7 +37,7 @@ pub enum PathFault {
 }
 
 /// Makes the file of a store, of the least size.
-pub fn new_disk(
+pub(crate) fn new_disk(
     rt: &HostRuntime,
     path: &str,
     side: u32,
@@ -58,7 +58,7 @@ pub fn new_disk(
 }
 
 /// Opens the file of a store.
-pub fn open_disk(rt: &HostRuntime, path: &str) -> Result<FileDisk<Brand>, PathFault>
+pub(crate) fn open_disk(rt: &HostRuntime, path: &str) -> Result<FileDisk<Brand>, PathFault>
     ensures opened { IfOk result IsUntouched }
     ensures none { IfErr result (λ fault. fault ≡ Closed) }
 {
@@ -69,7 +69,7 @@ pub fn open_disk(rt: &HostRuntime, path: &str) -> Result<FileDisk<Brand>, PathFa
 }
 
 /// Makes the file of a store as long as so many sectors, where it is shorter.
-pub fn grow_file(rt: &HostRuntime, path: &str, sectors: u32) -> Result<Grown, Refusal>
+pub(crate) fn grow_file(rt: &HostRuntime, path: &str, sectors: u32) -> Result<Grown, Refusal>
     ensures grown { IfOk result (λ grown. sectors ≤ grown_sectors grown) }
     ensures fault { IfErr result (λ r. r ≡ Device) }
 {
@@ -77,7 +77,7 @@ pub fn grow_file(rt: &HostRuntime, path: &str, sectors: u32) -> Result<Grown, Re
 }
 
 /// Opens the file of a store that was made longer.
-pub fn open_grown(grown: Grown) -> Result<FileDisk<Brand>, PathFault>
+pub(crate) fn open_grown(grown: Grown) -> Result<FileDisk<Brand>, PathFault>
     ensures opened { IfOk result (λ disk. IsUntouched disk × (sectors_of disk ≡ grown_sectors grown)) }
     ensures none { IfErr result (λ fault. fault ≡ Closed) }
 {
@@ -88,7 +88,12 @@ pub fn open_grown(grown: Grown) -> Result<FileDisk<Brand>, PathFault>
 }
 
 /// Tells why there is no disk at the path, and answers the exit status.
-pub fn tell_fault<W: Write>(alloc: Global, path: &str, fault: PathFault, writer: &mut W) -> u8
+pub(crate) fn tell_fault<W: Write>(
+    alloc: Global,
+    path: &str,
+    fault: PathFault,
+    writer: &mut W,
+) -> u8
     ensures { TellsFault path.now fault (W.contents writer.old) (W.contents writer.new) result }
 {
     match fault {
