@@ -11,7 +11,7 @@ use std::alloc::{AllocError, Global};
 use watershed::Run;
 
 /// The answers to all queries of a point.
-#[derive(Debug, PartialEq, Drop)]
+#[derive(PartialEq, Drop)]
 pub(crate) struct Answers {
     elevation: Result<Height, Refusal>,
     fill: Result<i16, Refusal>,

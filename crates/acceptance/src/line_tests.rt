@@ -1,4 +1,5 @@
 //! Lines and payloads as they are read, the event that a line asks for, and the text of an answer.
+use crate::asserting::assert_row;
 use crate::counting::Counting;
 use calls::Event;
 use edits::Command;
@@ -6,7 +7,9 @@ use lattice::{Corner, Point, Refusal};
 use lines::{
     Ahead, Extent, Line, Request, Text, read_line, read_payload, request_of, skip_payload,
 };
+use std::alloc::{AllocError, Global};
 use std::io::{self, Read};
+use std::process::Abort;
 use std::test::Fail;
 use watershed::Run;
 
@@ -38,31 +41,6 @@ fn asked(line: &[u8]) -> Option<Request<'_>> {
     request_of(line)
 }
 
-#[test]
-fn lines_outside_the_grammar(rt: HostRuntime) {
-    let lines: [&[u8]; 16] = [
-        b"",
-        b"hello",
-        b"COUNT",
-        b"count ",
-        b" count",
-        b"count\r\r",
-        b"elev 0  0",
-        b"elev\t0 0",
-        b"elev 0 \x00",
-        b"elev 0 \x80",
-        b"elev 0 +1",
-        b"elev 0 1000000000",
-        b"import N00E000 1000000000",
-        b"export N00\x7f",
-        b"burn 1 1",
-        b"burn 1",
-    ];
-    for line in lines {
-        assert!(rt; asked(line).is_none(), "{line:?}");
-    }
-}
-
 /// The point of an elevation or of a sink.
 fn point_in(line: &[u8]) -> Option<Point> {
     match asked(line)? {
@@ -72,24 +50,10 @@ fn point_in(line: &[u8]) -> Option<Point> {
     }
 }
 
-#[test]
-fn numbers_of_lines(rt: HostRuntime) {
-    let lines: [(&[u8], i32, i32); 3] = [
-        (b"elev 0 -0", 0, 0),
-        (b"elev 007 -000000009\r", 7, -9),
-        (b"elev 999999999 -999999999", 999_999_999, -999_999_999),
-    ];
-    for (line, y, x) in lines {
-        assert!(rt;
-            word_of(line) == "elev" && point_in(line) == Some(Point { y, x }),
-            "{line:?}"
-        );
-    }
-}
-
-/// What the line asks for, in a word.
+/// What the line asks for, in a word; none where it asks for nothing.
 fn word_of(line: &[u8]) -> &'static str {
     match asked(line) {
+        None => "none",
         Some(
             Request::Import {
                 name: b"N00E000",
@@ -134,7 +98,7 @@ fn word_of_command(command: &Command) -> &'static str {
 
 #[test]
 fn words_of_lines(rt: HostRuntime) {
-    let lines: [(&[u8], &str); 15] = [
+    let lines: [(&[u8], &str); 33] = [
         (b"import N00E000 18", "import"),
         (b"remove ~!", "no name"),
         (b"export x", "no name"),
@@ -150,24 +114,49 @@ fn words_of_lines(rt: HostRuntime) {
         (b"step", "step"),
         (b"count\r", "count"),
         (b"quit", "quit"),
+        // Outside the grammar.
+        (b"", "none"),
+        (b"hello", "none"),
+        (b"COUNT", "none"),
+        (b"count ", "none"),
+        (b" count", "none"),
+        (b"count\r\r", "none"),
+        (b"elev 0  0", "none"),
+        (b"elev\t0 0", "none"),
+        (b"elev 0 \x00", "none"),
+        (b"elev 0 \x80", "none"),
+        (b"elev 0 +1", "none"),
+        (b"elev 0 1000000000", "none"),
+        (b"import N00E000 1000000000", "none"),
+        (b"export N00\x7f", "none"),
+        (b"burn 1 1", "none"),
+        (b"burn 1", "none"),
+        (b"sink 1", "none"),
+        (b"unsink 1 2 3", "none"),
     ];
-    for (line, word) in lines {
-        assert!(rt; word_of(line) == word, "{line:?}");
+    for ((line, word), row) in lines.into_iter().zip(0..) {
+        assert_row(&rt, word_of(line) == word, "a line by row", row);
     }
 }
 
 #[test]
-fn sinks_of_lines(rt: HostRuntime) {
-    let lines: [(&[u8], &str, i32, i32); 2] = [
+fn points_of_lines(rt: HostRuntime) {
+    let lines: [(&[u8], &str, i32, i32); 5] = [
+        (b"elev 0 -0", "elev", 0, 0),
+        (b"elev 007 -000000009\r", "elev", 7, -9),
+        (
+            b"elev 999999999 -999999999",
+            "elev",
+            999_999_999,
+            -999_999_999,
+        ),
         (b"sink 1 -2", "sink", 1, -2),
         (b"unsink -1 2", "unsink", -1, 2),
     ];
-    for (line, word, y, x) in lines {
-        assert!(rt; word_of(line) == word, "{line:?}");
-        assert!(rt; point_in(line) == Some(Point { y, x }), "{line:?}");
+    for ((line, word, y, x), row) in lines.into_iter().zip(0..) {
+        let is_right = word_of(line) == word && point_in(line) == Some(Point { y, x });
+        assert_row(&rt, is_right, "a line by row", row);
     }
-    assert!(rt; asked(b"sink 1").is_none());
-    assert!(rt; asked(b"unsink 1 2 3").is_none());
 }
 
 fn wall_points(line: &[u8]) -> Option<usize> {
@@ -179,7 +168,7 @@ fn wall_points(line: &[u8]) -> Option<usize> {
 }
 
 #[test]
-fn points_of_lines(rt: HostRuntime) -> Result<(), Fail> {
+fn points_of_a_wall(rt: HostRuntime) -> Result<(), Fail> {
     let mut line = Vec::from_slice(rt.alloc(), b"wall 5")?;
     for _ in 0..64 {
         line.extend_from_slice(b" 1 -2")?;
@@ -190,10 +179,18 @@ fn points_of_lines(rt: HostRuntime) -> Result<(), Fail> {
     Ok(())
 }
 
-/// Whether the next line is read so far, and is this one; none where it is too long.
-fn reads<R: Read>(ahead: &mut Ahead, reader: &mut R, extent: Extent, bytes: Option<&[u8]>) -> bool {
-    let mut line = Line::new();
-    read_line(ahead, reader, &mut line) == Ok(extent) && line.bytes() == bytes
+/// Reads lines one after another: so far, and these, or none where they are too long.
+fn check_lines<R: Read>(
+    rt: &impl Abort,
+    ahead: &mut Ahead,
+    reader: &mut R,
+    lines: &[(Extent, Option<&[u8]>)],
+) {
+    for ((extent, bytes), row) in lines.iter().zip(0..) {
+        let mut line = Line::new();
+        let is_right = read_line(ahead, reader, &mut line) == Ok(*extent) && line.bytes() == *bytes;
+        assert_row(rt, is_right, "a line by row", row);
+    }
 }
 
 #[test]
@@ -203,47 +200,66 @@ fn lines_and_payloads(rt: HostRuntime) {
         good: 100,
     };
     let mut ahead = Ahead::new(rt.alloc());
-    assert!(rt; reads(&mut ahead, &mut reader, Extent::Whole, Some(b"count\r")));
-    assert!(rt;
-        reads(
-            &mut ahead,
-            &mut reader,
-            Extent::Whole,
-            Some(b"import N00E000 3")
-        )
-    );
-    assert!(rt; skip_payload(&mut ahead, &mut reader, 3) == Ok(Extent::Whole));
-    assert!(rt; reads(&mut ahead, &mut reader, Extent::Whole, Some(b"skipped")));
-    assert!(rt; reads(&mut ahead, &mut reader, Extent::Cut, Some(b"end")));
-    assert!(rt; reads(&mut ahead, &mut reader, Extent::Cut, Some(b"")));
+    let lines: [(Extent, Option<&[u8]>); 2] = [
+        (Extent::Whole, Some(b"count\r")),
+        (Extent::Whole, Some(b"import N00E000 3")),
+    ];
+    check_lines(&rt, &mut ahead, &mut reader, &lines);
+    let skipped = skip_payload(&mut ahead, &mut reader, 3);
+    assert!(rt; skipped == Ok(Extent::Whole));
+    let lines: [(Extent, Option<&[u8]>); 3] = [
+        (Extent::Whole, Some(b"skipped")),
+        (Extent::Cut, Some(b"end")),
+        (Extent::Cut, Some(b"")),
+    ];
+    check_lines(&rt, &mut ahead, &mut reader, &lines);
+}
+
+/// Whether a payload of three bytes is read so far, and is this one.
+fn reads_payload<R: Read>(
+    alloc: Global,
+    ahead: &mut Ahead,
+    reader: &mut R,
+    extent: Extent,
+    bytes: &[u8],
+) -> Result<bool, AllocError> {
+    let mut payload = Vec::with_capacity(alloc, 3)?;
+    let read = read_payload(ahead, reader, 3, &mut payload);
+    Ok(read == Ok(extent) && payload.as_slice() == bytes)
 }
 
 #[test]
 fn payloads(rt: HostRuntime) -> Result<(), Fail> {
+    let alloc = rt.alloc();
     let mut reader = b"\n\x00123".as_slice();
-    let mut ahead = Ahead::new(rt.alloc());
-    let payloads: [(&[u8], Extent); 2] = [(b"\n\x001", Extent::Whole), (b"23", Extent::Cut)];
-    for (bytes, extent) in payloads {
-        let mut payload = Vec::with_capacity(rt.alloc(), 3)?;
-        let read = read_payload(&mut ahead, &mut reader, 3, &mut payload);
-        assert!(rt; read == Ok(extent) && payload.as_slice() == bytes);
-    }
+    let mut ahead = Ahead::new(alloc);
+    let first = reads_payload(alloc, &mut ahead, &mut reader, Extent::Whole, b"\n\x001")?;
+    let second = reads_payload(alloc, &mut ahead, &mut reader, Extent::Cut, b"23")?;
+    assert!(rt; first && second);
     Ok(())
+}
+
+/// A line of the greatest length, one that is longer by a byte, and one that is cut.
+fn long_input(alloc: Global) -> Result<Vec<u8>, AllocError> {
+    let mut input = Vec::new(alloc);
+    input.resize(2048, b'a')?;
+    input.push(b'\n')?;
+    input.resize(4098, b'b')?;
+    input.extend_from_slice(b"\ncount")?;
+    Ok(input)
 }
 
 #[test]
 fn long_lines(rt: HostRuntime) -> Result<(), Fail> {
-    let mut input = Vec::new(rt.alloc());
-    input.resize(2048, b'a')?;
-    let longest = input.clone()?;
-    input.extend_from_slice(b"\n")?;
-    input.resize(4098, b'b')?;
-    input.extend_from_slice(b"\ncount")?;
+    let input = long_input(rt.alloc())?;
     let mut reader = input.as_slice();
     let mut ahead = Ahead::new(rt.alloc());
-    assert!(rt; reads(&mut ahead, &mut reader, Extent::Whole, Some(&longest)));
-    assert!(rt; reads(&mut ahead, &mut reader, Extent::Whole, None));
-    assert!(rt; reads(&mut ahead, &mut reader, Extent::Cut, Some(b"count")));
+    let lines: [(Extent, Option<&[u8]>); 3] = [
+        (Extent::Whole, Some(&[b'a'; 2048])),
+        (Extent::Whole, None),
+        (Extent::Cut, Some(b"count")),
+    ];
+    check_lines(&rt, &mut ahead, &mut reader, &lines);
     Ok(())
 }
 
@@ -254,11 +270,18 @@ fn a_read_that_fails(rt: HostRuntime) {
         good: 8,
     };
     let mut ahead = Ahead::new(rt.alloc());
-    assert!(rt; reads(&mut ahead, &mut reader, Extent::Whole, Some(b"count")));
-    for _ in 0..2_u32 {
-        assert!(rt; read_line(&mut ahead, &mut reader, &mut Line::new()).is_err());
+    check_lines(
+        &rt,
+        &mut ahead,
+        &mut reader,
+        &[(Extent::Whole, Some(b"count"))],
+    );
+    for call in 0..2 {
+        let is_refused = read_line(&mut ahead, &mut reader, &mut Line::new()).is_err();
+        assert_row(&rt, is_refused, "a read that fails", call);
     }
-    assert!(rt; skip_payload(&mut ahead, &mut reader, 1).is_err());
+    let skipped = skip_payload(&mut ahead, &mut reader, 1);
+    assert!(rt; skipped.is_err());
 }
 
 /// Whether the texts are written so, one after another.

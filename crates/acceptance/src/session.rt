@@ -62,13 +62,8 @@ impl Session {
             let command = self.commands.next(self.alloc, &self.mosaic)?;
             let expected = self.apply(&command);
             self.step = self.step.saturating_add(1);
-            let Session { seed, step, .. } = *self;
-            assert_eq!(rt;
-                engine.apply(&command),
-                expected,
-                "seed {seed}, step {step}"
-            );
-            assert_eq!(rt; other.apply(&command), expected, "seed {seed}, step {step}");
+            let is_right = engine.apply(&command) == expected && other.apply(&command) == expected;
+            self.assert(rt, is_right, "a command");
             if let Err(refusal) = expected {
                 self.refusals.push(refusal)?;
             }
@@ -76,11 +71,22 @@ impl Session {
         Ok(())
     }
 
+    // Ends the test where this doesn't hold once so many commands were done.
+    fn assert(&self, rt: &impl Abort, holds: bool, what: &str) {
+        let Session { seed, step, .. } = *self;
+        assert!(rt; holds, "seed {seed}, step {step}: {what}");
+    }
+
+    // The same of a point or a corner, by its number among those of the region.
+    fn assert_at(&self, rt: &impl Abort, holds: bool, what: &str, number: u64) {
+        let Session { seed, step, .. } = *self;
+        assert!(rt; holds, "seed {seed}, step {step}: {what} {number}");
+    }
+
     /// Has the engine make so many steps, or as many as there are stale tiles.
     pub(crate) fn step<E: Engine>(&self, rt: &impl Abort, steps: u32, engine: &mut E) {
-        let Session { seed, step, .. } = *self;
         for _ in 0..steps {
-            assert!(rt; engine.step().is_ok(), "seed {seed}, step {step}");
+            self.assert(rt, engine.step().is_ok(), "a step");
         }
     }
 
@@ -101,39 +107,30 @@ impl Session {
         rt: &impl Abort,
         engine: &mut E,
     ) -> Result<(), Fail> {
-        let Session { seed, step, .. } = *self;
-        assert_eq!(rt; engine.count(), self.count, "seed {seed}, step {step}");
-        let tiles = self.tiles()?;
-        assert_eq!(rt; engine.tiles(), Ok(tiles), "seed {seed}, step {step}");
-        let sinks = Vec::from_slice(self.alloc, self.mosaic.sinks())?;
-        assert_eq!(rt; engine.sinks(), Ok(sinks), "seed {seed}, step {step}");
+        let has_count = engine.count() == self.count;
+        self.assert(rt, has_count, "the count");
+        let has_tiles = self.has_tiles(&engine.tiles()?);
+        self.assert(rt, has_tiles, "the tiles");
+        let has_sinks = engine.sinks()?.as_slice() == self.mosaic.sinks();
+        self.assert(rt, has_sinks, "the sinks");
         self.check_files(rt, engine)?;
         self.check_elevations(rt, engine);
         Ok(())
     }
 
     fn check_files<E: Engine>(&self, rt: &impl Abort, engine: &mut E) -> Result<(), Fail> {
-        let Session { seed, step, .. } = *self;
-        for corner in &self.corners {
-            let file = self.file(*corner)?;
-            assert_eq!(rt;
-                engine.export(*corner),
-                file,
-                "seed {seed}, step {step}, {corner:?}"
-            );
+        for (corner, number) in self.corners.iter().zip(0..) {
+            let has_file = self.has_file(*corner, engine.export(*corner))?;
+            self.assert_at(rt, has_file, "the file of corner", number);
         }
         Ok(())
     }
 
     fn check_elevations<E: Engine>(&self, rt: &impl Abort, engine: &mut E) {
-        let Session { seed, step, .. } = *self;
-        for point in &self.points {
+        for (point, number) in self.points.iter().zip(0..) {
             let height = plain::height(&self.mosaic, *point);
-            assert_eq!(rt;
-                engine.elevation(*point),
-                Ok(height),
-                "seed {seed}, step {step}, {point:?}"
-            );
+            let is_right = engine.elevation(*point) == Ok(height);
+            self.assert_at(rt, is_right, "the elevation of point", number);
         }
     }
 
@@ -143,31 +140,33 @@ impl Session {
         rt: &impl Abort,
         engine: &mut E,
     ) -> Result<(), Fail> {
-        let Session { seed, step, .. } = *self;
         let levels = plain::filled_levels(self.alloc, &self.mosaic)?;
-        for point in &self.points {
+        for (point, number) in self.points.iter().zip(0..) {
             let answers = defined(self.alloc, &self.mosaic, &levels, *point)?;
-            assert_eq!(rt;
-                served(engine, *point),
-                answers,
-                "seed {seed}, step {step}, {point:?}"
-            );
+            let is_right = served(engine, *point) == answers;
+            self.assert_at(rt, is_right, "the answers of point", number);
         }
         Ok(())
     }
 
-    fn tiles(&self) -> Result<Vec<Corner>, AllocError> {
-        let mut corners = Vec::new(self.alloc);
-        for tile in self.mosaic.tiles() {
-            corners.push(tile.corner())?;
+    fn has_tiles(&self, found: &[Corner]) -> bool {
+        let tiles = self.mosaic.tiles();
+        for (corner, tile) in found.iter().zip(tiles) {
+            if *corner != tile.corner() {
+                return false;
+            }
         }
-        Ok(corners)
+        found.len() == tiles.len()
     }
 
-    fn file(&self, corner: Corner) -> Result<Result<Vec<u8>, Refusal>, AllocError> {
+    fn has_file(
+        &self,
+        corner: Corner,
+        found: Result<Vec<u8>, Refusal>,
+    ) -> Result<bool, AllocError> {
         match self.mosaic.samples_of(corner) {
-            Some(samples) => Ok(Ok(hgt::bytes_of(self.alloc, samples)?)),
-            None => Ok(Err(Refusal::NoTile)),
+            Some(samples) => Ok(found == Ok(hgt::bytes_of(self.alloc, samples)?)),
+            None => Ok(found == Err(Refusal::NoTile)),
         }
     }
 }

@@ -33,11 +33,14 @@ const REFUSALS: [Refusal; 14] = [
 ];
 
 fn empty_store(alloc: Global, side: Side, capacity: u32) -> Result<Store<MemDisk>, Fail> {
-    Ok(store_in_memory(alloc, SECTORS, side.samples(), capacity).map_err(|_| "not made")?)
+    Ok(store_in_memory(alloc, SECTORS, side.samples(), capacity)?)
 }
 
 fn reopened(alloc: Global, store: Store<MemDisk>) -> Result<Store<MemDisk>, Fail> {
-    Ok(Store::open(alloc, store.into_disk()).map_err(|_| "not opened")?)
+    match Store::open(alloc, store.into_disk()) {
+        Ok(store) => Ok(store),
+        Err(not_opened) => Err(not_opened.refusal.into()),
+    }
 }
 
 /// A session in which all queries are compared: of the store while some tiles are fresh and some stale, also opened anew,

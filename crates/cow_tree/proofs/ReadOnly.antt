@@ -86,3 +86,34 @@ not_device {T} {A} {X} r why same refused is =
     let here : IsErrOf {T = T} (Err why) Device = subst (λ (q : Result T Refusal). IsErrOf q Device) same is in
     let device : why ≡ Device = cc in
     ⊎_elim (λ memory. (let no : NoMemory ≡ Device = sym memory ∙ device in cc)) (λ damaged. (let no : Damaged ≡ Device = sym damaged.0 ∙ device in cc)) refused
+
+-- ---- what one call read, as what its caller did
+device_again : {T U : Type 0} (why : Refusal) → IsErrOf {T = T} {E = Refusal} (Err why) Device → IsErrOf {T = U} {E = Refusal} (Err why) Device
+device_again {T} {U} why is = let device : why ≡ Device = cc in subst (λ (w : Refusal). IsErrOf {T = U} {E = Refusal} (Err w) Device) (sym device) refl
+
+module _ {D : Type 0} (g : Ghosts D) where
+  -- a refusal that is handed on
+  pub refused_again : {T U : Type 0} (old new : Roots D g) (why : Refusal) (now : Result U Refusal) → now ≡ Err why → OnlyReads {T = T} g old new (Err why) → OnlyReads g old new now
+  refused_again {T} {U} old new why now same reads =
+      subst (λ (r : Result U Refusal). OnlyReads g old new r) (sym same)
+      (record {
+        size = reads.size;
+        writes = reads.writes;
+        later = reads.later;
+        device = λ is. reads.device (device_again {T = U} {U = T} why is);
+        root = reads.root;
+        begun = reads.begun;
+        works = ⊎_elim (λ h. inl h) (λ is. inr (device_again {T = T} {U = U} why is)) reads.works;
+        honest = reads.honest;
+        seen = reads.seen;
+        nothing = reads.nothing;
+        ready = reads.ready;
+      })
+
+  -- another answer that is no refusal either
+  pub read_well : {T U : Type 0} (old new : Roots D g) (x : T) (y : U) → OnlyReads g old new (Ok x) → OnlyReads g old new (Ok y)
+  read_well old new x y reads = read_as g old new (Ok x) (Ok y) reads (works_ok x (has_failed new) reads.works) (λ is. never_refused y Device is)
+
+  -- a call after one that wasn't refused
+  pub read_after : {T U : Type 0} (old mid new : Roots D g) (x : T) (result : Result U Refusal) → OnlyReads g old mid (Ok x) → OnlyReads g mid new result → OnlyReads g old new result
+  read_after old mid new x result first second = read_on g old mid new result (read_well old mid x tt first) (works_ok x (has_failed mid) first.works) second

@@ -596,6 +596,24 @@ impl<D: Disk> Tree<D> {
             → LeavesOnly D.Disk (disk_of self.old) (disk_of self.new)
             (λ image. Stands (D.size (disk_of self.old)) image s ⊎ Stands (D.size (disk_of self.old)) image (upgraded_store s)) }
     {
+        self.allow_upgrade()?;
+        let chart = self.chart.upgraded()?;
+        self.cache.clear();
+        let entries = staged_entries(&chart);
+        let root = self.root.upgraded(entries);
+        write_listings(&mut self.roots, &self.chart, &chart)?;
+        self.roots.commit(&root)?;
+        self.root = root;
+        self.chart = chart;
+        Ok(())
+    }
+
+    // Refuses an upgrade that the store, its disk or its commit number don't allow.
+    fn allow_upgrade(&self) -> Result<(), Refusal>
+        ensures refused { IfErr result (UpgradesNot (D.size (disk_of self.now)) (root_of self.now)) }
+        ensures no_fault { IfErr result (λ why. why ≢ Device) }
+        ensures allowed { OnOk result (MayUpgrade (D.size (disk_of self.now)) (root_of self.now)) }
+    {
         let format = self.root.format();
         match format.version() {
             Version::One => (),
@@ -607,14 +625,6 @@ impl<D: Disk> Tree<D> {
         if self.root.number() == u64::MAX {
             return Err(Refusal::Worn);
         }
-        let chart = self.chart.upgraded()?;
-        self.cache.clear();
-        let entries = staged_entries(&chart);
-        let root = self.root.upgraded(entries);
-        write_listings(&mut self.roots, &self.chart, &chart)?;
-        self.roots.commit(&root)?;
-        self.root = root;
-        self.chart = chart;
         Ok(())
     }
 

@@ -1,5 +1,6 @@
 -- A value between the two edges of a tile, as a test, as two inequalities and as a number of steps.
-use Rattle.std.proofs.Common.{◌≡◌, ℕ, ◌≤◌, ℤ, pos, ◌+ℤ◌, ◌-ℤ◌, ◌*ℤ◌, ◌≤ℤ◌, ◌<ℤ◌, int_le, nat_abs, IsTrue, IsFalse, arith, inl, inr}
+use Rattle.std.proofs.Common.{◌≡◌, ℕ, suc, ◌*◌, ◌≤◌, ℤ, pos, negsuc, ◌+ℤ◌, ◌-ℤ◌, ◌*ℤ◌, ◌≤ℤ◌, ◌<ℤ◌, int_le, nat_abs, IsTrue, IsFalse, arith, inl, inr}
+use Rattle.std.proofs.Math.Nat.{mul-le-mul_left}
 use Rattle.std.proofs.lemmas.Int.{ints}
 use Rattle.std.proofs.lemmas.Bool.{and_parts, and_from, cases_Bool}
 use Rattle.lattice.specs.Lattice.{is_along}
@@ -49,3 +50,12 @@ outside_above m corner v high = elim (cases_Bool (is_along (pos m) corner v)) [
   | inl held ↦ let within = parts m corner v held in absurd (omega (arith, ints))
   | inr out ↦ out
 ]
+
+-- the first edge of a tile, of any corner that fits its type
+pub first_within : (corner : ℤ) (m : ℕ) → negsuc 32767 ≤ℤ corner → corner ≤ℤ pos 32767 → m ≤ 3600 → (negsuc 117964799 ≤ℤ (corner *ℤ pos m)) × ((corner *ℤ pos m) ≤ℤ pos 117961200)
+first_within (pos n) m low high small =
+    let within : n * m ≤ n * 3600 = mul-le-mul_left n small in
+    (omega (arith, ints), omega (arith, ints))
+first_within (negsuc n) m low high small =
+    let within : suc n * m ≤ suc n * 3600 = mul-le-mul_left (suc n) small in
+    (omega (arith, ints), omega (arith, ints))

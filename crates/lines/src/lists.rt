@@ -11,7 +11,7 @@ use std::alloc::AllocError;
 use watershed::Run;
 
 /// The text goes on by the tiles' names, each after a space.
-pub fn extend_names(text: &mut Vec<u8>, corners: &[Corner]) -> Result<(), AllocError>
+pub(crate) fn extend_names(text: &mut Vec<u8>, corners: &[Corner]) -> Result<(), AllocError>
     ensures { OnOk result (text.new.items ≡ text.old.items ++ spaced_names corners.now) }
 {
     for corner in corners {
@@ -22,7 +22,7 @@ pub fn extend_names(text: &mut Vec<u8>, corners: &[Corner]) -> Result<(), AllocE
 }
 
 /// The text goes on by a line `y x` for each point.
-pub fn extend_points(text: &mut Vec<u8>, points: &[Point]) -> Result<(), AllocError>
+pub(crate) fn extend_points(text: &mut Vec<u8>, points: &[Point]) -> Result<(), AllocError>
     ensures { OnOk result (text.new.items ≡ text.old.items ++ flat_map point_line points.now) }
 {
     for point in points {
@@ -32,7 +32,7 @@ pub fn extend_points(text: &mut Vec<u8>, points: &[Point]) -> Result<(), AllocEr
 }
 
 /// The text goes on by a line `y first last` for each run.
-pub fn extend_runs(text: &mut Vec<u8>, runs: &[Run]) -> Result<(), AllocError>
+pub(crate) fn extend_runs(text: &mut Vec<u8>, runs: &[Run]) -> Result<(), AllocError>
     ensures { OnOk result (text.new.items ≡ text.old.items ++ flat_map run_line runs.now) }
 {
     for run in runs {
@@ -42,7 +42,7 @@ pub fn extend_runs(text: &mut Vec<u8>, runs: &[Run]) -> Result<(), AllocError>
 }
 
 /// How many points the runs have.
-pub fn point_count(runs: &[Run]) -> u128
+pub(crate) fn point_count(runs: &[Run]) -> u128
     ensures { result ≡ sum_by run_count runs.now }
 {
     let mut count = 0;

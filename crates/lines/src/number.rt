@@ -27,7 +27,7 @@ pub fn natural(word: &[u8]) -> Option<u32>
 }
 
 /// What an INT says.
-pub fn integer(word: &[u8]) -> Option<i32>
+pub(crate) fn integer(word: &[u8]) -> Option<i32>
     ensures { MatchOption result ((z : ℤ) → IsInt word.now z → ⊥) (λ z. IsInt word.now z) }
 {
     match word {
@@ -43,7 +43,7 @@ pub fn integer(word: &[u8]) -> Option<i32>
 }
 
 /// The words as numbers, where each is an INT and a command takes so many.
-pub fn integers(mut words: Words<'_>) -> Option<ArrayVec<i32, MOST_NUMBERS>>
+pub(crate) fn integers(mut words: Words<'_>) -> Option<ArrayVec<i32, MOST_NUMBERS>>
     ensures { MatchOption result ((zs : List ℤ) → AreInts words.entry zs → MOST_NUMBERS < length zs) (λ v. AreInts words.entry v.items) }
 {
     let mut numbers = ArrayVec::new();

@@ -32,7 +32,7 @@ impl<'a> Words<'a> {
 }
 
 /// The first word of a text, and those after it.
-pub fn first_word(text: &[u8]) -> (&[u8], Words<'_>)
+pub(crate) fn first_word(text: &[u8]) -> (&[u8], Words<'_>)
     ensures { cut text.now ≡ result.0.now ∷ result.1 }
 {
     match place_of(b' ', text) {

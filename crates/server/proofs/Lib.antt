@@ -1,4 +1,3 @@
-pub mod CommandLineLemmas
 pub mod OnStores
 pub mod ProgramLemmas
 pub mod Sessions

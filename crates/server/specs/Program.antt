@@ -18,12 +18,12 @@ use Rattle.serving.specs.Promises.{side_in}
 use Rattle.serving.specs.Served.{Outcome}
 use Rattle.serving.specs.declared.session.ServeFault.{ServeFault}
 use Rattle.store.specs.Formatted.{format_2}
-use Rattle.server.specs.CommandLine.{AskedBy, AskNothing}
+use Rattle.command_line.specs.CommandLine.{AskedBy, AskNothing}
 use Rattle.server.specs.Endings.{Begins, EndsSession, TellsRefusal, bad_words}
 use Rattle.server.specs.OnDisks.{HasMeasured, ServesLines, ImportsTile, MakesStore, ChecksStore, TellsClosed, UpgradesStore}
 use Rattle.server.specs.Paths.{IsTaken, IsUntouched, MakesNone, TellsFault}
-use Rattle.server.specs.declared.arguments.Arguments.{Arguments}
-use Rattle.server.specs.declared.arguments.Arguments.TheVariants.{Format, Import, Serve, Table, Check, Upgrade}
+use Rattle.command_line.specs.declared.arguments.Arguments.{Arguments}
+use Rattle.command_line.specs.declared.arguments.Arguments.TheVariants.{Format, Import, Serve, Table, Check, Upgrade}
 use Rattle.server.specs.declared.files.PathFault.{PathFault}
 use Rattle.server.specs.declared.files.PathFault.TheVariants.{Closed}
 

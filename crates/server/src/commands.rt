@@ -6,12 +6,12 @@ ghost use Rattle.server.specs.Endings.{Begins};
 ghost use Rattle.server.specs.Paths.{TellsFault};
 ghost use Rattle.server.specs.Program.{CarriesOut, EndsServing, Runs, RunsAs, RunsCheck, RunsFormat, RunsGrown, RunsImport, RunsServe, RunsTable, RunsUpgrade};
 
-use crate::arguments::{ArgumentFault, Arguments};
 use crate::endings::{BAD_WORDS, REFUSED, end_session, end_with, refuse};
 use crate::files::{
     PathFault, check_in_file, grow_file, import_to_file, make_in_file, measure_in_file, new_disk,
     open_disk, open_grown, serve_on_file, tell_fault, upgrade_in_file,
 };
+use command_line::{ArgumentFault, Arguments};
 use disk::FileDisk;
 use hgt::file_name;
 use lattice::{MOST_TILES, Refusal, Side};

@@ -3,7 +3,6 @@
 //! It hands out what serves any engine too: `serve`, `Engine` and `TableEngine`.
 #![tactic(auto)]
 
-mod arguments;
 mod commands;
 mod disks;
 mod endings;

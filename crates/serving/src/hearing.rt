@@ -65,7 +65,7 @@ fn hear_payload<R: Read>(
 }
 
 /// The item that begins with this line, which an LF ended or the end of the input.
-pub fn hear<'a, R: Read>(
+pub(crate) fn hear<'a, R: Read>(
     alloc: Global,
     tile_len: u32,
     fed: Extent,
@@ -97,7 +97,7 @@ pub fn hear<'a, R: Read>(
 }
 
 /// Whether the input ended before this line began.
-pub fn is_over(fed: Extent, line: &Line) -> bool
+pub(crate) fn is_over(fed: Extent, line: &Line) -> bool
     ensures { (text : List ℕ) → line.now ≡ kept text → IsTrue result ↔ ((fed ≡ Extent.Cut) × (text ≡ [])) }
 {
     fed == Extent::Cut && line.is_empty()

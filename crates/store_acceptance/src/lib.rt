@@ -5,8 +5,6 @@
 #[cfg(test)]
 mod asserting;
 #[cfg(test)]
-mod basins;
-#[cfg(test)]
 mod change;
 #[cfg(test)]
 mod cuts;
@@ -20,8 +18,6 @@ mod rows;
 mod runs;
 #[cfg(test)]
 mod script;
-#[cfg(test)]
-mod sinks;
 #[cfg(test)]
 mod standing;
 #[cfg(test)]

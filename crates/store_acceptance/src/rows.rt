@@ -1,18 +1,14 @@
-//! What a store of tiles of side 3 answers, command by command and query by query.
+//! What a store of tiles of side 3 answers, command by command and query by query, where no line asks for it.
+//! `acceptance` has the rows of lines.
 use super::asserting::assert_row;
-use super::fixtures::{A, B, G, H, V, opened};
+use super::fixtures::{A, B, C, G, H, V, opened};
 use super::script::Asked::{Burn, Import, Patch, Remove, Wall};
-use super::script::Step::{
-    Count, Done, Elevation, Exports, Filled, NotExported, Refused, Seams, Tiles,
-};
+use super::script::Step::{Done, Drains, Elevation, Exports, Filled, Refused, Seams, Shed};
 use super::script::{command, follow};
 use disk::{CountedDisk, MemDisk};
 use lattice::{Height, Refusal};
 use std::test::Fail;
 use store::Store;
-
-// 9 9 9 / 9 9 void / 9 9 9.
-const K: [u8; 18] = [0, 9, 0, 9, 0, 9, 0, 9, 0, 9, 128, 0, 0, 9, 0, 9, 0, 9];
 
 #[test]
 fn sizes_that_format_takes(rt: HostRuntime) -> Result<(), Fail> {
@@ -64,51 +60,6 @@ fn sizes_that_the_first_version_takes(rt: HostRuntime) -> Result<(), Fail> {
         assert_row(&rt, is_right, "sectors", u64::from(sectors));
     }
     Ok(())
-}
-
-#[test]
-fn an_empty_store(rt: HostRuntime) -> Result<(), Fail> {
-    let script = [
-        Count(0),
-        Tiles(&[]),
-        Elevation(0, 0, Height::Outside),
-        NotExported(0, 0, Refusal::NoTile),
-    ];
-    follow(&rt, rt.alloc(), 4, &script)
-}
-
-#[test]
-fn a_tile_comes_back(rt: HostRuntime) -> Result<(), Fail> {
-    let script = [
-        Done(Import(0, 0, &A), 1),
-        Elevation(0, 2, Height::At(5)),
-        Elevation(2, 0, Height::At(9)),
-        Exports(0, 0, &A),
-    ];
-    follow(&rt, rt.alloc(), 4, &script)
-}
-
-#[test]
-fn imports_that_are_refused(rt: HostRuntime) -> Result<(), Fail> {
-    let script = [
-        Refused(Import(-1, -1, &A[..17]), Refusal::BadLength),
-        Done(Import(0, 0, &A), 1),
-        Refused(Import(0, 1, &A), Refusal::Full),
-        Refused(Import(0, 0, &A), Refusal::TileThere),
-    ];
-    follow(&rt, rt.alloc(), 1, &script)
-}
-
-#[test]
-fn tiles_are_listed_from_the_south(rt: HostRuntime) -> Result<(), Fail> {
-    let script = [
-        Done(Import(0, 0, &A), 1),
-        Tiles(&[(0, 0)]),
-        Done(Import(-1, -1, &A), 2),
-        Tiles(&[(-1, -1), (0, 0)]),
-        Elevation(0, 0, Height::At(9)),
-    ];
-    follow(&rt, rt.alloc(), 4, &script)
 }
 
 #[test]
@@ -175,20 +126,6 @@ fn edits_reach_each_tile_at_a_seam(rt: HostRuntime) -> Result<(), Fail> {
 }
 
 #[test]
-fn a_void_is_patched(rt: HostRuntime) -> Result<(), Fail> {
-    let script = [
-        Done(Import(0, 0, &V), 1),
-        Elevation(1, 1, Height::Void),
-        Filled(1, 1, Err(Refusal::Void)),
-        Done(Patch((1, 1), (1, 1), 4), 2),
-        Refused(Patch((1, 1), (1, 1), 4), Refusal::NothingVoid),
-        Elevation(1, 1, Height::At(4)),
-        Filled(1, 1, Ok(9)),
-    ];
-    follow(&rt, rt.alloc(), 4, &script)
-}
-
-#[test]
 fn a_patch_across_a_seam(rt: HostRuntime) -> Result<(), Fail> {
     // void 9 9 / 9 void void / 9 9 9, and to the east 9 9 9 / void 9 9 / 9 9 9.
     let west = [128, 0, 0, 9, 0, 9, 0, 9, 128, 0, 128, 0, 0, 9, 0, 9, 0, 9];
@@ -201,33 +138,6 @@ fn a_patch_across_a_seam(rt: HostRuntime) -> Result<(), Fail> {
         Done(Patch((0, 1), (2, 3), 5), 3),
         Exports(0, 0, &patched_west),
         Exports(0, 1, &patched_east),
-    ];
-    follow(&rt, rt.alloc(), 4, &script)
-}
-
-#[test]
-fn boxes_of_patches(rt: HostRuntime) -> Result<(), Fail> {
-    let script = [
-        Refused(Patch((0, 0), (0, 3), 4), Refusal::BadBox),
-        Refused(Patch((1, 1), (0, 1), 4), Refusal::BadBox),
-        Refused(Patch((0, 0), (2, 2), 40_000), Refusal::BadHeight),
-        Refused(Patch((0, 0), (2, 2), 4), Refusal::NothingVoid),
-    ];
-    follow(&rt, rt.alloc(), 4, &script)?;
-    // A void over a height of the tile to the east is none.
-    let script = [
-        Done(Import(0, 0, &K), 1),
-        Done(Import(0, 1, &H), 2),
-        Elevation(1, 2, Height::At(8)),
-        Refused(Patch((1, 2), (1, 2), 4), Refusal::NothingVoid),
-    ];
-    follow(&rt, rt.alloc(), 4, &script)?;
-    // Points of the box that no tile holds are skipped.
-    let patched = [0, 9, 0, 9, 0, 9, 0, 9, 0, 4, 0, 9, 0, 9, 0, 9, 0, 9];
-    let script = [
-        Done(Import(0, 0, &V), 1),
-        Done(Patch((1, 1), (3, 3), 4), 2),
-        Exports(0, 0, &patched),
     ];
     follow(&rt, rt.alloc(), 4, &script)
 }
@@ -247,19 +157,16 @@ fn burns_and_walls_that_are_refused(rt: HostRuntime) -> Result<(), Fail> {
 }
 
 #[test]
-fn the_deepest_burn(rt: HostRuntime) -> Result<(), Fail> {
-    // A height of -1, and one of 0.
-    let below = [0, 9, 0, 9, 0, 9, 0, 9, 255, 255, 0, 9, 0, 9, 0, 9, 0, 9];
-    let level = [0, 9, 0, 9, 0, 9, 0, 9, 0, 0, 0, 9, 0, 9, 0, 9, 0, 9];
+fn a_valley_through_two_tiles(rt: HostRuntime) -> Result<(), Fail> {
     let script = [
-        Done(Import(0, 0, &below), 1),
-        Refused(Burn(32_767, &[(1, 1)]), Refusal::TooDeep),
-    ];
-    follow(&rt, rt.alloc(), 4, &script)?;
-    let script = [
-        Done(Import(0, 0, &level), 1),
-        Done(Burn(32_767, &[(1, 1)]), 2),
-        Elevation(1, 1, Height::At(-32_767)),
+        Done(Import(0, 0, &B), 1),
+        Filled(1, 1, Ok(1)),
+        Done(Import(0, 1, &C), 2),
+        Filled(1, 1, Ok(3)),
+        Drains(1, 1, Ok(1)),
+        Shed(1, 4, &[(2, 0, 4), (1, 0, 4), (0, 0, 4)]),
+        Done(Wall(5, &[(1, 4)]), 3),
+        Filled(1, 1, Ok(5)),
     ];
     follow(&rt, rt.alloc(), 4, &script)
 }

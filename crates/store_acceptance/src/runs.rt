@@ -88,21 +88,6 @@ fn every_event_of_a_run(rt: HostRuntime) -> Result<(), Fail> {
 }
 
 #[test]
-fn a_tile_is_imported_and_asked_for(rt: HostRuntime) -> Result<(), Fail> {
-    let alloc = rt.alloc();
-    let mut store = store_in_memory(alloc, 22, 3, 1)?;
-    let rows = [
-        (importing(alloc)?, Reply::Done(1)),
-        (Event::Elevation(at(0, 2)), Reply::Elevation(Height::At(5))),
-        (Event::Fill(at(1, 1)), Reply::Fill(5)),
-        (Event::Reopen, Reply::Reopened),
-        (Event::Count, Reply::Count(1)),
-    ];
-    assert!(rt; replies(alloc, &mut store, rows_of(alloc, rows)?)?);
-    Ok(())
-}
-
-#[test]
 fn replies_go_behind_what_is_there(rt: HostRuntime) -> Result<(), Fail> {
     let alloc = rt.alloc();
     let mut store = store_in_memory(alloc, 22, 3, 1)?;

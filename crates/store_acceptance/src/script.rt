@@ -1,4 +1,5 @@
 //! Scripts: commands, questions and the right answers, one after another, for a store.
+use super::asserting::assert_row;
 use super::fixtures::{at, burn, empty_store, import, patch, sink, unsink, wall};
 use disk::Disk;
 use edits::Command;
@@ -29,15 +30,9 @@ pub(crate) enum Step<'a> {
     Elevation(i32, i32, Height),
     Filled(i32, i32, Result<i16, Refusal>),
     Drains(i32, i32, Result<u8, Refusal>),
-    Traced(i32, i32, &'a [(i32, i32)]),
     /// The runs of a watershed: y, the first x and the last.
     Shed(i32, i32, &'a [(i32, i32, i32)]),
-    /// How the path and the watershed of a point are refused.
-    NotTraced(i32, i32, Refusal),
     Exports(i16, i16, &'a [u8]),
-    NotExported(i16, i16, Refusal),
-    Tiles(&'a [(i16, i16)]),
-    Sinks(&'a [(i32, i32)]),
     Seams(u64),
     Count(u64),
     Commits(u64),
@@ -66,9 +61,13 @@ fn follow_by(
     script: &[Step],
 ) -> Result<(), Fail> {
     let mut store = empty_store(alloc, version, capacity)?;
-    for (step, number) in script.iter().zip(1..u32::MAX) {
-        let answered = is_answered(alloc, &mut store, *step)?;
-        assert!(rt; answered, "version {version}, step {number}");
+    let which = if version == 1 {
+        "a step by the first version"
+    } else {
+        "a step by the second"
+    };
+    for (step, number) in script.iter().zip(1..) {
+        assert_row(rt, is_answered(alloc, &mut store, *step)?, which, number);
     }
     Ok(())
 }
@@ -85,20 +84,10 @@ pub(crate) fn is_answered<D: Disk>(
         Step::Elevation(y, x, height) => Ok(store.elevation(at(y, x)) == Ok(height)),
         Step::Filled(y, x, level) => Ok(store.fill(at(y, x)) == level),
         Step::Drains(y, x, code) => Ok(store.direction(at(y, x)) == code),
-        Step::Traced(y, x, path) => Ok(are_points(&store.trace(at(y, x))?, path)),
         Step::Shed(y, x, runs) => Ok(are_runs(&store.watershed(at(y, x))?, runs)),
-        Step::NotTraced(y, x, refusal) => Ok(
-            store.trace(at(y, x)).err() == Some(refusal)
-                && store.watershed(at(y, x)).err() == Some(refusal),
-        ),
         Step::Exports(lat, lon, bytes) => {
             Ok(store.export(corner(lat, lon)?)?.as_slice() == bytes)
         }
-        Step::NotExported(lat, lon, refusal) => {
-            Ok(store.export(corner(lat, lon)?).err() == Some(refusal))
-        }
-        Step::Tiles(corners) => Ok(are_corners(&store.tiles()?, corners)),
-        Step::Sinks(points) => Ok(are_points(&store.sinks()?, points)),
         Step::Seams(count) => Ok(store.seams() == Ok(count)),
         Step::Count(count) => Ok(store.count() == count),
         Step::Commits(commits) => Ok(store.commits() == commits),
@@ -156,14 +145,6 @@ fn are_corners(found: &[Corner], wanted: &[(i16, i16)]) -> bool {
     found.len() == wanted.len()
         && found.iter().zip(wanted).all(|(corner, (lat, lon))| corner.lat == *lat
             && corner.lon == *lon)
-}
-
-fn are_points(found: &[Point], wanted: &[(i32, i32)]) -> bool {
-    found.len() == wanted.len()
-        && found
-            .iter()
-            .zip(wanted)
-            .all(|(point, (y, x))| *point == at(*y, *x))
 }
 
 fn are_runs(found: &[Run], wanted: &[(i32, i32, i32)]) -> bool {

@@ -34,7 +34,6 @@ use Rattle.calls.specs.Steps.{Commits, Steps, stepped}
 use Rattle.calls.specs.Told.{Matches, Knows, WritesFew, may_refuse, may_refuse_question}
 use Rattle.calls.proofs.Applying.{plan_refused}
 use Rattle.edits.specs.Touched.{stale_after}
-use Rattle.drainage.specs.declared.held.Held as water
 use Rattle.table_engine.specs.TableState.{Held, held_of, contents_of, stale_among, table}
 use Rattle.table_engine.proofs.FreshTiles.{one_less}
 

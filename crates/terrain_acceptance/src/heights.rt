@@ -1,4 +1,5 @@
 //! Heights, adjacent points and seams, by rows worked by hand.
+use crate::asserting::assert_row;
 use crate::script::Asked::{Import, Remove};
 use crate::script::Step::{Done, Elevation, Seams};
 use crate::script::{A, G, H, K, V, at, follow};
@@ -91,10 +92,10 @@ fn check_points(
     table: &mut Table,
     rows: &[(i32, i32, u32, bool)],
 ) -> Result<(), Fail> {
-    for (y, x, count, leaves) in rows {
+    for ((y, x, count, leaves), number) in rows.iter().zip(0..) {
         let point = at(*y, *x);
         let is_right = degree(table, point) == Ok(*count) && outlet(table, point) == Ok(*leaves);
-        assert!(rt; is_right, "at {y} {x}");
+        assert_row(rt, is_right, "the point of row", number);
     }
     Ok(())
 }
@@ -108,9 +109,9 @@ fn tiles_that_meet_in_one_point(rt: HostRuntime) -> Result<(), Fail> {
         (2, 2, 2, 1, true),
         (2, 2, 2, 2, false),
     ];
-    for (y, x, other_y, other_x, answer) in rows {
+    for ((y, x, other_y, other_x, answer), number) in rows.into_iter().zip(0..) {
         let found = adjacent(&mut table, at(y, x), at(other_y, other_x));
-        assert!(rt; found == Ok(answer), "{y} {x} and {other_y} {other_x}");
+        assert_row(&rt, found == Ok(answer), "the points of row", number);
     }
     let rows = [
         (2, 2, 6, true),

@@ -1,4 +1,5 @@
 //! What the plain programs alone answer, by rows worked by hand; the other modules ask them beside the library.
+use crate::asserting::assert_row;
 use crate::script::{A, B, C, D, WIDE, at};
 use edits::{Bytes, Command};
 use lattice::{Corner, Height, Side};
@@ -46,12 +47,10 @@ fn holders_of_points(rt: HostRuntime) -> Result<(), Fail> {
         (1, 1, [false, false, false, true]),
     ];
     for (y, x, held) in rows {
-        for ((lat, lon), holds) in corners.into_iter().zip(held) {
+        for (((lat, lon), holds), corner) in corners.into_iter().zip(held).zip(0..) {
             let one = mosaic(rt.alloc(), 3, &[(lat, lon, &A)])?;
-            assert!(rt;
-                (plain::height(&one, at(y, x)) != Height::Outside) == holds,
-                "{y} {x}"
-            );
+            let is_held = plain::height(&one, at(y, x)) != Height::Outside;
+            assert_row(&rt, is_held == holds, "a holder by corner", corner);
         }
     }
     let two = mosaic(rt.alloc(), 3, &[(0, 1, &A), (89, -1, &A)])?;

@@ -1,3 +1,4 @@
+use crate::asserting::assert_row;
 use lattice::{
     Corner, DIRECTIONS, Dir, Point, Refusal, Side, holders, index_in, point_at, sinks_in, steeper,
     steps,
@@ -5,15 +6,21 @@ use lattice::{
 
 #[test]
 fn corners_lie_on_the_globe(rt: HostRuntime) {
-    for (lat, lon, lies) in [
+    let corners = [
         (-90, -180, true),
         (89, 179, true),
         (90, 0, false),
         (-91, 0, false),
         (0, 180, false),
         (0, -181, false),
-    ] {
-        assert!(rt; Corner::new(lat, lon).is_some() == lies, "at {lat} {lon}");
+    ];
+    for ((lat, lon, lies), row) in corners.into_iter().zip(0..) {
+        assert_row(
+            &rt,
+            Corner::new(lat, lon).is_some() == lies,
+            "corner of row",
+            row,
+        );
     }
 }
 
@@ -56,7 +63,7 @@ fn rows_run_from_the_north(rt: HostRuntime) {
     let corner = Corner { lat: 0, lon: 0 };
     for (y, x, index) in [(2, 0, 0), (2, 2, 2), (1, 1, 4), (0, 0, 6), (0, 2, 8)] {
         let found = index_in(side, corner, Point { y, x });
-        assert!(rt; found == Some(index), "at {y} {x}");
+        assert_row(&rt, found == Some(index), "index", u64::from(index));
     }
     assert!(rt; index_in(side, corner, Point { y: 0, x: 3 }) == None);
     assert!(rt; index_in(side, corner, Point { y: -1, x: 0 }) == None);
@@ -97,7 +104,8 @@ fn steps_go_clockwise_from_east(rt: HostRuntime) {
         .zip(DIRECTIONS)
     {
         let is_step = step.to == Point { y, x } && step.direction == direction;
-        assert!(rt; is_step && step.direction.code() == code, "at {y} {x}");
+        let is_right = is_step && step.direction.code() == code;
+        assert_row(&rt, is_right, "the step of code", u64::from(code));
     }
     // Nothing lies south or west of the least coordinates.
     let least = Point {
@@ -150,9 +158,7 @@ const REFUSALS: [(Refusal, u8, &str); 27] = [
 #[test]
 fn refusals_have_these_numbers_and_words(rt: HostRuntime) {
     for (refusal, number, word) in REFUSALS {
-        assert!(rt;
-            refusal.number() == number && refusal.word() == word,
-            "number {number}"
-        );
+        let is_right = refusal.number() == number && refusal.word() == word;
+        assert_row(&rt, is_right, "number", u64::from(number));
     }
 }

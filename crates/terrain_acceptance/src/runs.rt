@@ -1,4 +1,5 @@
 //! Watersheds over filled levels, by rows worked by hand.
+use crate::asserting::assert_row;
 use crate::script::{are_runs, at};
 use flow_d8::Filled;
 use lattice::{Corner, Side};
@@ -27,9 +28,9 @@ fn check(
     let levels = Vec::from_slice(alloc, levels)?;
     let filled = Filled::new(side, tiles, levels, Vec::new(alloc)).ok_or("no levels")?;
     let directions = filled.directions(alloc)?;
-    for (y, x, wanted) in rows {
+    for ((y, x, wanted), number) in rows.iter().zip(0..) {
         let found = watershed::watershed(alloc, &directions, at(*y, *x))?;
-        assert!(rt; are_runs(&found, wanted), "at {y} {x}");
+        assert_row(rt, are_runs(&found, wanted), "runs of row", number);
     }
     Ok(())
 }

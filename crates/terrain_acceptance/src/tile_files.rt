@@ -1,3 +1,4 @@
+use crate::asserting::assert_row;
 use hgt::*;
 use lattice::{Corner, Refusal, Side};
 use std::test::Fail;
@@ -14,9 +15,12 @@ fn reads_and_writes_samples(rt: HostRuntime) -> Result<(), Fail> {
     let written = bytes_of(rt.alloc(), &VALLEY)?;
     assert!(rt; written.as_slice() == VALLEY_BYTES.as_slice());
     for len in [0, 9, 16, 17] {
-        assert!(rt;
-            samples(rt.alloc(), &VALLEY_BYTES[..len], side) == Err(Refusal::BadLength),
-            "{len} bytes"
+        let refused = samples(rt.alloc(), &VALLEY_BYTES[..len], side).err();
+        assert_row(
+            &rt,
+            refused == Some(Refusal::BadLength),
+            "bytes",
+            len as u64,
         );
     }
     Ok(())
@@ -40,7 +44,7 @@ fn answers_without_memory(rt: HostRuntime) {
 fn knows_voids_and_signs(rt: HostRuntime) {
     let bytes = [0x80, 0x00, 0xff, 0xff, 0x00, 0x09];
     for (i, want) in [(0, i16::MIN), (1, -1), (2, 9)] {
-        assert!(rt; sample(&bytes, i) == want, "sample {i}");
+        assert_row(&rt, sample(&bytes, i) == want, "sample", i as u64);
     }
     let mut written = [0; 6];
     put_sample(&mut written, 0, i16::MIN);
@@ -65,7 +69,7 @@ fn takes_sides(rt: HostRuntime) {
         (3601, true),
         (3602, false),
     ] {
-        assert!(rt; side_ok(side) == want, "side {side}");
+        assert_row(&rt, side_ok(side) == want, "side", u64::from(side));
     }
 }
 
@@ -94,18 +98,22 @@ fn reads_names(rt: HostRuntime) {
 
 #[test]
 fn reads_file_names(rt: HostRuntime) {
-    for path in [
+    let named = [
         "N37W105.hgt",
         "n37w105.SRTMGL1.HGT",
         "tiles/S01E000.hgt/N37W105.hGt",
         "/N37W105.hgt",
-    ] {
-        assert!(rt;
-            file_name(path.as_bytes()) == Ok(Corner { lat: 37, lon: -105 }),
-            "{path}"
+    ];
+    for (path, row) in named.into_iter().zip(0..) {
+        let found = file_name(path.as_bytes());
+        assert_row(
+            &rt,
+            found == Ok(Corner { lat: 37, lon: -105 }),
+            "a path by row",
+            row,
         );
     }
-    for path in [
+    let bad = [
         "",
         "N37W105",
         "N37W105.tif",
@@ -114,10 +122,14 @@ fn reads_file_names(rt: HostRuntime) {
         "N37W105.hgt.zip",
         "N37W1.a.hgt",
         "S91E000.hgt",
-    ] {
-        assert!(rt;
-            file_name(path.as_bytes()) == Err(Refusal::BadName),
-            "{path}"
+    ];
+    for (path, row) in bad.into_iter().zip(0..) {
+        let refused = file_name(path.as_bytes()).err();
+        assert_row(
+            &rt,
+            refused == Some(Refusal::BadName),
+            "no path by row",
+            row,
         );
     }
 }
@@ -131,7 +143,8 @@ fn prints_names(rt: HostRuntime) {
         (-90, 7, "S90E007"),
         (5, 179, "N05E179"),
     ];
-    for (lat, lon, want) in names {
-        assert!(rt; name_text(Corner { lat, lon }).as_str() == want);
+    for ((lat, lon, want), row) in names.into_iter().zip(0..) {
+        let text = name_text(Corner { lat, lon });
+        assert_row(&rt, text.as_str() == want, "a name by row", row);
     }
 }

@@ -1,6 +1,7 @@
 //! Sessions written as texts, in which `$` and a letter stand for the bytes of a tile: two for each sample, the higher
 //! first, rows from the north.
-use disk::MemDisk;
+use crate::asserting::assert_row;
+use disk::{Disk, MemDisk};
 use engine::Engine;
 use lattice::Side;
 use memory_store::store_in_memory;
@@ -83,40 +84,72 @@ pub(crate) fn table(alloc: Global, samples: u32, capacity: u32) -> Result<TableE
 /// A store of tiles of a side up to 45, so many at most.
 pub(crate) fn store(alloc: Global, samples: u32, capacity: u32) -> Result<Store<MemDisk>, Fail> {
     let sectors = capacity.saturating_mul(12).saturating_add(10);
-    Ok(store_in_memory(alloc, sectors, samples, capacity).map_err(|_| "not made")?)
+    Ok(store_in_memory(alloc, sectors, samples, capacity)?)
 }
 
 /// Such a store by the first version.
 fn store_of_version_1(alloc: Global, samples: u32, capacity: u32) -> Result<Store<MemDisk>, Fail> {
     let sectors = capacity.saturating_mul(8).saturating_add(8);
     let mut disk = MemDisk::new(alloc, sectors)?;
-    Store::format_1(&mut disk, samples, capacity).map_err(|_| "not formatted")?;
-    Ok(Store::open(alloc, disk).map_err(|_| "not opened")?)
+    Store::format_1(&mut disk, samples, capacity)?;
+    opened(alloc, disk)
 }
 
-/// Serves the session to a mosaic in memory and to a store of either version, each made anew, and compares the replies.
-pub(crate) fn check(
+pub(crate) fn opened<D: Disk + Drop>(alloc: Global, disk: D) -> Result<Store<D>, Fail> {
+    match Store::open(alloc, disk) {
+        Ok(store) => Ok(store),
+        Err(not_opened) => Err(not_opened.refusal.into()),
+    }
+}
+
+// Serves the lines to the engine, and compares the replies.
+fn check_engine<E: Engine>(
     rt: &impl Abort,
     alloc: Global,
-    samples: u32,
-    capacity: u32,
-    session: &[u8],
-    wanted: &[u8],
+    engine: &mut E,
+    (input, wanted): (&[u8], &[u8]),
+    which: &str,
+    row: u64,
 ) -> Result<(), Fail> {
-    let input = bytes_of(alloc, session)?;
-    let wanted = bytes_of(alloc, wanted)?;
-    let by_table = replies(alloc, &mut table(alloc, samples, capacity)?, &input)?;
-    assert!(rt;
-        by_table.as_slice() == wanted.as_slice(),
-        "the mosaic in memory"
-    );
-    let by_store = replies(alloc, &mut store(alloc, samples, capacity)?, &input)?;
-    assert!(rt; by_store.as_slice() == wanted.as_slice(), "the store");
+    let output = replies(alloc, engine, input)?;
+    assert_row(rt, output.as_slice() == wanted, which, row);
+    Ok(())
+}
+
+/// A session and the replies to it, for tiles of this side, so many at most.
+pub(crate) type Row<'a> = (u32, u32, &'a [u8], &'a [u8]);
+
+fn check(rt: &impl Abort, alloc: Global, session: Row, number: u64) -> Result<(), Fail> {
+    let (samples, capacity, lines, replies) = session;
+    let input = bytes_of(alloc, lines)?;
+    let wanted = bytes_of(alloc, replies)?;
+    let texts = (input.as_slice(), wanted.as_slice());
+    let mut table = table(alloc, samples, capacity)?;
+    check_engine(
+        rt,
+        alloc,
+        &mut table,
+        texts,
+        "the mosaic in memory, session",
+        number,
+    )?;
+    let mut store = store(alloc, samples, capacity)?;
+    check_engine(rt, alloc, &mut store, texts, "the store, session", number)?;
     let mut first = store_of_version_1(alloc, samples, capacity)?;
-    let by_first = replies(alloc, &mut first, &input)?;
-    assert!(rt;
-        by_first.as_slice() == wanted.as_slice(),
-        "the first version"
-    );
+    check_engine(
+        rt,
+        alloc,
+        &mut first,
+        texts,
+        "the first version, session",
+        number,
+    )
+}
+
+/// Serves each session to a mosaic in memory and to a store of either version, each made anew, and compares the replies.
+pub(crate) fn check_rows(rt: &impl Abort, alloc: Global, rows: &[Row]) -> Result<(), Fail> {
+    for (row, number) in rows.iter().zip(0..) {
+        check(rt, alloc, *row, number)?;
+    }
     Ok(())
 }

@@ -1,7 +1,9 @@
 //! Sessions by readers and writers of many kinds.
-use super::script::{bytes_of, check, table};
+use super::script::{Row, bytes_of, check_rows, table};
+use crate::asserting::assert_row;
 use crate::counting::Counting;
 use serving::{ServeFault, serve};
+use std::alloc::Global;
 use std::io::{self, Read};
 use std::test::Fail;
 
@@ -45,54 +47,69 @@ impl Read for Broken<'_> {
     }
 }
 
-#[test]
-fn an_empty_mosaic(rt: HostRuntime) -> Result<(), Fail> {
-    let session = b"count\nelev 0 0\nexport N00E000\n";
-    let wanted = b"OK 0\nERR 7 Outside\nERR 5 NoTile\n";
-    check(&rt, rt.alloc(), 3, 4, session, wanted)
+/// How a session of a mosaic in memory by this reader ends, and the replies.
+fn served<R: Read>(
+    alloc: Global,
+    reader: &mut R,
+) -> Result<(Result<(), ServeFault>, Vec<u8>), Fail> {
+    let mut output = Vec::new(alloc);
+    let served = serve(alloc, reader, &mut output, &mut table(alloc, 3, 4)?);
+    Ok((served, output))
 }
 
 #[test]
-fn an_import(rt: HostRuntime) -> Result<(), Fail> {
-    let session = b"import N00E000 18\n$Aelev 0 2\nelev 2 0\nexport N00E000\n";
-    check(
-        &rt,
-        rt.alloc(),
-        3,
-        4,
-        session,
-        b"OK 1\nOK 5\nOK 9\nOK 18\n$A",
-    )
-}
-
-#[test]
-fn a_full_mosaic(rt: HostRuntime) -> Result<(), Fail> {
-    let session = b"import N00E000 18\n$Aimport N00E001 18\n$Aimport N00E000 18\n$A";
-    let wanted = b"OK 1\nERR 6 Full\nERR 4 TileThere\n";
-    check(&rt, rt.alloc(), 3, 1, session, wanted)
-}
-
-#[test]
-fn payloads_of_other_lengths(rt: HostRuntime) -> Result<(), Fail> {
-    let sessions: [(&[u8], &[u8]); 4] = [
+fn imports_and_ends(rt: HostRuntime) -> Result<(), Fail> {
+    let rows: [Row; 8] = [
+        // An import.
         (
+            3,
+            4,
+            b"import N00E000 18\n$Aelev 0 2\nelev 2 0\nexport N00E000\n",
+            b"OK 1\nOK 5\nOK 9\nOK 18\n$A",
+        ),
+        // A full mosaic.
+        (
+            3,
+            1,
+            b"import N00E000 18\n$Aimport N00E001 18\n$Aimport N00E000 18\n$A",
+            b"OK 1\nERR 6 Full\nERR 4 TileThere\n",
+        ),
+        // Payloads of other lengths.
+        (
+            3,
+            4,
             b"import S01W001 17\n0123456789abcdefgcount\n",
             b"ERR 3 BadLength\nOK 0\n",
         ),
-        (b"import S01W001 18\n0123456789", b"ERR 3 BadLength\n"),
-        (b"import X 6\ncount\ncount\n", b"ERR 2 BadName\nOK 0\n"),
-        (b"import X 1234567890\ncount\n", b"ERR 1 BadLine\nOK 0\n"),
+        (3, 4, b"import S01W001 18\n0123456789", b"ERR 3 BadLength\n"),
+        (
+            3,
+            4,
+            b"import X 6\ncount\ncount\n",
+            b"ERR 2 BadName\nOK 0\n",
+        ),
+        (
+            3,
+            4,
+            b"import X 1234567890\ncount\n",
+            b"ERR 1 BadLine\nOK 0\n",
+        ),
+        // Voids and quit.
+        (
+            3,
+            4,
+            b"import n00e000 18\r\n$Velev 1 1\nquit\ncount\n",
+            b"OK 1\nOK void\nOK\n",
+        ),
+        // A store is served.
+        (
+            3,
+            2,
+            b"import N00E000 18\n$Aelev 0 2\nelev 5 5\nhello\nimport N00E000 18\n$Acount\nexport N00E000\n",
+            b"OK 1\nOK 5\nERR 7 Outside\nERR 1 BadLine\nERR 4 TileThere\nOK 1\nOK 18\n$A",
+        ),
     ];
-    for (session, wanted) in sessions {
-        check(&rt, rt.alloc(), 3, 4, session, wanted)?;
-    }
-    Ok(())
-}
-
-#[test]
-fn voids_and_quit(rt: HostRuntime) -> Result<(), Fail> {
-    let session = b"import n00e000 18\r\n$Velev 1 1\nquit\ncount\n";
-    check(&rt, rt.alloc(), 3, 4, session, b"OK 1\nOK void\nOK\n")
+    check_rows(&rt, rt.alloc(), &rows)
 }
 
 const SESSION: &[u8] =
@@ -102,41 +119,42 @@ const REPLIES: &[u8] = b"OK 1\nOK 5\nERR 7 Outside\nERR 1 BadLine\nERR 4 TileThe
 
 #[test]
 fn a_session_cut_anywhere(rt: HostRuntime) -> Result<(), Fail> {
-    let alloc = rt.alloc();
-    let input = bytes_of(alloc, SESSION)?;
+    let input = bytes_of(rt.alloc(), SESSION)?;
     for cut in 0..input.len() {
         let mut reader = Halves { bytes: &input, cut };
-        let mut output = Vec::new(alloc);
-        serve(alloc, &mut reader, &mut output, &mut table(alloc, 3, 4)?)?;
-        assert!(rt; output.as_slice() == REPLIES, "cut at {cut}");
+        let (served, output) = served(rt.alloc(), &mut reader)?;
+        let is_right = served.is_ok() && output.as_slice() == REPLIES;
+        assert_row(&rt, is_right, "cut at", cut as u64);
     }
     Ok(())
 }
 
 #[test]
 fn a_reader_that_fails(rt: HostRuntime) -> Result<(), Fail> {
-    let alloc = rt.alloc();
-    let mut input = bytes_of(alloc, SESSION)?;
+    let mut input = bytes_of(rt.alloc(), SESSION)?;
     input.truncate(50);
     let mut reader = Broken { bytes: &input };
-    let mut output = Vec::new(alloc);
-    let served = serve(alloc, &mut reader, &mut output, &mut table(alloc, 3, 4)?);
-    assert!(rt; served == Err(ServeFault::Input));
-    assert!(rt; output.as_slice() == b"OK 1\nOK 5\n".as_slice());
+    let (served, output) = served(rt.alloc(), &mut reader)?;
+    let is_right = served == Err(ServeFault::Input) && output.as_slice() == b"OK 1\nOK 5\n".as_slice();
+    assert!(rt; is_right);
     Ok(())
+}
+
+/// Whether a writer with room for so many bytes takes so many of the replies, and then fails.
+fn fails_after(alloc: Global, input: &[u8], room: usize) -> Result<bool, Fail> {
+    let mut reader = input;
+    let mut bytes = vec![in alloc; 0; room]?;
+    let mut writer = bytes.as_mut_slice();
+    let served = serve(alloc, &mut reader, &mut writer, &mut table(alloc, 3, 4)?);
+    Ok(served == Err(ServeFault::Output) && REPLIES.starts_with(&bytes))
 }
 
 #[test]
 fn a_writer_that_fails_at_each_byte(rt: HostRuntime) -> Result<(), Fail> {
-    let alloc = rt.alloc();
-    let input = bytes_of(alloc, SESSION)?;
+    let input = bytes_of(rt.alloc(), SESSION)?;
     for room in 0..REPLIES.len() {
-        let mut reader = input.as_slice();
-        let mut bytes = vec![in alloc; 0; room]?;
-        let mut writer = bytes.as_mut_slice();
-        let served = serve(alloc, &mut reader, &mut writer, &mut table(alloc, 3, 4)?);
-        assert!(rt; served == Err(ServeFault::Output), "room for {room}");
-        assert!(rt; bytes.as_slice() == &REPLIES[..room], "room for {room}");
+        let fails = fails_after(rt.alloc(), &input, room)?;
+        assert_row(&rt, fails, "room for", room as u64);
     }
     Ok(())
 }
@@ -144,9 +162,8 @@ fn a_writer_that_fails_at_each_byte(rt: HostRuntime) -> Result<(), Fail> {
 #[test]
 fn a_write_for_each_reply(rt: HostRuntime) -> Result<(), Fail> {
     let alloc = rt.alloc();
-    let session =
-        b"import N00E000 18\n$Aexport N00E000\ntiles\ntrace 0 0\nwatershed 0 2\nelev 9 9\n";
-    let input = bytes_of(alloc, session)?;
+    let lines = b"import N00E000 18\n$Aexport N00E000\ntiles\ntrace 0 0\nwatershed 0 2\nelev 9 9\n";
+    let input = bytes_of(alloc, lines)?;
     let mut reader = input.as_slice();
     let mut writer = Counting::new();
     serve(alloc, &mut reader, &mut writer, &mut table(alloc, 3, 4)?)?;

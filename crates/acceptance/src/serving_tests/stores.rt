@@ -1,10 +1,10 @@
 //! Sessions over a store on a disk in memory.
-use super::script::{bytes_of, check, replies, store};
+use super::script::{bytes_of, check_rows, opened, replies, store};
+use crate::asserting::assert_row;
 use disk::FaultOnceDisk;
 use std::alloc::Global;
 use std::process::Abort;
 use std::test::Fail;
-use store::Store;
 
 /// Lines to a store that was opened anew after others, and of the first one each call fails in turn.
 #[derive(Clone, Copy)]
@@ -55,23 +55,15 @@ const ELEVATION: Faulty = Faulty {
     others: b"",
 };
 
-#[test]
-fn a_store_is_served(rt: HostRuntime) -> Result<(), Fail> {
-    let session =
-        b"import N00E000 18\n$Aelev 0 2\nelev 5 5\nhello\nimport N00E000 18\n$Acount\nexport N00E000\n";
-    let wanted = b"OK 1\nOK 5\nERR 7 Outside\nERR 1 BadLine\nERR 4 TileThere\nOK 1\nOK 18\n$A";
-    check(&rt, rt.alloc(), 3, 2, session, wanted)
-}
-
 // Whether the replies are right where this call of the first line fails, and once the disk was opened again.
 fn is_told(alloc: Global, faulty: &Faulty, call: u64) -> Result<bool, Fail> {
     let (to_open, calls) = faulty.calls;
     let mut fresh = store(alloc, 3, 2)?;
     replies(alloc, &mut fresh, &bytes_of(alloc, faulty.before)?)?;
     let disk = FaultOnceDisk::new(fresh.into_disk(), to_open.saturating_add(call));
-    let mut failing = Store::open(alloc, disk).map_err(|_| "not opened")?;
+    let mut failing = opened(alloc, disk)?;
     let output = replies(alloc, &mut failing, &bytes_of(alloc, faulty.lines)?)?;
-    let mut again = Store::open(alloc, failing.into_disk()).map_err(|_| "not opened")?;
+    let mut again = opened(alloc, failing.into_disk())?;
     let later = replies(alloc, &mut again, faulty.questions)?;
     let is_last = call.saturating_add(1) == calls;
     let wanted = if is_last { faulty.last } else { faulty.others };
@@ -80,8 +72,7 @@ fn is_told(alloc: Global, faulty: &Faulty, call: u64) -> Result<bool, Fail> {
 
 fn fault_at_each_call(rt: &impl Abort, alloc: Global, faulty: &Faulty) -> Result<(), Fail> {
     for call in 0..faulty.calls.1 {
-        let is_told = is_told(alloc, faulty, call)?;
-        assert!(rt; is_told, "at call {call}");
+        assert_row(rt, is_told(alloc, faulty, call)?, "a fault at call", call);
     }
     Ok(())
 }

@@ -12,3 +12,6 @@ returns-clause-left c =
     let taken : c.take.new.self ≡ without_page c.args.free.now c.unwrap.result = rw c.unwrap.ensures at c.take.ensures.taken in
     let less = len-without c.args.free.now.free c.unwrap.result free in
     rw (ap (λ (s : PageSet). s.free) taken, less) (omega arith)
+
+pub unwrap-requires : goal.unwrap-requires
+unwrap-requires c = c.take.ensures.found.1 c.requires

@@ -15,7 +15,7 @@ use Rattle.cow_tree.specs.Entries.{entry_of}
 use Rattle.cow_tree.specs.Layout.{HasRecords}
 use Rattle.roots.specs.Roots.{has_failed}
 use Rattle.cow_tree.proofs.ReadTiles.{before_next, one_more, no_next_tile, no_rule}
-use Rattle.cow_tree.proofs.ReadOnly.{refused_for, handed_on, read_on, read_as, never_refused, not_device, works_ok}
+use Rattle.cow_tree.proofs.ReadOnly.{refused_for, handed_on, read_on, read_as, never_refused, not_device, works_ok, refused_again, read_well}
 use Rattle.cow_tree.proofs.opening.read_chart.Goals as goal
 use Rattle.cow_tree.proofs.opening.read_chart.Goals.{In_ok-planes}
 
@@ -122,3 +122,13 @@ loop-entry-preserved g c =
       records = λ h. subst (λ (x : ChartValue). All (HasRecords (format_of c.args.root.now) (d.seen c.args.roots.now.disk)) x.committed) (sym loaded)
           (All-push (HasRecords (format_of c.args.root.now) (d.seen c.args.roots.now.disk)) c.loop-entry.chart.committed (tile g at) (here.records (read.honest h)) (has_records g at h));
     }
+
+pub returns-in_err-planes-clause-reads : goal.returns-in_err-planes-clause-reads
+returns-in_err-planes-clause-reads g c =
+    let p = err_from_is_err_and c.from_residual-in_err-planes.result c.from_residual-in_err-planes.ensures.1 in
+    let ended : c.from_residual-in_err-planes.result ≡ Err c.in_err-planes.field-0.0 = p.1 ∙ ap (λ (r : Refusal). Err r) p.2 in
+    refused_again g.D.Disk c.args.roots.now c.read_planes.new.roots c.in_err-planes.field-0.0 c.from_residual-in_err-planes.result ended
+    (read_on g.D.Disk c.args.roots.now c.loop-entry.roots c.read_planes.new.roots (Err c.in_err-planes.field-0.0) c.loop-entry.invariant.reads c.loop-entry.invariant.works c.in_err-planes.ensures.reads)
+
+pub returns-clause-reads : goal.returns-clause-reads
+returns-clause-reads g c = read_well g.D.Disk c.args.roots.now c.loop-entry.roots tt _ c.loop-entry.invariant.reads

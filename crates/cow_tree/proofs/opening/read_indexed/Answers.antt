@@ -8,9 +8,10 @@ use Rattle.lattice.specs.declared.refusal.Refusal.TheVariants.{Device}
 use Rattle.page_codec.specs.Records.{IsRecord, part_of, record_bytes}
 use Rattle.page_codec.specs.Sizes.{pages_of, index_pages_by}
 use Rattle.charts.specs.Locations.{PlaneLocation}
-use Rattle.cow_tree.specs.Found.{NoneListed}
+use Rattle.cow_tree.specs.Found.{NoneListed, NoneIndexed}
+use Rattle.cow_tree.specs.OverRoots.{IsRefusedFor}
 use Rattle.cow_tree.proofs.Indexed.{AreReadTo, within as index_within, read_more, part_same, part_read, none_indexed}
-use Rattle.cow_tree.proofs.ReadOnly.{refused_for, handed_on, read_on, read_as, never_refused, works_ok}
+use Rattle.cow_tree.proofs.ReadOnly.{refused_for, handed_on, read_on, read_as, never_refused, works_ok, refused_again, read_well}
 use Rattle.cow_tree.proofs.opening.read_indexed.Goals as goal
 use Rattle.cow_tree.proofs.opening.read_indexed.Goals.{After-read_listed}
 
@@ -39,7 +40,8 @@ returns-in_err-listed-clause-refused g c honest =
     let mid = c.loop-t.roots.disk in
     let p = err_from_is_err_and c.from_residual.result c.from_residual.ensures.1 in
     let ended : c.from_residual.result ≡ Err c.in_err-listed.field-0.0 = p.1 ∙ ap (λ (r : Refusal). Err r) p.2 in
-    handed_on _ c.from_residual.result c.in_err-listed.field-0.0 ended (refused_for _ _ c.in_err-listed.field-0.0
+    let reason : Type 0 = NoneIndexed c.args.format (d.size old) (d.seen old) c.args.index.items in
+    handed_on (IsRefusedFor reason) c.from_residual.result c.in_err-listed.field-0.0 ended (refused_for (NoneListed (d.size mid) (d.seen mid) c.index.result.now c.min-count.result) reason c.in_err-listed.field-0.0
     (λ none. none_indexed c.args.index.items (pages_of c.args.format.side) c.loop-t.t c.loop-t.left c.loop-t.behind.items here.read c.args.format (d.size old) (d.seen old) c.requires.second refl c.requires.count (within g at)
     (subst (λ (n : ℕ). NoneListed n (d.seen old) (get_or c.loop-t.behind.items c.loop-t.t 0) (min c.loop-t.left 1024)) here.reads.size
     (subst (λ (i : Image). NoneListed (d.size mid) i (get_or c.loop-t.behind.items c.loop-t.t 0) (min c.loop-t.left 1024)) (here.reads.seen (c.in_err-listed.ensures.reads.honest honest))
@@ -89,3 +91,13 @@ returns-clause-indexed g c honest t lt =
     let pages : c.new.result.pages ≡ drop (length index) behind = ap (λ (p : PlaneLocation). p.pages) c.new.ensures ∙ ap (λ (k : ℕ). drop k behind) long in
     let below : t < length index = omega (arith, lt, ap length front) in
     ap (λ (l : List ℕ). seen (get_or l t 0)) front ∙ (here.parts honest t (omega (arith, below, long, c.loop-t-test.false)) ∙ sym (ap (λ (l : List ℕ). record_bytes (part_of t l)) pages))
+
+pub returns-in_err-listed-clause-reads : goal.returns-in_err-listed-clause-reads
+returns-in_err-listed-clause-reads g c =
+    let p = err_from_is_err_and c.from_residual.result c.from_residual.ensures.1 in
+    let ended : c.from_residual.result ≡ Err c.in_err-listed.field-0.0 = p.1 ∙ ap (λ (r : Refusal). Err r) p.2 in
+    refused_again g.D.Disk c.args.roots.now c.read_listed.new.roots c.in_err-listed.field-0.0 c.from_residual.result ended
+    (read_on g.D.Disk c.args.roots.now c.loop-t.roots c.read_listed.new.roots (Err c.in_err-listed.field-0.0) c.loop-t.invariant.reads c.loop-t.invariant.works c.in_err-listed.ensures.reads)
+
+pub returns-clause-reads : goal.returns-clause-reads
+returns-clause-reads g c = read_well g.D.Disk c.args.roots.now c.loop-t.roots tt _ c.loop-t.invariant.reads

@@ -1,4 +1,4 @@
-use Rattle.std.proofs.Common.{◌≡◌, ◌∙◌, ℤ, List, Result, Ok, Err, rules, sym, ap, subst, SFits, w16}
+use Rattle.std.proofs.Common.{◌≡◌, ◌∙◌, ℤ, List, Result, Ok, Err, rules, sym, ap, ap₂, subst, SFits, w16}
 use Rattle.std.specs.Prelude.{Option}
 use Rattle.std.specs.Int.{int_max}
 use Rattle.std.proofs.lemmas.Bool.{false≢true}
@@ -141,8 +141,9 @@ returns-clause-level g c honest =
     let spotted = c.in_ok-level.ensures in
     let mid = c.in_ok-over.ensures.asked.reads.honest honest in
     let before = spotted.reads.honest mid in
-    let in_range : SFits w16 c.max.result = search rules in
-    let higher : c.max.result ≡ int_max c.in_ok-level.level c.in_ok-over.over = search rules in
+    let in_range : SFits w16 c.max.result = record { sfits = c.max.type_inv } in
+    let higher : c.max.result ≡ int_max c.in_ok-level.level c.in_ok-over.over =
+    c.max.ensures.value ∙ ap₂ int_max (to_z-of_z w16 c.in_ok-level.level (search rules)) (to_z-of_z w16 c.in_ok-over.over (search rules)) in
     let rim : IsRimLevel m w.corners (node_number m.side (Rim c.in-Some.t c.in_ok-level.label)) c.in_ok-over.over =
     subst (λ (n : Mosaic). IsRimLevel n w.corners (node_number n.side (Rim c.in-Some.t c.in_ok-level.label)) c.in_ok-over.over) (spotted.reads.mosaic mid)
     (subst (λ (cs : List Corner). IsRimLevel (g.S.Samples.mosaic c.spot.new.samples) cs (node_number (g.S.Samples.mosaic c.spot.new.samples).side (Rim c.in-Some.t c.in_ok-level.label)) c.in_ok-over.over) spotted.grown.kept.same_corners (c.in_ok-over.ensures.level honest)) in

@@ -1,4 +1,4 @@
-use Rattle.std.proofs.Common.{ℕ, List, Contains, subst}
+use Rattle.std.proofs.Common.{ℕ, Contains, subst}
 use Rattle.std.specs.Global.{Vec}
 use Rattle.lru.specs.LruCache.{LruCache}
 use Rattle.lru.proofs.CallerLemmas.{Contains-remove_entry}

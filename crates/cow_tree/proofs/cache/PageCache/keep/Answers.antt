@@ -1,4 +1,4 @@
-use Rattle.std.proofs.Common.{inl, inr, ⊎_elim, ℕ, List, Contains, sym, ap, ◌∙◌, subst}
+use Rattle.std.proofs.Common.{inl, inr, ⊎_elim, ℕ, Contains, sym, ap, ◌∙◌, subst}
 use Rattle.std.specs.Global.{Vec}
 use Rattle.lru.specs.LruCache.{LruCache}
 use Rattle.cow_tree.proofs.Cached.{there_or_put}

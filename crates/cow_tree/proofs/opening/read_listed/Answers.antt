@@ -1,0 +1,57 @@
+use Rattle.std.proofs.Common.{◌≡◌, inl, inr, Err, refl, ap, sym, ◌∙◌}
+use Rattle.std.proofs.lemmas.Bool.{false≢true}
+use Rattle.std.proofs.lemmas.Result.{err_from_is_err_and}
+use Rattle.lattice.specs.declared.refusal.Refusal.{Refusal}
+use Rattle.cow_tree.proofs.ReadOnly.{refused_again}
+use Rattle.cow_tree.proofs.opening.read_listed.Goals as goal
+
+pub returns-in-Ok-clause-reads : goal.returns-in-Ok-clause-reads
+returns-in-Ok-clause-reads g c = record {
+  size = c.read.ensures.size;
+  writes = c.read.ensures.writes;
+  later = c.read.ensures.cause.later;
+  device = λ is. cc;
+  root = c.read.ensures.root;
+  begun = c.read.ensures.begun;
+  works = inl c.in_ok-read.ensures.not_failed;
+  honest = λ h. (c.read.ensures.nothing h).honest;
+  seen = c.read.ensures.seen;
+  nothing = c.read.ensures.nothing;
+  ready = λ h r w. c.in_ok-read.ensures.ready h r;
+}
+
+pub returns-in-Err-clause-reads : goal.returns-in-Err-clause-reads
+returns-in-Err-clause-reads g c = record {
+  size = c.read.ensures.size;
+  writes = c.read.ensures.writes;
+  later = c.read.ensures.cause.later;
+  device = λ is. cc;
+  root = c.read.ensures.root;
+  begun = c.read.ensures.begun;
+  works = inl c.in_ok-read.ensures.not_failed;
+  honest = λ h. (c.read.ensures.nothing h).honest;
+  seen = c.read.ensures.seen;
+  nothing = c.read.ensures.nothing;
+  ready = λ h r w. c.in_ok-read.ensures.ready h r;
+}
+
+pub returns-in_err-read-clause-reads : goal.returns-in_err-read-clause-reads
+returns-in_err-read-clause-reads g c =
+    let why : Refusal = c.in_err-read.field-0.0 in
+    let refused = c.in_err-read.ensures in
+    let p = err_from_is_err_and c.from_residual.result c.from_residual.ensures.1 in
+    let ended : c.from_residual.result ≡ Err why = p.1 ∙ ap (λ (r : Refusal). Err r) p.2 in
+    refused_again g.D.Disk {T = Unit {0}} c.args.roots.now c.read.new.self why c.from_residual.result ended
+    (record {
+      size = refused.size;
+      writes = refused.writes;
+      later = refused.cause.later;
+      device = λ is. refused.cause.failed refl;
+      root = refused.root;
+      begun = refused.begun;
+      works = inr (ap (λ (r : Refusal). Err r) refused.refused);
+      honest = λ h. (refused.nothing h).honest;
+      seen = refused.seen;
+      nothing = refused.nothing;
+      ready = λ h r w. absurd (false≢true (sym w ∙ refused.failed));
+    })
