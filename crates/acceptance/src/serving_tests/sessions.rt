@@ -135,7 +135,8 @@ fn a_reader_that_fails(rt: HostRuntime) -> Result<(), Fail> {
     input.truncate(50);
     let mut reader = Broken { bytes: &input };
     let (served, output) = served(rt.alloc(), &mut reader)?;
-    let is_right = served == Err(ServeFault::Input) && output.as_slice() == b"OK 1\nOK 5\n".as_slice();
+    let is_right = served == Err(ServeFault::Input)
+        && output.as_slice() == b"OK 1\nOK 5\n".as_slice();
     assert!(rt; is_right);
     Ok(())
 }
