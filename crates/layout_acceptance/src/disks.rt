@@ -1,7 +1,7 @@
 ghost use Rattle.std.specs.Prelude.{◌≡◌, ◌<◌, ◌≤◌, IfOk};
 ghost use Rattle.disk.specs.MemDisk.{sectors_of};
 
-use crate::asserting::assert_row;
+use crate::asserting::{assert_all, assert_row};
 use disk::{Disk, Fault, FaultOnceDisk, FileDisk, FuseDisk, MemDisk, Torn, settle};
 use std::alloc::Global;
 use std::fs;
@@ -53,9 +53,12 @@ fn stops_as(alloc: Global, torn: Torn, second: u8, third: u8) -> Result<bool, Fa
 
 #[test]
 fn a_stop_leaves_what_its_kind_says(rt: HostRuntime) -> Result<(), Fail> {
-    assert!(rt; stops_as(rt.alloc(), Torn::Old, 1, 0)?);
-    assert!(rt; stops_as(rt.alloc(), Torn::New, 2, 3)?);
-    assert!(rt; stops_as(rt.alloc(), Torn::Fill(0xa7), 0xa7, 0xa7)?);
+    let all = [
+        stops_as(rt.alloc(), Torn::Old, 1, 0)?,
+        stops_as(rt.alloc(), Torn::New, 2, 3)?,
+        stops_as(rt.alloc(), Torn::Fill(0xa7), 0xa7, 0xa7)?,
+    ];
+    assert_all(&rt, &all, "a stop");
     Ok(())
 }
 
@@ -80,6 +83,12 @@ fn four_calls<D: Disk>(disk: &mut D) -> [bool; 4]
     [first, synced, second, read]
 }
 
+// Whether the disk holds these bytes in its two sectors after so many writes.
+fn holds(disk: MemDisk, writes: u64, first: u8, second: u8) -> Result<bool, Fault> {
+    let mut disk = disk;
+    Ok(read_as(&mut disk, &[first, second])? && disk.sectors() == 2 && disk.writes() == writes)
+}
+
 #[test]
 fn a_fuse_fails_from_its_call_on(rt: HostRuntime) -> Result<(), Fail> {
     let table = [
@@ -92,16 +101,9 @@ fn a_fuse_fails_from_its_call_on(rt: HostRuntime) -> Result<(), Fail> {
     ];
     for (calls, passed, writes, first, second) in table {
         let mut fuse = FuseDisk::new(MemDisk::new(rt.alloc(), 2)?, calls);
-        let answered = four_calls(&mut fuse);
-        let mut disk = fuse.into_inner();
-        let is_behind = read_as(&mut disk, &[first, second])? && disk.sectors() == 2;
-        assert_row(&rt, answered == passed, "answers of a fuse", calls);
-        assert_row(
-            &rt,
-            is_behind && disk.writes() == writes,
-            "behind a fuse",
-            calls,
-        );
+        let is_told = four_calls(&mut fuse) == passed;
+        let is_behind = holds(fuse.into_inner(), writes, first, second)?;
+        assert_row(&rt, is_told && is_behind, "a fuse, calls", calls);
     }
     Ok(())
 }
@@ -117,16 +119,9 @@ fn a_fault_once_fails_its_call_alone(rt: HostRuntime) -> Result<(), Fail> {
     ];
     for (call, passed, writes, first, second) in table {
         let mut faulty = FaultOnceDisk::new(MemDisk::new(rt.alloc(), 2)?, call);
-        let answered = four_calls(&mut faulty);
-        let mut disk = faulty.into_inner();
-        let is_behind = read_as(&mut disk, &[first, second])? && disk.sectors() == 2;
-        assert_row(&rt, answered == passed, "answers of a faulty disk", call);
-        assert_row(
-            &rt,
-            is_behind && disk.writes() == writes,
-            "behind a fault",
-            call,
-        );
+        let is_told = four_calls(&mut faulty) == passed;
+        let is_behind = holds(faulty.into_inner(), writes, first, second)?;
+        assert_row(&rt, is_told && is_behind, "a faulty disk, call", call);
     }
     Ok(())
 }
@@ -155,6 +150,14 @@ fn read_sector<D: Disk>(disk: &mut D, s: u32) -> Result<[u8; 4096], Fault> {
     Ok(into)
 }
 
+// Whether these are three sectors: zeros, the marked bytes and zeros.
+fn has_marked_second(bytes: &[u8]) -> bool {
+    bytes.len() == 12_288
+        && bytes.get(..4096) == Some([0; 4096].as_slice())
+        && bytes.get(4096..8192) == Some(marked().as_slice())
+        && bytes.get(8192..) == Some([0; 4096].as_slice())
+}
+
 #[test]
 fn a_file_keeps_what_was_written(rt: HostRuntime) -> Result<(), Fail> {
     let path = "disk_test_kept";
@@ -164,16 +167,17 @@ fn a_file_keeps_what_was_written(rt: HostRuntime) -> Result<(), Fail> {
     write_second(&mut disk)?;
     drop(disk);
 
-    let bytes = fs::read(&rt, path)?;
-    assert!(rt; bytes.len() == 12_288);
-    assert!(rt; bytes.get(..4096) == Some([0; 4096].as_slice()));
-    assert!(rt; bytes.get(4096..8192) == Some(marked().as_slice()));
-    assert!(rt; bytes.get(8192..) == Some([0; 4096].as_slice()));
+    let is_there = has_marked_second(&fs::read(&rt, path)?);
+    assert!(rt; is_there, "what the file holds");
 
     let mut again = FileDisk::<Brand>::open(&rt, path)?;
-    assert!(rt; again.sectors() == 3 && read_sector(&mut again, 1)? == marked());
-    assert!(rt; read_sector(&mut again, 0)? == [0; 4096]);
-    assert!(rt; read_sector(&mut again, 2)? == [0; 4096]);
+    let all = [
+        again.sectors() == 3,
+        read_sector(&mut again, 0)? == [0; 4096],
+        read_sector(&mut again, 1)? == marked(),
+        read_sector(&mut again, 2)? == [0; 4096],
+    ];
+    assert_all(&rt, &all, "what is read of the file");
     fs::write(&rt, path, [5; 12_288].as_slice())?;
     assert!(rt; read_as(&mut again, &[5, 5, 5])?, "what the file holds now");
     fs::remove_file(&rt, path)?;
@@ -259,9 +263,12 @@ fn a_file_grows_by_sectors_of_zeros(rt: HostRuntime) -> Result<(), Fail> {
     assert_eq!(rt; disk.sectors(), 3);
     drop(disk);
     let bytes = fs::read(&rt, path)?;
-    assert!(rt; bytes.len() == 12_288);
-    assert!(rt; bytes.get(..4096) == Some([5; 4096].as_slice()));
-    assert!(rt; bytes.get(4096..) == Some([0; 8192].as_slice()));
+    let all = [
+        bytes.len() == 12_288,
+        bytes.get(..4096) == Some([5; 4096].as_slice()),
+        bytes.get(4096..) == Some([0; 8192].as_slice()),
+    ];
+    assert_all(&rt, &all, "a file that grew");
     fs::write(&rt, path, [5; 8195].as_slice())?;
     FileDisk::<Brand>::grow(&rt, path, 2)?;
     assert!(rt; fs::metadata(&rt, path)?.len() == 8195);

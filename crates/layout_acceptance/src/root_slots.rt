@@ -2,7 +2,7 @@ ghost use Rattle.std.specs.Prelude.{◌≡◌, ◌≤◌, ◌<◌, IfOk, OnOk, f
 ghost use Rattle.disk.specs.MemDisk.{sectors_of};
 ghost use Rattle.roots.specs.Roots.{has_failed, disk_of};
 
-use crate::asserting::assert_row;
+use crate::asserting::{assert_all, assert_row};
 use disk::{Disk, FuseDisk, MemDisk, Torn};
 use lattice::{Refusal, Side};
 use page_codec::{Format, Root};
@@ -107,15 +107,29 @@ fn numbers_of(disk: MemDisk) -> Result<(u64, u64), Fail> {
 
 #[test]
 fn a_formatted_disk(rt: HostRuntime) -> Result<(), Fail> {
+    let root = first_root()?;
     let mut disk = MemDisk::new(rt.alloc(), 16)?;
-    assert!(rt; Roots::format(&mut disk, &first_root()?) == Ok(()));
-    assert!(rt; disk.writes() == 4 && disk.sectors() == 16);
-    assert!(rt; sector_of(&mut disk, 1)? == page_of(&FORMATTED));
-    assert!(rt; sector_of(&mut disk, 0)? == page_of(&[0xa7]));
-    assert!(rt; sector_of(&mut disk, 2)? == page_of(&[]));
+    let all = [
+        Roots::format(&mut disk, &root) == Ok(()),
+        disk.writes() == 4 && disk.sectors() == 16,
+        sector_of(&mut disk, 1)? == page_of(&FORMATTED),
+        sector_of(&mut disk, 0)? == page_of(&[0xa7]),
+        sector_of(&mut disk, 2)? == page_of(&[]),
+    ];
+    assert_all(&rt, &all, "a formatted disk");
     disk.stop(Torn::Fill(0xa7))?;
     assert!(rt; numbers_of(disk)? == (1, 0));
     Ok(())
+}
+
+// Whether both commits were made before a stop after so many calls, and the commit number that opening finds then.
+fn stopped_after(alloc: Global, calls: u64, torn: Torn, root: &Root) -> Result<(bool, u64), Fail> {
+    let fuse = FuseDisk::new(MemDisk::new(alloc, 16)?, calls);
+    let (fuse, answer) = two_commits(fuse, root);
+    let mut disk = fuse.into_inner();
+    disk.stop(torn)?;
+    let (found, _) = numbers_of(disk)?;
+    Ok((answer.is_ok(), found))
 }
 
 #[test]
@@ -144,12 +158,8 @@ fn a_stop_after_each_call(rt: HostRuntime) -> Result<(), Fail> {
     let root = first_root()?;
     for (calls, numbers) in table {
         for (torn, number) in kinds.iter().zip(numbers.iter()) {
-            let fuse = FuseDisk::new(MemDisk::new(rt.alloc(), 16)?, calls);
-            let (fuse, answer) = two_commits(fuse, &root);
-            let mut disk = fuse.into_inner();
-            disk.stop(*torn)?;
-            let (found, _) = numbers_of(disk)?;
-            let is_right = answer.is_ok() == (calls > 20) && found == *number;
+            let stopped = stopped_after(rt.alloc(), calls, *torn, &root)?;
+            let is_right = stopped == (calls > 20, *number);
             assert_row(&rt, is_right, "calls before a stop", calls);
         }
     }
@@ -207,8 +217,7 @@ fn a_page_lasts_from_its_commit_on(rt: HostRuntime) -> Result<(), Fail> {
     let mut disk = roots.into_disk();
     disk.stop(Torn::Fill(9))?;
     let mut roots = opened(disk)?;
-    assert!(rt; roots.current().number() == 3);
-    assert!(rt; reopened_page(&mut roots, 5) == Ok([6; 4096]));
+    assert!(rt; roots.current().number() == 3 && reopened_page(&mut roots, 5) == Ok([6; 4096]));
     Ok(())
 }
 

@@ -1,4 +1,4 @@
-use crate::asserting::assert_row;
+use crate::asserting::{assert_all, assert_row};
 use arrayvec::ArrayVec;
 use lattice::{Corner, Point, Refusal, Side};
 use page_codec::*;
@@ -36,13 +36,16 @@ const ONE_TILE: [u8; 80] = [
 #[test]
 fn a_new_store(rt: HostRuntime) -> Result<(), Fail> {
     let root = Root::empty(Format::first(Side::new(3).ok_or("no side")?, 1));
-    assert!(rt; root.write() == page_of(&FORMATTED));
     let read = Root::read(&page_of(&FORMATTED))?;
-    assert!(rt; read.format() == format_1(3, 1)?);
-    assert!(rt; read.number() == 1);
-    assert!(rt; read.count() == 0);
-    assert!(rt; read.sinks().is_empty());
-    assert!(rt; read.entries().is_empty());
+    let all = [
+        root.write() == page_of(&FORMATTED),
+        read.format() == format_1(3, 1)?,
+        read.number() == 1,
+        read.count() == 0,
+        read.sinks().is_empty(),
+        read.entries().is_empty(),
+    ];
+    assert_all(&rt, &all, "a new store");
     Ok(())
 }
 
@@ -54,8 +57,7 @@ fn a_stale_tile(rt: HostRuntime) -> Result<(), Fail> {
         heights: 5,
         kept: None,
     };
-    assert!(rt; entry.write() == STALE);
-    assert!(rt; Entry::read(&STALE) == Ok(entry));
+    assert!(rt; entry.write() == STALE && Entry::read(&STALE) == Ok(entry));
     Ok(())
 }
 
@@ -72,8 +74,7 @@ fn a_tile_with_kept_planes(rt: HostRuntime) -> Result<(), Fail> {
         kept: Some(kept),
     };
     let bytes = [89, 0, 0x4c, 0xff, 5, 0, 0, 0, 6, 0, 0, 0, 4, 3, 2, 1];
-    assert!(rt; entry.write() == bytes);
-    assert!(rt; Entry::read(&bytes) == Ok(entry));
+    assert!(rt; entry.write() == bytes && Entry::read(&bytes) == Ok(entry));
     Ok(())
 }
 
@@ -88,11 +89,14 @@ fn the_next_root(rt: HostRuntime) -> Result<(), Fail> {
     let mut entries = ArrayVec::new();
     entries.push(entry);
     let root = Root::empty(Format::first(Side::new(3).ok_or("no side")?, 1)).next(1, entries);
-    assert!(rt; root.write() == page_of(&ONE_TILE));
     let read = Root::read(&page_of(&ONE_TILE))?;
-    assert!(rt; read.number() == 2);
-    assert!(rt; read.count() == 1);
-    assert!(rt; read.entries() == [entry].as_slice());
+    let all = [
+        root.write() == page_of(&ONE_TILE),
+        read.number() == 2,
+        read.count() == 1,
+        read.entries() == [entry].as_slice(),
+    ];
+    assert_all(&rt, &all, "the next root");
     Ok(())
 }
 
@@ -156,9 +160,7 @@ fn a_worn_root(rt: HostRuntime) -> Result<(), Fail> {
         *byte = 0xff;
     }
     let root = Root::read(&page)?;
-    assert!(rt; root.number() == u64::MAX);
-    assert!(rt; root.count() == 1);
-    assert!(rt; root.write() == page);
+    assert!(rt; root.number() == u64::MAX && root.count() == 1 && root.write() == page);
     Ok(())
 }
 
@@ -175,39 +177,50 @@ fn two_tiles(lat: u8, lon: u8) -> [u8; PAGE_BYTES] {
 
 #[test]
 fn tiles_have_an_order(rt: HostRuntime) {
-    assert!(rt; Root::read(&two_tiles(0, 1)).err() == None);
-    assert!(rt; Root::read(&two_tiles(1, 0)).err() == None);
-    assert!(rt; Root::read(&two_tiles(0, 0)).err() == Some(Damaged::Rule));
     let mut falling = two_tiles(0, 0xff);
     falling[83] = 0xff;
-    assert!(rt; Root::read(&falling).err() == Some(Damaged::Rule));
     let mut south = two_tiles(0xff, 1);
     south[81] = 0xff;
-    assert!(rt; Root::read(&south).err() == Some(Damaged::Rule));
+    let all = [
+        Root::read(&two_tiles(0, 1)).err() == None,
+        Root::read(&two_tiles(1, 0)).err() == None,
+        Root::read(&two_tiles(0, 0)).err() == Some(Damaged::Rule),
+        Root::read(&falling).err() == Some(Damaged::Rule),
+        Root::read(&south).err() == Some(Damaged::Rule),
+    ];
+    assert_all(&rt, &all, "two tiles");
 }
 
 #[test]
 fn records(rt: HostRuntime) -> Result<(), Fail> {
-    let mut page = page_of(&[7, 0, 0, 0, 4, 3, 2, 1]);
+    let page = page_of(&[7, 0, 0, 0, 4, 3, 2, 1]);
+    let mut behind = page;
+    behind[4095] = 1;
     let record = Record::read(&page, 2).ok().ok_or("not read")?;
-    assert!(rt; record.pages.as_slice() == [7, 0x0102_0304].as_slice());
-    assert!(rt; record.write() == page);
-    assert!(rt; Record::read(&page, 1).err() == Some(Damaged::Rule));
     let longer = Record::read(&page, 1024).ok().ok_or("not read")?;
-    assert!(rt; longer.pages.len() == 1024);
-    page[4095] = 1;
-    assert!(rt; Record::read(&page, 2).err() == Some(Damaged::Rule));
+    let all = [
+        record.pages.as_slice() == [7, 0x0102_0304].as_slice(),
+        record.write() == page,
+        Record::read(&page, 1).err() == Some(Damaged::Rule),
+        longer.pages.len() == 1024,
+        Record::read(&behind, 2).err() == Some(Damaged::Rule),
+    ];
+    assert_all(&rt, &all, "a record");
     Ok(())
 }
 
 #[test]
 fn index_pages(rt: HostRuntime) -> Result<(), Fail> {
-    let mut page = page_of(&[7, 0, 0, 0, 4, 3, 2, 1]);
+    let page = page_of(&[7, 0, 0, 0, 4, 3, 2, 1]);
+    let mut behind = page;
+    behind[8] = 1;
     let index = IndexPage::read(&page, 2)?;
-    assert!(rt; index.pages.as_slice() == [7, 0x0102_0304].as_slice());
-    assert!(rt; index.write() == page);
-    page[8] = 1;
-    assert!(rt; IndexPage::read(&page, 2).err() == Some(Damaged::Rule));
+    let all = [
+        index.pages.as_slice() == [7, 0x0102_0304].as_slice(),
+        index.write() == page,
+        IndexPage::read(&behind, 2).err() == Some(Damaged::Rule),
+    ];
+    assert_all(&rt, &all, "an index page");
     Ok(())
 }
 
@@ -229,8 +242,7 @@ fn sinks(rt: HostRuntime) -> Result<(), Fail> {
     let first = Point { y: -1, x: 258 };
     let second = Point { y: 1, x: 1 };
     let root = Root::read(&two_sinks())?;
-    assert!(rt; root.sinks() == [first, second].as_slice());
-    assert!(rt; root.write() == two_sinks());
+    assert!(rt; root.sinks() == [first, second].as_slice() && root.write() == two_sinks());
     // An older y, the same point twice, a point that no corner's tile holds, a third sink where two are counted, and a
     // byte behind them.
     for (at, byte) in [(3912, 0xfe), (3907, 0), (3904, 1), (3920, 1), (4095, 1)] {

@@ -2,7 +2,7 @@ ghost use Rattle.std.specs.Prelude.{◌≡◌, ◌≤◌, map, OnOk, IfOk};
 ghost use Rattle.disk.specs.MemDisk.{sectors_of};
 ghost use Rattle.cow_tree.specs.Trees.{corners_of, root_of};
 
-use crate::asserting::assert_row;
+use crate::asserting::{assert_all, assert_row};
 use catalogue::Samples;
 use cow_tree::{Plane, Tree};
 use disk::{Disk, FaultOnceDisk, FuseDisk, MemDisk, Torn};
@@ -21,6 +21,10 @@ const SECTORS_UPGRADED: u32 = 34;
 const FIRST: [u8; 18] = [0, 9, 0, 9, 0, 9, 0, 9, 0, 1, 0, 9, 0, 9, 0, 9, 0, 5];
 
 const SECOND: [u8; 18] = [0, 9, 0, 9, 0, 9, 0, 9, 0, 1, 0, 1, 0, 9, 0, 9, 0, 9];
+
+const FIRST_SAMPLES: [i16; 9] = [9, 9, 9, 9, 1, 9, 9, 9, 5];
+
+const SECOND_SAMPLES: [i16; 9] = [9, 9, 9, 9, 1, 1, 9, 9, 9];
 
 fn corner(lon: i16) -> Result<Corner, Fail> {
     Ok(Corner::new(0, lon).ok_or("no corner")?)
@@ -108,22 +112,45 @@ fn set_byte(disk: &mut MemDisk, s: u32, at: usize, byte: u8) -> Result<(), Fail>
     Ok(())
 }
 
+// A store of side 3 in so many sectors that holds the two tiles.
+fn two_tiles(alloc: Global, sectors: u32) -> Result<MemDisk, Fail>
+    requires { SECTORS ≤ sectors }
+{
+    let (disk, _) = add_two(
+        alloc,
+        formatted_in(alloc, sectors)?,
+        corner(6)?,
+        corner(-7)?,
+    );
+    Ok(disk)
+}
+
+// Opens the disk and adds a tile.
+fn with_tile(
+    alloc: Global,
+    disk: MemDisk,
+    c: Corner,
+    bytes: &[u8],
+) -> Result<(MemDisk, Result<(), Refusal>), Fail> {
+    let mut tree = opened(alloc, disk)?;
+    let answer = add_tile(&mut tree, c, bytes);
+    Ok((tree.into_disk(), answer))
+}
+
 #[test]
 fn two_tiles_are_read_back(rt: HostRuntime) -> Result<(), Fail> {
-    let mut tree = opened(rt.alloc(), formatted(rt.alloc())?)?;
-    let first = corner(6)?;
-    let second = corner(-7)?;
-    assert!(rt; add_tile(&mut tree, first, &FIRST) == Ok(()));
-    let disk = tree.into_disk();
-    assert!(rt; disk.writes() == 8);
+    let (first, second, third) = (corner(6)?, corner(-7)?, corner(0)?);
+    let (disk, added) = with_tile(rt.alloc(), formatted(rt.alloc())?, first, &FIRST)?;
+    assert!(rt; added == Ok(()) && disk.writes() == 8);
+    let (disk, added) = with_tile(rt.alloc(), disk, second, &SECOND)?;
+    assert!(rt; added == Ok(()) && disk.writes() == 13);
     let mut tree = opened(rt.alloc(), disk)?;
-    assert!(rt; add_tile(&mut tree, second, &SECOND) == Ok(()));
-    let disk = tree.into_disk();
-    assert!(rt; disk.writes() == 13);
-    let mut tree = opened(rt.alloc(), disk)?;
-    assert!(rt; add_tile(&mut tree, corner(0)?, &FIRST) == Err(Refusal::Full));
-    assert!(rt; samples_at(&mut tree, first) == Ok([9, 9, 9, 9, 1, 9, 9, 9, 5]));
-    assert!(rt; samples_at(&mut tree, second) == Ok([9, 9, 9, 9, 1, 1, 9, 9, 9]));
+    let all = [
+        add_tile(&mut tree, third, &FIRST) == Err(Refusal::Full),
+        samples_at(&mut tree, first) == Ok(FIRST_SAMPLES),
+        samples_at(&mut tree, second) == Ok(SECOND_SAMPLES),
+    ];
+    assert_all(&rt, &all, "two tiles");
     Ok(())
 }
 
@@ -142,25 +169,29 @@ fn is_left(
     let is_listed = tree.current().count() + 1 == number
         && tree.present(first) == has_first
         && tree.present(second) == has_second;
-    let is_read = (!has_first || samples_at(&mut tree, first) == Ok([9, 9, 9, 9, 1, 9, 9, 9, 5]))
-        && (!has_second || samples_at(&mut tree, second) == Ok([9, 9, 9, 9, 1, 1, 9, 9, 9]));
+    let is_read = (!has_first || samples_at(&mut tree, first) == Ok(FIRST_SAMPLES))
+        && (!has_second || samples_at(&mut tree, second) == Ok(SECOND_SAMPLES));
     Ok(is_listed && is_read && (number == 3 || answer == Err(Refusal::Device)))
+}
+
+// Whether a stop after so many calls leaves what it may, and whether both tiles were acknowledged before.
+fn stopped_after(alloc: Global, calls: u64, torn: Torn) -> Result<(bool, bool), Fail> {
+    let (first, second) = (corner(6)?, corner(-7)?);
+    let fuse = FuseDisk::new(formatted(alloc)?, calls);
+    let (fuse, answer) = add_two(alloc, fuse, first, second);
+    let mut disk = fuse.into_inner();
+    disk.stop(torn)?;
+    Ok((is_left(alloc, disk, first, second, answer)?, answer.is_ok()))
 }
 
 #[test]
 fn a_stop_after_each_call(rt: HostRuntime) -> Result<(), Fail> {
-    let first = corner(6)?;
-    let second = corner(-7)?;
     let mut is_done = false;
     for calls in 0..40 {
         for torn in [Torn::Old, Torn::New, Torn::Fill(0), Torn::Fill(0xa7)] {
-            let fuse = FuseDisk::new(formatted(rt.alloc())?, calls);
-            let (fuse, answer) = add_two(rt.alloc(), fuse, first, second);
-            let mut disk = fuse.into_inner();
-            disk.stop(torn)?;
-            let is_right = is_left(rt.alloc(), disk, first, second, answer)?;
+            let (is_right, is_whole) = stopped_after(rt.alloc(), calls, torn)?;
             assert_row(&rt, is_right, "calls before a stop", calls);
-            is_done = answer.is_ok();
+            is_done = is_whole;
         }
     }
     assert!(rt; is_done);
@@ -191,24 +222,32 @@ fn a_fault_at_each_call(rt: HostRuntime) -> Result<(), Fail> {
     Ok(())
 }
 
+// The page in which the first tile's heights are recorded.
+fn record_of_the_first(alloc: Global) -> Result<u32, Fail> {
+    let (disk, _) = with_tile(alloc, formatted(alloc)?, corner(6)?, &FIRST)?;
+    let tree = opened(alloc, disk)?;
+    let entry = tree.current().entries().first().ok_or("no entry")?;
+    Ok(entry.heights)
+}
+
+// How an opening is refused where a byte of the record is this one.
+fn refused_with(alloc: Global, record: u32, at: usize, byte: u8) -> Result<Refusal, Fail> {
+    let mut disk = two_tiles(alloc, SECTORS)?;
+    set_byte(&mut disk, record, at, byte)?;
+    match Tree::open(alloc, disk) {
+        Ok(_) => Err("opened")?,
+        Err(not_opened) => Ok(not_opened.refusal),
+    }
+}
+
 #[test]
 fn records_that_are_none(rt: HostRuntime) -> Result<(), Fail> {
     // The page named in a record: a gate, the record itself, a page past the end; and a byte behind it.
-    let first = corner(6)?;
-    let mut tree = opened(rt.alloc(), formatted(rt.alloc())?)?;
-    assert!(rt; add_tile(&mut tree, first, &FIRST) == Ok(()));
-    let record = tree.current().entries().first().ok_or("no entry")?.heights;
-    for (at, byte) in [
-        (0, 0),
-        (0, record.to_le_bytes()[0]),
-        (0, 24),
-        (1, 1),
-        (4095, 1),
-    ] {
-        let (mut disk, _) = add_two(rt.alloc(), formatted(rt.alloc())?, first, corner(-7)?);
-        set_byte(&mut disk, record, at, byte)?;
-        let refused = Tree::open(rt.alloc(), disk).err().ok_or("opened")?;
-        assert_row(&rt, refused.refusal == Refusal::Damaged, "byte", at as u64);
+    let record = record_of_the_first(rt.alloc())?;
+    let itself = record.to_le_bytes()[0];
+    for (at, byte) in [(0, 0), (0, itself), (0, 24), (1, 1), (4095, 1)] {
+        let refusal = refused_with(rt.alloc(), record, at, byte)?;
+        assert_row(&rt, refusal == Refusal::Damaged, "byte", at as u64);
     }
     Ok(())
 }
@@ -244,27 +283,32 @@ fn drop_tile<D: Disk>(tree: &mut Tree<D>, c: Corner) -> Result<(), Refusal> {
 
 #[test]
 fn a_patch_is_given_up(rt: HostRuntime) -> Result<(), Fail> {
-    let first = corner(6)?;
+    let (first, second) = (corner(6)?, corner(7)?);
     let mut tree = opened(rt.alloc(), formatted(rt.alloc())?)?;
-    assert!(rt; add_tile(&mut tree, first, &FIRST) == Ok(()));
-    assert!(rt; patch(&mut tree, corner(7)?, &[0; 4096]) == Err(Refusal::NoTile));
-    assert!(rt; patch(&mut tree, first, &[0; 4096]) == Ok(()));
-    assert!(rt; samples_at(&mut tree, first) == Ok([0; 9]));
+    let staged = [
+        add_tile(&mut tree, first, &FIRST) == Ok(()),
+        patch(&mut tree, second, &[0; 4096]) == Err(Refusal::NoTile),
+        patch(&mut tree, first, &[0; 4096]) == Ok(()),
+        samples_at(&mut tree, first) == Ok([0; 9]),
+    ];
+    assert_all(&rt, &staged, "a patch");
     tree.abandon();
-    assert!(rt; samples_at(&mut tree, first) == Ok([9, 9, 9, 9, 1, 9, 9, 9, 5]));
+    assert!(rt; samples_at(&mut tree, first) == Ok(FIRST_SAMPLES));
     Ok(())
 }
 
 #[test]
 fn a_tile_is_dropped(rt: HostRuntime) -> Result<(), Fail> {
-    let first = corner(6)?;
-    let (disk, _) = add_two(rt.alloc(), formatted(rt.alloc())?, first, corner(-7)?);
-    let mut tree = opened(rt.alloc(), disk)?;
+    let (first, second) = (corner(6)?, corner(-7)?);
+    let mut tree = opened(rt.alloc(), two_tiles(rt.alloc(), SECTORS)?)?;
     assert!(rt; drop_tile(&mut tree, first) == Ok(()));
-    let mut tree = opened(rt.alloc(), tree.into_disk())?;
-    assert!(rt; tree.current().number() == 4);
-    assert!(rt; samples_at(&mut tree, first) == Err(Refusal::NoTile));
-    assert!(rt; samples_at(&mut tree, corner(-7)?) == Ok([9, 9, 9, 9, 1, 1, 9, 9, 9]));
+    let mut again = opened(rt.alloc(), tree.into_disk())?;
+    let all = [
+        again.current().number() == 4,
+        samples_at(&mut again, first) == Err(Refusal::NoTile),
+        samples_at(&mut again, second) == Ok(SECOND_SAMPLES),
+    ];
+    assert_all(&rt, &all, "a dropped tile");
     Ok(())
 }
 
@@ -280,27 +324,28 @@ fn upgrade(alloc: Global, disk: MemDisk) -> Result<(MemDisk, Result<(), Refusal>
 }
 
 #[test]
+fn no_room_to_upgrade_two_tiles(rt: HostRuntime) -> Result<(), Fail> {
+    let (disk, answer) = upgrade(rt.alloc(), two_tiles(rt.alloc(), SECTORS)?)?;
+    assert!(rt; answer == Err(Refusal::TooSmall) && disk.writes() == 13);
+    Ok(())
+}
+
+#[test]
 fn two_tiles_are_upgraded(rt: HostRuntime) -> Result<(), Fail> {
-    let first = corner(6)?;
-    let second = corner(-7)?;
-    let (disk, _) = add_two(rt.alloc(), formatted(rt.alloc())?, first, second);
-    let (disk, answer) = upgrade(rt.alloc(), disk)?;
-    assert!(rt; answer == Err(Refusal::TooSmall));
-    assert!(rt; disk.writes() == 13);
-    let larger = formatted_in(rt.alloc(), SECTORS_UPGRADED)?;
-    let (disk, _) = add_two(rt.alloc(), larger, first, second);
-    let (disk, answer) = upgrade(rt.alloc(), disk)?;
-    assert!(rt; answer == Ok(()));
+    let (first, second) = (corner(6)?, corner(-7)?);
+    let (disk, answer) = upgrade(rt.alloc(), two_tiles(rt.alloc(), SECTORS_UPGRADED)?)?;
     // Two gates, the root, and a record and an index page for each tile.
-    assert!(rt; disk.writes() == 20);
+    assert!(rt; answer == Ok(()) && disk.writes() == 20);
     let mut tree = opened(rt.alloc(), disk)?;
-    assert!(rt; tree.current().format().version().number() == 2);
-    assert!(rt; tree.current().number() == 4);
-    assert!(rt; tree.current().count() == 2);
-    assert!(rt; samples_at(&mut tree, first) == Ok([9, 9, 9, 9, 1, 9, 9, 9, 5]));
-    assert!(rt; samples_at(&mut tree, second) == Ok([9, 9, 9, 9, 1, 1, 9, 9, 9]));
+    let all = [
+        tree.current().format().version().number() == 2,
+        tree.current().number() == 4,
+        tree.current().count() == 2,
+        samples_at(&mut tree, first) == Ok(FIRST_SAMPLES),
+        samples_at(&mut tree, second) == Ok(SECOND_SAMPLES),
+    ];
+    assert_all(&rt, &all, "two tiles upgraded");
     let (disk, answer) = upgrade(rt.alloc(), tree.into_disk())?;
-    assert!(rt; answer == Err(Refusal::NotOld));
-    assert!(rt; disk.writes() == 20);
+    assert!(rt; answer == Err(Refusal::NotOld) && disk.writes() == 20);
     Ok(())
 }
