@@ -90,6 +90,11 @@ impl Session {
         }
     }
 
+    /// How many tiles the mosaic takes.
+    pub(crate) fn capacity(&self) -> u32 {
+        self.capacity
+    }
+
     /// What commands were refused with so far.
     pub(crate) fn refusals(&self) -> &[Refusal] {
         &self.refusals

@@ -43,6 +43,49 @@ fn reopened(alloc: Global, store: Store<MemDisk>) -> Result<Store<MemDisk>, Fail
     }
 }
 
+/// Compares the answers of the store while some of its tiles are fresh and some stale.
+fn query_stale(
+    rt: &impl Abort,
+    session: &mut Session,
+    table: &mut TableEngine,
+    store: &mut Store<MemDisk>,
+) -> Result<(), Fail> {
+    session.run(rt, 8, table, store)?;
+    session.step(rt, 1, store);
+    session.check_points(rt, store)?;
+    session.run(rt, 4, table, store)?;
+    session.check_points(rt, store)
+}
+
+/// Compares the answers of the table and of the store once each of their tiles is fresh.
+fn query_fresh(
+    rt: &impl Abort,
+    session: &mut Session,
+    table: &mut TableEngine,
+    store: &mut Store<MemDisk>,
+) -> Result<(), Fail> {
+    session.step(rt, session.capacity(), table);
+    session.run(rt, 4, table, store)?;
+    session.check_points(rt, table)?;
+    session.step(rt, session.capacity(), store);
+    session.check_points(rt, store)
+}
+
+/// Compares all queries of a table and of a store, that is opened anew twice.
+fn query_engines(
+    rt: &impl Abort,
+    alloc: Global,
+    side: Side,
+    session: &mut Session,
+    table: &mut TableEngine,
+) -> Result<(), Fail> {
+    let mut stale = empty_store(alloc, side, session.capacity())?;
+    query_stale(rt, session, table, &mut stale)?;
+    let mut fresh = reopened(alloc, stale)?;
+    query_fresh(rt, session, table, &mut fresh)?;
+    session.check_points(rt, &mut reopened(alloc, fresh)?)
+}
+
 /// A session in which all queries are compared: of the store while some tiles are fresh and some stale, also opened anew,
 /// of the table, and of the store with all tiles fresh.
 fn query(rt: &impl Abort, alloc: Global, seed: u64, side: Side, capacity: u32) -> Result<(), Fail>
@@ -50,19 +93,7 @@ fn query(rt: &impl Abort, alloc: Global, seed: u64, side: Side, capacity: u32) -
 {
     let mut session = Session::new(alloc, seed, side, capacity)?;
     let mut table = TableEngine::new(alloc, side, capacity);
-    let mut store = empty_store(alloc, side, capacity)?;
-    session.run(rt, 8, &mut table, &mut store)?;
-    session.step(rt, 1, &mut store);
-    session.check_points(rt, &mut store)?;
-    session.run(rt, 4, &mut table, &mut store)?;
-    session.check_points(rt, &mut store)?;
-    let mut store = reopened(alloc, store)?;
-    session.step(rt, capacity, &mut table);
-    session.run(rt, 4, &mut table, &mut store)?;
-    session.check_points(rt, &mut table)?;
-    session.step(rt, capacity, &mut store);
-    session.check_points(rt, &mut store)?;
-    session.check_points(rt, &mut reopened(alloc, store)?)
+    query_engines(rt, alloc, side, &mut session, &mut table)
 }
 
 fn query_many(
@@ -99,8 +130,34 @@ fn queries_of_four_tiles(rt: HostRuntime) -> Result<(), Fail> {
     query_many(&rt, rt.alloc(), 3, 4, 4)
 }
 
-/// A session in which commands and contents are compared, at the end of the store opened anew. Adds what commands were
-/// refused with.
+/// Runs commands on a table and on a store, and compares what they hold.
+fn edit_both(
+    rt: &impl Abort,
+    session: &mut Session,
+    table: &mut TableEngine,
+    store: &mut Store<MemDisk>,
+) -> Result<(), Fail> {
+    session.run(rt, 10, table, store)?;
+    session.check_contents(rt, table)?;
+    session.check_contents(rt, store)
+}
+
+/// The same again and again, and at the end of the store opened anew.
+fn edit_engines(
+    rt: &impl Abort,
+    alloc: Global,
+    side: Side,
+    session: &mut Session,
+    table: &mut TableEngine,
+) -> Result<(), Fail> {
+    let mut store = empty_store(alloc, side, session.capacity())?;
+    for _ in 0..4_u32 {
+        edit_both(rt, session, table, &mut store)?;
+    }
+    session.check_contents(rt, &mut reopened(alloc, store)?)
+}
+
+/// A session in which commands and contents are compared. Adds what commands were refused with.
 fn edit(
     rt: &impl Abort,
     seed: u64,
@@ -113,14 +170,9 @@ fn edit(
     let alloc = *refusals.allocator();
     let mut session = Session::new(alloc, seed, side, capacity)?;
     let mut table = TableEngine::new(alloc, side, capacity);
-    let mut store = empty_store(alloc, side, capacity)?;
-    for _ in 0..4_u32 {
-        session.run(rt, 10, &mut table, &mut store)?;
-        session.check_contents(rt, &mut table)?;
-        session.check_contents(rt, &mut store)?;
-    }
-    session.check_contents(rt, &mut reopened(alloc, store)?)?;
-    Ok(refusals.extend_from_slice(session.refusals())?)
+    edit_engines(rt, alloc, side, &mut session, &mut table)?;
+    refusals.extend_from_slice(session.refusals())?;
+    Ok(())
 }
 
 fn edit_many(

@@ -1,5 +1,4 @@
-//! Sessions written as texts, in which `$` and a letter stand for the bytes of a tile: two for each sample, the higher
-//! first, rows from the north.
+//! Sessions written as texts, in which `$` and a letter stand for the bytes of a tile.
 use crate::asserting::assert_row;
 use disk::{Disk, MemDisk};
 use engine::Engine;
@@ -12,40 +11,64 @@ use std::test::Fail;
 use store::Store;
 use table_engine::TableEngine;
 
+/// The tiles by their letters: a character for each sample, rows from the north. A digit is a height in metres, `x` stands
+/// for 10, `y` for 20, `m` for -1 and `v` for a void.
+const TILES: [(u8, &[u8]); 19] = [
+    // A pit.
+    (b'A', b"999919995"),
+    // Valleys to the east and through.
+    (b'B', b"999911999"),
+    (b'C', b"999113999"),
+    (b'D', b"999111999"),
+    // A notch in the rim.
+    (b'G', b"999997999"),
+    (b'H', b"999899999"),
+    // Voids, and V once it was patched with 4, with -1 and with 0.
+    (b'K', b"99999v999"),
+    (b'V', b"9999v9999"),
+    (b'P', b"999949999"),
+    (b'M', b"9999m9999"),
+    (b'Z', b"999909999"),
+    // Flat.
+    (b'F', b"555555555"),
+    (b'O', b"111111111"),
+    // A slope to a corner.
+    (b'S', b"yyyyx2yy0"),
+    (b'T', b"yyyyx3yy0"),
+    // A void and a way out of it on the other rim, and a notch where the void was.
+    (b'L', b"999v53999"),
+    (b'R', b"999399999"),
+    // Of side 5: a way out to the south around a void, and flat.
+    (b'W', b"9999995v99999399919999999"),
+    (b'N', b"9999999999999999999999999"),
+];
+
+/// The samples of the tile of this letter.
 fn tile(letter: u8) -> &'static [u8] {
-    match letter {
-        // 9 9 9 / 9 1 9 / 9 9 5, a pit.
-        b'A' => b"\x00\x09\x00\x09\x00\x09\x00\x09\x00\x01\x00\x09\x00\x09\x00\x09\x00\x05",
-        // 9 9 9 / 9 1 1 / 9 9 9, a valley; 1 1 3 in its middle, and 1 1 1.
-        b'B' => b"\x00\x09\x00\x09\x00\x09\x00\x09\x00\x01\x00\x01\x00\x09\x00\x09\x00\x09",
-        b'C' => b"\x00\x09\x00\x09\x00\x09\x00\x01\x00\x01\x00\x03\x00\x09\x00\x09\x00\x09",
-        b'D' => b"\x00\x09\x00\x09\x00\x09\x00\x01\x00\x01\x00\x01\x00\x09\x00\x09\x00\x09",
-        // 9 9 9 / 9 9 7 / 9 9 9, and 8 9 9 in the middle.
-        b'G' => b"\x00\x09\x00\x09\x00\x09\x00\x09\x00\x09\x00\x07\x00\x09\x00\x09\x00\x09",
-        b'H' => b"\x00\x09\x00\x09\x00\x09\x00\x08\x00\x09\x00\x09\x00\x09\x00\x09\x00\x09",
-        // 9 9 9 / 9 9 void / 9 9 9, and 9 void 9 in the middle.
-        b'K' => b"\x00\x09\x00\x09\x00\x09\x00\x09\x00\x09\x80\x00\x00\x09\x00\x09\x00\x09",
-        b'V' => b"\x00\x09\x00\x09\x00\x09\x00\x09\x80\x00\x00\x09\x00\x09\x00\x09\x00\x09",
-        // V once the void is patched with 4; 9 -1 9 in the middle, and 9 0 9.
-        b'P' => b"\x00\x09\x00\x09\x00\x09\x00\x09\x00\x04\x00\x09\x00\x09\x00\x09\x00\x09",
-        b'M' => b"\x00\x09\x00\x09\x00\x09\x00\x09\xff\xff\x00\x09\x00\x09\x00\x09\x00\x09",
-        b'Z' => b"\x00\x09\x00\x09\x00\x09\x00\x09\x00\x00\x00\x09\x00\x09\x00\x09\x00\x09",
-        // All 5, and all 1.
-        b'F' => b"\x00\x05\x00\x05\x00\x05\x00\x05\x00\x05\x00\x05\x00\x05\x00\x05\x00\x05",
-        b'O' => b"\x00\x01\x00\x01\x00\x01\x00\x01\x00\x01\x00\x01\x00\x01\x00\x01\x00\x01",
-        // 20 20 20 / 20 10 2 / 20 20 0, and 20 10 3 in the middle.
-        b'S' => b"\x00\x14\x00\x14\x00\x14\x00\x14\x00\x0a\x00\x02\x00\x14\x00\x14\x00\x00",
-        b'T' => b"\x00\x14\x00\x14\x00\x14\x00\x14\x00\x0a\x00\x03\x00\x14\x00\x14\x00\x00",
-        // 9 9 9 / void 5 3 / 9 9 9, and 3 9 9 in the middle.
-        b'L' => b"\x00\x09\x00\x09\x00\x09\x80\x00\x00\x05\x00\x03\x00\x09\x00\x09\x00\x09",
-        b'R' => b"\x00\x09\x00\x09\x00\x09\x00\x03\x00\x09\x00\x09\x00\x09\x00\x09\x00\x09",
-        // Of side 5: 9 9 9 9 9 / 9 5 void 9 9 / 9 9 9 3 9 / 9 9 1 9 9 / 9 9 9 9 9, and all 9.
-        b'W' =>
-            b"\x00\x09\x00\x09\x00\x09\x00\x09\x00\x09\x00\x09\x00\x05\x80\x00\x00\x09\x00\x09\x00\x09\x00\x09\x00\x09\x00\x03\x00\x09\x00\x09\x00\x09\x00\x01\x00\x09\x00\x09\x00\x09\x00\x09\x00\x09\x00\x09\x00\x09",
-        b'N' =>
-            b"\x00\x09\x00\x09\x00\x09\x00\x09\x00\x09\x00\x09\x00\x09\x00\x09\x00\x09\x00\x09\x00\x09\x00\x09\x00\x09\x00\x09\x00\x09\x00\x09\x00\x09\x00\x09\x00\x09\x00\x09\x00\x09\x00\x09\x00\x09\x00\x09\x00\x09",
-        _ => b"",
+    for (name, samples) in TILES {
+        if name == letter {
+            return samples;
+        }
     }
+    b""
+}
+
+/// The two bytes of a sample, the higher first.
+fn bytes_of_sample(sample: u8) -> [u8; 2] {
+    match sample {
+        b'v' => [0x80, 0],
+        b'm' => [0xff, 0xff],
+        b'x' => [0, 10],
+        b'y' => [0, 20],
+        digit => [0, digit.saturating_sub(b'0')],
+    }
+}
+
+fn push_tile(bytes: &mut Vec<u8>, letter: u8) -> Result<(), Fail> {
+    for sample in tile(letter) {
+        bytes.extend_from_slice(&bytes_of_sample(*sample))?;
+    }
+    Ok(())
 }
 
 /// The bytes that the text stands for.
@@ -54,7 +77,7 @@ pub(crate) fn bytes_of(alloc: Global, text: &[u8]) -> Result<Vec<u8>, Fail> {
     let mut is_tile = false;
     for byte in text {
         if is_tile {
-            bytes.extend_from_slice(tile(*byte))?;
+            push_tile(&mut bytes, *byte)?;
         } else if *byte != b'$' {
             bytes.push(*byte)?;
         }
@@ -102,48 +125,32 @@ pub(crate) fn opened<D: Disk + Drop>(alloc: Global, disk: D) -> Result<Store<D>,
     }
 }
 
-// Serves the lines to the engine, and compares the replies.
-fn check_engine<E: Engine>(
-    rt: &impl Abort,
-    alloc: Global,
-    engine: &mut E,
-    (input, wanted): (&[u8], &[u8]),
-    which: &str,
-    row: u64,
-) -> Result<(), Fail> {
-    let output = replies(alloc, engine, input)?;
-    assert_row(rt, output.as_slice() == wanted, which, row);
-    Ok(())
-}
-
 /// A session and the replies to it, for tiles of this side, so many at most.
 pub(crate) type Row<'a> = (u32, u32, &'a [u8], &'a [u8]);
+
+// Whether the engine replies so to the lines.
+fn answers<E: Engine + Drop>(
+    alloc: Global,
+    engine: E,
+    (input, wanted): (&[u8], &[u8]),
+) -> Result<bool, Fail> {
+    let mut engine = engine;
+    let output = replies(alloc, &mut engine, input)?;
+    Ok(output.as_slice() == wanted)
+}
 
 fn check(rt: &impl Abort, alloc: Global, session: Row, number: u64) -> Result<(), Fail> {
     let (samples, capacity, lines, replies) = session;
     let input = bytes_of(alloc, lines)?;
     let wanted = bytes_of(alloc, replies)?;
     let texts = (input.as_slice(), wanted.as_slice());
-    let mut table = table(alloc, samples, capacity)?;
-    check_engine(
-        rt,
-        alloc,
-        &mut table,
-        texts,
-        "the mosaic in memory, session",
-        number,
-    )?;
-    let mut store = store(alloc, samples, capacity)?;
-    check_engine(rt, alloc, &mut store, texts, "the store, session", number)?;
-    let mut first = store_of_version_1(alloc, samples, capacity)?;
-    check_engine(
-        rt,
-        alloc,
-        &mut first,
-        texts,
-        "the first version, session",
-        number,
-    )
+    let by_table = answers(alloc, table(alloc, samples, capacity)?, texts)?;
+    assert_row(rt, by_table, "the mosaic in memory, session", number);
+    let by_store = answers(alloc, store(alloc, samples, capacity)?, texts)?;
+    assert_row(rt, by_store, "the store, session", number);
+    let by_first = answers(alloc, store_of_version_1(alloc, samples, capacity)?, texts)?;
+    assert_row(rt, by_first, "the first version, session", number);
+    Ok(())
 }
 
 /// Serves each session to a mosaic in memory and to a store of either version, each made anew, and compares the replies.

@@ -1,10 +1,11 @@
 //! Sessions over a store on a disk in memory.
 use super::script::{bytes_of, check_rows, opened, replies, store};
 use crate::asserting::assert_row;
-use disk::FaultOnceDisk;
+use disk::{FaultOnceDisk, MemDisk};
 use std::alloc::Global;
 use std::process::Abort;
 use std::test::Fail;
+use store::Store;
 
 /// Lines to a store that was opened anew after others, and of the first one each call fails in turn.
 #[derive(Clone, Copy)]
@@ -55,19 +56,41 @@ const ELEVATION: Faulty = Faulty {
     others: b"",
 };
 
+/// A store that was opened anew, of whose disk this call fails.
+fn failing_store(
+    alloc: Global,
+    before: &[u8],
+    call: u64,
+) -> Result<Store<FaultOnceDisk<MemDisk>>, Fail> {
+    let mut fresh = store(alloc, 3, 2)?;
+    let lines = bytes_of(alloc, before)?;
+    replies(alloc, &mut fresh, &lines)?;
+    opened(alloc, FaultOnceDisk::new(fresh.into_disk(), call))
+}
+
+/// What is replied to these questions once the disk of the store was opened again.
+fn replies_again(
+    alloc: Global,
+    store: Store<FaultOnceDisk<MemDisk>>,
+    questions: &[u8],
+) -> Result<Vec<u8>, Fail> {
+    let mut again = opened(alloc, store.into_disk())?;
+    replies(alloc, &mut again, questions)
+}
+
 // Whether the replies are right where this call of the first line fails, and once the disk was opened again.
 fn is_told(alloc: Global, faulty: &Faulty, call: u64) -> Result<bool, Fail> {
     let (to_open, calls) = faulty.calls;
-    let mut fresh = store(alloc, 3, 2)?;
-    replies(alloc, &mut fresh, &bytes_of(alloc, faulty.before)?)?;
-    let disk = FaultOnceDisk::new(fresh.into_disk(), to_open.saturating_add(call));
-    let mut failing = opened(alloc, disk)?;
-    let output = replies(alloc, &mut failing, &bytes_of(alloc, faulty.lines)?)?;
-    let mut again = opened(alloc, failing.into_disk())?;
-    let later = replies(alloc, &mut again, faulty.questions)?;
+    let lines = bytes_of(alloc, faulty.lines)?;
+    let mut failing = failing_store(alloc, faulty.before, to_open.saturating_add(call))?;
+    let output = replies(alloc, &mut failing, &lines)?;
+    if output.as_slice() != faulty.replies {
+        return Ok(false);
+    }
     let is_last = call.saturating_add(1) == calls;
     let wanted = if is_last { faulty.last } else { faulty.others };
-    Ok(output.as_slice() == faulty.replies && later.as_slice() == wanted)
+    let later = replies_again(alloc, failing, faulty.questions)?;
+    Ok(later.as_slice() == wanted)
 }
 
 fn fault_at_each_call(rt: &impl Abort, alloc: Global, faulty: &Faulty) -> Result<(), Fail> {
