@@ -106,14 +106,30 @@ outcome_at ts s = outcome (is_full s.rules ts) s ts
 abbrev expected_at : List Text → Shape → Bool × Option Texts
 expected_at ts s = expected (is_full s.rules ts) s ts
 
--- by computation at all subcommands, of which none has more than three texts
-as_expected : (qs : List Plain) → map (outcome_at (words_of qs)) program_app.subs ≡ map (expected_at (words_of qs)) program_app.subs
+-- by computation at the subcommands of one, two and three texts: a word more is refused, whatever follows it
+abbrev AsExpected : List Shape → List Plain → Type 0
+AsExpected shapes qs = map (outcome_at (words_of qs)) shapes ≡ map (expected_at (words_of qs)) shapes
+
+one_text : (qs : List Plain) → AsExpected (serve_app.top ∷ check_app.top ∷ upgrade_app.top ∷ []) qs
 unfolding clap_on_literals
-as_expected [] = refl
-as_expected (p ∷ []) = rw (p.other, p.strips, p.strips) refl
-as_expected (p ∷ q ∷ []) = rw (p.other, p.strips, p.strips, q.other, q.strips, q.strips) refl
-as_expected (p ∷ q ∷ r ∷ []) = rw (p.other, p.strips, p.strips, q.other, q.strips, q.strips) (rw (r.other, r.strips, r.strips) refl)
-as_expected (p ∷ q ∷ r ∷ s ∷ rest) =
+one_text [] = refl
+one_text (p ∷ []) = rw (p.other, p.strips, p.strips) refl
+one_text (p ∷ q ∷ rest) = rw (p.other, p.strips, p.strips) (rw (q.other, q.strips, q.strips) refl)
+
+two_texts : (qs : List Plain) → AsExpected (import_app.top ∷ table_app.top ∷ []) qs
+unfolding clap_on_literals
+two_texts [] = refl
+two_texts (p ∷ []) = rw (p.other, p.strips, p.strips) refl
+two_texts (p ∷ q ∷ []) = rw (p.other, p.strips, p.strips) (rw (q.other, q.strips, q.strips) refl)
+two_texts (p ∷ q ∷ r ∷ rest) = rw (p.other, p.strips, p.strips) (rw (q.other, q.strips, q.strips) (rw (r.other, r.strips, r.strips) refl))
+
+three_texts : (qs : List Plain) → AsExpected (format_app.top ∷ []) qs
+unfolding clap_on_literals
+three_texts [] = refl
+three_texts (p ∷ []) = rw (p.other, p.strips, p.strips) refl
+three_texts (p ∷ q ∷ []) = rw (p.other, p.strips, p.strips) (rw (q.other, q.strips, q.strips) refl)
+three_texts (p ∷ q ∷ r ∷ []) = rw (p.other, p.strips, p.strips) (rw (q.other, q.strips, q.strips) (rw (r.other, r.strips, r.strips) refl))
+three_texts (p ∷ q ∷ r ∷ s ∷ rest) =
     rw (p.other, p.strips, p.strips) (rw (q.other, q.strips, q.strips) (rw (r.other, r.strips, r.strips) (rw (s.other, s.strips, s.strips) refl)))
 
 -- ---- the program's subcommands: each has a line in the lemmas of this part
@@ -127,15 +143,15 @@ subcommand (Check path) = check_app.top
 subcommand (Upgrade path) = upgrade_app.top
 
 subcommand_expected : (a : Arguments) (ts : List Text) → All NoOption ts → outcome_at ts (subcommand a) ≡ expected_at ts (subcommand a)
-subcommand_expected a ts none = let q = plain_words ts none in subst (λ v. outcome_at v (subcommand a) ≡ expected_at v (subcommand a)) q.1 (by a (words_of q.0) (as_expected q.0))
+subcommand_expected a ts none = let q = plain_words ts none in subst (λ v. outcome_at v (subcommand a) ≡ expected_at v (subcommand a)) q.1 (by a q.0)
   where
-    by : (a : Arguments) (ws : List Text) → map (outcome_at ws) program_app.subs ≡ map (expected_at ws) program_app.subs → outcome_at ws (subcommand a) ≡ expected_at ws (subcommand a)
-    by (Format path side capacity) ws e = ap (λ l. get_or l 0 (false, None)) e
-    by (Import path tile) ws e = ap (λ l. get_or l 1 (false, None)) e
-    by (Serve path) ws e = ap (λ l. get_or l 2 (false, None)) e
-    by (Table side capacity) ws e = ap (λ l. get_or l 3 (false, None)) e
-    by (Check path) ws e = ap (λ l. get_or l 4 (false, None)) e
-    by (Upgrade path) ws e = ap (λ l. get_or l 5 (false, None)) e
+    by : (a : Arguments) (qs : List Plain) → outcome_at (words_of qs) (subcommand a) ≡ expected_at (words_of qs) (subcommand a)
+    by (Format path side capacity) qs = ap (λ l. get_or l 0 (false, None)) (three_texts qs)
+    by (Import path tile) qs = ap (λ l. get_or l 0 (false, None)) (two_texts qs)
+    by (Serve path) qs = ap (λ l. get_or l 0 (false, None)) (one_text qs)
+    by (Table side capacity) qs = ap (λ l. get_or l 1 (false, None)) (two_texts qs)
+    by (Check path) qs = ap (λ l. get_or l 1 (false, None)) (one_text qs)
+    by (Upgrade path) qs = ap (λ l. get_or l 2 (false, None)) (one_text qs)
 
 names_it : (t : Texts) (a : Arguments) → AskedIn (Some t) a → t.name ≡ (subcommand a).name
 names_it t (Format path side capacity) h = h.0

@@ -1,5 +1,6 @@
 -- What the program's words ask for (this product's own profile).
-use Rattle.std.specs.Prelude.{◌≡◌, ℕ, List, [], ◌∷◌, All, true, codes, Option, Some, None, MatchOption}
+use Rattle.std.specs.Prelude.{◌≡◌, ℕ, List, [], ◌∷◌, All, true, codes, Option, Some, None, MatchOption, fold}
+use Rattle.std.specs.Borrow.{Bor}
 use Rattle.clap.specs.Words.{App, Row, Rule, Text, first_of, new_app, new_rule, with_rule, with_subcommand}
 use Rattle.lines.specs.Grammar.{IsNat}
 use Rattle.command_line.specs.declared.arguments.Arguments.{Arguments}
@@ -8,6 +9,10 @@ use Rattle.command_line.specs.declared.arguments.Arguments.TheVariants.{Format, 
 -- the words, as clap reads them: one subcommand with its required texts
 abbrev pub required_text : List ℕ → Rule
 required_text name = record (new_rule name) { required = true }
+
+-- a subcommand of this name with these texts, as the program makes each
+abbrev pub words_app : Text → List (Bor Text) → App
+words_app name texts = fold (λ a text. with_rule a (required_text text.now)) (new_app name) texts
 
 abbrev pub format_app : App
 format_app = with_rule (with_rule (with_rule (new_app (codes "format")) (required_text (codes "PATH"))) (required_text (codes "SIDE"))) (required_text (codes "CAPACITY"))

@@ -1,13 +1,24 @@
 //! The words of the command line.
-ghost use Rattle.std.specs.Prelude.{◌≡◌, ◌↔◌, ℕ, Any, Err, IfOk, IsTrue, MatchOption, Some, codes, map, option_map};
-ghost use Rattle.clap.specs.Words.{app_of, first_of, found_of, rows_of, subcommand_rows_of, with_rule};
-ghost use Rattle.command_line.specs.CommandLine.{AskNothing, AskedBy, IsNatIn, IsOption, Reads, check_app, format_app, import_app, program_app, required_text, serve_app, table_app, texts_of, upgrade_app};
+ghost use Rattle.std.specs.Prelude.{◌≡◌, ◌↔◌, ℕ, false, Any, Err, IfOk, IsTrue, MatchOption, Some, codes, map, option_map};
+ghost use Rattle.clap.specs.Walk.{rule_of};
+ghost use Rattle.clap.specs.Words.{app_of, first_of, found_of, rows_of, subcommand_rows_of, with_subcommand};
+ghost use Rattle.command_line.specs.CommandLine.{AskNothing, AskedBy, IsNatIn, IsOption, Reads, program_app, required_text, texts_of, words_app};
 
 use clap::error::ErrorKind;
 use clap::{Arg, ArgMatches, Command};
 use lines::natural;
 use std::alloc::{AllocError, Global};
 use std::convert::AsStr;
+
+/// The subcommands, each with the names of its texts.
+const SUBCOMMANDS: [(&str, &[&str]); 6] = [
+    ("format", &["PATH", "SIDE", "CAPACITY"]),
+    ("import", &["PATH", "FILE"]),
+    ("serve", &["PATH"]),
+    ("table", &["SIDE", "CAPACITY"]),
+    ("check", &["PATH"]),
+    ("upgrade", &["PATH"]),
+];
 
 /// What the program is asked to do.
 #[derive(Clone, Copy)]
@@ -87,75 +98,48 @@ fn is_option(word: &str) -> bool
 fn command<'a>(alloc: Global) -> Result<Command<'a>, AllocError>
     ensures { IfOk result (λ c. app_of c ≡ program_app) }
 {
-    let format = format_words(alloc)?;
-    let import = import_words(alloc)?;
-    let serve = serve_words(alloc)?;
-    let table = table_words(alloc)?;
-    let check = check_words(alloc)?;
-    let upgrade = upgrade_words(alloc)?;
-    Command::new(alloc, "mosaic")
+    let mut command = Command::new(alloc, "mosaic")
         .no_binary_name(true)
-        .subcommand_required(true)
-        .subcommand(format)?
-        .subcommand(import)?
-        .subcommand(serve)?
-        .subcommand(table)?
-        .subcommand(check)?
-        .subcommand(upgrade)
+        .subcommand_required(true);
+    for (name, texts) in SUBCOMMANDS {
+        command = with_words(alloc, command, name, texts)?;
+    }
+    Ok(command)
 }
 
-fn format_words<'a>(alloc: Global) -> Result<Command<'a>, AllocError>
-    ensures { IfOk result (λ c. app_of c ≡ format_app) }
-{
-    let command = Command::new(alloc, "format");
-    let command = with_text(alloc, command, "PATH")?;
-    let command = with_text(alloc, command, "SIDE")?;
-    with_text(alloc, command, "CAPACITY")
-}
-
-fn import_words<'a>(alloc: Global) -> Result<Command<'a>, AllocError>
-    ensures { IfOk result (λ c. app_of c ≡ import_app) }
-{
-    let command = Command::new(alloc, "import");
-    let command = with_text(alloc, command, "PATH")?;
-    with_text(alloc, command, "FILE")
-}
-
-fn serve_words<'a>(alloc: Global) -> Result<Command<'a>, AllocError>
-    ensures { IfOk result (λ c. app_of c ≡ serve_app) }
-{
-    with_text(alloc, Command::new(alloc, "serve"), "PATH")
-}
-
-fn table_words<'a>(alloc: Global) -> Result<Command<'a>, AllocError>
-    ensures { IfOk result (λ c. app_of c ≡ table_app) }
-{
-    let command = Command::new(alloc, "table");
-    let command = with_text(alloc, command, "SIDE")?;
-    with_text(alloc, command, "CAPACITY")
-}
-
-fn check_words<'a>(alloc: Global) -> Result<Command<'a>, AllocError>
-    ensures { IfOk result (λ c. app_of c ≡ check_app) }
-{
-    with_text(alloc, Command::new(alloc, "check"), "PATH")
-}
-
-fn upgrade_words<'a>(alloc: Global) -> Result<Command<'a>, AllocError>
-    ensures { IfOk result (λ c. app_of c ≡ upgrade_app) }
-{
-    with_text(alloc, Command::new(alloc, "upgrade"), "PATH")
-}
-
-/// The command with one more text, which is required.
-fn with_text<'a>(
+/// The command with one more subcommand. Here no further command is held that a failure would have to drop.
+fn with_words<'a>(
     alloc: Global,
     command: Command<'a>,
     name: &'static str,
+    texts: &[&'static str],
 ) -> Result<Command<'a>, AllocError>
-    ensures { IfOk result (λ c. app_of c ≡ with_rule (app_of command.entry) (required_text name.now)) }
+    ensures { IfOk result (λ c. app_of c ≡ with_subcommand (app_of command.entry) (words_app name.now texts.now).top) }
 {
-    command.arg(Arg::new(alloc, name).required(true))
+    command.subcommand(words(alloc, name, texts)?)
+}
+
+/// A subcommand with its texts, of which each is required.
+fn words<'a>(
+    alloc: Global,
+    name: &'static str,
+    texts: &[&'static str],
+) -> Result<Command<'a>, AllocError>
+    ensures { IfOk result (λ c. app_of c ≡ words_app name.now texts.now) }
+{
+    let mut command = Command::new(alloc, name);
+    for text in texts {
+        command = command.arg(required(alloc, text))?;
+    }
+    Ok(command)
+}
+
+/// The text of this name, which has to be given.
+fn required(alloc: Global, name: &'static str) -> Arg<'static>
+    ensures rule { rule_of result ≡ required_text name.now }
+    ensures local { result.global ≡ false }
+{
+    Arg::new(alloc, name).required(true)
 }
 
 /// What the matches ask for.
