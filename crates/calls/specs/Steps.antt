@@ -1,6 +1,6 @@
 -- What a step and an upgrade may answer, and the state that is left (this product's own profile). A step is an event; an
 -- upgrade is a call of a store alone.
-use Rattle.std.specs.Prelude.{◌≡◌, ◌≢◌, ℕ, ◌+◌, ◌<◌, Bool, not, IsTrue, IsFalse, [], filter, Contains, Option, Some, None, Result, Ok, Err}
+use Rattle.std.specs.Prelude.{◌≡◌, ◌≢◌, ◌+◌, ◌<◌, Bool, not, IsTrue, IsFalse, [], filter, Contains, Option, Some, None, Result, Ok, Err}
 use Rattle.lattice.specs.Corners.{Corner, same_corner}
 use Rattle.lattice.specs.declared.refusal.Refusal.{Refusal}
 use Rattle.lattice.specs.declared.refusal.Refusal.TheVariants.{Device, NoMemory, Failed, Worn, TooSmall, NotOld}
