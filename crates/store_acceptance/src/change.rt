@@ -87,10 +87,15 @@ pub(crate) fn prepared_disk(alloc: Global, version: u32, row: Row) -> Result<Mem
         (1, Upgrade) => store_of_version_1(alloc, sectors_for(2, capacity), 3, capacity)?,
         _ => empty_store(alloc, version, capacity)?,
     };
-    for change in prepared {
-        if let Some(refusal) = make(alloc, &mut store, *change)? {
+    make_all(alloc, &mut store, prepared)?;
+    Ok(store.into_disk())
+}
+
+fn make_all(alloc: Global, store: &mut Store<MemDisk>, changes: &[Change]) -> Result<(), Fail> {
+    for change in changes {
+        if let Some(refusal) = make(alloc, store, *change)? {
             return Err(refusal.into());
         }
     }
-    Ok(store.into_disk())
+    Ok(())
 }

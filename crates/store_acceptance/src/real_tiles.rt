@@ -54,9 +54,10 @@ fn two_neighbours_come_back_byte_for_byte(rt: HostRuntime) -> Result<(), Fail> {
     let mut store = store_in_memory(alloc, SECTORS, 1201, 2)?;
     import(alloc, &mut store, HERE, 0)?;
     import(alloc, &mut store, EAST, 7)?;
-    let mut opened = opened(alloc, store.into_disk())?;
-    assert!(rt; comes_back(alloc, &mut opened, HERE, 0)?);
-    assert!(rt; comes_back(alloc, &mut opened, EAST, 7)?);
+    let mut again = opened(alloc, store.into_disk())?;
+    let is_back = comes_back(alloc, &mut again, HERE, 0)?
+        && comes_back(alloc, &mut again, EAST, 7)?;
+    assert!(rt; is_back);
     Ok(())
 }
 
@@ -102,14 +103,23 @@ fn the_largest_tile_comes_back_is_burnt_and_kept_filled(rt: HostRuntime) -> Resu
     let bytes = slope(alloc, 0)?;
     let disk = make_counted(&rt, alloc, disk, &[(Do(Import(0, 0, &bytes)), 6342)])?;
     let mut store = opened(alloc, disk)?;
-    assert!(rt; exports(&mut store, HERE, &bytes)?);
-    // The last sample, in the last page.
-    assert!(rt; store.elevation(at(0, 3600)) == Ok(Height::At(14_400)));
+    // The last sample is in the last page.
+    let is_back = exports(&mut store, HERE, &bytes)?
+        && store.elevation(at(0, 3600)) == Ok(Height::At(14_400));
+    assert!(rt; is_back);
     let rows = [(Do(Burn(1, &[(1800, 1800)])), 6), (Step, 12_683)];
-    let mut store = opened(alloc, make_counted(&rt, alloc, store.into_disk(), &rows)?)?;
-    assert!(rt; !store.stale(HERE));
-    // The pit is filled up to the lowest point of the row above.
-    assert!(rt; store.fill(at(1800, 1800)) == Ok(4 * 1799));
-    assert!(rt; exports(&mut store, HERE, &slope(alloc, -1)?)?);
+    let disk = make_counted(&rt, alloc, store.into_disk(), &rows)?;
+    assert!(rt; is_burnt_and_filled(alloc, disk)?);
     Ok(())
+}
+
+// Whether what is kept of the burnt tile is there: its pit is filled up to the lowest point of the row above.
+fn is_burnt_and_filled(alloc: Global, disk: MemDisk) -> Result<bool, Fail> {
+    let bytes = slope(alloc, -1)?;
+    let mut store = opened(alloc, disk)?;
+    Ok(
+        !store.stale(HERE)
+            && store.fill(at(1800, 1800)) == Ok(4 * 1799)
+            && exports(&mut store, HERE, &bytes)?,
+    )
 }

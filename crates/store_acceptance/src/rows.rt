@@ -4,11 +4,18 @@ use super::asserting::assert_row;
 use super::fixtures::{A, B, C, G, H, V, opened};
 use super::script::Asked::{Burn, Import, Patch, Remove, Wall};
 use super::script::Step::{Done, Drains, Elevation, Exports, Filled, Refused, Seams, Shed};
-use super::script::{command, follow};
+use super::script::{Asked, command, follow};
 use disk::{CountedDisk, MemDisk};
 use lattice::{Height, Refusal};
+use std::alloc::Global;
 use std::test::Fail;
 use store::Store;
+
+// Whether the disk holds a store of the second version, of tiles of this side.
+fn is_second(alloc: Global, disk: MemDisk, side: u32) -> Result<bool, Fail> {
+    let store = opened(alloc, disk)?;
+    Ok(store.version() == 2 && store.side() == side)
+}
 
 #[test]
 fn sizes_that_format_takes(rt: HostRuntime) -> Result<(), Fail> {
@@ -30,12 +37,8 @@ fn sizes_that_format_takes(rt: HostRuntime) -> Result<(), Fail> {
     for (sectors, side, capacity, answer) in table {
         let mut disk = MemDisk::new(rt.alloc(), sectors)?;
         let found = Store::format(&mut disk, side, capacity);
-        assert_row(&rt, found == answer, "sectors", u64::from(sectors));
-        if answer.is_ok() {
-            let store = opened(rt.alloc(), disk)?;
-            let is_right = store.version() == 2 && store.side() == side;
-            assert_row(&rt, is_right, "side", u64::from(side));
-        }
+        let is_right = found == answer && (answer.is_err() || is_second(rt.alloc(), disk, side)?);
+        assert_row(&rt, is_right, "sectors", u64::from(sectors));
     }
     Ok(())
 }
@@ -62,6 +65,26 @@ fn sizes_that_the_first_version_takes(rt: HostRuntime) -> Result<(), Fail> {
     Ok(())
 }
 
+// The number of the commit before a command, the answer, and that of the commit after it.
+type Commits = (u64, Result<u64, Refusal>, u64);
+
+// Opens the store and applies the command. Answers the disk, the commits, and how many writes and syncs were made.
+fn counted(
+    alloc: Global,
+    disk: MemDisk,
+    asked: Asked,
+) -> Result<(MemDisk, Commits, (u64, u64)), Fail> {
+    let command = command(alloc, asked)?;
+    let mut store = opened(alloc, CountedDisk::new(disk))?;
+    let before = store.commits();
+    let answer = store.apply(&command);
+    let commits = (before, answer, store.commits());
+    let counted = store.into_disk();
+    let tally = counted.faults();
+    let calls = (tally.writes, tally.syncs);
+    Ok((counted.into_inner(), commits, calls))
+}
+
 #[test]
 fn writes_and_syncs_of_commands(rt: HostRuntime) -> Result<(), Fail> {
     let alloc = rt.alloc();
@@ -78,16 +101,15 @@ fn writes_and_syncs_of_commands(rt: HostRuntime) -> Result<(), Fail> {
     ];
     let mut before = 1;
     for (asked, answer, commits, writes, syncs) in steps {
-        let mut store = opened(alloc, CountedDisk::new(disk))?;
-        let is_before = store.commits() == before;
-        let found = store.apply(&command(alloc, asked)?);
-        let is_right = is_before && found == answer && store.commits() == commits;
-        assert_row(&rt, is_right, "commits", commits);
-        let counted = store.into_disk();
-        let tally = counted.faults();
-        let is_counted = tally.writes == writes && tally.syncs == syncs;
-        assert_row(&rt, is_counted, "writes and syncs at commit", commits);
-        disk = counted.into_inner();
+        let (left, found, calls) = counted(alloc, disk, asked)?;
+        assert_row(&rt, found == (before, answer, commits), "commits", commits);
+        assert_row(
+            &rt,
+            calls == (writes, syncs),
+            "writes and syncs at commit",
+            commits,
+        );
+        disk = left;
         before = commits;
     }
     Ok(())

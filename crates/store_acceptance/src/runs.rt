@@ -55,24 +55,25 @@ fn rows_of<const N: usize>(
     Ok(Vec::from_array(alloc, rows).ok().ok_or("no memory")?)
 }
 
-#[test]
-fn every_event_of_a_run(rt: HostRuntime) -> Result<(), Fail> {
-    let alloc = rt.alloc();
-    let mut store = store_in_memory(alloc, 22, 3, 1)?;
+// Every event, and what a store of room for one tile replies to them in order.
+fn every_event(alloc: Global) -> Result<Vec<(Event, Reply)>, Fail> {
     let path = vec![in alloc; at(0, 0), at(1, 1), at(0, 2)]?;
     let watershed = vec![in alloc; line(2), line(1), line(0)]?;
+    let tiles = vec![in alloc; HERE]?;
     let file = Vec::from_slice(alloc, &A)?;
+    let first = importing(alloc)?;
+    let again = importing(alloc)?;
     let rows = [
         (Event::Count, Reply::Count(0)),
-        (importing(alloc)?, Reply::Done(1)),
-        (importing(alloc)?, Reply::Refused(Refusal::TileThere)),
+        (first, Reply::Done(1)),
+        (again, Reply::Refused(Refusal::TileThere)),
         (Event::Elevation(at(0, 2)), Reply::Elevation(Height::At(5))),
         (Event::Fill(at(1, 1)), Reply::Fill(5)),
         (Event::Direction(at(1, 1)), Reply::Direction(2)),
         (Event::Trace(at(0, 0)), Reply::Trace(path)),
         (Event::Watershed(at(0, 2)), Reply::Watershed(watershed)),
         (Event::Export(HERE), Reply::Export(file)),
-        (Event::Tiles, Reply::Tiles(vec![in alloc; HERE]?)),
+        (Event::Tiles, Reply::Tiles(tiles)),
         (Event::Sinks, Reply::Sinks(Vec::new(alloc))),
         (Event::Step, Reply::Stepped(Some(HERE))),
         (Event::Step, Reply::Stepped(None)),
@@ -83,7 +84,14 @@ fn every_event_of_a_run(rt: HostRuntime) -> Result<(), Fail> {
         (Event::Fill(at(1, 1)), Reply::Refused(Refusal::Outside)),
         (Event::Count, Reply::Count(2)),
     ];
-    assert!(rt; replies(alloc, &mut store, rows_of(alloc, rows)?)?);
+    rows_of(alloc, rows)
+}
+
+#[test]
+fn every_event_of_a_run(rt: HostRuntime) -> Result<(), Fail> {
+    let rows = every_event(rt.alloc())?;
+    let mut store = store_in_memory(rt.alloc(), 22, 3, 1)?;
+    assert!(rt; replies(rt.alloc(), &mut store, rows)?);
     Ok(())
 }
 
@@ -98,11 +106,8 @@ fn replies_go_behind_what_is_there(rt: HostRuntime) -> Result<(), Fail> {
     Ok(())
 }
 
-#[test]
-fn a_fault_in_a_run(rt: HostRuntime) -> Result<(), Fail> {
-    let alloc = rt.alloc();
-    let disk = store_of(alloc, 1, &[(HERE, A)])?.into_disk();
-    let mut store = opened(alloc, FaultOnceDisk::new(disk, CALLS_TO_OPEN))?;
+// What a store of one tile replies from a fault on, until it is reopened.
+fn after_a_fault(alloc: Global) -> Result<Vec<(Event, Reply)>, Fail> {
     let rows = [
         (Event::Elevation(at(0, 2)), Reply::Refused(Refusal::Device)),
         (Event::Elevation(at(0, 2)), FAILED),
@@ -118,6 +123,14 @@ fn a_fault_in_a_run(rt: HostRuntime) -> Result<(), Fail> {
         (Event::Elevation(at(0, 2)), Reply::Elevation(Height::At(5))),
         (removal(), Reply::Done(2)),
     ];
-    assert!(rt; replies(alloc, &mut store, rows_of(alloc, rows)?)?);
+    rows_of(alloc, rows)
+}
+
+#[test]
+fn a_fault_in_a_run(rt: HostRuntime) -> Result<(), Fail> {
+    let rows = after_a_fault(rt.alloc())?;
+    let disk = store_of(rt.alloc(), 1, &[(HERE, A)])?.into_disk();
+    let mut store = opened(rt.alloc(), FaultOnceDisk::new(disk, CALLS_TO_OPEN))?;
+    assert!(rt; replies(rt.alloc(), &mut store, rows)?);
     Ok(())
 }

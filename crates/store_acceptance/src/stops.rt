@@ -111,24 +111,30 @@ fn stopped_in_openings(alloc: Global, disk: MemDisk, stop: (Torn, Torn)) -> Resu
     Err("no opening has calls enough".into())
 }
 
+// Stops the change after so many calls, in this way. Answers whether it was through by then.
+fn stop_so(alloc: Global, calls: u64, stop: (Torn, Torn), case: &Case) -> Result<bool, Fail> {
+    let (_, _, change) = case.row;
+    let (disk, refused) = make_with(alloc, case.disk(alloc)?, calls, change)?;
+    let through = refused.is_none();
+    if !through && refused != Some(Refusal::Device) {
+        return Err("refused otherwise".into());
+    }
+    let (disk, made) = finds_made(alloc, stopped(disk, stop)?, case)?;
+    if through && !made {
+        return Err("an acknowledged change is gone".into());
+    }
+    let (_, again) = finds_made(alloc, stopped_in_openings(alloc, disk, stop)?, case)?;
+    if again != made {
+        return Err("an opening changed the store".into());
+    }
+    Ok(through)
+}
+
 // Stops the change after so many calls, in each way. Answers whether it was through by then.
 fn stop_after(alloc: Global, calls: u64, case: &Case) -> Result<bool, Fail> {
-    let (_, _, change) = case.row;
     let mut through = false;
     for stop in STOPS {
-        let (disk, refused) = make_with(alloc, case.disk(alloc)?, calls, change)?;
-        through = refused.is_none();
-        if !through && refused != Some(Refusal::Device) {
-            return Err("refused otherwise".into());
-        }
-        let (disk, made) = finds_made(alloc, stopped(disk, stop)?, case)?;
-        if through && !made {
-            return Err("an acknowledged change is gone".into());
-        }
-        let (_, again) = finds_made(alloc, stopped_in_openings(alloc, disk, stop)?, case)?;
-        if again != made {
-            return Err("an opening changed the store".into());
-        }
+        through = stop_so(alloc, calls, stop, case)?;
     }
     Ok(through)
 }
@@ -193,30 +199,47 @@ fn refuses_all<D: Disk>(store: &mut Store<D>) -> bool {
 // Has this call of the opening or of the change fail. Answers whether the change is made then; none where no such call
 // is made.
 fn fault_at(alloc: Global, call: u64, case: &Case) -> Result<Option<bool>, Fail> {
-    let (_, _, change) = case.row;
-    let mut store = match Store::open(alloc, FaultOnceDisk::new(case.disk(alloc)?, call)) {
-        Ok(store) => store,
+    match Store::open(alloc, FaultOnceDisk::new(case.disk(alloc)?, call)) {
+        Ok(store) => fault_in_change(alloc, store, case),
         Err(NotOpened { disk, refusal }) => {
             let (_, made) = finds_made(alloc, disk.into_inner(), case)?;
-            return Ok((refusal == Refusal::Device).then_some(made));
+            Ok((refusal == Refusal::Device).then_some(made))
         }
-    };
-    let refused = make(alloc, &mut store, change)?;
-    if refused.is_none() {
+    }
+}
+
+// The same, where the store could be opened.
+fn fault_in_change(
+    alloc: Global,
+    store: Store<FaultOnceDisk<MemDisk>>,
+    case: &Case,
+) -> Result<Option<bool>, Fail> {
+    let (_, _, change) = case.row;
+    let mut store = store;
+    let Some(refusal) = make(alloc, &mut store, change)? else {
         return Ok(None);
-    }
-    if refused != Some(Refusal::Device) || !refuses_all(&mut store) {
-        return Err("not failed".into());
-    }
-    if store.commits() != case.before.commits || store.reopen().is_err() {
-        return Err("not reopened".into());
-    }
-    let made = store.commits() != case.before.commits;
+    };
+    let made = is_made_after(&mut store, refusal, case)?;
     let (_, again) = finds_made(alloc, store.into_disk().into_inner(), case)?;
     if again != made {
         return Err("reopened elsewhere".into());
     }
     Ok(Some(made))
+}
+
+// Whether a store that refused the change for a fault has made it, once it was reopened.
+fn is_made_after<D: Disk>(
+    store: &mut Store<D>,
+    refusal: Refusal,
+    case: &Case,
+) -> Result<bool, Fail> {
+    if refusal != Refusal::Device || !refuses_all(store) {
+        return Err("not failed".into());
+    }
+    if store.commits() != case.before.commits || store.reopen().is_err() {
+        return Err("not reopened".into());
+    }
+    Ok(store.commits() != case.before.commits)
 }
 
 // Has each call fail in turn. Answers whether the change is made by the last of these faults, in the last sync.
@@ -270,9 +293,8 @@ fn a_fault_in_a_read(rt: HostRuntime) -> Result<(), Fail> {
     let faulty = FaultOnceDisk::new(disk, CALLS_TO_OPEN);
     let mut store = opened(alloc, faulty)?;
     let point = at(0, 2);
-    assert!(rt; store.elevation(point) == Err(Refusal::Device));
-    assert!(rt; store.count() == 1);
-    let mut store = opened(alloc, store.into_disk())?;
-    assert!(rt; store.elevation(point) == Ok(Height::At(5)));
+    assert!(rt; store.elevation(point) == Err(Refusal::Device) && store.count() == 1);
+    let mut again = opened(alloc, store.into_disk())?;
+    assert!(rt; again.elevation(point) == Ok(Height::At(5)));
     Ok(())
 }

@@ -14,10 +14,15 @@ const AFTER: (u32, u64, u64) = (2, 2, 5);
 // A store of the first version with one tile, which is fresh, and a sink, on a disk of so many sectors.
 fn one_tile(alloc: Global, sectors: u32) -> Result<Store<MemDisk>, Fail> {
     let mut store = store_of_version_1(alloc, sectors, 3, 1)?;
+    add_all(alloc, &mut store)?;
+    Ok(store)
+}
+
+fn add_all(alloc: Global, store: &mut Store<MemDisk>) -> Result<(), Fail> {
     store.apply(&import(alloc, HERE, &A)?)?;
     store.apply(&sink(at(1, 1)))?;
     store.step()?;
-    Ok(store)
+    Ok(())
 }
 
 // Whether the store has the tile, the sink and what is kept of the tile.
@@ -35,17 +40,18 @@ fn numbers(store: &Store<MemDisk>) -> (u32, u64, u64) {
 }
 
 #[test]
-fn an_upgrade_needs_room_and_is_made_once(rt: HostRuntime) -> Result<(), Fail> {
-    let alloc = rt.alloc();
-    let mut store = one_tile(alloc, 16)?;
-    assert_eq!(rt; store.upgrade(), Err(Refusal::TooSmall));
-    assert_eq!(rt; numbers(&store), BEFORE);
-    let mut store = one_tile(alloc, 22)?;
-    assert_eq!(rt; store.upgrade(), Ok(()));
-    assert_eq!(rt; numbers(&store), AFTER);
-    assert_eq!(rt; store.upgrade(), Err(Refusal::NotOld));
-    let mut store = opened(alloc, store.into_disk())?;
-    assert_eq!(rt; numbers(&store), AFTER);
-    assert!(rt; has_all(&mut store)?);
+fn an_upgrade_needs_room(rt: HostRuntime) -> Result<(), Fail> {
+    let mut store = one_tile(rt.alloc(), 16)?;
+    assert!(rt; store.upgrade() == Err(Refusal::TooSmall) && numbers(&store) == BEFORE);
+    Ok(())
+}
+
+#[test]
+fn an_upgrade_is_made_once(rt: HostRuntime) -> Result<(), Fail> {
+    let mut store = one_tile(rt.alloc(), 22)?;
+    assert!(rt; store.upgrade() == Ok(()) && numbers(&store) == AFTER);
+    assert!(rt; store.upgrade() == Err(Refusal::NotOld));
+    let mut again = opened(rt.alloc(), store.into_disk())?;
+    assert!(rt; numbers(&again) == AFTER && has_all(&mut again)?);
     Ok(())
 }
