@@ -5,3 +5,8 @@ use std::process::Abort;
 pub(crate) fn assert_row(rt: &impl Abort, holds: bool, what: &str, row: u64) {
     assert!(rt; holds, "{what}, {row}");
 }
+
+/// Ends the test where what this names doesn't hold.
+pub(crate) fn assert_named(rt: &impl Abort, holds: bool, name: &str) {
+    assert!(rt; holds, "{name}");
+}

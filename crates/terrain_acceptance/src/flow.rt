@@ -1,4 +1,5 @@
 //! Directions over filled levels, by rows worked by hand: levels row by row from the north, tile after tile.
+use crate::asserting::assert_named;
 use crate::script::{are_points, at};
 use flow_d8::{Directions, Filled};
 use lattice::{Corner, Dir, Point, Refusal, Side};
@@ -8,6 +9,14 @@ use std::test::Fail;
 
 const VOID: i16 = i16::MIN;
 
+fn tiles(alloc: Global, corners: &[(i16, i16)]) -> Option<Vec<Corner>> {
+    let mut tiles = Vec::new(alloc);
+    for (lat, lon) in corners {
+        tiles.push(Corner::new(*lat, *lon)?).ok()?;
+    }
+    Some(tiles)
+}
+
 fn filled(
     alloc: Global,
     side: u32,
@@ -15,162 +24,238 @@ fn filled(
     levels: &[i16],
     sinks: &[Point],
 ) -> Option<Filled> {
-    let mut tiles = Vec::new(alloc);
-    for (lat, lon) in corners {
-        tiles.push(Corner::new(*lat, *lon)?).ok()?;
-    }
+    let side = Side::new(side)?;
+    let tiles = tiles(alloc, corners)?;
     let levels = Vec::from_slice(alloc, levels).ok()?;
     let sinks = Vec::from_slice(alloc, sinks).ok()?;
-    Filled::new(Side::new(side)?, tiles, levels, sinks)
+    Filled::new(side, tiles, levels, sinks)
 }
 
-fn found(
+pub(crate) fn found(
     alloc: Global,
     side: u32,
     corners: &[(i16, i16)],
     levels: &[i16],
     sinks: &[Point],
-) -> Result<Directions, Fail> {
-    let filled = filled(alloc, side, corners, levels, sinks).ok_or("no levels")?;
-    Ok(filled.directions(alloc)?)
+) -> Result<Directions, Refusal> {
+    let filled = filled(alloc, side, corners, levels, sinks).ok_or(Refusal::BadLength)?;
+    filled.directions(alloc)
 }
 
-// Whether water goes from each of these points so.
-fn lead(directions: &Directions, rows: &[(i32, i32, Option<Dir>)]) -> bool {
-    rows.iter().all(|(y, x, direction)| directions.direction(at(*y, *x)) == *direction)
+/// Levels of tiles, and how water flows over them. Points are written as y and x.
+struct Row<'a> {
+    shows: &'a str,
+    side: u32,
+    corners: &'a [(i16, i16)],
+    levels: &'a [i16],
+    sinks: &'a [Point],
+    /// Where water goes from these points.
+    leads: &'a [(i32, i32, Option<Dir>)],
+    /// How far these points are from a way out of their flat.
+    lies: &'a [(i32, i32, Option<u32>)],
+    /// The paths from these points.
+    paths: &'a [(i32, i32, &'a [(i32, i32)])],
 }
 
-// Whether each of these points is so far from a way out of its flat.
-fn lie(directions: &Directions, rows: &[(i32, i32, Option<u32>)]) -> bool {
-    rows.iter().all(|(y, x, distance)| directions.flat_distance(at(*y, *x)) == *distance)
+const STEEPEST: [Row; 5] = [
+    Row {
+        shows: "equal drops go to the first in code order",
+        side: 3,
+        corners: &[(0, 0)],
+        levels: &[9, 9, 9, 9, 5, 9, 9, 9, 5],
+        sinks: &[],
+        leads: &[
+            (1, 1, Some(Dir::SouthEast)),
+            (0, 2, None),
+            (0, 1, Some(Dir::East)),
+        ],
+        lies: &[(1, 1, Some(1)), (0, 2, Some(0))],
+        paths: &[(0, 0, &[(0, 0), (1, 1), (0, 2)])],
+    },
+    Row {
+        shows: "water crosses a seam",
+        side: 3,
+        corners: &[(0, 0), (0, 1)],
+        levels: &[9, 9, 9, 9, 3, 3, 9, 9, 9, 9, 9, 9, 3, 3, 3, 9, 9, 9],
+        sinks: &[],
+        leads: &[(1, 1, Some(Dir::East))],
+        lies: &[],
+        paths: &[],
+    },
+    Row {
+        shows: "no step leads across a corner that no tile holds whole",
+        side: 3,
+        corners: &[(0, 0), (1, 1)],
+        levels: &[5, 5, 5, 5, 5, 5, 5, 5, 5, 1, 1, 1, 1, 1, 1, 5, 1, 1],
+        sinks: &[],
+        leads: &[(2, 1, None), (2, 2, Some(Dir::East))],
+        lies: &[],
+        paths: &[],
+    },
+    Row {
+        shows: "a drop of 10 along a diagonal is less steep than one of 8 to the east",
+        side: 3,
+        corners: &[(0, 0)],
+        levels: &[20, 20, 20, 20, 10, 2, 20, 20, 0],
+        sinks: &[],
+        leads: &[(1, 1, Some(Dir::East))],
+        lies: &[],
+        paths: &[],
+    },
+    Row {
+        shows: "a drop of 10 along a diagonal is steeper than one of 7 to the east",
+        side: 3,
+        corners: &[(0, 0)],
+        levels: &[20, 20, 20, 20, 10, 3, 20, 20, 0],
+        sinks: &[],
+        leads: &[(1, 1, Some(Dir::SouthEast))],
+        lies: &[],
+        paths: &[],
+    },
+];
+
+const WAYS_OUT: [Row; 3] = [
+    Row {
+        shows: "water leaves at a sink with no lower neighbour",
+        side: 3,
+        corners: &[(0, 0)],
+        levels: &[9, 9, 9, 9, 1, 9, 9, 9, 5],
+        sinks: &[Point { y: 1, x: 1 }],
+        leads: &[
+            (1, 1, None),
+            (0, 2, Some(Dir::NorthWest)),
+            (0, 1, Some(Dir::North)),
+        ],
+        lies: &[(1, 1, Some(0))],
+        paths: &[],
+    },
+    Row {
+        shows: "points elsewhere have no direction",
+        side: 3,
+        corners: &[(0, 0)],
+        levels: &[9, 9, 9, 9, VOID, 9, 9, 9, 5],
+        sinks: &[],
+        leads: &[(1, 1, None)],
+        lies: &[(1, 1, None), (3, 3, None)],
+        paths: &[(1, 1, &[])],
+    },
+    Row {
+        shows: "water leaves beside a void",
+        side: 5,
+        corners: &[(0, 0)],
+        levels: &[
+            9, 9, 9, 9, 9, 9, 5, VOID, 9, 9, 9, 9, 9, 3, 9, 9, 9, 3, 9, 9, 9, 9, 9, 9, 9,
+        ],
+        sinks: &[],
+        leads: &[(1, 2, Some(Dir::NorthEast)), (2, 3, None), (3, 1, None)],
+        lies: &[],
+        paths: &[],
+    },
+];
+
+const FLATS: [Row; 2] = [
+    Row {
+        shows: "a flat drains to its nearest way out",
+        side: 3,
+        corners: &[(0, 0)],
+        levels: &[5; 9],
+        sinks: &[],
+        leads: &[(1, 1, Some(Dir::East))],
+        lies: &[],
+        paths: &[],
+    },
+    Row {
+        shows: "a flat is crossed over four tiles",
+        side: 3,
+        corners: &[(0, 0), (0, 1), (0, 2), (0, 3)],
+        levels: &[
+            9, 9, 9, 9, 3, 3, 9, 9, 9, 9, 9, 9, 3, 3, 3, 9, 9, 9, 9, 9, 9, 3, 3, 3, 9, 9, 9, 9, 9,
+            9, 3, 3, 3, 9, 9, 9,
+        ],
+        sinks: &[],
+        leads: &[(1, 1, Some(Dir::East))],
+        lies: &[(1, 1, Some(7)), (1, 8, Some(0))],
+        paths: &[(
+            1,
+            1,
+            &[
+                (1, 1),
+                (1, 2),
+                (1, 3),
+                (1, 4),
+                (1, 5),
+                (1, 6),
+                (1, 7),
+                (1, 8),
+            ],
+        )],
+    },
+];
+
+fn leads(directions: &Directions, rows: &[(i32, i32, Option<Dir>)]) -> bool {
+    for (y, x, direction) in rows {
+        if directions.direction(at(*y, *x)) != *direction {
+            return false;
+        }
+    }
+    true
 }
 
-// Checks where water goes from these points of tiles of side 3.
-fn check(
-    rt: &impl Abort,
+fn lies(directions: &Directions, rows: &[(i32, i32, Option<u32>)]) -> bool {
+    for (y, x, distance) in rows {
+        if directions.flat_distance(at(*y, *x)) != *distance {
+            return false;
+        }
+    }
+    true
+}
+
+fn has_paths(
     alloc: Global,
-    corners: &[(i16, i16)],
-    levels: &[i16],
-    rows: &[(i32, i32, Option<Dir>)],
-) -> Result<(), Fail> {
-    let directions = found(alloc, 3, corners, levels, &[])?;
-    assert!(rt; lead(&directions, rows));
-    Ok(())
+    directions: &Directions,
+    rows: &[(i32, i32, &[(i32, i32)])],
+) -> Result<bool, Refusal> {
+    for (y, x, path) in rows {
+        if !are_points(&directions.trace(alloc, at(*y, *x))?, path) {
+            return Ok(false);
+        }
+    }
+    Ok(true)
 }
 
-#[test]
-fn equal_drops_go_to_the_first_in_code_order(rt: HostRuntime) -> Result<(), Fail> {
-    let alloc = rt.alloc();
-    let pit = [9, 9, 9, 9, 5, 9, 9, 9, 5];
-    let drained = found(alloc, 3, &[(0, 0)], &pit, &[])?;
-    let directions = [
-        (1, 1, Some(Dir::SouthEast)),
-        (0, 2, None),
-        (0, 1, Some(Dir::East)),
-    ];
-    assert!(rt; lead(&drained, &directions));
-    assert!(rt; lie(&drained, &[(1, 1, Some(1)), (0, 2, Some(0))]));
-    let path = drained.trace(alloc, at(0, 0))?;
-    assert!(rt; are_points(&path, &[(0, 0), (1, 1), (0, 2)]));
-    Ok(())
+fn flows_so(alloc: Global, row: &Row) -> Result<bool, Refusal> {
+    let directions = found(alloc, row.side, row.corners, row.levels, row.sinks)?;
+    let has_paths = has_paths(alloc, &directions, row.paths)?;
+    Ok(has_paths && leads(&directions, row.leads) && lies(&directions, row.lies))
 }
 
-#[test]
-fn water_leaves_at_a_sink_with_no_lower_neighbour(rt: HostRuntime) -> Result<(), Fail> {
-    let pit = [9, 9, 9, 9, 1, 9, 9, 9, 5];
-    let drained = found(rt.alloc(), 3, &[(0, 0)], &pit, &[at(1, 1)])?;
-    let directions = [
-        (1, 1, None),
-        (0, 2, Some(Dir::NorthWest)),
-        (0, 1, Some(Dir::North)),
-    ];
-    assert!(rt; lead(&drained, &directions));
-    assert!(rt; lie(&drained, &[(1, 1, Some(0))]));
-    Ok(())
-}
-
-#[test]
-fn points_elsewhere_have_no_direction(rt: HostRuntime) -> Result<(), Fail> {
-    let alloc = rt.alloc();
-    let gap = [9, 9, 9, 9, VOID, 9, 9, 9, 5];
-    let drained = found(alloc, 3, &[(0, 0)], &gap, &[])?;
-    assert!(rt; lead(&drained, &[(1, 1, None)]));
-    assert!(rt; lie(&drained, &[(1, 1, None), (3, 3, None)]));
-    assert!(rt; drained.trace(alloc, at(1, 1))?.is_empty());
-    Ok(())
-}
-
-#[test]
-fn water_crosses_a_seam(rt: HostRuntime) -> Result<(), Fail> {
-    let levels = [9, 9, 9, 9, 3, 3, 9, 9, 9, 9, 9, 9, 3, 3, 3, 9, 9, 9];
-    let rows = [(1, 1, Some(Dir::East))];
-    check(&rt, rt.alloc(), &[(0, 0), (0, 1)], &levels, &rows)
-}
-
-#[test]
-fn no_step_leads_across_a_corner_that_no_tile_holds_whole(rt: HostRuntime) -> Result<(), Fail> {
-    let levels = [5, 5, 5, 5, 5, 5, 5, 5, 5, 1, 1, 1, 1, 1, 1, 5, 1, 1];
-    let rows = [(2, 1, None), (2, 2, Some(Dir::East))];
-    check(&rt, rt.alloc(), &[(0, 0), (1, 1)], &levels, &rows)
-}
-
-#[test]
-fn a_flat_drains_to_its_nearest_way_out(rt: HostRuntime) -> Result<(), Fail> {
-    let rows = [(1, 1, Some(Dir::East))];
-    check(&rt, rt.alloc(), &[(0, 0)], &[5; 9], &rows)
-}
-
-#[test]
-fn a_diagonal_step_is_longer(rt: HostRuntime) -> Result<(), Fail> {
-    for (height, direction) in [(2, Dir::East), (3, Dir::SouthEast)] {
-        let levels = [20, 20, 20, 20, 10, height, 20, 20, 0];
-        let rows = [(1, 1, Some(direction))];
-        check(&rt, rt.alloc(), &[(0, 0)], &levels, &rows)?;
+fn check(rt: &impl Abort, alloc: Global, rows: &[Row]) -> Result<(), Fail> {
+    for row in rows {
+        assert_named(rt, flows_so(alloc, row)?, row.shows);
     }
     Ok(())
 }
 
 #[test]
-fn a_flat_is_crossed_over_four_tiles(rt: HostRuntime) -> Result<(), Fail> {
-    let alloc = rt.alloc();
-    let levels = [
-        9, 9, 9, 9, 3, 3, 9, 9, 9, 9, 9, 9, 3, 3, 3, 9, 9, 9, 9, 9, 9, 3, 3, 3, 9, 9, 9, 9, 9, 9,
-        3, 3, 3, 9, 9, 9,
-    ];
-    let drained = found(alloc, 3, &[(0, 0), (0, 1), (0, 2), (0, 3)], &levels, &[])?;
-    assert!(rt; lead(&drained, &[(1, 1, Some(Dir::East))]));
-    assert!(rt; lie(&drained, &[(1, 1, Some(7)), (1, 8, Some(0))]));
-    let row = [
-        (1, 1),
-        (1, 2),
-        (1, 3),
-        (1, 4),
-        (1, 5),
-        (1, 6),
-        (1, 7),
-        (1, 8),
-    ];
-    assert!(rt; are_points(&drained.trace(alloc, at(1, 1))?, &row));
-    Ok(())
+fn water_goes_to_the_steepest_neighbour(rt: HostRuntime) -> Result<(), Fail> {
+    check(&rt, rt.alloc(), &STEEPEST)
 }
 
 #[test]
-fn water_leaves_beside_a_void(rt: HostRuntime) -> Result<(), Fail> {
-    let levels = [
-        9, 9, 9, 9, 9, 9, 5, VOID, 9, 9, 9, 9, 9, 3, 9, 9, 9, 3, 9, 9, 9, 9, 9, 9, 9,
-    ];
-    let drained = found(rt.alloc(), 5, &[(0, 0)], &levels, &[])?;
-    let rows = [(1, 2, Some(Dir::NorthEast)), (2, 3, None), (3, 1, None)];
-    assert!(rt; lead(&drained, &rows));
-    Ok(())
+fn water_leaves_at_sinks_and_beside_voids(rt: HostRuntime) -> Result<(), Fail> {
+    check(&rt, rt.alloc(), &WAYS_OUT)
 }
 
 #[test]
-fn levels_that_lead_nowhere_are_damaged(rt: HostRuntime) -> Result<(), Fail> {
+fn flats_drain_to_their_nearest_way_out(rt: HostRuntime) -> Result<(), Fail> {
+    check(&rt, rt.alloc(), &FLATS)
+}
+
+#[test]
+fn levels_that_lead_nowhere_are_damaged(rt: HostRuntime) {
     let pit = [9, 9, 9, 9, 1, 9, 9, 9, 5];
-    let levels = filled(rt.alloc(), 3, &[(0, 0)], &pit, &[]).ok_or("no levels")?;
-    assert!(rt; levels.directions(rt.alloc()).err() == Some(Refusal::Damaged));
-    Ok(())
+    let found = found(rt.alloc(), 3, &[(0, 0)], &pit, &[]);
+    assert!(rt; found.err() == Some(Refusal::Damaged));
 }
 
 #[test]

@@ -1,113 +1,158 @@
 use crate::asserting::assert_row;
 use lattice::{
-    Corner, DIRECTIONS, Dir, Point, Refusal, Side, holders, index_in, point_at, sinks_in, steeper,
-    steps,
+    Corner, DIRECTIONS, Dir, Point, Refusal, Side, Step, holders, index_in, point_at, sinks_in,
+    steeper, steps,
 };
+
+const ORIGIN: Corner = Corner { lat: 0, lon: 0 };
+
+// Latitude, longitude, and whether a corner lies there.
+const CORNERS: [(i16, i16, bool); 6] = [
+    (-90, -180, true),
+    (89, 179, true),
+    (90, 0, false),
+    (-91, 0, false),
+    (0, 180, false),
+    (0, -181, false),
+];
 
 #[test]
 fn corners_lie_on_the_globe(rt: HostRuntime) {
-    let corners = [
-        (-90, -180, true),
-        (89, 179, true),
-        (90, 0, false),
-        (-91, 0, false),
-        (0, 180, false),
-        (0, -181, false),
-    ];
-    for ((lat, lon, lies), row) in corners.into_iter().zip(0..) {
-        assert_row(
-            &rt,
-            Corner::new(lat, lon).is_some() == lies,
-            "corner of row",
-            row,
-        );
+    for (row, (lat, lon, lies)) in CORNERS.iter().enumerate() {
+        let is_right = Corner::new(*lat, *lon).is_some() == *lies;
+        assert_row(&rt, is_right, "corner of row", row as u64);
     }
 }
+
+// The sizes of SRTM3 and SRTM1 files: samples along a side, and bytes.
+const SIZES: [(u32, u32); 2] = [(1201, 2_884_802), (3601, 25_934_402)];
 
 #[test]
 fn sides_measure_tiles(rt: HostRuntime) {
     assert!(rt; Side::new(2).is_none());
     assert!(rt; Side::new(3602).is_none());
-    // The sizes of SRTM3 and SRTM1 files.
-    for (samples, bytes) in [(1201, 2_884_802), (3601, 25_934_402)] {
-        let side = Side::new(samples).expect(&rt, "a side");
-        assert!(rt; side.samples() == samples && side.edge() + 1 == samples);
-        assert!(rt; side.area() * 2 == bytes && side.file_bytes() == bytes);
+    for (samples, bytes) in SIZES.iter() {
+        let side = Side::new(*samples).expect(&rt, "a side");
+        let is_right = side.samples() == *samples
+            && side.edge() + 1 == *samples
+            && side.area() * 2 == *bytes
+            && side.file_bytes() == *bytes;
+        assert_row(&rt, is_right, "a side of samples", u64::from(*samples));
     }
 }
+
+// y and x of a point, a place among the corners of the tiles of side 3 that hold it, and the corner there. No corner has
+// latitude 90.
+const HELD: [(i32, i32, usize, Option<Corner>); 14] = [
+    (0, 0, 0, Some(Corner { lat: -1, lon: -1 })),
+    (0, 0, 1, Some(Corner { lat: -1, lon: 0 })),
+    (0, 0, 2, Some(Corner { lat: 0, lon: -1 })),
+    (0, 0, 3, Some(ORIGIN)),
+    (0, 0, 4, None),
+    (1, 2, 0, Some(ORIGIN)),
+    (1, 2, 1, Some(Corner { lat: 0, lon: 1 })),
+    (1, 2, 2, None),
+    (1, 1, 0, Some(ORIGIN)),
+    (1, 1, 1, None),
+    (180, 0, 0, Some(Corner { lat: 89, lon: -1 })),
+    (180, 0, 1, Some(Corner { lat: 89, lon: 0 })),
+    (180, 0, 2, None),
+    (181, 0, 0, None),
+];
 
 #[test]
 fn points_are_held_by_these_corners(rt: HostRuntime) {
     let side = Side::new(3).expect(&rt, "a side");
-    let south_west = Corner { lat: -1, lon: -1 };
-    let south = Corner { lat: -1, lon: 0 };
-    let west = Corner { lat: 0, lon: -1 };
-    let origin = Corner { lat: 0, lon: 0 };
-    let east = Corner { lat: 0, lon: 1 };
-    let four = holders(side, Point { y: 0, x: 0 });
-    assert!(rt; four.as_slice() == [south_west, south, west, origin].as_slice());
-    let two = holders(side, Point { y: 1, x: 2 });
-    assert!(rt; two.as_slice() == [origin, east].as_slice());
-    let one = holders(side, Point { y: 1, x: 1 });
-    assert!(rt; one.as_slice() == [origin].as_slice());
-    // No corner has latitude 90.
-    let polar = holders(side, Point { y: 180, x: 0 });
-    let northmost = [Corner { lat: 89, lon: -1 }, Corner { lat: 89, lon: 0 }];
-    assert!(rt; polar.as_slice() == northmost.as_slice());
-    assert!(rt; holders(side, Point { y: 181, x: 0 }).is_empty());
+    for (row, (y, x, place, corner)) in HELD.iter().enumerate() {
+        let held = holders(side, Point { y: *y, x: *x });
+        assert_row(
+            &rt,
+            held.get(*place).copied() == *corner,
+            "corner of row",
+            row as u64,
+        );
+    }
 }
+
+// y and x of a point, and its index in the tile of side 3 at the origin.
+const INDICES: [(i32, i32, Option<u32>); 7] = [
+    (2, 0, Some(0)),
+    (2, 2, Some(2)),
+    (1, 1, Some(4)),
+    (0, 0, Some(6)),
+    (0, 2, Some(8)),
+    (0, 3, None),
+    (-1, 0, None),
+];
 
 #[test]
 fn rows_run_from_the_north(rt: HostRuntime) {
     let side = Side::new(3).expect(&rt, "a side");
-    let corner = Corner { lat: 0, lon: 0 };
-    for (y, x, index) in [(2, 0, 0), (2, 2, 2), (1, 1, 4), (0, 0, 6), (0, 2, 8)] {
-        let found = index_in(side, corner, Point { y, x });
-        assert_row(&rt, found == Some(index), "index", u64::from(index));
+    for (row, (y, x, index)) in INDICES.iter().enumerate() {
+        let found = index_in(side, ORIGIN, Point { y: *y, x: *x });
+        assert_row(&rt, found == *index, "index of row", row as u64);
     }
-    assert!(rt; index_in(side, corner, Point { y: 0, x: 3 }) == None);
-    assert!(rt; index_in(side, corner, Point { y: -1, x: 0 }) == None);
-    assert!(rt; point_at(side, corner, 2) == Point { y: 2, x: 2 });
+    assert!(rt; point_at(side, ORIGIN, 2) == Point { y: 2, x: 2 });
 }
 
 #[test]
 fn a_tile_has_the_sinks_that_it_holds(rt: HostRuntime) {
     let side = Side::new(3).expect(&rt, "a side");
-    let corner = Corner { lat: 0, lon: 0 };
     let sinks = [
         Point { y: 0, x: 0 },
         Point { y: 1, x: 1 },
         Point { y: 3, x: 1 },
     ];
-    assert!(rt; sinks_in(side, corner, &sinks).as_slice() == [6, 4].as_slice());
+    assert!(rt; sinks_in(side, ORIGIN, &sinks).as_slice() == [6, 4].as_slice());
+}
+
+// How y and x change by each step, and the code of its direction.
+const STEPS: [(i32, i32, u8); 8] = [
+    (0, 1, 1),
+    (-1, 1, 2),
+    (-1, 0, 4),
+    (-1, -1, 8),
+    (0, -1, 16),
+    (1, -1, 32),
+    (1, 0, 64),
+    (1, 1, 128),
+];
+
+fn leads(step: Option<&Step>, y: i32, x: i32, code: u8) -> bool {
+    match step {
+        Some(step) => step.to.y == y && step.to.x == x && step.direction.code() == code,
+        None => false,
+    }
 }
 
 #[test]
 fn steps_go_clockwise_from_east(rt: HostRuntime) {
     let around = steps(Point { y: 0, x: 0 });
-    let changes = [
-        (0, 1),
-        (-1, 1),
-        (-1, 0),
-        (-1, -1),
-        (0, -1),
-        (1, -1),
-        (1, 0),
-        (1, 1),
-    ];
-    let codes = [1, 2, 4, 8, 16, 32, 64, 128];
     assert!(rt; around.len() == 8);
-    for (((step, (y, x)), code), direction) in around
-        .iter()
-        .zip(changes)
-        .zip(codes)
-        .zip(DIRECTIONS)
-    {
-        let is_step = step.to == Point { y, x } && step.direction == direction;
-        let is_right = is_step && step.direction.code() == code;
-        assert_row(&rt, is_right, "the step of code", u64::from(code));
+    for (place, (y, x, code)) in STEPS.iter().enumerate() {
+        let is_right = leads(around.get(place), *y, *x, *code);
+        assert_row(&rt, is_right, "the step of code", u64::from(*code));
     }
-    // Nothing lies south or west of the least coordinates.
+}
+
+fn has_code(direction: Option<&Dir>, code: u8) -> bool {
+    match direction {
+        Some(direction) => direction.code() == code,
+        None => false,
+    }
+}
+
+#[test]
+fn directions_are_in_the_order_of_their_steps(rt: HostRuntime) {
+    for (place, (_, _, code)) in STEPS.iter().enumerate() {
+        let is_right = has_code(DIRECTIONS.get(place), *code);
+        assert_row(&rt, is_right, "the direction of code", u64::from(*code));
+    }
+}
+
+// Nothing lies south or west of the least coordinates.
+#[test]
+fn no_step_leads_off_the_lattice(rt: HostRuntime) {
     let least = Point {
         y: i32::MIN,
         x: i32::MIN,
@@ -157,8 +202,8 @@ const REFUSALS: [(Refusal, u8, &str); 27] = [
 // The number and the word by which replies name each.
 #[test]
 fn refusals_have_these_numbers_and_words(rt: HostRuntime) {
-    for (refusal, number, word) in REFUSALS {
-        let is_right = refusal.number() == number && refusal.word() == word;
-        assert_row(&rt, is_right, "number", u64::from(number));
+    for (refusal, number, word) in REFUSALS.iter() {
+        let is_right = refusal.number() == *number && refusal.word() == *word;
+        assert_row(&rt, is_right, "number", u64::from(*number));
     }
 }

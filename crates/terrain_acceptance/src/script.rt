@@ -2,13 +2,12 @@
 ghost use Rattle.std.specs.Prelude.{◌≤◌, OnOk, length};
 ghost use Rattle.catalogue.specs.Tiles.{corners_of};
 
-use crate::asserting::assert_row;
 use arrayvec::ArrayVec;
 use catalogue::{Samples, Table};
 use edits::{Bytes, Command, carry_out, plan};
 use lattice::{Corner, Height, Point, Refusal, Side};
 use plain::Plain;
-use std::alloc::Global;
+use std::alloc::{AllocError, Global};
 use std::process::Abort;
 use std::test::Fail;
 use watershed::Run;
@@ -90,66 +89,105 @@ pub(crate) trait Mosaic {
     fn samples(&self, corner: Corner) -> Option<&[i16]>;
 }
 
-/// Follows the script over the library, on an empty table of tiles of this side, and over the plain programs.
-pub(crate) fn follow(
-    rt: &impl Abort,
-    alloc: Global,
-    side: u32,
-    capacity: u32,
-    script: &[Step],
-) -> Result<(), Fail> {
+/// What a script shows, the side of its tiles, how many it has room for, and its steps.
+pub(crate) type Script<'a> = (&'a str, u32, u32, &'a [Step<'a>]);
+
+/// Follows the scripts over the library and over the plain programs, each on an empty table of tiles.
+pub(crate) fn follow(rt: &impl Abort, alloc: Global, scripts: &[Script]) -> Result<(), Fail> {
+    for script in scripts {
+        follow_on_table(rt, alloc, script)?;
+        follow_on_plain(rt, alloc, script)?;
+    }
+    Ok(())
+}
+
+fn follow_on_table(rt: &impl Abort, alloc: Global, script: &Script) -> Result<(), Fail> {
+    let (shows, side, capacity, steps) = *script;
     let side = Side::new(side).ok_or("no side")?;
-    let mut on_table = OnTable {
+    let mut mosaic = OnTable {
         alloc,
         capacity,
         table: Table::new(alloc, side),
     };
-    check(rt, alloc, &mut on_table, script, "over the library")?;
-    let mut on_plain = OnPlain {
+    check(rt, alloc, &mut mosaic, (shows, "over the library"), steps)
+}
+
+fn follow_on_plain(rt: &impl Abort, alloc: Global, script: &Script) -> Result<(), Fail> {
+    let (shows, side, capacity, steps) = *script;
+    let side = Side::new(side).ok_or("no side")?;
+    let mut mosaic = OnPlain {
         alloc,
         capacity,
         mosaic: Plain::new(alloc, side),
     };
-    check(rt, alloc, &mut on_plain, script, "by the plain programs")
+    check(
+        rt,
+        alloc,
+        &mut mosaic,
+        (shows, "by the plain programs"),
+        steps,
+    )
 }
 
 fn check<M: Mosaic>(
     rt: &impl Abort,
     alloc: Global,
     mosaic: &mut M,
-    script: &[Step],
-    which: &str,
+    (shows, which): (&str, &str),
+    steps: &[Step],
 ) -> Result<(), Fail> {
-    for (step, number) in script.iter().zip(1..u64::MAX) {
-        assert_row(rt, is_answered(alloc, mosaic, *step)?, which, number);
+    for (number, step) in steps.iter().enumerate() {
+        let holds = is_answered(alloc, mosaic, *step)?;
+        assert!(rt; holds, "{shows}, {which}, step {number}");
     }
     Ok(())
 }
 
 fn is_answered<M: Mosaic>(alloc: Global, mosaic: &mut M, step: Step) -> Result<bool, Fail> {
     match step {
-        Step::Done(asked) => Ok(mosaic.apply(&command(alloc, asked)?) == Ok(())),
-        Step::Refused(asked, refusal) => Ok(mosaic.apply(&command(alloc, asked)?) == Err(refusal)),
+        Step::Done(asked) => answers(alloc, mosaic, asked, Ok(())),
+        Step::Refused(asked, refusal) => answers(alloc, mosaic, asked, Err(refusal)),
         Step::Elevation(y, x, height) => Ok(mosaic.elevation(at(y, x)) == Ok(height)),
         Step::Filled(y, x, level) => Ok(mosaic.fill(at(y, x)) == level),
         Step::Drains(y, x, code) => Ok(mosaic.direction(at(y, x)) == code),
-        Step::Traced(y, x, path) => Ok(are_points(&mosaic.trace(at(y, x))?, path)),
-        Step::Shed(y, x, runs) => Ok(are_runs(&mosaic.watershed(at(y, x))?, runs)),
+        Step::Traced(y, x, path) => Ok(traces(mosaic, at(y, x), path)?),
+        Step::Shed(y, x, runs) => Ok(gathers(mosaic, at(y, x), runs)?),
         Step::Seams(count) => Ok(mosaic.seams() == Ok(count)),
         Step::Tile(lat, lon, samples) => Ok(mosaic.samples(corner(lat, lon)?) == Some(samples)),
     }
 }
 
+fn answers<M: Mosaic>(
+    alloc: Global,
+    mosaic: &mut M,
+    asked: Asked,
+    answer: Result<(), Refusal>,
+) -> Result<bool, Fail> {
+    let command = command(alloc, asked)?;
+    Ok(mosaic.apply(&command) == answer)
+}
+
+fn traces<M: Mosaic>(mosaic: &mut M, point: Point, path: &[(i32, i32)]) -> Result<bool, Refusal> {
+    let found = mosaic.trace(point)?;
+    Ok(are_points(&found, path))
+}
+
+fn gathers<M: Mosaic>(
+    mosaic: &mut M,
+    point: Point,
+    runs: &[(i32, i32, i32)],
+) -> Result<bool, Refusal> {
+    let found = mosaic.watershed(point)?;
+    Ok(are_runs(&found, runs))
+}
+
 fn command(alloc: Global, asked: Asked) -> Result<Command, Fail> {
     match asked {
-        Asked::Import(lat, lon, samples) => Ok(Command::Import {
-            corner: corner(lat, lon)?,
-            bytes: Bytes::new(hgt::bytes_of(alloc, samples)?),
-        }),
-        Asked::Bytes(lat, lon, bytes) => Ok(Command::Import {
-            corner: corner(lat, lon)?,
-            bytes: Bytes::new(Vec::from_slice(alloc, bytes)?),
-        }),
+        Asked::Import(lat, lon, samples) => import(
+            corner(lat, lon)?,
+            hgt::bytes_of(alloc, samples),
+        ),
+        Asked::Bytes(lat, lon, bytes) => import(corner(lat, lon)?, Vec::from_slice(alloc, bytes)),
         Asked::Remove(lat, lon) => Ok(Command::Remove {
             corner: corner(lat, lon)?,
         }),
@@ -169,6 +207,11 @@ fn command(alloc: Global, asked: Asked) -> Result<Command, Fail> {
     }
 }
 
+fn import(corner: Corner, bytes: Result<Vec<u8>, AllocError>) -> Result<Command, Fail> {
+    let bytes = Bytes::new(bytes?);
+    Ok(Command::Import { corner, bytes })
+}
+
 fn corner(lat: i16, lon: i16) -> Result<Corner, Fail> {
     Ok(Corner::new(lat, lon).ok_or("no corner")?)
 }
@@ -186,18 +229,35 @@ fn named(points: &[(i32, i32)]) -> ArrayVec<Point, 64> {
 }
 
 pub(crate) fn are_points(found: &[Point], wanted: &[(i32, i32)]) -> bool {
+    for (place, (y, x)) in wanted.iter().enumerate() {
+        if !is_point(found.get(place), *y, *x) {
+            return false;
+        }
+    }
     found.len() == wanted.len()
-        && found
-            .iter()
-            .zip(wanted)
-            .all(|(point, (y, x))| *point == at(*y, *x))
+}
+
+fn is_point(found: Option<&Point>, y: i32, x: i32) -> bool {
+    match found {
+        Some(point) => point.y == y && point.x == x,
+        None => false,
+    }
 }
 
 pub(crate) fn are_runs(found: &[Run], wanted: &[(i32, i32, i32)]) -> bool {
+    for (place, (y, first, last)) in wanted.iter().enumerate() {
+        if !is_run(found.get(place), *y, *first, *last) {
+            return false;
+        }
+    }
     found.len() == wanted.len()
-        && found.iter().zip(wanted).all(|(run, (y, first, last))| run.y == *y
-            && run.first == *first
-            && run.last == *last)
+}
+
+fn is_run(found: Option<&Run>, y: i32, first: i32, last: i32) -> bool {
+    match found {
+        Some(run) => run.y == y && run.first == first && run.last == last,
+        None => false,
+    }
 }
 
 // The library over a table.

@@ -1,4 +1,5 @@
-use crate::asserting::assert_row;
+//! Samples as bytes, sides, and the names of tiles and files.
+use crate::asserting::{assert_named, assert_row};
 use hgt::*;
 use lattice::{Corner, Refusal, Side};
 use std::test::Fail;
@@ -14,16 +15,24 @@ fn reads_and_writes_samples(rt: HostRuntime) -> Result<(), Fail> {
     assert!(rt; read.as_slice() == VALLEY.as_slice());
     let written = bytes_of(rt.alloc(), &VALLEY)?;
     assert!(rt; written.as_slice() == VALLEY_BYTES.as_slice());
-    for len in [0, 9, 16, 17] {
-        let refused = samples(rt.alloc(), &VALLEY_BYTES[..len], side).err();
-        assert_row(
-            &rt,
-            refused == Some(Refusal::BadLength),
-            "bytes",
-            len as u64,
-        );
-    }
     Ok(())
+}
+
+// None of these is a tile of side 3.
+const BAD_LENGTHS: [&[u8]; 4] = [
+    &[],
+    &[0, 9, 0, 9, 0, 9, 0, 9, 0],
+    &[0, 9, 0, 9, 0, 9, 0, 9, 0, 1, 0, 9, 0, 9, 0, 9],
+    &[0, 9, 0, 9, 0, 9, 0, 9, 0, 1, 0, 9, 0, 9, 0, 9, 0],
+];
+
+#[test]
+fn refuses_other_lengths(rt: HostRuntime) {
+    let side = Side::new(3).expect(&rt, "3 is a side");
+    for bytes in BAD_LENGTHS.iter() {
+        let is_refused = samples(rt.alloc(), bytes, side).err() == Some(Refusal::BadLength);
+        assert_row(&rt, is_refused, "bytes", bytes.len() as u64);
+    }
 }
 
 // The answers also where an allocation is refused, as `rt try --test --fail-alloc N` does.
@@ -43,9 +52,9 @@ fn answers_without_memory(rt: HostRuntime) {
 #[test]
 fn knows_voids_and_signs(rt: HostRuntime) {
     let bytes = [0x80, 0x00, 0xff, 0xff, 0x00, 0x09];
-    for (i, want) in [(0, i16::MIN), (1, -1), (2, 9)] {
-        assert_row(&rt, sample(&bytes, i) == want, "sample", i as u64);
-    }
+    assert_row(&rt, sample(&bytes, 0) == i16::MIN, "sample", 0);
+    assert_row(&rt, sample(&bytes, 1) == -1, "sample", 1);
+    assert_row(&rt, sample(&bytes, 2) == 9, "sample", 2);
     let mut written = [0; 6];
     put_sample(&mut written, 0, i16::MIN);
     put_sample(&mut written, 1, -1);
@@ -59,92 +68,106 @@ fn knows_voids_and_signs(rt: HostRuntime) {
     assert!(rt; again == bytes);
 }
 
+const SIDES: [(u32, bool); 6] = [
+    (0, false),
+    (2, false),
+    (3, true),
+    (1201, true),
+    (3601, true),
+    (3602, false),
+];
+
 #[test]
 fn takes_sides(rt: HostRuntime) {
-    for (side, want) in [
-        (0, false),
-        (2, false),
-        (3, true),
-        (1201, true),
-        (3601, true),
-        (3602, false),
-    ] {
-        assert_row(&rt, side_ok(side) == want, "side", u64::from(side));
+    for (side, is_side) in SIDES.iter() {
+        assert_row(&rt, side_ok(*side) == *is_side, "side", u64::from(*side));
     }
 }
+
+// A name, and the latitude and longitude of the corner that it names.
+const NAMES: [(&str, i16, i16); 7] = [
+    ("N00E000", 0, 0),
+    ("s00w000", 0, 0),
+    ("N37W105", 37, -105),
+    ("n37w105", 37, -105),
+    ("S01W001", -1, -1),
+    ("S90W180", -90, -180),
+    ("N89E179", 89, 179),
+];
+
+const BAD_NAMES: [&str; 11] = [
+    "", "N37W10", "N37W1055", "S91E000", "N90E000", "N00E180", "N00W181", "X00E000", "N0AE000",
+    "N00N000", "+37W105",
+];
 
 #[test]
 fn reads_names(rt: HostRuntime) {
-    let named = [
-        (b"N00E000", 0, 0),
-        (b"s00w000", 0, 0),
-        (b"N37W105", 37, -105),
-        (b"n37w105", 37, -105),
-        (b"S01W001", -1, -1),
-        (b"S90W180", -90, -180),
-        (b"N89E179", 89, 179),
-    ];
-    for (text, lat, lon) in named {
-        assert!(rt; name_of(text) == Ok(Corner { lat, lon }), "{lat} {lon}");
-    }
-    let bad = [
-        "", "N37W10", "N37W1055", "S91E000", "N90E000", "N00E180", "N00W181", "X00E000", "N0AE000",
-        "N00N000", "+37W105",
-    ];
-    for text in bad {
-        assert!(rt; name_of(text.as_bytes()) == Err(Refusal::BadName), "{text}");
+    for (name, lat, lon) in NAMES.iter() {
+        let corner = Corner {
+            lat: *lat,
+            lon: *lon,
+        };
+        assert_named(&rt, name_of(name.as_bytes()) == Ok(corner), name);
     }
 }
+
+#[test]
+fn refuses_other_names(rt: HostRuntime) {
+    for name in BAD_NAMES.iter() {
+        let is_refused = name_of(name.as_bytes()) == Err(Refusal::BadName);
+        assert_named(&rt, is_refused, name);
+    }
+}
+
+const PATHS: [&str; 4] = [
+    "N37W105.hgt",
+    "n37w105.SRTMGL1.HGT",
+    "tiles/S01E000.hgt/N37W105.hGt",
+    "/N37W105.hgt",
+];
+
+const BAD_PATHS: [&str; 8] = [
+    "",
+    "N37W105",
+    "N37W105.tif",
+    "N37W105hgt",
+    "N37W105.hgt/",
+    "N37W105.hgt.zip",
+    "N37W1.a.hgt",
+    "S91E000.hgt",
+];
 
 #[test]
 fn reads_file_names(rt: HostRuntime) {
-    let named = [
-        "N37W105.hgt",
-        "n37w105.SRTMGL1.HGT",
-        "tiles/S01E000.hgt/N37W105.hGt",
-        "/N37W105.hgt",
-    ];
-    for (path, row) in named.into_iter().zip(0..) {
-        let found = file_name(path.as_bytes());
-        assert_row(
-            &rt,
-            found == Ok(Corner { lat: 37, lon: -105 }),
-            "a path by row",
-            row,
-        );
-    }
-    let bad = [
-        "",
-        "N37W105",
-        "N37W105.tif",
-        "N37W105hgt",
-        "N37W105.hgt/",
-        "N37W105.hgt.zip",
-        "N37W1.a.hgt",
-        "S91E000.hgt",
-    ];
-    for (path, row) in bad.into_iter().zip(0..) {
-        let refused = file_name(path.as_bytes()).err();
-        assert_row(
-            &rt,
-            refused == Some(Refusal::BadName),
-            "no path by row",
-            row,
-        );
+    let corner = Corner { lat: 37, lon: -105 };
+    for path in PATHS.iter() {
+        assert_named(&rt, file_name(path.as_bytes()) == Ok(corner), path);
     }
 }
 
 #[test]
+fn refuses_other_file_names(rt: HostRuntime) {
+    for path in BAD_PATHS.iter() {
+        let is_refused = file_name(path.as_bytes()) == Err(Refusal::BadName);
+        assert_named(&rt, is_refused, path);
+    }
+}
+
+const PRINTED: [(i16, i16, &str); 5] = [
+    (0, 0, "N00E000"),
+    (37, -105, "N37W105"),
+    (-1, -1, "S01W001"),
+    (-90, 7, "S90E007"),
+    (5, 179, "N05E179"),
+];
+
+#[test]
 fn prints_names(rt: HostRuntime) {
-    let names = [
-        (0, 0, "N00E000"),
-        (37, -105, "N37W105"),
-        (-1, -1, "S01W001"),
-        (-90, 7, "S90E007"),
-        (5, 179, "N05E179"),
-    ];
-    for ((lat, lon, want), row) in names.into_iter().zip(0..) {
-        let text = name_text(Corner { lat, lon });
-        assert_row(&rt, text.as_str() == want, "a name by row", row);
+    for (lat, lon, name) in PRINTED.iter() {
+        let corner = Corner {
+            lat: *lat,
+            lon: *lon,
+        };
+        assert_named(&rt, name_text(corner).as_str() == *name, name);
     }
 }
