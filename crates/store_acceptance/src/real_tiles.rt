@@ -48,16 +48,19 @@ fn comes_back(
     Ok(store.export(corner)?.as_slice() == tile(alloc, shift)?.as_slice())
 }
 
-#[test]
-fn two_neighbours_come_back_byte_for_byte(rt: HostRuntime) -> Result<(), Fail> {
-    let alloc = rt.alloc();
+fn two_neighbours(alloc: Global) -> Result<MemDisk, Fail> {
     let mut store = store_in_memory(alloc, SECTORS, 1201, 2)?;
     import(alloc, &mut store, HERE, 0)?;
     import(alloc, &mut store, EAST, 7)?;
-    let mut again = opened(alloc, store.into_disk())?;
-    let is_back = comes_back(alloc, &mut again, HERE, 0)?
-        && comes_back(alloc, &mut again, EAST, 7)?;
-    assert!(rt; is_back);
+    Ok(store.into_disk())
+}
+
+#[test]
+fn two_neighbours_come_back_byte_for_byte(rt: HostRuntime) -> Result<(), Fail> {
+    let mut store = opened(rt.alloc(), two_neighbours(rt.alloc())?)?;
+    let first = comes_back(rt.alloc(), &mut store, HERE, 0)?;
+    let second = comes_back(rt.alloc(), &mut store, EAST, 7)?;
+    assert!(rt; first && second);
     Ok(())
 }
 

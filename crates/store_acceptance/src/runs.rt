@@ -97,10 +97,10 @@ fn every_event_of_a_run(rt: HostRuntime) -> Result<(), Fail> {
 
 #[test]
 fn replies_go_behind_what_is_there(rt: HostRuntime) -> Result<(), Fail> {
-    let alloc = rt.alloc();
-    let mut store = store_in_memory(alloc, 22, 3, 1)?;
-    let mut out = vec![in alloc; Reply::Reopened]?;
-    store.run(&[importing(alloc)?, Event::Count], &mut out)?;
+    let events = [importing(rt.alloc())?, Event::Count];
+    let mut out = vec![in rt.alloc(); Reply::Reopened]?;
+    let mut store = store_in_memory(rt.alloc(), 22, 3, 1)?;
+    store.run(&events, &mut out)?;
     store.run(&[], &mut out)?;
     assert!(rt; out.as_slice() == [Reply::Reopened, Reply::Done(1), Reply::Count(1)].as_slice());
     Ok(())

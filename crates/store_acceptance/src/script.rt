@@ -1,7 +1,7 @@
 //! Scripts: commands, questions and the right answers, one after another, for a store.
 use super::asserting::assert_row;
-use super::fixtures::{at, burn, empty_store, import, patch, sink, unsink, wall};
-use disk::Disk;
+use super::fixtures::{at, burn, empty_store, exports, import, patch, sink, unsink, wall};
+use disk::{Disk, MemDisk};
 use edits::Command;
 use lattice::{Corner, Height, Point, Refusal};
 use std::alloc::Global;
@@ -60,14 +60,24 @@ fn follow_by(
     capacity: u32,
     script: &[Step],
 ) -> Result<(), Fail> {
-    let mut store = empty_store(alloc, version, capacity)?;
     let which = if version == 1 {
         "a step by the first version"
     } else {
         "a step by the second"
     };
+    let mut store = empty_store(alloc, version, capacity)?;
+    follow_on(rt, alloc, &mut store, script, which)
+}
+
+fn follow_on(
+    rt: &impl Abort,
+    alloc: Global,
+    store: &mut Store<MemDisk>,
+    script: &[Step],
+    which: &str,
+) -> Result<(), Fail> {
     for (step, number) in script.iter().zip(1..) {
-        assert_row(rt, is_answered(alloc, &mut store, *step)?, which, number);
+        assert_row(rt, is_answered(alloc, store, *step)?, which, number);
     }
     Ok(())
 }
@@ -79,21 +89,43 @@ pub(crate) fn is_answered<D: Disk>(
     step: Step,
 ) -> Result<bool, Fail> {
     match step {
-        Step::Done(asked, count) => Ok(store.apply(&command(alloc, asked)?) == Ok(count)),
-        Step::Refused(asked, refusal) => Ok(store.apply(&command(alloc, asked)?) == Err(refusal)),
+        Step::Done(asked, count) => does(alloc, store, asked, Ok(count)),
+        Step::Refused(asked, refusal) => does(alloc, store, asked, Err(refusal)),
         Step::Elevation(y, x, height) => Ok(store.elevation(at(y, x)) == Ok(height)),
         Step::Filled(y, x, level) => Ok(store.fill(at(y, x)) == level),
         Step::Drains(y, x, code) => Ok(store.direction(at(y, x)) == code),
         Step::Shed(y, x, runs) => Ok(are_runs(&store.watershed(at(y, x))?, runs)),
-        Step::Exports(lat, lon, bytes) => {
-            Ok(store.export(corner(lat, lon)?)?.as_slice() == bytes)
-        }
+        Step::Exports(lat, lon, bytes) => exports(store, corner(lat, lon)?, bytes),
         Step::Seams(count) => Ok(store.seams() == Ok(count)),
         Step::Count(count) => Ok(store.count() == count),
         Step::Commits(commits) => Ok(store.commits() == commits),
         Step::Stepped(tile) => Ok(store.step()? == named(tile)?),
         Step::Stale(corners) => Ok(are_corners(&stale_tiles(alloc, store)?, corners)),
     }
+}
+
+/// Whether the store answers each of them so, one after another.
+pub(crate) fn are_answered<D: Disk>(
+    alloc: Global,
+    store: &mut Store<D>,
+    steps: &[Step],
+) -> Result<bool, Fail> {
+    for step in steps {
+        if !is_answered(alloc, store, *step)? {
+            return Ok(false);
+        }
+    }
+    Ok(true)
+}
+
+fn does<D: Disk>(
+    alloc: Global,
+    store: &mut Store<D>,
+    asked: Asked,
+    answer: Result<u64, Refusal>,
+) -> Result<bool, Fail> {
+    let command = command(alloc, asked)?;
+    Ok(store.apply(&command) == answer)
 }
 
 fn stale_tiles<D: Disk>(alloc: Global, store: &mut Store<D>) -> Result<Vec<Corner>, Fail> {

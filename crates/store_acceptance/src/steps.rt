@@ -4,7 +4,7 @@ use super::change::{Row, prepared_disk};
 use super::fixtures::{B, C, D, G, H, opened};
 use super::script::Asked::{Import, Wall};
 use super::script::Step::{Commits, Count, Done, Elevation, Filled, Stale, Stepped};
-use super::script::{follow, is_answered};
+use super::script::{are_answered, follow};
 use super::stops::{MANY_CALLS, STOPS, make_with, stopped};
 use disk::MemDisk;
 use lattice::{Height, Refusal};
@@ -77,11 +77,12 @@ fn is_left(alloc: Global, disk: MemDisk, through: bool) -> Result<bool, Fail> {
     let mut store = opened(alloc, disk)?;
     let raised = through || store.count() == 6;
     let (count, level) = if raised { (6, 9) } else { (5, 5) };
-    Ok(
-        is_answered(alloc, &mut store, Count(count))?
-            && is_answered(alloc, &mut store, Stale(&[(0, 2), (0, 3)]))?
-            && is_answered(alloc, &mut store, Filled(1, 1, Ok(level)))?,
-    )
+    let steps = [
+        Count(count),
+        Stale(&[(0, 2), (0, 3)]),
+        Filled(1, 1, Ok(level)),
+    ];
+    are_answered(alloc, &mut store, &steps)
 }
 
 // Stops the change after so many calls, in each way. Answers whether it was through by then.
