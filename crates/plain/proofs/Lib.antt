@@ -5,6 +5,7 @@ pub mod FlatLemmas
 pub mod GroundLemmas
 pub mod Kept
 pub mod LevelLemmas
+pub mod LoopLemmas
 pub mod Order
 pub mod PathLemmas
 pub mod PointLemmas

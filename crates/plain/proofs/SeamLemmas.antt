@@ -1,5 +1,5 @@
 -- What the tiles say of a point, tile by tile, and the height that this comes to.
-use Rattle.std.proofs.Common.{◌≡◌, ◌∙◌, ℕ, ◌+◌, ◌<◌, ℤ, Bool, true, false, cond, not, List, ◌∷◌, length, get_or, drop, map, filter, Option, Some, None, ap}
+use Rattle.std.proofs.Common.{◌≡◌, ◌∙◌, ℕ, ◌+◌, ◌<◌, ℤ, Bool, true, false, cond, not, ◌||◌, List, ◌∷◌, length, get_or, drop, map, filter, Option, Some, None, ap}
 use Rattle.std.proofs.lemmas.List.{at_drop_more}
 use Rattle.std.specs.Ordering.{int_eq}
 use Rattle.std.specs.List.{list_any}
@@ -51,3 +51,13 @@ module _ (n : ℕ) (p : Point) (tiles : List Tile) (i : ℕ) (t : Tile) (inside 
       by_height : (h : Bool) → height_from h (sample_at n t p ∷ told n p (drop (i + 1) tiles)) ≡ At (sample_at n t p)
       by_height true = ap (λ b. cond b (first_height (told n p (drop (i + 1) tiles))) (At (sample_at n t p))) some
       by_height false = ap (λ b. cond b (first_height (told n p (drop (i + 1) tiles))) (At (sample_at n t p))) some
+
+  -- a first sample is what those to come may differ from
+  pub told_first : holds n t.corner p ≡ true → differ_from None (told n p (drop i tiles)) ≡ differ_from (Some (sample_at n t p)) (told n p (drop (i + 1) tiles))
+  told_first held = ap (differ_from None) (told_held held)
+
+  -- one that is known differs from this tile's, or may from those to come
+  pub told_again : (other : ℤ) → holds n t.corner p ≡ true → (alike : Bool) → int_eq other (sample_at n t p) ≡ alike →
+      differ_from (Some other) (told n p (drop i tiles)) ≡ (not alike || differ_from (Some other) (told n p (drop (i + 1) tiles)))
+  told_again other held alike e =
+      ap (differ_from (Some other)) (told_held held) ∙ ap (λ (b : Bool). not b || differ_from (Some other) (told n p (drop (i + 1) tiles))) e
