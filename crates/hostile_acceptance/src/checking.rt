@@ -1,9 +1,12 @@
 //! Opens images, and compares what is found with the plain reading of them.
-use crate::asserting::assert_row;
-use crate::good_images::{A, EAST, HERE, import, wall};
+use crate::asserting::{Place, assert_row};
+use crate::good_images::{A, EAST, HERE, burn, import, wall};
 use crate::image::Image;
 use crate::opening::{Root, bytes_of_tile, expected_opening, listed};
-use arrayvec::ArrayVec;
+use crate::stores::{
+    Numbers, has_replies, into_disk, known, open, opened, reopen, replies, replies_on, run, seams,
+    upgrade,
+};
 use disk::{Disk, MemDisk};
 use edits::Command;
 use lattice::{Corner, Point, Refusal};
@@ -14,72 +17,133 @@ use store::{Event, Reply, Store};
 
 /// Opens the image: it is refused by its right number, or what is opened has the right contents, answers twice the same,
 /// writes nothing until it is to change, and answers whatever is to change it: a removal, and all else. Answers the refusal.
-/// The number is for messages.
 pub(crate) fn check(
     rt: &impl Abort,
     alloc: Global,
     image: &Image,
-    number: u64,
+    place: Place,
 ) -> Result<Option<Refusal>, Fail> {
     let expected = expected_opening(alloc, &image.sectors);
     let disk = image.disk(alloc)?;
     let writes = disk.writes();
-    let mut store = match Store::open(alloc, disk) {
-        Ok(store) => store,
-        Err(not_opened) => {
-            let refusal = Some(not_opened.refusal);
-            let writes_nothing = not_opened.disk.writes() == writes;
-            assert_row(rt, refusal == expected.err(), "refused image", number);
-            assert_row(rt, writes_nothing, "written image", number);
-            return Ok(refusal);
+    match (open(alloc, disk), expected) {
+        (Ok(store), Ok(root)) => {
+            let later = check_opened(rt, alloc, store, image, &root, place)?;
+            assert_row(rt, later == writes, "written image", place);
+            Ok(None)
         }
-    };
-    assert_row(rt, expected.is_ok(), "opened image", number);
-    let root = expected?;
-    let has_contents = has_contents(alloc, &mut store, image, &root)?;
-    assert_row(rt, has_contents, "contents of image", number);
-    let answers = answers_again(alloc, &mut store, &root)?;
-    assert_row(rt, answers, "answers of image", number);
-    let disk = store.into_disk();
-    assert_row(rt, disk.writes() == writes, "written image", number);
-    let removes = removes_a_tile(alloc, opened(alloc, disk)?, &root)?;
-    assert_row(rt, removes, "a removal from image", number);
-    let changes = has_changes(alloc, image, &root)?;
-    assert_row(rt, changes, "changes of image", number);
-    Ok(None)
+        (Err((refusal, disk)), Err(expected)) => {
+            assert_row(rt, refusal == expected, "refused image", place);
+            assert_row(rt, disk.writes() == writes, "written image", place);
+            Ok(Some(refusal))
+        }
+        (Ok(_), Err(_)) => Err("an image opens".into()),
+        (Err((refusal, _)), Ok(_)) => Err(refusal.into()),
+    }
 }
 
-pub(crate) fn opened<D: Disk + Drop>(alloc: Global, disk: D) -> Result<Store<D>, Fail> {
-    match Store::open(alloc, disk) {
-        Ok(store) => Ok(store),
-        Err(not_opened) => Err(not_opened.refusal.into()),
-    }
+// Answers how many writes were made by when all that changes nothing was asked.
+fn check_opened(
+    rt: &impl Abort,
+    alloc: Global,
+    store: Store<MemDisk>,
+    image: &Image,
+    root: &Root,
+    place: Place,
+) -> Result<u64, Fail> {
+    let (contents, answers, disk) = asked(alloc, store, image, root)?;
+    assert_row(rt, contents, "contents of image", place);
+    assert_row(rt, answers, "answers of image", place);
+    let writes = disk.writes();
+    let removes = removes_a_tile(alloc, disk, root)?;
+    assert_row(rt, removes, "a removal from image", place);
+    let changes = has_changes(alloc, image, root)?;
+    assert_row(rt, changes, "changes of image", place);
+    Ok(writes)
+}
+
+// Whether the store has the contents of the image, whether it answers twice the same, and its disk.
+fn asked<D: Disk + Drop>(
+    alloc: Global,
+    store: Store<D>,
+    image: &Image,
+    root: &Root,
+) -> Result<(bool, bool, D), Fail> {
+    let mut store = store;
+    let found = contents_and_answers(alloc, &mut store, image, root);
+    let disk = into_disk(store);
+    let (contents, answers) = found?;
+    Ok((contents, answers, disk))
+}
+
+fn contents_and_answers<D: Disk>(
+    alloc: Global,
+    store: &mut Store<D>,
+    image: &Image,
+    root: &Root,
+) -> Result<(bool, bool), Fail> {
+    let contents = has_contents(alloc, store, image, root)?;
+    let answers = answers_again(alloc, store, root)?;
+    Ok((contents, answers))
 }
 
 // Whether the store has what the image says.
-fn has_contents(
+fn has_contents<D: Disk>(
     alloc: Global,
-    store: &mut Store<MemDisk>,
+    store: &mut Store<D>,
     image: &Image,
     root: &Root,
 ) -> Result<bool, Fail> {
-    let tiles = store.tiles()?;
-    let has_numbers = store.side() == root.side
-        && store.capacity() == root.capacity
-        && store.commits() == root.commits
-        && store.count() == root.count
-        && tiles.len() == root.entries.len();
-    if !has_numbers || store.sinks()?.as_slice() != root.sinks.as_slice() {
-        return Ok(false);
+    let has_numbers = known(store)
+        == Numbers {
+            version: root.version,
+            side: root.side,
+            capacity: root.capacity,
+            count: root.count,
+            commits: root.commits,
+        };
+    Ok(has_numbers && has_lists(alloc, store, root)? && has_tiles(alloc, store, image, root)?)
+}
+
+fn has_lists<D: Disk>(alloc: Global, store: &mut Store<D>, root: &Root) -> Result<bool, Fail> {
+    let corners = corners_of(alloc, root)?;
+    let sinks = root.sinks.clone()?;
+    let expected = [Reply::Tiles(corners), Reply::Sinks(sinks)];
+    has_replies(alloc, store, &[Event::Tiles, Event::Sinks], &expected)
+}
+
+fn corners_of(alloc: Global, root: &Root) -> Result<Vec<Corner>, Fail> {
+    let mut corners = Vec::new(alloc);
+    for entry in &root.entries {
+        corners.push(entry.corner)?;
     }
-    for (corner, entry) in tiles.iter().zip(&root.entries) {
+    Ok(corners)
+}
+
+fn has_tiles<D: Disk>(
+    alloc: Global,
+    store: &mut Store<D>,
+    image: &Image,
+    root: &Root,
+) -> Result<bool, Fail> {
+    for entry in &root.entries {
         let [heights, ..] = entry.records;
         let file = file_of(alloc, image, root, heights)?;
-        if *corner != entry.corner || store.export(*corner)?.as_slice() != file.as_slice() {
+        if !exports(alloc, store, entry.corner, file)? {
             return Ok(false);
         }
     }
     Ok(true)
+}
+
+fn exports<D: Disk>(
+    alloc: Global,
+    store: &mut Store<D>,
+    corner: Corner,
+    file: Vec<u8>,
+) -> Result<bool, Fail> {
+    let events = [Event::Export(corner)];
+    has_replies(alloc, store, &events, &[Reply::Export(file)])
 }
 
 // The bytes of a plane: those of its pages one after another, without what the last has past them.
@@ -94,51 +158,77 @@ fn file_of(alloc: Global, image: &Image, root: &Root, record: u32) -> Result<Vec
 }
 
 // Whether each query answers the same once more, also after a reopening, and is refused for its point alone.
-fn answers_again(alloc: Global, store: &mut Store<MemDisk>, root: &Root) -> Result<bool, Fail> {
-    let events = queries(alloc, root)?;
-    let mut first = Vec::new(alloc);
-    let mut second = Vec::new(alloc);
-    store.run(&events, &mut first)?;
-    let seams = store.seams();
-    store.reopen()?;
-    store.run(&events, &mut second)?;
-    let keeps = keeps_planes(root);
+fn answers_again<D: Disk>(alloc: Global, store: &mut Store<D>, root: &Root) -> Result<bool, Fail> {
+    let first = answers(alloc, store, root)?;
+    let before = seams(store);
+    reopen(store)?;
+    let second = answers(alloc, store, root)?;
     Ok(
         first.as_slice() == second.as_slice()
-            && store.seams() == seams
-            && first.iter().all(|reply| is_answer(reply, keeps)),
+            && seams(store) == before
+            && are_answers(&first, keeps_planes(root)),
     )
 }
 
 fn keeps_planes(root: &Root) -> bool {
-    root.entries.iter().any(|entry| {
+    for entry in &root.entries {
         let [_, levels, _] = entry.records;
-        levels != 0
-    })
+        if levels != 0 {
+            return true;
+        }
+    }
+    false
 }
+
+fn are_answers(replies: &[Reply], keeps_planes: bool) -> bool {
+    for reply in replies {
+        if !is_answer(reply, keeps_planes) {
+            return false;
+        }
+    }
+    true
+}
+
+// Refusals for the point or the tile that is asked about.
+const OF_QUESTIONS: [Refusal; 3] = [Refusal::Outside, Refusal::Void, Refusal::NoTile];
 
 // Bytes that are kept may be no labelling, and nothing else that opens is found damaged.
 fn is_answer(reply: &Reply, keeps_planes: bool) -> bool {
     match reply {
         Reply::Refused(refusal) => {
-            *refusal == Refusal::Outside
-                || *refusal == Refusal::Void
-                || *refusal == Refusal::NoTile
-                || (keeps_planes && *refusal == Refusal::Damaged)
+            OF_QUESTIONS.contains(refusal) || (keeps_planes && *refusal == Refusal::Damaged)
         }
         _ => true,
     }
 }
 
-// Questions about the first tiles and a point in each, and about a tile and a point of none.
-fn queries(alloc: Global, root: &Root) -> Result<Vec<Event>, Fail> {
-    let mut events = vec![in alloc; Event::Tiles, Event::Sinks, Event::Count]?;
+// What it holds, and answers about the first tiles and a point in each, and about a tile and a point of none.
+fn answers<D: Disk>(alloc: Global, store: &mut Store<D>, root: &Root) -> Result<Vec<Reply>, Fail> {
+    let mut replies = Vec::new(alloc);
+    run(
+        store,
+        &[Event::Tiles, Event::Sinks, Event::Count],
+        &mut replies,
+    )?;
     for entry in root.entries.iter().take(2) {
-        ask_all(&mut events, entry.corner, inside(root, entry.corner))?;
+        let point = inside(root, entry.corner);
+        run(store, &questions(entry.corner, point), &mut replies)?;
     }
     let nowhere = Corner { lat: -50, lon: 50 };
-    ask_all(&mut events, nowhere, Point { y: -99, x: 99 })?;
-    Ok(events)
+    let outside = Point { y: -99, x: 99 };
+    run(store, &questions(nowhere, outside), &mut replies)?;
+    Ok(replies)
+}
+
+fn questions(corner: Corner, point: Point) -> [Event; 6] {
+    [
+        Event::Export(corner),
+        Event::Elevation(point),
+        Event::Fill(point),
+        Event::Direction(point),
+        Event::Trace(point),
+        Event::Watershed(point),
+    ]
 }
 
 // A point inside the tile.
@@ -152,49 +242,74 @@ fn inside(root: &Root, corner: Corner) -> Point {
     }
 }
 
-fn ask_all(events: &mut Vec<Event>, corner: Corner, point: Point) -> Result<(), Fail> {
-    for event in [
-        Event::Export(corner),
-        Event::Elevation(point),
-        Event::Fill(point),
-        Event::Direction(point),
-        Event::Trace(point),
-        Event::Watershed(point),
-    ] {
-        events.push(event).map_err(|_| "no memory")?;
+// The first tile's corner, or another one.
+fn first_corner(root: &Root) -> Corner {
+    match root.entries.first() {
+        Some(entry) => entry.corner,
+        None => HERE,
     }
-    Ok(())
+}
+
+// The root that a store left on its disk.
+fn root_left<D: Disk + Drop>(alloc: Global, disk: D) -> Result<Root, Fail> {
+    let mut disk = disk;
+    let left = Image::of(alloc, &mut disk)?;
+    Ok(expected_opening(alloc, &left.sectors)?)
+}
+
+// How a removal of the first tile is answered.
+fn removal_expected(root: &Root) -> Reply {
+    if root.entries.is_empty() {
+        Reply::Refused(Refusal::NoTile)
+    } else if root.commits == u64::MAX {
+        Reply::Refused(Refusal::Worn)
+    } else {
+        Reply::Done(root.count.wrapping_add(1))
+    }
 }
 
 // Whether a tile is taken out, and the image says so then.
-fn removes_a_tile(alloc: Global, store: Store<MemDisk>, root: &Root) -> Result<bool, Fail> {
-    let mut store = store;
-    let corner = root.entries.first().map_or(HERE, |entry| entry.corner);
-    let expected = if root.entries.is_empty() {
-        Err(Refusal::NoTile)
-    } else if root.commits == u64::MAX {
-        Err(Refusal::Worn)
-    } else {
-        Ok(root.count.wrapping_add(1))
-    };
-    let answer = store.apply(&Command::Remove { corner });
-    let left = Image::of(alloc, &mut store.into_disk())?;
-    let found = expected_opening(alloc, &left.sectors)?;
-    let removed = u64::from(expected.is_ok());
-    let tiles = (found.entries.len() as u64).wrapping_add(removed);
-    Ok(
-        answer == expected
-            && found.count == root.count.wrapping_add(removed)
-            && found.commits == root.commits.wrapping_add(removed)
-            && tiles == root.entries.len() as u64
-            && found.sinks.as_slice() == root.sinks.as_slice(),
-    )
+fn removes_a_tile<D: Disk + Drop>(alloc: Global, disk: D, root: &Root) -> Result<bool, Fail> {
+    let (replies, left) = removed(alloc, disk, first_corner(root))?;
+    Ok(is_answered(&replies, root) && is_removed(&left, root))
+}
+
+fn removed<D: Disk + Drop>(
+    alloc: Global,
+    disk: D,
+    corner: Corner,
+) -> Result<(Vec<Reply>, Root), Fail> {
+    changed(alloc, disk, &[Event::Do(Command::Remove { corner })])
+}
+
+fn is_answered(replies: &[Reply], root: &Root) -> bool {
+    replies == [removal_expected(root)].as_slice()
+}
+
+// Whether what is left is the root without a tile, where one can be taken out.
+fn is_removed(left: &Root, root: &Root) -> bool {
+    let can_be = !root.entries.is_empty() && root.commits != u64::MAX;
+    let removed = u64::from(can_be);
+    let tiles = (left.entries.len() as u64).wrapping_add(removed);
+    left.count == root.count.wrapping_add(removed)
+        && left.commits == root.commits.wrapping_add(removed)
+        && tiles == root.entries.len() as u64
+        && left.sinks.as_slice() == root.sinks.as_slice()
+}
+
+// What a store on the disk replies, and the root that it leaves.
+fn changed<D: Disk + Drop>(
+    alloc: Global,
+    disk: D,
+    events: &[Event],
+) -> Result<(Vec<Reply>, Root), Fail> {
+    let (replies, _, disk) = replies_on(alloc, disk, events)?;
+    let left = root_left(alloc, disk)?;
+    Ok((replies, left))
 }
 
 // A step, each command and a step once more.
 fn changes(alloc: Global, corner: Corner, point: Point) -> Result<[Event; 9], Fail> {
-    let mut points = ArrayVec::new();
-    let _ = points.try_push(point);
     let importing = import(alloc, EAST, &A)?;
     let (from, to) = (point, point);
     Ok([
@@ -207,7 +322,7 @@ fn changes(alloc: Global, corner: Corner, point: Point) -> Result<[Event; 9], Fa
             height: 4,
         }),
         Event::Do(wall(12, point)),
-        Event::Do(Command::Burn { depth: 1, points }),
+        Event::Do(burn(1, point)),
         Event::Do(Command::Unsink { point }),
         Event::Step,
         Event::Do(Command::Remove { corner }),
@@ -216,35 +331,62 @@ fn changes(alloc: Global, corner: Corner, point: Point) -> Result<[Event; 9], Fa
 
 // Whether each of these is made or refused, and an upgrade where there is room for one, and the image has what was made.
 fn has_changes(alloc: Global, image: &Image, root: &Root) -> Result<bool, Fail> {
-    let corner = root.entries.first().map_or(HERE, |entry| entry.corner);
-    let events = changes(alloc, corner, inside(root, corner))?;
-    let mut store = opened(alloc, image.longer(48)?.disk(alloc)?)?;
-    let mut replies = Vec::new(alloc);
-    store.run(&events, &mut replies)?;
-    let upgraded = u64::from(store.upgrade().is_ok());
-    let left = Image::of(alloc, &mut store.into_disk())?;
-    let found = expected_opening(alloc, &left.sectors)?;
-    let commands = replies.iter().filter(|reply| is_done(reply)).count() as u64;
-    let steps = replies.iter().filter(|reply| is_step(reply)).count() as u64;
-    let commits = commands.wrapping_add(steps).wrapping_add(upgraded);
+    let disk = image.longer(48)?.disk(alloc)?;
+    let (made, disk) = make_changes(alloc, disk, root)?;
+    let left = root_left(alloc, disk)?;
+    let commits = made
+        .commands
+        .wrapping_add(made.steps)
+        .wrapping_add(made.upgrades);
     Ok(
-        replies.iter().all(|reply| !is_fault(reply))
-            && found.count == root.count.wrapping_add(commands)
-            && found.commits == root.commits.wrapping_add(commits),
+        !made.has_faults
+            && left.count == root.count.wrapping_add(made.commands)
+            && left.commits == root.commits.wrapping_add(commits),
     )
 }
 
-fn is_done(reply: &Reply) -> bool {
-    matches!(reply, Reply::Done(_))
+fn make_changes<D: Disk + Drop>(alloc: Global, disk: D, root: &Root) -> Result<(Made, D), Fail> {
+    let mut store = opened(alloc, disk)?;
+    let made = make_all(alloc, &mut store, root);
+    let disk = into_disk(store);
+    Ok((made?, disk))
 }
 
-fn is_step(reply: &Reply) -> bool {
-    matches!(reply, Reply::Stepped(Some(_)))
+fn make_all<D: Disk>(alloc: Global, store: &mut Store<D>, root: &Root) -> Result<Made, Fail> {
+    let corner = first_corner(root);
+    let events = changes(alloc, corner, inside(root, corner))?;
+    let replies = replies(alloc, store, &events)?;
+    let mut made = made_by(&replies);
+    made.upgrades = u64::from(upgrade(store).is_ok());
+    Ok(made)
 }
 
-fn is_fault(reply: &Reply) -> bool {
-    matches!(
-        reply,
-        Reply::Refused(Refusal::Device | Refusal::Failed | Refusal::NoMemory)
-    )
+// Refusals for the disk or for memory.
+const FAULTS: [Refusal; 3] = [Refusal::Device, Refusal::Failed, Refusal::NoMemory];
+
+// How many commands were done, how many steps and upgrades, and whether some reply says that the disk or memory failed.
+#[derive(Clone, Copy)]
+struct Made {
+    commands: u64,
+    steps: u64,
+    upgrades: u64,
+    has_faults: bool,
+}
+
+fn made_by(replies: &[Reply]) -> Made {
+    let mut made = Made {
+        commands: 0,
+        steps: 0,
+        upgrades: 0,
+        has_faults: false,
+    };
+    for reply in replies {
+        match reply {
+            Reply::Done(_) => made.commands = made.commands.wrapping_add(1),
+            Reply::Stepped(Some(_)) => made.steps = made.steps.wrapping_add(1),
+            Reply::Refused(refusal) => made.has_faults |= FAULTS.contains(refusal),
+            _ => {}
+        }
+    }
+    made
 }

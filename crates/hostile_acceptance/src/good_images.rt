@@ -1,22 +1,18 @@
 //! Images of good stores of side 3, to be changed.
 use crate::image::{Change, Image};
-use crate::opening::{expected_opening, u32_at};
+use crate::opening::expected_opening;
+use crate::stores::{empty_store, into_disk, replies};
 use arrayvec::ArrayVec;
-use disk::MemDisk;
+use disk::Disk;
 use edits::{Bytes, Command};
 use lattice::{Corner, Point};
-use memory_store::store_in_memory;
 use std::alloc::Global;
 use std::test::Fail;
-use store::Store;
+use store::{Event, Reply, Store};
 
 pub(crate) const HERE: Corner = Corner { lat: 0, lon: 0 };
 
 pub(crate) const EAST: Corner = Corner { lat: 0, lon: 1 };
-
-pub(crate) const SOUTH: Corner = Corner { lat: -1, lon: 0 };
-
-pub(crate) const SOUTH_WEST: Corner = Corner { lat: -1, lon: -1 };
 
 /// 9 9 9 / 9 1 9 / 9 9 5: nine samples of two bytes each, the higher first, rows from the north.
 pub(crate) const A: [u8; 18] = [0, 9, 0, 9, 0, 9, 0, 9, 0, 1, 0, 9, 0, 9, 0, 9, 0, 5];
@@ -25,107 +21,102 @@ pub(crate) const A: [u8; 18] = [0, 9, 0, 9, 0, 9, 0, 9, 0, 1, 0, 9, 0, 9, 0, 9, 
 pub(crate) const B: [u8; 18] = [0, 9, 0, 9, 0, 9, 0, 9, 0, 1, 0, 1, 0, 9, 0, 9, 0, 9];
 
 /// 9 9 9 / 9 void 9 / 9 9 9.
-const V: [u8; 18] = [0, 9, 0, 9, 0, 9, 0, 9, 128, 0, 0, 9, 0, 9, 0, 9, 0, 9];
+pub(crate) const V: [u8; 18] = [0, 9, 0, 9, 0, 9, 0, 9, 128, 0, 0, 9, 0, 9, 0, 9, 0, 9];
 
 /// The levels of A alone, the lower byte first, and the labels: 9 9 9 / 9 5 9 / 9 9 5 and 0 1 2 / 3 7 4 / 5 6 7.
 const LEVELS: [u8; 18] = [9, 0, 9, 0, 9, 0, 9, 0, 5, 0, 9, 0, 9, 0, 9, 0, 5, 0];
 
 const LABELS: [u8; 18] = [0, 0, 1, 0, 2, 0, 3, 0, 7, 0, 4, 0, 5, 0, 6, 0, 7, 0];
 
-/// The image of a store of the first version of so many tiles at most, after these commands.
-pub(crate) fn image_after(
-    alloc: Global,
-    capacity: u32,
-    commands: &[Command],
-) -> Result<Image, Fail> {
-    let sectors = capacity.saturating_mul(8).saturating_add(8);
-    let mut disk = MemDisk::new(alloc, sectors)?;
-    Store::format_1(&mut disk, 3, capacity).map_err(|_| "not formatted")?;
-    let store = Store::open(alloc, disk).map_err(|_| "not opened")?;
-    left_by(alloc, store, commands, 0)
+/// What is done to a store that is to be a good one. Corners are written as latitude and longitude, so that a constant can
+/// hold them.
+#[derive(Clone, Copy)]
+pub(crate) enum Act {
+    Import(i16, i16, &'static [u8]),
+    Remove(i16, i16),
+    Wall(i32, Point),
+    Step,
 }
 
-/// The image of a store of the second version of so many tiles at most, after these commands and so many steps.
-pub(crate) fn image_of_version_2(
-    alloc: Global,
-    capacity: u32,
-    commands: &[Command],
-    steps: u32,
-) -> Result<Image, Fail> {
-    let sectors = capacity.saturating_mul(12).saturating_add(10);
-    let store = store_in_memory(alloc, sectors, 3, capacity).map_err(|_| "not made")?;
-    left_by(alloc, store, commands, steps)
-}
-
-fn left_by(
-    alloc: Global,
-    store: Store<MemDisk>,
-    commands: &[Command],
-    steps: u32,
-) -> Result<Image, Fail> {
-    let mut store = store;
-    for command in commands {
-        store.apply(command).map_err(|_| "a command is refused")?;
-    }
-    for _ in 0..steps {
-        store.step().map_err(|_| "a step is refused")?;
-    }
-    Image::of(alloc, &mut store.into_disk())
-}
-
-pub(crate) fn import(alloc: Global, corner: Corner, bytes: &[u8]) -> Result<Command, Fail> {
-    let bytes = Bytes::new(Vec::from_slice(alloc, bytes)?);
-    Ok(Command::Import { corner, bytes })
-}
-
-pub(crate) fn wall(height: i32, point: Point) -> Command {
-    let mut points = ArrayVec::new();
-    let _ = points.try_push(point);
-    Command::Wall { height, points }
+/// A good image: the version and the side of an empty store, how many tiles it takes at most, what is done to it, and what is
+/// changed on its disk then.
+#[derive(Clone, Copy)]
+pub(crate) struct Good {
+    pub(crate) version: u32,
+    pub(crate) side: u32,
+    pub(crate) capacity: u32,
+    pub(crate) acts: &'static [Act],
+    pub(crate) changes: &'static [Change<'static>],
 }
 
 /// A at N00E000 in a store of one tile: 16 sectors, and root B is current, at commit 2.
-pub(crate) fn one_tile(alloc: Global) -> Result<Image, Fail> {
-    image_after(alloc, 1, &[import(alloc, HERE, &A)?])
-}
+pub(crate) const ONE_TILE: Good = Good {
+    version: 1,
+    side: 3,
+    capacity: 1,
+    acts: &[Act::Import(0, 0, &A)],
+    changes: &[],
+};
 
 /// A, and B to the east of it, in a store of two tiles: 24 sectors, and root A is current, at commit 3.
-pub(crate) fn two_tiles(alloc: Global) -> Result<Image, Fail> {
-    let commands = [import(alloc, HERE, &A)?, import(alloc, EAST, &B)?];
-    image_after(alloc, 2, &commands)
-}
+pub(crate) const TWO_TILES: Good = Good {
+    version: 1,
+    side: 3,
+    capacity: 2,
+    acts: &[Act::Import(0, 0, &A), Act::Import(0, 1, &B)],
+    changes: &[],
+};
 
-// Three tiles around a corner are left, one of them with a void, after a wall and a removal.
-fn edits(alloc: Global) -> Result<[Command; 6], Fail> {
-    Ok([
-        import(alloc, HERE, &A)?,
-        import(alloc, EAST, &B)?,
-        import(alloc, SOUTH, &V)?,
-        import(alloc, SOUTH_WEST, &B)?,
-        wall(12, Point { y: 0, x: 1 }),
-        Command::Remove { corner: EAST },
-    ])
-}
-
-/// Three tiles around a corner, by the first version.
-pub(crate) fn edited(alloc: Global) -> Result<Image, Fail> {
-    image_after(alloc, 4, &edits(alloc)?)
-}
+/// Three tiles around a corner are left, one of them with a void, after a wall and a removal.
+pub(crate) const EDITED: Good = Good {
+    version: 1,
+    side: 3,
+    capacity: 4,
+    acts: &[
+        Act::Import(0, 0, &A),
+        Act::Import(0, 1, &B),
+        Act::Import(-1, 0, &V),
+        Act::Import(-1, -1, &B),
+        Act::Wall(12, Point { y: 0, x: 1 }),
+        Act::Remove(0, 1),
+    ],
+    changes: &[],
+};
 
 /// The same by the second version, with the planes of the first tile kept.
-pub(crate) fn edited_by_version_2(alloc: Global) -> Result<Image, Fail> {
-    image_of_version_2(alloc, 4, &edits(alloc)?, 1)
-}
+pub(crate) const EDITED_BY_VERSION_2: Good = Good {
+    version: 2,
+    side: 3,
+    capacity: 4,
+    acts: &[
+        Act::Import(0, 0, &A),
+        Act::Import(0, 1, &B),
+        Act::Import(-1, 0, &V),
+        Act::Import(-1, -1, &B),
+        Act::Wall(12, Point { y: 0, x: 1 }),
+        Act::Remove(0, 1),
+        Act::Step,
+    ],
+    changes: &[],
+};
 
 /// A at N00E000 with its planes kept, in a store of one tile by the second version: 22 sectors, and root A is current, at
 /// commit 3.
-pub(crate) fn one_tile_by_version_2(alloc: Global) -> Result<Image, Fail> {
-    image_of_version_2(alloc, 1, &[import(alloc, HERE, &A)?], 1)
-}
+pub(crate) const ONE_TILE_BY_VERSION_2: Good = Good {
+    version: 2,
+    side: 3,
+    capacity: 1,
+    acts: &[Act::Import(0, 0, &A), Act::Step],
+    changes: &[],
+};
 
-/// As `one_tile`, with the middle of A and a point outside declared sinks.
-pub(crate) fn with_sinks(alloc: Global) -> Result<Image, Fail> {
-    one_tile(alloc)?.with(&[
+/// As `ONE_TILE`, with the middle of A and a point outside declared sinks.
+pub(crate) const WITH_SINKS: Good = Good {
+    version: 1,
+    side: 3,
+    capacity: 1,
+    acts: &[Act::Import(0, 0, &A)],
+    changes: &[
         Change {
             sector: 3,
             at: 40,
@@ -136,12 +127,16 @@ pub(crate) fn with_sinks(alloc: Global) -> Result<Image, Fail> {
             at: 3904,
             bytes: &[1, 0, 0, 0, 1, 0, 0, 0, 7, 0, 0, 0, 0xff, 0xff, 0xff, 0xff],
         },
-    ])
-}
+    ],
+};
 
-/// As `one_tile`, with the levels of A kept from page 12 on, and its labels from page 14 on.
-pub(crate) fn with_kept_planes(alloc: Global) -> Result<Image, Fail> {
-    one_tile(alloc)?.with(&[
+/// As `ONE_TILE`, with the levels of A kept from page 12 on, and its labels from page 14 on.
+pub(crate) const WITH_KEPT_PLANES: Good = Good {
+    version: 1,
+    side: 3,
+    capacity: 1,
+    acts: &[Act::Import(0, 0, &A)],
+    changes: &[
         Change {
             sector: 3,
             at: 72,
@@ -167,7 +162,75 @@ pub(crate) fn with_kept_planes(alloc: Global) -> Result<Image, Fail> {
             at: 0,
             bytes: &LABELS,
         },
-    ])
+    ],
+};
+
+pub(crate) fn image_of(alloc: Global, good: Good) -> Result<Image, Fail> {
+    let mut store = empty_store(alloc, good.version, good.side, good.capacity)?;
+    let are_done = do_all(alloc, &mut store, good.acts);
+    let mut disk = into_disk(store);
+    if are_done? {
+        Image::of(alloc, &mut disk)?.with(good.changes)
+    } else {
+        Err("an act is refused".into())
+    }
+}
+
+// Whether each act is done.
+fn do_all<D: Disk>(alloc: Global, store: &mut Store<D>, acts: &[Act]) -> Result<bool, Fail> {
+    for act in acts {
+        if !is_done(alloc, store, *act)? {
+            return Ok(false);
+        }
+    }
+    Ok(true)
+}
+
+fn is_done<D: Disk>(alloc: Global, store: &mut Store<D>, act: Act) -> Result<bool, Fail> {
+    let event = event_of(alloc, act)?;
+    let replies = replies(alloc, store, &[event]);
+    Ok(!is_refused(&replies?))
+}
+
+fn event_of(alloc: Global, act: Act) -> Result<Event, Fail> {
+    match act {
+        Act::Import(lat, lon, bytes) => { Ok(Event::Do(import(alloc, corner(lat, lon)?, bytes)?)) }
+        Act::Remove(lat, lon) => {
+            let corner = corner(lat, lon)?;
+            Ok(Event::Do(Command::Remove { corner }))
+        }
+        Act::Wall(height, point) => Ok(Event::Do(wall(height, point))),
+        Act::Step => Ok(Event::Step),
+    }
+}
+
+fn corner(lat: i16, lon: i16) -> Result<Corner, Fail> {
+    Ok(Corner::new(lat, lon).ok_or("no corner")?)
+}
+
+fn is_refused(replies: &[Reply]) -> bool {
+    matches!(replies, [Reply::Refused(_), ..])
+}
+
+pub(crate) fn import(alloc: Global, corner: Corner, bytes: &[u8]) -> Result<Command, Fail> {
+    let bytes = Bytes::new(Vec::from_slice(alloc, bytes)?);
+    Ok(Command::Import { corner, bytes })
+}
+
+pub(crate) fn wall(height: i32, point: Point) -> Command {
+    let points = only(point);
+    Command::Wall { height, points }
+}
+
+pub(crate) fn burn(depth: i32, point: Point) -> Command {
+    let points = only(point);
+    Command::Burn { depth, points }
+}
+
+fn only(point: Point) -> ArrayVec<Point, 64> {
+    let mut points = ArrayVec::new();
+    let _ = points.try_push(point);
+    points
 }
 
 /// The pages of the records of a tile: of heights, levels and labels.
@@ -178,20 +241,4 @@ pub(crate) fn records_of_tile(
 ) -> Result<[u32; 3], Fail> {
     let root = expected_opening(alloc, &image.sectors)?;
     Ok(root.entries.get(number).ok_or("no tile")?.records)
-}
-
-/// The first page that this one lists.
-pub(crate) fn first_listed(image: &Image, page: u32) -> Result<u32, Fail> {
-    let bytes = image.sectors.get(page as usize).ok_or("no page")?;
-    Ok(u32_at(bytes, 0))
-}
-
-/// The page of the record of heights of a tile, and the first page that it lists.
-pub(crate) fn pages_of_tile(
-    alloc: Global,
-    image: &Image,
-    number: usize,
-) -> Result<(u32, u32), Fail> {
-    let [record, ..] = records_of_tile(alloc, image, number)?;
-    Ok((record, first_listed(image, record)?))
 }

@@ -21,7 +21,7 @@ pub(crate) struct Change<'a> {
 
 impl Image {
     /// What the disk holds.
-    pub(crate) fn of(alloc: Global, disk: &mut MemDisk) -> Result<Image, Fail> {
+    pub(crate) fn of<D: Disk>(alloc: Global, disk: &mut D) -> Result<Image, Fail> {
         let mut sectors = Vec::new(alloc);
         for s in 0..disk.sectors() {
             let mut bytes = [0; 4096];
@@ -59,11 +59,15 @@ impl Image {
         let mut sectors = self.sectors.clone()?;
         for change in changes {
             if let Some(sector) = sectors.get_mut(change.sector as usize) {
-                for (byte, given) in sector.iter_mut().skip(change.at).zip(change.bytes) {
-                    *byte = *given;
-                }
+                put(sector, change);
             }
         }
         Ok(Image { sectors })
+    }
+}
+
+fn put(sector: &mut Sector, change: &Change) {
+    for (byte, given) in sector.iter_mut().skip(change.at).zip(change.bytes) {
+        *byte = *given;
     }
 }

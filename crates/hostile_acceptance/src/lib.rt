@@ -3,6 +3,8 @@
 #![tactic(auto)]
 
 #[cfg(test)]
+mod answers;
+#[cfg(test)]
 mod asserting;
 #[cfg(test)]
 mod checking;
@@ -22,6 +24,8 @@ mod opening;
 mod query_faults;
 #[cfg(test)]
 mod refused_growths;
+#[cfg(test)]
+mod served;
 #[cfg(test)]
 mod stopped_sessions;
 #[cfg(test)]

@@ -1,8 +1,9 @@
 //! Good images with changes that look random: whatever they are, an image is refused by its right number, or opens.
+use crate::asserting::assert_row;
 use crate::checking::check;
 use crate::good_images::{
-    edited, edited_by_version_2, one_tile, one_tile_by_version_2, two_tiles, with_kept_planes,
-    with_sinks,
+    EDITED, EDITED_BY_VERSION_2, Good, ONE_TILE, ONE_TILE_BY_VERSION_2, TWO_TILES,
+    WITH_KEPT_PLANES, WITH_SINKS, image_of,
 };
 use crate::image::{Change, Image};
 use lattice::Refusal;
@@ -11,8 +12,36 @@ use std::alloc::Global;
 use std::process::Abort;
 use std::test::Fail;
 
+/// The good images, and the seeds of their changes.
+const IMAGES: [(&str, Good, u64); 7] = [
+    ("of one tile", ONE_TILE, 1),
+    ("of two tiles", TWO_TILES, 2),
+    ("of edited tiles", EDITED, 3),
+    ("with sinks", WITH_SINKS, 4),
+    ("with kept planes", WITH_KEPT_PLANES, 5),
+    (
+        "of one tile by the second version",
+        ONE_TILE_BY_VERSION_2,
+        6,
+    ),
+    (
+        "of edited tiles by the second version",
+        EDITED_BY_VERSION_2,
+        7,
+    ),
+];
+
+/// Each kind of answer comes: opened, and these refusals.
+const KINDS: [Option<Refusal>; 5] = [
+    None,
+    Some(Refusal::NotAStore),
+    Some(Refusal::Version),
+    Some(Refusal::Damaged),
+    Some(Refusal::TooSmall),
+];
+
 /// How many changed images are tried of each good one.
-const IMAGES: u64 = 450;
+const TRIES: u64 = 450;
 
 /// Where the fields of roots and records begin, and where some of them end.
 const PLACES: [usize; 30] = [
@@ -109,60 +138,41 @@ fn mutated(random: &mut Random, image: &Image) -> Result<Image, Fail> {
     Ok(image)
 }
 
-// Tries many changed images. Each kind of answer comes: opened, NotAStore, Version,
-// Damaged, TooSmall.
-fn try_many(rt: &impl Abort, alloc: Global, image: &Image, seed: u64) -> Result<(), Fail> {
+// Tries many changed images.
+fn try_many(
+    rt: &impl Abort,
+    alloc: Global,
+    name: &str,
+    image: &Image,
+    seed: u64,
+) -> Result<(), Fail> {
     let mut random = Random::new(seed);
-    let mut refusals = Vec::new(alloc);
-    for number in 0..IMAGES {
+    let mut came = Vec::new(alloc);
+    for number in 0..TRIES {
         let image = mutated(&mut random, image)?;
-        refusals.push(check(rt, alloc, &image, number)?)?;
+        came.push(check(rt, alloc, &image, (name, number))?)?;
     }
-    let kinds = [
-        None,
-        Some(Refusal::NotAStore),
-        Some(Refusal::Version),
-        Some(Refusal::Damaged),
-        Some(Refusal::TooSmall),
-    ];
-    for kind in kinds {
-        let count = refusals.iter().filter(|came| **came == kind).count();
-        assert!(rt; 1 <= count, "{kind:?} never came");
-    }
+    check_kinds(rt, name, &came);
     Ok(())
 }
 
-#[test]
-fn of_one_tile(rt: HostRuntime) -> Result<(), Fail> {
-    try_many(&rt, rt.alloc(), &one_tile(rt.alloc())?, 1)
+fn check_kinds(rt: &impl Abort, name: &str, came: &[Option<Refusal>]) {
+    for (kind, number) in KINDS.iter().zip(0..) {
+        let has_come = came.contains(kind);
+        assert_row(
+            rt,
+            has_come,
+            "a kind of answer that never came",
+            (name, number),
+        );
+    }
 }
 
 #[test]
-fn of_two_tiles(rt: HostRuntime) -> Result<(), Fail> {
-    try_many(&rt, rt.alloc(), &two_tiles(rt.alloc())?, 2)
-}
-
-#[test]
-fn of_edited_tiles(rt: HostRuntime) -> Result<(), Fail> {
-    try_many(&rt, rt.alloc(), &edited(rt.alloc())?, 3)
-}
-
-#[test]
-fn of_sinks(rt: HostRuntime) -> Result<(), Fail> {
-    try_many(&rt, rt.alloc(), &with_sinks(rt.alloc())?, 4)
-}
-
-#[test]
-fn of_kept_planes(rt: HostRuntime) -> Result<(), Fail> {
-    try_many(&rt, rt.alloc(), &with_kept_planes(rt.alloc())?, 5)
-}
-
-#[test]
-fn of_one_tile_by_the_second_version(rt: HostRuntime) -> Result<(), Fail> {
-    try_many(&rt, rt.alloc(), &one_tile_by_version_2(rt.alloc())?, 6)
-}
-
-#[test]
-fn of_edited_tiles_by_the_second_version(rt: HostRuntime) -> Result<(), Fail> {
-    try_many(&rt, rt.alloc(), &edited_by_version_2(rt.alloc())?, 7)
+fn changes_that_look_random(rt: HostRuntime) -> Result<(), Fail> {
+    let alloc = rt.alloc();
+    for (name, good, seed) in IMAGES {
+        try_many(&rt, alloc, name, &image_of(alloc, good)?, seed)?;
+    }
+    Ok(())
 }

@@ -90,13 +90,39 @@ fn has_good_numbers(root: &Root) -> bool {
 }
 
 fn has_good_lists(root: &Root) -> bool {
-    root.entries.iter().all(is_entry)
-        && root
-            .entries
-            .windows(2)
-            .all(|pair| pair[0].corner < pair[1].corner)
-        && root.sinks.iter().all(|sink| is_held(root.side, *sink))
-        && root.sinks.windows(2).all(|pair| pair[0] < pair[1])
+    are_entries(&root.entries) && are_sinks(root.side, &root.sinks)
+}
+
+// Whether each is one, and their corners rise.
+fn are_entries(entries: &[Entry]) -> bool {
+    let mut before: Option<Corner> = None;
+    for entry in entries {
+        let rises = match before {
+            Some(corner) => corner < entry.corner,
+            None => true,
+        };
+        if !rises || !is_entry(entry) {
+            return false;
+        }
+        before = Some(entry.corner);
+    }
+    true
+}
+
+// Whether a tile may hold each, and they rise.
+fn are_sinks(side: u32, sinks: &[Point]) -> bool {
+    let mut before: Option<Point> = None;
+    for sink in sinks {
+        let rises = match before {
+            Some(point) => point < *sink,
+            None => true,
+        };
+        if !rises || !is_held(side, *sink) {
+            return false;
+        }
+        before = Some(*sink);
+    }
+    true
 }
 
 // The record of heights is somewhere, and those of levels and labels are both or neither.
@@ -119,9 +145,7 @@ fn entries_of(alloc: Global, bytes: &[u8], count: u32) -> Result<Vec<Entry>, Ref
         if i < count {
             let corner = Corner::new(i16_at(entry, 0), i16_at(entry, 2)).ok_or(Refusal::Damaged)?;
             let records = [u32_at(entry, 4), u32_at(entry, 8), u32_at(entry, 12)];
-            entries
-                .push(Entry { corner, records })
-                .map_err(|_| Refusal::NoMemory)?;
+            add(&mut entries, Entry { corner, records })?;
         } else if !is_zero(entry) {
             return Err(Refusal::Damaged);
         }
@@ -140,7 +164,7 @@ fn sinks_of(alloc: Global, bytes: &[u8], count: u32) -> Result<Vec<Point>, Refus
         if i < count {
             let y = i32_at(sink, 0);
             let x = i32_at(sink, 4);
-            sinks.push(Point { y, x }).map_err(|_| Refusal::NoMemory)?;
+            add(&mut sinks, Point { y, x })?;
         } else if !is_zero(sink) {
             return Err(Refusal::Damaged);
         }
@@ -184,23 +208,39 @@ pub(crate) fn bytes_of_tile(root: &Root) -> u64 {
 
 // All pages that the root reaches are behind the roots and on the disk, and none is reached twice.
 fn check_pages(alloc: Global, image: &[Sector], root: &Root) -> Result<(), Refusal> {
-    let mut reached = Vec::new(alloc);
-    for entry in &root.entries {
-        for record in entry.records {
-            if record != 0 {
-                reached.push(record).map_err(|_| Refusal::NoMemory)?;
-                reached.extend_from_slice(&behind_record(alloc, image, root, record)?)?;
-            }
-        }
-    }
+    let mut reached = reached(alloc, image, root)?;
     reached.sort_unstable();
-    let is_good = reached.iter().all(|page| page_at(image, *page).is_some())
-        && reached.windows(2).all(|pair| pair[0] < pair[1]);
-    if is_good {
+    if are_pages(image, &reached) {
         Ok(())
     } else {
         Err(Refusal::Damaged)
     }
+}
+
+/// The pages that the root reaches: of each tile, and each of its records, the record and what that reaches.
+pub(crate) fn reached(alloc: Global, image: &[Sector], root: &Root) -> Result<Vec<u32>, Refusal> {
+    let mut reached = Vec::new(alloc);
+    for entry in &root.entries {
+        for record in entry.records {
+            if record != 0 {
+                add(&mut reached, record)?;
+                reached.extend_from_slice(&behind_record(alloc, image, root, record)?)?;
+            }
+        }
+    }
+    Ok(reached)
+}
+
+// Whether each is a page, and they rise.
+fn are_pages(image: &[Sector], numbers: &[u32]) -> bool {
+    let mut before = 0;
+    for number in numbers {
+        if *number <= before || page_at(image, *number).is_none() {
+            return false;
+        }
+        before = *number;
+    }
+    true
 }
 
 fn page_at(image: &[Sector], page: u32) -> Option<&Sector> {
@@ -223,7 +263,7 @@ pub(crate) fn listed(
         .zip(0_u64..)
     {
         if index_pages_of(root) <= i {
-            pages.push(*page).map_err(|_| Refusal::NoMemory)?;
+            add(&mut pages, *page)?;
         }
     }
     Ok(pages)
@@ -256,9 +296,7 @@ fn numbers_in(alloc: Global, image: &[Sector], page: u32, count: u64) -> Result<
     let mut numbers = Vec::new(alloc);
     for (number, i) in bytes.chunks_exact(4).zip(0..1024_u64) {
         if i < count {
-            numbers
-                .push(u32_at(number, 0))
-                .map_err(|_| Refusal::NoMemory)?;
+            add(&mut numbers, u32_at(number, 0))?;
         } else if !is_zero(number) {
             return Err(Refusal::Damaged);
         }
@@ -266,36 +304,42 @@ fn numbers_in(alloc: Global, image: &[Sector], page: u32, count: u64) -> Result<
     Ok(numbers)
 }
 
-fn is_zero(bytes: &[u8]) -> bool {
-    bytes.iter().all(|byte| *byte == 0)
-}
-
-// Numbers in bytes, the lowest byte first.
-
-fn i16_at(bytes: &[u8], at: usize) -> i16 {
-    match bytes.get(at..).and_then(|rest| rest.first_chunk()) {
-        Some(number) => i16::from_le_bytes(*number),
-        None => 0,
+fn add<T: Copy>(list: &mut Vec<T>, item: T) -> Result<(), Refusal> {
+    match list.push(item) {
+        Ok(()) => Ok(()),
+        Err(_) => Err(Refusal::NoMemory),
     }
 }
 
-pub(crate) fn u32_at(bytes: &[u8], at: usize) -> u32 {
-    match bytes.get(at..).and_then(|rest| rest.first_chunk()) {
-        Some(number) => u32::from_le_bytes(*number),
-        None => 0,
+fn is_zero(bytes: &[u8]) -> bool {
+    for byte in bytes {
+        if *byte != 0 {
+            return false;
+        }
+    }
+    true
+}
+
+// Numbers in bytes, the lowest byte first; 0 where there are too few.
+
+fn i16_at(bytes: &[u8], at: usize) -> i16 {
+    match bytes.get(at..) {
+        Some([a, b, ..]) => i16::from_le_bytes([*a, *b]),
+        _ => 0,
+    }
+}
+
+fn u32_at(bytes: &[u8], at: usize) -> u32 {
+    match bytes.get(at..) {
+        Some([a, b, c, d, ..]) => u32::from_le_bytes([*a, *b, *c, *d]),
+        _ => 0,
     }
 }
 
 fn i32_at(bytes: &[u8], at: usize) -> i32 {
-    match bytes.get(at..).and_then(|rest| rest.first_chunk()) {
-        Some(number) => i32::from_le_bytes(*number),
-        None => 0,
-    }
+    i32::from_le_bytes(u32_at(bytes, at).to_le_bytes())
 }
 
 fn u64_at(bytes: &[u8], at: usize) -> u64 {
-    match bytes.get(at..).and_then(|rest| rest.first_chunk()) {
-        Some(number) => u64::from_le_bytes(*number),
-        None => 0,
-    }
+    u64::from(u32_at(bytes, at)) | u64::from(u32_at(bytes, at.saturating_add(4))) << 32
 }

@@ -1,10 +1,11 @@
 //! A fault at each call of each query and of the opening before it, in stores of either version, of stale tiles and of
 //! fresh ones.
 use crate::asserting::assert_row;
-use crate::checking::opened;
-use crate::good_images::{A, B, EAST, HERE, import};
+use crate::good_images::{A, Act, B, EAST, Good, HERE, image_of};
 use crate::image::Image;
-use crate::stores::empty_store;
+use crate::stores::{
+    Numbers, into_disk, is_stale, known, open, opened, reopen, replies, seams, upgrade,
+};
 use disk::{Disk, FaultOnceDisk, MemDisk};
 use edits::Command;
 use lattice::{Height, Point, Refusal};
@@ -17,8 +18,26 @@ use watershed::Run;
 /// More calls of the disk than an opening and a query make.
 const MANY_CALLS: u64 = 120;
 
-/// A version, and how many of the two tiles are fresh.
-const STORES: [(u32, u32); 6] = [(1, 0), (1, 1), (1, 2), (2, 0), (2, 1), (2, 2)];
+const STALE: [Act; 2] = [Act::Import(0, 0, &A), Act::Import(0, 1, &B)];
+
+const ONE_FRESH: [Act; 3] = [Act::Import(0, 0, &A), Act::Import(0, 1, &B), Act::Step];
+
+const BOTH_FRESH: [Act; 4] = [
+    Act::Import(0, 0, &A),
+    Act::Import(0, 1, &B),
+    Act::Step,
+    Act::Step,
+];
+
+/// Stores of two tiles, and their versions.
+const STORES: [(&str, u32, &[Act]); 6] = [
+    ("stale, by the first version", 1, &STALE),
+    ("one fresh, by the first version", 1, &ONE_FRESH),
+    ("both fresh, by the first version", 1, &BOTH_FRESH),
+    ("stale, by the second version", 2, &STALE),
+    ("one fresh, by the second version", 2, &ONE_FRESH),
+    ("both fresh, by the second version", 2, &BOTH_FRESH),
+];
 
 /// Where the two tiles meet in the south: 5 by the one, 9 by the other.
 const BETWEEN: Point = Point { y: 0, x: 2 };
@@ -27,7 +46,7 @@ fn at(y: i32, x: i32) -> Point {
     Point { y, x }
 }
 
-fn run(y: i32, first: i32, last: i32) -> Run {
+fn line(y: i32, first: i32, last: i32) -> Run {
     Run { y, first, last }
 }
 
@@ -45,8 +64,10 @@ fn questions() -> [Event; 6] {
 
 // The mosaic is 9 9 9 9 9 / 9 1 9 1 1 / 9 9 5 9 9. Water leaves it at the east end of its middle row.
 fn answers(alloc: Global) -> Result<[Reply; 7], Fail> {
-    let path = vec![in alloc; at(0, 0), at(1, 1), BETWEEN, at(1, 3), at(1, 4)]?;
-    let runs = vec![in alloc; run(2, 0, 1), run(1, 0, 1), run(0, 0, 2)]?;
+    let path = [at(0, 0), at(1, 1), BETWEEN, at(1, 3), at(1, 4)];
+    let runs = [line(2, 0, 1), line(1, 0, 1), line(0, 0, 2)];
+    let path = Vec::from_slice(alloc, &path)?;
+    let runs = Vec::from_slice(alloc, &runs)?;
     let bytes = Vec::from_slice(alloc, &B)?;
     Ok([
         Reply::Elevation(Height::At(5)),
@@ -61,84 +82,122 @@ fn answers(alloc: Global) -> Result<[Reply; 7], Fail> {
 
 // What the store replies to the question of this number.
 fn reply<D: Disk>(alloc: Global, store: &mut Store<D>, number: usize) -> Result<Reply, Fail> {
-    let questions = questions();
-    let Some(question) = questions.chunks(1).nth(number) else {
-        return Ok(store.seams().map_or_else(Reply::Refused, Reply::Count));
-    };
-    let mut replies = Vec::new(alloc);
-    store.run(question, &mut replies)?;
-    Ok(replies.pop().ok_or("no reply")?)
+    match questions().chunks(1).nth(number) {
+        Some(question) => only_reply(alloc, store, question),
+        None => Ok(seams_of(store)),
+    }
 }
 
-// What a store tells of itself without its disk.
-fn known<D: Disk>(store: &Store<D>) -> [u64; 7] {
-    [
-        u64::from(store.version()),
-        u64::from(store.side()),
-        u64::from(store.capacity()),
-        store.count(),
-        store.commits(),
-        u64::from(store.stale(HERE)),
-        u64::from(store.stale(EAST)),
-    ]
+fn only_reply<D: Disk>(
+    alloc: Global,
+    store: &mut Store<D>,
+    question: &[Event],
+) -> Result<Reply, Fail> {
+    let mut replies = replies(alloc, store, question)?;
+    match replies.pop() {
+        Some(reply) => Ok(reply),
+        None => Err("no reply".into()),
+    }
+}
+
+fn seams_of<D: Disk>(store: &mut Store<D>) -> Reply {
+    match seams(store) {
+        Ok(count) => Reply::Count(count),
+        Err(refusal) => Reply::Refused(refusal),
+    }
+}
+
+// What a store tells of itself and of its two tiles without its disk.
+fn told<D: Disk>(store: &Store<D>) -> (Numbers, bool, bool) {
+    (known(store), is_stale(store, HERE), is_stale(store, EAST))
 }
 
 // Whether each call that can refuse is refused with Failed.
 fn refuses_all<D: Disk>(alloc: Global, store: &mut Store<D>) -> Result<bool, Fail> {
+    let questions = are_refused(alloc, store, &questions())?;
+    let others = refuses_others(alloc, store)?;
+    Ok(
+        questions
+            && others
+            && seams(store) == Err(Refusal::Failed)
+            && upgrade(store) == Err(Refusal::Failed),
+    )
+}
+
+fn refuses_others<D: Disk>(alloc: Global, store: &mut Store<D>) -> Result<bool, Fail> {
     let others = [
         Event::Do(Command::Remove { corner: HERE }),
         Event::Step,
         Event::Tiles,
         Event::Sinks,
     ];
-    let mut replies = Vec::new(alloc);
-    store.run(&questions(), &mut replies)?;
-    store.run(&others, &mut replies)?;
-    let failed = Reply::Refused(Refusal::Failed);
-    Ok(
-        replies.iter().all(|reply| *reply == failed)
-            && store.seams() == Err(Refusal::Failed)
-            && store.upgrade() == Err(Refusal::Failed),
-    )
+    are_refused(alloc, store, &others)
+}
+
+fn are_refused<D: Disk>(
+    alloc: Global,
+    store: &mut Store<D>,
+    events: &[Event],
+) -> Result<bool, Fail> {
+    Ok(are_failed(&replies(alloc, store, events)?))
+}
+
+fn are_failed(replies: &[Reply]) -> bool {
+    for reply in replies {
+        if *reply != Reply::Refused(Refusal::Failed) {
+            return false;
+        }
+    }
+    true
 }
 
 // Opens the disk, once more where a fault refuses that; answers whether one did.
-fn opened_twice(
-    alloc: Global,
-    disk: FaultOnceDisk<MemDisk>,
-) -> Result<(Store<FaultOnceDisk<MemDisk>>, bool), Fail> {
-    match Store::open(alloc, disk) {
+fn opened_twice<D: Disk + Drop>(alloc: Global, disk: D) -> Result<(Store<D>, bool), Fail> {
+    match open(alloc, disk) {
         Ok(store) => Ok((store, false)),
-        Err(refused) if refused.refusal == Refusal::Device => {
-            Ok((opened(alloc, refused.disk)?, true))
-        }
+        Err((Refusal::Device, disk)) => Ok((opened(alloc, disk)?, true)),
         Err(_) => Err("refused otherwise".into()),
     }
 }
 
 // Has this call of the opening or of the query fail. Answers whether it was one of the query; none where there is no such
 // call.
-fn fault_at(
+fn fault_at<D: Disk + Drop>(
     alloc: Global,
-    disk: FaultOnceDisk<MemDisk>,
+    disk: D,
     number: usize,
     answer: &Reply,
 ) -> Result<Option<bool>, Fail> {
     let (mut store, in_opening) = opened_twice(alloc, disk)?;
-    let before = known(&store);
-    let told = reply(alloc, &mut store, number)?;
-    if told == *answer {
-        return Ok(in_opening.then_some(false));
+    let in_query = fault_in_query(alloc, &mut store, number, answer);
+    let _ = into_disk(store);
+    match in_query? {
+        true if in_opening => Err("two faults".into()),
+        true => Ok(Some(true)),
+        false => Ok(in_opening.then_some(false)),
     }
-    let is_failed = told == Reply::Refused(Refusal::Device)
-        && refuses_all(alloc, &mut store)?
-        && !in_opening;
-    if !is_failed || known(&store) != before {
+}
+
+// Whether a call of the query fails. Then all that can refuse is refused, and nothing is forgotten, until the store is open
+// again.
+fn fault_in_query<D: Disk>(
+    alloc: Global,
+    store: &mut Store<D>,
+    number: usize,
+    answer: &Reply,
+) -> Result<bool, Fail> {
+    let before = told(store);
+    let first = reply(alloc, store, number)?;
+    if first == *answer {
+        return Ok(false);
+    }
+    let is_failed = first == Reply::Refused(Refusal::Device) && refuses_all(alloc, store)?;
+    if !is_failed || told(store) != before {
         return Err("not failed".into());
     }
-    store.reopen()?;
-    if known(&store) == before && reply(alloc, &mut store, number)? == *answer {
-        Ok(Some(true))
+    reopen(store)?;
+    if told(store) == before && reply(alloc, store, number)? == *answer {
+        Ok(true)
     } else {
         Err("another answer once it is open again".into())
     }
@@ -157,37 +216,43 @@ fn fault_at_each(alloc: Global, image: &Image, number: usize, answer: &Reply) ->
     Err("a query that isn't through".into())
 }
 
-// A store of A and B of this version, where so many of them are fresh.
-fn image_of(alloc: Global, version: u32, fresh: u32) -> Result<Image, Fail> {
-    let mut store = empty_store(alloc, version, 2)?;
-    store.apply(&import(alloc, HERE, &A)?)?;
-    store.apply(&import(alloc, EAST, &B)?)?;
-    for _ in 0..fresh {
-        store.step()?;
-    }
-    Image::of(alloc, &mut store.into_disk())
-}
-
 fn fault_in_each_query(
     rt: &impl Abort,
     alloc: Global,
+    name: &str,
     image: &Image,
     answers: &[Reply],
 ) -> Result<(), Fail> {
     for (answer, number) in answers.iter().zip(0..answers.len()) {
         let faults = fault_at_each(alloc, image, number, answer)?;
-        assert_row(rt, 0 < faults, "no call to fail in query", number as u64);
+        let place = (name, number as u64);
+        assert_row(rt, 0 < faults, "no call to fail in query", place);
     }
     Ok(())
 }
 
-#[test]
-fn a_fault_at_each_call_of_each_query(rt: HostRuntime) -> Result<(), Fail> {
-    let alloc = rt.alloc();
-    let answers = answers(alloc)?;
-    for (version, fresh) in STORES {
-        let image = image_of(alloc, version, fresh)?;
-        fault_in_each_query(&rt, alloc, &image, &answers)?;
+fn fault_in_each_store(rt: &impl Abort, alloc: Global, answers: &[Reply]) -> Result<(), Fail> {
+    for (name, version, acts) in STORES {
+        let image = two_tiles(alloc, version, acts)?;
+        fault_in_each_query(rt, alloc, name, &image, answers)?;
     }
     Ok(())
+}
+
+// The image of a store of two tiles, after these acts.
+fn two_tiles(alloc: Global, version: u32, acts: &'static [Act]) -> Result<Image, Fail> {
+    let good = Good {
+        version,
+        side: 3,
+        capacity: 2,
+        acts,
+        changes: &[],
+    };
+    image_of(alloc, good)
+}
+
+#[test]
+fn a_fault_at_each_call_of_each_query(rt: HostRuntime) -> Result<(), Fail> {
+    let answers = answers(rt.alloc())?;
+    fault_in_each_store(&rt, rt.alloc(), &answers)
 }

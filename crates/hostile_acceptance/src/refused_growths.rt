@@ -1,17 +1,17 @@
 //! Calls of a store of either version, each made until it is answered. With ample memory none is refused.
 //! `examples/scarce_calls` runs the last two tests again and again, with each request for memory refused in turn.
-use crate::good_images::{A, EAST, HERE, import, wall};
-use arrayvec::ArrayVec;
-use disk::MemDisk;
+use crate::asserting::assert_row;
+use crate::good_images::{A, EAST, HERE, V, burn, import, wall};
+use crate::stores::{
+    Numbers, format, into_disk, is_stale, known, open, reopen, run, seams, upgrade,
+};
+use disk::{Disk, MemDisk};
 use edits::Command;
 use lattice::{Height, Point, Refusal};
 use std::alloc::Global;
 use std::test::Fail;
 use store::{Event, Reply, Store};
 use watershed::Run;
-
-/// 9 9 9 / 9 void 9 / 9 9 9.
-const V: [u8; 18] = [0, 9, 0, 9, 0, 9, 0, 9, 128, 0, 0, 9, 0, 9, 0, 9, 0, 9];
 
 const MIDDLE: Point = Point { y: 1, x: 1 };
 
@@ -30,8 +30,8 @@ fn questions() -> [Event; 6] {
 }
 
 fn answers(alloc: Global) -> Result<[Reply; 6], Fail> {
-    let path = vec![in alloc; Point { y: 0, x: 0 }, MIDDLE, PIT]?;
-    let runs = vec![in alloc; line(2), line(1), line(0)]?;
+    let path = Vec::from_slice(alloc, &[Point { y: 0, x: 0 }, MIDDLE, PIT])?;
+    let runs = Vec::from_slice(alloc, &[line(2), line(1), line(0)])?;
     let bytes = Vec::from_slice(alloc, &A)?;
     Ok([
         Reply::Elevation(Height::At(5)),
@@ -56,8 +56,6 @@ fn changes(alloc: Global) -> Result<[Event; 12], Fail> {
     let importing = import(alloc, EAST, &V)?;
     let from = Point { y: 1, x: 3 };
     let (to, height) = (from, 4);
-    let mut points = ArrayVec::new();
-    let _ = points.try_push(PIT);
     Ok([
         Event::Step,
         Event::Do(Command::Sink { point: MIDDLE }),
@@ -66,7 +64,7 @@ fn changes(alloc: Global) -> Result<[Event; 12], Fail> {
         Event::Do(importing),
         Event::Do(Command::Patch { from, to, height }),
         Event::Do(wall(12, MIDDLE)),
-        Event::Do(Command::Burn { depth: 1, points }),
+        Event::Do(burn(1, PIT)),
         Event::Do(Command::Remove { corner: HERE }),
         Event::Tiles,
         Event::Reopen,
@@ -75,8 +73,8 @@ fn changes(alloc: Global) -> Result<[Event; 12], Fail> {
 }
 
 fn outcomes(alloc: Global) -> Result<[Reply; 12], Fail> {
-    let sinks = vec![in alloc; MIDDLE]?;
-    let tiles = vec![in alloc; EAST]?;
+    let sinks = Vec::from_slice(alloc, &[MIDDLE])?;
+    let tiles = Vec::from_slice(alloc, &[EAST])?;
     Ok([
         Reply::Stepped(Some(HERE)),
         Reply::Done(2),
@@ -95,15 +93,15 @@ fn outcomes(alloc: Global) -> Result<[Reply; 12], Fail> {
 
 // Has the run answered rightly, once more where memory was refused in it, to the store or to its disk; answers whether it
 // was. A run that is refused whole adds no reply. Of what changes a store, one event is asked at a time.
-fn ask(
+fn ask<D: Disk>(
     alloc: Global,
-    store: &mut Store<MemDisk>,
+    store: &mut Store<D>,
     events: &[Event],
     wanted: &[Reply],
 ) -> Result<bool, Fail> {
-    let commits = store.commits();
+    let commits = known(store).commits;
     let mut replies = Vec::new(alloc);
-    let is_refused = store.run(events, &mut replies).is_err();
+    let is_refused = run(store, events, &mut replies).is_err();
     if replies.as_slice() == wanted {
         return Ok(false);
     }
@@ -111,21 +109,17 @@ fn ask(
         return Err("replies of a refused run".into());
     }
     if replies.first() == Some(&Reply::Refused(Refusal::Device)) {
-        store.reopen().map_err(|_| "not reopened")?;
-        if store.commits() != commits {
+        open_again(store)?;
+        if known(store).commits != commits {
             return Ok(true);
         }
-    } else if !replies
-        .iter()
-        .zip(wanted)
-        .all(|(reply, right)| may_be(reply, right))
-    {
+    } else if !may_be_all(&replies, wanted) {
         return Err("another answer".into());
     }
     replies.clear();
-    store
-        .run(events, &mut replies)
-        .map_err(|_| "refused twice")?;
+    if run(store, events, &mut replies).is_err() {
+        return Err("refused twice".into());
+    }
     if replies.as_slice() == wanted {
         Ok(true)
     } else {
@@ -133,58 +127,107 @@ fn ask(
     }
 }
 
-fn may_be(reply: &Reply, right: &Reply) -> bool {
-    reply == right || *reply == Reply::Refused(Refusal::NoMemory)
+fn open_again<D: Disk>(store: &mut Store<D>) -> Result<(), Fail> {
+    match reopen(store) {
+        Ok(()) => Ok(()),
+        Err(_) => Err("not reopened".into()),
+    }
+}
+
+// Whether each reply is the right one, or memory was refused.
+fn may_be_all(replies: &[Reply], wanted: &[Reply]) -> bool {
+    for (reply, right) in replies.iter().zip(wanted) {
+        if reply != right && *reply != Reply::Refused(Refusal::NoMemory) {
+            return false;
+        }
+    }
+    true
 }
 
 // Opens the disk, once more where memory was refused; answers whether it was.
-fn opened(alloc: Global, disk: MemDisk) -> Result<(Store<MemDisk>, bool), Fail> {
-    let disk = match Store::open(alloc, disk) {
-        Ok(store) => return Ok((store, false)),
-        Err(refused) if refused.refusal == Refusal::NoMemory => refused.disk,
-        Err(refused) if refused.refusal == Refusal::Device => refused.disk,
-        Err(_) => return Err("refused otherwise".into()),
-    };
-    let store = Store::open(alloc, disk).map_err(|_| "not opened when asked again")?;
-    Ok((store, true))
+fn opened<D: Disk + Drop>(alloc: Global, disk: D) -> Result<(Store<D>, bool), Fail> {
+    match open(alloc, disk) {
+        Ok(store) => Ok((store, false)),
+        Err((Refusal::NoMemory | Refusal::Device, disk)) => {
+            Ok((opened_or(alloc, disk, "not opened when asked again")?, true))
+        }
+        Err(_) => Err("refused otherwise".into()),
+    }
+}
+
+fn opened_or<D: Disk + Drop>(
+    alloc: Global,
+    disk: D,
+    reason: &'static str,
+) -> Result<Store<D>, Fail> {
+    match open(alloc, disk) {
+        Ok(store) => Ok(store),
+        Err(_) => Err(reason.into()),
+    }
 }
 
 // Makes a store of the first version one of the second, once more where memory was refused to it or to its disk; answers
 // whether it was.
-fn upgraded(store: &mut Store<MemDisk>) -> Result<bool, Fail> {
-    if store.version() == 2 {
+fn upgraded<D: Disk>(store: &mut Store<D>) -> Result<bool, Fail> {
+    if known(store).version == 2 {
         return Ok(false);
     }
-    match store.upgrade() {
+    match upgrade(store) {
         Ok(()) => return Ok(false),
         Err(Refusal::NoMemory) => {}
-        Err(Refusal::Device) => store.reopen().map_err(|_| "not reopened")?,
+        Err(Refusal::Device) => open_again(store)?,
         Err(_) => return Err("an upgrade is refused otherwise".into()),
     }
-    if store.version() == 1 {
-        store.upgrade().map_err(|_| "no upgrade when asked again")?;
+    if known(store).version == 1 && upgrade(store).is_err() {
+        return Err("no upgrade when asked again".into());
     }
     Ok(true)
 }
 
 // A store of A at N00E000, of this version, on a disk for two tiles by the second.
 fn store_of_a(alloc: Global, version: u32) -> Result<Store<MemDisk>, Fail> {
-    let importing = import(alloc, HERE, &A)?;
+    with_a(
+        alloc,
+        opened_or(alloc, formatted_disk(alloc, version)?, NO_ROOM)?,
+    )
+}
+
+fn with_a<D: Disk + Drop>(alloc: Global, store: Store<D>) -> Result<Store<D>, Fail> {
+    let mut store = store;
+    let has_imported = imports_a(alloc, &mut store);
+    match has_imported {
+        Ok(true) => Ok(store),
+        Ok(false) => Err(NO_ROOM.into()),
+        Err(fail) => Err(fail),
+    }
+}
+
+/// Said of memory that is refused before the first call that is tried.
+const NO_ROOM: &str = "no room to begin";
+
+fn formatted_disk(alloc: Global, version: u32) -> Result<MemDisk, Fail> {
     let mut disk = MemDisk::new(alloc, 34)?;
-    let formatted = match version {
-        1 => Store::format_1(&mut disk, 3, 2),
-        _ => Store::format(&mut disk, 3, 2),
-    };
-    formatted.map_err(|_| "no room to begin")?;
-    let mut store = Store::open(alloc, disk).map_err(|_| "no room to begin")?;
-    store.apply(&importing).map_err(|_| "no room to begin")?;
-    Ok(store)
+    if format(&mut disk, version, 3, 2).is_err() {
+        return Err(NO_ROOM.into());
+    }
+    Ok(disk)
+}
+
+fn imports_a<D: Disk>(alloc: Global, store: &mut Store<D>) -> Result<bool, Fail> {
+    let importing = import(alloc, HERE, &A)?;
+    let mut replies = Vec::new(alloc);
+    let is_run = run(store, &[Event::Do(importing)], &mut replies).is_ok();
+    Ok(is_run && is_imported(&replies))
+}
+
+fn is_imported(replies: &[Reply]) -> bool {
+    matches!(replies, [Reply::Done(1)])
 }
 
 // Has the events answered in runs of so many each; answers in how many of them memory was refused.
-fn ask_in_runs(
+fn ask_in_runs<D: Disk>(
     alloc: Global,
-    store: &mut Store<MemDisk>,
+    store: &mut Store<D>,
     events: &[Event],
     wanted: &[Reply],
     size: usize,
@@ -199,59 +242,99 @@ fn ask_in_runs(
 }
 
 // Asks the questions one by one and by threes, and for the seams; answers how often memory was refused.
-fn ask_questions(
+fn ask_questions<D: Disk>(
     alloc: Global,
-    store: &mut Store<MemDisk>,
-    questions: &[Event],
+    store: &mut Store<D>,
     answers: &[Reply],
 ) -> Result<u32, Fail> {
-    let one_by_one = ask_in_runs(alloc, store, questions, answers, 1)?;
-    let by_threes = ask_in_runs(alloc, store, questions, answers, 3)?;
-    if store.seams() != Ok(0) {
+    let questions = questions();
+    let one_by_one = ask_in_runs(alloc, store, &questions, answers, 1)?;
+    let by_threes = ask_in_runs(alloc, store, &questions, answers, 3)?;
+    if seams(store) != Ok(0) {
         return Err("other seams".into());
     }
     Ok(one_by_one.saturating_add(by_threes))
 }
 
-// Asks a store everything, the questions before a step and after it, and opens what is left; answers how often memory was
-// refused.
-fn refusals(alloc: Global, version: u32) -> Result<u32, Fail> {
-    let mut store = store_of_a(alloc, version)?;
-    let questions = questions();
+/// What a store is asked to change, what it replies, and what it answers before and after the first of that, which is a step.
+#[derive(Drop)]
+struct Script {
+    changes: [Event; 12],
+    outcomes: [Reply; 12],
+    answers: [Reply; 6],
+}
+
+// All memory that it asks for itself is asked for here, before the first call that is tried.
+fn whole_script(alloc: Global) -> Result<Script, Fail> {
     let answers = answers(alloc)?;
-    let (changes, outcomes) = (changes(alloc)?, outcomes(alloc)?);
-    let (changes, outcomes) = (&changes[..], &outcomes[..]);
-    let stale = ask_questions(alloc, &mut store, &questions, &answers)?;
-    let step = ask_in_runs(alloc, &mut store, &changes[..1], &outcomes[..1], 1)?;
-    let fresh = ask_questions(alloc, &mut store, &questions, &answers)?;
-    let changing = ask_in_runs(alloc, &mut store, &changes[1..], &outcomes[1..], 1)?;
-    let upgrade = u32::from(upgraded(&mut store)?);
-    let (store, again) = opened(alloc, store.into_disk())?;
-    if store.count() != 8 || store.version() != 2 || store.stale(EAST) {
-        return Err("another store".into());
-    }
+    let changes = changes(alloc)?;
+    let outcomes = outcomes(alloc)?;
+    Ok(Script {
+        changes,
+        outcomes,
+        answers,
+    })
+}
+
+// Asks a store everything, the questions before a step and after it; answers how often memory was refused.
+fn ask_all<D: Disk>(alloc: Global, store: &mut Store<D>, script: &Script) -> Result<u32, Fail> {
+    let (changes, outcomes) = (&script.changes[..], &script.outcomes[..]);
+    let stale = ask_questions(alloc, store, &script.answers)?;
+    let step = ask_in_runs(alloc, store, &changes[..1], &outcomes[..1], 1)?;
+    let fresh = ask_questions(alloc, store, &script.answers)?;
+    let changing = ask_in_runs(alloc, store, &changes[1..], &outcomes[1..], 1)?;
+    let upgrade = u32::from(upgraded(store)?);
     let asking = stale.saturating_add(fresh);
     let changed = step.saturating_add(changing).saturating_add(upgrade);
-    Ok(
-        asking
-            .saturating_add(changed)
-            .saturating_add(u32::from(again)),
-    )
+    Ok(asking.saturating_add(changed))
+}
+
+fn follow_script<D: Disk>(alloc: Global, store: &mut Store<D>) -> Result<u32, Fail> {
+    let script = whole_script(alloc)?;
+    ask_all(alloc, store, &script)
+}
+
+// Asks a store of this version everything, and opens what is left; answers how often memory was refused.
+fn refusals(alloc: Global, version: u32) -> Result<u32, Fail> {
+    let mut store = store_of_a(alloc, version)?;
+    let asking = follow_script(alloc, &mut store);
+    let disk = into_disk(store);
+    let asking = asking?;
+    let (again, numbers, is_stale) = left_on(alloc, disk)?;
+    if numbers.count != 8 || numbers.version != 2 || is_stale {
+        return Err("another store".into());
+    }
+    Ok(asking.saturating_add(u32::from(again)))
+}
+
+// Whether memory was refused when the disk was opened, what the store tells of itself, and whether its tile to the east is
+// stale.
+fn left_on<D: Disk + Drop>(alloc: Global, disk: D) -> Result<(bool, Numbers, bool), Fail> {
+    let (store, again) = opened(alloc, disk)?;
+    let numbers = known(&store);
+    let is_stale = is_stale(&store, EAST);
+    let _ = into_disk(store);
+    Ok((again, numbers, is_stale))
 }
 
 #[test]
 fn ample_memory_is_enough(rt: HostRuntime) -> Result<(), Fail> {
-    assert!(rt; refusals(rt.alloc(), 1)? == 0);
-    assert!(rt; refusals(rt.alloc(), 2)? == 0);
+    for version in [1, 2] {
+        let refused = refusals(rt.alloc(), version)?;
+        let place = ("version", u64::from(version));
+        assert_row(&rt, refused == 0, "a refusal", place);
+    }
     Ok(())
 }
 
 #[test]
 fn opening_succeeds_with_ample_memory(rt: HostRuntime) -> Result<(), Fail> {
     for version in [1, 2] {
-        let store = store_of_a(rt.alloc(), version)?;
-        let (store, refused) = opened(rt.alloc(), store.into_disk())?;
-        assert!(rt; !refused && store.count() == 1 && store.version() == version);
+        let disk = into_disk(store_of_a(rt.alloc(), version)?);
+        let (refused, numbers, _) = left_on(rt.alloc(), disk)?;
+        let is_right = numbers.count == 1 && numbers.version == version;
+        let place = ("version", u64::from(version));
+        assert_row(&rt, !refused && is_right, "another opening", place);
     }
     Ok(())
 }
@@ -260,7 +343,8 @@ fn opening_succeeds_with_ample_memory(rt: HostRuntime) -> Result<(), Fail> {
 fn what_was_refused_is_answered_when_asked_again_by_the_first_version(
     rt: HostRuntime,
 ) -> Result<(), Fail> {
-    assert!(rt; refusals(rt.alloc(), 1)? < 2);
+    let refused = refusals(rt.alloc(), 1)?;
+    assert_row(&rt, refused < 2, "more refusals", ("version", 1));
     Ok(())
 }
 
@@ -268,6 +352,7 @@ fn what_was_refused_is_answered_when_asked_again_by_the_first_version(
 fn what_was_refused_is_answered_when_asked_again_by_the_second_version(
     rt: HostRuntime,
 ) -> Result<(), Fail> {
-    assert!(rt; refusals(rt.alloc(), 2)? < 2);
+    let refused = refusals(rt.alloc(), 2)?;
+    assert_row(&rt, refused < 2, "more refusals", ("version", 2));
     Ok(())
 }

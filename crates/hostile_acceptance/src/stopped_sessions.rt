@@ -1,12 +1,11 @@
 //! Sessions of lines on a disk that fails: from some call on, with a stop then and stops in the openings that follow, or in
 //! one call alone.
 use crate::asserting::assert_row;
-use crate::checking::opened;
-use crate::stores::empty_store;
-use disk::{Disk, FaultOnceDisk, Faults, FaultyDisk, FuseDisk, MemDisk, Torn};
+use crate::served::served_by_store;
+use crate::stores::{empty_store, into_disk, known, open, opened};
+use disk::{Disk, FaultOnceDisk, FuseDisk, MemDisk, Torn};
 use lattice::Refusal;
-use serving::serve;
-use std::alloc::Global;
+use std::alloc::{AllocError, Global};
 use std::test::Fail;
 use store::Store;
 
@@ -121,68 +120,80 @@ fn told_in(session: &Session, output: &[u8]) -> Option<u64> {
     FAILED.starts_with(rest).then_some(told)
 }
 
-// Serves the lines: what is on the disk then, and how many commands were told to be done.
-fn serve_on<F: Faults>(
-    alloc: Global,
-    disk: FaultyDisk<MemDisk, F>,
-    session: &Session,
-) -> Result<(MemDisk, u64), Fail> {
-    let mut output = Vec::new(alloc);
-    let disk = match Store::open(alloc, disk) {
-        Ok(mut store) => {
-            let mut reader = session.lines;
-            serve(alloc, &mut reader, &mut output, &mut store)?;
-            store.into_disk()
+// Serves the lines: the disk then, and how many commands were told to be done.
+fn serve_on<D: Disk + Drop>(alloc: Global, disk: D, session: &Session) -> Result<(D, u64), Fail> {
+    match open(alloc, disk) {
+        Ok(store) => {
+            let mut store = store;
+            let told = told_by(alloc, &mut store, session);
+            let disk = into_disk(store);
+            Ok((disk, told?))
         }
-        Err(not_opened) => not_opened.disk,
-    };
-    let told = told_in(session, &output).ok_or("another reply")?;
-    Ok((disk.into_inner(), told))
+        Err((_, disk)) => Ok((disk, 0)),
+    }
+}
+
+// How many commands the store told to be done in the session.
+fn told_by<D: Disk>(alloc: Global, store: &mut Store<D>, session: &Session) -> Result<u64, Fail> {
+    let output = served_by_store(alloc, store, session.lines, 4096)?;
+    Ok(told_in(session, &output).ok_or("another reply")?)
 }
 
 // How many commands an opening finds, where these are those that were told to be done, or one more, each whole.
-fn commands_found(
+fn commands_found<D: Disk + Drop>(
     alloc: Global,
-    disk: MemDisk,
+    disk: D,
     session: &Session,
     told: u64,
-) -> Result<(MemDisk, u64), Fail> {
+) -> Result<(D, u64), Fail> {
     let mut store = opened(alloc, disk)?;
-    let done = store.count();
-    let mut reader = QUESTIONS;
-    let mut output = Vec::new(alloc);
-    serve(alloc, &mut reader, &mut output, &mut store)?;
-    let is_whole = match session.left.get(done as usize) {
-        Some(left) => output.as_slice() == *left,
-        None => false,
-    };
-    if is_whole && (told == done || told.saturating_add(1) == done) {
-        Ok((store.into_disk(), done))
+    let done = known(&store).count;
+    let output = served_by_store(alloc, &mut store, QUESTIONS, 4096);
+    let disk = into_disk(store);
+    if is_left(session, done, &output?) && (told == done || told.saturating_add(1) == done) {
+        Ok((disk, done))
     } else {
         Err("a command that was told is gone".into())
     }
 }
 
+// Whether the questions are answered so after this many commands.
+fn is_left(session: &Session, done: u64, output: &[u8]) -> bool {
+    match session.left.get(done as usize) {
+        Some(left) => output == *left,
+        None => false,
+    }
+}
+
+// The disk of an empty store of two tiles.
+fn empty_disk(alloc: Global, version: u32) -> Result<MemDisk, Fail> {
+    Ok(into_disk(empty_store(alloc, version, 3, 2)?))
+}
+
 fn stopped(disk: MemDisk, stop: (Torn, Torn)) -> Result<MemDisk, Fail> {
     let mut disk = disk;
-    for gate in [0, 2] {
-        if gate < disk.sectors() {
-            disk.stop_at(gate, stop.0)?;
-        }
-    }
-    disk.stop(stop.1)?;
+    let (gates, others) = stop;
+    stop_at(&mut disk, 0, gates)?;
+    stop_at(&mut disk, 2, gates)?;
+    disk.stop(others)?;
     Ok(disk)
+}
+
+fn stop_at(disk: &mut MemDisk, gate: u32, torn: Torn) -> Result<(), AllocError> {
+    if gate < disk.sectors() {
+        disk.stop_at(gate, torn)
+    } else {
+        Ok(())
+    }
 }
 
 // Opens the disk again and again, each time up to a stop one call later, until it is open.
 fn stopped_in_openings(alloc: Global, disk: MemDisk, stop: (Torn, Torn)) -> Result<MemDisk, Fail> {
     let mut disk = disk;
     for calls in 0..MANY_CALLS {
-        match Store::open(alloc, FuseDisk::new(disk, calls)) {
-            Ok(store) => return stopped(store.into_disk().into_inner(), stop),
-            Err(refused) if refused.refusal == Refusal::Device => {
-                disk = stopped(refused.disk.into_inner(), stop)?;
-            }
+        match open(alloc, FuseDisk::new(disk, calls)) {
+            Ok(store) => return stopped(into_disk(store).into_inner(), stop),
+            Err((Refusal::Device, left)) => disk = stopped(left.into_inner(), stop)?,
             Err(_) => return Err("an opening is refused otherwise".into()),
         }
     }
@@ -198,10 +209,11 @@ fn stop_after_each_call(
 ) -> Result<u64, Fail> {
     let mut told = 0;
     for calls in 0..MANY_CALLS {
-        let fuse = FuseDisk::new(empty_store(alloc, version, 2)?.into_disk(), calls);
+        let fuse = FuseDisk::new(empty_disk(alloc, version)?, calls);
         let (disk, by_then) = serve_on(alloc, fuse, session)?;
         told = by_then;
-        let (disk, done) = commands_found(alloc, stopped(disk, stop)?, session, told)?;
+        let disk = stopped(disk.into_inner(), stop)?;
+        let (disk, done) = commands_found(alloc, disk, session, told)?;
         let disk = stopped_in_openings(alloc, disk, stop)?;
         let (_, again) = commands_found(alloc, disk, session, told)?;
         if again != done {
@@ -229,10 +241,10 @@ fn stop_in_each_way(
 fn fault_in_each_call(alloc: Global, version: u32, session: &Session) -> Result<u64, Fail> {
     let mut told = 0;
     for call in 0..MANY_CALLS {
-        let faulty = FaultOnceDisk::new(empty_store(alloc, version, 2)?.into_disk(), call);
+        let faulty = FaultOnceDisk::new(empty_disk(alloc, version)?, call);
         let (disk, by_then) = serve_on(alloc, faulty, session)?;
         told = by_then;
-        commands_found(alloc, disk, session, told)?;
+        commands_found(alloc, disk.into_inner(), session, told)?;
     }
     Ok(told)
 }
@@ -241,7 +253,8 @@ fn fault_in_each_call(alloc: Global, version: u32, session: &Session) -> Result<
 fn what_was_told_is_there_after_a_stop(rt: HostRuntime) -> Result<(), Fail> {
     for ((version, session, commands), row) in ROWS.iter().zip(1..5) {
         let are_through = stop_in_each_way(rt.alloc(), *version, session, *commands)?;
-        assert_row(&rt, are_through, "a session that isn't through", row);
+        let place = ("stops", row);
+        assert_row(&rt, are_through, "a session that isn't through", place);
     }
     Ok(())
 }
@@ -250,7 +263,13 @@ fn what_was_told_is_there_after_a_stop(rt: HostRuntime) -> Result<(), Fail> {
 fn what_was_told_is_there_after_a_fault(rt: HostRuntime) -> Result<(), Fail> {
     for ((version, session, commands), row) in ROWS.iter().zip(1..5) {
         let told = fault_in_each_call(rt.alloc(), *version, session)?;
-        assert_row(&rt, told == *commands, "a session that isn't through", row);
+        let place = ("faults", row);
+        assert_row(
+            &rt,
+            told == *commands,
+            "a session that isn't through",
+            place,
+        );
     }
     Ok(())
 }

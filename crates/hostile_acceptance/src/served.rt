@@ -1,0 +1,48 @@
+//! Sessions of lines, each served in a function that promises nothing, as those of `stores`.
+use disk::Disk;
+use lattice::Side;
+use serving::serve;
+use std::alloc::Global;
+use std::io::{self, Read};
+use std::test::Fail;
+use store::Store;
+use table_engine::TableEngine;
+
+/// Gives the bytes in reads of so many at most.
+#[derive(Drop)]
+struct Pieces<'a> {
+    bytes: &'a [u8],
+    size: usize,
+}
+
+impl Read for Pieces<'_> {
+    fn read(&mut self, buf: &mut [u8]) -> io::Result<usize> {
+        let count = self.size.min(self.bytes.len()).min(buf.len());
+        buf[..count].copy_from_slice(&self.bytes[..count]);
+        self.bytes = &self.bytes[count..];
+        Ok(count)
+    }
+}
+
+/// What a mosaic in memory of four tiles of side 3 replies.
+pub(crate) fn served_by_table(alloc: Global, bytes: &[u8], size: usize) -> Result<Vec<u8>, Fail> {
+    let side = Side::new(3).ok_or("no side")?;
+    let mut table = TableEngine::new(alloc, side, 4);
+    let mut reader = Pieces { bytes, size };
+    let mut output = Vec::new(alloc);
+    serve(alloc, &mut reader, &mut output, &mut table)?;
+    Ok(output)
+}
+
+/// What the store replies.
+pub(crate) fn served_by_store<D: Disk>(
+    alloc: Global,
+    store: &mut Store<D>,
+    bytes: &[u8],
+    size: usize,
+) -> Result<Vec<u8>, Fail> {
+    let mut reader = Pieces { bytes, size };
+    let mut output = Vec::new(alloc);
+    serve(alloc, &mut reader, &mut output, store)?;
+    Ok(output)
+}
