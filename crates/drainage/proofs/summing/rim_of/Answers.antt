@@ -1,8 +1,11 @@
-use Rattle.std.proofs.Common.{◌+◌, Ok, sym, subst, List}
+use Rattle.std.proofs.Common.{◌≡◌, ◌∙◌, ◌+◌, Ok, Err, ap, sym, subst, List}
+use Rattle.std.proofs.lemmas.Result.{err_from_is_err_and}
 use Rattle.std.specs.Prelude.{Option, MatchOption}
 use Rattle.lattice.specs.Mosaic.{Mosaic}
 use Rattle.border_graph.specs.declared.summary.RimPoint.{RimPoint}
-use Rattle.catalogue.proofs.Reading.{reads_on, reads_as}
+use Rattle.lattice.specs.declared.refusal.Refusal.{Refusal}
+use Rattle.catalogue.specs.Readers.{reads_of}
+use Rattle.catalogue.proofs.Reading.{reads_on, reads_as, reads_for}
 use Rattle.drainage.specs.Flooded.{IsRimPointIn, HasOtherRimHeight, AreRimPointsIn}
 use Rattle.drainage.proofs.Summed.{one_more_point}
 use Rattle.drainage.proofs.summing.rim_of.Goals as goal
@@ -23,3 +26,16 @@ loop-number-preserved g c =
           (subst (λ (m : Mosaic). IsRimPointIn m c.args.corner c.args.labelled.now.labels c.loop-number.number c.in-Some.point) (so.reads.mosaic mid) here)
           (so.points mid));
     }
+
+pub returns-in_err-point-clause-reads : goal.returns-in_err-point-clause-reads
+returns-in_err-point-clause-reads g c =
+    let r = c.in_err-point.field-0.0 in
+    let p = err_from_is_err_and c.from_residual.result c.from_residual.ensures.1 in
+    let ended : c.from_residual.result ≡ Err r = p.1 ∙ ap (λ (why : Refusal). Err why) p.2 in
+    rw ended (reads_on g.S.Samples g.met.S.Samples.keeps_on c.args.samples.now c.loop-number.samples c.rim_point.new.samples tt (reads_of {T = Option RimPoint} (Err r))
+    c.loop-number.invariant.reads (reads_for g.S.Samples c.loop-number.samples c.rim_point.new.samples (Err r) c.in_err-point.ensures.reads))
+
+pub returns-in_default-clause-reads : goal.returns-in_default-clause-reads
+returns-in_default-clause-reads g c =
+    reads_on g.S.Samples g.met.S.Samples.keeps_on c.args.samples.now c.loop-number.samples c.rim_point.new.samples tt (Ok tt)
+    c.loop-number.invariant.reads (reads_as g.S.Samples c.loop-number.samples c.rim_point.new.samples c.in_ok-point.field-0 tt c.in_ok-point.ensures.reads)
