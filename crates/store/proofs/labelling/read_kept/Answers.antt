@@ -1,4 +1,8 @@
-use Rattle.std.proofs.Common.{◌≡◌, List, Ok, refl, sym, subst}
+use Rattle.std.proofs.Common.{◌≡◌, ◌∙◌, List, Ok, Err, ap, refl, sym, subst}
+use Rattle.std.proofs.lemmas.Result.{err_from_is_err_and}
+use Rattle.lattice.specs.declared.refusal.Refusal.{Refusal}
+use Rattle.lattice.specs.declared.refusal.Refusal.TheVariants.{Device}
+use Rattle.cow_tree.specs.Reading.{Reads}
 use Rattle.cow_tree.specs.Stored.{StoredTile, plane_bytes}
 use Rattle.page_codec.specs.Roots.{RootValue}
 use Rattle.store.specs.Queried.{IsTileOf}
@@ -20,3 +24,19 @@ returns-clause-label_bytes g c honest t kept is has =
 pub returns-clause-reads : goal.returns-clause-reads
 returns-clause-reads g c =
     reads_then g.D.Disk c.args.tree.now c.read_plane.new.tree c.read_plane-2.new.tree (Ok tt) c.in_ok-read_plane.ensures.reads c.in_ok-read_plane-2.ensures.reads
+
+pub returns-in_err-read_plane-clause-reads : goal.returns-in_err-read_plane-clause-reads
+returns-in_err-read_plane-clause-reads g c =
+    let read = c.in_err-read_plane.ensures.reads in
+    let p = err_from_is_err_and c.from_residual-in_err-read_plane.result c.from_residual-in_err-read_plane.ensures.1 in
+    let device : c.in_err-read_plane.field-0.0 ≡ Device = read.only_device c.requires.works in
+    rw (p.1 ∙ ap (λ (r : Refusal). Err r) (p.2 ∙ device)) (subst (λ (r : Refusal). Reads g.D.Disk c.args.tree.now c.read_plane.new.tree (Err r)) device read)
+
+pub returns-in_err-read_plane-2-clause-reads : goal.returns-in_err-read_plane-2-clause-reads
+returns-in_err-read_plane-2-clause-reads g c =
+    let first = c.in_ok-read_plane.ensures.reads in
+    let read = c.in_err-read_plane-2.ensures.reads in
+    let p = err_from_is_err_and c.from_residual-in_err-read_plane-2.result c.from_residual-in_err-read_plane-2.ensures.1 in
+    let device : c.in_err-read_plane-2.field-0.0 ≡ Device = read.only_device first.not_failed in
+    rw (p.1 ∙ ap (λ (r : Refusal). Err r) (p.2 ∙ device)) (reads_then g.D.Disk c.args.tree.now c.read_plane.new.tree c.read_plane-2.new.tree (Err Device) first
+    (subst (λ (r : Refusal). Reads g.D.Disk c.read_plane.new.tree c.read_plane-2.new.tree (Err r)) device read))

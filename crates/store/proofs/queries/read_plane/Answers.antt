@@ -1,4 +1,5 @@
 use Rattle.std.proofs.Common.{◌≡◌, ℕ, ◌+◌, ◌-◌, ◌*◌, ◌≤◌, min, List, ◌++◌, length, take, IsOk, Result, Ok, Err, is_ok, if◌then◌else◌, vec_len, sym, ap, ◌∙◌, subst, arith, length-take-le}
+use Rattle.std.proofs.lemmas.Result.{err_from_is_err_and}
 use Rattle.charts.specs.Charts.{ChartValue}
 use Rattle.charts.specs.Planes.{HasPlane}
 use Rattle.page_codec.specs.Roots.{RootValue}
@@ -8,6 +9,7 @@ use Rattle.cow_tree.specs.Reading.{read_again}
 use Rattle.cow_tree.specs.Stored.{StoredTile}
 use Rattle.cow_tree.specs.Trees.{staged_in}
 use Rattle.store.proofs.QueryingPages.{IsReadTo, read_more, all_read, page_of_tile}
+use Rattle.lattice.specs.declared.refusal.Refusal.{Refusal}
 use Rattle.store.proofs.queries.read_plane.Goals as goal
 
 pub scan_page-requires-clause-held : goal.scan_page-requires-clause-held
@@ -67,3 +69,17 @@ returns-clause-whole g c =
     let ended : c.loop-i.i ≡ c.pages_in_plane-i-end.result = omega (arith, c.loop-i-test.false, c.loop-i.auto.i-end) in
     let enough : 2 * (n * n) ≤ 4096 * c.pages_in_plane-i-end.result = subst (λ (k : ℕ). 2 * (k * k) ≤ 4096 * c.pages_in_plane-i-end.result) side c.pages_in_plane-i-end.ensures.least.enough in
     omega (arith, c.loop-i.invariant.upto, len, ended, enough)
+
+pub returns-in_err-scan_page-clause-reads : goal.returns-in_err-scan_page-clause-reads
+returns-in_err-scan_page-clause-reads g c =
+    let so_far = c.loop-i.invariant in
+    let read = c.in_err-scan_page.ensures.reads in
+    let p = err_from_is_err_and c.from_residual.result c.from_residual.ensures.1 in
+    rw (p.1 ∙ ap (λ (r : Refusal). Err r) p.2) record {
+      keeps = read_again g.D.Disk c.args.tree.now c.loop-i.tree c.scan_page.new.self so_far.keeps read.keeps;
+      refused = read.refused;
+      device = λ is. let risen = read.device is in let later = so_far.keeps.later in omega (arith, risen, later);
+      only_device = λ _. read.only_device so_far.works;
+      not_failed = read.not_failed;
+      failed = read.failed;
+    }
