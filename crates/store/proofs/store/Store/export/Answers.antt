@@ -1,4 +1,6 @@
-use Rattle.std.proofs.Common.{ℕ, Result, refl, sym, ap, ◌∙◌, subst}
+use Rattle.std.proofs.Common.{ℕ, Result, true≢false, refl, sym, ap, ◌∙◌, subst}
+use Rattle.std.proofs.lemmas.Result.{err_from_is_err_and}
+use Rattle.lattice.specs.declared.refusal.Refusal.TheVariants.{Device}
 use Rattle.std.specs.Prelude.{None, Err}
 use Rattle.std.specs.Global.{Vec}
 use Rattle.std.proofs.lemmas.Bool.{both_ways}
@@ -8,7 +10,7 @@ use Rattle.calls.specs.State.{failing}
 use Rattle.calls.specs.Engines.{items_in}
 use Rattle.cow_tree.proofs.Due.{located_tile}
 use Rattle.store.proofs.EditingSteps.{refused_as}
-use Rattle.store.proofs.Querying.{stays_at, still_clean, still_at, failing_at, fails_so}
+use Rattle.store.proofs.Querying.{queried, stays_at, still_clean, still_at, failing_at, fails_so}
 use Rattle.store.proofs.QueryingPages.{no_tile_of, tile, tile_of, exported}
 use Rattle.store.proofs.store.Store.export.Goals as goal
 
@@ -58,3 +60,12 @@ returns-in_err-read_plane-clause-outcome g c honest s at =
             (fails_so d old new works reads.keeps honest s at.in_state),
       ),
     )
+
+pub returns-in_err-read_plane-clause-reads : goal.returns-in_err-read_plane-clause-reads
+returns-in_err-read_plane-clause-reads g c =
+    let works = c.in_ok-check_working.ensures.works in
+    let read = c.in_err-read_plane.ensures.reads in
+    let p = err_from_is_err_and c.from_residual-in_err-read_plane.result c.from_residual-in_err-read_plane.ensures.1 in
+    let device = read.only_device works in
+    rw (p.1 ∙ ap (λ (r : Refusal). Err r) (p.2 ∙ device)) (queried g.D.Disk c.args.self.now.tree c.read_plane.new.tree works read.keeps (Err Device)
+    (λ _. read.device (ap (λ (r : Refusal). Err r) device)) tt (λ _ is. true≢false (sym read.failed ∙ is)) (λ not. absurd (not refl)))
