@@ -189,13 +189,13 @@ is_offset n e row column side at North = record { cell = omega arith; down = ome
 is_offset n e row column side at NorthEast = record { cell = omega arith; down = omega arith; right = omega arith; y = omega (arith, ints); x = omega (arith, ints); apart = omega arith }
 
 -- a point off the rim has a row above and below it, and a column on either side
-record IsInner (n e : ℕ) : Type 0 where
-  above : 1 ≤ e / n
-  below : e / n + 2 ≤ n
-  before : 1 ≤ e % n
-  after : e % n + 2 ≤ n
+pub record IsInner (n e : ℕ) : Type 0 where
+  pub above : 1 ≤ e / n
+  pub below : e / n + 2 ≤ n
+  pub before : 1 ≤ e % n
+  pub after : e % n + 2 ≤ n
 
-inner_if : (n e : ℕ) → e < n * n → 3 ≤ n → is_rim n e ≡ false → IsInner n e
+pub inner_if : (n e : ℕ) → e < n * n → 3 ≤ n → is_rim n e ≡ false → IsInner n e
 inner_if n e small side off =
     let a = or_false (nat_eq (e / n) 0 || nat_eq (e / n + 1) n || nat_eq (e % n) 0) (nat_eq (e % n + 1) n) off in
     let b = or_false (nat_eq (e / n) 0 || nat_eq (e / n + 1) n) (nat_eq (e % n) 0) a.0 in

@@ -1,7 +1,9 @@
 use Rattle.std.proofs.lemmas.Int.{to_z-of_z}
-use Rattle.std.proofs.Common.{rules, to_z, map, subst, SFits, w16, of_z}
+use Rattle.std.proofs.lemmas.List.{length-map}
+use Rattle.std.proofs.Common.{arith, rules, ◌+◌, ◌*◌, ◌-◌, ◌<◌, ◌∙◌, to_z, map, length, sym, ap, subst, SFits, w16, of_z}
+use Rattle.border_graph.specs.Joining.{IsThere}
 use Rattle.border_graph.specs.Linking.{IsAddedTo}
-use Rattle.border_graph.proofs.Building.{labels_so_far, labels_listed}
+use Rattle.border_graph.proofs.Building.{node_number_below, labels_so_far, labels_listed}
 use Rattle.border_graph.proofs.linking.link_label.Goals as goal
 
 pub returns-clause-so_far : goal.returns-clause-so_far
@@ -35,3 +37,34 @@ returns-clause-listed c =
     c.in-Some.ensures.some c.in-Some-ground_rim_point.ensures.some.there c.requires.so_far c.node_number-here.ensures c.node_number-there.ensures same same fits
     (subst (λ to. IsAddedTo old added.half to (record { level = h; from = here })) c.node_number-there.ensures added.there)
     (subst (λ to. IsAddedTo added.half new to (record { level = h; from = there })) c.node_number-here.ensures added.back)
+
+pub returns-in_default-clause-listed : goal.returns-in_default-clause-listed
+returns-in_default-clause-listed c l level here = absurd (c.in_default.ensures.none here)
+
+pub returns-in_default-ground_rim_point-clause-listed : goal.returns-in_default-ground_rim_point-clause-listed
+returns-in_default-ground_rim_point-clause-listed c l level here there label = absurd (c.in_default-ground_rim_point.ensures.none
+    (subst (λ j. IsThere c.args.n c.args.summaries.now c.args.t j) (sym label.names ∙ ap (λ p. p.label) c.in-Some.ensures.some.is) there))
+
+pub node_number-here-requires-clause-room : goal.node_number-here-requires-clause-room
+node_number-here-requires-clause-room c =
+    let below : 1 + c.args.t * (4 * (c.args.n - 1)) + c.args.k < length (map (λ v. v.items) c.args.links.now.items) = node_number_below c.args.n c.args.summaries.now (map (λ v. v.items) c.args.links.now.items) c.args.t c.args.k c.requires.so_far c.requires.t c.in-Some.ensures.some.there.number in
+    let many = length-map c.args.links.now.items (λ v. v.items) in
+    let nodes = c.len-nodes.ensures in
+    omega (arith, c.args.links.now.ok.0)
+
+pub node_number-there-requires-clause-room : goal.node_number-there-requires-clause-room
+node_number-there-requires-clause-room c =
+    let below : 1 + c.args.t * (4 * (c.args.n - 1)) + c.in-Some.point.label < length (map (λ v. v.items) c.args.links.now.items) = node_number_below c.args.n c.args.summaries.now (map (λ v. v.items) c.args.links.now.items) c.args.t c.in-Some.point.label c.requires.so_far c.requires.t c.in-Some-ground_rim_point.ensures.some.there.number in
+    let many = length-map c.args.links.now.items (λ v. v.items) in
+    let nodes = c.len-nodes.ensures in
+    omega (arith, c.args.links.now.ok.0)
+
+pub add_between-requires : goal.add_between-requires
+add_between-requires c =
+    let here : c.node_number-here.result < length (map (λ v. v.items) c.args.links.now.items) = subst (λ v. v < length (map (λ v. v.items) c.args.links.now.items)) (sym c.node_number-here.ensures) (node_number_below c.args.n c.args.summaries.now (map (λ v. v.items) c.args.links.now.items) c.args.t c.args.k c.requires.so_far c.requires.t c.in-Some.ensures.some.there.number) in
+    let there : c.node_number-there.result < length (map (λ v. v.items) c.args.links.now.items) = subst (λ v. v < length (map (λ v. v.items) c.args.links.now.items)) (sym c.node_number-there.ensures) (node_number_below c.args.n c.args.summaries.now (map (λ v. v.items) c.args.links.now.items) c.args.t c.in-Some.point.label c.requires.so_far c.requires.t c.in-Some-ground_rim_point.ensures.some.there.number) in
+    let many = length-map c.args.links.now.items (λ v. v.items) in
+    (omega (arith, c.args.links.now.ok.0), omega (arith, c.args.links.now.ok.0))
+
+pub returns-clause-still : goal.returns-clause-still
+returns-clause-still c x y level has = c.in_ok-add_between.ensures.back.others x y level (c.in_ok-add_between.ensures.there.others x y level has)

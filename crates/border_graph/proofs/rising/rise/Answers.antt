@@ -1,8 +1,8 @@
-use Rattle.std.proofs.Common.{arith, rules, ◌≡◌, ◌<◌, ◌+◌, map, length, get_or, set, sym, ap, ◌∙◌, subst, SFits, w16, to_z, of_z}
+use Rattle.std.proofs.Common.{arith, rules, ◌≡◌, ◌<◌, ◌+◌, map, length, get_or, set, length-set, sym, ap, ◌∙◌, subst, SFits, w16, to_z, of_z}
 use Rattle.std.proofs.lemmas.Int.{to_z-of_z}
 use Rattle.std.proofs.lemmas.List.{length-map}
 use Rattle.lattice.specs.Mosaic.{void}
-use Rattle.border_graph.specs.Rising.{IsFollowing, links_to, links_left}
+use Rattle.border_graph.specs.Rising.{IsRising, IsFollowing, links_to, links_left}
 use Rattle.border_graph.proofs.Surge.{reached_now, passed, unreached, left_less}
 use Rattle.border_graph.proofs.rising.rise.Goals as goal
 
@@ -58,3 +58,22 @@ loop-link-preserved c = passed (map (λ v. v.items) c.args.links.now) c.requires
 
 pub returns-clause-unreached : goal.returns-clause-unreached
 returns-clause-unreached c = unreached (map (λ v. v.items) c.args.links.now) c.requires c.loop-link.levels.items c.loop-link.waiting c.loop-link.invariant c.in_default.ensures.none
+
+pub loop-link-preserved-in-Continue-branch-3 : goal.loop-link-preserved-in-Continue-branch-3
+loop-link-preserved-in-Continue-branch-3 c = subst (λ ls. IsRising (map (λ v. v.items) c.args.links.now) ls c.follow-then-at.new.waiting) c.deref-then-at.ensures.value c.in_ok-follow-2.ensures.state
+
+pub returns-clause-whole : goal.returns-clause-whole
+returns-clause-whole c = c.loop-link.invariant.reached.whole ∙ length-map c.args.links.now (λ v. v.items)
+
+pub returns-clause-reached : goal.returns-clause-reached
+returns-clause-reached c = c.loop-link.invariant.reached.final
+
+pub follow-requires-clause-c : goal.follow-requires-clause-c
+follow-requires-clause-c c =
+    let some = c.requires.some in
+    let many = length-map c.args.links.now (λ v. v.items) in
+    omega arith
+
+pub follow-requires-then-at-clause-levels : goal.follow-requires-then-at-clause-levels
+follow-requires-then-at-clause-levels c =
+    ap length c.deref-then-at.ensures.value ∙ (length-set c.loop-link.levels.items c.in-Some.link.from (to_z w16 (of_z w16 c.in-Some.link.level)) ∙ (c.loop-link.invariant.reached.whole ∙ length-map c.args.links.now (λ v. v.items)))

@@ -80,3 +80,12 @@ returns-clause-listed c =
     (subst (λ j. IsThere c.args.side c.args.summaries.now c.in-Some-tile_at.u j) index.1.1 (subst (λ n. IsThere n c.args.summaries.now c.in-Some-tile_at.u c.in-Some-rim_number_in.l) n_is c.in-Some-ground_rim_point.ensures.some.there))
     c.if-u-t.false (subst (λ n. c.node_number-from.result ≡ node_number n (Rim c.args.t c.args.k)) n_is c.node_number-from.ensures) (to_z-of_z w16 c.in-Some.here.height fits) fits
     (subst (λ to. IsAddedTo (map (λ v. v.items) c.args.links.now.items) (map (λ v. v.items) c.add.new.links.items) to (record { level = to_z w16 (of_z w16 c.in-Some.here.height); from = c.node_number-from.result })) to_is c.in_ok-add.ensures)
+
+pub returns-in_default-clause-listed : goal.returns-in_default-clause-listed
+returns-in_default-clause-listed c order u l level at here there shared = absurd (c.in_default.ensures.none (subst (λ n. IsThere n c.args.summaries.now c.args.t c.args.k) (sym c.samples-n.ensures.value) here))
+
+pub returns-in_default-tile_at-clause-listed : goal.returns-in_default-tile_at-clause-listed
+returns-in_default-tile_at-clause-listed c order u l level at here there shared = absurd (c.in_default-tile_at.ensures.none order u there.tile at)
+
+pub returns-clause-still : goal.returns-clause-still
+returns-clause-still c = c.in_ok-add.ensures.others
