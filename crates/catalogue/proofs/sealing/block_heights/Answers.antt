@@ -1,5 +1,7 @@
 use Rattle.std.proofs.Common.{◌≡◌, ℤ, List, length, drop, Ok, Err, refl, sym, ap, ◌∙◌, subst}
 use Rattle.std.proofs.lemmas.Result.{err_from_is_err_and}
+use Rattle.std.specs.Prelude.{Contains}
+use Rattle.lattice.specs.Corners.{Corner}
 use Rattle.lattice.specs.Block.{AreHeightsOf}
 use Rattle.lattice.specs.Mosaic.{Mosaic}
 use Rattle.lattice.specs.declared.refusal.Refusal.{Refusal}
@@ -45,3 +47,48 @@ returns-in_err-seal_rim-clause-reads g c =
     } in
     rw ended (reads_on g.S.Samples g.met.S.Samples.keeps_on c.args.samples.now c.read_samples.new.self c.seal_rim.new.samples tt (reads_of {T = Unit {0}} (Err c.in_err-seal_rim.field-0.0)) read
     (reads_for g.S.Samples c.read_samples.new.self c.seal_rim.new.samples (Err c.in_err-seal_rim.field-0.0) c.in_err-seal_rim.ensures.reads))
+
+pub returns-in_err-read_samples-clause-reads : goal.returns-in_err-read_samples-clause-reads
+returns-in_err-read_samples-clause-reads g c =
+    let p = err_from_is_err_and c.from_residual-in_err-read_samples.result c.from_residual-in_err-read_samples.ensures.1 in
+    let ended : c.from_residual-in_err-read_samples.result ≡ Err c.in_err-read_samples.field-0.0 = p.1 ∙ ap (λ (r : Refusal). Err r) p.2 in
+    let told = c.in_err-read_samples.ensures in
+    let read : OnlyReads {T = Unit {0}} g.S.Samples c.args.samples.now c.read_samples.new.self (Err c.in_err-read_samples.field-0.0) = record {
+      refusal = told.refusal;
+      only_device = told.only_device;
+      ready = λ _. tt;
+      unready = told.unready;
+      answers = told.answers;
+      never_refuses = told.never_refuses;
+      side = told.side;
+      corners = told.corners;
+      sinks = told.sinks;
+      failures = told.failures;
+      honest = told.honest;
+      mosaic = told.mosaic;
+      keeps = told.keeps;
+    } in
+    rw ended (reads_for g.S.Samples c.args.samples.now c.read_samples.new.self (Err c.in_err-read_samples.field-0.0) read)
+
+pub returns-clause-reads : goal.returns-clause-reads
+returns-clause-reads g c =
+    let told = c.in_ok-read_samples.ensures in
+    let read : OnlyReads {T = Unit {0}} g.S.Samples c.args.samples.now c.read_samples.new.self (Ok tt) = record {
+      refusal = tt;
+      only_device = λ _. tt;
+      ready = told.ready;
+      unready = tt;
+      answers = λ _. refl;
+      never_refuses = told.never_refuses;
+      side = told.side;
+      corners = told.corners;
+      sinks = told.sinks;
+      failures = told.failures;
+      honest = told.honest;
+      mosaic = told.mosaic;
+      keeps = told.keeps;
+    } in
+    reads_on g.S.Samples g.met.S.Samples.keeps_on c.args.samples.now c.read_samples.new.self c.seal_rim.new.samples tt (Ok tt) read c.in_ok-seal_rim.ensures.reads
+
+pub seal_rim-requires-clause-present : goal.seal_rim-requires-clause-present
+seal_rim-requires-clause-present g c = subst (λ (cs : List Corner). Contains cs c.args.corner) (sym c.in_ok-read_samples.ensures.corners) c.requires

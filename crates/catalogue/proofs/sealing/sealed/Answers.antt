@@ -1,4 +1,4 @@
-use Rattle.std.proofs.Common.{◌≡◌, ◌*◌, length, take, sym, ap, ◌∙◌, subst, arith, Ok}
+use Rattle.std.proofs.Common.{◌≡◌, ◌*◌, length, take, sym, ap, ◌∙◌, subst, arith, Ok, Err}
 use Rattle.std.specs.Prelude.{All}
 use Rattle.std.proofs.Math.Seq.{take-length}
 use Rattle.std.proofs.lemmas.List.Elements.{All-nil}
@@ -9,6 +9,9 @@ use Rattle.catalogue.proofs.Filling.{next_absent, next_corners, next_all}
 use Rattle.catalogue.proofs.Holders.{itself}
 use Rattle.catalogue.proofs.Reading.{reads_nothing, reads_on}
 use Rattle.lattice.proofs.Rising.{Adjacent, Rising, rising_from}
+use Rattle.std.proofs.lemmas.Result.{err_from_is_err_and}
+use Rattle.lattice.specs.declared.refusal.Refusal.{Refusal}
+use Rattle.catalogue.specs.Readers.{reads_of}
 use Rattle.catalogue.proofs.sealing.sealed.Goals as goal
 
 pub declare-requires : goal.declare-requires
@@ -89,3 +92,12 @@ returns-clause-sealed g c honest =
       sinks = so.sinks ∙ sym (laws.same_sinks now honest_now);
       heights = so.heights honest;
     }
+
+pub returns-in_err-heights-clause-reads : goal.returns-in_err-heights-clause-reads
+returns-in_err-heights-clause-reads g c =
+    let p = err_from_is_err_and c.from_residual-in_err-heights.result c.from_residual-in_err-heights.ensures.1 in
+    let ended : c.from_residual-in_err-heights.result ≡ Err c.in_err-heights.field-0.0 = p.1 ∙ ap (λ (r : Refusal). Err r) p.2 in
+    rw ended (reads_on g.S.Samples g.met.S.Samples.keeps_on c.args.samples.now c.loop-corner.samples c.block_heights.new.samples tt (reads_of {T = Unit {0}} (Err c.in_err-heights.field-0.0)) c.loop-corner.invariant.reads c.in_err-heights.ensures.reads)
+
+pub returns-clause-reads : goal.returns-clause-reads
+returns-clause-reads g c = c.loop-corner.invariant.reads
