@@ -1,9 +1,10 @@
-use Rattle.std.proofs.Common.{◌≡◌, All, map, ap, ◌∙◌, subst}
+use Rattle.std.proofs.Common.{◌≡◌, All, map, ap, ◌∙◌, subst, sym}
 use Rattle.disk.specs.Disk.{Image}
 use Rattle.page_codec.specs.Entries.{EntryValue}
 use Rattle.page_codec.specs.Roots.{format_of}
 use Rattle.charts.specs.Charts.{corners_of_locations}
 use Rattle.cow_tree.specs.Layout.{HasRecords}
+use Rattle.disk.specs.Stops.{AddsNothing, nothing_twice}
 use Rattle.cow_tree.proofs.Dropping.{corners_of_entries, clean_is_committed}
 use Rattle.cow_tree.proofs.Due.{none_due}
 use Rattle.cow_tree.proofs.Opened.{opened, chart_refuses, stands_opens}
@@ -46,3 +47,21 @@ returns-in-Err-clause-sure g c honest s is = stands_opens (g.D.Disk.size c.args.
 
 pub returns-in-Ok-read_chart-clause-unstaged : goal.returns-in-Ok-read_chart-clause-unstaged
 returns-in-Ok-read_chart-clause-unstaged g c = c.in-Ok-read_chart.ensures.clean
+
+pub returns-in-Ok-read_chart-clause-nothing : goal.returns-in-Ok-read_chart-clause-nothing
+returns-in-Ok-read_chart-clause-nothing g c honest =
+    let reads = c.in-Ok-read_chart.ensures.reads in
+    nothing_twice g.D.Disk c.args.disk c.in_ok-roots.roots.disk c.read_chart.new.roots.disk (c.in_ok-roots.ensures.nothing (reads.honest honest)) (reads.nothing honest)
+
+pub returns-in-Err-clause-nothing : goal.returns-in-Err-clause-nothing
+returns-in-Err-clause-nothing g c honest =
+    let d = g.D.Disk in
+    let reads = c.in-Err.ensures.reads in
+    let now_honest = subst d.honest c.into_disk.ensures honest in
+    subst (AddsNothing d c.args.disk) (sym c.into_disk.ensures)
+    (nothing_twice d c.args.disk c.in_ok-roots.roots.disk c.read_chart.new.roots.disk (c.in_ok-roots.ensures.nothing (reads.honest now_honest)) (reads.nothing now_honest))
+
+pub returns-in-Ok-read_chart-clause-durable : goal.returns-in-Ok-read_chart-clause-durable
+returns-in-Ok-read_chart-clause-durable g c honest image may =
+    let reads = c.in-Ok-read_chart.ensures.reads in
+    c.in_ok-roots.ensures.durable (reads.honest honest) image ((reads.nothing honest).run.now image may) ∙ sym (reads.seen honest)

@@ -1,5 +1,8 @@
-use Rattle.std.proofs.Common.{◌≡◌, All, map, ap, ◌∙◌, subst}
+use Rattle.std.proofs.Common.{◌≡◌, All, Err, map, inl, inr, ⊎_elim, sym, ap, ◌∙◌, subst}
+use Rattle.std.proofs.lemmas.Result.{err_from_is_err_and}
 use Rattle.disk.specs.Disk.{Image}
+use Rattle.disk.specs.Stops.{AddsNothing, nothing_twice}
+use Rattle.lattice.specs.declared.refusal.Refusal.{Refusal}
 use Rattle.lattice.specs.declared.refusal.Refusal.TheVariants.{Device}
 use Rattle.page_codec.specs.Entries.{EntryValue}
 use Rattle.page_codec.specs.Roots.{format_of}
@@ -8,7 +11,7 @@ use Rattle.cow_tree.specs.Layout.{HasRecords}
 use Rattle.cow_tree.proofs.Dropping.{corners_of_entries, clean_is_committed}
 use Rattle.cow_tree.proofs.Due.{none_due}
 use Rattle.cow_tree.proofs.Opened.{opened, chart_refuses, stands_opens}
-use Rattle.cow_tree.proofs.ReadOnly.{works_ok, never_refused}
+use Rattle.cow_tree.proofs.ReadOnly.{works_ok, never_refused, handed_on}
 use Rattle.cow_tree.proofs.tree.Tree.reopen.Goals as goal
 
 pub returns-in-Ok-clause-at : goal.returns-in-Ok-clause-at
@@ -51,3 +54,40 @@ returns-in-Err-clause-sure g c honest s is =
 
 pub returns-in-Ok-clause-unstaged : goal.returns-in-Ok-clause-unstaged
 returns-in-Ok-clause-unstaged g c = c.in-Ok.ensures.clean
+
+pub returns-in_err-reopen-clause-refusals : goal.returns-in_err-reopen-clause-refusals
+returns-in_err-reopen-clause-refusals g c =
+    let p = err_from_is_err_and c.from_residual.result c.from_residual.ensures.1 in
+    let ended : c.from_residual.result ≡ Err c.in_err-reopen.field-0.0 = p.1 ∙ ap (λ (r : Refusal). Err r) p.2 in
+    handed_on _ c.from_residual.result c.in_err-reopen.field-0.0 ended (inl c.in_err-reopen.ensures.refused)
+
+pub returns-in_err-reopen-clause-refused : goal.returns-in_err-reopen-clause-refused
+returns-in_err-reopen-clause-refused g c honest =
+    let why = c.in_err-reopen.field-0.0 in
+    let p = err_from_is_err_and c.from_residual.result c.from_residual.ensures.1 in
+    let ended : c.from_residual.result ≡ Err why = p.1 ∙ ap (λ (r : Refusal). Err r) p.2 in
+    handed_on _ c.from_residual.result why ended (⊎_elim (λ device. (let is : why ≡ Device = cc in inl is)) (λ opens. inr (inr (inl opens))) (c.in_err-reopen.ensures.opens honest))
+
+pub returns-in_err-reopen-clause-sure : goal.returns-in_err-reopen-clause-sure
+returns-in_err-reopen-clause-sure g c honest s (root, tiles, stores) =
+    let p = err_from_is_err_and c.from_residual.result c.from_residual.ensures.1 in
+    let ended : c.from_residual.result ≡ Err c.in_err-reopen.field-0.0 = p.1 ∙ ap (λ (r : Refusal). Err r) p.2 in
+    handed_on _ c.from_residual.result c.in_err-reopen.field-0.0 ended (inl (c.in_err-reopen.ensures.store honest root stores.laid_out.store))
+
+pub returns-in-Ok-clause-nothing : goal.returns-in-Ok-clause-nothing
+returns-in-Ok-clause-nothing g c honest =
+    let reads = c.in-Ok.ensures.reads in
+    nothing_twice g.D.Disk c.args.self.now.roots.disk c.reopen.new.self.disk c.read_chart.new.roots.disk (c.in_ok-reopen.ensures.nothing (reads.honest honest)) (reads.nothing honest)
+
+pub returns-in-Err-clause-nothing : goal.returns-in-Err-clause-nothing
+returns-in-Err-clause-nothing g c honest =
+    let d = g.D.Disk in
+    let reads = c.in-Err.ensures.reads in
+    let now_honest = subst d.honest c.fail.ensures.disk honest in
+    subst (AddsNothing d c.args.self.now.roots.disk) (sym c.fail.ensures.disk)
+    (nothing_twice d c.args.self.now.roots.disk c.reopen.new.self.disk c.read_chart.new.roots.disk (c.in_ok-reopen.ensures.nothing (reads.honest now_honest)) (reads.nothing now_honest))
+
+pub returns-in-Ok-clause-durable : goal.returns-in-Ok-clause-durable
+returns-in-Ok-clause-durable g c honest image may =
+    let reads = c.in-Ok.ensures.reads in
+    c.in_ok-reopen.ensures.durable (reads.honest honest) image ((reads.nothing honest).run.now image may) ∙ sym (reads.seen honest)
