@@ -1,5 +1,5 @@
 -- Reads one after another are a read.
-use Rattle.std.proofs.Common.{ℕ, ◌≤◌, refl, ◌∙◌, arith, Result, Ok, Err}
+use Rattle.std.proofs.Common.{◌≡◌, ℕ, ◌≤◌, refl, ◌∙◌, arith, Result, Ok, Err}
 use Rattle.std.specs.Prelude.{IfErr}
 use Rattle.lattice.specs.declared.refusal.Refusal.{Refusal}
 use Rattle.lattice.specs.declared.refusal.Refusal.TheVariants.{Device, Failed, Damaged}
@@ -21,23 +21,29 @@ refusal_before before mid now (Ok x) later h = h
 refusal_before before mid now (Err r) later h = may_refuse_before before mid now r later h
 
 module _ {S : Type 0} (g : Ghosts S) where
-  -- whatever an Ok holds
-  pub reads_as : {T U : Type 0} (a b : S) (x : T) (y : U) → OnlyReads {T = T} g a b (Ok x) → OnlyReads {T = U} g a b (Ok y)
-  reads_as a b x y h = record {
+  -- a read that was answered
+  pub reads_answered : {T : Type 0} (a b : S) (x : T) → (g.is_ready a → g.is_ready b) → (g.never_refuses a → g.never_refuses b)
+      → g.side_of b ≡ g.side_of a → g.corners b ≡ g.corners a → g.sinks_of b ≡ g.sinks_of a → g.failures a ≤ g.failures b
+      → (g.is_honest b → g.is_honest a) → (g.is_honest b → g.mosaic b ≡ g.mosaic a) → g.keeps a b → OnlyReads {T = T} g a b (Ok x)
+  reads_answered a b x ready never_refuses side corners sinks failures honest mosaic keeps = record {
     refusal = tt;
     only_device = λ _. tt;
-    ready = h.ready;
+    ready = ready;
     unready = tt;
     answers = λ _. refl;
-    never_refuses = h.never_refuses;
-    side = h.side;
-    corners = h.corners;
-    sinks = h.sinks;
-    failures = h.failures;
-    honest = h.honest;
-    mosaic = h.mosaic;
-    keeps = h.keeps;
+    never_refuses = never_refuses;
+    side = side;
+    corners = corners;
+    sinks = sinks;
+    failures = failures;
+    honest = honest;
+    mosaic = mosaic;
+    keeps = keeps;
   }
+
+  -- whatever an Ok holds
+  pub reads_as : {T U : Type 0} (a b : S) (x : T) (y : U) → OnlyReads {T = T} g a b (Ok x) → OnlyReads {T = U} g a b (Ok y)
+  reads_as a b x y h = reads_answered a b y h.ready h.never_refuses h.side h.corners h.sinks h.failures h.honest h.mosaic h.keeps
 
   -- a refusal that is passed on
   pub reads_refused : {T U : Type 0} (a b : S) (r : Refusal) → OnlyReads {T = T} g a b (Err r) → OnlyReads {T = U} g a b (Err r)

@@ -1,4 +1,4 @@
-use Rattle.std.proofs.Common.{◌≡◌, ℤ, List, length, drop, Ok, Err, refl, sym, ap, ◌∙◌, subst}
+use Rattle.std.proofs.Common.{◌≡◌, ℤ, List, length, drop, Ok, Err, sym, ap, ◌∙◌, subst}
 use Rattle.std.proofs.lemmas.Result.{err_from_is_err_and}
 use Rattle.std.specs.Prelude.{Contains}
 use Rattle.lattice.specs.Corners.{Corner}
@@ -8,7 +8,7 @@ use Rattle.lattice.specs.declared.refusal.Refusal.{Refusal}
 use Rattle.catalogue.specs.Readers.{OnlyReads, reads_of}
 use Rattle.catalogue.specs.Reading.{AreSamplesOf}
 use Rattle.catalogue.proofs.Blocks.{written_over}
-use Rattle.catalogue.proofs.Reading.{reads_on, reads_for}
+use Rattle.catalogue.proofs.Reading.{reads_answered, reads_on, reads_for}
 use Rattle.catalogue.proofs.sealing.block_heights.Goals as goal
 
 pub returns-clause-heights : goal.returns-clause-heights
@@ -30,21 +30,8 @@ returns-in_err-seal_rim-clause-reads g c =
     let p = err_from_is_err_and c.from_residual-in_err-seal_rim.result c.from_residual-in_err-seal_rim.ensures.1 in
     let ended : c.from_residual-in_err-seal_rim.result ≡ Err c.in_err-seal_rim.field-0.0 = p.1 ∙ ap (λ (r : Refusal). Err r) p.2 in
     let told = c.in_ok-read_samples.ensures in
-    let read : OnlyReads {T = Unit {0}} g.S.Samples c.args.samples.now c.read_samples.new.self (Ok tt) = record {
-      refusal = tt;
-      only_device = λ _. tt;
-      ready = told.ready;
-      unready = tt;
-      answers = λ _. refl;
-      never_refuses = told.never_refuses;
-      side = told.side;
-      corners = told.corners;
-      sinks = told.sinks;
-      failures = told.failures;
-      honest = told.honest;
-      mosaic = told.mosaic;
-      keeps = told.keeps;
-    } in
+    let read : OnlyReads {T = Unit {0}} g.S.Samples c.args.samples.now c.read_samples.new.self (Ok tt) =
+    reads_answered g.S.Samples c.args.samples.now c.read_samples.new.self tt told.ready told.never_refuses told.side told.corners told.sinks told.failures told.honest told.mosaic told.keeps in
     rw ended (reads_on g.S.Samples g.met.S.Samples.keeps_on c.args.samples.now c.read_samples.new.self c.seal_rim.new.samples tt (reads_of {T = Unit {0}} (Err c.in_err-seal_rim.field-0.0)) read
     (reads_for g.S.Samples c.read_samples.new.self c.seal_rim.new.samples (Err c.in_err-seal_rim.field-0.0) c.in_err-seal_rim.ensures.reads))
 
@@ -73,21 +60,8 @@ returns-in_err-read_samples-clause-reads g c =
 pub returns-clause-reads : goal.returns-clause-reads
 returns-clause-reads g c =
     let told = c.in_ok-read_samples.ensures in
-    let read : OnlyReads {T = Unit {0}} g.S.Samples c.args.samples.now c.read_samples.new.self (Ok tt) = record {
-      refusal = tt;
-      only_device = λ _. tt;
-      ready = told.ready;
-      unready = tt;
-      answers = λ _. refl;
-      never_refuses = told.never_refuses;
-      side = told.side;
-      corners = told.corners;
-      sinks = told.sinks;
-      failures = told.failures;
-      honest = told.honest;
-      mosaic = told.mosaic;
-      keeps = told.keeps;
-    } in
+    let read : OnlyReads {T = Unit {0}} g.S.Samples c.args.samples.now c.read_samples.new.self (Ok tt) =
+    reads_answered g.S.Samples c.args.samples.now c.read_samples.new.self tt told.ready told.never_refuses told.side told.corners told.sinks told.failures told.honest told.mosaic told.keeps in
     reads_on g.S.Samples g.met.S.Samples.keeps_on c.args.samples.now c.read_samples.new.self c.seal_rim.new.samples tt (Ok tt) read c.in_ok-seal_rim.ensures.reads
 
 pub seal_rim-requires-clause-present : goal.seal_rim-requires-clause-present
