@@ -1,6 +1,7 @@
 //! The part of the world that a session covers: three by three corners.
 use lattice::{Corner, Point, Side, point_at};
 use std::alloc::{AllocError, Global};
+use std::ops::Range;
 
 /// The corners in the middle: where latitudes and longitudes begin, and two ends of the world.
 pub(crate) const MIDDLES: [Corner; 3] = [
@@ -22,10 +23,8 @@ pub(crate) fn corner_beside(middle: Corner, lat: i16, lon: i16) -> Corner {
 /// All corners of the region.
 pub(crate) fn corners_around(alloc: Global, middle: Corner) -> Result<Vec<Corner>, AllocError> {
     let mut corners = Vec::new(alloc);
-    for lat in -1..2_i16 {
-        for lon in -1..2_i16 {
-            corners.push(corner_beside(middle, lat, lon))?;
-        }
+    for number in 0..9_i16 {
+        corners.push(corner_beside(middle, number / 3 - 1, number % 3 - 1))?;
     }
     Ok(corners)
 }
@@ -40,12 +39,22 @@ pub(crate) fn points_around(
     let north_west = point_at(side, middle, 0);
     let mut points = Vec::new(alloc);
     for row in -2 * edge - 1..edge + 2 {
-        for column in -edge - 1..2 * edge + 2 {
-            points.push(Point {
-                y: north_west.y.saturating_add(row),
-                x: north_west.x.saturating_add(column),
-            })?;
-        }
+        let y = north_west.y.saturating_add(row);
+        extend_row(&mut points, y, north_west.x, -edge - 1..2 * edge + 2)?;
     }
     Ok(points)
+}
+
+// Adds the points of a row in these columns, counted from x.
+fn extend_row(
+    points: &mut Vec<Point>,
+    y: i32,
+    x: i32,
+    columns: Range<i32>,
+) -> Result<(), AllocError> {
+    for column in columns {
+        let x = x.saturating_add(column);
+        points.push(Point { y, x })?;
+    }
+    Ok(())
 }

@@ -15,6 +15,7 @@ use Rattle.lattice.specs.Stepping.{reach_of, fits_number, fits_point}
 use Rattle.lattice.specs.Mosaic.{Mosaic, IsMosaic}
 use Rattle.lattice.proofs.IntTests.{le_true, le_from}
 use Rattle.lattice.specs.Ground.{is_ground, is_near, same_point, share_tile, is_adjacent, degree_of}
+use Rattle.lattice.specs.Limits.{largest_side}
 use Rattle.catalogue.proofs.Sharing.{shared_says}
 
 -- how many steps lead where f holds, if f holds only where steps can lead
@@ -48,7 +49,7 @@ fits : (v : ℤ) → negsuc 2147483647 ≤ℤ v → v ≤ℤ pos 2147483647 → 
 fits v low high = and_from (int_le (negsuc 2147483647) v) (int_le v (pos 2147483647)) (le_from (negsuc 2147483647) v low) (le_from v (pos 2147483647) high)
 
 -- a held point's coordinates are numbers of 32 bits
-held_fits : (n : ℕ) (c : Corner) (q : Point) → n ≤ 3601 → Holds n c q → fits_point q ≡ true
+held_fits : (n : ℕ) (c : Corner) (q : Point) → n ≤ largest_side → Holds n c q → fits_point q ≡ true
 held_fits n c q small held =
     let i = held.sample.0 in
     let j = held.sample.1 in

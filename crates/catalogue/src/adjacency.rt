@@ -72,8 +72,8 @@ fn is_near(p: Point, q: Point) -> bool
     p.y.abs_diff(q.y) < 2 && p.x.abs_diff(q.x) < 2
 }
 
-// Whether some one present tile holds both.
-fn share_tile<S: Samples>(samples: &S, p: Point, q: Point) -> bool
+/// Whether some one present tile holds both points.
+pub fn share_tile<S: Samples>(samples: &S, p: Point, q: Point) -> bool
     ensures { S.is_honest samples.now → result ≡ shared (S.mosaic samples.now) p q }
 {
     let side = samples.side();

@@ -13,7 +13,7 @@ mod seam_rule;
 mod seams_between;
 mod table;
 
-pub use adjacency::{adjacent, degree, outlet};
+pub use adjacency::{adjacent, degree, outlet, share_tile};
 pub use listing::tiles;
 pub use samples::Samples;
 pub use sealing::{block_heights, sealed};

@@ -6,6 +6,7 @@ use Rattle.std.proofs.lemmas.List.{take_more, length-append, map-append, length-
 use Rattle.std.proofs.lemmas.List.Elements.{filter_map-append, filter-append}
 use Rattle.std.proofs.lemmas.Bool.{false≢true, cases_eq, eq-eqb, ne_eqb}
 use Rattle.lattice.specs.Corners.{Corner}
+use Rattle.lattice.specs.Limits.{most_tiles}
 use Rattle.page_alloc.specs.Pages.{PageSet}
 use Rattle.layout.specs.Formats.{Format}
 use Rattle.charts.specs.declared.locations.TilePlanes.{TilePlanes}
@@ -58,7 +59,7 @@ module _ (slots : List Slot) (i : ℕ) (s : Slot) (below : i < length slots) (is
       empty None none = refl
       empty (Some t) none = absurd (false≢true (sym none))
 
-  pub located_room : IsSome (staged_tile s) → length (staged_tiles slots) ≤ 240 → length corners < 240
+  pub located_room : IsSome (staged_tile s) → length (staged_tiles slots) ≤ most_tiles → length corners < most_tiles
   located_room some few = omega (arith, staged_below slots i s below is some, ap length so_far, length-map (staged_tiles (take i slots)) (λ (t : TileLocation). t.corner), few)
 
 -- ---- changed tiles
@@ -127,7 +128,7 @@ module _ (format : Format) (slots : List Slot) (free : PageSet) (kept : IsKept f
     filter_le [] = omega arith
     filter_le (t ∷ rest) = let later = filter_le rest in elim (changed t) as (λ b. length (cond b (t ∷ filter changed rest) (filter changed rest)) ≤ suc (length rest)) [ true ↦ omega arith | false ↦ omega arith ]
 
-    pub corners_room : stages_heights s ≡ true → length corners < 240
+    pub corners_room : stages_heights s ≡ true → length corners < most_tiles
     corners_room heights =
         let fewer = staged_below slots i s below is (some s.corner s.committed s.staged heights) in
         omega (arith, ap length so_far, length-map (filter changed (staged_tiles (take i slots))) (λ (t : TileLocation). t.corner), filter_le (staged_tiles (take i slots)), kept.staged_room, kept.few)

@@ -4,6 +4,7 @@ use Rattle.std.specs.Option.{option_map}
 use Rattle.std.specs.List.{HoldsAt, AllWithin, filter_map, flat_map, AllByRecursion, AllAdjacentBelow}
 use Rattle.lattice.specs.Corners.{Corner, is_corner}
 use Rattle.lattice.specs.Lattice.{IsBefore}
+use Rattle.lattice.specs.Limits.{most_tiles}
 use Rattle.page_alloc.specs.Pages.{PageSet}
 use Rattle.layout.specs.Formats.{Format}
 use Rattle.layout.specs.Sizes.{plane_pages_of, sectors_asked}
@@ -159,7 +160,7 @@ AreCounted slots free = (p : ℕ) → times p (reached (committed_tiles slots)) 
 pub record IsKept (format : Format) (slots : List Slot) (free : PageSet) : Type 0 where
   pub size : sectors_asked format ≤ free.total
   pub fits : free.total < 2 ^ 32
-  pub few : format.capacity ≤ 240
+  pub few : format.capacity ≤ most_tiles
   pub in_order : AllAdjacentBelow (λ a b. IsBefore a.corner b.corner) slots (length slots)
   pub sound : AllByRecursion (IsSound format) slots
   pub committed_room : length (committed_tiles slots) ≤ format.capacity

@@ -7,6 +7,7 @@ ghost use Rattle.layout.specs.declared.version.Version.TheVariants.{One};
 ghost use Rattle.std.specs.List.{AllAdjacentBelow};
 ghost use Rattle.lattice.specs.Corners.{is_before, is_corner};
 ghost use Rattle.lattice.specs.Lattice.{IsBefore};
+ghost use Rattle.lattice.specs.Limits.{most_tiles};
 ghost use Rattle.charts.specs.Slots.{IsSlotAt, IsRoomAt, AreCounted, AreEndedAs};
 
 use crate::locations::{KeptLocations, PagedPlane, TilePlanes};
@@ -60,7 +61,7 @@ impl Chart {
     /// A chart of no tiles for a disk of so many sectors with a store of this format.
     pub fn new(alloc: Global, sectors: u32, format: Format) -> Result<Chart, Refusal>
         requires size { sectors_asked format ≤ sectors }
-        requires capacity { format.capacity ≤ 240 }
+        requires capacity { format.capacity ≤ most_tiles }
         ensures value { IfOk result (λ chart. chart ≡ no_tiles_charted sectors format) }
         ensures rules { IfOk result IsChart }
         ensures refused { IfErr result (λ refusal. refusal ≡ NoMemory) }

@@ -12,6 +12,7 @@ use Rattle.std.proofs.lemmas.List.Elements.{All-head, All-tail, All-contains}
 use Rattle.lattice.specs.Corners.{Corner, same_corner}
 use Rattle.lattice.specs.declared.point.Point.{Point}
 use Rattle.lattice.specs.Mosaic.{Tile, Mosaic, IsMosaic, IsTile, samples_among, samples_of}
+use Rattle.lattice.specs.Limits.{largest_side}
 use Rattle.hgt.specs.Bytes.{sample_of, samples_in}
 use Rattle.hgt.proofs.BytesLemmas.{get_or-samples_in}
 use Rattle.lattice.proofs.CornerOrder.{same_from, before_not_same}
@@ -147,9 +148,9 @@ length_further into part done end le within long =
 
 -- a tile has few samples by either version
 pub samples_small : (version : Version) (n : ℕ) → n ≤ largest_side_of version → n * n ≤ 12967201
-samples_small version n le = let small : n ≤ 3601 = by version le in let square : n * n ≤ n * 3601 = mul-le-mul_left n small in omega arith
+samples_small version n le = let small : n ≤ largest_side = by version le in let square : n * n ≤ n * largest_side = mul-le-mul_left n small in omega arith
   where
-    by : (v : Version) → n ≤ largest_side_of v → n ≤ 3601
+    by : (v : Version) → n ≤ largest_side_of v → n ≤ largest_side
     by One below = omega (arith, below)
     by Two below = below
 

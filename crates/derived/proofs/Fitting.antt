@@ -7,6 +7,7 @@ use Rattle.lattice.specs.Block.{block_terrain, is_solid, is_rim, rim_number}
 use Rattle.lattice.specs.Mosaic.{void}
 use Rattle.lattice.specs.RimPoints.{IsRimPoint}
 use Rattle.lattice.specs.Terrain.{end_of}
+use Rattle.lattice.specs.Limits.{largest_side}
 use Rattle.lattice.proofs.Lawful.{block_is_lawful}
 use Rattle.lattice.proofs.RimNumbers.{one_index}
 use Rattle.tile_flood.specs.Blocks.{block_of, bare_block}
@@ -20,7 +21,7 @@ use Rattle.derived.specs.Labellings.{AreLevelsOfRim}
 none_is_some : {A : Type 0} {x : A} → Some x ≡ None → ⊥
 none_is_some h = cc
 
-module _ (n : ℕ) (heights : List ℤ) (sinks : List ℕ) (levels : List ℤ) (labels : List ℕ) (low : 3 ≤ n) (high : n ≤ 3601) (least : (e : ℕ) → void ≤ℤ get_or heights e void)
+module _ (n : ℕ) (heights : List ℤ) (sinks : List ℕ) (levels : List ℤ) (labels : List ℕ) (low : 3 ≤ n) (high : n ≤ largest_side) (least : (e : ℕ) → void ≤ℤ get_or heights e void)
     (is : IsLabelling (block_of n heights sinks) levels labels) (rim : List ℤ) (of_rim : AreLevelsOfRim n levels rim) where
   -- a label that names a rim point of the ground
   over_rim : (e : ℕ) → IsTrue (is_solid (bare_block n heights) e) → (r : ℕ) → IsTrue (is_solid (bare_block n heights) r) → IsTrue (is_rim n r) → slice_index labels e ≡ rim_number n r

@@ -16,9 +16,10 @@ ghost use Rattle.drainage.specs.Between.{IsHeldFor};
 use crate::asking::check_ground;
 use crate::filling::level;
 use crate::held::Held;
+use catalogue::share_tile;
 use derived::Labellings;
 use downstream::{FilledLevels, Near, direction_at};
-use lattice::{Dir, Point, Refusal, holders, index_in};
+use lattice::{Dir, Point, Refusal};
 use std::alloc::Global;
 
 /// The code of the direction in which water leaves the point: east is 1, and each next one clockwise twice as much; 0
@@ -137,14 +138,7 @@ impl<S: Labellings> FilledLevels<S> for Held {
     }
 
     fn share_tile(&self, source: &S, point: Point, other: Point) -> bool {
-        let side = source.side();
-        let corners = holders(side, point);
-        for corner in corners.as_slice() {
-            if source.present(*corner) && index_in(side, *corner, other).is_some() {
-                return true;
-            }
-        }
-        false
+        share_tile(source, point, other)
     }
 
     fn is_sink(&self, source: &S, point: Point) -> bool {

@@ -25,8 +25,12 @@ use catalogue::{Samples, height};
 use lattice::{Corner, Height, Point, Refusal, holders, index_in};
 use std::alloc::Global;
 
-// The lowest height.
+// The lowest and the greatest height in metres, and the greatest depth.
 pub(crate) const LOWEST: i32 = -32767;
+
+pub(crate) const HIGHEST: i32 = 32767;
+
+const DEEPEST: i32 = 32767;
 
 /// What becomes of the height of a named point, in metres.
 #[derive(Clone, Copy)]
@@ -53,7 +57,7 @@ pub(crate) fn burn<S: Samples>(
     ensures once { IfOk result (λ changes. SetOnce changes.items) }
     ensures reads { OnlyReads S.Samples samples.old samples.new (reads_of result) }
 {
-    if depth < 1 || 32767 < depth {
+    if depth < 1 || DEEPEST < depth {
         return Err(Refusal::BadDepth);
     }
     let points = points.as_slice();
@@ -84,7 +88,7 @@ pub(crate) fn wall<S: Samples>(
     ensures once { IfOk result (λ changes. SetOnce changes.items) }
     ensures reads { OnlyReads S.Samples samples.old samples.new (reads_of result) }
 {
-    if height < LOWEST || 32767 < height {
+    if height < LOWEST || HIGHEST < height {
         return Err(Refusal::BadHeight);
     }
     let points = points.as_slice();

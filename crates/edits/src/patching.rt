@@ -14,7 +14,7 @@ ghost use Rattle.edits.specs.Touched.{goes_stale};
 ghost use Rattle.edits.specs.declared.command.Command.TheVariants.{Patch};
 
 use crate::Change;
-use crate::named::{LOWEST, put};
+use crate::named::{HIGHEST, LOWEST, put};
 use catalogue::{Samples, height};
 use lattice::{Height, Point, Refusal, Side};
 use std::alloc::Global;
@@ -36,7 +36,7 @@ pub(crate) fn patch<S: Samples>(
     ensures once { IfOk result (λ changes. SetOnce changes.items) }
     ensures reads { OnlyReads S.Samples samples.old samples.new (reads_of result) }
 {
-    if height < LOWEST || 32767 < height {
+    if height < LOWEST || HIGHEST < height {
         return Err(Refusal::BadHeight);
     }
     let Some(size) = size_of_box(samples.side(), from, to) else {

@@ -9,10 +9,11 @@ use Rattle.lattice.specs.Lattice.{holds}
 use Rattle.lattice.specs.Stepping.{fits_point}
 use Rattle.lattice.specs.Mosaic.{Mosaic, IsMosaic, Tile, IsTile}
 use Rattle.lattice.specs.Ground.{is_ground}
+use Rattle.lattice.specs.Limits.{largest_side}
 use Rattle.lattice.proofs.WaysOut.{held}
 use Rattle.flow_d8.proofs.Numbers.{held_fits}
 
-fits_of : (n : ℕ) (p : Point) (tiles : List Tile) → 3 ≤ n → n ≤ 3601 → All (IsTile n) tiles → IsTrue (list_any (λ t. holds n t.corner p) tiles) → IsTrue (fits_point p)
+fits_of : (n : ℕ) (p : Point) (tiles : List Tile) → 3 ≤ n → n ≤ largest_side → All (IsTile n) tiles → IsTrue (list_any (λ t. holds n t.corner p) tiles) → IsTrue (fits_point p)
 fits_of n p [] low high whole h = absurd (true≢false (sym h))
 fits_of n p (t ∷ rest) low high whole h = ⊎_elim
     (λ here. held_fits n t.corner p low high (and_from (is_corner t.corner) (holds n t.corner p) (whole 0 t (omega arith)).corner here))

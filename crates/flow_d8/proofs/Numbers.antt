@@ -9,6 +9,7 @@ use Rattle.lattice.specs.declared.point.Point.{Point}
 use Rattle.lattice.specs.Corners.{Corner, is_corner}
 use Rattle.lattice.specs.Lattice.{Holds, holds, index_of, point_of, is_along}
 use Rattle.lattice.specs.Stepping.{fits_number, fits_point}
+use Rattle.lattice.specs.Limits.{largest_side, most_tiles}
 use Rattle.lattice.proofs.Samples.{holds_is, index_of_below, point_of_index}
 use Rattle.lattice.proofs.Along.{parts}
 use Rattle.lattice.proofs.IntTests.{le_true, le_from}
@@ -131,7 +132,7 @@ scaled (negsuc x) m small low high =
     let one : suc x * m ≤ 180 * m = mul-le-mul_right m small_x in
     (omega (arith, ints), omega (arith, ints))
 
-pub held_fits : (n : ℕ) (c : Corner) (p : Point) → 3 ≤ n → n ≤ 3601 → is_holder n c p ≡ true → IsTrue (fits_point p)
+pub held_fits : (n : ℕ) (c : Corner) (p : Point) → 3 ≤ n → n ≤ largest_side → is_holder n c p ≡ true → IsTrue (fits_point p)
 held_fits n c p side most both =
     let is = (and_parts (is_corner c) (holds n c p) both).0 in
     let on = (and_parts (is_corner c) (holds n c p) both).1 in
@@ -182,9 +183,9 @@ point_at_number n corners p number d side held same =
     ∙ ap (λ j. point_of n seat.corner j) i_is
     ∙ point_of_index n seat.corner p (holder_holds n seat.corner p side seat.held)
 
--- as many samples as 240 tiles of the largest side have
-pub few_samples : (n count samples : ℕ) → n ≤ 3601 → count ≤ 240 → samples ≡ count * (n * n) → samples ≤ 3112192240
+-- as many samples as the most tiles of the largest side have
+pub few_samples : (n count samples : ℕ) → n ≤ largest_side → count ≤ most_tiles → samples ≡ count * (n * n) → samples ≤ 3112192240
 few_samples n count samples side few is =
-    let row : n * n ≤ 3601 * n = mul-le-mul_right n side in
-    let rows : count * (n * n) ≤ 240 * (n * n) = mul-le-mul_right (n * n) few in
+    let row : n * n ≤ largest_side * n = mul-le-mul_right n side in
+    let rows : count * (n * n) ≤ most_tiles * (n * n) = mul-le-mul_right (n * n) few in
     omega arith

@@ -221,14 +221,26 @@ fn check_pages(alloc: Global, image: &[Sector], root: &Root) -> Result<(), Refus
 pub(crate) fn reached(alloc: Global, image: &[Sector], root: &Root) -> Result<Vec<u32>, Refusal> {
     let mut reached = Vec::new(alloc);
     for entry in &root.entries {
-        for record in entry.records {
-            if record != 0 {
-                add(&mut reached, record)?;
-                reached.extend_from_slice(&behind_record(alloc, image, root, record)?)?;
-            }
-        }
+        add_reached(alloc, image, root, &entry.records, &mut reached)?;
     }
     Ok(reached)
+}
+
+// Adds what these records of a tile reach; one that is 0 stands for none.
+fn add_reached(
+    alloc: Global,
+    image: &[Sector],
+    root: &Root,
+    records: &[u32],
+    reached: &mut Vec<u32>,
+) -> Result<(), Refusal> {
+    for record in records {
+        if *record != 0 {
+            add(reached, *record)?;
+            reached.extend_from_slice(&behind_record(alloc, image, root, *record)?)?;
+        }
+    }
+    Ok(())
 }
 
 // Whether each is a page, and they rise.

@@ -8,6 +8,7 @@ use lattice::{Refusal, Side};
 use page_codec::{Format, Root};
 use roots::Roots;
 use std::alloc::Global;
+use std::process::Abort;
 use std::test::Fail;
 
 // The first 32 bytes of root A after formatting with side 3 and capacity 1; the others are zero.
@@ -132,10 +133,26 @@ fn stopped_after(alloc: Global, calls: u64, torn: Torn, root: &Root) -> Result<(
     Ok((answer.is_ok(), found))
 }
 
+// Compares the commit numbers that opening finds after a stop that leaves old bytes, new ones, zeros, or open gates.
+fn check_stops(
+    rt: &impl Abort,
+    alloc: Global,
+    root: &Root,
+    calls: u64,
+    numbers: &[u64],
+) -> Result<(), Fail> {
+    let kinds = [Torn::Old, Torn::New, Torn::Fill(0), Torn::Fill(0xa7)];
+    for (torn, number) in kinds.iter().zip(numbers.iter()) {
+        let stopped = stopped_after(alloc, calls, *torn, root)?;
+        let is_right = stopped == (calls > 20, *number);
+        assert_row(rt, is_right, "calls before a stop", calls);
+    }
+    Ok(())
+}
+
 #[test]
 fn a_stop_after_each_call(rt: HostRuntime) -> Result<(), Fail> {
-    // Formatting makes 7 calls and opening 4; the first commit 4, and the second 6. Then the commit numbers that opening
-    // finds after a stop that leaves old bytes, new ones, zeros, or open gates.
+    // Formatting makes 7 calls and opening 4; the first commit 4, and the second 6.
     let table = [
         (7, [1, 1, 1, 1]),
         (8, [1, 1, 1, 1]),
@@ -154,14 +171,9 @@ fn a_stop_after_each_call(rt: HostRuntime) -> Result<(), Fail> {
         (21, [3, 3, 3, 3]),
         (22, [3, 3, 3, 3]),
     ];
-    let kinds = [Torn::Old, Torn::New, Torn::Fill(0), Torn::Fill(0xa7)];
     let root = first_root()?;
     for (calls, numbers) in table {
-        for (torn, number) in kinds.iter().zip(numbers.iter()) {
-            let stopped = stopped_after(rt.alloc(), calls, *torn, &root)?;
-            let is_right = stopped == (calls > 20, *number);
-            assert_row(&rt, is_right, "calls before a stop", calls);
-        }
+        check_stops(&rt, rt.alloc(), &root, calls, &numbers)?;
     }
     Ok(())
 }

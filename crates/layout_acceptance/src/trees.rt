@@ -9,6 +9,7 @@ use disk::{Disk, FaultOnceDisk, FuseDisk, MemDisk, Torn};
 use lattice::{Corner, Refusal, Side};
 use page_codec::Format;
 use std::alloc::Global;
+use std::process::Abort;
 use std::test::Fail;
 
 // Room for two tiles of side 3, each plane of which takes one page.
@@ -184,15 +185,22 @@ fn stopped_after(alloc: Global, calls: u64, torn: Torn) -> Result<(bool, bool), 
     Ok((is_left(alloc, disk, first, second, answer)?, answer.is_ok()))
 }
 
+// Stops in each way after so many calls: whether both tiles were acknowledged before.
+fn check_stops(rt: &impl Abort, alloc: Global, calls: u64) -> Result<bool, Fail> {
+    let mut is_done = false;
+    for torn in [Torn::Old, Torn::New, Torn::Fill(0), Torn::Fill(0xa7)] {
+        let (is_right, is_whole) = stopped_after(alloc, calls, torn)?;
+        assert_row(rt, is_right, "calls before a stop", calls);
+        is_done = is_whole;
+    }
+    Ok(is_done)
+}
+
 #[test]
 fn a_stop_after_each_call(rt: HostRuntime) -> Result<(), Fail> {
     let mut is_done = false;
     for calls in 0..40 {
-        for torn in [Torn::Old, Torn::New, Torn::Fill(0), Torn::Fill(0xa7)] {
-            let (is_right, is_whole) = stopped_after(rt.alloc(), calls, torn)?;
-            assert_row(&rt, is_right, "calls before a stop", calls);
-            is_done = is_whole;
-        }
+        is_done = check_stops(&rt, rt.alloc(), calls)?;
     }
     assert!(rt; is_done);
     Ok(())

@@ -1,6 +1,7 @@
 //! A store on a disk in memory.
 ghost use Rattle.std.specs.Prelude.{◌≡◌, ◌≤◌, ◌⊎◌, IfOk, IfErr};
 ghost use Rattle.disk.specs.MemDisk.{sectors_of};
+ghost use Rattle.lattice.specs.Limits.{largest_side, most_tiles};
 ghost use Rattle.lattice.specs.declared.refusal.Refusal.TheVariants.{Device, NoMemory};
 ghost use Rattle.layout.specs.Sizes.{sectors_asked};
 ghost use Rattle.calls.specs.State.{fresh, working};
@@ -26,7 +27,7 @@ pub fn store_in_memory(
     ensures sectors { IfOk result (λ store. sectors_of (disk_of store) ≡ sectors) }
 
     // Where there is room, it is refused only for want of memory, of its own or of the disk's.
-    ensures sure { 3 ≤ side → side ≤ 3601 → 1 ≤ capacity → capacity ≤ 240 → sectors_asked (format_2 side capacity) ≤ sectors
+    ensures sure { 3 ≤ side → side ≤ largest_side → 1 ≤ capacity → capacity ≤ most_tiles → sectors_asked (format_2 side capacity) ≤ sectors
         → IfErr result (λ r. (r ≡ Device) ⊎ (r ≡ NoMemory)) }
 {
     let Ok(mut disk) = MemDisk::new(alloc, sectors) else {

@@ -2,7 +2,7 @@
 use Rattle.std.specs.Prelude.{◌≡◌, ◌⊎◌, ◌<◌, ◌≤◌, ℕ, List, [], ◌++◌, codes, Option}
 use Rattle.disk.specs.FileDisk.{calls_of, failures_of, writes_of}
 use Rattle.disk.specs.declared.file.FileDisk.{FileDisk}
-use Rattle.lattice.specs.Limits.{most_tiles}
+use Rattle.lattice.specs.Limits.{largest_side, most_tiles}
 use Rattle.lattice.specs.declared.refusal.Refusal.TheVariants.{BadSide, BadCapacity}
 use Rattle.server.specs.Endings.{Tells, TellsRefusal}
 use Rattle.server.specs.declared.files.PathFault.{PathFault}
@@ -17,15 +17,15 @@ pub record IsUntouched {V : Type 0} (disk : FileDisk V) : Type 0 where
 -- a store of this side and capacity is made
 pub record IsTaken (side capacity : ℕ) : Type 0 where
   pub side_low : 3 ≤ side
-  pub side_high : side ≤ 3601
+  pub side_high : side ≤ largest_side
   pub capacity_low : 1 ≤ capacity
   pub capacity_high : capacity ≤ most_tiles
 
 -- no file of a store is made: the side is tested first, then the capacity, then the path
 abbrev pub MakesNone : (side capacity : ℕ) → PathFault → Type 0
 MakesNone side capacity fault =
-    (((side < 3) ⊎ (3601 < side)) × (fault ≡ Refused BadSide))
-    ⊎ ((3 ≤ side) × (side ≤ 3601) × ((capacity < 1) ⊎ (most_tiles < capacity)) × (fault ≡ Refused BadCapacity))
+    (((side < 3) ⊎ (largest_side < side)) × (fault ≡ Refused BadSide))
+    ⊎ ((3 ≤ side) × (side ≤ largest_side) × ((capacity < 1) ⊎ (most_tiles < capacity)) × (fault ≡ Refused BadCapacity))
     ⊎ (IsTaken side capacity × ((fault ≡ Exists) ⊎ (fault ≡ Closed)))
 
 -- a line tells why

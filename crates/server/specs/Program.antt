@@ -7,7 +7,7 @@ use Rattle.disk.specs.FileWorlds.{giving}
 use Rattle.disk.specs.declared.disk.Disk.{Ghosts}
 use Rattle.disk.specs.declared.file.FileDisk.{FileDisk}
 use Rattle.lattice.specs.Corners.{Corner}
-use Rattle.lattice.specs.Limits.{most_tiles}
+use Rattle.lattice.specs.Limits.{largest_side, most_tiles}
 use Rattle.lattice.specs.declared.refusal.Refusal.TheVariants.{Device, NoMemory, BadName, BadSide, BadCapacity}
 use Rattle.hgt.specs.Names.{IsFileName}
 use Rattle.page_codec.specs.Sizes.{sectors_asked}
@@ -38,8 +38,8 @@ EndsServing side capacity before after written new status =
 -- the side is tested first, then the capacity
 abbrev pub RunsTable : (side capacity : ℕ) → (before after written new : Option (List ℕ)) → ℕ → Type 0
 RunsTable side capacity before after written new status =
-    (((side < 3) ⊎ (3601 < side)) × TellsRefusal BadSide written new status)
-    ⊎ ((3 ≤ side) × (side ≤ 3601) × ((capacity < 1) ⊎ (most_tiles < capacity)) × TellsRefusal BadCapacity written new status)
+    (((side < 3) ⊎ (largest_side < side)) × TellsRefusal BadSide written new status)
+    ⊎ ((3 ≤ side) × (side ≤ largest_side) × ((capacity < 1) ⊎ (most_tiles < capacity)) × TellsRefusal BadCapacity written new status)
     ⊎ (IsTaken side capacity × EndsServing side capacity before after written new status)
 
 -- ---- on a file, whose reads give these images as time goes on

@@ -5,8 +5,10 @@ ghost use Rattle.std.specs.Option.{is_none};
 ghost use Rattle.disk.specs.Disk.{Image, HasRisen};
 ghost use Rattle.disk.specs.Stops.{AddsNothing};
 ghost use Rattle.lattice.specs.Corners.{same_corner};
+ghost use Rattle.lattice.specs.Limits.{largest_side, most_tiles};
 ghost use Rattle.lattice.specs.declared.refusal.Refusal.TheVariants.{Device, NoMemory, BadSide, BadCapacity, TooSmall};
 ghost use Rattle.layout.specs.Formats.{IsKnown, largest_side_of, number_of};
+ghost use Rattle.layout.specs.declared.version.Version.TheVariants.{One};
 ghost use Rattle.page_codec.specs.Sizes.{sectors_asked, sectors_of};
 ghost use Rattle.catalogue.specs.Tiles.{is_listed};
 ghost use Rattle.calls.specs.State.{Contents, State, fresh, fresh_1, working};
@@ -49,10 +51,10 @@ impl<D: Disk> Store<D> {
     /// Device, and then the disk may hold anything.
     pub fn format(disk: &mut D, side: u32, capacity: u32) -> Result<(), Refusal>
         ensures size { D.size disk.new ≡ D.size disk.old }
-        ensures bad_side { (result ≡ Err BadSide) ↔ ((side < 3) ⊎ (3601 < side)) }
-        ensures bad_capacity { (result ≡ Err BadCapacity) ↔ ((3 ≤ side) × (side ≤ 3601) × ((capacity < 1) ⊎ (240 < capacity))) }
+        ensures bad_side { (result ≡ Err BadSide) ↔ ((side < 3) ⊎ (largest_side < side)) }
+        ensures bad_capacity { (result ≡ Err BadCapacity) ↔ ((3 ≤ side) × (side ≤ largest_side) × ((capacity < 1) ⊎ (most_tiles < capacity))) }
         ensures too_small { (result ≡ Err TooSmall)
-            ↔ ((3 ≤ side) × (side ≤ 3601) × (1 ≤ capacity) × (capacity ≤ 240) × (D.size disk.old < sectors_asked (format_2 side capacity))) }
+            ↔ ((3 ≤ side) × (side ≤ largest_side) × (1 ≤ capacity) × (capacity ≤ most_tiles) × (D.size disk.old < sectors_asked (format_2 side capacity))) }
         ensures refused { IfErr result (λ r. (r ≡ BadSide) ⊎ ((r ≡ BadCapacity) ⊎ ((r ≡ TooSmall) ⊎ (r ≡ Device)))) }
         ensures untouched { IfErr result (λ r. r ≢ Device → disk.new ≡ disk.old) }
         ensures later { D.failures disk.old ≤ D.failures disk.new }
@@ -67,10 +69,10 @@ impl<D: Disk> Store<D> {
     /// Makes an empty store on a disk as [`Store::format`] does, by the first version, whose sides are 3 to 1201.
     pub fn format_1(disk: &mut D, side: u32, capacity: u32) -> Result<(), Refusal>
         ensures size { D.size disk.new ≡ D.size disk.old }
-        ensures bad_side { (result ≡ Err BadSide) ↔ ((side < 3) ⊎ (1201 < side)) }
-        ensures bad_capacity { (result ≡ Err BadCapacity) ↔ ((3 ≤ side) × (side ≤ 1201) × ((capacity < 1) ⊎ (240 < capacity))) }
+        ensures bad_side { (result ≡ Err BadSide) ↔ ((side < 3) ⊎ (largest_side_of One < side)) }
+        ensures bad_capacity { (result ≡ Err BadCapacity) ↔ ((3 ≤ side) × (side ≤ largest_side_of One) × ((capacity < 1) ⊎ (most_tiles < capacity))) }
         ensures too_small { (result ≡ Err TooSmall)
-            ↔ ((3 ≤ side) × (side ≤ 1201) × (1 ≤ capacity) × (capacity ≤ 240) × (D.size disk.old < sectors_of side capacity)) }
+            ↔ ((3 ≤ side) × (side ≤ largest_side_of One) × (1 ≤ capacity) × (capacity ≤ most_tiles) × (D.size disk.old < sectors_of side capacity)) }
         ensures refused { IfErr result (λ r. (r ≡ BadSide) ⊎ ((r ≡ BadCapacity) ⊎ ((r ≡ TooSmall) ⊎ (r ≡ Device)))) }
         ensures untouched { IfErr result (λ r. r ≢ Device → disk.new ≡ disk.old) }
         ensures later { D.failures disk.old ≤ D.failures disk.new }
@@ -233,9 +235,9 @@ fn format_as<D: Disk>(
     requires known { IsKnown version }
     ensures size { D.size disk.new ≡ D.size disk.old }
     ensures bad_side { (result ≡ Err BadSide) ↔ ((side < 3) ⊎ (largest_side_of version < side)) }
-    ensures bad_capacity { (result ≡ Err BadCapacity) ↔ ((3 ≤ side) × (side ≤ largest_side_of version) × ((capacity < 1) ⊎ (240 < capacity))) }
+    ensures bad_capacity { (result ≡ Err BadCapacity) ↔ ((3 ≤ side) × (side ≤ largest_side_of version) × ((capacity < 1) ⊎ (most_tiles < capacity))) }
     ensures too_small { (result ≡ Err TooSmall)
-        ↔ ((3 ≤ side) × (side ≤ largest_side_of version) × (1 ≤ capacity) × (capacity ≤ 240) × (D.size disk.old < sectors_asked (format_by version side capacity))) }
+        ↔ ((3 ≤ side) × (side ≤ largest_side_of version) × (1 ≤ capacity) × (capacity ≤ most_tiles) × (D.size disk.old < sectors_asked (format_by version side capacity))) }
     ensures refused { IfErr result (λ r. (r ≡ BadSide) ⊎ ((r ≡ BadCapacity) ⊎ ((r ≡ TooSmall) ⊎ (r ≡ Device)))) }
     ensures untouched { IfErr result (λ r. r ≢ Device → disk.new ≡ disk.old) }
     ensures later { D.failures disk.old ≤ D.failures disk.new }

@@ -5,6 +5,7 @@ use disk::{FuseDisk, Torn};
 use edits::Command;
 use memory_store::run_through_power_cut;
 use std::alloc::Global;
+use std::process::Abort;
 use std::test::Fail;
 use store::{Event, Reply};
 
@@ -40,13 +41,19 @@ fn has_what_was_done(alloc: Global, torn: Torn, calls: u64) -> Result<bool, Fail
     Ok(done <= found.count() && found.count() <= done.saturating_add(1))
 }
 
+// Cuts the session after each count of calls.
+fn check_cuts(rt: &impl Abort, alloc: Global, torn: Torn) -> Result<(), Fail> {
+    for calls in 0..CALLS_OF_SESSION {
+        let is_there = has_what_was_done(alloc, torn, calls)?;
+        assert_row(rt, is_there, "calls before a cut", calls);
+    }
+    Ok(())
+}
+
 #[test]
 fn what_was_answered_done_is_there_after_a_cut(rt: HostRuntime) -> Result<(), Fail> {
     for torn in [Torn::Old, Torn::New, Torn::Fill(0xa7)] {
-        for calls in 0..CALLS_OF_SESSION {
-            let is_there = has_what_was_done(rt.alloc(), torn, calls)?;
-            assert_row(&rt, is_there, "calls before a cut", calls);
-        }
+        check_cuts(&rt, rt.alloc(), torn)?;
     }
     Ok(())
 }

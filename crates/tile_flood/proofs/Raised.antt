@@ -17,6 +17,7 @@ use Rattle.lattice.specs.Mosaic.{Mosaic, Tile, IsMosaic, IsTile, is_present, voi
 use Rattle.lattice.specs.Height.{height_of, by_seam_rule, first_height, samples_at, sample_at}
 use Rattle.lattice.specs.Ground.{is_ground, metres, terrain}
 use Rattle.lattice.specs.Block.{AreHeightsOf, IsBlockOf, block_terrain, is_solid, is_rim, rim_number, is_exit, is_inner_outlet}
+use Rattle.lattice.specs.Limits.{largest_side}
 use Rattle.lattice.proofs.Levels.{height-le_level, ≤ℤ_same}
 use Rattle.lattice.proofs.Lawful.{terrain_is_lawful, block_is_lawful}
 use Rattle.tile_flood.specs.Labelling.{IsLabelling, OUT, NO_LABEL}
@@ -143,7 +144,7 @@ module _ (m : Mosaic) (is : IsMosaic m) (c : Corner) (present : IsTrue (is_prese
     by_rim : IsTrue (is_rim m.side r) → slice_index labels e ≡ rim_number m.side r → IsRaised e
     by_rim on_rim label =
         let low : 3 ≤ m.side = is.side_low in
-        let high : m.side ≤ 3601 = is.side_high in
+        let high : m.side ≤ largest_side = is.side_high in
         let small : rim_number m.side r < 4 * (m.side - 1) = rim_number_below m.side r low (solid_below m.side heights r solid_r) in
         let some : slice_index labels e ≢ NO_LABEL = λ same. absurd (omega arith) in
         let inner : slice_index labels e ≢ OUT = λ same. absurd (omega arith) in

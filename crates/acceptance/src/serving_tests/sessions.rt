@@ -57,59 +57,60 @@ fn served<R: Read>(
     Ok((served, output))
 }
 
+const IMPORTS_AND_ENDS: [Row; 8] = [
+    // An import.
+    (
+        3,
+        4,
+        b"import N00E000 18\n$Aelev 0 2\nelev 2 0\nexport N00E000\n",
+        b"OK 1\nOK 5\nOK 9\nOK 18\n$A",
+    ),
+    // A full mosaic.
+    (
+        3,
+        1,
+        b"import N00E000 18\n$Aimport N00E001 18\n$Aimport N00E000 18\n$A",
+        b"OK 1\nERR 6 Full\nERR 4 TileThere\n",
+    ),
+    // Payloads of other lengths.
+    (
+        3,
+        4,
+        b"import S01W001 17\n0123456789abcdefgcount\n",
+        b"ERR 3 BadLength\nOK 0\n",
+    ),
+    (3, 4, b"import S01W001 18\n0123456789", b"ERR 3 BadLength\n"),
+    (
+        3,
+        4,
+        b"import X 6\ncount\ncount\n",
+        b"ERR 2 BadName\nOK 0\n",
+    ),
+    (
+        3,
+        4,
+        b"import X 1234567890\ncount\n",
+        b"ERR 1 BadLine\nOK 0\n",
+    ),
+    // Voids and quit.
+    (
+        3,
+        4,
+        b"import n00e000 18\r\n$Velev 1 1\nquit\ncount\n",
+        b"OK 1\nOK void\nOK\n",
+    ),
+    // A store is served.
+    (
+        3,
+        2,
+        b"import N00E000 18\n$Aelev 0 2\nelev 5 5\nhello\nimport N00E000 18\n$Acount\nexport N00E000\n",
+        b"OK 1\nOK 5\nERR 7 Outside\nERR 1 BadLine\nERR 4 TileThere\nOK 1\nOK 18\n$A",
+    ),
+];
+
 #[test]
 fn imports_and_ends(rt: HostRuntime) -> Result<(), Fail> {
-    let rows: [Row; 8] = [
-        // An import.
-        (
-            3,
-            4,
-            b"import N00E000 18\n$Aelev 0 2\nelev 2 0\nexport N00E000\n",
-            b"OK 1\nOK 5\nOK 9\nOK 18\n$A",
-        ),
-        // A full mosaic.
-        (
-            3,
-            1,
-            b"import N00E000 18\n$Aimport N00E001 18\n$Aimport N00E000 18\n$A",
-            b"OK 1\nERR 6 Full\nERR 4 TileThere\n",
-        ),
-        // Payloads of other lengths.
-        (
-            3,
-            4,
-            b"import S01W001 17\n0123456789abcdefgcount\n",
-            b"ERR 3 BadLength\nOK 0\n",
-        ),
-        (3, 4, b"import S01W001 18\n0123456789", b"ERR 3 BadLength\n"),
-        (
-            3,
-            4,
-            b"import X 6\ncount\ncount\n",
-            b"ERR 2 BadName\nOK 0\n",
-        ),
-        (
-            3,
-            4,
-            b"import X 1234567890\ncount\n",
-            b"ERR 1 BadLine\nOK 0\n",
-        ),
-        // Voids and quit.
-        (
-            3,
-            4,
-            b"import n00e000 18\r\n$Velev 1 1\nquit\ncount\n",
-            b"OK 1\nOK void\nOK\n",
-        ),
-        // A store is served.
-        (
-            3,
-            2,
-            b"import N00E000 18\n$Aelev 0 2\nelev 5 5\nhello\nimport N00E000 18\n$Acount\nexport N00E000\n",
-            b"OK 1\nOK 5\nERR 7 Outside\nERR 1 BadLine\nERR 4 TileThere\nOK 1\nOK 18\n$A",
-        ),
-    ];
-    check_rows(&rt, rt.alloc(), &rows)
+    check_rows(&rt, rt.alloc(), &IMPORTS_AND_ENDS)
 }
 
 const SESSION: &[u8] =

@@ -14,7 +14,7 @@ returns-in_default-clause-refused g c = λ capacity honest _.
     let m = g.S.Samples.mosaic c.args.samples.now in
     let from = c.args.from in
     let to = c.args.to in
-    let in_range = height_in c.args.height (to_z w32 (of_z w32 c.args.height)) (to_z-of_z w32 c.args.height c.ranges.height) c.if-height-lt-LOWEST.false c.if-height-gt32767.false in
+    let in_range = height_in c.args.height (to_z w32 (of_z w32 c.args.height)) (to_z-of_z w32 c.args.height c.ranges.height) c.if-height-lt-LOWEST.false c.if-height-gt-HIGHEST.false in
     let side = c.side.ensures ∙ sym (g.met.S.Samples.same_side c.args.samples.now honest) in
     bad_box capacity m from to c.args.height in_range (subst (λ n. is_box n from to ≡ false) side c.in_default.ensures.none)
 
@@ -26,7 +26,7 @@ returns-then-is_empty-clause-refused g c = λ capacity honest _.
     let was = c.in_ok-changes.ensures.reads.honest honest in
     let same_side = g.met.S.Samples.same_side c.args.samples.now was in
     let size = c.in-Some.ensures.some in
-    let in_range = height_in c.args.height (to_z w32 (of_z w32 c.args.height)) (to_z-of_z w32 c.args.height c.ranges.height) c.if-height-lt-LOWEST.false c.if-height-gt32767.false in
+    let in_range = height_in c.args.height (to_z w32 (of_z w32 c.args.height)) (to_z-of_z w32 c.args.height c.ranges.height) c.if-height-lt-LOWEST.false c.if-height-gt-HIGHEST.false in
     let box = subst (λ n. is_box n from to ≡ true) (c.side.ensures ∙ sym same_side) size.0 in
     let s = to_z w16 (of_z w16 (to_z w32 (of_z w32 c.args.height))) in
     let items = c.in_ok-changes.changes.items in
@@ -43,7 +43,7 @@ returns-clause-changes g c = λ capacity honest.
     let was = c.in_ok-changes.ensures.reads.honest honest in
     let same_side = g.met.S.Samples.same_side c.args.samples.now was in
     let size = c.in-Some.ensures.some in
-    let in_range = height_in c.args.height (to_z w32 (of_z w32 c.args.height)) (to_z-of_z w32 c.args.height c.ranges.height) c.if-height-lt-LOWEST.false c.if-height-gt32767.false in
+    let in_range = height_in c.args.height (to_z w32 (of_z w32 c.args.height)) (to_z-of_z w32 c.args.height c.ranges.height) c.if-height-lt-LOWEST.false c.if-height-gt-HIGHEST.false in
     let box = subst (λ n. is_box n from to ≡ true) (c.side.ensures ∙ sym same_side) size.0 in
     let s = to_z w16 (of_z w16 (to_z w32 (of_z w32 c.args.height))) in
     let small : SFits w16 c.args.height = search rules in

@@ -1,4 +1,5 @@
 use Rattle.std.proofs.Common.{◌<◌, length, arith, sym, ◌∙◌}
+use Rattle.lattice.specs.Limits.{most_tiles}
 use Rattle.charts.specs.Slots.{staged_tile}
 use Rattle.charts.proofs.Listing.{located_more, located_same, located_room}
 use Rattle.charts.proofs.Lookup.{is_some_alike}
@@ -8,7 +9,7 @@ use Rattle.charts.proofs.chart.Chart.corners.Goals.{then-is_some, else-is_some}
 pub push-requires : goal.push-requires
 push-requires c =
     let there = sym (is_some_alike c.heights.result (staged_tile c.slot-item.result) c.heights.ensures) ∙ (sym c.is_some.ensures ∙ c.if-is_some.true) in
-    let room : length c.loop-slot.corners.items < 240 =
+    let room : length c.loop-slot.corners.items < most_tiles =
     located_room c.self.inside.slots.items c.loop-slot.slot-index c.slot-item.result (rw c.deref-slot-items.ensures.value at c.loop-slot-test.true) (rw c.deref-slot-items.ensures.value at c.slot-item.is)
     c.loop-slot.corners.items (rw c.deref-slot-items.ensures.value at c.loop-slot.invariant) there (omega (arith, c.self.invariant.staged_room, c.self.invariant.few)) in
     (omega arith, room)

@@ -1,6 +1,7 @@
 use Rattle.std.proofs.Common.{◌≡◌, ◌<◌, ◌++◌, ◌∷◌, [], List, length, arith, ap, sym, ◌∙◌, true, false, cond}
 use Rattle.std.specs.Prelude.{filter}
 use Rattle.std.proofs.lemmas.List.{take_all, append-nil}
+use Rattle.lattice.specs.Limits.{most_tiles}
 use Rattle.charts.specs.declared.slot.Slot.{Slot}
 use Rattle.charts.specs.Charts.{ChartValue, corners_of_locations, is_changed, fresh_corners}
 use Rattle.charts.specs.Slots.{staged_tiles, committed_tiles, stages_heights, IsKept}
@@ -14,7 +15,7 @@ loop-slot-init c = c.new-corners.ensures
 pub push-requires : goal.push-requires
 push-requires c =
     let kept : IsKept c.self.inside.format c.deref-slot-items.result.now c.self.inside.free = rw c.deref-slot-items.ensures.value c.self.invariant in
-    let room : length c.loop-slot.corners.items < 240 =
+    let room : length c.loop-slot.corners.items < most_tiles =
     corners_room c.self.inside.format c.deref-slot-items.result.now c.self.inside.free kept c.loop-slot.slot-index c.slot-item.result c.loop-slot-test.true c.slot-item.is
     c.loop-slot.corners.items c.loop-slot.invariant (sym c.stages_heights.ensures ∙ c.if-stages_heights.true) in
     (omega arith, room)
