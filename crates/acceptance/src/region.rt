@@ -37,10 +37,11 @@ pub(crate) fn points_around(
 ) -> Result<Vec<Point>, AllocError> {
     let edge = side.edge() as i32;
     let north_west = point_at(side, middle, 0);
+    let (west, east) = (-edge - 1, 2 * edge + 2);
     let mut points = Vec::new(alloc);
     for row in -2 * edge - 1..edge + 2 {
         let y = north_west.y.saturating_add(row);
-        extend_row(&mut points, y, north_west.x, -edge - 1..2 * edge + 2)?;
+        extend_row(&mut points, y, north_west.x, west..east)?;
     }
     Ok(points)
 }
