@@ -7,6 +7,7 @@ use sessions::{tile, written};
 use std::alloc::{AllocError, Global};
 use std::fs;
 use std::marker::Brand;
+use std::process::Abort;
 use std::test::Fail;
 use store::Store;
 
@@ -41,6 +42,13 @@ fn ends(rt: &HostRuntime, words: &[&str], input: &[u8], status: u8, wanted: &[u8
     ended == status && output.as_slice() == wanted
 }
 
+/// Ends the test where one of these doesn't hold, and says which.
+fn assert_all(rt: &impl Abort, all: &[bool], what: &str) {
+    for (row, holds) in all.iter().enumerate() {
+        assert!(rt; *holds, "{what}, {row}");
+    }
+}
+
 /// A path at which there is nothing.
 fn cleared<'a>(rt: &HostRuntime, path: &'a str) -> &'a str {
     let _ = fs::remove_file(rt, path);
@@ -55,16 +63,19 @@ fn a_store_on_a_file(rt: HostRuntime) -> Result<(), Fail> {
     fs::write(&rt, tile, TILE)?;
     assert!(rt; ends(&rt, &["format", m, "3", "2"], b"", 0, b"OK 0\n"));
     assert_eq!(rt; fs::metadata(&rt, m)?.len(), 139_264);
-    assert!(rt; ends(&rt, &["import", m, tile], b"", 0, b"OK 1\n"));
-    assert!(rt; ends(&rt, &["import", m, tile], b"", 1, b"ERR 4 TileThere\n"));
     let report = b"count 1 commits 2\nN00E000 stale\nseams 0\n";
-    assert!(rt; ends(&rt, &["check", m], b"", 0, report));
     let exists = b"mosaic: exists server_test_m\n";
-    assert!(rt; ends(&rt, &["format", m, "3", "2"], b"", 1, exists));
-    assert!(rt; ends(&rt, &["format", x, "2", "1"], b"", 1, b"ERR 32 BadSide\n"));
-    assert!(rt; fs::metadata(&rt, x).is_err());
-    assert!(rt; ends(&rt, &["import", m, "A.hgt"], b"", 1, b"ERR 2 BadName\n"));
-    assert!(rt; ends(&rt, &["serve", m], b"elev 0 2\ncount\n", 0, b"OK 5\nOK 1\n"));
+    let all = [
+        ends(&rt, &["import", m, tile], b"", 0, b"OK 1\n"),
+        ends(&rt, &["import", m, tile], b"", 1, b"ERR 4 TileThere\n"),
+        ends(&rt, &["check", m], b"", 0, report),
+        ends(&rt, &["format", m, "3", "2"], b"", 1, exists),
+        ends(&rt, &["format", x, "2", "1"], b"", 1, b"ERR 32 BadSide\n"),
+        fs::metadata(&rt, x).is_err(),
+        ends(&rt, &["import", m, "A.hgt"], b"", 1, b"ERR 2 BadName\n"),
+        ends(&rt, &["serve", m], b"elev 0 2\ncount\n", 0, b"OK 5\nOK 1\n"),
+    ];
+    assert_all(&rt, &all, "a store on a file");
     fs::remove_file(&rt, m)?;
     fs::remove_file(&rt, tile)?;
     Ok(())
@@ -73,20 +84,21 @@ fn a_store_on_a_file(rt: HostRuntime) -> Result<(), Fail> {
 #[test]
 fn stores_that_are_not_made(rt: HostRuntime) {
     let x = cleared(&rt, "server_test_x");
-    assert!(rt; ends(&rt, &["format", x, "2", "1"], b"", 1, b"ERR 32 BadSide\n"));
-    assert!(rt;
+    let refused = b"ERR 33 BadCapacity\n";
+    let all = [
+        ends(&rt, &["format", x, "2", "1"], b"", 1, b"ERR 32 BadSide\n"),
         ends(
             &rt,
             &["format", x, "3602", "1"],
             b"",
             1,
-            b"ERR 32 BadSide\n"
-        )
-    );
-    let refused = b"ERR 33 BadCapacity\n";
-    assert!(rt; ends(&rt, &["format", x, "3", "241"], b"", 1, refused));
-    assert!(rt; fs::metadata(&rt, x).is_err());
-    assert!(rt; ends(&rt, &["import", x, "A.hgt"], b"", 1, b"ERR 2 BadName\n"));
+            b"ERR 32 BadSide\n",
+        ),
+        ends(&rt, &["format", x, "3", "241"], b"", 1, refused),
+        fs::metadata(&rt, x).is_err(),
+        ends(&rt, &["import", x, "A.hgt"], b"", 1, b"ERR 2 BadName\n"),
+    ];
+    assert_all(&rt, &all, "stores that are not made");
 }
 
 #[test]
@@ -96,15 +108,21 @@ fn seams_of_a_file(rt: HostRuntime) -> Result<(), Fail> {
     let east = "N00E001.hgt";
     fs::write(&rt, west, tile(b'G'))?;
     fs::write(&rt, east, tile(b'H'))?;
-    assert!(rt; ends(&rt, &["format", m, "3", "4"], b"", 0, b"OK 0\n"));
-    assert!(rt; ends(&rt, &["check", m], b"", 0, b"count 0 commits 1\nseams 0\n"));
-    assert!(rt; ends(&rt, &["import", m, west], b"", 0, b"OK 1\n"));
-    assert!(rt; ends(&rt, &["import", m, east], b"", 0, b"OK 2\n"));
     let lines = b"elev 1 2\nexport N00E000\nexport N00E001\n";
+    let all = [
+        ends(&rt, &["format", m, "3", "4"], b"", 0, b"OK 0\n"),
+        ends(&rt, &["check", m], b"", 0, b"count 0 commits 1\nseams 0\n"),
+        ends(&rt, &["import", m, west], b"", 0, b"OK 1\n"),
+        ends(&rt, &["import", m, east], b"", 0, b"OK 2\n"),
+    ];
+    assert_all(&rt, &all, "tiles with a seam");
     let replies = written(rt.alloc(), b"OK 7\nOK 18\n$GOK 18\n$H")?;
-    assert!(rt; ends(&rt, &["serve", m], lines, 0, &replies));
     let report = b"count 2 commits 3\nN00E000 stale\nN00E001 stale\nseams 1\n";
-    assert!(rt; ends(&rt, &["check", m], b"", 0, report));
+    let all = [
+        ends(&rt, &["serve", m], lines, 0, &replies),
+        ends(&rt, &["check", m], b"", 0, report),
+    ];
+    assert_all(&rt, &all, "seams of a file");
     let lines = b"remove N00E000\nelev 1 2\n";
     assert!(rt; ends(&rt, &["serve", m], lines, 0, b"OK 3\nOK 8\n"));
     fs::remove_file(&rt, m)?;
@@ -114,37 +132,54 @@ fn seams_of_a_file(rt: HostRuntime) -> Result<(), Fail> {
 }
 
 #[test]
-fn files_that_are_none(rt: HostRuntime) -> Result<(), Fail> {
+fn a_path_with_no_file(rt: HostRuntime) -> Result<(), Fail> {
     let m = cleared(&rt, "server_test_none");
     let tile = "S01W001.hgt";
     fs::write(&rt, tile, TILE)?;
     let missing = b"mosaic: cannot open server_test_none\n";
-    assert!(rt; ends(&rt, &["serve", m], b"count\n", 1, missing));
-    assert!(rt; ends(&rt, &["check", m], b"", 1, missing));
-    assert!(rt; ends(&rt, &["import", m, tile], b"", 1, missing));
+    let below = "server_test_none/m";
     let folder = b"mosaic: cannot open server_test_none/m\n";
-    assert!(rt;
-        ends(
-            &rt,
-            &["format", "server_test_none/m", "3", "1"],
-            b"",
-            1,
-            folder
-        )
-    );
+    let all = [
+        ends(&rt, &["serve", m], b"count\n", 1, missing),
+        ends(&rt, &["check", m], b"", 1, missing),
+        ends(&rt, &["import", m, tile], b"", 1, missing),
+        ends(&rt, &["format", below, "3", "1"], b"", 1, folder),
+    ];
+    assert_all(&rt, &all, "a path with no file");
+    fs::remove_file(&rt, tile)?;
+    Ok(())
+}
+
+#[test]
+fn a_file_that_is_no_store(rt: HostRuntime) -> Result<(), Fail> {
+    let m = "server_test_no_store";
     fs::File::create(&rt, m)?.set_len(65_536)?;
     let refused = b"ERR 30 NotAStore\n";
-    assert!(rt; ends(&rt, &["serve", m], b"count\n", 1, refused));
-    assert!(rt; ends(&rt, &["check", m], b"", 1, refused));
-    assert!(rt; ends(&rt, &["import", m, "N05E005.hgt"], b"", 1, refused));
+    let all = [
+        ends(&rt, &["serve", m], b"count\n", 1, refused),
+        ends(&rt, &["check", m], b"", 1, refused),
+        ends(&rt, &["import", m, "N05E005.hgt"], b"", 1, refused),
+    ];
+    assert_all(&rt, &all, "a file that is no store");
     fs::remove_file(&rt, m)?;
-    assert!(rt; ends(&rt, &["format", m, "3", "1"], b"", 0, b"OK 0\n"));
+    Ok(())
+}
+
+#[test]
+fn a_tile_of_another_length(rt: HostRuntime) -> Result<(), Fail> {
+    let m = cleared(&rt, "server_test_length");
+    let tile = "S02W002.hgt";
     let unread = b"mosaic: cannot read N05E005.hgt\n";
-    assert!(rt; ends(&rt, &["import", m, "N05E005.hgt"], b"", 1, unread));
+    let all = [
+        ends(&rt, &["format", m, "3", "1"], b"", 0, b"OK 0\n"),
+        ends(&rt, &["import", m, "N05E005.hgt"], b"", 1, unread),
+    ];
+    assert_all(&rt, &all, "a tile with no file");
     fs::write(&rt, tile, &TILE[..17])?;
-    assert!(rt; ends(&rt, &["import", m, tile], b"", 1, b"ERR 3 BadLength\n"));
+    let is_short = ends(&rt, &["import", m, tile], b"", 1, b"ERR 3 BadLength\n");
     fs::File::create(&rt, tile)?.set_len(1_000_000)?;
-    assert!(rt; ends(&rt, &["import", m, tile], b"", 1, b"ERR 3 BadLength\n"));
+    let is_long = ends(&rt, &["import", m, tile], b"", 1, b"ERR 3 BadLength\n");
+    assert_all(&rt, &[is_short, is_long], "a tile of another length");
     fs::remove_file(&rt, m)?;
     fs::remove_file(&rt, tile)?;
     Ok(())
@@ -182,9 +217,12 @@ fn a_real_tile_comes_back(rt: HostRuntime) -> Result<(), Fail> {
     wanted.extend_from_slice(b"OK 2884802\n")?;
     wanted.extend_from_slice(&bytes)?;
     fs::write(&rt, tile, &bytes)?;
-    assert!(rt; ends(&rt, &["format", m, "1201", "1"], b"", 0, b"OK 0\n"));
-    assert!(rt; ends(&rt, &["import", m, tile], b"", 0, b"OK 1\n"));
-    assert!(rt; ends(&rt, &["serve", m], b"export N01E002\n", 0, &wanted));
+    let all = [
+        ends(&rt, &["format", m, "1201", "1"], b"", 0, b"OK 0\n"),
+        ends(&rt, &["import", m, tile], b"", 0, b"OK 1\n"),
+        ends(&rt, &["serve", m], b"export N01E002\n", 0, &wanted),
+    ];
+    assert_all(&rt, &all, "a real tile comes back");
     fs::remove_file(&rt, m)?;
     fs::remove_file(&rt, tile)?;
     Ok(())
@@ -192,18 +230,19 @@ fn a_real_tile_comes_back(rt: HostRuntime) -> Result<(), Fail> {
 
 #[test]
 fn programs(rt: HostRuntime) {
-    assert!(rt; ends(&rt, &["table", "3", "1"], b"count\n", 0, b"OK 0\n"));
-    assert!(rt; ends(&rt, &["table", "2", "0"], b"", 1, b"ERR 32 BadSide\n"));
-    assert!(rt; ends(&rt, &["table", "3602", "1"], b"", 1, b"ERR 32 BadSide\n"));
-    assert!(rt;
+    let all = [
+        ends(&rt, &["table", "3", "1"], b"count\n", 0, b"OK 0\n"),
+        ends(&rt, &["table", "2", "0"], b"", 1, b"ERR 32 BadSide\n"),
+        ends(&rt, &["table", "3602", "1"], b"", 1, b"ERR 32 BadSide\n"),
         ends(
             &rt,
             &["table", "1201", "241"],
             b"",
             1,
-            b"ERR 33 BadCapacity\n"
-        )
-    );
+            b"ERR 33 BadCapacity\n",
+        ),
+    ];
+    assert_all(&rt, &all, "programs");
     for words in [
         ["table", "3"].as_slice(),
         &["help"],
@@ -230,12 +269,18 @@ fn a_file_is_upgraded(rt: HostRuntime) -> Result<(), Fail> {
     let mut disk = FileDisk::<Brand>::create(&rt, m, 16)?;
     Store::format_1(&mut disk, 3, 1).map_err(|_| "not formatted")?;
     drop(disk);
-    assert!(rt; ends(&rt, &["import", m, tile], b"", 0, b"OK 1\n"));
-    assert!(rt; ends(&rt, &["upgrade", m], b"", 0, b"OK 1\n"));
+    let all = [
+        ends(&rt, &["import", m, tile], b"", 0, b"OK 1\n"),
+        ends(&rt, &["upgrade", m], b"", 0, b"OK 1\n"),
+    ];
+    assert_all(&rt, &all, "an upgrade");
     assert_eq!(rt; fs::metadata(&rt, m)?.len(), 90_112);
     let report = b"count 1 commits 3\nN00E000 stale\nseams 0\n";
-    assert!(rt; ends(&rt, &["check", m], b"", 0, report));
-    assert!(rt; ends(&rt, &["upgrade", m], b"", 1, b"ERR 35 NotOld\n"));
+    let all = [
+        ends(&rt, &["check", m], b"", 0, report),
+        ends(&rt, &["upgrade", m], b"", 1, b"ERR 35 NotOld\n"),
+    ];
+    assert_all(&rt, &all, "what was upgraded");
     fs::remove_file(&rt, m)?;
     fs::remove_file(&rt, tile)?;
     Ok(())

@@ -1,7 +1,7 @@
 //! Sessions of lines on files of stores. In their texts `$` and a letter stand for the bytes of a tile: two for each
 //! sample, the higher first, rows from the north.
-use super::{cleared, ends};
-use std::alloc::Global;
+use super::{assert_all, cleared, ends};
+use std::alloc::{AllocError, Global};
 use std::fs;
 use std::test::Fail;
 
@@ -26,7 +26,7 @@ pub(super) fn tile(letter: u8) -> &'static [u8] {
 }
 
 /// The bytes that the text stands for.
-pub(super) fn written(alloc: Global, text: &[u8]) -> Result<Vec<u8>, Fail> {
+pub(super) fn written(alloc: Global, text: &[u8]) -> Result<Vec<u8>, AllocError> {
     let mut bytes = Vec::new(alloc);
     let mut is_tile = false;
     for byte in text {
@@ -41,21 +41,26 @@ pub(super) fn written(alloc: Global, text: &[u8]) -> Result<Vec<u8>, Fail> {
 }
 
 /// Whether `serve` replies so on the file of a store.
-fn serves(rt: &HostRuntime, path: &str, session: &[u8], replies: &[u8]) -> Result<bool, Fail> {
-    let input = written(rt.alloc(), session)?;
-    Ok(ends(rt, &["serve", path], &input, 0, replies))
+fn serves(rt: &HostRuntime, path: &str, session: &[u8], replies: &[u8]) -> bool {
+    match written(rt.alloc(), session) {
+        Ok(input) => ends(rt, &["serve", path], &input, 0, replies),
+        Err(_) => false,
+    }
 }
 
 #[test]
 fn steps_keep_two_tiles(rt: HostRuntime) -> Result<(), Fail> {
     let m = cleared(&rt, "server_test_steps");
-    assert!(rt; ends(&rt, &["format", m, "3", "4"], b"", 0, b"OK 0\n"));
     let session =
         b"import N00E000 18\n$Gstep\nstep\nimport N00E001 18\n$Hstep\nstep\nstep\ncount\n";
     let replies = b"OK 1\nOK N00E000\nOK none\nOK 2\nOK N00E000\nOK N00E001\nOK none\nOK 2\n";
-    assert!(rt; serves(&rt, m, session, replies)?);
     let report = b"count 2 commits 6\nN00E000 fresh\nN00E001 fresh\nseams 1\n";
-    assert!(rt; ends(&rt, &["check", m], b"", 0, report));
+    let all = [
+        ends(&rt, &["format", m, "3", "4"], b"", 0, b"OK 0\n"),
+        serves(&rt, m, session, replies),
+        ends(&rt, &["check", m], b"", 0, report),
+    ];
+    assert_all(&rt, &all, "steps keep two tiles");
     fs::remove_file(&rt, m)?;
     Ok(())
 }
@@ -63,15 +68,18 @@ fn steps_keep_two_tiles(rt: HostRuntime) -> Result<(), Fail> {
 #[test]
 fn a_wall_leaves_far_tiles_fresh(rt: HostRuntime) -> Result<(), Fail> {
     let m = cleared(&rt, "server_test_wall");
-    assert!(rt; ends(&rt, &["format", m, "3", "4"], b"", 0, b"OK 0\n"));
     let session =
         b"import N00E000 18\n$Bimport N00E001 18\n$Dimport N00E002 18\n$Dimport N00E003 18\n$Cstep\nstep\nstep\nstep\nstep\nfill 1 1\nwall 5 1 8\nfill 1 1\n";
     let replies =
         b"OK 1\nOK 2\nOK 3\nOK 4\nOK N00E000\nOK N00E001\nOK N00E002\nOK N00E003\nOK none\nOK 3\nOK 5\nOK 5\n";
-    assert!(rt; serves(&rt, m, session, replies)?);
     let report =
         b"count 5 commits 10\nN00E000 fresh\nN00E001 fresh\nN00E002 stale\nN00E003 stale\nseams 0\n";
-    assert!(rt; ends(&rt, &["check", m], b"", 0, report));
+    let all = [
+        ends(&rt, &["format", m, "3", "4"], b"", 0, b"OK 0\n"),
+        serves(&rt, m, session, replies),
+        ends(&rt, &["check", m], b"", 0, report),
+    ];
+    assert_all(&rt, &all, "a wall leaves far tiles fresh");
     fs::remove_file(&rt, m)?;
     Ok(())
 }
@@ -79,15 +87,18 @@ fn a_wall_leaves_far_tiles_fresh(rt: HostRuntime) -> Result<(), Fail> {
 #[test]
 fn a_sink_outlasts_its_tile(rt: HostRuntime) -> Result<(), Fail> {
     let m = cleared(&rt, "server_test_sink");
-    assert!(rt; ends(&rt, &["format", m, "3", "4"], b"", 0, b"OK 0\n"));
     let session =
         b"import N00E000 18\n$Asink 1 1\nfill 1 1\ndir 1 1\ndir 0 2\ndir 0 1\nwatershed 1 1\nsink 1 1\nsink 5 5\nremove N00E000\n";
     let replies =
         b"OK 1\nOK 2\nOK 1\nOK 0\nOK 32\nOK 64\nOK 9 3\n2 0 2\n1 0 2\n0 0 2\nERR 15 SinkThere\nERR 7 Outside\nOK 3\n";
-    assert!(rt; serves(&rt, m, session, replies)?);
+    let all = [
+        ends(&rt, &["format", m, "3", "4"], b"", 0, b"OK 0\n"),
+        serves(&rt, m, session, replies),
+    ];
+    assert_all(&rt, &all, "a sink outlasts its tile");
     let session = b"sinks\nimport N00E000 18\n$Afill 1 1\nunsink 1 1\nfill 1 1\nunsink 1 1\n";
     let replies = b"OK 1\n1 1\nOK 4\nOK 1\nOK 5\nOK 5\nERR 17 NoSink\n";
-    assert!(rt; serves(&rt, m, session, replies)?);
+    assert!(rt; serves(&rt, m, session, replies));
     fs::remove_file(&rt, m)?;
     Ok(())
 }
@@ -95,9 +106,12 @@ fn a_sink_outlasts_its_tile(rt: HostRuntime) -> Result<(), Fail> {
 #[test]
 fn no_sink_in_a_void(rt: HostRuntime) -> Result<(), Fail> {
     let m = cleared(&rt, "server_test_void");
-    assert!(rt; ends(&rt, &["format", m, "3", "4"], b"", 0, b"OK 0\n"));
     let session = b"import N00E000 18\n$Vsink 1 1\n";
-    assert!(rt; serves(&rt, m, session, b"OK 1\nERR 8 Void\n")?);
+    let all = [
+        ends(&rt, &["format", m, "3", "4"], b"", 0, b"OK 0\n"),
+        serves(&rt, m, session, b"OK 1\nERR 8 Void\n"),
+    ];
+    assert_all(&rt, &all, "no sink in a void");
     fs::remove_file(&rt, m)?;
     Ok(())
 }
@@ -105,12 +119,15 @@ fn no_sink_in_a_void(rt: HostRuntime) -> Result<(), Fail> {
 #[test]
 fn sixteen_sinks(rt: HostRuntime) -> Result<(), Fail> {
     let m = cleared(&rt, "server_test_sinks");
-    assert!(rt; ends(&rt, &["format", m, "5", "4"], b"", 0, b"OK 0\n"));
     let session =
         b"import N00E000 50\n$Nsink 0 0\nsink 0 1\nsink 0 2\nsink 0 3\nsink 1 0\nsink 1 1\nsink 1 2\nsink 1 3\nsink 2 0\nsink 2 1\nsink 2 2\nsink 2 3\nsink 3 0\nsink 3 1\nsink 3 2\nsink 3 3\nsink 4 4\nsink 0 0\n";
     let replies =
         b"OK 1\nOK 2\nOK 3\nOK 4\nOK 5\nOK 6\nOK 7\nOK 8\nOK 9\nOK 10\nOK 11\nOK 12\nOK 13\nOK 14\nOK 15\nOK 16\nOK 17\nERR 16 SinksFull\nERR 15 SinkThere\n";
-    assert!(rt; serves(&rt, m, session, replies)?);
+    let all = [
+        ends(&rt, &["format", m, "5", "4"], b"", 0, b"OK 0\n"),
+        serves(&rt, m, session, replies),
+    ];
+    assert_all(&rt, &all, "sixteen sinks");
     fs::remove_file(&rt, m)?;
     Ok(())
 }
