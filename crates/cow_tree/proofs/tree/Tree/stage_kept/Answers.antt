@@ -1,4 +1,4 @@
-use Rattle.std.proofs.Common.{◌≡◌, ℕ, ◌≤◌, ◌*◌, List, length, Some, refl, sym, ap, ◌∙◌, subst, arith, Err, inl, inr}
+use Rattle.std.proofs.Common.{◌≡◌, ℕ, ◌≤◌, ◌*◌, List, length, Some, refl, sym, ap, ◌∙◌, subst, arith}
 use Rattle.disk.specs.Stops.{weaker}
 use Rattle.page_codec.specs.Formats.{Format}
 use Rattle.page_codec.specs.Roots.{format_of}
@@ -9,13 +9,9 @@ use Rattle.charts.proofs.Room.{kept_few}
 use Rattle.cow_tree.specs.Kept.{AreFreshKept, planes_of_bytes}
 use Rattle.cow_tree.specs.Layout.{HaveKeptRecords, StoresAt, Stands}
 use Rattle.cow_tree.specs.Staged.{pages_due}
-use Rattle.std.proofs.lemmas.Result.{err_from_is_err_and}
-use Rattle.lattice.specs.declared.refusal.Refusal.{Refusal}
-use Rattle.lattice.specs.declared.refusal.Refusal.TheVariants.{NoMemory}
-use Rattle.cow_tree.proofs.ReadOnly.{handed_on, refused_so, not_device}
 use Rattle.cow_tree.proofs.KeptDrops.{other_corners, other_due}
 use Rattle.cow_tree.proofs.KeptStaging.{some_kept, fresh_kept, kept_staged, kept_stays}
-use Rattle.cow_tree.proofs.Steps.{stands, stores_along, ok_where_works, on_ok, on_ok_both, only_device}
+use Rattle.cow_tree.proofs.Steps.{stands, stores_along, ok_where_works, on_ok, on_ok_both}
 use Rattle.cow_tree.proofs.tree.Tree.stage_kept.Goals as goal
 use Rattle.cow_tree.proofs.tree.Tree.stage_kept.Goals.{In-Some}
 
@@ -116,30 +112,3 @@ returns-clause-any_moment g c honest s is =
     (λ image stores. stands size before.roots.root committed s image stores)
     (c.write_kept.ensures.writes.any_moment honest is.ready s
     (λ image may. subst (λ (tiles : List TileLocation). StoresAt size before.roots.root tiles s image) (sym same) (is.each image may)))
-
-pub returns-in_err-keep-clause-refused : goal.returns-in_err-keep-clause-refused
-returns-in_err-keep-clause-refused g c =
-    let p = err_from_is_err_and c.from_residual.result c.from_residual.ensures.1 in
-    let ended : c.from_residual.result ≡ Err NoMemory = p.1 ∙ ap (λ (r : Refusal). Err r) (p.2 ∙ c.in_err-keep.ensures.refused) in
-    handed_on _ c.from_residual.result NoMemory ended (inr refl)
-
-pub returns-in_err-keep-clause-cause : goal.returns-in_err-keep-clause-cause
-returns-in_err-keep-clause-cause g c is =
-    let p = err_from_is_err_and c.from_residual.result c.from_residual.ensures.1 in
-    let ended : c.from_residual.result ≡ Err NoMemory = p.1 ∙ ap (λ (r : Refusal). Err r) (p.2 ∙ c.in_err-keep.ensures.refused) in
-    not_device {X = ⊥} c.from_residual.result NoMemory ended (inl refl) is
-
-pub returns-in_err-keep-clause-device : goal.returns-in_err-keep-clause-device
-returns-in_err-keep-clause-device g c is =
-    let p = err_from_is_err_and c.from_residual.result c.from_residual.ensures.1 in
-    let ended : c.from_residual.result ≡ Err NoMemory = p.1 ∙ ap (λ (r : Refusal). Err r) (p.2 ∙ c.in_err-keep.ensures.refused) in
-    not_device {X = ⊥} c.from_residual.result NoMemory ended (inl refl) is
-
-pub returns-clause-refused : goal.returns-clause-refused
-returns-clause-refused g c = refused_so _ _ c.write_kept.result (λ why is. inl is) c.write_kept.ensures.writes.refused
-
-pub returns-clause-unchanged : goal.returns-clause-unchanged
-returns-clause-unchanged g c is = absurd (only_device c.write_kept.result c.write_kept.ensures.writes.refused is)
-
-pub returns-clause-same : goal.returns-clause-same
-returns-clause-same g c is = absurd (only_device c.write_kept.result c.write_kept.ensures.writes.refused is)

@@ -1,4 +1,4 @@
-use Rattle.std.proofs.Common.{◌≡◌, ℕ, ◌+◌, ◌≤◌, ◌<◌, List, All, Contains, length, map, sym, ap, ◌∙◌, subst, Err, inl, inr, refl}
+use Rattle.std.proofs.Common.{◌≡◌, ℕ, ◌+◌, ◌≤◌, ◌<◌, List, All, Contains, length, map, sym, ap, ◌∙◌, subst}
 use Rattle.page_codec.specs.Formats.{Format}
 use Rattle.page_codec.specs.Roots.{format_of}
 use Rattle.disk.specs.Disk.{Image}
@@ -10,13 +10,9 @@ use Rattle.charts.specs.Locations.{times}
 use Rattle.cow_tree.specs.Staged.{pages_due}
 use Rattle.cow_tree.specs.Stored.{pages_of_bytes}
 use Rattle.page_codec.specs.Sizes.{index_pages_of}
-use Rattle.std.proofs.lemmas.Result.{err_from_is_err_and}
-use Rattle.lattice.specs.declared.refusal.Refusal.{Refusal}
-use Rattle.lattice.specs.declared.refusal.Refusal.TheVariants.{NoMemory}
-use Rattle.cow_tree.proofs.ReadOnly.{handed_on, refused_so, not_device}
 use Rattle.cow_tree.proofs.Adding.{added_located, pages_low, pages_high, pages_unreached, pages_once, plane_staged, plane_stays}
 use Rattle.cow_tree.proofs.Due.{added_corners, added_due, added_here}
-use Rattle.cow_tree.proofs.Steps.{stands, stores_along, ok_where_works, on_ok, on_ok_both, ok_where, failed_where, only_device}
+use Rattle.cow_tree.proofs.Steps.{stands, stores_along, ok_where_works, on_ok, on_ok_both, ok_where, failed_where}
 use Rattle.cow_tree.proofs.tree.Tree.stage_plane.Goals as goal
 use Rattle.cow_tree.proofs.tree.Tree.stage_plane.Goals.{After-pages}
 
@@ -119,33 +115,3 @@ returns-clause-due g c =
 
 pub returns-clause-has_staged : goal.returns-clause-has_staged
 returns-clause-has_staged g c = ok_where c.write_plane.result (added_here c.args.self.now.chart c.tile_for_writing.new.self c.args.c c.in_ok-tile_for_writing.ensures.added)
-
-pub returns-in_err-tile_for_writing-clause-refused : goal.returns-in_err-tile_for_writing-clause-refused
-returns-in_err-tile_for_writing-clause-refused g c =
-    let p = err_from_is_err_and c.from_residual.result c.from_residual.ensures.1 in
-    let ended : c.from_residual.result ≡ Err NoMemory = p.1 ∙ ap (λ (r : Refusal). Err r) (p.2 ∙ c.in_err-tile_for_writing.ensures.refused) in
-    handed_on _ c.from_residual.result NoMemory ended (inr refl)
-
-pub returns-in_err-tile_for_writing-clause-cause : goal.returns-in_err-tile_for_writing-clause-cause
-returns-in_err-tile_for_writing-clause-cause g c is =
-    let p = err_from_is_err_and c.from_residual.result c.from_residual.ensures.1 in
-    let ended : c.from_residual.result ≡ Err NoMemory = p.1 ∙ ap (λ (r : Refusal). Err r) (p.2 ∙ c.in_err-tile_for_writing.ensures.refused) in
-    not_device {X = ⊥} c.from_residual.result NoMemory ended (inl refl) is
-
-pub returns-in_err-tile_for_writing-clause-device : goal.returns-in_err-tile_for_writing-clause-device
-returns-in_err-tile_for_writing-clause-device g c is =
-    let p = err_from_is_err_and c.from_residual.result c.from_residual.ensures.1 in
-    let ended : c.from_residual.result ≡ Err NoMemory = p.1 ∙ ap (λ (r : Refusal). Err r) (p.2 ∙ c.in_err-tile_for_writing.ensures.refused) in
-    not_device {X = ⊥} c.from_residual.result NoMemory ended (inl refl) is
-
-pub returns-clause-refused : goal.returns-clause-refused
-returns-clause-refused g c = refused_so _ _ c.write_plane.result (λ why is. inl is) c.write_plane.ensures.refused
-
-pub returns-clause-unchanged : goal.returns-clause-unchanged
-returns-clause-unchanged g c is = absurd (only_device c.write_plane.result c.write_plane.ensures.refused is)
-
-pub returns-clause-same : goal.returns-clause-same
-returns-clause-same g c is = absurd (only_device c.write_plane.result c.write_plane.ensures.refused is)
-
-pub returns-clause-same_corners : goal.returns-clause-same_corners
-returns-clause-same_corners g c is = absurd (only_device c.write_plane.result c.write_plane.ensures.refused is)
