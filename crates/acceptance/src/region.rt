@@ -23,10 +23,18 @@ pub(crate) fn corner_beside(middle: Corner, lat: i16, lon: i16) -> Corner {
 /// All corners of the region.
 pub(crate) fn corners_around(alloc: Global, middle: Corner) -> Result<Vec<Corner>, AllocError> {
     let mut corners = Vec::new(alloc);
-    for number in 0..9_i16 {
-        corners.push(corner_beside(middle, number / 3 - 1, number % 3 - 1))?;
+    for lat in -1..2 {
+        extend_parallel(&mut corners, middle, lat)?;
     }
     Ok(corners)
+}
+
+// Adds the corners so many degrees north of the middle.
+fn extend_parallel(corners: &mut Vec<Corner>, middle: Corner, lat: i16) -> Result<(), AllocError> {
+    for lon in -1..2 {
+        corners.push(corner_beside(middle, lat, lon))?;
+    }
+    Ok(())
 }
 
 /// All points of the region, and those around it.
