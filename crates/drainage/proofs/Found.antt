@@ -1,5 +1,5 @@
 -- The level of a rim point, as it is found and known from then on.
-use Rattle.std.proofs.Common.{◌≡◌, ◌∙◌, ℕ, ◌+◌, ◌*◌, ◌-◌, ◌<◌, ◌==◌, inl, inr, ℤ, cond, List, length, sym, ap, subst}
+use Rattle.std.proofs.Common.{◌≡◌, ◌∙◌, ℕ, ◌+◌, ◌*◌, ◌-◌, ◌<◌, ◌==◌, ◌⊎◌, Contains, inl, inr, ℤ, cond, List, length, sym, ap, subst}
 use Rattle.std.specs.Prelude.{Option, Some}
 use Rattle.std.proofs.lemmas.Bool.Decides.{eqb_tells}
 use Rattle.lattice.specs.Corners.{Corner}
@@ -12,7 +12,7 @@ use Rattle.border_graph.specs.Summaries.{Summary}
 use Rattle.rising.specs.Placed.{IsPlacedLink}
 use Rattle.drainage.specs.Holding.{Known, IsRimLevel, IsGroundNode, IsRight, IsGrown, Agrees, level_of}
 use Rattle.drainage.proofs.Agreeing.{all_agree}
-use Rattle.drainage.proofs.RimNodes.{filled_by_joined, way_out}
+use Rattle.drainage.proofs.RimNodes.{filled_by_joined, rim_level_of, way_out}
 use Rattle.drainage.proofs.Whole.{summaries}
 
 -- one level more is known
@@ -29,6 +29,35 @@ right_more m known levels node level more rim right = record {
   where
     by : (x : ℕ) (l : ℤ) → node ≡ x → ◌≡◌ {A = Option ℤ} (Some level) (Some l) → IsRimLevel m known.corners x l
     by x l same is = let equal : level ≡ l = cc in subst (λ y. IsRimLevel m known.corners y l) same (subst (λ v. IsRimLevel m known.corners node v) equal rim)
+
+-- levels of more nodes
+pub right_all : (m : Mosaic) (known : Known) (levels : List (Option ℤ)) (nodes : List ℕ) (level : ℤ)
+    → ((x : ℕ) (found : ℤ) → level_of levels x ≡ Some found → (level_of known.levels x ≡ Some found) ⊎ (Contains nodes x × (found ≡ level)))
+    → ((x : ℕ) → Contains nodes x → IsRimLevel m known.corners x level) → IsRight m known
+    → IsRight m (record { side = known.side; corners = known.corners; told = known.told; entered = known.entered; levels = levels })
+right_all m known levels nodes level only rim right = record {
+  ready = right.ready;
+  entered = right.entered;
+  levels = λ x l is. elim (only x l is) [
+    | inl before ↦ right.levels x l before
+    | inr more ↦ subst (IsRimLevel m known.corners x) (sym more.1) (rim x more.0)
+  ];
+}
+
+-- the level of a node that water comes to is the filled level of a rim point
+module _ {S : Type 0} (g : Ghosts S) (a b : S) (is : IsMosaic (g.mosaic a)) (known known' : Known) (grown : IsGrown g a b known known') (honest : g.is_honest b) (right : IsRight (g.mosaic a) known) (x : ℕ) (level : ℤ) where
+  right_then : IsRight (g.mosaic a) known'
+  right_then = grown.right honest right
+
+  all_then : List Summary
+  all_then = summaries (g.mosaic a) is known'.side known'.corners known'.told right_then.ready
+
+  pub reached_later : ((n : ℕ) (all : List Summary) → Agrees known' n all → (0 < x) × IsJoinedLevel (IsPlacedLink n all) 0 x level) → IsRimLevel (g.mosaic b) known'.corners x level
+  unfolding all_then
+  reached_later joined =
+      let found = joined (g.mosaic a).side all_then (all_agree (g.mosaic a) is known' right_then) in
+      subst (λ (m : Mosaic). IsRimLevel m known'.corners x level) (sym (grown.kept.mosaic honest))
+      (rim_level_of (g.mosaic a) is known'.side known'.corners known'.told right_then.ready x found.0 level found.1)
 
 -- a rim point's node, as it was numbered
 pub start_is : (m : Mosaic) (known : Known) (t k start : ℕ) → IsRight m known → start ≡ 1 + t * (4 * (known.side - 1)) + k → start ≡ node_number m.side (Rim t k)

@@ -7,6 +7,7 @@ pub mod Asked
 pub mod Followed
 pub mod Telling
 pub mod Lowest
+pub mod Turned
 pub mod Around
 pub mod Ashore
 pub mod Numbered

@@ -1,5 +1,5 @@
 -- A ground point on a tile's rim, as a node of the graph of all tiles.
-use Rattle.std.proofs.Common.{◌≡◌, ℕ, ◌+◌, ◌*◌, ◌-◌, ◌^◌, ◌<◌, ◌≤◌, ℤ, IsTrue, List, length, map, sym, ap, subst, arith}
+use Rattle.std.proofs.Common.{◌≡◌, ℕ, ◌+◌, ◌*◌, ◌-◌, ◌^◌, ◌<◌, ◌≤◌, ℤ, IsTrue, List, [], ◌∷◌, length, map, sym, ap, subst, arith}
 use Rattle.std.specs.Prelude.{Option}
 use Rattle.std.proofs.Math.Nat.{mul-le-mul_right}
 use Rattle.lattice.specs.Corners.{Corner}
@@ -9,12 +9,13 @@ use Rattle.lattice.specs.Ground.{is_ground, terrain}
 use Rattle.lattice.specs.RimPoints.{IsRimPoint}
 use Rattle.lattice.specs.Terrain.{IsFilledLevel}
 use Rattle.border_graph.specs.Links.{IsWayBelow, IsJoinedLevel}
-use Rattle.border_graph.specs.Joining.{Rim, summary_at, IsThere, IsRimNumberOf}
+use Rattle.border_graph.specs.Joining.{Node, Outlet, Rim, summary_at, IsLink, IsThere, IsRimNumberOf}
 use Rattle.border_graph.specs.Linking.{node_number}
-use Rattle.border_graph.proofs.Joined.{there_at, solid_at, joined_is_filled, filled_is_joined, is_joined}
+use Rattle.border_graph.proofs.Joined.{there_at, at_node, ground_at, solid_at, joined_is_filled, filled_is_joined, is_joined}
 use Rattle.rising.specs.Others.{corner_at}
 use Rattle.rising.specs.Placed.{IsPlacedLink}
 use Rattle.rising.specs.TileWays.{TileWays}
+use Rattle.drainage.specs.Holding.{IsRimLevel}
 use Rattle.drainage.specs.Shores.{AreReady}
 use Rattle.drainage.proofs.Placed.{joined_over_links, placed_over_links, to_placed}
 use Rattle.drainage.proofs.Whole.{summaries, are_summaries, as_many, corner_of_summary}
@@ -63,3 +64,37 @@ module _ (m : Mosaic) (is : IsMosaic m) (side : ℕ) (corners : List Corner) (to
 
       within : (a size whole l : ℕ) → a + size ≤ whole → l < size → 2 ^ 32 ≤ 1 + a + l → 1 + whole < 2 ^ 32 → ⊥
       within a size whole l le less past room = absurd (omega arith)
+
+-- a node from which a way leads out is that of a ground rim point
+module _ (m : Mosaic) (is : IsMosaic m) (side : ℕ) (corners : List Corner) (told : List (Option TileWays)) (ready : AreReady m side corners told) where
+  there_of : (u l : ℕ) (to : Node) (level : ℤ) → IsLink m.side (summaries m is side corners told ready) (Rim u l) to level → IsThere m.side (summaries m is side corners told ready) u l
+  there_of u l Outlet level link = link.0
+  there_of u l (Rim v j) level link = link.0
+
+  pub rim_level_of : (x : ℕ) → 0 < x → (level : ℤ) → IsJoinedLevel (IsPlacedLink m.side (summaries m is side corners told ready)) 0 x level → IsRimLevel m corners x level
+  rim_level_of x some level joined = first joined.reached.0 joined.reached.1
+    where
+      first : (rest : List ℕ) → IsWayBelow (IsPlacedLink m.side (summaries m is side corners told ready)) 0 level x rest → IsRimLevel m corners x level
+      first [] way = absurd (omega arith)
+      first (y ∷ rest) way =
+          let placed = way.0.1.0 in
+          let t = placed.tile in
+          let k = placed.number in
+          let there = there_of t k placed.to way.0.0 placed.link in
+          let at = at_node m is (summaries m is side corners told ready) (are_summaries m is side corners told ready) t there.tile k there in
+          let place : t < length corners = subst (λ n. t < n) (as_many m is side corners told ready) there.tile in
+          let corner : (summary_at (summaries m is side corners told ready) t).corner ≡ corner_at corners t = corner_of_summary m is side corners told ready t place in
+          let on = ground_at m is (summaries m is side corners told ready) (are_summaries m is side corners told ready) t there.tile at.e at.solid in
+          let rim : IsRimPoint m.side k at.e = record { small = at.inside; rim = at.rim; number = at.number } in
+          let on_ground : IsTrue (is_ground m (point_of m.side (corner_at corners t) at.e)) = subst (λ (c : Corner). IsTrue (is_ground m (point_of m.side c at.e))) corner on in
+          record {
+            tile = t;
+            number = k;
+            index = at.e;
+            node = placed.starts;
+            place = place;
+            rim = rim;
+            on_ground = on_ground;
+            filled = filled_by_joined m is side corners told ready t k at.e place rim on_ground level
+                (subst (λ v. IsJoinedLevel (IsPlacedLink m.side (summaries m is side corners told ready)) 0 v level) placed.starts joined);
+          }

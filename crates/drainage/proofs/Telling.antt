@@ -24,6 +24,7 @@ fits_before g a b side corners told side' corners' told' n summaries kept fits =
   same_side = fits.same_side ∙ kept.same_side;
   same_corners = fits.same_corners ∙ kept.same_corners;
   low = fits.low;
+  turns = fits.turns;
   tells = λ t ways is. fits.tells t ways (kept.still t ways is);
 }
 

@@ -15,6 +15,7 @@ use Rattle.rising.specs.Others.{corner_at}
 use Rattle.rising.specs.TileWays.{TileWays}
 use Rattle.drainage.specs.Shores.{told_at, Fits, AreReady}
 use Rattle.drainage.proofs.Lowest.{low_link}
+use Rattle.drainage.proofs.Turned.{placed_turned}
 use Rattle.drainage.proofs.Telling.{some_is, not_both}
 
 same_list : {X : Type 0} (d : X) (xs ys : List X) → length xs ≡ length ys → ((i : ℕ) → i < length xs → get_or xs i d ≡ get_or ys i d) → xs ≡ ys
@@ -107,6 +108,7 @@ module _ (m : Mosaic) (is : IsMosaic m) (side : ℕ) (corners : List Corner) (to
     same_side = sym ready.same_side;
     same_corners = same_corners;
     low = λ x y level link. low_link m is summaries are_summaries (Rim link.tile link.number) link.to level link.link;
+    turns = λ x y level some link. placed_turned m is summaries are_summaries x y level some link;
     tells = λ t ways at.
         let below = told_below t ways at in
         (ready.tiles.sides t ways at ∙ ready.same_side, at_place t (record { corner = record { lat = pos 0; lon = pos 0 }; rim = []; spills = [] }) below ∙ (pick_is t below).tells ways at);

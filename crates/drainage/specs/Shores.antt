@@ -27,6 +27,7 @@ pub record Fits (side : ℕ) (corners : List Corner) (told : List (Option TileWa
   pub same_side : n ≡ side
   pub same_corners : map (λ b. b.corner) summaries ≡ corners
   pub low : (x y : ℕ) (level : ℤ) → IsPlacedLink n summaries x y level → void ≤ℤ level
+  pub turns : (x y : ℕ) (level : ℤ) → 0 < y → IsPlacedLink n summaries x y level → IsPlacedLink n summaries y x level
   pub tells : (t : ℕ) (ways : TileWays) → told_at told t ≡ Some ways → (ways.side ≡ n) × (summary_at summaries t ≡ ways.summary)
 
 -- the ways from a rim point of a tile, listed one kind after another

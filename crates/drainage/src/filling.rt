@@ -123,7 +123,8 @@ fn level_in<S: Labellings>(
     Ok(Some(level.max(over)))
 }
 
-// The filled level of the rim point with this number in the tile with this place, found once.
+// The filled level of the rim point with this number in the tile with this place, found once, with those of the other rim
+// points of its basin.
 fn rim_level<S: Labellings>(
     alloc: Global,
     samples: &mut S,
@@ -145,10 +146,12 @@ fn rim_level<S: Labellings>(
     if let Some(level) = waters.levels.level(start) {
         return Ok(level);
     }
-    let Some(level) = level_from(alloc, waters, samples, start)? else {
+    let mut alike = Vec::new(alloc);
+    let Some(level) = level_from(alloc, waters, samples, start, &mut alike)? else {
         return Err(Refusal::Damaged);
     };
     waters.levels.know(start, level)?;
+    waters.levels.know_all(&alike, level)?;
     Ok(level)
 }
 

@@ -1,5 +1,5 @@
 //! The levels of rim points, as they were found.
-ghost use Rattle.std.specs.Prelude.{◌≡◌, ◌==◌, ℕ, Some, None, cond, OnOk, IfErr};
+ghost use Rattle.std.specs.Prelude.{◌≡◌, ◌==◌, ◌⊎◌, ℕ, ℤ, Some, None, Contains, cond, OnOk, IfErr};
 ghost use Rattle.lattice.specs.declared.refusal.Refusal.TheVariants.{NoMemory};
 ghost use Rattle.drainage.specs.Holding.{level_of};
 
@@ -58,6 +58,18 @@ impl RimLevels {
             return Err(Refusal::NoMemory);
         }
         self.levels[place] = Some(level);
+        Ok(())
+    }
+
+    /// Knows the level of the nodes from then on, or of some of them where it is refused. NoMemory is the only refusal.
+    pub(crate) fn know_all(&mut self, nodes: &[u32], level: i16) -> Result<(), Refusal>
+        ensures known { OnOk result ((x : ℕ) → Contains nodes.now x → level_of self.new x ≡ Some level) }
+        ensures only { (x : ℕ) (found : ℤ) → level_of self.new x ≡ Some found → (level_of self.old x ≡ Some found) ⊎ (Contains nodes.now x × (found ≡ level)) }
+        ensures refusal { IfErr result (λ r. r ≡ NoMemory) }
+    {
+        for node in nodes {
+            self.know(*node, level)?;
+        }
         Ok(())
     }
 }

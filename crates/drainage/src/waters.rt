@@ -141,6 +141,8 @@ impl<S: Labellings> Ways<S> for Waters {
 
     ghost levels_fit = { λ s n summaries x y level agrees link. agrees.fits.low x y level link };
 
+    ghost links_turn = { λ s n summaries x y level agrees some link. agrees.fits.turns x y level some link };
+
     ghost keeps_itself = { λ s a. carried_itself _ S.keeps_itself a (known_of s) };
 
     ghost keeps_on = { λ s s' s'' a b c one two. carried_on _ S.keeps_on a b (known_of s) (known_of s') one c (known_of s'') two };

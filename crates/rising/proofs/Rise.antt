@@ -1,8 +1,9 @@
 -- The steps of water that rises from a start over links: what is taken next ends a least way (after the correctness
 -- argument of Barnes, Lehman and Mulla 2014).
-use Rattle.std.proofs.Common.{◌≡◌, ◌≢◌, ℕ, ◌+◌, ◌<◌, ◌≤◌, ◌⊎◌, inl, inr, ℤ, ◌≤ℤ◌, true, false, List, [], ◌∷◌, length, get_or, refl, sym, ap, ◌∙◌, subst, arith, true≢false, Contains}
+use Rattle.std.proofs.Common.{◌≡◌, ℕ, zero, suc, ◌+◌, ◌*◌, ◌-◌, ◌<◌, ◌≤◌, ◌⊎◌, inl, inr, ℤ, ◌≤ℤ◌, true, false, List, [], ◌∷◌, length, get_or, refl, sym, ap, ◌∙◌, subst, arith, true≢false, Contains, int_lt}
 use Rattle.std.specs.Int.{int_max}
 use Rattle.std.proofs.lemmas.Bool.{cases_Bool, cases_eq, cases_lt}
+use Rattle.std.proofs.lemmas.Int.{ints, clamps}
 use Rattle.std.proofs.lemmas.List.{get_or_default}
 use Rattle.std.proofs.lemmas.List.Elements.{Contains-get_or}
 use Rattle.lattice.specs.Mosaic.{void}
@@ -11,16 +12,59 @@ use Rattle.border_graph.specs.Links.{IsWayBelow, IsJoinedLevel}
 use Rattle.border_graph.proofs.Surge.{way_up}
 use Rattle.rising.specs.declared.ways.Way.{Way}
 use Rattle.rising.specs.declared.waiting.Seat.{Seat}
+use Rattle.border_graph.specs.Summaries.{Summary}
 use Rattle.rising.specs.Answers.{AreWays, IsReachedBelow}
+use Rattle.rising.specs.Placed.{IsPlacedLink}
 use Rattle.border_graph.specs.Waiting.{IsAdded}
 use Rattle.rising.specs.Waiting.{is_among, IsNext, NoneLeft}
 use Rattle.rising.proofs.Next.{taken_still, taken_other}
-use Rattle.rising.specs.Rising.{raised, AreRaised, WaitsBelow, IsKnown, IsFollowed, IsOn, IsRising}
+use Rattle.rising.specs.Rising.{raised, AreRaised, WaitsBelow, IsEnd, IsFollowed, IsOn, IsRising}
 
 -- a way to a, and on from there
 pub go_on : (L : ℕ → ℕ → ℤ → Type 0) (a b : ℕ) (level : ℤ) (x : ℕ) (rest more : List ℕ) → IsWayBelow L a level x rest → IsWayBelow L b level a more → (all : List ℕ) × IsWayBelow L b level x all
 go_on L a b level x [] more way on = (more, subst (λ v. IsWayBelow L b level v more) (sym way) on)
 go_on L a b level x (y ∷ rest) more way on = let further = go_on L a b level y rest more way.1 on in (y ∷ further.0, (way.0, further.1))
+
+-- links lead back, but for those to the outlet node, from which none leads
+pub record IsTwoWay (L : ℕ → ℕ → ℤ → Type 0) : Type 0 where
+  pub back : (x y : ℕ) (level : ℤ) → 0 < y → L x y level → L y x level
+  pub last : (y : ℕ) (level : ℤ) → L 0 y level → ⊥
+
+-- as the links between rim points do, where those to rim points lead back
+pub two_way : (n : ℕ) (summaries : List Summary) → ((x y : ℕ) (level : ℤ) → 0 < y → IsPlacedLink n summaries x y level → IsPlacedLink n summaries y x level) → IsTwoWay (IsPlacedLink n summaries)
+two_way n summaries turn = record { back = turn; last = λ y level link. none (link.tile * (4 * (n - 1))) link.number link.starts }
+  where
+    none : (a k : ℕ) → 0 ≡ 1 + a + k → ⊥
+    none a k h = absurd (omega arith)
+
+-- so ways do
+pub way_back : (L : ℕ → ℕ → ℤ → Type 0) → IsTwoWay L → (start x : ℕ) (level : ℤ) (rest : List ℕ) → IsWayBelow L x level start rest → 0 < x → (back : List ℕ) × IsWayBelow L start level x back
+way_back L two start x level [] way some = ([], sym way)
+way_back L two start x level (y ∷ rest) way some =
+    let further = way_back L two y x level rest way.1 some in
+    go_on L y start level x further.0 (start ∷ []) further.1 ((way.0.0, (two.back start y way.0.0 (above y rest way.1) way.0.1.0, way.0.1.1)), refl)
+  where
+    above : (y : ℕ) (rest : List ℕ) → IsWayBelow L x level y rest → 0 < y
+    above zero [] way = subst (λ v. 0 < v) (sym way) some
+    above zero (z ∷ rest) way = absurd (two.last z way.0.0 way.0.1.0)
+    above (suc y) rest way = omega arith
+
+-- what the start reaches below its level has the very same level
+pub alike : (L : ℕ → ℕ → ℤ → Type 0) → IsTwoWay L → (start x : ℕ) (crest level : ℤ) → IsJoinedLevel L 0 start level → 0 < x → IsReachedBelow L start crest x → int_lt crest level ≡ true → IsJoinedLevel L 0 x level
+alike L two start x crest level joined some first lower_crest = record {
+  reached =
+      let back = way_back L two start x crest first.0 first.1 some in
+      go_on L start 0 level x back.0 joined.reached.0 (way_up L start crest level (lt-le crest level lower_crest) x back.0 back.1) joined.reached.1;
+  least = λ lower rest way.
+      let on = go_on L x 0 (int_max crest lower) start first.0 rest (way_up L x crest (int_max crest lower) (le-max_left crest lower) start first.0 first.1) (way_up L 0 lower (int_max crest lower) (le-max_right crest lower) x rest way) in
+      under crest lower level lower_crest (joined.least (int_max crest lower) on.0 on.1);
+}
+  where
+    lt-le : (a b : ℤ) → int_lt a b ≡ true → a ≤ℤ b
+    lt-le a b less = omega (arith, ints)
+
+    under : (a b c : ℤ) → int_lt a c ≡ true → c ≤ℤ int_max a b → c ≤ℤ b
+    under a b c less le = omega (arith, ints, clamps)
 
 waits_up : (waiting : List Seat) (x : ℕ) (low high : ℤ) → low ≤ℤ high → WaitsBelow waiting x low → WaitsBelow waiting x high
 waits_up waiting x low high le w = record { seat = w.seat; waits = w.waits; node = w.node; low = ≤ℤ_trans w.seat.crest low high w.low le }
@@ -49,14 +93,7 @@ module _ (L : ℕ → ℕ → ℤ → Type 0) (start : ℕ) where
     enters level low x [] on way = here_enters level x (ap (is_among taken) way ∙ s.outlet) on
     enters level low x (y ∷ rest) on way = elim (cases_Bool (is_among taken x)) [
       | inr free ↦ here_enters level x free on
-      | inl full ↦ elim (s.border x full) [
-        | inl all ↦ enters level low y rest (on_up (int_max s.floor way.0.0) level (max-le s.floor way.0.0 level low way.0.1.1) y (all y way.0.0 way.0.1.0)) way.1
-        | inr known ↦ record {
-          node = 0;
-          free = s.outlet;
-          waits = waits_up waiting 0 (int_max s.floor known.level) level (max-le s.floor known.level level low (known.joined.least level (y ∷ rest) way)) known.waits;
-        }
-      ]
+      | inl full ↦ enters level low y rest (on_up (int_max s.floor way.0.0) level (max-le s.floor way.0.0 level low way.0.1.1) y (s.border x full y way.0.0 way.0.1.0)) way.1
     ]
 
     -- and so does one from the start
@@ -80,17 +117,26 @@ module _ (L : ℕ → ℕ → ℤ → Type 0) (start : ℕ) where
       pub reached_below : (x : ℕ) → is_among taken x ≡ true → IsReachedBelow L start seat.crest x
       reached_below x full = let way = s.reached x full in (way.0, way_up L x s.floor seat.crest (s.above seat n.waited) start way.0 way.1)
 
-      -- the outlet node is taken
-      pub ended : seat.node ≡ 0 → IsJoinedLevel L 0 start seat.crest
-      ended out = record {
-        reached = subst (λ x. (rest : List ℕ) × IsWayBelow L x seat.crest start rest) out (s.ways seat n.waited);
-        least = lowest_way;
+      -- the seat's node ends a least way
+      pub ended : IsTwoWay L → (level : ℤ) → IsEnd L seat level → IsJoinedLevel L 0 start level
+      ended two level e = record {
+        reached = let first = s.ways seat n.waited in go_on L seat.node 0 level start first.0 e.reached.0 (way_up L seat.node seat.crest level e.high start first.0 first.1) e.reached.1;
+        least = λ lower rest way. let low = lowest_way lower rest way in let on = from_end lower rest low way in e.least lower on.0 low on.1;
       }
+        where
+          from_end : (lower : ℤ) (rest : List ℕ) → seat.crest ≤ℤ lower → IsWayBelow L 0 lower start rest → (all : List ℕ) × IsWayBelow L 0 lower seat.node all
+          from_end lower rest low way = elim (cases_eq seat.node 0) [
+            | inl out ↦ ([], out)
+            | inr other ↦
+                let first = s.ways seat n.waited in
+                let back = way_back L two start seat.node seat.crest first.0 first.1 (let o = other in omega arith) in
+                go_on L start 0 lower seat.node back.0 rest (way_up L start seat.crest lower low seat.node back.0 back.1) way
+          ]
 
       -- the node that is taken is followed
-      module _ (waiting'' : List Seat) (f : IsFollowed L taken' waiting' waiting'' seat) (other : seat.node ≢ 0) where
+      module _ (waiting'' : List Seat) (f : IsFollowed L taken' waiting' waiting'' seat) where
         outlet_free : is_among taken' 0 ≡ false
-        outlet_free = taken_other taken taken' seat.node 0 n.takes (λ same. other (sym same)) ∙ s.outlet
+        outlet_free = taken_other taken taken' seat.node 0 n.takes (λ same. let some = f.inner in absurd (omega arith)) ∙ s.outlet
 
         keep : (x : ℕ) (low high : ℤ) → low ≤ℤ high → IsOn L start taken waiting x low → IsOn L start taken' waiting'' x high
         keep x low high le (inl full) = inl (taken_still taken taken' seat.node x n.takes full)
@@ -107,33 +153,18 @@ module _ (L : ℕ → ℕ → ℤ → Type 0) (start : ℕ) where
         higher : s.floor ≤ℤ seat.crest
         higher = s.above seat n.waited
 
-        at_outlet : (level : ℤ) → IsOn L start taken' waiting'' 0 level → WaitsBelow waiting'' 0 level
-        at_outlet level (inl full) = absurd (true≢false (sym full ∙ outlet_free))
-        at_outlet level (inr w) = w
-
-        known_still : (x : ℕ) → IsKnown L waiting s.floor x → IsKnown L waiting'' seat.crest x
-        known_still x known = record {
-          level = known.level;
-          joined = known.joined;
-          waits = at_outlet (int_max seat.crest known.level) (keep 0 (int_max s.floor known.level) (int_max seat.crest known.level) (max_up s.floor seat.crest known.level higher) (inr known.waits));
-        }
-
         way_to : (l : Seat) → Contains waiting' l ⊎ ((seat.crest ≤ℤ l.crest) × ((rest : List ℕ) × IsWayBelow L l.node l.crest seat.node rest)) → (rest : List ℕ) × IsWayBelow L l.node l.crest start rest
         way_to l (inl old) = s.ways l (n.only l old)
         way_to l (inr more) =
             let first = s.ways seat n.waited in
             go_on L seat.node l.node l.crest start first.0 more.1.0 (way_up L seat.node seat.crest l.crest more.0 start first.0 first.1) more.1.1
 
-        leads_on : (x : ℕ) → is_among taken' x ≡ true → ((y : ℕ) (level : ℤ) → L x y level → IsOn L start taken' waiting'' y (int_max seat.crest level)) ⊎ IsKnown L waiting'' seat.crest x
-        leads_on x full = elim (cases_eq x seat.node) [
-          | inl same ↦ subst (λ v. ((y : ℕ) (level : ℤ) → L v y level → IsOn L start taken' waiting'' y (int_max seat.crest level)) ⊎ IsKnown L waiting'' seat.crest v) (sym same) f.left
-          | inr apart ↦ before (s.border x (sym (taken_other taken taken' seat.node x n.takes apart) ∙ full))
+        leads_on : (x : ℕ) → is_among taken' x ≡ true → (y : ℕ) (level : ℤ) → L x y level → IsOn L start taken' waiting'' y (int_max seat.crest level)
+        leads_on x full y level link = elim (cases_eq x seat.node) [
+          | inl same ↦ f.left y level (subst (λ v. L v y level) same link)
+          | inr apart ↦ keep y (int_max s.floor level) (int_max seat.crest level) (max_up s.floor seat.crest level higher)
+              (s.border x (sym (taken_other taken taken' seat.node x n.takes apart) ∙ full) y level link)
         ]
-          where
-            before : ((y : ℕ) (level : ℤ) → L x y level → IsOn L start taken waiting y (int_max s.floor level)) ⊎ IsKnown L waiting s.floor x →
-                ((y : ℕ) (level : ℤ) → L x y level → IsOn L start taken' waiting'' y (int_max seat.crest level)) ⊎ IsKnown L waiting'' seat.crest x
-            before (inl all) = inl (λ y level link. keep y (int_max s.floor level) (int_max seat.crest level) (max_up s.floor seat.crest level higher) (all y level link))
-            before (inr known) = inr (known_still x known)
 
         reached_on : (x : ℕ) → is_among taken' x ≡ true → IsReachedBelow L start seat.crest x
         reached_on x full = elim (cases_eq x seat.node) [
@@ -174,33 +205,29 @@ module _ (L : ℕ → ℕ → ℤ → Type 0) (start : ℕ) where
       over_void level [] way = absurd (omega arith)
       over_void level (y ∷ rest) way = ≤ℤ_trans void way.0.0 level (fit start y way.0.0 way.0.1.0) way.0.1.1
 
--- what waits once a node of a known level is followed
-pub followed_known : (L : ℕ → ℕ → ℤ → Type 0) (taken : List ℕ) (old new : List Seat) (seat : Seat) (level : ℤ) (next : Seat) → IsJoinedLevel L 0 seat.node level → next ≡ raised seat (record { level = level; to = 0 }) → IsAdded old new next →
-    IsFollowed L taken old new seat
-followed_known L taken old new seat level next joined is a = record {
-  others = a.others;
-  only = λ l has. elim (a.only l has) [
-    | inr before ↦ inl before
-    | inl same ↦ inr (subst (λ (v : Seat). (seat.crest ≤ℤ v.crest) × ((rest : List ℕ) × IsWayBelow L v.node v.crest seat.node rest)) (sym (same ∙ is))
-        (le-max_left seat.crest level, (joined.reached.0, way_up L 0 level (int_max seat.crest level) (le-max_right seat.crest level) seat.node joined.reached.0 joined.reached.1)))
-  ];
-  left = inr (record {
-    level = level;
-    joined = joined;
-    waits = record { seat = next; waits = a.waits; node = ap (λ (v : Seat). v.node) is; low = subst (λ (v : Seat). v.crest ≤ℤ int_max seat.crest level) (sym is) (≤ℤ_same (int_max seat.crest level)) };
-  });
+-- the outlet node is an end
+pub end_at_outlet : (L : ℕ → ℕ → ℤ → Type 0) (seat : Seat) → seat.node ≡ 0 → IsEnd L seat seat.crest
+end_at_outlet L seat out = record { high = ≤ℤ_same seat.crest; reached = ([], out); least = λ lower rest low way. low }
+
+-- and a node of a known level
+pub end_at_known : (L : ℕ → ℕ → ℤ → Type 0) (seat : Seat) (level : ℤ) → IsJoinedLevel L 0 seat.node level → IsEnd L seat (int_max seat.crest level)
+end_at_known L seat level joined = record {
+  high = le-max_left seat.crest level;
+  reached = (joined.reached.0, way_up L 0 level (int_max seat.crest level) (le-max_right seat.crest level) seat.node joined.reached.0 joined.reached.1);
+  least = λ lower rest low way. max-le seat.crest level lower low (joined.least lower rest way);
 }
 
--- and once all ways from it are
-pub followed_all : (L : ℕ → ℕ → ℤ → Type 0) (taken : List ℕ) (old new : List Seat) (seat : Seat) (found : List Way) → AreWays L seat.node found → AreRaised found (length found) seat taken old new → IsFollowed L taken old new seat
-followed_all L taken old new seat found all r = record {
+-- what waits once all ways from a node are followed
+pub followed_all : (L : ℕ → ℕ → ℤ → Type 0) (taken : List ℕ) (old new : List Seat) (seat : Seat) (found : List Way) → 0 < seat.node → AreWays L seat.node found → AreRaised found (length found) seat taken old new → IsFollowed L taken old new seat
+followed_all L taken old new seat found inner all r = record {
+  inner = inner;
   others = r.others;
   only = λ l has. elim (r.only l has) [
     | inl before ↦ inl before
     | inr end ↦ inr (subst (λ (v : Seat). (seat.crest ≤ℤ v.crest) × ((rest : List ℕ) × IsWayBelow L v.node v.crest seat.node rest)) (sym end.1.1)
         (le-max_left seat.crest end.0.level, (end.0.to ∷ [], ((end.0.level, (all.each end.0 end.1.0, le-max_right seat.crest end.0.level)), refl))))
   ];
-  left = inl (λ y level link. waits y level (all.all y level link));
+  left = λ y level link. waits y level (all.all y level link);
 }
   where
     waits : (y : ℕ) (level : ℤ) → Contains found (record { level = level; to = y }) → (is_among taken y ≡ true) ⊎ WaitsBelow new y (int_max seat.crest level)

@@ -1,7 +1,7 @@
 -- Water rising from a start over links, over the lowest first (after Barnes, Lehman and Mulla 2014).
 use Rattle.std.specs.Prelude.{◌≡◌, ℕ, ℤ, ◌<◌, ◌≤ℤ◌, ◌⊎◌, true, false, List, Contains, slice_index_or}
 use Rattle.std.specs.Int.{int_max}
-use Rattle.border_graph.specs.Links.{IsWayBelow, IsJoinedLevel}
+use Rattle.border_graph.specs.Links.{IsWayBelow}
 use Rattle.rising.specs.Answers.{IsReachedBelow}
 use Rattle.rising.specs.declared.ways.Way.{Way}
 use Rattle.rising.specs.declared.waiting.Seat.{Seat}
@@ -25,17 +25,18 @@ pub record WaitsBelow (waiting : List Seat) (x : ℕ) (level : ℤ) : Type 0 whe
   pub low : seat.crest ≤ℤ level
 
 module _ (IsLink : ℕ → ℕ → ℤ → Type 0) where
-  -- the level of x is known, and water waits at the outlet node at no more than that level and the crest
-  pub record IsKnown (waiting : List Seat) (crest : ℤ) (x : ℕ) : Type 0 where
-    pub level : ℤ
-    pub joined : IsJoinedLevel IsLink 0 x level
-    pub waits : WaitsBelow waiting 0 (int_max crest level)
+  -- the least level, no lower than the seat's crest, at which a way leads out from the seat's node
+  pub record IsEnd (seat : Seat) (level : ℤ) : Type 0 where
+    pub high : seat.crest ≤ℤ level
+    pub reached : (rest : List ℕ) × IsWayBelow IsLink 0 level seat.node rest
+    pub least : (lower : ℤ) (rest : List ℕ) → seat.crest ≤ℤ lower → IsWayBelow IsLink 0 lower seat.node rest → level ≤ℤ lower
 
   -- what waits once the node of a seat is followed
   pub record IsFollowed (taken : List ℕ) (old new : List Seat) (seat : Seat) : Type 0 where
+    pub inner : 0 < seat.node
     pub others : (l : Seat) → Contains old l → Contains new l
     pub only : (l : Seat) → Contains new l → Contains old l ⊎ ((seat.crest ≤ℤ l.crest) × IsReachedBelow IsLink seat.node l.crest l.node)
-    pub left : ((y : ℕ) (level : ℤ) → IsLink seat.node y level → (is_among taken y ≡ true) ⊎ WaitsBelow new y (int_max seat.crest level)) ⊎ IsKnown new seat.crest seat.node
+    pub left : (y : ℕ) (level : ℤ) → IsLink seat.node y level → (is_among taken y ≡ true) ⊎ WaitsBelow new y (int_max seat.crest level)
 
   module _ (start : ℕ) (taken : List ℕ) (waiting : List Seat) where
     -- x is taken, or water waits there at no more than the level
@@ -51,4 +52,4 @@ module _ (IsLink : ℕ → ℕ → ℤ → Type 0) where
       pub above : (l : Seat) → Contains waiting l → floor ≤ℤ l.crest
       pub ways : (l : Seat) → Contains waiting l → IsReachedBelow IsLink start l.crest l.node
       pub reached : (x : ℕ) → is_among taken x ≡ true → IsReachedBelow IsLink start floor x
-      pub border : (x : ℕ) → is_among taken x ≡ true → ((y : ℕ) (level : ℤ) → IsLink x y level → IsOn y (int_max floor level)) ⊎ IsKnown waiting floor x
+      pub border : (x : ℕ) → is_among taken x ≡ true → (y : ℕ) (level : ℤ) → IsLink x y level → IsOn y (int_max floor level)

@@ -61,6 +61,9 @@ pub trait Ways<S> {
     /// No level is below the void.
     ghost levels_fit: { (s : Self) (n : ℕ) (summaries : List Summary) (x y : ℕ) (level : ℤ) → fits s n summaries → IsPlacedLink n summaries x y level → void ≤ℤ level };
 
+    /// A link to a rim point leads back too, at the same level.
+    ghost links_turn: { (s : Self) (n : ℕ) (summaries : List Summary) (x y : ℕ) (level : ℤ) → fits s n summaries → 0 < y → IsPlacedLink n summaries x y level → IsPlacedLink n summaries y x level };
+
     /// To do nothing keeps it.
     ghost keeps_itself: { (s : Self) (a : S) → keeps s a s a };
 

@@ -1,4 +1,4 @@
-use Rattle.std.proofs.Common.{◌≡◌, ◌∙◌, ℕ, ◌+◌, ◌*◌, ◌-◌, ◌^◌, ◌≤◌, ◌==◌, ℤ, cond, List, rules, sym, ap, subst, SFits, w16}
+use Rattle.std.proofs.Common.{◌≡◌, ◌∙◌, ℕ, ◌+◌, ◌*◌, ◌-◌, ◌^◌, ◌≤◌, ◌==◌, ℤ, ◌⊎◌, ◌<◌, Contains, cond, List, rules, sym, ap, subst, SFits, w16}
 use Rattle.std.specs.Prelude.{Some, IfSome, IfNone}
 use Rattle.std.proofs.lemmas.Int.{to_z-of_z}
 use Rattle.catalogue.proofs.Reading.{reads_nothing}
@@ -6,10 +6,10 @@ use Rattle.border_graph.specs.Joining.{Rim}
 use Rattle.border_graph.specs.Linking.{node_number}
 use Rattle.border_graph.specs.Links.{IsJoinedLevel, IsWayBelow}
 use Rattle.rising.specs.Placed.{IsPlacedLink}
-use Rattle.drainage.specs.Holding.{IsRimLevel, level_of}
+use Rattle.drainage.specs.Holding.{IsRight, IsRimLevel, level_of}
 use Rattle.drainage.specs.Kept.{right_still}
 use Rattle.drainage.specs.Waters.{known_of}
-use Rattle.drainage.proofs.Found.{right_more, start_is, found, found_later, never}
+use Rattle.drainage.proofs.Found.{right_more, right_all, reached_later, start_is, found, found_later, never}
 use Rattle.drainage.proofs.Questioned.{answered, stopped}
 use Rattle.drainage.proofs.RimNodes.{node_there}
 use Rattle.drainage.proofs.filling.rim_level.Goals as goal
@@ -72,12 +72,44 @@ returns-clause-right g c honest =
     let before = carried.reads.honest honest in
     let known = known_of c.level_from.new.ways in
     let in_range : SFits w16 c.in-Some-2.level = search rules in
+    let same = to_z-of_z w16 c.in-Some-2.level in_range in
+    let started : IsRight (g.S.Samples.mosaic d) (record { side = known.side; corners = known.corners; told = known.told; entered = known.entered; levels = c.know.new.self }) =
     right_more (g.S.Samples.mosaic d) known c.know.new.self c.in-Some.start c.in-Some-2.level
-    (λ x. subst (λ (v : ℤ). level_of c.know.new.self x ≡ cond (c.in-Some.start == x) (Some v) (level_of known.levels x)) (to_z-of_z w16 c.in-Some-2.level in_range) (c.in_ok-know.ensures.known x))
+    (λ x. subst (λ (v : ℤ). level_of c.know.new.self x ≡ cond (c.in-Some.start == x) (Some v) (level_of known.levels x)) same (c.in_ok-know.ensures.known x))
     (found_later g.S.Samples a d (g.met.S.Samples.is_mosaic a before) w known carried.grown honest (c.requires.right before) c.args.t c.args.number c.requires.place (c.requires.there before) c.in-Some.start
     (c.in-Some.ensures.some ∙ ap (λ k. 1 + c.args.t * (4 * (w.side - 1)) + k) c.from.ensures) c.in-Some-2.level
     (λ n all agrees. subst (λ found. IfSome found (IsJoinedLevel (IsPlacedLink n all) 0 c.in-Some.start)) c.in-Some-2.is (c.in_ok-level.ensures.joined n all agrees)))
-    (right_still g.S.Samples a d w known carried.grown honest (c.requires.right before))
+    (right_still g.S.Samples a d w known carried.grown honest (c.requires.right before)) in
+    right_all (g.S.Samples.mosaic d) (record { side = known.side; corners = known.corners; told = known.told; entered = known.entered; levels = c.know.new.self }) c.know_all.new.self c.deref.result.now c.in-Some-2.level
+    (λ x found is. subst (λ (v : ℤ). (level_of c.know.new.self x ≡ Some found) ⊎ (Contains c.deref.result.now x × (found ≡ v))) same (c.in_ok-know_all.ensures.only x found is))
+    (λ x has. reached_later g.S.Samples a d (g.met.S.Samples.is_mosaic a before) w known carried.grown honest (c.requires.right before) x c.in-Some-2.level
+    (λ n all agrees. subst (λ found. IfSome found (λ level. (y : ℕ) → Contains c.level_from.new.alike.items y → (0 < y) × IsJoinedLevel (IsPlacedLink n all) 0 y level)) c.in-Some-2.is (c.in_ok-level.ensures.alike n all agrees) x
+    (subst (λ (l : List ℕ). Contains l x) c.deref.ensures.value has)))
+    started
+
+pub returns-in_err-know_all-clause-right : goal.returns-in_err-know_all-clause-right
+returns-in_err-know_all-clause-right g c honest =
+    let a = c.args.samples.now in
+    let d = c.level_from.new.source in
+    let w = known_of c.args.waters.now in
+    let carried = c.in_ok-level.ensures.keeps in
+    let before = carried.reads.honest honest in
+    let known = known_of c.level_from.new.ways in
+    let in_range : SFits w16 c.in-Some-2.level = search rules in
+    let same = to_z-of_z w16 c.in-Some-2.level in_range in
+    let started : IsRight (g.S.Samples.mosaic d) (record { side = known.side; corners = known.corners; told = known.told; entered = known.entered; levels = c.know.new.self }) =
+    right_more (g.S.Samples.mosaic d) known c.know.new.self c.in-Some.start c.in-Some-2.level
+    (λ x. subst (λ (v : ℤ). level_of c.know.new.self x ≡ cond (c.in-Some.start == x) (Some v) (level_of known.levels x)) same (c.in_ok-know.ensures.known x))
+    (found_later g.S.Samples a d (g.met.S.Samples.is_mosaic a before) w known carried.grown honest (c.requires.right before) c.args.t c.args.number c.requires.place (c.requires.there before) c.in-Some.start
+    (c.in-Some.ensures.some ∙ ap (λ k. 1 + c.args.t * (4 * (w.side - 1)) + k) c.from.ensures) c.in-Some-2.level
+    (λ n all agrees. subst (λ found. IfSome found (IsJoinedLevel (IsPlacedLink n all) 0 c.in-Some.start)) c.in-Some-2.is (c.in_ok-level.ensures.joined n all agrees)))
+    (right_still g.S.Samples a d w known carried.grown honest (c.requires.right before)) in
+    right_all (g.S.Samples.mosaic d) (record { side = known.side; corners = known.corners; told = known.told; entered = known.entered; levels = c.know.new.self }) c.know_all.new.self c.deref.result.now c.in-Some-2.level
+    (λ x found is. subst (λ (v : ℤ). (level_of c.know.new.self x ≡ Some found) ⊎ (Contains c.deref.result.now x × (found ≡ v))) same (c.in_err-know_all.ensures.only x found is))
+    (λ x has. reached_later g.S.Samples a d (g.met.S.Samples.is_mosaic a before) w known carried.grown honest (c.requires.right before) x c.in-Some-2.level
+    (λ n all agrees. subst (λ found. IfSome found (λ level. (y : ℕ) → Contains c.level_from.new.alike.items y → (0 < y) × IsJoinedLevel (IsPlacedLink n all) 0 y level)) c.in-Some-2.is (c.in_ok-level.ensures.alike n all agrees) x
+    (subst (λ (l : List ℕ). Contains l x) c.deref.ensures.value has)))
+    started
 
 pub returns-clause-asked : goal.returns-clause-asked
 returns-clause-asked g c = answered g.S.Samples c.args.samples.now c.level_from.new.source _ c.in_ok-level.ensures.keeps.reads

@@ -1,24 +1,31 @@
-use Rattle.std.proofs.Common.{rules, SFits, w16, ap, ◌∙◌, subst, length}
+use Rattle.std.proofs.Common.{rules, arith, ◌≡◌, SFits, w16, ap₂, sym, ◌∙◌, subst, length}
 use Rattle.std.specs.Prelude.{MatchOption}
+use Rattle.std.specs.Int.{int_max}
 use Rattle.std.proofs.lemmas.Int.{to_z-of_z}
 use Rattle.border_graph.specs.Links.{IsJoinedLevel}
 use Rattle.rising.specs.Answers.{AreWays}
 use Rattle.rising.specs.Placed.{IsPlacedLink}
-use Rattle.rising.specs.Rising.{raised, AreRaised}
-use Rattle.rising.proofs.Rise.{followed_known, followed_all}
+use Rattle.rising.specs.Rising.{IsEnd, AreRaised}
+use Rattle.rising.proofs.Rise.{end_at_outlet, end_at_known, followed_all}
 use Rattle.rising.proofs.rising.follow.Goals as goal
-use Rattle.rising.proofs.rising.follow.Goals.{in-Some+in_ok-push-in-Some, in-None+in_ok-push_all-in-None}
+
+pub returns-then-seat-eq0-clause-ends : goal.returns-then-seat-eq0-clause-ends
+returns-then-seat-eq0-clause-ends g c n summaries fits =
+    let in_range : SFits w16 c.args.seat.crest = search rules in
+    subst (IsEnd (IsPlacedLink n summaries) c.args.seat) (sym (to_z-of_z w16 c.args.seat.crest in_range)) (end_at_outlet (IsPlacedLink n summaries) c.args.seat c.if-seat-eq0.true)
+
+pub returns-in-Some-clause-ends : goal.returns-in-Some-clause-ends
+returns-in-Some-clause-ends g c n summaries fits =
+    let answer = c.in_ok-level.ensures.answer n summaries fits in
+    let in_range : SFits w16 c.max.result = record { sfits = c.max.type_inv } in
+    let higher : c.max.result ≡ int_max c.args.seat.crest c.in-Some.level = c.max.ensures.value ∙ ap₂ int_max (to_z-of_z w16 c.args.seat.crest (search rules)) (to_z-of_z w16 c.in-Some.level (search rules)) in
+    subst (IsEnd (IsPlacedLink n summaries) c.args.seat) (sym higher ∙ sym (to_z-of_z w16 c.max.result in_range))
+    (end_at_known (IsPlacedLink n summaries) c.args.seat c.in-Some.level
+    (subst (λ known. MatchOption known (AreWays (IsPlacedLink n summaries) c.args.seat.node c.ways_from.new.into.items) (IsJoinedLevel (IsPlacedLink n summaries) 0 c.args.seat.node)) c.in-Some.is answer))
 
 pub returns-clause-followed : goal.returns-clause-followed
 returns-clause-followed g c n summaries fits =
     let answer = c.in_ok-level.ensures.answer n summaries fits in
-    elim c.match-branch-2.branch [
-      | in-Some+in_ok-push-in-Some w ↦
-          let in_range : SFits w16 w.in-Some.level = search rules in
-          rw w.waiting-is (followed_known (IsPlacedLink n summaries) c.args.taken.now c.args.waiting.now w.push.new.self c.args.seat w.in-Some.level w.raised.result
-          (subst (λ known. MatchOption known (AreWays (IsPlacedLink n summaries) c.args.seat.node c.ways_from.new.into.items) (IsJoinedLevel (IsPlacedLink n summaries) 0 c.args.seat.node)) w.in-Some.is answer)
-          (w.raised.ensures ∙ ap (λ v. raised c.args.seat (record { level = v; to = 0 })) (to_z-of_z w16 w.in-Some.level in_range)) w.in_ok-push-in-Some.ensures)
-      | in-None+in_ok-push_all-in-None w ↦ rw w.waiting-is (followed_all (IsPlacedLink n summaries) c.args.taken.now c.args.waiting.now w.push_all.new.waiting c.args.seat c.ways_from.new.into.items
-          (subst (λ known. MatchOption known (AreWays (IsPlacedLink n summaries) c.args.seat.node c.ways_from.new.into.items) (IsJoinedLevel (IsPlacedLink n summaries) 0 c.args.seat.node)) w.in-None.is answer)
-          (subst (λ found. AreRaised found (length found) c.args.seat c.args.taken.now c.args.waiting.now w.push_all.new.waiting) w.deref.ensures.value w.in_ok-push_all-in-None.ensures))
-    ]
+    followed_all (IsPlacedLink n summaries) c.args.taken.now c.args.waiting.now c.push_all.new.waiting c.args.seat c.ways_from.new.into.items (let other = c.if-seat-eq0.false in omega arith)
+    (subst (λ known. MatchOption known (AreWays (IsPlacedLink n summaries) c.args.seat.node c.ways_from.new.into.items) (IsJoinedLevel (IsPlacedLink n summaries) 0 c.args.seat.node)) c.in_default.is answer)
+    (subst (λ found. AreRaised found (length found) c.args.seat c.args.taken.now c.args.waiting.now c.push_all.new.waiting) c.deref.ensures.value c.in_ok-push_all.ensures)

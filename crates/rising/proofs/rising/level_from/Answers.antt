@@ -1,5 +1,6 @@
-use Rattle.std.proofs.Common.{rules, true, ◌≡◌, ◌<◌, ◌^◌, inl, inr, SFits, w16, refl, sym, subst, arith, to_z, of_z, List, [], ◌∷◌, map}
+use Rattle.std.proofs.Common.{rules, true, ◌≡◌, ◌<◌, ◌≤ℤ◌, ◌^◌, ◌⊎◌, ℕ, ℤ, inl, inr, Contains, int_lt, SFits, w16, refl, sym, subst, arith, to_z, of_z, List, [], ◌∷◌, map}
 use Rattle.std.specs.Prelude.{IfSome, IfNone}
+use Rattle.std.proofs.lemmas.List.Elements.{Contains-push_cases}
 use Rattle.std.proofs.lemmas.Int.{to_z-of_z}
 use Rattle.std.proofs.lemmas.Result.{err_from_is_err_and}
 use Rattle.lattice.specs.Mosaic.{void}
@@ -12,45 +13,76 @@ use Rattle.border_graph.specs.Waiting.{IsAdded}
 use Rattle.rising.specs.Waiting.{is_among, IsNext, NoneLeft}
 use Rattle.rising.specs.declared.ways.Way.{Way}
 use Rattle.rising.specs.Crests.{crest, LeadsOut}
+use Rattle.border_graph.proofs.Surge.{way_up}
+use Rattle.rising.specs.declared.waiting.Seat.{Seat}
+use Rattle.rising.specs.Rising.{IsEnd, IsFollowed}
 use Rattle.rising.proofs.Crested.{below_crest, least_crest}
 use Rattle.rising.proofs.Left.{fewer_left}
 use Rattle.rising.proofs.Next.{taken_now, taken_still, taken_other}
-use Rattle.rising.proofs.Rise.{rising_first, no_way, reached_below, ended, risen}
+use Rattle.rising.proofs.Rise.{IsTwoWay, two_way, alike, rising_first, no_way, reached_below, ended, risen}
 use Rattle.rising.proofs.rising.level_from.Goals as goal
+
+none : {X : Type 0} (x : X) → Contains [] x → ⊥
+none x has = let h = has.1 in absurd (omega arith)
 
 pub rise-init : goal.rise-init
 rise-init g c = record {
   fits = λ n summaries fits. fits;
   keeps = g.met.W.Ways.keeps_itself c.args.ways.now c.args.source.now;
   told = λ n summaries fits t told. inl told;
-  rising = λ n summaries fits. rising_first (IsPlacedLink n summaries) c.args.start (λ x y level. g.met.W.Ways.levels_fit c.args.ways.now n summaries x y level fits) c.requires c.new-taken.result c.new-taken.ensures c.push.new.self (record { crest = void; level = void; node = c.args.start })
+  none = c.requires.empty;
+  passed = λ n summaries fits seat has. absurd (none seat (subst (λ (l : List Seat). Contains l seat) c.new-passed.ensures.items has));
+  rising = λ n summaries fits. rising_first (IsPlacedLink n summaries) c.args.start (λ x y level. g.met.W.Ways.levels_fit c.args.ways.now n summaries x y level fits) c.requires.start c.new-taken.result c.new-taken.ensures c.push.new.self (record { crest = void; level = void; node = c.args.start })
       (subst (λ old. IsAdded old c.push.new.self (record { crest = void; level = void; node = c.args.start })) c.new-waiting.ensures c.in_ok-push.ensures) refl refl;
 }
 
-pub returns-then-seat-eq0-clause-joined : goal.returns-then-seat-eq0-clause-joined
-returns-then-seat-eq0-clause-joined g c n summaries fits =
-    let in_range : SFits w16 c.in-Some.seat.crest = search rules in
+pub returns-in-Some-2-clause-joined : goal.returns-in-Some-2-clause-joined
+returns-in-Some-2-clause-joined g c n summaries fits =
+    let in_range : SFits w16 c.in-Some-2.level = search rules in
+    let before = c.in_ok-level.ensures.fits n summaries fits in
     let next : IsNext c.rise.waiting c.rise.taken c.take_next.new.waiting c.take_next.new.taken c.in-Some.seat =
     subst (λ found. IfSome found (IsNext c.rise.waiting c.rise.taken c.take_next.new.waiting c.take_next.new.taken)) c.in-Some.is c.in_ok-seat.ensures.next in
-    subst (λ v. IsJoinedLevel (IsPlacedLink n summaries) 0 c.args.start v) (sym (to_z-of_z w16 c.in-Some.seat.crest in_range))
-    (ended (IsPlacedLink n summaries) c.args.start c.rise.taken c.rise.waiting (c.rise.invariant.rising n summaries fits) c.take_next.new.waiting c.take_next.new.taken c.in-Some.seat next c.if-seat-eq0.true)
+    subst (λ v. IsJoinedLevel (IsPlacedLink n summaries) 0 c.args.start v) (sym (to_z-of_z w16 c.in-Some-2.level in_range))
+    (ended (IsPlacedLink n summaries) c.args.start c.rise.taken c.rise.waiting (c.rise.invariant.rising n summaries before) c.take_next.new.waiting c.take_next.new.taken c.in-Some.seat next
+    (two_way n summaries (λ x y level some link. g.met.W.Ways.links_turn c.follow.new.ways n summaries x y level fits some link)) c.in-Some-2.level
+    (subst (λ found. IfSome found (IsEnd (IsPlacedLink n summaries) c.in-Some.seat)) c.in-Some-2.is (c.in_ok-level.ensures.ends n summaries fits)))
 
-pub returns-then-seat-eq0-clause-level : goal.returns-then-seat-eq0-clause-level
-returns-then-seat-eq0-clause-level g c n summaries fits =
-    least_crest (IsPlacedLink n summaries) c.args.start (to_z w16 (of_z w16 c.in-Some.seat.crest)) (λ same. absurd (omega arith)) (returns-then-seat-eq0-clause-joined g c n summaries fits)
+pub returns-in-Some-2-clause-level : goal.returns-in-Some-2-clause-level
+returns-in-Some-2-clause-level g c n summaries fits =
+    least_crest (IsPlacedLink n summaries) c.args.start (to_z w16 (of_z w16 c.in-Some-2.level)) (λ same. let some = c.requires.start in absurd (omega arith)) (returns-in-Some-2-clause-joined g c n summaries fits)
 
-pub returns-then-seat-eq0-clause-told : goal.returns-then-seat-eq0-clause-told
-returns-then-seat-eq0-clause-told g c n summaries fits t told =
-    let in_range : SFits w16 c.in-Some.seat.crest = search rules in
+pub returns-in-Some-2-clause-alike : goal.returns-in-Some-2-clause-alike
+returns-in-Some-2-clause-alike g c n summaries fits x has =
+    let before = c.in_ok-level.ensures.fits n summaries fits in
+    let two = two_way n summaries (λ x y level some link. g.met.W.Ways.links_turn c.follow.new.ways n summaries x y level fits some link) in
+    by (IsPlacedLink n summaries) two (to_z w16 (of_z w16 c.in-Some-2.level)) (returns-in-Some-2-clause-joined g c n summaries fits) (λ seat held. c.rise.invariant.passed n summaries before seat (subst (λ (l : List Seat). Contains l seat) c.deref.ensures.value held))
+    (c.in_ok-list_below.ensures x has)
+  where
+    by : (L : ℕ → ℕ → ℤ → Type 0) → IsTwoWay L → (level : ℤ) → IsJoinedLevel L 0 c.args.start level → ((seat : Seat) → Contains c.deref.result.now seat → (0 < seat.node) × IsReachedBelow L c.args.start seat.crest seat.node)
+        → Contains c.rise.alike.items x ⊎ ((seat : Seat) × (Contains c.deref.result.now seat × ((seat.node ≡ x) × (int_lt seat.crest level ≡ true)))) → (0 < x) × IsJoinedLevel L 0 x level
+    by L two level joined passed (inl early) = absurd (none x (subst (λ (l : List ℕ). Contains l x) c.rise.invariant.none early))
+    by L two level joined passed (inr found) =
+        let seat = found.0 in
+        let reached = passed seat found.1.0 in
+        subst (λ y. (0 < y) × IsJoinedLevel L 0 y level) found.1.1.0
+        (reached.0, alike L two c.args.start seat.node seat.crest level joined reached.0 reached.1 found.1.1.1)
+
+pub returns-in-Some-2-clause-told : goal.returns-in-Some-2-clause-told
+returns-in-Some-2-clause-told g c n summaries fits t told =
+    let in_range : SFits w16 c.in-Some-2.level = search rules in
+    let before = c.in_ok-level.ensures.fits n summaries fits in
     let next : IsNext c.rise.waiting c.rise.taken c.take_next.new.waiting c.take_next.new.taken c.in-Some.seat =
     subst (λ found. IfSome found (IsNext c.rise.waiting c.rise.taken c.take_next.new.waiting c.take_next.new.taken)) c.in-Some.is c.in_ok-seat.ensures.next in
-    elim (c.rise.invariant.told n summaries fits t told) [
-      | inl first ↦ inl first
-      | inr at ↦ inr (
-        at.0,
-        subst (λ v. IsReachedBelow (IsPlacedLink n summaries) c.args.start v (node_number n (Rim t at.0))) (sym (to_z-of_z w16 c.in-Some.seat.crest in_range))
-            (reached_below (IsPlacedLink n summaries) c.args.start c.rise.taken c.rise.waiting (c.rise.invariant.rising n summaries fits) c.take_next.new.waiting c.take_next.new.taken c.in-Some.seat next (node_number n (Rim t at.0)) at.1),
-      )
+    let rising = c.rise.invariant.rising n summaries before in
+    let end : IsEnd (IsPlacedLink n summaries) c.in-Some.seat c.in-Some-2.level = subst (λ found. IfSome found (IsEnd (IsPlacedLink n summaries) c.in-Some.seat)) c.in-Some-2.is (c.in_ok-level.ensures.ends n summaries fits) in
+    let up : (y : ℕ) → IsReachedBelow (IsPlacedLink n summaries) c.args.start c.in-Some.seat.crest y → IsReachedBelow (IsPlacedLink n summaries) c.args.start (to_z w16 (of_z w16 c.in-Some-2.level)) y =
+    λ y way. (way.0, way_up (IsPlacedLink n summaries) y c.in-Some.seat.crest (to_z w16 (of_z w16 c.in-Some-2.level)) (subst (λ v. c.in-Some.seat.crest ≤ℤ v) (sym (to_z-of_z w16 c.in-Some-2.level in_range)) end.high) c.args.start way.0 way.1) in
+    elim (c.in_ok-level.ensures.told n summaries fits t told) [
+      | inr here ↦ inr (here.0, up (node_number n (Rim t here.0)) (subst (IsReachedBelow (IsPlacedLink n summaries) c.args.start c.in-Some.seat.crest) here.1 (rising.ways c.in-Some.seat next.waited)))
+      | inl earlier ↦ elim (c.rise.invariant.told n summaries before t earlier) [
+        | inl first ↦ inl first
+        | inr at ↦ inr (at.0, up (node_number n (Rim t at.0)) (reached_below (IsPlacedLink n summaries) c.args.start c.rise.taken c.rise.waiting rising c.take_next.new.waiting c.take_next.new.taken c.in-Some.seat next (node_number n (Rim t at.0)) at.1))
+      ]
     ]
 
 pub rise-smaller : goal.rise-smaller
@@ -66,27 +98,47 @@ rise-preserved g c =
     let next : IsNext c.rise.waiting c.rise.taken c.take_next.new.waiting c.take_next.new.taken c.in-Some.seat =
     subst (λ found. IfSome found (IsNext c.rise.waiting c.rise.taken c.take_next.new.waiting c.take_next.new.taken)) c.in-Some.is c.in_ok-seat.ensures.next in
     record {
-      fits = λ n summaries fits. c.rise.invariant.fits n summaries (c.in_ok-follow.ensures.fits n summaries fits);
-      keeps = g.met.W.Ways.keeps_on c.args.ways.now c.rise.ways c.follow.new.ways c.args.source.now c.rise.source c.follow.new.source c.rise.invariant.keeps c.in_ok-follow.ensures.keeps;
-      told = λ n summaries fits t told. elim (c.in_ok-follow.ensures.told n summaries fits t told) [
+      fits = λ n summaries fits. c.rise.invariant.fits n summaries (c.in_ok-level.ensures.fits n summaries fits);
+      keeps = g.met.W.Ways.keeps_on c.args.ways.now c.rise.ways c.follow.new.ways c.args.source.now c.rise.source c.follow.new.source c.rise.invariant.keeps c.in_ok-level.ensures.keeps;
+      told = λ n summaries fits t told. elim (c.in_ok-level.ensures.told n summaries fits t told) [
         | inr here ↦ inr (here.0, subst (λ y. is_among c.take_next.new.taken y ≡ true) here.1 (taken_now c.rise.taken c.take_next.new.taken c.in-Some.seat.node next.takes))
-        | inl before ↦ elim (c.rise.invariant.told n summaries (c.in_ok-follow.ensures.fits n summaries fits) t before) [
+        | inl before ↦ elim (c.rise.invariant.told n summaries (c.in_ok-level.ensures.fits n summaries fits) t before) [
           | inl first ↦ inl first
           | inr at ↦ inr (at.0, taken_still c.rise.taken c.take_next.new.taken c.in-Some.seat.node (node_number n (Rim t at.0)) next.takes at.1)
         ]
       ];
+      none = c.rise.invariant.none;
+      passed = λ n summaries fits seat has.
+          let before = c.in_ok-level.ensures.fits n summaries fits in
+          let followed = subst (λ found. IfNone found (IsFollowed (IsPlacedLink n summaries) c.take_next.new.taken c.take_next.new.waiting c.follow.new.waiting c.in-Some.seat)) c.in_default-2.is (c.in_ok-level.ensures.followed n summaries fits) in
+          elim (Contains-push_cases c.rise.passed.items c.in-Some.seat seat (subst (λ (l : List Seat). Contains l seat) c.in_ok-pass.ensures has)) [
+            | inl earlier ↦ c.rise.invariant.passed n summaries before seat earlier
+            | inr last ↦ subst (λ (s : Seat). (0 < s.node) × IsReachedBelow (IsPlacedLink n summaries) c.args.start s.crest s.node) last
+                (followed.inner, (c.rise.invariant.rising n summaries before).ways c.in-Some.seat next.waited)
+          ];
       rising = λ n summaries fits.
-          let before = c.in_ok-follow.ensures.fits n summaries fits in
+          let before = c.in_ok-level.ensures.fits n summaries fits in
           risen (IsPlacedLink n summaries) c.args.start c.rise.taken c.rise.waiting (c.rise.invariant.rising n summaries before) c.take_next.new.waiting c.take_next.new.taken c.in-Some.seat next c.follow.new.waiting
-          (c.in_ok-follow.ensures.followed n summaries fits)
-          c.if-seat-eq0.false;
+          (subst (λ found. IfNone found (IsFollowed (IsPlacedLink n summaries) c.take_next.new.taken c.take_next.new.waiting c.follow.new.waiting c.in-Some.seat)) c.in_default-2.is (c.in_ok-level.ensures.followed n summaries fits));
     }
 
-pub returns-in_err-follow-clause-refusal : goal.returns-in_err-follow-clause-refusal
-returns-in_err-follow-clause-refusal g c =
-    let p = err_from_is_err_and c.from_residual-in_err-follow.result c.from_residual-in_err-follow.ensures.1 in
+pub returns-in_err-level-clause-refusal : goal.returns-in_err-level-clause-refusal
+returns-in_err-level-clause-refusal g c =
+    let p = err_from_is_err_and c.from_residual-in_err-level.result c.from_residual-in_err-level.ensures.1 in
     rw p.1 (subst (g.W.Ways.refuses c.args.ways.now c.args.source.now c.follow.new.ways c.follow.new.source) (sym p.2)
-    (g.met.W.Ways.refuses_on c.args.ways.now c.rise.ways c.follow.new.ways c.args.source.now c.rise.source c.follow.new.source c.in_err-follow.field-0.0 c.rise.invariant.keeps c.in_err-follow.ensures.refusal))
+    (g.met.W.Ways.refuses_on c.args.ways.now c.rise.ways c.follow.new.ways c.args.source.now c.rise.source c.follow.new.source c.in_err-level.field-0.0 c.rise.invariant.keeps c.in_err-level.ensures.refusal))
+
+pub returns-in_err-list_below-clause-refusal : goal.returns-in_err-list_below-clause-refusal
+returns-in_err-list_below-clause-refusal g c =
+    let keeps = g.met.W.Ways.keeps_on c.args.ways.now c.rise.ways c.follow.new.ways c.args.source.now c.rise.source c.follow.new.source c.rise.invariant.keeps c.in_ok-level.ensures.keeps in
+    let out = g.met.W.Ways.runs_out c.args.ways.now c.follow.new.ways c.args.source.now c.follow.new.source keeps in
+    search rules
+
+pub returns-in_err-pass-clause-refusal : goal.returns-in_err-pass-clause-refusal
+returns-in_err-pass-clause-refusal g c =
+    let keeps = g.met.W.Ways.keeps_on c.args.ways.now c.rise.ways c.follow.new.ways c.args.source.now c.rise.source c.follow.new.source c.rise.invariant.keeps c.in_ok-level.ensures.keeps in
+    let out = g.met.W.Ways.runs_out c.args.ways.now c.follow.new.ways c.args.source.now c.follow.new.source keeps in
+    search rules
 
 pub returns-clause-not_joined : goal.returns-clause-not_joined
 returns-clause-not_joined g c n summaries fits =
@@ -97,5 +149,5 @@ pub returns-clause-none : goal.returns-clause-none
 returns-clause-none g c n summaries fits = none
   where
     none : (rest : List Way) → LeadsOut (IsPlacedLink n summaries) c.args.start rest → ⊥
-    none [] out = absurd (omega (arith, c.requires))
+    none [] out = absurd (omega (arith, c.requires.start))
     none (way ∷ rest) out = returns-clause-not_joined g c n summaries fits (crest way rest) (map (λ (w : Way). w.to) (way ∷ rest)) (below_crest (IsPlacedLink n summaries) c.args.start way rest out)
