@@ -1,5 +1,5 @@
 //! Pages of a disk that were read lately.
-ghost use Rattle.std.specs.Prelude.{◌≡◌, ◌⊎◌, ℕ, List, [], true, IfOk, IfErr};
+ghost use Rattle.std.specs.Prelude.{◌≡◌, ◌≤◌, ◌+◌, ◌⊎◌, ℕ, List, [], true, slice_range, IfOk, IfErr};
 ghost use Rattle.lattice.specs.declared.refusal.Refusal.TheVariants.{NoMemory};
 ghost use Rattle.cow_tree.specs.Caches.{entries_of, IsHeld};
 
@@ -46,6 +46,23 @@ impl PageCache {
             return false;
         }
         into.copy_from_slice(page);
+        true
+    }
+
+    /// Whether the page is held; then two of its bytes are copied.
+    pub(crate) fn find_two(&mut self, number: u32, from: usize, into: &mut [u8; 2]) -> bool
+        requires { from + 2 ≤ 4096 }
+        ensures kept { (page : ℕ) (bytes : List ℕ) → IsHeld self.new page bytes → IsHeld self.old page bytes }
+        ensures found { result ≡ true → (bytes : List ℕ) × (IsHeld self.old number bytes × (slice_range bytes from (from + 2) ≡ into.new)) }
+    {
+        self.pages.promote(&number);
+        let Some(page) = self.pages.peek(&number) else {
+            return false;
+        };
+        if page.len() != PAGE_BYTES {
+            return false;
+        }
+        into.copy_from_slice(&page[from..from + 2]);
         true
     }
 

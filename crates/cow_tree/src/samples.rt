@@ -91,11 +91,11 @@ impl<D: Disk> Samples for Tree<D> {
     }
 
     fn sample(&mut self, c: Corner, i: u32) -> Result<i16, Refusal> {
-        let mut page = [0; PAGE_BYTES];
-        self.read_page(c, Plane::Heights, i / SAMPLES_IN_PAGE, &mut page)?;
         let from = 2 * (i % SAMPLES_IN_PAGE) as usize;
+        let mut two = [0; 2];
+        self.read_two(c, Plane::Heights, i / SAMPLES_IN_PAGE, from, &mut two)?;
         let mut one = [0];
-        hgt::read_samples(&page[from..from + 2], &mut one);
+        hgt::read_samples(&two, &mut one);
         Ok(one[0])
     }
 

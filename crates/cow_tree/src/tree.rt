@@ -1,5 +1,5 @@
 //! The tree.
-ghost use Rattle.std.specs.Prelude.{◌≡◌, ◌≢◌, ◌≤◌, ◌<◌, ◌+◌, ◌*◌, ◌^◌, ◌⊎◌, ◌↔◌, ℕ, List, All, Contains, IsTrue, length, map, filter, not, true, false, Ok, Err, OnOk, OnErr, IfOk, IfErr, IsErrOf, if◌then◌else◌};
+ghost use Rattle.std.specs.Prelude.{◌≡◌, ◌≢◌, ◌≤◌, ◌<◌, ◌+◌, ◌*◌, ◌^◌, ◌⊎◌, ◌↔◌, ℕ, List, All, Contains, IsTrue, length, map, filter, not, true, false, Ok, Err, OnOk, OnErr, IfOk, IfErr, IsErrOf, if◌then◌else◌, slice_range};
 ghost use Rattle.disk.specs.Disk.{Image, Only, HasRisen};
 ghost use Rattle.disk.specs.Stops.{LeavesOnly, AddsNothing, HasCause};
 ghost use Rattle.lattice.specs.Corners.{Corner, same_corner, is_corner};
@@ -35,7 +35,7 @@ use arrayvec::ArrayVec;
 use charts::{Chart, Plane};
 use disk::Disk;
 use lattice::{Corner, MOST_TILES, Point, Refusal};
-use page_codec::{Format, Root, Version};
+use page_codec::{Format, PAGE_BYTES, Root, Version};
 use roots::{NotOpened, Roots};
 use std::alloc::Global;
 
@@ -288,6 +288,37 @@ impl<D: Disk> Tree<D> {
         if answer.is_ok() {
             self.cache.keep(number, into);
         }
+        answer
+    }
+
+    /// Reads two bytes of page `i` of a plane as [`Tree::read_page`] does.
+    pub fn read_two(
+        &mut self,
+        c: Corner,
+        plane: Plane,
+        i: u32,
+        from: usize,
+        into: &mut [u8; 2],
+    ) -> Result<(), Refusal>
+        requires held { Holds self.old c plane }
+        requires index { i < pages_of (root_of self.old).side }
+        requires inside { from + 2 ≤ 4096 }
+        ensures reads { Reads D.Disk self.old self.new result }
+        ensures two { D.honest (disk_of self.new) → OnOk result ((bytes : List ℕ) × (HasPage (staged_in D.Disk self.old) c plane i bytes × (slice_range bytes from (from + 2) ≡ into.new))) }
+    {
+        if self.roots.has_failed() {
+            return Err(Refusal::Failed);
+        }
+        let number = self.page_number(c, plane, i);
+        if self.cache.find_two(number, from, into) {
+            return Ok(());
+        }
+        let mut page = [0; PAGE_BYTES];
+        let answer = self.roots.read(number, &mut page);
+        if answer.is_ok() {
+            self.cache.keep(number, &page);
+        }
+        into.copy_from_slice(&page[from..from + 2]);
         answer
     }
 

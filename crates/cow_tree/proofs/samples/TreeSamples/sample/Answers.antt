@@ -1,7 +1,8 @@
-use Rattle.std.proofs.Common.{◌≡◌, ◌<◌, ℤ, pos, List, [], ◌∷◌, length, get_or, refl, sym, subst, arith, rules}
+use Rattle.std.proofs.Common.{◌≡◌, ◌<◌, ℕ, ℤ, pos, List, [], ◌∷◌, length, get_or, refl, sym, subst, arith, rules}
 use Rattle.std.proofs.lemmas.Int.{to_z-of_z}
 use mir.Syntax.{w16}
 use mir.Val.{SFits}
+use Rattle.hgt.specs.Bytes.{samples_in}
 use Rattle.catalogue.specs.Reading.{IsSampleOf}
 use Rattle.cow_tree.specs.Layout.{tile_in}
 use Rattle.cow_tree.specs.Reading.{mosaic_of}
@@ -17,15 +18,15 @@ first_of : (l : List ℤ) → 0 < length l → get_or l 0 (pos 0) ≡ get_or l 0
 first_of [] some = absurd (omega (arith, some))
 first_of (x ∷ xs) some = refl
 
-pub read_page-requires-clause-held : goal.read_page-requires-clause-held
-read_page-requires-clause-held g c =
+pub read_two-requires-clause-held : goal.read_two-requires-clause-held
+read_two-requires-clause-held g c =
     let found = located_tile c.args.c c.args.self.now.chart.staged c.requires.present in
     (found.0, (found.1.0, (found.1.1, (found.0.heights, refl))))
 
 pub returns-clause-sample : goal.returns-clause-sample
 returns-clause-sample g c readable =
     let old = c.args.self.now in
-    let was = was_readable g.D.Disk old c.read_page.new.self c.in_ok-read_page.ensures.reads.keeps readable in
+    let was = was_readable g.D.Disk old c.read_two.new.self c.in_ok-read_two.ensures.reads.keeps readable in
     let seen = g.D.Disk.seen old.roots.disk in
     let found = located_tile c.args.c old.chart.staged c.requires.present in
     let among = contains-map (tile_in seen) old.chart.staged found.0 found.1.0 in
@@ -33,10 +34,11 @@ returns-clause-sample g c readable =
     let all = samples_are old.root.side old.sinks.points (staged_in g.D.Disk old) c.args.c t was.valid among found.1.1 in
     let many = as_many old.root.side old.sinks.points (staged_in g.D.Disk old) c.args.c t was.valid among found.1.1 in
     let into = c.read_samples.new.samples in
+    let held = c.in_ok-read_two.ensures.two readable.honest in
     let s : ℤ = get_or into 0 (pos 0) in
     let fits : SFits w16 s = search rules in
     subst (λ (x : ℤ). IsSampleOf (mosaic_of g.D.Disk old) c.args.c c.args.i x) (sym (to_z-of_z w16 s fits))
     (one_sample (mosaic_of g.D.Disk old) c.args.c (samples_of_plane old.root.side t.heights) c.args.i into s all (omega (arith, many, c.requires.index)) (omega arith) (first_of into (omega arith))
-    (part_read old.root.side old.sinks.points (staged_in g.D.Disk old) c.args.c c.args.i 1 _ c.read_page.new.into into was.valid was.pages
-    (omega arith) (omega arith) (omega (arith, c.requires.index)) (omega arith) c.read_samples.ensures (c.in_ok-read_page.ensures.page readable.honest)
+    (part_read old.root.side old.sinks.points (staged_in g.D.Disk old) c.args.c c.args.i 1 _ held.0 into was.valid was.pages
+    (omega arith) (omega arith) (omega (arith, c.requires.index)) (omega arith) (subst (λ (l : List ℕ). into ≡ samples_in l) (sym held.1.1) c.read_samples.ensures) held.1.0
     (samples_of_plane old.root.side t.heights) all))
