@@ -46,7 +46,8 @@ impl<W: World> FileDisk<W> {
             .read(true)
             .write(true)
             .create_new(true)
-            .open(rt, path)?;
+            .open(rt, path)?
+            .try_clone()?;
         file.try_lock()?;
         file.set_len(u64::from(sectors) * SECTOR_BYTES)?;
         sync_folder(rt, path)?;
@@ -119,7 +120,12 @@ impl<W: World> FileDisk<W> {
 
 // Opens a file and takes its lock, which is held until the file is closed.
 fn open_locked(rt: &HostRuntime, path: &str) -> io::Result<File> {
-    let file = OpenOptions::new().read(true).write(true).open(rt, path)?;
+    // The clone's number is none of the standard streams', which may be closed.
+    let file = OpenOptions::new()
+        .read(true)
+        .write(true)
+        .open(rt, path)?
+        .try_clone()?;
     file.try_lock()?;
     Ok(file)
 }
