@@ -136,7 +136,7 @@ module _ {D : Type 0} (g : Ghosts D) where
       last : Store D g
       last = last_of store stores
 
-      session : g.honest (disk_of last) → (side capacity : ℕ) (a b : Contents) → HoldsEither g old side capacity a b → IsSession g old (disk_of last) side capacity before after written now result a b
+      session : g.honest (disk_of last) → (side capacity : ℕ) (a b : Contents) → HoldsEither g old side capacity a b → IsSession g old (disk_of last) (map (λ (e : Store D g). g.moment (disk_of e)) (store ∷ stores)) side capacity before after written now result a b
       session h side capacity a b holds =
           let found = found_in old store opened (honest h) side capacity a b holds in
           let (states, (outcome, leaves)) = goes h (working found.first) found.at in
@@ -146,8 +146,6 @@ module _ {D : Type 0} (g : Ghosts D) where
             states = states;
             goes = goes_from old store last side capacity a b states opened (honest h) holds found leaves.0 (λ image may. ends.run.now image may);
             outcome = subst (λ (n : ℕ). Outcome (Replied (Happens n) side_in) before after written now (working found.first) states result) found.same_capacity outcome;
-            opened = g.moment (disk_of store);
-            moments = map (λ (e : Store D g). g.moment (disk_of e)) stores;
             later = leaves_later side capacity (store ∷ stores) last (working found.first ∷ states) (leaves.0.side ∙ found.same_side) (leaves.0.capacity ∙ found.same_capacity) leaves;
           }
 

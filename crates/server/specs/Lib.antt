@@ -1,4 +1,5 @@
 pub mod Endings
+pub mod Following
 pub mod OnDisks
 pub mod Paths
 pub mod Program

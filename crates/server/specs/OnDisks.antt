@@ -1,6 +1,6 @@
 -- What a subcommand does on the disk of a store: what it finds there, what it does, and what a stop (a power cut) at any
 -- moment leaves (this product's own profile).
-use Rattle.std.specs.Prelude.{◌≡◌, ◌⊎◌, ◌≤◌, ◌+◌, ◌*◌, ℕ, nat_le, false, List, [], ◌∷◌, map, codes, ◌++◌, take, Option, Some, None, IfSome, Result, Ok, Err, IsErrOf, OnOk, IfOk}
+use Rattle.std.specs.Prelude.{◌≡◌, ◌⊎◌, ◌≤◌, ◌+◌, ◌*◌, ℕ, nat_le, false, List, [], ◌∷◌, map, codes, ◌++◌, take, Option, Some, None, IfSome, Result, Ok, Err, IsErrOf, OnOk, IfOk, IfErr}
 use Rattle.disk.specs.Disk.{Image, HasRisen}
 use Rattle.disk.specs.Stops.{AddsNothing}
 use Rattle.disk.specs.declared.disk.Disk.{Ghosts}
@@ -27,6 +27,7 @@ use Rattle.store.specs.StoreState.{StandsForOne}
 use Rattle.store.specs.Stores.{disk_of, side_of, has_failed}
 use Rattle.store.specs.declared.store.Store.{Store}
 use Rattle.server.specs.Endings.{EndsAnswering, EndsSession, Tells, TellsRefusal, count_line}
+use Rattle.server.specs.Paths.{IsTaken}
 use Rattle.server.specs.Report.{IsReportText, Reports}
 use Rattle.server.specs.Sessions.{TellsCall}
 
@@ -93,14 +94,12 @@ module _ {D : Type 0} (g : Ghosts D) where
 
   -- The replies are right in the states that the store went through, and what was told stays: since the moment at which
   -- an item was answered a stop leaves the state after it or a later one.
-  pub record IsSession (old new : D) (side capacity : ℕ) (before after written now : Option (List ℕ)) (result : Result (Unit {0}) ServeFault) (a b : Contents) : Type 0 where
+  pub record IsSession (old new : D) (moments : List ℕ) (side capacity : ℕ) (before after written now : Option (List ℕ)) (result : Result (Unit {0}) ServeFault) (a b : Contents) : Type 0 where
     pub first : Contents
     pub states : List State
     pub goes : GoesFrom old new side capacity a b first states
     pub outcome : Outcome (Replied (Happens capacity) side_in) before after written now (working first) states result
-    pub opened : ℕ
-    pub moments : List ℕ
-    pub later : LeavesLater new side capacity (opened ∷ moments) (working first ∷ states)
+    pub later : LeavesLater new side capacity moments (working first ∷ states)
 
   pub record HasServed (old new : D) (before after written now : Option (List ℕ)) (result : Result (Unit {0}) ServeFault) : Type 0 where
     pub later : g.failures old ≤ g.failures new
@@ -115,7 +114,8 @@ module _ {D : Type 0} (g : Ghosts D) where
     pub answers : Outcome (TellsCall g) before after written now store stores result
     pub told : Outcome (Replied IsTold (λ _. side_of store)) before after written now false (map has_failed stores) result
     -- on an honest one that holds a store
-    pub session : g.honest new → (n capacity : ℕ) (a b : Contents) → HoldsEither old n capacity a b → IsSession old new n capacity before after written now result a b
+    pub session : g.honest new → (n capacity : ℕ) (a b : Contents) → HoldsEither old n capacity a b
+        → IsSession old new (map (λ (s : Store D g). g.moment (disk_of s)) (store ∷ stores)) n capacity before after written now result a b
 
   -- lines are served on the disk's store, where there is one
   abbrev pub ServesLines : D → D → (before after written now : Option (List ℕ)) → ℕ → Type 0
@@ -144,7 +144,7 @@ module _ {D : Type 0} (g : Ghosts D) where
       TellsClosed old new written now status
       ⊎ (WasRead old new × Tells (codes "mosaic: cannot read " ++ tile) written now status)
       ⊎ (WasRead old new × TellsRefusal NoMemory written now status)
-      ⊎ ((side : ℕ) × (bytes : List ℕ) × (result : Result ℕ Refusal) × IsTileRead side given bytes × HasApplied old new (Import corner bytes) result
+      ⊎ ((store : Store D g) × (bytes : List ℕ) × (result : Result ℕ Refusal) × WasRead old (disk_of store) × IsTileRead (side_of store) given bytes × HasApplied old new (Import corner bytes) result
       × EndsAnswering count_line result written now status)
 
   -- ---- an upgrade
@@ -182,6 +182,8 @@ module _ {D : Type 0} (g : Ghosts D) where
     pub device : IsErrOf result Device → HasRisen (g.failures old) (g.failures new)
     pub honest : g.honest new → g.honest old
     pub formatted : g.honest new → OnOk result ((image : Image) → g.may new image → StandsFor (g.size new) side capacity image (fresh side))
+    -- where there is room it is refused only for the disk
+    pub sure : IsTaken side capacity → sectors_asked (format_2 side capacity) ≤ g.size old → IfErr result (λ r. r ≡ Device)
 
   -- the disk is made a store without tiles
   abbrev pub MakesStore : (side capacity : ℕ) → D → D → (written now : Option (List ℕ)) → ℕ → Type 0

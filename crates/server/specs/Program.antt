@@ -38,8 +38,8 @@ EndsServing side capacity before after written new status =
 -- the side is tested first, then the capacity
 abbrev pub RunsTable : (side capacity : ℕ) → (before after written new : Option (List ℕ)) → ℕ → Type 0
 RunsTable side capacity before after written new status =
-    (((side < 3) ⊎ (largest_side < side)) × TellsRefusal BadSide written new status)
-    ⊎ ((3 ≤ side) × (side ≤ largest_side) × ((capacity < 1) ⊎ (most_tiles < capacity)) × TellsRefusal BadCapacity written new status)
+    (((side < 3) ⊎ (largest_side < side)) × (after ≡ before) × TellsRefusal BadSide written new status)
+    ⊎ ((3 ≤ side) × (side ≤ largest_side) × ((capacity < 1) ⊎ (most_tiles < capacity)) × (after ≡ before) × TellsRefusal BadCapacity written new status)
     ⊎ (IsTaken side capacity × EndsServing side capacity before after written new status)
 
 -- ---- on a file, whose reads give these images as time goes on
@@ -101,8 +101,8 @@ module _ (images : ℕ → Image) where
   -- what they ask for.
   abbrev pub CarriesOut : (words : List (List ℕ)) → (before after written new : Option (List ℕ)) → Option (FileDisk Brand) → ℕ → Type 0
   CarriesOut words before after written new disk status =
-      ((disk ≡ None) × AskNothing words × Begins written new bad_words × (status ≡ 2))
-      ⊎ ((disk ≡ None) × TellsRefusal NoMemory written new status)
+      ((disk ≡ None) × (after ≡ before) × AskNothing words × Begins written new bad_words × (status ≡ 2))
+      ⊎ ((disk ≡ None) × (after ≡ before) × TellsRefusal NoMemory written new status)
       ⊎ ((a : Arguments) × AskedBy words a × RunsAs a before after written new disk status)
 
   -- the same, where the disk is closed

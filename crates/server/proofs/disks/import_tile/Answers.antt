@@ -1,7 +1,7 @@
 use Rattle.std.proofs.Common.{ℕ, List, inl, inr, sym, subst}
 use Rattle.edits.specs.declared.command.Command.TheVariants.{Import}
 use Rattle.server.specs.OnDisks.{HasApplied, IsTileRead, given_by}
-use Rattle.server.proofs.OnStores.{IsOpened, has_applied}
+use Rattle.server.proofs.OnStores.{IsOpened, has_applied, was_read}
 use Rattle.server.proofs.disks.import_tile.Goals as goal
 
 pub returns-in-Err : goal.returns-in-Err
@@ -31,10 +31,11 @@ returns g c =
     let read = subst (λ (b : List ℕ). IsTileRead c.tile_side.result (given_by g.R.Read.remaining c.args.reader) b) (sym c.new-bytes.ensures) c.in-Ok-read_tile.ensures in
     let applied = has_applied g.D.Disk c.args.disk c.in-Ok.store c.apply-applied.new.self (Import c.args.corner bytes) c.apply-applied.result opened c.apply-applied.ensures in
     inr (inr (inr (
-      c.tile_side.result,
+      c.in-Ok.store,
       bytes,
       c.apply-applied.result,
-      read,
+      was_read g.D.Disk c.args.disk c.in-Ok.store opened,
+      subst (λ (n : ℕ). IsTileRead n (given_by g.R.Read.remaining c.args.reader) bytes) c.tile_side.ensures read,
       subst (λ d. HasApplied g.D.Disk c.args.disk d (Import c.args.corner bytes) c.apply-applied.result) (sym c.into_disk-2.ensures) applied,
       c.end_command.ensures,
     )))
