@@ -6,7 +6,15 @@ use Rattle.calls.specs.Runs.{last_of, Through}
 use Rattle.calls.specs.State.{Contents, State, working}
 use Rattle.calls.specs.declared.event.Event.{Event}
 use Rattle.calls.specs.declared.event.Reply.{Reply}
-use Rattle.store.specs.Stores.{side_of, capacity_of, IsAt}
+use Rattle.disk.specs.Faulty.{inner_of}
+use Rattle.disk.specs.MemDisk.{state_of}
+use Rattle.disk.specs.Memory.{left_by}
+use Rattle.disk.specs.declared.faulty.FaultyDisk.{FaultyDisk}
+use Rattle.disk.specs.declared.fuse.Fuse.{Fuse}
+use Rattle.disk.specs.declared.memory.MemDisk.{MemDisk}
+use Rattle.disk.specs.declared.torn.Torn.{Torn}
+use Rattle.store.specs.Calls.{Runs}
+use Rattle.store.specs.Stores.{disk_of, side_of, capacity_of, IsAt}
 use Rattle.store.specs.declared.store.Store.{Store}
 
 -- the store is at the contents of the state, or at those of its commit in doubt
@@ -21,3 +29,8 @@ pub record SurvivesPowerCut {D : Type 0} (g : Ghosts D) (side capacity : ℕ) (s
   pub back : ComesBackTo g (last_of s states) opened
   pub same_side : side_of opened ≡ side
   pub same_capacity : capacity_of opened ≡ capacity
+
+-- The store ran the events, and what is read of the disk that was opened then is what such a cut leaves of the run's disk.
+abbrev pub WasCut : (g : Ghosts (FaultyDisk MemDisk Fuse)) (h : Ghosts MemDisk) → Store (FaultyDisk MemDisk Fuse) g → Torn → List Event → List Reply → Store MemDisk h → Type 0
+WasCut g h store torn events answers opened =
+    (ran : Store (FaultyDisk MemDisk Fuse) g) × Runs g store ran events answers × ((state_of (disk_of opened)).seen ≡ left_by torn (state_of (inner_of (disk_of ran))))

@@ -3,7 +3,7 @@ ghost use Rattle.std.specs.Prelude.{◌≡◌, ◌++◌, ◌⊎◌, List, IfOk, 
 ghost use Rattle.lattice.specs.declared.refusal.Refusal.TheVariants.{Device, NoMemory};
 ghost use Rattle.calls.specs.State.{State};
 ghost use Rattle.calls.specs.declared.event.Reply.{Reply};
-ghost use Rattle.memory_store.specs.PowerCuts.{SurvivesPowerCut};
+ghost use Rattle.memory_store.specs.PowerCuts.{SurvivesPowerCut, WasCut};
 ghost use Rattle.store.specs.Stores.{side_of, capacity_of, IsAt};
 
 use calls::{Event, Reply};
@@ -29,6 +29,10 @@ pub fn run_through_power_cut(
     ensures survives { (s : State) → IsAt ⟦<FuseDisk<MemDisk> as Disk>⟧ store s
         → IfOk result (λ opened. (answers : List Reply) × (out.new.items ≡ out.old.items ++ answers)
         × SurvivesPowerCut ⟦<MemDisk as Disk>⟧ (side_of store) (capacity_of store) s events.now answers opened) }
+
+    // The power was cut where the run ended: what is read of the opened disk is what such a cut leaves.
+    ensures cut { IfOk result (λ opened. (answers : List Reply) × (out.new.items ≡ out.old.items ++ answers)
+        × WasCut ⟦<FuseDisk<MemDisk> as Disk>⟧ ⟦<MemDisk as Disk>⟧ store torn events.now answers opened) }
     ensures sure { (s : State) → IsAt ⟦<FuseDisk<MemDisk> as Disk>⟧ store s
         → IfErr result (λ r. (r ≡ Device) ⊎ (r ≡ NoMemory)) }
 {
