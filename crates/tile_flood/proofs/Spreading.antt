@@ -13,9 +13,10 @@ use Rattle.lattice.specs.Block.{block_terrain, is_solid, is_linked, is_exit, is_
 use Rattle.lattice.proofs.Levels.{level_beside, level_of_outlet, all_marked, le-max_right, ≤ℤ_same}
 use Rattle.lattice.proofs.Lawful.{block_is_lawful}
 use Rattle.tile_flood.specs.Waiting.{Queue, Waits, HasBucket, IsJoined, IsTaken}
-use Rattle.tile_flood.specs.Labelling.{IsLabelAt, IsLabelling, NO_LABEL}
+use Rattle.tile_flood.specs.Labelling.{IsLabelAt, IsLabelling, Names, OUT, NO_LABEL}
 use Rattle.tile_flood.specs.Flooding.{is_marked, unmarked, lack, AreMarks, IsSeeding, IsFlooding, IsSpreading, AreMarkedStill, IsRowMarked, IsOwnLabel}
 use Rattle.tile_flood.specs.Blocks.{block_of, bare_block}
+use Rattle.tile_flood.specs.Carried.{IsCarried, IsCarriedBy, IsSource, HangsOn, AreCarried}
 use Rattle.tile_flood.proofs.Buckets.{has_bucket}
 use Rattle.tile_flood.proofs.Squares.{not_void_if, test_if, linked_parts, linked_from, solid_height, solid_below, beside_if, row_of_cell, column_of_cell, cell_of, leads}
 
@@ -27,10 +28,16 @@ start_solid n heights sinks e (y ∷ rest) path = (linked_parts n heights e y pa
 pub marked_solid : (n : ℕ) (heights : List ℤ) (sinks : List ℕ) (levels : List ℤ) (labels : List ℕ) (queue : Queue) (e : ℕ) → AreMarks (block_of n heights sinks) levels labels queue → IsTrue (is_marked levels e) → IsTrue (is_solid (bare_block n heights) e)
 marked_solid n heights sinks levels labels queue e s on = let way = (s.filled e on).reached in start_solid n heights sinks e way.0 way.1.0.path
 
+-- what y, that gets this level and this label, starts from or hangs on
+abbrev pub IsHung : (n : ℕ) (heights : List ℤ) (sinks : List ℕ) (levels : List ℤ) (labels : List ℕ) (y : ℕ) (v : ℤ) (label : ℕ) → Type 0
+IsHung n heights sinks levels labels y v label =
+    (IsTrue (is_exit (block_of n heights sinks) y) × ((v ≡ get_or heights y void) × (Names (block_of n heights sinks) label y × (IsTrue (is_inner_outlet (block_of n heights sinks) y) → label ≡ OUT))))
+    ⊎ ((f : ℕ) × (IsFalse (is_exit (block_of n heights sinks) y) × (IsTrue (is_linked (bare_block n heights) y f) × (IsTrue (is_marked levels f) × ((label ≡ slice_index labels f) × (v ≡ int_max (get_or heights y void) (get_or levels f void)))))))
+
 -- a ground point without a level gets this level and this label, and waits
 module _ (n : ℕ) (heights : List ℤ) (sinks : List ℕ) (levels : List ℤ) (labels : List ℕ) (queue queue' : Queue) (y : ℕ) (v : ℤ) (label : ℕ)
     (s : AreMarks (block_of n heights sinks) levels labels queue) (solid : IsTrue (is_solid (bare_block n heights) y)) (off : is_marked levels y ≡ false)
-    (fills : IsFilledLevel (block_terrain (block_of n heights sinks)) y v) (named : IsLabelAt (block_of n heights sinks) y v label) (full : v ≢ void) (joined : IsJoined queue queue' v y) where
+    (fills : IsFilledLevel (block_terrain (block_of n heights sinks)) y v) (named : IsLabelAt (block_of n heights sinks) y v label) (hung : IsHung n heights sinks levels labels y v label) (full : v ≢ void) (joined : IsJoined queue queue' v y) where
   in_levels : y < length levels
   in_levels = subst (λ k. y < k) (sym s.levels_whole) (solid_below n heights y solid)
 
@@ -57,6 +64,69 @@ module _ (n : ℕ) (heights : List ℤ) (sinks : List ℕ) (levels : List ℤ) (
   pub same_at : (e : ℕ) → IsTrue (is_marked levels e) → get_or (set levels y v) e void ≡ get_or levels e void
   same_at e on = get_or-set_other levels y e v void (λ h. true≢false (sym on ∙ (ap (is_marked levels) h ∙ off)))
 
+  same_label : (e : ℕ) → IsTrue (is_marked levels e) → slice_index (set labels y label) e ≡ slice_index labels e
+  same_label e on = get_or-set_other labels y e label 0 (λ h. true≢false (sym on ∙ (ap (is_marked levels) h ∙ off)))
+
+  -- what was carried is so still
+  carried_still : (e : ℕ) (rest : List ℕ) → IsTrue (is_marked levels e) → IsCarriedBy (block_of n heights sinks) levels labels e rest →
+      IsCarriedBy (block_of n heights sinks) (set levels y v) (set labels y label) e rest
+  carried_still e [] on by = record {
+    exit = by.exit;
+    level = same_at e on ∙ by.level;
+    names = subst (λ l. Names (block_of n heights sinks) l e) (sym (same_label e on)) by.names;
+    inner_outlet = λ inner. same_label e on ∙ by.inner_outlet inner;
+  }
+  carried_still e (f ∷ rest) on by =
+      let on_f : IsTrue (is_marked levels f) = test_if (get_or levels f void) by.0.full in (
+        record {
+          inner = by.0.inner;
+          link = by.0.link;
+          full = λ none. by.0.full (sym (same_at f on_f) ∙ none);
+          label = same_label e on ∙ (by.0.label ∙ sym (same_label f on_f));
+          level = same_at e on ∙ (by.0.level ∙ ap (int_max (get_or heights e void)) (sym (same_at f on_f)));
+        },
+        carried_still f rest on_f by.1,
+      )
+
+  level_of_y : get_or (set levels y v) y void ≡ v
+  level_of_y = get_or-set_same levels y v void in_levels
+
+  label_of_y : slice_index (set labels y label) y ≡ label
+  label_of_y = get_or-set_same labels y label 0 in_labels
+
+  carried_at : IsCarried (block_of n heights sinks) (set levels y v) (set labels y label) y
+  carried_at = elim hung [
+    | inl source ↦ ([], record {
+      exit = source.0;
+      level = level_of_y ∙ source.1.0;
+      names = subst (λ l. Names (block_of n heights sinks) l y) (sym label_of_y) source.1.1.0;
+      inner_outlet = λ inner. label_of_y ∙ source.1.1.1 inner;
+    })
+    | inr from ↦
+        let f = from.0 in
+        let on_f = from.1.1.1.0 in
+        let before = s.carried f on_f in
+        (f ∷ before.0, (
+          record {
+            inner = from.1.0;
+            link = from.1.1.0;
+            full = λ none. not_void_if levels f on_f (sym (same_at f on_f) ∙ none);
+            label = label_of_y ∙ (from.1.1.1.1.0 ∙ sym (same_label f on_f));
+            level = level_of_y ∙ (from.1.1.1.1.1 ∙ ap (int_max (get_or heights y void)) (sym (same_at f on_f)));
+          },
+          carried_still f before.0 on_f before.1,
+        ))
+  ]
+
+  carried_now : (e : ℕ) → IsTrue (is_marked (set levels y v) e) → IsCarried (block_of n heights sinks) (set levels y v) (set labels y label) e
+  carried_now e on = elim (cases_eq e y) [
+    | inl same ↦ subst (IsCarried (block_of n heights sinks) (set levels y v) (set labels y label)) (sym same) carried_at
+    | inr other ↦
+        let on_before : IsTrue (is_marked levels e) = subst (λ l. IsTrue (not (int_eq l void))) (get_or-set_other levels y e v void other) on in
+        let before = s.carried e on_before in
+        (before.0, carried_still e before.0 on_before before.1)
+  ]
+
   waiting_now : (l : ℤ) (e : ℕ) → Waits queue' l e → IsTrue (is_marked (set levels y v) e) × (get_or (set levels y v) e void ≡ l)
   waiting_now l e w = elim (joined.only l e w) [
     | inl new ↦ (
@@ -66,15 +136,19 @@ module _ (n : ℕ) (heights : List ℤ) (sinks : List ℕ) (levels : List ℤ) (
     | inr old ↦ (still e (s.waiting l e old).0, same_at e (s.waiting l e old).0 ∙ (s.waiting l e old).1)
   ]
 
+  unmarked_before : (e : ℕ) → is_marked (set levels y v) e ≡ false → is_marked levels e ≡ false
+  unmarked_before e off' = elim (cases_Bool (is_marked levels e)) [ inl on ↦ absurd (true≢false (sym (still e on) ∙ off')) | inr is ↦ is ]
+
   pub marks : AreMarks (block_of n heights sinks) (set levels y v) (set labels y label) queue'
   marks = record {
     levels_whole = length-set levels y v ∙ s.levels_whole;
     labels_whole = length-set labels y label ∙ s.labels_whole;
     filled = by_point (λ e l _. IsTrue (not (int_eq l void)) → IsFilledLevel (block_terrain (block_of n heights sinks)) e l) (λ _. fills) (λ e other. s.filled e);
     labelled = by_point (λ e l b. IsTrue (not (int_eq l void)) → IsLabelAt (block_of n heights sinks) e l b) (λ _. named) (λ e other. s.labelled e);
+    carried = carried_now;
     unlabelled = by_point (λ e l b. e < n * n → not (int_eq l void) ≡ false → b ≡ NO_LABEL)
         (λ _ none. absurd (true≢false (sym (test_if v full) ∙ none))) (λ e other. s.unlabelled e);
-    buckets = λ e on. joined.buckets (get_or heights e void) (s.buckets e on);
+    buckets = λ e on off'. joined.buckets (get_or heights e void) (s.buckets e on (unmarked_before e off'));
     waiting = waiting_now;
   }
 
@@ -177,14 +251,20 @@ module _ (n : ℕ) (heights : List ℤ) (sinks : List ℕ) (levels : List ℤ) (
         inner_outlet = λ inner. absurd (true≢false (sym (s.outlets y (or_right (is_solid (bare_block n heights) y && is_rim n y) (is_inner_outlet (block_of n heights sinks) y) inner)) ∙ off));
       }
 
+  new_hung : IsHung n heights sinks levels labels y (int_max (get_or heights y void) low) (slice_index labels c)
+  new_hung = inr (c, (inner, ((block_is_lawful (block_of n heights sinks)).both_ways c y beside, (s.taken.0, (refl, ap (int_max (get_or heights y void)) (sym s.taken.1))))))
+    where
+      inner : IsFalse (is_exit (block_of n heights sinks) y)
+      inner = elim (cases_Bool (is_exit (block_of n heights sinks) y)) [ inl out ↦ absurd (true≢false (sym (s.outlets y out) ∙ off)) | inr is ↦ is ]
+
   pub visited : (queue' : Queue) → IsJoined queue queue' (int_max (get_or heights y void) low) y →
       IsVisited n heights sinks levels (set levels y (int_max (get_or heights y void) low)) (set labels y (slice_index labels c)) queue' c low label y
   visited queue' joined = record {
-    state = spreads n heights sinks levels labels queue queue' y (int_max (get_or heights y void) low) (slice_index labels c) s.marks y_solid off new_fills new_named new_full joined c low label s
+    state = spreads n heights sinks levels labels queue queue' y (int_max (get_or heights y void) low) (slice_index labels c) s.marks y_solid off new_fills new_named new_hung new_full joined c low label s
         (le-max_right (get_or heights y void) low);
-    marked = now n heights sinks levels labels queue queue' y (int_max (get_or heights y void) low) (slice_index labels c) s.marks y_solid off new_fills new_named new_full joined;
-    still = still n heights sinks levels labels queue queue' y (int_max (get_or heights y void) low) (slice_index labels c) s.marks y_solid off new_fills new_named new_full joined;
-    count = counted n heights sinks levels labels queue queue' y (int_max (get_or heights y void) low) (slice_index labels c) s.marks y_solid off new_fills new_named new_full joined;
+    marked = now n heights sinks levels labels queue queue' y (int_max (get_or heights y void) low) (slice_index labels c) s.marks y_solid off new_fills new_named new_hung new_full joined;
+    still = still n heights sinks levels labels queue queue' y (int_max (get_or heights y void) low) (slice_index labels c) s.marks y_solid off new_fills new_named new_hung new_full joined;
+    count = counted n heights sinks levels labels queue queue' y (int_max (get_or heights y void) low) (slice_index labels c) s.marks y_solid off new_fills new_named new_hung new_full joined;
   }
 
 -- the same, as the code does it
@@ -209,6 +289,7 @@ seeded n heights sinks levels levels' labels labels' queue queue' k v label s ex
     (seeds n heights sinks levels labels queue queue' k (get_or heights k void) label s.marks solid (s.fresh k (omega arith))
     (level_of_outlet (block_terrain (block_of n heights sinks)) (block_is_lawful (block_of n heights sinks)) k exit)
     (record { way = ([], (solid, (refl, (exit, own.names)))); inner_outlet = own.inner_outlet })
+    (inl (exit, (refl, (own.names, own.inner_outlet))))
     (solid_height n heights k solid) (subst (λ l. IsJoined queue queue' l k) is joined) k s refl))
 
 pub seed_passed : (n : ℕ) (heights : List ℤ) (sinks : List ℕ) (levels : List ℤ) (labels : List ℕ) (queue : Queue) (k : ℕ) → IsSeeding (block_of n heights sinks) levels labels queue k → is_exit (block_of n heights sinks) k ≡ false →
@@ -232,8 +313,9 @@ seeding_start n heights sinks levels labels queue levels_whole labels_whole none
     labels_whole = labels_whole;
     filled = λ e on. absurd (true≢false (sym on ∙ fresh e));
     labelled = λ e on. absurd (true≢false (sym on ∙ fresh e));
+    carried = λ e on. absurd (true≢false (sym on ∙ fresh e));
     unlabelled = λ e below _. no_label e below;
-    buckets = λ e on. buckets e (subst (λ k. e < k) (sym whole) (solid_below n heights e on)) (solid_height n heights e on);
+    buckets = λ e on _. buckets e (subst (λ k. e < k) (sym whole) (solid_below n heights e on)) (solid_height n heights e on);
     waiting = λ l e w. absurd (nobody l e w);
   };
   outlets = λ e low out. absurd (omega arith);
@@ -261,8 +343,9 @@ spread_begin n heights sinks levels labels queue queue' c low s taken = record {
     labels_whole = s.marks.labels_whole;
     filled = s.marks.filled;
     labelled = s.marks.labelled;
+    carried = s.marks.carried;
     unlabelled = s.marks.unlabelled;
-    buckets = λ e on. taken.buckets (get_or heights e void) (s.marks.buckets e on);
+    buckets = λ e on off. taken.buckets (get_or heights e void) (s.marks.buckets e on off);
     waiting = λ l e w. s.marks.waiting l e (taken.only l e w);
   };
   outlets = s.outlets;
@@ -289,34 +372,38 @@ spread_end n heights sinks levels labels queue c low label s all = record {
 }
 
 -- nobody waits any more
-pub flooding_end : (n : ℕ) (heights : List ℤ) (sinks : List ℕ) (levels : List ℤ) (labels : List ℕ) (queue : Queue) → 0 < n → IsFlooding (block_of n heights sinks) levels labels queue → ((l : ℤ) (e : ℕ) → Waits queue l e → ⊥) →
-    IsLabelling (block_of n heights sinks) levels labels
-flooding_end n heights sinks levels labels queue some s nobody = record {
-  levels_whole = s.marks.levels_whole;
-  labels_whole = s.marks.labels_whole;
-  level = λ e solid. s.marks.filled e (marked e solid);
-  label = λ e solid. s.marks.labelled e (marked e solid);
-  void_points = λ e below none. let off = unmarked_if e none in (
-    elim (cases_Bool (int_eq (get_or levels e void) void)) [
-      | inl is ↦ (Decides-int_eq (get_or levels e void) void).0 is
-      | inr isnt ↦ absurd (true≢false (sym (ap not isnt) ∙ off))
-    ],
-    s.marks.unlabelled e below off,
-  );
-}
-  where
-    marked : (e : ℕ) → IsTrue (is_solid (bare_block n heights) e) → IsTrue (is_marked levels e)
-    marked e solid =
-        let out = leads n heights sinks (e / n + 1) e some (omega arith) solid in
-        all_marked (block_terrain (block_of n heights sinks)) (block_is_lawful (block_of n heights sinks)) (is_marked levels) s.outlets
-        (λ x y on link. elim (s.closed x y on link) [ inl waits ↦ absurd (nobody (get_or levels x void) x waits) | inr on' ↦ on' ])
-        e out.0 out.1
+module _ (n : ℕ) (heights : List ℤ) (sinks : List ℕ) (levels : List ℤ) (labels : List ℕ) (queue : Queue) (some : 0 < n) (s : IsFlooding (block_of n heights sinks) levels labels queue)
+    (nobody : (l : ℤ) (e : ℕ) → Waits queue l e → ⊥) where
+  marked : (e : ℕ) → IsTrue (is_solid (bare_block n heights) e) → IsTrue (is_marked levels e)
+  marked e solid =
+      let out = leads n heights sinks (e / n + 1) e some (omega arith) solid in
+      all_marked (block_terrain (block_of n heights sinks)) (block_is_lawful (block_of n heights sinks)) (is_marked levels) s.outlets
+      (λ x y on link. elim (s.closed x y on link) [ inl waits ↦ absurd (nobody (get_or levels x void) x waits) | inr on' ↦ on' ])
+      e out.0 out.1
 
-    unmarked_if : (e : ℕ) → IsFalse (is_solid (bare_block n heights) e) → is_marked levels e ≡ false
-    unmarked_if e none = elim (cases_Bool (is_marked levels e)) [
-      | inl on ↦ absurd (true≢false (sym (marked_solid n heights sinks levels labels queue e s.marks on) ∙ none))
-      | inr off ↦ off
-    ]
+  unmarked_if : (e : ℕ) → IsFalse (is_solid (bare_block n heights) e) → is_marked levels e ≡ false
+  unmarked_if e none = elim (cases_Bool (is_marked levels e)) [
+    | inl on ↦ absurd (true≢false (sym (marked_solid n heights sinks levels labels queue e s.marks on) ∙ none))
+    | inr off ↦ off
+  ]
+
+  pub flooding_end : IsLabelling (block_of n heights sinks) levels labels
+  flooding_end = record {
+    levels_whole = s.marks.levels_whole;
+    labels_whole = s.marks.labels_whole;
+    level = λ e solid. s.marks.filled e (marked e solid);
+    label = λ e solid. s.marks.labelled e (marked e solid);
+    void_points = λ e below none. let off = unmarked_if e none in (
+      elim (cases_Bool (int_eq (get_or levels e void) void)) [
+        | inl is ↦ (Decides-int_eq (get_or levels e void) void).0 is
+        | inr isnt ↦ absurd (true≢false (sym (ap not isnt) ∙ off))
+      ],
+      s.marks.unlabelled e below off,
+    );
+  }
+
+  pub carried_end : AreCarried (block_of n heights sinks) levels labels
+  carried_end e solid = s.marks.carried e (marked e solid)
 
 pub passed_max : (r h low g : ℤ) → SFits w16 r → SFits w16 h → SFits w16 low → r ≡ int_max (to_z w16 (of_z w16 h)) (to_z w16 (of_z w16 low)) → h ≡ g →
     to_z w16 (of_z w16 r) ≡ int_max g low

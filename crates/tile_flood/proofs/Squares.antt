@@ -66,12 +66,15 @@ pub record Apart (n c z : ℕ) : Type 0 where
   pub west : c % n ≤ z % n + 1
   pub east : z % n ≤ c % n + 1
 
-pub linked_apart : (n : ℕ) (heights : List ℤ) (c z : ℕ) → IsTrue (is_linked (bare_block n heights) c z) → Apart n c z
-linked_apart n heights c z h =
-    let p = and_parts (nat_le (c / n) (z / n + 1) && nat_le (z / n) (c / n + 1) && nat_le (c % n) (z % n + 1)) (nat_le (z % n) (c % n + 1)) (linked_parts n heights c z h).beside in
+pub apart_of : (n c z : ℕ) → IsTrue (is_beside n c z) → Apart n c z
+apart_of n c z h =
+    let p = and_parts (nat_le (c / n) (z / n + 1) && nat_le (z / n) (c / n + 1) && nat_le (c % n) (z % n + 1)) (nat_le (z % n) (c % n + 1)) h in
     let q = and_parts (nat_le (c / n) (z / n + 1) && nat_le (z / n) (c / n + 1)) (nat_le (c % n) (z % n + 1)) p.0 in
     let r = and_parts (nat_le (c / n) (z / n + 1)) (nat_le (z / n) (c / n + 1)) q.0 in
     record { north = leb-true (c / n) (z / n + 1) r.0; south = leb-true (z / n) (c / n + 1) r.1; west = leb-true (c % n) (z % n + 1) q.1; east = leb-true (z % n) (c % n + 1) p.1 }
+
+pub linked_apart : (n : ℕ) (heights : List ℤ) (c z : ℕ) → IsTrue (is_linked (bare_block n heights) c z) → Apart n c z
+linked_apart n heights c z h = apart_of n c z (linked_parts n heights c z h).beside
 
 pub beside_if : (n c z : ℕ) → Apart n c z → IsTrue (is_beside n c z)
 beside_if n c z a =

@@ -7,6 +7,7 @@ use Rattle.lattice.specs.Terrain.{IsFilledLevel}
 use Rattle.lattice.specs.Block.{Block, block_terrain, is_solid, is_linked, is_exit, is_inner_outlet}
 use Rattle.tile_flood.specs.Blocks.{bare_block}
 use Rattle.tile_flood.specs.Labelling.{IsLabelAt, Names, OUT, NO_LABEL}
+use Rattle.tile_flood.specs.Carried.{IsCarried}
 use Rattle.tile_flood.specs.Waiting.{Queue, Waits, HasBucket}
 
 -- the point has its level
@@ -33,15 +34,16 @@ pub record IsOwnLabel (b : Block) (e label : ℕ) : Type 0 where
   pub inner_outlet : IsTrue (is_inner_outlet b e) → label ≡ OUT
 
 module _ (b : Block) (levels : List ℤ) (labels : List ℕ) (queue : Queue) where
-  -- marked points have their filled levels and their labels, each point that waits is marked, and there is a bucket for
-  -- the height of each ground point
+  -- marked points have their filled levels and their labels, which are carried to them, each point that waits is marked,
+  -- and there is a bucket for the height of each ground point that isn't marked
   pub record AreMarks : Type 0 where
     pub levels_whole : length levels ≡ b.side * b.side
     pub labels_whole : length labels ≡ b.side * b.side
     pub filled : (e : ℕ) → IsTrue (is_marked levels e) → IsFilledLevel (block_terrain b) e (slice_index_or levels e void)
     pub labelled : (e : ℕ) → IsTrue (is_marked levels e) → IsLabelAt b e (slice_index_or levels e void) (slice_index labels e)
+    pub carried : (e : ℕ) → IsTrue (is_marked levels e) → IsCarried b levels labels e
     pub unlabelled : (e : ℕ) → e < b.side * b.side → is_marked levels e ≡ false → slice_index labels e ≡ NO_LABEL
-    pub buckets : (e : ℕ) → IsTrue (is_solid b e) → HasBucket queue (slice_index_or b.heights e void)
+    pub buckets : (e : ℕ) → IsTrue (is_solid b e) → is_marked levels e ≡ false → HasBucket queue (slice_index_or b.heights e void)
     pub waiting : (l : ℤ) (e : ℕ) → Waits queue l e → IsTrue (is_marked levels e) × (slice_index_or levels e void ≡ l)
 
   -- of the points below k the outlets are marked; they wait, and no other point is marked

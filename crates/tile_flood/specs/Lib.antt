@@ -1,8 +1,12 @@
 pub mod Labelling
+pub mod Carried
 pub mod Spills
 pub mod Passing
 pub mod Raising
 pub mod Waiting
 pub mod Blocks
 pub mod Flooding
+pub mod Mending
+pub mod Restarting
+pub mod Falling
 pub mod Kept

@@ -1,5 +1,5 @@
 //! The ground of a block.
-ghost use Rattle.std.specs.Prelude.{◌≡◌, ◌*◌, length, SomeIff};
+ghost use Rattle.std.specs.Prelude.{◌≡◌, ◌*◌, ◌<◌, length, slice_set, SomeIff};
 
 use arrayvec::ArrayVec;
 use lattice::{MOST_SINKS, Side};
@@ -55,6 +55,14 @@ impl Block {
         ensures whole { length self.now.heights ≡ self.now.side * self.now.side }
     {
         &self.heights
+    }
+
+    /// Gives a point another height.
+    pub fn set_height(&mut self, e: usize, height: i16)
+        requires { e < length self.old.heights }
+        ensures { self.new ≡ record { side = self.old.side; heights = slice_set self.old.heights e height; sinks = self.old.sinks } }
+    {
+        self.heights[e] = height;
     }
 
     /// The indices of the sinks among its points.

@@ -6,6 +6,7 @@ ghost use Rattle.lattice.specs.Mosaic.{void};
 ghost use Rattle.lattice.specs.Block.{is_solid, is_linked};
 ghost use Rattle.lattice.specs.declared.refusal.Refusal.TheVariants.{NoMemory};
 ghost use Rattle.tile_flood.specs.Labelling.{IsLabelling, NO_LABEL as no_label};
+ghost use Rattle.tile_flood.specs.Carried.{AreCarried};
 ghost use Rattle.tile_flood.specs.Blocks.{block_of, bare_block};
 ghost use Rattle.tile_flood.specs.Waiting.{Waits, HasBucket, waiting, IsJoined};
 ghost use Rattle.tile_flood.specs.Flooding.{is_marked, unmarked, AreMarkedStill, IsRowMarked, IsSeeding, IsFlooding, IsSpreading};
@@ -21,9 +22,9 @@ use std::alloc::{AllocError, Global};
 /// A flood of a block: water rises from its outlets inwards, over the lowest points first.
 #[derive(Drop)]
 pub struct Flood {
-    levels: Vec<i16>,
-    labels: Vec<u16>,
-    queue: Queue,
+    pub(crate) levels: Vec<i16>,
+    pub(crate) labels: Vec<u16>,
+    pub(crate) queue: Queue,
 }
 
 // The point that spreads, with its level and its label.
@@ -40,6 +41,7 @@ impl Flood {
     pub fn run(alloc: Global, block: &Block) -> Result<Labelled, Refusal>
         ensures side { IfOk result (λ labelled. labelled.side ≡ block.now.side) }
         ensures labelling { IfOk result (λ labelled. IsLabelling block.now labelled.levels labelled.labels) }
+        ensures carried { IfOk result (λ labelled. AreCarried block.now labelled.levels labelled.labels) }
         ensures refusal { IfErr result (λ refusal. refusal ≡ NoMemory) }
     {
         let side = block.side();
@@ -108,12 +110,13 @@ impl Flood {
     }
 
     // Lets each point that waits spread, until none does.
-    fn settle(&mut self, n: usize, heights: &[i16], sinks: &[u32]) -> Result<(), AllocError>
+    pub(crate) fn settle(&mut self, n: usize, heights: &[i16], sinks: &[u32]) -> Result<(), AllocError>
         requires side { IsSide n }
         requires small { n * n < 4294967296 }
         requires whole { length heights.now ≡ n * n }
         requires state { IsFlooding (block_of n heights.now sinks.now) self.old.levels.items self.old.labels.items self.old.queue }
-        ensures { OnOk result (IsLabelling (block_of n heights.now sinks.now) self.new.levels.items self.new.labels.items) }
+        ensures labelling { OnOk result (IsLabelling (block_of n heights.now sinks.now) self.new.levels.items self.new.labels.items) }
+        ensures carried { OnOk result (AreCarried (block_of n heights.now sinks.now) self.new.levels.items self.new.labels.items) }
     {
         while let Some(seat) = self.queue.pop() {
             self.spread(n, heights, sinks, seat.point as usize, seat.level)?;
@@ -203,7 +206,7 @@ impl Flood {
         Ok(())
     }
 
-    fn is_unmarked(&self, e: usize) -> bool
+    pub(crate) fn is_unmarked(&self, e: usize) -> bool
         requires { e < length self.now.levels.items }
         ensures { result ≡ int_eq (slice_index_or self.now.levels.items e void) void }
     {
@@ -211,7 +214,7 @@ impl Flood {
     }
 
     // Gives the point its level and its label, and lets it wait.
-    fn mark(&mut self, e: usize, level: i16, label: u16) -> Result<(), AllocError>
+    pub(crate) fn mark(&mut self, e: usize, level: i16, label: u16) -> Result<(), AllocError>
         requires small { e < 4294967296 }
         requires levels { e < length self.old.levels.items }
         requires labels { e < length self.old.labels.items }

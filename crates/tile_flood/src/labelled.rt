@@ -1,6 +1,8 @@
 //! The levels and labels of a block.
 ghost use Rattle.std.specs.Prelude.{◌≡◌, ◌*◌, length, SomeIff};
 
+use crate::flood::Flood;
+use crate::queue::Queue;
 use lattice::Side;
 use std::marker::Model;
 
@@ -56,6 +58,18 @@ impl Labelled {
             side,
             levels,
             labels,
+        }
+    }
+
+    pub(crate) fn into_flood(self, queue: Queue) -> Flood
+        ensures levels { result.levels.items ≡ self.levels }
+        ensures labels { result.labels.items ≡ self.labels }
+        ensures queue { result.queue ≡ queue }
+    {
+        Flood {
+            levels: self.levels,
+            labels: self.labels,
+            queue,
         }
     }
 

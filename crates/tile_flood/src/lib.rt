@@ -8,6 +8,7 @@
 mod block;
 mod flood;
 mod labelled;
+mod mending;
 mod outlets;
 mod passing;
 mod queue;
@@ -17,5 +18,6 @@ mod values;
 pub use block::Block;
 pub use flood::Flood;
 pub use labelled::{Labelled, NO_LABEL, OUT};
+pub use mending::mend;
 pub use passing::{Spill, spills};
 pub use raising::{raise, raise_at};

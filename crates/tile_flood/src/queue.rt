@@ -69,6 +69,7 @@ impl Queue {
     pub(crate) fn pop(&mut self) -> Option<Seat>
         ensures taken { MatchOption result ((level : ℤ) (e : ℕ) → Waits self.old level e → ⊥) (λ seat. IsTaken self.old self.new seat.level seat.point) }
         ensures count { IfSome result (λ _. waiting self.old ≡ waiting self.new + 1) }
+        ensures same { IfNone result (self.new ≡ self.old) }
     {
         let lowest = first_in_use(&self.buckets, self.lowest)?;
         self.lowest = lowest;

@@ -1,5 +1,6 @@
 use Rattle.std.proofs.Common.{◌≡◌, ◌*◌, ◌<◌, length, sym, subst, ap, ap₂, ◌∙◌}
 use Rattle.tile_flood.specs.Blocks.{block_of}
+use Rattle.tile_flood.specs.Carried.{AreCarried}
 use Rattle.tile_flood.specs.Labelling.{IsLabelling}
 use Rattle.tile_flood.proofs.Spreading.{seeding_start}
 use Rattle.tile_flood.proofs.flood.Flood.run.Goals as goal
@@ -22,4 +23,14 @@ returns-clause-labelling c =
     (subst (λ n. IsLabelling (block_of n b.heights b.sinks) c.settle.new.self.levels.items c.settle.new.self.labels.items) side
     (subst (λ hs. IsLabelling (block_of c.samples-n.result hs b.sinks) c.settle.new.self.levels.items c.settle.new.self.labels.items) c.heights-heights.ensures.value
     (subst (λ ss. IsLabelling (block_of c.samples-n.result c.heights-heights.result.now ss) c.settle.new.self.levels.items c.settle.new.self.labels.items) c.sinks-sinks.ensures
-    c.in_ok-settle.ensures)))
+    c.in_ok-settle.ensures.labelling)))
+
+pub returns-clause-carried : goal.returns-clause-carried
+returns-clause-carried c =
+    let b = c.args.block.now in
+    let side : c.samples-n.result ≡ b.side = c.samples-n.ensures.value ∙ c.side-side.ensures in
+    rw c.of_flood.ensures
+    (subst (λ n. AreCarried (block_of n b.heights b.sinks) c.settle.new.self.levels.items c.settle.new.self.labels.items) side
+    (subst (λ hs. AreCarried (block_of c.samples-n.result hs b.sinks) c.settle.new.self.levels.items c.settle.new.self.labels.items) c.heights-heights.ensures.value
+    (subst (λ ss. AreCarried (block_of c.samples-n.result c.heights-heights.result.now ss) c.settle.new.self.levels.items c.settle.new.self.labels.items) c.sinks-sinks.ensures
+    c.in_ok-settle.ensures.carried)))

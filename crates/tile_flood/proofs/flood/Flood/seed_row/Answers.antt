@@ -12,7 +12,7 @@ pub mark-requires-clause-bucket : goal.mark-requires-clause-bucket
 mark-requires-clause-bucket c =
     let fits : SFits w16 c.at.result = search rules in
     subst (HasBucket c.loop-j.self.queue) (sym (to_z-of_z w16 c.at.result fits ∙ c.at.ensures))
-    (c.loop-j.invariant.marks.buckets (c.args.i * c.args.n + c.loop-j.j) ((block_is_lawful (block_of c.args.n c.args.heights.now c.args.sinks.now)).outlet_ground (c.args.i * c.args.n + c.loop-j.j) c.in-Some.ensures.outlet))
+    (c.loop-j.invariant.marks.buckets (c.args.i * c.args.n + c.loop-j.j) ((block_is_lawful (block_of c.args.n c.args.heights.now c.args.sinks.now)).outlet_ground (c.args.i * c.args.n + c.loop-j.j) c.in-Some.ensures.outlet) (c.loop-j.invariant.fresh (c.args.i * c.args.n + c.loop-j.j) (omega arith)))
 
 next_point : (n : ℕ) (heights : List ℤ) (sinks : List ℕ) (levels : List ℤ) (labels : List ℕ) (queue : Queue) (west j : ℕ) →
     IsSeeding (block_of n heights sinks) levels labels queue ((west + j) + 1) → IsSeeding (block_of n heights sinks) levels labels queue (west + (j + 1))

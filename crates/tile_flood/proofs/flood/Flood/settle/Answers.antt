@@ -1,7 +1,7 @@
 use Rattle.std.proofs.Common.{arith, rules, slice_index, sym, subst, SFits, w16}
 use Rattle.std.proofs.lemmas.Int.{to_z-of_z}
 use Rattle.tile_flood.specs.Flooding.{IsSpreading}
-use Rattle.tile_flood.proofs.Spreading.{spread_begin, taken_below, flooding_end}
+use Rattle.tile_flood.proofs.Spreading.{spread_begin, taken_below, flooding_end, carried_end}
 use Rattle.tile_flood.specs.Blocks.{block_of}
 use Rattle.tile_flood.proofs.flood.Flood.settle.Goals as goal
 
@@ -20,7 +20,12 @@ spread-requires-clause-state c =
     (spread_begin c.args.n c.args.heights.now c.args.sinks.now c.loop-seat.self.levels.items c.loop-seat.self.labels.items c.loop-seat.self.queue c.pop.new.self c.in-Some.seat.point c.in-Some.seat.level
     c.loop-seat.invariant c.in-Some.ensures.taken)
 
-pub returns : goal.returns
-returns c =
+pub returns-clause-carried : goal.returns-clause-carried
+returns-clause-carried c =
+    let least = c.requires.side.0 in
+    carried_end c.args.n c.args.heights.now c.args.sinks.now c.loop-seat.self.levels.items c.loop-seat.self.labels.items c.loop-seat.self.queue (omega arith) c.loop-seat.invariant c.in_default.ensures.taken
+
+pub returns-clause-labelling : goal.returns-clause-labelling
+returns-clause-labelling c =
     let least = c.requires.side.0 in
     flooding_end c.args.n c.args.heights.now c.args.sinks.now c.loop-seat.self.levels.items c.loop-seat.self.labels.items c.loop-seat.self.queue (omega arith) c.loop-seat.invariant c.in_default.ensures.taken

@@ -13,10 +13,11 @@ mark-requires-clause-bucket c =
     let fits_low : SFits w16 c.args.front.level = search rules in
     let fits_new : SFits w16 c.higher-level.result = search rules in
     let solid : IsTrue (is_solid (bare_block c.args.n c.args.heights.now) c.args.e) = sym c.is_ground.ensures ∙ c.if-is_ground.true in
+    let off : is_marked c.args.self.now.levels.items c.args.e ≡ false = ap not (sym c.is_unmarked.ensures ∙ c.if-is_unmarked.true) in
     let height = slice_index_or c.args.heights.now c.args.e void in
     subst (HasBucket c.args.self.now.queue)
     (sym (passed_max c.higher-level.result c.at.result c.args.front.level height fits_new fits_height fits_low c.higher-level.ensures c.at.ensures))
-    (higher_bucket c.args.self.now.queue height c.args.front.level (c.requires.state.marks.buckets c.args.e solid) c.requires.state.bucket)
+    (higher_bucket c.args.self.now.queue height c.args.front.level (c.requires.state.marks.buckets c.args.e solid off) c.requires.state.bucket)
 
 after : (c : goal.In_ok-mark) → IsVisited c.args.n c.args.heights.now c.args.sinks.now c.args.self.now.levels.items c.mark.new.self.levels.items c.mark.new.self.labels.items c.mark.new.self.queue
     c.args.front.point c.args.front.level c.args.front.label c.args.e

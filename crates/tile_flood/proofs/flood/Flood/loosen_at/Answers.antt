@@ -1,0 +1,21 @@
+use Rattle.std.proofs.Common.{◌∙◌, IsTrue, not, ap, sym, refl, slice_index, slice_index_or}
+use Rattle.lattice.specs.Mosaic.{void}
+use Rattle.tile_flood.specs.Flooding.{is_marked}
+use Rattle.tile_flood.proofs.Parting.{IsLoosened, loosened_as}
+use Rattle.tile_flood.proofs.Squares.{test_if}
+use Rattle.tile_flood.proofs.flood.Flood.loosen_at.Goals as goal
+
+after : (c : goal.In_ok-take) → IsLoosened c.args.n c.args.heights.now c.args.sinks.now c.args.self.now.levels.items c.take.new.self.levels.items c.args.self.now.labels.items c.take.new.self.labels.items
+    c.args.loose.now.items c.take.new.loose.items c.args.e
+after c =
+    let on : IsTrue (is_marked c.args.self.now.levels.items c.args.e) = ap not (sym c.is_unmarked.ensures ∙ c.if-not-is_unmarked.true) in
+    loosened_as c.args.n c.args.heights.now c.args.sinks.now c.args.self.now.levels.items c.take.new.self.levels.items c.args.self.now.labels.items c.take.new.self.labels.items
+    c.args.loose.now.items c.take.new.loose.items c.args.e
+    (record { point = c.args.e; level = slice_index_or c.args.self.now.levels.items c.args.e void; label = slice_index c.args.self.now.labels.items c.args.e })
+    c.requires.state c.requires.e on (record { point = refl; level = refl; label = refl }) c.in_ok-take.ensures.levels c.in_ok-take.ensures.labels c.in_ok-take.ensures.loose
+
+pub returns-in_ok-take-clause-state : goal.returns-in_ok-take-clause-state
+returns-in_ok-take-clause-state c = (after c).state
+
+pub returns-in_ok-take-clause-kept : goal.returns-in_ok-take-clause-kept
+returns-in_ok-take-clause-kept c = (after c).kept

@@ -1,0 +1,72 @@
+-- Levels that fall in place after a height was lowered, before the points that fell are made loose.
+use Rattle.std.specs.Prelude.{◌≡◌, ℕ, ◌*◌, ◌<◌, ℤ, ◌≤ℤ◌, ◌-ℤ◌, nat_abs, sum_by, false, IsTrue, List, length, slice_index, slice_index_or, ◌⊎◌}
+use Rattle.std.specs.Int.{int_max}
+use Rattle.lattice.specs.Mosaic.{void}
+use Rattle.lattice.specs.Block.{Block, is_solid, is_linked, is_exit}
+use Rattle.tile_flood.specs.declared.mending.Loose.{Loose}
+use Rattle.tile_flood.specs.Blocks.{block_of}
+use Rattle.tile_flood.specs.Labelling.{IsLabelling, NO_LABEL}
+use Rattle.tile_flood.specs.Carried.{AreCarried}
+use Rattle.tile_flood.specs.Waiting.{Queue, Waits}
+use Rattle.tile_flood.specs.Flooding.{is_marked}
+use Rattle.tile_flood.specs.Restarting.{HasEvery}
+use Rattle.tile_flood.specs.Mending.{IsListed, AreKept}
+
+-- no level is above what its height and the levels beside it allow
+pub record AreRelaxed (b : Block) (levels : List ℤ) : Type 0 where
+  pub exits : (e : ℕ) → IsTrue (is_exit b e) → slice_index_or levels e void ≤ℤ slice_index_or b.heights e void
+  pub links : (x y : ℕ) → IsTrue (is_linked b x y) → slice_index_or levels y void ≤ℤ int_max (slice_index_or b.heights y void) (slice_index_or levels x void)
+
+-- outlets are at most at their heights
+abbrev pub AreLow : Block → List ℤ → Type 0
+AreLow b levels = (e : ℕ) → IsTrue (is_exit b e) → slice_index_or levels e void ≤ℤ slice_index_or b.heights e void
+
+-- some entry is of the point
+abbrev pub IsIn : List Loose → ℕ → Type 0
+IsIn loose e = (j : ℕ) × ((j < length loose) × ((d : Loose) → (slice_index_or loose j d).point ≡ e))
+
+-- from a carried labelling of the block with other heights levels have fallen; whatever changed is in the list, with what it had
+pub record IsFalling (b : Block) (levels : List ℤ) (labels : List ℕ) (loose : List Loose) : Type 0 where
+  pub levels₀ : List ℤ
+  pub heights₀ : List ℤ
+  pub labelling : IsLabelling (block_of b.side heights₀ b.sinks) levels₀ labels
+  pub carried : AreCarried (block_of b.side heights₀ b.sinks) levels₀ labels
+  pub solid : (e : ℕ) → is_solid (block_of b.side heights₀ b.sinks) e ≡ is_solid b e
+  pub changed : (e : ℕ) → ((slice_index_or heights₀ e void ≡ slice_index_or b.heights e void) × (slice_index_or levels e void ≡ slice_index_or levels₀ e void)) ⊎ IsIn loose e
+  pub noted : (j : ℕ) (d : Loose) → j < length loose → IsListed loose levels₀ labels (slice_index_or loose j d).point
+  pub inside : (j : ℕ) (d : Loose) → j < length loose → (slice_index_or loose j d).point < b.side * b.side
+  pub levels_whole : length levels ≡ b.side * b.side
+  pub marked : (e : ℕ) → is_marked levels e ≡ is_marked levels₀ e
+
+-- the same as far as links go, but for points that wait
+abbrev pub AreRelaxing : Block → List ℤ → Queue → Type 0
+AreRelaxing b levels queue = (x y : ℕ) → IsTrue (is_linked b x y) →
+    Waits queue (slice_index_or levels x void) x ⊎ (slice_index_or levels y void ≤ℤ int_max (slice_index_or b.heights y void) (slice_index_or levels x void))
+
+-- and but for the point c, if it still has the level at which it was taken
+abbrev pub AreRelaxingBut : Block → List ℤ → Queue → ℕ → ℤ → Type 0
+AreRelaxingBut b levels queue c low = (x y : ℕ) → IsTrue (is_linked b x y) →
+    ((x ≡ c) × (slice_index_or levels x void ≡ low)) ⊎ (Waits queue (slice_index_or levels x void) x ⊎ (slice_index_or levels y void ≤ℤ int_max (slice_index_or b.heights y void) (slice_index_or levels x void)))
+
+-- levels may have fallen, and what fell waits
+pub record HaveFallen (levels levels' : List ℤ) (queue queue' : Queue) : Type 0 where
+  pub lower : (e : ℕ) → slice_index_or levels' e void ≤ℤ slice_index_or levels e void
+  pub waits : (e : ℕ) → (slice_index_or levels' e void ≡ slice_index_or levels e void) ⊎ Waits queue' (slice_index_or levels' e void) e
+  pub still : (l : ℤ) (e : ℕ) → Waits queue l e → Waits queue' l e
+
+-- there is a bucket for each number of 16 bits, and only points of the block wait
+pub record IsReady (n : ℕ) (queue : Queue) : Type 0 where
+  pub every : HasEvery queue
+  pub inside : (l : ℤ) (e : ℕ) → Waits queue l e → e < n * n
+
+-- how far all levels are above the least number of 16 bits
+abbrev pub depth : List ℤ → ℕ
+depth levels = sum_by (λ l. nat_abs (l -ℤ void)) levels
+
+-- the first k points of the list have lost their levels and labels, and nothing else has
+pub record AreDropped (levels levels' : List ℤ) (labels labels' : List ℕ) (loose : List Loose) (k : ℕ) : Type 0 where
+  pub levels_whole : length levels' ≡ length levels
+  pub labels_whole : length labels' ≡ length labels
+  pub gone : (j : ℕ) (d : Loose) → j < k → is_marked levels' (slice_index_or loose j d).point ≡ false
+  pub kept : AreKept levels labels levels' labels'
+  pub left : (e : ℕ) → is_marked levels' e ≡ false → ((is_marked levels e ≡ false) × (slice_index labels' e ≡ slice_index labels e)) ⊎ ((slice_index labels' e ≡ NO_LABEL) × IsIn loose e)
