@@ -1,10 +1,10 @@
 pub mod Buckets
 pub mod Squares
 pub mod Spreading
-pub mod Parting
-pub mod Restart
-pub mod Falls
-pub mod FallStart
+pub mod Dependence
+pub mod Seeds
+pub mod Relaxation
+pub mod ChangedHeights
 pub mod Passages
 pub mod Parts
 pub mod InMosaic

@@ -16,7 +16,7 @@ use Rattle.tile_flood.specs.Waiting.{Queue, Waits, HasBucket, IsJoined, IsTaken}
 use Rattle.tile_flood.specs.Labelling.{IsLabelAt, IsLabelling, Names, OUT, NO_LABEL}
 use Rattle.tile_flood.specs.Flooding.{is_marked, unmarked, lack, AreMarks, IsSeeding, IsFlooding, IsSpreading, AreMarkedStill, IsRowMarked, IsOwnLabel}
 use Rattle.tile_flood.specs.Blocks.{block_of, bare_block}
-use Rattle.tile_flood.specs.Carried.{IsCarried, IsCarriedBy, IsSource, HangsOn, AreCarried}
+use Rattle.tile_flood.specs.Carried.{IsCarried, IsCarriedBy, AreCarried}
 use Rattle.tile_flood.proofs.Buckets.{has_bucket}
 use Rattle.tile_flood.proofs.Squares.{not_void_if, test_if, linked_parts, linked_from, solid_height, solid_below, beside_if, row_of_cell, column_of_cell, cell_of, leads}
 
@@ -28,7 +28,7 @@ start_solid n heights sinks e (y ∷ rest) path = (linked_parts n heights e y pa
 pub marked_solid : (n : ℕ) (heights : List ℤ) (sinks : List ℕ) (levels : List ℤ) (labels : List ℕ) (queue : Queue) (e : ℕ) → AreMarks (block_of n heights sinks) levels labels queue → IsTrue (is_marked levels e) → IsTrue (is_solid (bare_block n heights) e)
 marked_solid n heights sinks levels labels queue e s on = let way = (s.filled e on).reached in start_solid n heights sinks e way.0 way.1.0.path
 
--- what y, that gets this level and this label, starts from or hangs on
+-- what y, that gets this level and this label, starts from or depends on
 abbrev pub IsHung : (n : ℕ) (heights : List ℤ) (sinks : List ℕ) (levels : List ℤ) (labels : List ℕ) (y : ℕ) (v : ℤ) (label : ℕ) → Type 0
 IsHung n heights sinks levels labels y v label =
     (IsTrue (is_exit (block_of n heights sinks) y) × ((v ≡ get_or heights y void) × (Names (block_of n heights sinks) label y × (IsTrue (is_inner_outlet (block_of n heights sinks) y) → label ≡ OUT))))

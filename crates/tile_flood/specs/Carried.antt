@@ -1,5 +1,5 @@
 -- Labels that are carried from point to point: what a flood leaves, and what a change of some heights can be mended in.
-use Rattle.std.specs.Prelude.{◌≡◌, ◌≢◌, ℕ, ◌*◌, ◌<◌, ℤ, IsTrue, IsFalse, List, [], ◌∷◌, slice_index, slice_index_or}
+use Rattle.std.specs.Prelude.{◌≡◌, ◌≢◌, ℕ, ℤ, IsTrue, IsFalse, List, [], ◌∷◌, slice_index, slice_index_or}
 use Rattle.std.specs.Int.{int_max}
 use Rattle.lattice.specs.Mosaic.{void}
 use Rattle.lattice.specs.Block.{Block, is_solid, is_linked, is_exit, is_inner_outlet}
@@ -7,24 +7,24 @@ use Rattle.tile_flood.specs.Labelling.{Names, OUT}
 
 module _ (b : Block) (levels : List ℤ) (labels : List ℕ) where
   -- a way out at its own height, with its own label
-  pub record IsSource (e : ℕ) : Type 0 where
+  pub record IsSeed (e : ℕ) : Type 0 where
     pub exit : IsTrue (is_exit b e)
     pub level : slice_index_or levels e void ≡ slice_index_or b.heights e void
     pub names : Names b (slice_index labels e) e
     pub inner_outlet : IsTrue (is_inner_outlet b e) → slice_index labels e ≡ OUT
 
   -- e, no way out, may have taken its level and its label from f beside it
-  pub record HangsOn (e f : ℕ) : Type 0 where
+  pub record DependsOn (e f : ℕ) : Type 0 where
     pub inner : IsFalse (is_exit b e)
     pub link : IsTrue (is_linked b e f)
     pub full : slice_index_or levels f void ≢ void
     pub label : slice_index labels e ≡ slice_index labels f
     pub level : slice_index_or levels e void ≡ int_max (slice_index_or b.heights e void) (slice_index_or levels f void)
 
-  -- each point from e on hangs on the next, and the last is a way out
+  -- each point from e on depends on the next, and the last is a way out
   abbrev pub IsCarriedBy : ℕ → List ℕ → Type 0
-  IsCarriedBy e [] = IsSource e
-  IsCarriedBy e (f ∷ rest) = HangsOn e f × IsCarriedBy f rest
+  IsCarriedBy e [] = IsSeed e
+  IsCarriedBy e (f ∷ rest) = DependsOn e f × IsCarriedBy f rest
 
   abbrev pub IsCarried : ℕ → Type 0
   IsCarried e = (rest : List ℕ) × IsCarriedBy e rest

@@ -7,6 +7,8 @@ pub mod Waiting
 pub mod Blocks
 pub mod Flooding
 pub mod Mending
-pub mod Restarting
-pub mod Falling
+pub mod Affected
+pub mod Clearing
+pub mod Reseeding
+pub mod Lowering
 pub mod Kept

@@ -1,6 +1,7 @@
 -- What waits in the queue of a flood: a bucket of points for each level from the least on.
 use Rattle.std.specs.Prelude.{◌≡◌, ℕ, ◌<◌, ℤ, pos, ◌+ℤ◌, ◌≤ℤ◌, ◌⊎◌, List, [], length, Contains, sum_by}
 use Rattle.std.proofs.Common.{get_or}
+use Rattle.lattice.specs.Mosaic.{void}
 
 -- the level of the first bucket, and what each bucket holds
 pub record Queue : Type 0 where
@@ -16,9 +17,17 @@ pub record HasBucket (queue : Queue) (level : ℤ) : Type 0 where
   pub inside : number < length queue.buckets
   pub at : level ≡ queue.least +ℤ pos number
 
+-- there is a bucket for each number of 16 bits
+abbrev pub HasEvery : Queue → Type 0
+HasEvery queue = (l : ℤ) → void ≤ℤ l → l ≤ℤ pos 32767 → HasBucket queue l
+
 -- the point waits at this level
 abbrev pub Waits : Queue → ℤ → ℕ → Type 0
 Waits queue level e = (b : ℕ) × ((level ≡ queue.least +ℤ pos b) × Contains (bucket queue.buckets b) e)
+
+-- what waits still waits
+abbrev pub WaitStill : Queue → Queue → Type 0
+WaitStill old new = (l : ℤ) (e : ℕ) → Waits old l e → Waits new l e
 
 abbrev pub AreEmptyBelow : List (List ℕ) → ℕ → Type 0
 AreEmptyBelow buckets k = (b : ℕ) → b < k → bucket buckets b ≡ []

@@ -15,7 +15,7 @@ use crate::block::Block;
 use crate::labelled::{Labelled, NO_LABEL};
 use crate::outlets::{is_ground, own_label};
 use crate::queue::Queue;
-use crate::values::{at, higher, range_of};
+use crate::values::{at, has_level, higher, range_of};
 use lattice::Refusal;
 use std::alloc::{AllocError, Global};
 
@@ -211,6 +211,13 @@ impl Flood {
         ensures { result ≡ int_eq (slice_index_or self.now.levels.items e void) void }
     {
         self.levels[e] == i16::MIN
+    }
+
+    pub(crate) fn is_marked(&self, e: usize) -> bool
+        ensures value { result ≡ is_marked self.now.levels.items e }
+        ensures inside { IsTrue result → e < length self.now.levels.items }
+    {
+        e < self.levels.len() && has_level(&self.levels, e)
     }
 
     // Gives the point its level and its label, and lets it wait.

@@ -5,14 +5,18 @@
 //! that is reached at it.
 #![tactic(auto)]
 
+mod affected;
 mod block;
+mod clearing;
 mod flood;
 mod labelled;
+mod lowering;
 mod mending;
 mod outlets;
 mod passing;
 mod queue;
 mod raising;
+mod reseeding;
 mod values;
 
 pub use block::Block;

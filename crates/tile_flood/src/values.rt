@@ -1,5 +1,5 @@
 //! Values at the points of a block.
-ghost use Rattle.std.specs.Prelude.{◌≡◌, ◌≢◌, ◌<◌, ◌≤ℤ◌, ℕ, length, slice_index_or};
+ghost use Rattle.std.specs.Prelude.{◌≡◌, ◌≢◌, ◌<◌, ◌≤ℤ◌, ℕ, length, slice_index, slice_index_or};
 ghost use Rattle.std.specs.Int.{int_max};
 ghost use Rattle.lattice.specs.Mosaic.{void};
 ghost use Rattle.tile_flood.specs.Flooding.{is_marked};
@@ -10,6 +10,14 @@ pub(crate) fn at(values: &[i16], e: usize) -> i16
     ensures { result ≡ slice_index_or values.now e void }
 {
     values[e]
+}
+
+// The label at e.
+pub(crate) fn label_at(labels: &[u16], e: usize) -> u16
+    requires { e < length labels.now }
+    ensures { result ≡ slice_index labels.now e }
+{
+    labels[e]
 }
 
 pub(crate) fn higher(a: i16, b: i16) -> i16

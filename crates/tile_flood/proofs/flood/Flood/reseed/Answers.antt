@@ -1,44 +1,16 @@
-use Rattle.std.proofs.Common.{◌≡◌, ◌+◌, ◌*◌, ◌<◌, ◌/◌, ◌%◌, ℕ, pos, false, true, IsTrue, ap, sym, not, subst, ◌∙◌, rules, arith, true≢false, slice_index_or, SFits, w16, to_z, of_z}
-use Rattle.std.proofs.lemmas.Bool.{cases_Bool}
-use Rattle.std.proofs.lemmas.Int.{to_z-of_z}
-use Rattle.std.proofs.lemmas.List.{get_or_default}
-use Rattle.lattice.specs.Block.{is_exit}
-use Rattle.tile_flood.specs.declared.mending.Loose.{Loose}
-use Rattle.tile_flood.specs.Blocks.{block_of}
-use Rattle.tile_flood.specs.Flooding.{is_marked, IsOwnLabel}
-use Rattle.tile_flood.proofs.Squares.{cell_of}
-use Rattle.tile_flood.proofs.Restart.{IsReseeded, reseeded_as}
+use Rattle.std.proofs.Common.{arith, rules, pos, sym, subst, ◌<◌, slice_index_or}
+use Rattle.lattice.specs.Mosaic.{void}
+use Rattle.tile_flood.proofs.Seeds.{reseeding_begin, reseeding_end}
 use Rattle.tile_flood.proofs.flood.Flood.reseed.Goals as goal
 
-abbrev none : Loose
-none = record { point = 0; level = pos 0; label = 0 }
+pub read_heights-requires : goal.read_heights-requires
+read_heights-requires c j d inside = subst (λ m. (slice_index_or c.args.affected.now j d).point < m) (sym c.requires.whole) (c.requires.state.inside j d inside)
 
-pub mark-requires-clause-bucket : goal.mark-requires-clause-bucket
-mark-requires-clause-bucket c = let every = c.requires.state.every in search rules
+pub loop-k-init : goal.loop-k-init
+loop-k-init c = reseeding_begin c.args.n c.args.heights.now c.args.sinks.now c.args.self.now.levels.items c.args.self.now.labels.items c.args.self.now.queue c.args.affected.now c.requires.state c.requires.every c.requires.nobody
+    void (pos 32767) (search rules) (search rules) c.read_heights.ensures
 
-after : (c : goal.In_ok-mark) → IsReseeded c.args.n c.args.heights.now c.args.sinks.now c.args.self.now.levels.items c.mark.new.self.levels.items c.mark.new.self.labels.items c.mark.new.self.queue c.args.loose.now c.args.k
-    (slice_index_or c.args.loose.now c.args.k none).point
-after c =
-    let b = block_of c.args.n c.args.heights.now c.args.sinks.now in
-    let e = (slice_index_or c.args.loose.now c.args.k none).point in
-    let cell : e ≡ (e / c.args.n) * c.args.n + e % c.args.n = cell_of c.args.n e in
-    let fits : SFits w16 c.at.result = search rules in
-    let off : is_marked c.args.self.now.levels.items e ≡ false = ap not (sym c.is_unmarked.ensures ∙ c.if-is_unmarked.true) in
-    reseeded_as c.args.n c.args.heights.now c.args.sinks.now c.args.self.now.levels.items c.mark.new.self.levels.items c.args.self.now.labels.items c.mark.new.self.labels.items
-    c.args.self.now.queue c.mark.new.self.queue c.args.loose.now c.args.k e (to_z w16 (of_z w16 c.at.result)) c.in-Some.label c.requires.state off
-    (subst (λ z. IsTrue (is_exit b z)) (sym cell) c.in-Some.ensures.outlet) (subst (λ z. IsOwnLabel b z c.in-Some.label) (sym cell) c.in-Some.ensures.label)
-    (to_z-of_z w16 c.at.result fits ∙ c.at.ensures) c.in_ok-mark.ensures.levels c.in_ok-mark.ensures.labels c.in_ok-mark.ensures.joined
-
-pub returns-in_ok-mark-clause-state : goal.returns-in_ok-mark-clause-state
-returns-in_ok-mark-clause-state c = (after c).state
-
-pub returns-in_ok-mark-clause-seeded : goal.returns-in_ok-mark-clause-seeded
-returns-in_ok-mark-clause-seeded c d out =
-    subst (λ x. IsTrue (is_marked c.mark.new.self.levels.items x.point)) (get_or_default c.args.loose.now c.args.k none d c.requires.k) (after c).marked
-
-pub returns-in_default-clause-seeded : goal.returns-in_default-clause-seeded
-returns-in_default-clause-seeded c d out =
-    let b = block_of c.args.n c.args.heights.now c.args.sinks.now in
-    let e = (slice_index_or c.args.loose.now c.args.k none).point in
-    let cell : e ≡ (e / c.args.n) * c.args.n + e % c.args.n = cell_of c.args.n e in
-    absurd (true≢false (sym (subst (λ x. IsTrue (is_exit b x.point)) (get_or_default c.args.loose.now c.args.k d none c.requires.k) out) ∙ (ap (is_exit b) cell ∙ c.in_default.ensures.none)))
+pub returns : goal.returns
+returns c =
+    let test = c.loop-k-test.false in
+    reseeding_end c.args.n c.args.heights.now c.args.sinks.now c.loop-k.self.levels.items c.loop-k.self.labels.items c.loop-k.self.queue c.args.affected.now c.loop-k.k c.loop-k.invariant (omega arith)

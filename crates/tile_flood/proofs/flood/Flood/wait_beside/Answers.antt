@@ -1,11 +1,11 @@
-use Rattle.std.proofs.Common.{ℕ, ◌≡◌, ◌+◌, ◌*◌, ◌<◌, false, arith, sym, ◌∙◌, subst, IsTrue, inl, inr, slice_index_or}
+use Rattle.std.proofs.Common.{◌≡◌, false, arith, sym, ◌∙◌, subst, IsTrue, inl, inr, slice_index_or}
 use Rattle.std.proofs.lemmas.Bool.{cases_lt}
 use Rattle.lattice.specs.Mosaic.{void}
 use Rattle.tile_flood.specs.Waiting.{Waits, IsJoined}
 use Rattle.tile_flood.specs.Flooding.{is_marked}
-use Rattle.tile_flood.specs.Mending.{IsSpot}
-use Rattle.tile_flood.proofs.Parting.{one_spot, spot_of}
-use Rattle.tile_flood.proofs.FallStart.{has_waited}
+use Rattle.tile_flood.specs.Affected.{IsInWindow}
+use Rattle.tile_flood.proofs.Dependence.{one_window_point, window_point_of}
+use Rattle.tile_flood.proofs.ChangedHeights.{has_waited}
 use Rattle.tile_flood.proofs.flood.Flood.wait_beside.Goals as goal
 use Rattle.tile_flood.proofs.flood.Flood.wait_beside.Goals.{in-Some+in_ok-wait, in_default}
 
@@ -15,7 +15,7 @@ loop-d-preserved c =
     let i = c.loop-d.invariant in
     let d = c.loop-d.d in
     let levels = c.args.self.now.levels.items in
-    elim c.match-spot.branch [
+    elim c.match-window_point.branch [
       | in-Some+in_ok-wait w ↦
           let a = w.in_ok-wait.ensures in
           let e = w.in-Some.e in
@@ -31,7 +31,7 @@ loop-d-preserved c =
               | inl before ↦ s.still (slice_index_or levels y void) y (i.waits j y before small spot on)
               | inr ge ↦
                   let same : j ≡ d = omega arith in
-                  let is : y ≡ e = one_spot n c.args.point d y e (subst (λ k. IsSpot n c.args.point k y) same spot) w.in-Some.ensures.some in
+                  let is : y ≡ e = one_window_point n c.args.point d y e (subst (λ k. IsInWindow n c.args.point k y) same spot) w.in-Some.ensures.some in
                   subst (λ z. Waits q' (slice_index_or levels z void) z) (sym is) (s.waits (subst (λ z. IsTrue (is_marked levels z)) is on))
             ];
           })
@@ -42,10 +42,10 @@ loop-d-preserved c =
         still = i.still;
         waits = λ j y less small spot on. elim (cases_lt j d) [
           | inl before ↦ i.waits j y before small spot on
-          | inr ge ↦ let same : j ≡ d = omega arith in absurd (w.in_default.ensures.none y small (subst (λ k. IsSpot n c.args.point k y) same spot))
+          | inr ge ↦ let same : j ≡ d = omega arith in absurd (w.in_default.ensures.none y small (subst (λ k. IsInWindow n c.args.point k y) same spot))
         ];
       })
     ]
 
 pub returns-clause-waits : goal.returns-clause-waits
-returns-clause-waits c y small beside on = let spot = spot_of c.args.n c.args.point y beside in let low = spot.1.0 in c.loop-d.invariant.waits spot.0 y (omega arith) small spot.1.1 on
+returns-clause-waits c y small beside on = let spot = window_point_of c.args.n c.args.point y beside in let low = spot.1.0 in c.loop-d.invariant.waits spot.0 y (omega arith) small spot.1.1 on

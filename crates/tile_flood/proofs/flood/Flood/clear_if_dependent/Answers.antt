@@ -1,0 +1,20 @@
+use Rattle.std.proofs.Common.{◌∙◌, IsTrue, not, ap, sym, refl, slice_index, slice_index_or}
+use Rattle.lattice.specs.Mosaic.{void}
+use Rattle.tile_flood.specs.Flooding.{is_marked}
+use Rattle.tile_flood.proofs.Dependence.{IsClearedAt, cleared_as}
+use Rattle.tile_flood.proofs.flood.Flood.clear_if_dependent.Goals as goal
+
+after : (c : goal.In_ok-clear) → IsClearedAt c.args.n c.args.heights.now c.args.sinks.now c.args.self.now.levels.items c.clear.new.self.levels.items c.args.self.now.labels.items c.clear.new.self.labels.items
+    c.args.affected.now.items c.clear.new.affected.items c.args.e
+after c =
+    let on : IsTrue (is_marked c.args.self.now.levels.items c.args.e) = ap not (sym c.is_unmarked.ensures ∙ c.if-not-is_unmarked.true) in
+    cleared_as c.args.n c.args.heights.now c.args.sinks.now c.args.self.now.levels.items c.clear.new.self.levels.items c.args.self.now.labels.items c.clear.new.self.labels.items
+    c.args.affected.now.items c.clear.new.affected.items c.args.e
+    (record { point = c.args.e; level = slice_index_or c.args.self.now.levels.items c.args.e void; label = slice_index c.args.self.now.labels.items c.args.e })
+    c.requires.state c.requires.e on (record { point = refl; level = refl; label = refl }) c.in_ok-clear.ensures.levels c.in_ok-clear.ensures.labels c.in_ok-clear.ensures.affected
+
+pub returns-in_ok-clear-clause-state : goal.returns-in_ok-clear-clause-state
+returns-in_ok-clear-clause-state c = (after c).state
+
+pub returns-in_ok-clear-clause-kept : goal.returns-in_ok-clear-clause-kept
+returns-in_ok-clear-clause-kept c = (after c).kept

@@ -1,0 +1,6 @@
+use Rattle.tile_flood.specs.Blocks.{block_of}
+use Rattle.tile_flood.specs.Reseeding.{IsReseeding}
+use Rattle.tile_flood.proofs.flood.Flood.reseed.Given as goal
+
+abbrev pub invariant-loop-k : goal.invariant-loop-k
+invariant-loop-k l = IsReseeding (block_of l.n l.heights l.sinks) l.self.levels.items l.self.labels.items l.self.queue l.affected l.k
