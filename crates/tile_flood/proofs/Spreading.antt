@@ -96,26 +96,31 @@ module _ (n : ℕ) (heights : List ℤ) (sinks : List ℕ) (levels : List ℤ) (
 
   carried_at : IsCarried (block_of n heights sinks) (set levels y v) (set labels y label) y
   carried_at = elim hung [
-    | inl source ↦ ([], record {
-      exit = source.0;
-      level = level_of_y ∙ source.1.0;
-      names = subst (λ l. Names (block_of n heights sinks) l y) (sym label_of_y) source.1.1.0;
-      inner_outlet = λ inner. label_of_y ∙ source.1.1.1 inner;
-    })
+    | inl source ↦ (
+      [],
+      record {
+        exit = source.0;
+        level = level_of_y ∙ source.1.0;
+        names = subst (λ l. Names (block_of n heights sinks) l y) (sym label_of_y) source.1.1.0;
+        inner_outlet = λ inner. label_of_y ∙ source.1.1.1 inner;
+      },
+    )
     | inr from ↦
         let f = from.0 in
         let on_f = from.1.1.1.0 in
-        let before = s.carried f on_f in
-        (f ∷ before.0, (
-          record {
-            inner = from.1.0;
-            link = from.1.1.0;
-            full = λ none. not_void_if levels f on_f (sym (same_at f on_f) ∙ none);
-            label = label_of_y ∙ (from.1.1.1.1.0 ∙ sym (same_label f on_f));
-            level = level_of_y ∙ (from.1.1.1.1.1 ∙ ap (int_max (get_or heights y void)) (sym (same_at f on_f)));
-          },
-          carried_still f before.0 on_f before.1,
-        ))
+        let before = s.carried f on_f in (
+          f ∷ before.0,
+          (
+            record {
+              inner = from.1.0;
+              link = from.1.1.0;
+              full = λ none. not_void_if levels f on_f (sym (same_at f on_f) ∙ none);
+              label = label_of_y ∙ (from.1.1.1.1.0 ∙ sym (same_label f on_f));
+              level = level_of_y ∙ (from.1.1.1.1.1 ∙ ap (int_max (get_or heights y void)) (sym (same_at f on_f)));
+            },
+            carried_still f before.0 on_f before.1,
+          ),
+        )
   ]
 
   carried_now : (e : ℕ) → IsTrue (is_marked (set levels y v) e) → IsCarried (block_of n heights sinks) (set levels y v) (set labels y label) e

@@ -37,7 +37,8 @@ struct Front {
 
 impl Flood {
     /// The level of each ground point, the least crest of paths inside the block to a ground point of its rim or to an
-    /// inner outlet, and a label for one that is reached at it. NoMemory is the only refusal.
+    /// inner outlet, and a label for one that is reached at it. Levels and labels are carried from point to adjacent point,
+    /// so that `mend` can take them. NoMemory is the only refusal.
     pub fn run(alloc: Global, block: &Block) -> Result<Labelled, Refusal>
         ensures side { IfOk result (λ labelled. labelled.side ≡ block.now.side) }
         ensures labelling { IfOk result (λ labelled. IsLabelling block.now labelled.levels labelled.labels) }
@@ -110,7 +111,12 @@ impl Flood {
     }
 
     // Lets each point that waits spread, until none does.
-    pub(crate) fn settle(&mut self, n: usize, heights: &[i16], sinks: &[u32]) -> Result<(), AllocError>
+    pub(crate) fn settle(
+        &mut self,
+        n: usize,
+        heights: &[i16],
+        sinks: &[u32],
+    ) -> Result<(), AllocError>
         requires side { IsSide n }
         requires small { n * n < 4294967296 }
         requires whole { length heights.now ≡ n * n }

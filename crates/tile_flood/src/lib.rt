@@ -2,7 +2,9 @@
 //!
 //! The layers above rest on this: `Flood::run` gives a valid labelling of any block. Each ground point's level is the
 //! least crest of paths inside the block to a ground point of its rim or to an inner outlet, and its label names one
-//! that is reached at it.
+//! that is reached at it. It is carried too: from point to adjacent point, each level the greater of its height and the
+//! next level, each label that of the next, down to that outlet. So `mend` can give the labelling of the block with
+//! other heights of some points, in the time that the levels and labels need which may change.
 #![tactic(auto)]
 
 mod affected;

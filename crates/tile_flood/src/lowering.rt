@@ -159,7 +159,12 @@ impl Flood {
     }
 
     // Gives the point a lower level, at which it waits, and lists what it had.
-    fn lower_to(&mut self, e: usize, level: i16, affected: &mut Vec<Affected>) -> Result<(), AllocError>
+    fn lower_to(
+        &mut self,
+        e: usize,
+        level: i16,
+        affected: &mut Vec<Affected>,
+    ) -> Result<(), AllocError>
         requires small { e < 4294967296 }
         requires levels { e < length self.old.levels.items }
         requires labels { e < length self.old.labels.items }

@@ -18,7 +18,12 @@ use std::alloc::{AllocError, Global};
 /// `Flood::run` or `mend` answered for it. Which points are ground, and the sinks, must be the same as before; points of the
 /// list that aren't ground are passed over. It takes the time that the changed levels and labels and those beside them
 /// need, not that of the block. NoMemory is the only refusal.
-pub fn mend(alloc: Global, block: &Block, labelled: Labelled, points: &[u32]) -> Result<Labelled, Refusal>
+pub fn mend(
+    alloc: Global,
+    block: &Block,
+    labelled: Labelled,
+    points: &[u32],
+) -> Result<Labelled, Refusal>
     requires same_side { labelled.side ≡ block.now.side }
     requires before { IsLabelledBefore block.now points.now labelled.levels labelled.labels }
     ensures side { IfOk result (λ mended. mended.side ≡ block.now.side) }

@@ -42,7 +42,7 @@ returns-in_ok-wait_beside c =
     let on : IsTrue (is_marked before e) = sym c.is_marked.ensures.value ∙ c.if-is_marked.true in
     let small : e < n * n = subst (λ m. e < m) s.lowering.levels_whole (c.is_marked.ensures.inside c.if-is_marked.true) in
     let ground = affected_ground n heights sinks points before c.wait_beside.new.self.levels.items c.args.self.now.labels.items c.wait_beside.new.self.labels.items c.args.self.now.queue c.lower_to.new.self.queue c.wait_beside.new.self.queue c.args.affected.now.items c.lower_to.new.affected.items c.args.k e
-        (to_z w16 (of_z w16 c.starting_level-level.result)) s same small on in
+    (to_z w16 (of_z w16 c.starting_level-level.result)) s same small on in
     let full : c.starting_level-level.result ≢ void = elim from.value [
       | inl kept ↦ subst (λ x. x ≢ void) (sym (kept ∙ was)) (not_void_if before e on)
       | inr height ↦ subst (λ x. x ≢ void) (sym height) (solid_height n heights e ground)
