@@ -6,7 +6,7 @@ use Rattle.std.proofs.lemmas.Bool.{false≢true}
 use Rattle.lattice.specs.Corners.{Corner}
 use Rattle.lattice.specs.declared.refusal.Refusal.{Refusal}
 use Rattle.lattice.proofs.Rising.{Rising, rising_from}
-use Rattle.page_alloc.specs.Pages.{PageSet}
+use Rattle.charts.specs.FreePages.{FreePages}
 use Rattle.std.specs.FinSet.{len}
 use Rattle.layout.specs.Sizes.{pages_of, plane_pages_of}
 use Rattle.layout.specs.Formats.{Format}
@@ -39,7 +39,7 @@ length-filter-le p (t ∷ rest) = let later = length-filter-le p rest in elim (p
 pub no_slot : (c : Corner) (at : ℕ) (slots : List Slot) → IsRoomAt c at slots → IsLocated c (staged_tiles slots) → ⊥
 no_slot c at slots room located = not_located c (staged_tiles slots) (room_other c at slots room) located
 
-module _ (format : Format) (slots : List Slot) (free : PageSet) (kept : IsKept format slots free) (c : Corner) (at : ℕ) (found : IsSlotAt c at slots) (s : Slot) (is : s ≡ get_or slots at s) where
+module _ (format : Format) (slots : List Slot) (free : FreePages) (kept : IsKept format slots free) (c : Corner) (at : ℕ) (found : IsSlotAt c at slots) (s : Slot) (is : s ≡ get_or slots at s) where
   abbrev before : List Slot
   before = take at slots
 
@@ -77,7 +77,7 @@ module _ (format : Format) (slots : List Slot) (free : PageSet) (kept : IsKept f
   pub apart : (p : ℕ) → times p (heights_pages s.committed) + free_times free p ≤ 1
   apart p =
       let in_use = slot_in_use before s after free kept_there.counted p in
-      omega (arith, in_use, page_le free.total p, heights_le p s.corner s.committed, times-append p (pages_of_location (committed_tile s)) (fresh_pages s))
+      omega (arith, in_use, page_le free.range p, heights_le p s.corner s.committed, times-append p (pages_of_location (committed_tile s)) (fresh_pages s))
 
   pub staged_before : HasFreshHeights c (chart_of format slots free) → stages_heights s ≡ true
   staged_before (t, there) =
@@ -113,7 +113,7 @@ module _ (format : Format) (slots : List Slot) (free : PageSet) (kept : IsKept f
   in_use = slot_in_use before s after free kept_there.counted
 
   -- ---- a page that may be written
-  module _ (new : Slot) (now : PageSet) where
+  module _ (new : Slot) (now : FreePages) where
     pub set_is : set slots at new ≡ before ++ new ∷ after
     set_is = set_split slots at new found.below
 
@@ -130,7 +130,7 @@ module _ (format : Format) (slots : List Slot) (free : PageSet) (kept : IsKept f
               kept_change format before s new after free now kept_there restaged.corner (same_committed s new restaged.corner restaged.committed)
               (subst (λ (x : Slot). IsSound format x) (sym same) sound)
               (subst (λ (x : Slot). length (staged_tiles (before ++ x ∷ after)) ≤ format.capacity) (sym same) kept_there.staged_room)
-              (let alike = ap length same_kept in omega (arith, alike)) restaged.same_total restaged.each
+              (let alike = ap length same_kept in omega (arith, alike)) restaged.same_range restaged.each
 
       pub is_rewritten : IfOk r (λ page. IsRewritten c i page (chart_of format slots free) (chart_of format (set slots at new) now))
       is_rewritten = by r staged
@@ -144,7 +144,7 @@ module _ (format : Format) (slots : List Slot) (free : PageSet) (kept : IsKept f
           by (Err refusal) staged = tt
 
   -- ---- a tile taken out
-  module _ (located : IsLocated c (staged_tiles slots)) (settled : ¬ HasFreshHeights c (chart_of format slots free)) (now : PageSet) (restaged : IsRestaged s (record s { staged = Removed }) free now) where
+  module _ (located : IsLocated c (staged_tiles slots)) (settled : ¬ HasFreshHeights c (chart_of format slots free)) (now : FreePages) (restaged : IsRestaged s (record s { staged = Removed }) free now) where
     abbrev without : Slot
     without = record s { staged = Removed }
 
@@ -180,7 +180,7 @@ module _ (format : Format) (slots : List Slot) (free : PageSet) (kept : IsKept f
         subst (λ (l : List Slot). IsKept format l now) (sym (set_is without now))
         (kept_change format before s without after free now kept_there refl refl
         (record { corner = sound.corner; committed = sound.committed; staged = tt; filled = filled_without })
-        (rw removed_tiles (fewer (staged_tiles (before ++ s ∷ after)) kept_there.staged_room)) (omega arith) restaged.same_total restaged.each)
+        (rw removed_tiles (fewer (staged_tiles (before ++ s ∷ after)) kept_there.staged_room)) (omega arith) restaged.same_range restaged.each)
       where
         fewer : (tiles : List TileLocation) → length tiles ≤ format.capacity → length (without_location s.corner tiles) ≤ format.capacity
         fewer tiles few = omega (arith, length-filter-le (λ t. not (is_at s.corner t)) tiles)
@@ -188,6 +188,6 @@ module _ (format : Format) (slots : List Slot) (free : PageSet) (kept : IsKept f
     pub is_removed : chart_of format (set slots at without) now ≡ record (chart_of format slots free) { staged = without_location c (staged_tiles slots) }
     is_removed =
         ap (λ (l : List Slot). chart_of format l now) (set_is without now)
-        ∙ (chart_changed format before s without after free now restaged.same_total refl _ removed_tiles
+        ∙ (chart_changed format before s without after free now restaged.same_range refl _ removed_tiles
         ∙ (ap (λ (d : Corner). record (chart_of format (before ++ s ∷ after) free) { staged = without_location d (staged_tiles (before ++ s ∷ after)) }) corner
         ∙ ap (λ (l : List Slot). record (chart_of format l free) { staged = without_location c (staged_tiles l) }) (sym split)))

@@ -7,7 +7,6 @@ use Rattle.std.proofs.lemmas.List.{append_assoc}
 use Rattle.std.proofs.lemmas.List.Elements.{filter_map-append, All-nil, All-cons, Contains-append_right}
 use Rattle.lattice.specs.Corners.{Corner, is_corner}
 use Rattle.lattice.proofs.Rising.{Rising, rising_from, adjacent_from}
-use Rattle.page_alloc.specs.Pages.{PageSet}
 use Rattle.layout.specs.Formats.{Format}
 use Rattle.charts.specs.declared.locations.TilePlanes.{TilePlanes}
 use Rattle.charts.specs.declared.slot.Slot.{Slot}
@@ -18,7 +17,7 @@ use Rattle.charts.specs.declared.staged.KeptStaged.{KeptStaged}
 use Rattle.charts.specs.declared.staged.KeptStaged.TheVariants as of_kept
 use Rattle.charts.specs.declared.staged.Staged.TheVariants.{Tile, Removed}
 use Rattle.charts.specs.Locations.{times}
-use Rattle.charts.specs.FreePages.{page_times}
+use Rattle.charts.specs.FreePages.{FreePages, PageRange, page_times}
 use Rattle.charts.specs.TileLocations.{TileLocation, KeepsPageRule, pages_of_kept, reached}
 use Rattle.charts.specs.Charts.{ChartValue, IsChart, IsFresh, IsStagedIn, IsWholeTile, tile_at}
 use Rattle.charts.specs.Slots.{committed_tile, staged_as, staged_tile, committed_tiles, staged_tiles, fresh_as, fresh_pages, pages_of_location, IsSound, AreCounted, IsKept, chart_of}
@@ -29,11 +28,11 @@ use Rattle.charts.proofs.Slotting.{replaced_count}
 use Rattle.charts.proofs.SlotLists.{reached_all, times-split, corner_of, rising_tiles, committed_own, staged_own}
 
 -- ---- the page rule
-pub page_rule : (sectors : ℕ) (tiles : List TileLocation) → ((p : ℕ) → times p (reached tiles) ≤ page_times sectors p) → KeepsPageRule sectors tiles
-page_rule sectors tiles few = record {
-  low = all_numbers (λ p. 4 ≤ p) (reached tiles) (λ p some. (page_at sectors p (omega (arith, few p))).0);
-  high = all_numbers (λ p. p < sectors) (reached tiles) (λ p some. (page_at sectors p (omega (arith, few p))).1);
-  once = λ p. omega (arith, few p, page_le sectors p);
+pub page_rule : (range : PageRange) (tiles : List TileLocation) → ((p : ℕ) → times p (reached tiles) ≤ page_times range p) → KeepsPageRule range.sectors tiles
+page_rule range tiles few = record {
+  low = all_numbers (λ p. 4 ≤ p) (reached tiles) (λ p some. (page_at range p (omega (arith, few p))).0);
+  high = all_numbers (λ p. p < range.sectors) (reached tiles) (λ p some. (page_at range p (omega (arith, few p))).1);
+  once = λ p. omega (arith, few p, page_le range p);
 }
 
 -- a staged tile reaches no more than its slot uses
@@ -55,11 +54,11 @@ all_staged_le p (s ∷ rest) =
     let later = all_staged_le p rest in
     omega arith
 
-module _ (slots : List Slot) (free : PageSet) (counted : AreCounted slots free) where
-  committed_few : (p : ℕ) → times p (reached (committed_tiles slots)) ≤ page_times free.total p
+module _ (slots : List Slot) (free : FreePages) (counted : AreCounted slots free) where
+  committed_few : (p : ℕ) → times p (reached (committed_tiles slots)) ≤ page_times free.range p
   committed_few p = omega (arith, counted p)
 
-  staged_few : (p : ℕ) → times p (reached (staged_tiles slots)) ≤ page_times free.total p
+  staged_few : (p : ℕ) → times p (reached (staged_tiles slots)) ≤ page_times free.range p
   staged_few p =
       let staged = ap (times p) (reached_all staged_tile slots) in
       let committed = ap (times p) (reached_all committed_tile slots) in
@@ -100,18 +99,18 @@ record IsIn (chart : ChartValue) (s : Slot) : Type 0 where
   pub committed : IfSome (committed_tile s) (Contains chart.committed)
   pub fresh : (p : ℕ) → 1 ≤ times p (fresh_pages s) → IsFresh chart p
 
-pub fresh_page : (format : Format) (slots : List Slot) (free : PageSet) → AreCounted slots free → (p : ℕ) → 1 ≤ times p (flat_map fresh_pages slots) → IsFresh (chart_of format slots free) p
+pub fresh_page : (format : Format) (slots : List Slot) (free : FreePages) → AreCounted slots free → (p : ℕ) → 1 ≤ times p (flat_map fresh_pages slots) → IsFresh (chart_of format slots free) p
 fresh_page format slots free counted p some =
     let all = counted p in
-    let few = page_le free.total p in
-    let page = page_at free.total p (omega arith) in
+    let few = page_le free.range p in
+    let page = page_at free.range p (omega arith) in
     record {
       low = page.0;
       high = page.1;
       unreached = λ member. (let there = times_of_member (reached (committed_tiles slots)) p member in absurd (omega arith));
     }
 
-is_in : (format : Format) (slots : List Slot) (free : PageSet) → AreCounted slots free → AllByRecursion (IsIn (chart_of format slots free)) slots
+is_in : (format : Format) (slots : List Slot) (free : FreePages) → AreCounted slots free → AllByRecursion (IsIn (chart_of format slots free)) slots
 is_in format slots free counted =
     each_slot (IsIn (chart_of format slots free)) [] slots (λ before s after is. record {
       committed = subst (λ (l : List Slot). IfSome (committed_tile s) (Contains (committed_tiles l))) (sym is) (contains_at committed_tile before s after);
@@ -146,24 +145,24 @@ own_corner s None own degrees = tt
 own_corner s (Some t) own degrees = subst (λ (d : Corner). IsTrue (is_corner d)) (sym own) degrees
 
 -- ---- a chart
-pub charted : (format : Format) (slots : List Slot) (free : PageSet) → IsKept format slots free → IsChart (chart_of format slots free)
+pub charted : (format : Format) (slots : List Slot) (free : FreePages) → IsKept format slots free → IsChart (chart_of format slots free)
 charted format slots free is =
     let rising : Rising corner_of slots = rising_from corner_of slots is.in_order in
     record {
-      size = is.size;
+      size = omega (arith, is.window.enough, is.window.within);
       committed = record {
         corners = all_tiles (λ t. IsTrue (is_corner t.corner)) (IsSound format) committed_tile (λ s sound. own_corner s (committed_tile s) (committed_own s) sound.corner) slots is.sound;
         in_order = adjacent_from (λ (t : TileLocation). t.corner) (committed_tiles slots) (rising_tiles committed_tile committed_own slots rising);
         room = is.committed_room;
         whole = all_tiles (IsWholeTile format) (IsSound format) committed_tile (λ s sound. sound.committed) slots is.sound;
-        page_rule = page_rule free.total (committed_tiles slots) (committed_few slots free is.counted);
+        page_rule = page_rule free.range (committed_tiles slots) (committed_few slots free is.counted);
       };
       staged = record {
         corners = all_tiles (λ t. IsTrue (is_corner t.corner)) (IsSound format) staged_tile (λ s sound. own_corner s (staged_tile s) (staged_own s) sound.corner) slots is.sound;
         in_order = adjacent_from (λ (t : TileLocation). t.corner) (staged_tiles slots) (rising_tiles staged_tile staged_own slots rising);
         room = is.staged_room;
         whole = all_tiles (IsWholeTile format) (IsSound format) staged_tile (λ s sound. sound.staged) slots is.sound;
-        page_rule = page_rule free.total (staged_tiles slots) (staged_few slots free is.counted);
+        page_rule = page_rule free.range (staged_tiles slots) (staged_few slots free is.counted);
       };
       each = all_tiles (IsStagedIn (chart_of format slots free)) (IsIn (chart_of format slots free)) staged_tile (staged_in_chart (chart_of format slots free)) slots (is_in format slots free is.counted);
     }

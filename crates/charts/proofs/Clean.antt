@@ -5,7 +5,7 @@ use Rattle.std.specs.List.{flat_map, AllByRecursion}
 use Rattle.std.proofs.lemmas.Grind.{flat_map-append}
 use Rattle.std.proofs.lemmas.Bool.{false≢true}
 use Rattle.lattice.specs.Corners.{Corner}
-use Rattle.page_alloc.specs.Pages.{PageSet}
+use Rattle.charts.specs.FreePages.{FreePages}
 use Rattle.layout.specs.Formats.{Format}
 use Rattle.charts.specs.declared.locations.TilePlanes.{TilePlanes}
 use Rattle.charts.specs.declared.slot.Slot.{Slot}
@@ -49,11 +49,11 @@ all_fresh_le format p (s ∷ rest) sound =
     let staged = times-append p (pages_of_location (staged_tile s)) (flat_map (λ s. pages_of_location (staged_tile s)) rest) in
     omega (arith, fresh, staged, fresh_le p s sound.0.filled, all_fresh_le format p rest sound.1)
 
-pub none_fresh : (format : Format) (slots : List Slot) (free : PageSet) → IsKept format slots free → staged_tiles slots ≡ committed_tiles slots → flat_map fresh_pages slots ≡ []
+pub none_fresh : (format : Format) (slots : List Slot) (free : FreePages) → IsKept format slots free → staged_tiles slots ≡ committed_tiles slots → flat_map fresh_pages slots ≡ []
 none_fresh format slots free is clean = empty_of_times (flat_map fresh_pages slots) (λ p. (
     let staged = ap (times p) (reached_all staged_tile slots) in
     let same = ap (λ (l : List TileLocation). times p (reached l)) clean in
-    omega (arith, staged, same, all_fresh_le format p slots is.sound, is.counted p, page_le free.total p)))
+    omega (arith, staged, same, all_fresh_le format p slots is.sound, is.counted p, page_le free.range p)))
 
 nil_parts : (xs ys : List ℕ) → xs ++ ys ≡ [] → (xs ≡ []) × (ys ≡ [])
 nil_parts [] ys none = (refl, none)

@@ -7,7 +7,7 @@ use Rattle.std.proofs.lemmas.List.{set_split, length-append, length-set, get_or-
 use Rattle.std.proofs.lemmas.Bool.{cases_eq}
 use Rattle.lattice.specs.Corners.{Corner, is_before, is_corner}
 use Rattle.lattice.proofs.Rising.{AllAfter, Rising, rising_from, adjacent_from, rising-filter}
-use Rattle.page_alloc.specs.Pages.{PageSet}
+use Rattle.charts.specs.FreePages.{FreePages}
 use Rattle.layout.specs.Formats.{Format}
 use Rattle.charts.specs.declared.locations.TilePlanes.{TilePlanes}
 use Rattle.charts.specs.declared.slot.Slot.{Slot}
@@ -24,17 +24,17 @@ use Rattle.charts.proofs.Times.{times-append}
 use Rattle.charts.proofs.SlotLists.{corner_of, slot_in_use, counted_change}
 
 -- ---- how far a loop over the slots has come
-pub record AreEndedTo (ending : Ending) (i : ℕ) (old slots : List Slot) (was now : PageSet) : Type 0 where
+pub record AreEndedTo (ending : Ending) (i : ℕ) (old slots : List Slot) (was now : FreePages) : Type 0 where
   pub same_length : length slots ≡ length old
   pub done : (k : ℕ) (d : Slot) → k < i → k < length old → HasEndedAs ending (get_or old k d) (get_or slots k d)
   pub rest : (k : ℕ) (d : Slot) → i ≤ k → get_or slots k d ≡ get_or old k d
-  pub same_total : now.total ≡ was.total
+  pub same_range : now.range ≡ was.range
   pub counted : AreCounted slots now
 
-pub ended_none : (ending : Ending) (slots : List Slot) (free : PageSet) → AreCounted slots free → AreEndedTo ending 0 slots slots free free
-ended_none ending slots free counted = record { same_length = refl; done = λ k d below within. absurd (omega arith); rest = λ k d from. refl; same_total = refl; counted = counted }
+pub ended_none : (ending : Ending) (slots : List Slot) (free : FreePages) → AreCounted slots free → AreEndedTo ending 0 slots slots free free
+ended_none ending slots free counted = record { same_length = refl; done = λ k d below within. absurd (omega arith); rest = λ k d from. refl; same_range = refl; counted = counted }
 
-module _ (ending : Ending) (i : ℕ) (old slots : List Slot) (was now : PageSet) (so_far : AreEndedTo ending i old slots was now) (s : Slot) (below : i < length slots) (is : s ≡ get_or slots i s) where
+module _ (ending : Ending) (i : ℕ) (old slots : List Slot) (was now : FreePages) (so_far : AreEndedTo ending i old slots was now) (s : Slot) (below : i < length slots) (is : s ≡ get_or slots i s) where
   there : slots ≡ take i slots ++ s ∷ drop (suc i) slots
   there = split_at slots i s below ∙ ap (λ x. take i slots ++ x ∷ drop (suc i) slots) (sym is)
 
@@ -44,7 +44,7 @@ module _ (ending : Ending) (i : ℕ) (old slots : List Slot) (was now : PageSet)
   pub next_in_use : AreInUse (used_pages s) now
   next_in_use = slot_in_use (take i slots) s (drop (suc i) slots) now counted_there
 
-  pub ended_more : (new : Slot) (later : PageSet) → IsEndedAs (ended_tile ending s) s new now later → AreEndedTo ending (i + 1) old (set slots i new) was later
+  pub ended_more : (new : Slot) (later : FreePages) → IsEndedAs (ended_tile ending s) s new now later → AreEndedTo ending (i + 1) old (set slots i new) was later
   ended_more new later ended = record {
     same_length = length-set slots i new ∙ so_far.same_length;
     done = λ k d less within. elim (cases_eq k i) [
@@ -57,20 +57,20 @@ module _ (ending : Ending) (i : ℕ) (old slots : List Slot) (was now : PageSet)
       | inr other ↦ subst (λ (y : Slot). HasEndedAs ending (get_or old k d) y) (sym (get_or-set_other slots i k new d other)) (so_far.done k d (omega arith) within)
     ];
     rest = λ k d from. (let other : k ≢ i = omega arith in get_or-set_other slots i k new d other ∙ so_far.rest k d (omega arith));
-    same_total = ended.same_total ∙ so_far.same_total;
+    same_range = ended.same_range ∙ so_far.same_range;
     counted =
         subst (λ (l : List Slot). AreCounted l later) (sym (set_split slots i new below))
-        (counted_change (take i slots) s (drop (suc i) slots) now counted_there new later ended.same_total (λ p. (
+        (counted_change (take i slots) s (drop (suc i) slots) now counted_there new later ended.same_range (λ p. (
         let none = ap (λ g. times p (fresh_as new.committed g)) ended.staged in
         let tile = ap (λ o. times p (pages_of_location o)) ended.committed in
         omega (arith, none, tile, ended.each p, times-append p (pages_of_location (committed_tile new)) (fresh_pages new)))));
   }
 
-pub ended_all : (ending : Ending) (i : ℕ) (old slots : List Slot) (was now : PageSet) → AreEndedTo ending i old slots was now → length old ≤ i → AreEndedAs ending old slots was now
+pub ended_all : (ending : Ending) (i : ℕ) (old slots : List Slot) (was now : FreePages) → AreEndedTo ending i old slots was now → length old ≤ i → AreEndedAs ending old slots was now
 ended_all ending i old slots was now so_far end = record {
   same_length = so_far.same_length;
   each = λ k d below. so_far.done k d (omega arith) below;
-  same_total = so_far.same_total;
+  same_range = so_far.same_range;
   counted = so_far.counted;
 }
 
@@ -189,7 +189,7 @@ sound_filter format (s ∷ rest) all = by (is_left s) refl (sound_filter format 
     )
     by false here later = later
 
-module _ (format : Format) (ending : Ending) (slots new : List Slot) (free now : PageSet) (is : IsKept format slots free) (ended : AreEndedAs ending slots new free now) where
+module _ (format : Format) (ending : Ending) (slots new : List Slot) (free now : FreePages) (is : IsKept format slots free) (ended : AreEndedAs ending slots new free now) where
   abbrev left : List Slot
   left = filter is_left new
 
@@ -217,8 +217,8 @@ module _ (format : Format) (ending : Ending) (slots new : List Slot) (free now :
 
   pub kept_left : IsKept format left now
   kept_left = record {
-    size = rw ended.same_total is.size;
-    fits = rw ended.same_total is.fits;
+    fits = rw ended.same_range is.fits;
+    window = rw ended.same_range is.window;
     few = is.few;
     in_order = adjacent_from corner_of left (rising-filter corner_of is_left new (ended_rising ending slots new pairs (rising_from corner_of slots is.in_order)));
     sound = sound_filter format new settled;
@@ -233,11 +233,11 @@ module _ (format : Format) (ending : Ending) (slots new : List Slot) (free now :
   pub chart_left : chart_of format left now ≡ ended_chart ending (chart_of format slots free)
   chart_left =
       let chart : ℕ → List TileLocation → List TileLocation → ChartValue = λ n a b. record { sectors = n; format = format; committed = a; staged = b } in
-      ap (λ n. chart n (committed_tiles left) (staged_tiles left)) ended.same_total
-      ∙ (ap (λ a. chart free.total a (staged_tiles left)) now_committed
-      ∙ (ap (λ b. chart free.total tiles b) now_staged
+      ap (λ n. chart n.sectors (committed_tiles left) (staged_tiles left)) ended.same_range
+      ∙ (ap (λ a. chart free.range.sectors a (staged_tiles left)) now_committed
+      ∙ (ap (λ b. chart free.range.sectors tiles b) now_staged
       ∙ by ending))
     where
-      by : (e : Ending) → record { sectors = free.total; format = format; committed = filter_map (ended_tile e) slots; staged = filter_map (ended_tile e) slots } ≡ ended_chart e (chart_of format slots free)
+      by : (e : Ending) → record { sectors = free.range.sectors; format = format; committed = filter_map (ended_tile e) slots; staged = filter_map (ended_tile e) slots } ≡ ended_chart e (chart_of format slots free)
       by Committed = refl
       by GivenUp = refl

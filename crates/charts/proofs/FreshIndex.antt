@@ -4,7 +4,7 @@ use Rattle.std.specs.Prelude.{Option, Some, None, IfSome, IsTrue, Contains}
 use Rattle.std.proofs.lemmas.Bool.{false_from_ne_true, cases_eq, cases_lt}
 use Rattle.std.proofs.lemmas.List.{get_or_append_left, length-append}
 use Rattle.lattice.specs.Corners.{Corner}
-use Rattle.page_alloc.specs.Pages.{PageSet}
+use Rattle.charts.specs.FreePages.{FreePages}
 use Rattle.layout.specs.Formats.{Format}
 use Rattle.layout.specs.Sizes.{index_pages_of}
 use Rattle.charts.specs.declared.locations.TilePlanes.{TilePlanes}
@@ -38,7 +38,7 @@ stands_or_not o t page Z there nowhere = elim (cases_lt t (length (heights_pages
   | inr past ↦ nowhere (λ stands. absurd (omega (arith, stands.0)))
 ]
 
-module _ (format : Format) (slots : List Slot) (free : PageSet) (kept : IsKept format slots free) (c : Corner) (at : ℕ) (found : IsSlotAt c at slots) (s : Slot) (is : s ≡ get_or slots at s) (t : ℕ) where
+module _ (format : Format) (slots : List Slot) (free : FreePages) (kept : IsKept format slots free) (c : Corner) (at : ℕ) (found : IsSlotAt c at slots) (s : Slot) (is : s ≡ get_or slots at s) (t : ℕ) where
   abbrev before : List Slot
   before = take at slots
 

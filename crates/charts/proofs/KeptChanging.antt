@@ -6,7 +6,7 @@ use Rattle.std.proofs.lemmas.List.{length-append, length-map}
 use Rattle.lattice.specs.Corners.{Corner, is_corner}
 use Rattle.lattice.specs.declared.refusal.Refusal.{Refusal}
 use Rattle.lattice.proofs.Rising.{Rising, rising_from}
-use Rattle.page_alloc.specs.Pages.{PageSet}
+use Rattle.charts.specs.FreePages.{FreePages}
 use Rattle.layout.specs.Formats.{Format}
 use Rattle.layout.specs.Sizes.{plane_pages_of}
 use Rattle.charts.specs.declared.locations.KeptLocations.{KeptLocations}
@@ -30,7 +30,7 @@ other_kept_in c kept t = if is_at c t then record t { kept = kept } else t
 abbrev pub other_kept : Corner → Option KeptLocations → List TileLocation → List TileLocation
 other_kept c kept tiles = map (other_kept_in c kept) tiles
 
-module _ (format : Format) (before : List Slot) (s new : Slot) (after : List Slot) (free now : PageSet) (is : IsKept format (before ++ s ∷ after) free) (restaged : IsRestaged s new free now)
+module _ (format : Format) (before : List Slot) (s new : Slot) (after : List Slot) (free now : FreePages) (is : IsKept format (before ++ s ∷ after) free) (restaged : IsRestaged s new free now)
     (tile : TileLocation) (kept : Option KeptLocations) (had : staged_tile s ≡ Some tile) (has : staged_tile new ≡ Some (record tile { kept = kept })) where
   rising : Rising corner_of (before ++ s ∷ after)
   rising = rising_from corner_of (before ++ s ∷ after) is.in_order
@@ -61,10 +61,10 @@ module _ (format : Format) (before : List Slot) (s new : Slot) (after : List Slo
   changed_slots : IfSome kept (AreWholeKept format) → length (flat_map fresh_kept (before ++ new ∷ after)) ≤ 2 * plane_pages_of format → IsKept format (before ++ new ∷ after) now
   changed_slots whole room =
       kept_change_within format before s new after free now is restaged.corner (same_committed s new restaged.corner restaged.committed) (sound_now whole)
-      (rw changed_tiles (rw (length-map (staged_tiles (before ++ s ∷ after)) changed) is.staged_room)) room restaged.same_total restaged.each
+      (rw changed_tiles (rw (length-map (staged_tiles (before ++ s ∷ after)) changed) is.staged_room)) room restaged.same_range restaged.each
 
   changed_chart : chart_of format (before ++ new ∷ after) now ≡ record (chart_of format (before ++ s ∷ after) free) { staged = other_kept s.corner kept (staged_tiles (before ++ s ∷ after)) }
-  changed_chart = chart_changed format before s new after free now restaged.same_total (same_committed s new restaged.corner restaged.committed) _ changed_tiles
+  changed_chart = chart_changed format before s new after free now restaged.same_range (same_committed s new restaged.corner restaged.committed) _ changed_tiles
 
 -- of slots of which no pages of kept planes were fresh, those of one slot alone are
 only_kept : (before : List Slot) (s new : Slot) (after : List Slot) → length (flat_map fresh_kept (before ++ s ∷ after)) ≡ 0 → length (flat_map fresh_kept (before ++ new ∷ after)) ≡ length (fresh_kept new)
@@ -74,12 +74,12 @@ only_kept (b ∷ before) s new after none =
     let later = only_kept before s new after (omega arith) in
     omega (arith, none, later, length-append (fresh_kept b) (flat_map fresh_kept (before ++ new ∷ after)))
 
-pub none_here : (format : Format) (slots : List Slot) (free : PageSet) → IsKept format slots free → (c : Corner) (at : ℕ) → IsSlotAt c at slots → (s : Slot) → s ≡ get_or slots at s → flat_map fresh_pages slots ≡ [] → fresh_kept s ≡ []
+pub none_here : (format : Format) (slots : List Slot) (free : FreePages) → IsKept format slots free → (c : Corner) (at : ℕ) → IsSlotAt c at slots → (s : Slot) → s ≡ get_or slots at s → flat_map fresh_pages slots ≡ [] → fresh_kept s ≡ []
 none_here format slots free kept c at found s is none =
     none_kept_at (take at slots) s (drop (suc at) slots) (subst (λ (l : List Slot). flat_map fresh_pages l ≡ []) (split format slots free kept c at found s is) none)
 
-module _ (format : Format) (slots : List Slot) (free : PageSet) (kept : IsKept format slots free) (c : Corner) (at : ℕ) (found : IsSlotAt c at slots) (s : Slot) (is : s ≡ get_or slots at s)
-    (new : Slot) (now : PageSet) (restaged : IsRestaged s new free now) where
+module _ (format : Format) (slots : List Slot) (free : FreePages) (kept : IsKept format slots free) (c : Corner) (at : ℕ) (found : IsSlotAt c at slots) (s : Slot) (is : s ≡ get_or slots at s)
+    (new : Slot) (now : FreePages) (restaged : IsRestaged s new free now) where
   abbrev before : List Slot
   before = take at slots
 
@@ -134,7 +134,7 @@ module _ (format : Format) (slots : List Slot) (free : PageSet) (kept : IsKept f
               kept_change format before s new after free now there restaged.corner (same_committed s new restaged.corner restaged.committed)
               (subst (λ (x : Slot). IsSound format x) (sym same) (all_middle (IsSound format) before s after there.sound))
               (subst (λ (x : Slot). length (staged_tiles (before ++ x ∷ after)) ≤ format.capacity) (sym same) there.staged_room)
-              (let alike = ap (λ (x : Slot). length (fresh_kept x)) same in omega (arith, alike)) restaged.same_total restaged.each
+              (let alike = ap (λ (x : Slot). length (fresh_kept x)) same in omega (arith, alike)) restaged.same_range restaged.each
 
       pub are_kept : OnOk r (AreKept c (chart_of format slots free) (chart_of format (set slots at new) now))
       are_kept = by r told

@@ -7,7 +7,7 @@ use Rattle.std.proofs.lemmas.List.Elements.{filter_map-append, filter-append}
 use Rattle.std.proofs.lemmas.Bool.{false≢true, cases_eq, eq-eqb, ne_eqb}
 use Rattle.lattice.specs.Corners.{Corner}
 use Rattle.lattice.specs.Limits.{most_tiles}
-use Rattle.page_alloc.specs.Pages.{PageSet}
+use Rattle.charts.specs.FreePages.{FreePages}
 use Rattle.layout.specs.Formats.{Format}
 use Rattle.charts.specs.declared.locations.TilePlanes.{TilePlanes}
 use Rattle.charts.specs.declared.slot.Slot.{Slot}
@@ -76,7 +76,7 @@ any_some (x ∷ xs) r (suc k, below, here) = elim (cases_eq x r) [
   | inr other ↦ rw (ne_eqb x r other) (any_some xs r (k, omega arith, here))
 ]
 
-module _ (format : Format) (slots : List Slot) (free : PageSet) (kept : IsKept format slots free) (i : ℕ) (s : Slot) (below : i < length slots) (is : s ≡ get_or slots i s) where
+module _ (format : Format) (slots : List Slot) (free : FreePages) (kept : IsKept format slots free) (i : ℕ) (s : Slot) (below : i < length slots) (is : s ≡ get_or slots i s) where
   abbrev changed : TileLocation → Bool
   changed = is_changed (committed_tiles slots)
 

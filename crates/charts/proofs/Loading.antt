@@ -9,7 +9,7 @@ use Rattle.std.proofs.lemmas.Bool.{false≢true}
 use Rattle.lattice.specs.Corners.{Corner, is_before, is_corner}
 use Rattle.lattice.specs.Lattice.{IsBefore}
 use Rattle.lattice.proofs.Rising.{AllAfter}
-use Rattle.page_alloc.specs.Pages.{PageSet}
+use Rattle.charts.specs.FreePages.{FreePages}
 use Rattle.layout.specs.Formats.{Format}
 use Rattle.charts.specs.declared.locations.TilePlanes.{TilePlanes}
 use Rattle.charts.specs.declared.slot.Slot.{Slot}
@@ -46,7 +46,7 @@ reached_member (u ∷ rest) t (suc k, below, here) = omega (arith, reached_membe
 abbrev pub loaded_slot : Corner → TilePlanes → Slot
 loaded_slot c planes = record { corner = c; committed = Some planes; staged = as_committed }
 
-module _ (format : Format) (slots : List Slot) (free : PageSet) (kept : IsKept format slots free) (clean : staged_tiles slots ≡ committed_tiles slots)
+module _ (format : Format) (slots : List Slot) (free : FreePages) (kept : IsKept format slots free) (clean : staged_tiles slots ≡ committed_tiles slots)
     (c : Corner) (planes : TilePlanes) (later : All (λ t. IsBefore t.corner c) (committed_tiles slots)) (room : length (committed_tiles slots) < format.capacity) (whole : IsWholeTile format (tile_at c planes)) where
   abbrev loaded : Slot
   loaded = loaded_slot c planes
@@ -73,31 +73,31 @@ module _ (format : Format) (slots : List Slot) (free : PageSet) (kept : IsKept f
   now_tiles : (tile_of : Slot → Option TileLocation) → tile_of loaded ≡ Some (tile_at c planes) → filter_map tile_of (slots ++ loaded ∷ []) ≡ filter_map tile_of slots ++ tile_at c planes ∷ []
   now_tiles tile_of has = filter_map-append tile_of slots (loaded ∷ []) ∙ ap (λ (o : Option TileLocation). filter_map tile_of slots ++ cons_option o []) has
 
-  pub kept_loaded : IsTrue (is_corner c) → (now : PageSet) → AreTaken (pages_of_planes planes) free now → IsKept format (slots ++ loaded ∷ []) now
+  pub kept_loaded : IsTrue (is_corner c) → (now : FreePages) → AreTaken (pages_of_planes planes) free now → IsKept format (slots ++ loaded ∷ []) now
   kept_loaded degrees now taken =
       kept_insert format slots loaded [] free now (subst (λ (l : List Slot). IsKept format l free) (sym (append-nil slots)) kept) all_before tt
       (record { corner = degrees; committed = whole; staged = whole; filled = refl })
       (rw (now_tiles committed_tile refl) (omega (arith, length-append tiles (tile_at c planes ∷ []))))
       (rw (now_tiles staged_tile refl) (let same = ap length clean in omega (arith, same, length-append (staged_tiles slots) (tile_at c planes ∷ []))))
-      refl taken.same_total
+      refl taken.same_range
       (λ p. omega (arith, taken.each p, times-append p (pages_of_planes planes) []))
 
-  pub chart_loaded : (now : PageSet) → AreTaken (pages_of_planes planes) free now
+  pub chart_loaded : (now : FreePages) → AreTaken (pages_of_planes planes) free now
       → chart_of format (slots ++ loaded ∷ []) now ≡ record (chart_of format slots free) { committed = tiles ++ tile_at c planes ∷ []; staged = tiles ++ tile_at c planes ∷ [] }
   chart_loaded now taken =
       let chart : ℕ → List TileLocation → List TileLocation → ChartValue = λ n a b. record { sectors = n; format = format; committed = a; staged = b } in
-      ap (λ n. chart n (committed_tiles (slots ++ loaded ∷ [])) (staged_tiles (slots ++ loaded ∷ []))) taken.same_total
-      ∙ (ap (λ a. chart free.total a (staged_tiles (slots ++ loaded ∷ []))) (now_tiles committed_tile refl)
-      ∙ ap (λ b. chart free.total (tiles ++ tile_at c planes ∷ []) b) (now_tiles staged_tile refl ∙ ap (λ l. l ++ tile_at c planes ∷ []) clean))
+      ap (λ n. chart n.sectors (committed_tiles (slots ++ loaded ∷ [])) (staged_tiles (slots ++ loaded ∷ []))) taken.same_range
+      ∙ (ap (λ a. chart free.range.sectors a (staged_tiles (slots ++ loaded ∷ []))) (now_tiles committed_tile refl)
+      ∙ ap (λ b. chart free.range.sectors (tiles ++ tile_at c planes ∷ []) b) (now_tiles staged_tile refl ∙ ap (λ l. l ++ tile_at c planes ∷ []) clean))
 
-  pub rule_broken : ((p : ℕ) × (free_times free p < times p (pages_of_planes planes))) → KeepsPageRule free.total (tiles ++ tile_at c planes ∷ []) → ⊥
+  pub rule_broken : ((p : ℕ) × (free_times free p < times p (pages_of_planes planes))) → KeepsPageRule free.range.sectors (tiles ++ tile_at c planes ∷ []) → ⊥
   rule_broken (p, less) rule =
       let all = ap (times p) (flat_map-append pages_of_tile tiles (tile_at c planes ∷ [])) ∙ times-append p (reached tiles) (reached (tile_at c planes ∷ [])) in
       let own = times-append p (pages_of_planes planes) [] in
       let none = ap (times p) no_page_fresh in
       let there : 1 ≤ times p (reached (tiles ++ tile_at c planes ∷ [])) = omega (arith, all, own) in
       let member = member_of_times (reached (tiles ++ tile_at c planes ∷ [])) p there in
-      let page = page_one free.total p (all_member (λ q. 4 ≤ q) (reached (tiles ++ tile_at c planes ∷ [])) p rule.low member, all_member (λ q. q < free.total) (reached (tiles ++ tile_at c planes ∷ [])) p rule.high member) in
+      let page = page_one free.range p (all_member (λ q. 4 ≤ q) (reached (tiles ++ tile_at c planes ∷ [])) p rule.low member, all_member (λ q. q < free.range.sectors) (reached (tiles ++ tile_at c planes ∷ [])) p rule.high member) in
       omega (arith, all, own, rule.once p, page, kept.counted p, none)
 
 -- ---- a tile added where the search says
@@ -113,7 +113,7 @@ all_drop c [] (suc at) each = tt
 all_drop c (s ∷ rest) zero each = (each 0 s (omega arith) (omega arith), all_drop c rest 0 (λ k d from below. each (suc k) d (omega arith) (omega arith)))
 all_drop c (s ∷ rest) (suc at) each = all_drop c rest at (λ k d from below. each (suc k) d (omega arith) (omega arith))
 
-module _ (format : Format) (slots : List Slot) (free now : PageSet) (kept : IsKept format slots free) (c : Corner)
+module _ (format : Format) (slots : List Slot) (free now : FreePages) (kept : IsKept format slots free) (c : Corner)
     (location : PlaneLocation) (whole : IsWholePlane format location) (taken : AreTaken (pages_of_plane location) free now) (room : length (staged_tiles slots) < format.capacity) where
   module _ (degrees : IsTrue (is_corner c)) (at : ℕ) (is : IsRoomAt c at slots) where
     joined : slots ≡ take at slots ++ drop at slots

@@ -5,7 +5,7 @@ use Rattle.std.proofs.lemmas.List.{length-map}
 use Rattle.lattice.specs.Corners.{Corner, is_corner}
 use Rattle.lattice.specs.declared.refusal.Refusal.{Refusal}
 use Rattle.lattice.proofs.Rising.{Rising, rising_from}
-use Rattle.page_alloc.specs.Pages.{PageSet}
+use Rattle.charts.specs.FreePages.{FreePages}
 use Rattle.layout.specs.Formats.{Format}
 use Rattle.charts.specs.declared.locations.TilePlanes.{TilePlanes}
 use Rattle.charts.specs.declared.slot.Slot.{Slot}
@@ -35,7 +35,7 @@ already_staged s location k is = record {
   fresh_record = (let there = ap (λ (g : Staged). times location.record_page (fresh_as s.committed g)) is in omega (arith, there, one-self location.record_page));
 }
 
-module _ (s : Slot) (planes : TilePlanes) (location : PlaneLocation) (k : KeptStaged) (was now : PageSet) (is : s.staged ≡ Tile of_heights.AsCommitted k) (some : s.committed ≡ Some planes)
+module _ (s : Slot) (planes : TilePlanes) (location : PlaneLocation) (k : KeptStaged) (was now : FreePages) (is : s.staged ≡ Tile of_heights.AsCommitted k) (some : s.committed ≡ Some planes)
     (same : location ≡ record (planes.heights) { record_page = location.record_page }) (taken : AreTaken (location.record_page ∷ []) was now) where
   behind : pages_behind location ≡ heights_pages s.committed
   behind = ap pages_behind same ∙ sym (ap heights_pages some)
@@ -45,7 +45,7 @@ module _ (s : Slot) (planes : TilePlanes) (location : PlaneLocation) (k : KeptSt
       record {
         corner = refl;
         committed = refl;
-        same_total = taken.same_total;
+        same_range = taken.same_range;
         each = λ p.
             let none : times p (differing (pages_behind location) (heights_pages s.committed)) ≡ 0 = ap (λ l. times p (differing l (heights_pages s.committed))) behind ∙ ap (times p) (differing-self (heights_pages s.committed)) in
             omega (arith, none, fresh_at p s of_heights.AsCommitted k is, fresh_at p (at_heights s location k) (of_heights.Fresh location) k refl, taken.each p);
@@ -63,7 +63,7 @@ module _ (s : Slot) (planes : TilePlanes) (location : PlaneLocation) (k : KeptSt
   }
 
 -- ---- the chart
-module _ (format : Format) (before : List Slot) (s new : Slot) (after : List Slot) (free now : PageSet) (is : IsKept format (before ++ s ∷ after) free)
+module _ (format : Format) (before : List Slot) (s new : Slot) (after : List Slot) (free now : FreePages) (is : IsKept format (before ++ s ∷ after) free)
     (staged : IsRecordRestaged s new) (restaged : IsRestaged s new free now) (same_kept : fresh_kept new ≡ fresh_kept s) where
   rising : Rising corner_of (before ++ s ∷ after)
   rising = rising_from corner_of (before ++ s ∷ after) is.in_order
@@ -94,17 +94,17 @@ module _ (format : Format) (before : List Slot) (s new : Slot) (after : List Slo
   prepared_slots : IsKept format (before ++ new ∷ after) now
   prepared_slots =
       kept_change format before s new after free now is restaged.corner (same_committed s new restaged.corner restaged.committed) sound_now
-      (rw moved_tiles (rw (length-map (staged_tiles (before ++ s ∷ after)) moved) is.staged_room)) (let same = ap length same_kept in omega (arith, same)) restaged.same_total restaged.each
+      (rw moved_tiles (rw (length-map (staged_tiles (before ++ s ∷ after)) moved) is.staged_room)) (let same = ap length same_kept in omega (arith, same)) restaged.same_range restaged.each
 
   prepared_there : IsPrepared s.corner (chart_of format (before ++ s ∷ after) free) (chart_of format (before ++ new ∷ after) now)
   prepared_there = record {
     record_page = staged.record_page;
     fresh_record = slot_fresh format before new after now prepared_slots.counted staged.record_page staged.fresh_record;
-    changed = chart_changed format before s new after free now restaged.same_total (same_committed s new restaged.corner restaged.committed) _ moved_tiles;
+    changed = chart_changed format before s new after free now restaged.same_range (same_committed s new restaged.corner restaged.committed) _ moved_tiles;
   }
 
-module _ (format : Format) (slots : List Slot) (free : PageSet) (kept : IsKept format slots free) (c : Corner) (at : ℕ) (found : IsSlotAt c at slots) (s : Slot) (is : s ≡ get_or slots at s)
-    (new : Slot) (now : PageSet) (r : Result (Unit {0}) Refusal) (staged : OnOk r (IsRecordRestaged s new)) (restaged : IsRestaged s new free now) (same_kept : fresh_kept new ≡ fresh_kept s) (unchanged : OnErr r (new ≡ s)) where
+module _ (format : Format) (slots : List Slot) (free : FreePages) (kept : IsKept format slots free) (c : Corner) (at : ℕ) (found : IsSlotAt c at slots) (s : Slot) (is : s ≡ get_or slots at s)
+    (new : Slot) (now : FreePages) (r : Result (Unit {0}) Refusal) (staged : OnOk r (IsRecordRestaged s new)) (restaged : IsRestaged s new free now) (same_kept : fresh_kept new ≡ fresh_kept s) (unchanged : OnErr r (new ≡ s)) where
   abbrev before : List Slot
   before = take at slots
 
@@ -123,7 +123,7 @@ module _ (format : Format) (slots : List Slot) (free : PageSet) (kept : IsKept f
           kept_change format before s new after free now there restaged.corner (same_committed s new restaged.corner restaged.committed)
           (subst (λ (x : Slot). IsSound format x) (sym same) (all_middle (IsSound format) before s after there.sound))
           (subst (λ (x : Slot). length (staged_tiles (before ++ x ∷ after)) ≤ format.capacity) (sym same) there.staged_room)
-          (let alike = ap length same_kept in omega (arith, alike)) restaged.same_total restaged.each
+          (let alike = ap length same_kept in omega (arith, alike)) restaged.same_range restaged.each
 
   pub is_prepared : OnOk r (IsPrepared c (chart_of format slots free) (chart_of format (set slots at new) now))
   is_prepared = by r staged

@@ -8,7 +8,6 @@ use Rattle.std.specs.FinSet.{FinSet, empty, contains, remove, len, empty_of_len,
 use Rattle.std.proofs.lemmas.Bool.{false≢true, cases_eq, cases_Bool, cases_lt, ne_eqb}
 use Rattle.std.proofs.lemmas.List.{length-append}
 use Rattle.lattice.specs.Corners.{Corner}
-use Rattle.page_alloc.specs.Pages.{PageSet}
 use Rattle.layout.specs.Sizes.{pages_of, index_pages_by, index_pages_of, plane_pages_of, sectors_asked}
 use Rattle.layout.specs.Formats.{Format, upgraded}
 use Rattle.layout.specs.declared.version.Version.TheVariants.{One}
@@ -19,12 +18,12 @@ use Rattle.charts.specs.declared.staged.Staged.{Staged}
 use Rattle.charts.specs.declared.staged.HeightsStaged.TheVariants as of_heights
 use Rattle.charts.specs.declared.staged.Staged.TheVariants.{Tile, Removed}
 use Rattle.charts.specs.Locations.{PlaneLocation, IsWholePlane, times, pages_behind, pages_of_plane}
-use Rattle.charts.specs.FreePages.{page_times, heights_pages}
+use Rattle.charts.specs.FreePages.{FreePages, page_times, heights_pages}
 use Rattle.charts.specs.TileLocations.{TileLocation, pages_of_tile, pages_of_kept, reached}
 use Rattle.charts.specs.Charts.{IsWholeTile, AreWholeKept}
 use Rattle.charts.specs.Slots.{committed_tile, staged_as, staged_tile, committed_tiles, staged_tiles, fresh_heights_in, fresh_heights, fresh_kept, fresh_pages, pages_of_location, IsSound, IsKept}
 use Rattle.charts.proofs.Times.{one, one-other, times-append, length-differing}
-use Rattle.charts.proofs.FreeTimes.{contains-without, len-without, page_one}
+use Rattle.charts.proofs.FreeTimes.{contains-without, free_near, len-without, page_one}
 use Rattle.charts.proofs.SlotLists.{reached_all}
 
 -- ---- numbers that all stand in a list or a set are no more than these have
@@ -152,21 +151,22 @@ left_over total used left m c nc lc lf size all joined committed committed_most 
     let three : 3 * m * nc ≡ 3 * (m * nc) = mul_assoc 3 m nc in
     omega arith
 
-module _ (format : Format) (slots : List Slot) (free : PageSet) (is : IsKept format slots free) where
+module _ (format : Format) (slots : List Slot) (free : FreePages) (is : IsKept format slots free) where
   -- what the committed tiles leave: a plane for each tile that there is room for, and two more
   all_left : plane_pages_of format * format.capacity + 2 * plane_pages_of format ≤ length (flat_map fresh_pages slots) + len free.free
   all_left =
       let used = reached (committed_tiles slots) ++ flat_map fresh_pages slots in
       let m = plane_pages_of format in
-      let all : free.total - 4 ≤ length used + len free.free =
-      pages_le (free.total - 4) used free.free (λ p low high. (
-      let page : page_times free.total p ≡ 1 = page_one free.total p (low, omega (arith, is.size)) in
-      omega (arith, is.counted p, page, times-append p (reached (committed_tiles slots)) (flat_map fresh_pages slots)))) in
+      let all : free.range.window - 4 ≤ length used + len free.free =
+      pages_le (free.range.window - 4) used free.free (λ p low high. (
+      let near = free_near free p (omega (arith, is.window.enough)) in
+      let page : page_times free.range p ≡ 1 = page_one free.range p (low, omega (arith, is.window.enough, is.window.within)) in
+      omega (arith, is.counted p, near, page, times-append p (reached (committed_tiles slots)) (flat_map fresh_pages slots)))) in
       let committed : length (reached (committed_tiles slots)) ≤ 3 * m * length (committed_tiles slots) =
       rw (reached_all committed_tile slots) (pages_few (λ s. pages_of_location (committed_tile s)) committed_tile (3 * m) (IsSound format) (committed_few format) slots is.sound) in
       let committed_most : m * length (committed_tiles slots) ≤ m * format.capacity = mul-le-mul_left m is.committed_room in
       let joined = length-append (reached (committed_tiles slots)) (flat_map fresh_pages slots) in
-      left_over free.total (length used) (len free.free) m format.capacity (length (committed_tiles slots)) _ _ is.size all joined committed committed_most
+      left_over free.range.window (length used) (len free.free) m format.capacity (length (committed_tiles slots)) _ _ is.window.enough all joined committed committed_most
 
   -- where no page is fresh there are two planes
   pub room_to_keep : flat_map fresh_pages slots ≡ [] → 2 * plane_pages_of format ≤ len free.free
@@ -180,7 +180,7 @@ module _ (format : Format) (slots : List Slot) (free : PageSet) (is : IsKept for
       omega (arith, all_left, fresh_parts slots, all_heights_few format slots is.sound, is.kept_room, tiles, mul-add m (length (staged_tiles slots)) 1)
 
 -- for a staged tile there is one, with those pages of its heights that are fresh already
-pub room_for_heights : (format : Format) (before : List Slot) (s : Slot) (after : List Slot) (free : PageSet) → IsKept format (before ++ s ∷ after) free → IsSome (staged_tile s)
+pub room_for_heights : (format : Format) (before : List Slot) (s : Slot) (after : List Slot) (free : FreePages) → IsKept format (before ++ s ∷ after) free → IsSome (staged_tile s)
     → plane_pages_of format ≤ length (fresh_heights s) + len free.free
 room_for_heights format before s after free is some =
     let slots = before ++ s ∷ after in
@@ -203,20 +203,21 @@ upgraded_over total used left c n i p size all committed most some_index some_pa
     let page_least : n * 1 ≤ n * p = mul-le-mul_left n some_page in
     omega arith
 
-pub room_to_upgrade : (format : Format) (slots : List Slot) (free : PageSet) → IsKept format slots free → flat_map fresh_pages slots ≡ [] → format.version ≡ One → 3 ≤ format.side → sectors_asked (upgraded format) ≤ free.total
+pub room_to_upgrade : (format : Format) (slots : List Slot) (free : FreePages) → IsKept format slots free → flat_map fresh_pages slots ≡ [] → format.version ≡ One → 3 ≤ format.side → sectors_asked (upgraded format) ≤ free.range.sectors
     → 3 * (1 + index_pages_of (upgraded format)) * length (committed_tiles slots) ≤ len free.free
 room_to_upgrade format slots free is none first side size =
     let used = reached (committed_tiles slots) in
     let none_index : index_pages_of format ≡ 0 = ap (λ v. index_pages_by v (pages_of format.side)) first in
-    let all : free.total - 4 ≤ length used + len free.free =
-    pages_le (free.total - 4) used free.free (λ p low high. (
-    let page : page_times free.total p ≡ 1 = page_one free.total p (low, omega (arith, is.size)) in
+    let all : free.range.window - 4 ≤ length used + len free.free =
+    pages_le (free.range.window - 4) used free.free (λ p low high. (
+    let near = free_near free p (omega (arith, is.window.enough)) in
+    let page : page_times free.range p ≡ 1 = page_one free.range p (low, omega (arith, is.window.enough, is.window.within)) in
     let nothing = ap (times p) none in
-    omega (arith, is.counted p, page, nothing))) in
+    omega (arith, is.counted p, near, page, nothing))) in
     let committed : length used ≤ 3 * plane_pages_of format * length (committed_tiles slots) =
     rw (reached_all committed_tile slots) (pages_few (λ s. pages_of_location (committed_tile s)) committed_tile (3 * plane_pages_of format) (IsSound format) (committed_few format) slots is.sound) in
     let square : format.side * 3 ≤ format.side * format.side = mul-le-mul_left format.side side in
     let some_page : 1 ≤ pages_of format.side = omega (arith, square, side) in
     let some_index : 1 ≤ index_pages_of (upgraded format) = omega (arith, some_page) in
-    upgraded_over free.total (length used) (len free.free) format.capacity (length (committed_tiles slots)) (index_pages_of (upgraded format)) (pages_of format.side) size all
+    upgraded_over free.range.window (length used) (len free.free) format.capacity (length (committed_tiles slots)) (index_pages_of (upgraded format)) (pages_of format.side) (is.window.upgrade size) all
     (subst (λ i. length used ≤ 3 * (1 + i + pages_of format.side) * length (committed_tiles slots)) none_index committed) is.committed_room some_index some_page

@@ -7,7 +7,7 @@ use Rattle.std.proofs.lemmas.List.Elements.{filter_map-append}
 use Rattle.lattice.specs.Corners.{Corner, same_corner, is_corner}
 use Rattle.lattice.proofs.CornerOrder.{before_not_same, after_not_same, same_from}
 use Rattle.lattice.proofs.Rising.{AllAfter, Rising, rising_from, adjacent_from}
-use Rattle.page_alloc.specs.Pages.{PageSet}
+use Rattle.charts.specs.FreePages.{FreePages, PageRange}
 use Rattle.layout.specs.Formats.{Format}
 use Rattle.layout.specs.Sizes.{plane_pages_of}
 use Rattle.charts.specs.declared.locations.TilePlanes.{TilePlanes}
@@ -40,14 +40,14 @@ no_more_kept [] s new after fewer = omega (arith, fewer, length-append (fresh_ke
 no_more_kept (b ∷ before) s new after fewer =
     omega (arith, no_more_kept before s new after fewer, length-append (fresh_kept b) (flat_map fresh_kept (before ++ new ∷ after)), length-append (fresh_kept b) (flat_map fresh_kept (before ++ s ∷ after)))
 
-pub kept_change_within : (format : Format) (before : List Slot) (s new : Slot) (after : List Slot) (free now : PageSet)
+pub kept_change_within : (format : Format) (before : List Slot) (s new : Slot) (after : List Slot) (free now : FreePages)
     → IsKept format (before ++ s ∷ after) free → new.corner ≡ s.corner → committed_tile new ≡ committed_tile s → IsSound format new
-    → length (staged_tiles (before ++ new ∷ after)) ≤ format.capacity → length (flat_map fresh_kept (before ++ new ∷ after)) ≤ 2 * plane_pages_of format → now.total ≡ free.total
+    → length (staged_tiles (before ++ new ∷ after)) ≤ format.capacity → length (flat_map fresh_kept (before ++ new ∷ after)) ≤ 2 * plane_pages_of format → now.range ≡ free.range
     → ((p : ℕ) → times p (fresh_pages new) + free_times now p ≡ times p (fresh_pages s) + free_times free p)
     → IsKept format (before ++ new ∷ after) now
-kept_change_within format before s new after free now is same_corner same_committed sound room kept_room same_total each = record {
-  size = rw same_total is.size;
-  fits = rw same_total is.fits;
+kept_change_within format before s new after free now is same_corner same_committed sound room kept_room same_range each = record {
+  fits = rw same_range is.fits;
+  window = rw same_range is.window;
   few = is.few;
   in_order = adjacent_from corner_of (before ++ new ∷ after) (rising_change before s new after same_corner (rising_from corner_of (before ++ s ∷ after) is.in_order));
   sound = all_change (IsSound format) before s new after sound is.sound;
@@ -59,18 +59,18 @@ kept_change_within format before s new after free now is same_corner same_commit
       rw same is.committed_room);
   staged_room = room;
   kept_room = kept_room;
-  counted = counted_change before s after free is.counted new now same_total (λ p.
+  counted = counted_change before s after free is.counted new now same_range (λ p.
       (let committed = ap (λ (o : Option TileLocation). times p (pages_of_location o)) same_committed in
       omega (arith, committed, each p, times-append p (pages_of_location (committed_tile new)) (fresh_pages new), times-append p (pages_of_location (committed_tile s)) (fresh_pages s))));
 }
 
-pub kept_change : (format : Format) (before : List Slot) (s new : Slot) (after : List Slot) (free now : PageSet)
+pub kept_change : (format : Format) (before : List Slot) (s new : Slot) (after : List Slot) (free now : FreePages)
     → IsKept format (before ++ s ∷ after) free → new.corner ≡ s.corner → committed_tile new ≡ committed_tile s → IsSound format new
-    → length (staged_tiles (before ++ new ∷ after)) ≤ format.capacity → length (fresh_kept new) ≤ length (fresh_kept s) → now.total ≡ free.total
+    → length (staged_tiles (before ++ new ∷ after)) ≤ format.capacity → length (fresh_kept new) ≤ length (fresh_kept s) → now.range ≡ free.range
     → ((p : ℕ) → times p (fresh_pages new) + free_times now p ≡ times p (fresh_pages s) + free_times free p)
     → IsKept format (before ++ new ∷ after) now
-kept_change format before s new after free now is same_corner same_committed sound room fewer same_total each =
-    kept_change_within format before s new after free now is same_corner same_committed sound room (omega (arith, is.kept_room, no_more_kept before s new after fewer)) same_total each
+kept_change format before s new after free now is same_corner same_committed sound room fewer same_range each =
+    kept_change_within format before s new after free now is same_corner same_committed sound room (omega (arith, is.kept_room, no_more_kept before s new after fewer)) same_range each
 
 pub same_committed : (s new : Slot) → new.corner ≡ s.corner → new.committed ≡ s.committed → committed_tile new ≡ committed_tile s
 same_committed s new corner committed = ap (λ (c : Corner). option_map (tile_at c) new.committed) corner ∙ ap (option_map (tile_at s.corner)) committed
@@ -162,7 +162,7 @@ length-map f [] = refl
 length-map f (t ∷ rest) = ap (λ n. suc n) (length-map f rest)
 
 -- a slot's fresh page is fresh in the chart
-pub slot_fresh : (format : Format) (before : List Slot) (s : Slot) (after : List Slot) (free : PageSet) → AreCounted (before ++ s ∷ after) free → (p : ℕ) → 1 ≤ times p (fresh_pages s) → IsFresh (chart_of format (before ++ s ∷ after) free) p
+pub slot_fresh : (format : Format) (before : List Slot) (s : Slot) (after : List Slot) (free : FreePages) → AreCounted (before ++ s ∷ after) free → (p : ℕ) → 1 ≤ times p (fresh_pages s) → IsFresh (chart_of format (before ++ s ∷ after) free) p
 slot_fresh format before s after free counted p some = fresh_page format (before ++ s ∷ after) free counted p (omega (arith, times-split fresh_pages p before s after))
 
 same_committed_tiles : (before : List Slot) (s new : Slot) (after : List Slot) → committed_tile new ≡ committed_tile s → committed_tiles (before ++ new ∷ after) ≡ committed_tiles (before ++ s ∷ after)
@@ -172,17 +172,17 @@ same_committed_tiles before s new after same =
     ∙ sym (filter_map-append committed_tile before (s ∷ after)))
 
 -- the chart with other staged tiles
-pub chart_changed : (format : Format) (before : List Slot) (s new : Slot) (after : List Slot) (free now : PageSet) → now.total ≡ free.total → committed_tile new ≡ committed_tile s
+pub chart_changed : (format : Format) (before : List Slot) (s new : Slot) (after : List Slot) (free now : FreePages) → now.range ≡ free.range → committed_tile new ≡ committed_tile s
     → (tiles : List TileLocation) → staged_tiles (before ++ new ∷ after) ≡ tiles
     → chart_of format (before ++ new ∷ after) now ≡ record (chart_of format (before ++ s ∷ after) free) { staged = tiles }
 chart_changed format before s new after free now total same tiles staged =
     let chart : ℕ → List TileLocation → List TileLocation → ChartValue = λ n c t. record { sectors = n; format = format; committed = c; staged = t } in
-    ap (λ (n : ℕ). chart n (committed_tiles (before ++ new ∷ after)) (staged_tiles (before ++ new ∷ after))) total
-    ∙ (ap (λ (l : List TileLocation). chart free.total l (staged_tiles (before ++ new ∷ after))) (same_committed_tiles before s new after same)
-    ∙ ap (λ (l : List TileLocation). chart free.total (committed_tiles (before ++ s ∷ after)) l) staged)
+    ap (λ (n : PageRange). chart n.sectors (committed_tiles (before ++ new ∷ after)) (staged_tiles (before ++ new ∷ after))) total
+    ∙ (ap (λ (l : List TileLocation). chart free.range.sectors l (staged_tiles (before ++ new ∷ after))) (same_committed_tiles before s new after same)
+    ∙ ap (λ (l : List TileLocation). chart free.range.sectors (committed_tiles (before ++ s ∷ after)) l) staged)
 
 -- ---- a page that may be written
-module _ (format : Format) (before : List Slot) (s new : Slot) (after : List Slot) (free now : PageSet) (is : IsKept format (before ++ s ∷ after) free)
+module _ (format : Format) (before : List Slot) (s new : Slot) (after : List Slot) (free now : FreePages) (is : IsKept format (before ++ s ∷ after) free)
     (i page : ℕ) (staged : IsPageRestaged i page s new) (restaged : IsRestaged s new free now) (same_kept : fresh_kept new ≡ fresh_kept s) where
   rising : Rising corner_of (before ++ s ∷ after)
   rising = rising_from corner_of (before ++ s ∷ after) is.in_order
@@ -223,7 +223,7 @@ module _ (format : Format) (before : List Slot) (s new : Slot) (after : List Slo
   pub rewritten_kept : IsKept format (before ++ new ∷ after) now
   rewritten_kept =
       kept_change format before s new after free now is restaged.corner (same_committed s new restaged.corner restaged.committed) sound_now
-      (rw rewritten_tiles (rw (length-map rewrite (staged_tiles (before ++ s ∷ after))) is.staged_room)) (let same = ap length same_kept in omega (arith, same)) restaged.same_total restaged.each
+      (rw rewritten_tiles (rw (length-map rewrite (staged_tiles (before ++ s ∷ after))) is.staged_room)) (let same = ap length same_kept in omega (arith, same)) restaged.same_range restaged.each
 
   pub rewritten : IsRewritten s.corner i page (chart_of format (before ++ s ∷ after) free) (chart_of format (before ++ new ∷ after) now)
   rewritten = record {
@@ -232,5 +232,5 @@ module _ (format : Format) (before : List Slot) (s new : Slot) (after : List Slo
     fresh_record = slot_fresh format before new after now rewritten_kept.counted staged.record_page staged.fresh_record;
     fresh_index = λ below. slot_fresh format before new after now rewritten_kept.counted staged.index_page (staged.fresh_index (omega (arith, below, whole.heights.index_pages)));
     fresh_page = slot_fresh format before new after now rewritten_kept.counted page staged.fresh_page;
-    changed = chart_changed format before s new after free now restaged.same_total (same_committed s new restaged.corner restaged.committed) _ rewritten_tiles;
+    changed = chart_changed format before s new after free now restaged.same_range (same_committed s new restaged.corner restaged.committed) _ rewritten_tiles;
   }

@@ -9,7 +9,7 @@ use Rattle.std.proofs.lemmas.Grind.{flat_map-append}
 use Rattle.lattice.specs.Corners.{Corner, is_before, is_corner}
 use Rattle.lattice.proofs.CornerOrder.{before_not_back}
 use Rattle.lattice.proofs.Rising.{AllAfter, Rising, rising_from, adjacent_from}
-use Rattle.page_alloc.specs.Pages.{PageSet}
+use Rattle.charts.specs.FreePages.{FreePages}
 use Rattle.layout.specs.Formats.{Format}
 use Rattle.charts.specs.declared.locations.TilePlanes.{TilePlanes}
 use Rattle.charts.specs.declared.slot.Slot.{Slot}
@@ -47,21 +47,21 @@ no_more_inserted [] new after none = ap (λ (l : List ℕ). length (l ++ flat_ma
 no_more_inserted (b ∷ before) new after none =
     omega (arith, no_more_inserted before new after none, length-append (fresh_kept b) (flat_map fresh_kept (before ++ new ∷ after)), length-append (fresh_kept b) (flat_map fresh_kept (before ++ after)))
 
-pub kept_insert : (format : Format) (before : List Slot) (new : Slot) (after : List Slot) (free now : PageSet)
+pub kept_insert : (format : Format) (before : List Slot) (new : Slot) (after : List Slot) (free now : FreePages)
     → IsKept format (before ++ after) free → AllBefore new.corner before → AllAfter corner_of new.corner after → IsSound format new
-    → length (committed_tiles (before ++ new ∷ after)) ≤ format.capacity → length (staged_tiles (before ++ new ∷ after)) ≤ format.capacity → fresh_kept new ≡ [] → now.total ≡ free.total
+    → length (committed_tiles (before ++ new ∷ after)) ≤ format.capacity → length (staged_tiles (before ++ new ∷ after)) ≤ format.capacity → fresh_kept new ≡ [] → now.range ≡ free.range
     → ((p : ℕ) → times p (used_pages new) + free_times now p ≡ free_times free p)
     → IsKept format (before ++ new ∷ after) now
-kept_insert format before new after free now is earlier later sound committed_room staged_room none same_total each = record {
-  size = rw same_total is.size;
-  fits = rw same_total is.fits;
+kept_insert format before new after free now is earlier later sound committed_room staged_room none same_range each = record {
+  fits = rw same_range is.fits;
+  window = rw same_range is.window;
   few = is.few;
   in_order = adjacent_from corner_of (before ++ new ∷ after) (rising_insert before new after earlier later (rising_from corner_of (before ++ after) is.in_order));
   sound = all_insert (IsSound format) before new after sound is.sound;
   committed_room = committed_room;
   staged_room = staged_room;
   kept_room = omega (arith, is.kept_room, no_more_inserted before new after none);
-  counted = λ p. (let total = ap (λ n. page_times n p) same_total in omega (arith, total, each p, counted_at p before new after, counted_joined p before after, is.counted p));
+  counted = λ p. (let total = ap (λ n. page_times n p) same_range in omega (arith, total, each p, counted_at p before new after, counted_joined p before after, is.counted p));
 }
 
 -- ---- a tile in its location
@@ -116,13 +116,13 @@ new_slot c location = record { corner = c; committed = None; staged = Tile (of_h
 abbrev pub new_tile : Corner → PlaneLocation → TileLocation
 new_tile c location = record { corner = c; heights = location; kept = None }
 
-all_fresh : (format : Format) (before : List Slot) (new : Slot) (after : List Slot) (now : PageSet) (location : PlaneLocation) → AreCounted (before ++ new ∷ after) now
+all_fresh : (format : Format) (before : List Slot) (new : Slot) (after : List Slot) (now : FreePages) (location : PlaneLocation) → AreCounted (before ++ new ∷ after) now
     → ((p : ℕ) → times p (fresh_pages new) ≡ times p (pages_of_plane location)) → All (IsFresh (chart_of format (before ++ new ∷ after) now)) (pages_of_plane location)
 all_fresh format before new after now location counted same =
     all_numbers (IsFresh (chart_of format (before ++ new ∷ after) now)) (pages_of_plane location) (λ p some. slot_fresh format before new after now counted p (omega (arith, same p)))
 
 -- ---- a tile added where the corner has no slot
-module _ (format : Format) (before after : List Slot) (free now : PageSet) (is : IsKept format (before ++ after) free) (c : Corner) (earlier : AllBefore c before) (later : AllAfter corner_of c after)
+module _ (format : Format) (before after : List Slot) (free now : FreePages) (is : IsKept format (before ++ after) free) (c : Corner) (earlier : AllBefore c before) (later : AllAfter corner_of c after)
     (location : PlaneLocation) (whole : IsWholePlane format location) (taken : AreTaken (pages_of_plane location) free now) (room : length (staged_tiles (before ++ after)) < format.capacity) where
   abbrev new : Slot
   new = new_slot c location
@@ -139,7 +139,7 @@ module _ (format : Format) (before after : List Slot) (free now : PageSet) (is :
       (record { corner = degrees; committed = tt; staged = record { heights = whole; kept = tt }; filled = refl })
       (rw (filter_map-append committed_tile before (new ∷ after)) (rw (sym (filter_map-append committed_tile before after)) is.committed_room))
       (let more = added_length before new after earlier later (new_tile c location) refl refl in let same = ap length apart_tiles in omega arith)
-      refl taken.same_total
+      refl taken.same_range
       (λ p. omega (arith, new_pages p, taken.each p))
 
   pub is_added : IsTrue (is_corner c) → IsAdded c (chart_of format (before ++ after) free) (chart_of format (before ++ new ∷ after) now)
@@ -149,13 +149,13 @@ module _ (format : Format) (before after : List Slot) (free now : PageSet) (is :
     fresh = all_fresh format before new after now location (kept_added degrees).counted new_pages;
     changed =
         (let chart : ℕ → List TileLocation → List TileLocation → ChartValue = λ n a b. record { sectors = n; format = format; committed = a; staged = b } in
-        ap (λ n. chart n (committed_tiles (before ++ new ∷ after)) (staged_tiles (before ++ new ∷ after))) taken.same_total
-        ∙ (ap (λ l. chart free.total l (staged_tiles (before ++ new ∷ after))) (filter_map-append committed_tile before (new ∷ after) ∙ sym (filter_map-append committed_tile before after))
-        ∙ ap (λ l. chart free.total (committed_tiles (before ++ after)) l) (added_tiles before new after earlier later (new_tile c location) refl refl ∙ ap (with_tile_location (new_tile c location)) (sym apart_tiles))));
+        ap (λ n. chart n.sectors (committed_tiles (before ++ new ∷ after)) (staged_tiles (before ++ new ∷ after))) taken.same_range
+        ∙ (ap (λ l. chart free.range.sectors l (staged_tiles (before ++ new ∷ after))) (filter_map-append committed_tile before (new ∷ after) ∙ sym (filter_map-append committed_tile before after))
+        ∙ ap (λ l. chart free.range.sectors (committed_tiles (before ++ after)) l) (added_tiles before new after earlier later (new_tile c location) refl refl ∙ ap (with_tile_location (new_tile c location)) (sym apart_tiles))));
   }
 
 -- ---- a tile added where the corner has a slot
-module _ (format : Format) (before : List Slot) (s : Slot) (after : List Slot) (free now : PageSet) (is : IsKept format (before ++ s ∷ after) free) (none : staged_tile s ≡ None)
+module _ (format : Format) (before : List Slot) (s : Slot) (after : List Slot) (free now : FreePages) (is : IsKept format (before ++ s ∷ after) free) (none : staged_tile s ≡ None)
     (location : PlaneLocation) (whole : IsWholePlane format location) (taken : AreTaken (pages_of_plane location) free now) (room : length (staged_tiles (before ++ s ∷ after)) < format.capacity)
     (apart : (p : ℕ) → times p (heights_pages s.committed) + free_times free p ≤ 1) where
   abbrev again : Slot
@@ -193,7 +193,7 @@ module _ (format : Format) (before : List Slot) (s : Slot) (after : List Slot) (
       kept_change format before s again after free now is refl refl
       (record { corner = (all_middle (IsSound format) before s after is.sound).corner; committed = (all_middle (IsSound format) before s after is.sound).committed; staged = record { heights = whole; kept = tt }; filled = refl })
       (let more = added_length before again after earlier later (new_tile s.corner location) refl refl in let same = ap length old_tiles in omega arith)
-      (omega arith) taken.same_total
+      (omega arith) taken.same_range
       (λ p. omega (arith, again_pages p, was_fresh p, taken.each p))
 
   pub is_added_again : IsAdded s.corner (chart_of format (before ++ s ∷ after) free) (chart_of format (before ++ again ∷ after) now)
@@ -202,6 +202,6 @@ module _ (format : Format) (before : List Slot) (s : Slot) (after : List Slot) (
     whole = whole;
     fresh = all_fresh format before again after now location kept_again.counted again_pages;
     changed =
-        chart_changed format before s again after free now taken.same_total refl _
+        chart_changed format before s again after free now taken.same_range refl _
         (added_tiles before again after earlier later (new_tile s.corner location) refl refl ∙ ap (with_tile_location (new_tile s.corner location)) (sym old_tiles));
   }

@@ -8,7 +8,7 @@ use Rattle.lattice.specs.Corners.{Corner, is_before}
 use Rattle.lattice.specs.Lattice.{IsBefore}
 use Rattle.lattice.proofs.CornerOrder.{before_trans, same_says, after_from}
 use Rattle.lattice.proofs.Rising.{AllAfter, Rising}
-use Rattle.page_alloc.specs.Pages.{PageSet}
+use Rattle.charts.specs.FreePages.{FreePages}
 use Rattle.charts.specs.declared.slot.Slot.{Slot}
 use Rattle.charts.specs.declared.locations.TilePlanes.{TilePlanes}
 use Rattle.charts.specs.declared.staged.Staged.{Staged}
@@ -51,15 +51,15 @@ counted_at p before s after =
     let here = times-append p (pages_of_location (committed_tile s)) (fresh_pages s) in
     omega arith
 
-module _ (before : List Slot) (s : Slot) (after : List Slot) (free : PageSet) (counted : AreCounted (before ++ s ∷ after) free) where
+module _ (before : List Slot) (s : Slot) (after : List Slot) (free : FreePages) (counted : AreCounted (before ++ s ∷ after) free) where
   pub slot_in_use : AreInUse (used_pages s) free
   slot_in_use p = omega (arith, counted_at p before s after, counted p)
 
-  pub counted_change : (new : Slot) (now : PageSet) → now.total ≡ free.total
+  pub counted_change : (new : Slot) (now : FreePages) → now.range ≡ free.range
       → ((p : ℕ) → times p (used_pages new) + free_times now p ≡ times p (used_pages s) + free_times free p)
       → AreCounted (before ++ new ∷ after) now
-  counted_change new now same_total each p =
-      let total = ap (λ n. page_times n p) same_total in
+  counted_change new now same_range each p =
+      let total = ap (λ n. page_times n p) same_range in
       omega (arith, total, each p, counted_at p before s after, counted_at p before new after, counted p)
 
 -- ---- order

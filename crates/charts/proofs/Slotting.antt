@@ -3,7 +3,7 @@ use Rattle.std.proofs.Common.{◌≡◌, ℕ, ◌+◌, ◌/◌, ◌<◌, length,
 use Rattle.std.specs.Prelude.{◌≤◌, Option, Some, None, IfSome, true, option_map, option_and_then}
 use Rattle.std.proofs.lemmas.Bool.{false≢true}
 use Rattle.lattice.specs.Corners.{Corner}
-use Rattle.page_alloc.specs.Pages.{PageSet}
+use Rattle.charts.specs.FreePages.{FreePages}
 use Rattle.charts.specs.declared.locations.TilePlanes.{TilePlanes}
 use Rattle.charts.specs.declared.slot.Slot.{Slot}
 use Rattle.charts.specs.declared.staged.HeightsStaged.{HeightsStaged}
@@ -35,16 +35,16 @@ pub fresh_at : (p : ℕ) (s : Slot) (h : HeightsStaged) (k : KeptStaged) → s.s
 fresh_at p s h k is = ap (λ g. times p (fresh_as s.committed g)) is ∙ times-append p (fresh_heights_as s.committed h) (fresh_kept_as k)
 
 -- nothing has changed
-pub none_restaged : (old new : Slot) (was now : PageSet) → new ≡ old → now ≡ was → IsRestaged old new was now
+pub none_restaged : (old new : Slot) (was now : FreePages) → new ≡ old → now ≡ was → IsRestaged old new was now
 none_restaged old new was now same same_pages = record {
   corner = ap (λ (s : Slot). s.corner) same;
   committed = ap (λ (s : Slot). s.committed) same;
-  same_total = ap (λ (s : PageSet). s.total) same_pages;
-  each = λ p. (let slots = ap (λ (s : Slot). times p (fresh_pages s)) same in let pages = ap (λ (s : PageSet). free_times s p) same_pages in omega (arith, slots, pages));
+  same_range = ap (λ (s : FreePages). s.range) same_pages;
+  each = λ p. (let slots = ap (λ (s : Slot). times p (fresh_pages s)) same in let pages = ap (λ (s : FreePages). free_times s p) same_pages in omega (arith, slots, pages));
 }
 
 -- ---- a page that may be written
-pub page_restaged : (old : Slot) (location : PlaneLocation) (k : KeptStaged) (new : PlaneLocation) (i page : ℕ) (was now : PageSet)
+pub page_restaged : (old : Slot) (location : PlaneLocation) (k : KeptStaged) (new : PlaneLocation) (i page : ℕ) (was now : FreePages)
     → old.staged ≡ Tile (of_heights.Fresh location) k → IsOwnedPage (heights_pages old.committed) i page location new was now
     → IsPageRestaged i page old (at_heights old new k)
 page_restaged old location k new i page was now is owned =
@@ -59,13 +59,13 @@ page_restaged old location k new i page was now is owned =
       fresh_page = omega (arith, owned.fresh_page, fresh_at page (at_heights old new k) (of_heights.Fresh new) k refl);
     }
 
-pub heights_restaged : (old : Slot) (location : PlaneLocation) (k : KeptStaged) (new : PlaneLocation) (i page : ℕ) (was now : PageSet)
+pub heights_restaged : (old : Slot) (location : PlaneLocation) (k : KeptStaged) (new : PlaneLocation) (i page : ℕ) (was now : FreePages)
     → old.staged ≡ Tile (of_heights.Fresh location) k → IsOwnedPage (heights_pages old.committed) i page location new was now
     → IsRestaged old (at_heights old new k) was now
 heights_restaged old location k new i page was now is owned = record {
   corner = refl;
   committed = refl;
-  same_total = owned.same_total;
+  same_range = owned.same_range;
   each = λ p.
       let before = fresh_at p old (of_heights.Fresh location) k is in
       let after = fresh_at p (at_heights old new k) (of_heights.Fresh new) k refl in
@@ -74,7 +74,7 @@ heights_restaged old location k new i page was now is owned = record {
 }
 
 -- the first page of committed heights: they are copied first
-module _ (old : Slot) (planes : TilePlanes) (copy location : PlaneLocation) (k : KeptStaged) (i page : ℕ) (was mid now : PageSet) (is : old.staged ≡ Tile of_heights.AsCommitted k) (some : old.committed ≡ Some planes)
+module _ (old : Slot) (planes : TilePlanes) (copy location : PlaneLocation) (k : KeptStaged) (i page : ℕ) (was mid now : FreePages) (is : old.staged ≡ Tile of_heights.AsCommitted k) (some : old.committed ≡ Some planes)
     (copied : copy ≡ record (planes.heights) { record_page = copy.record_page }) (taken : AreTaken (copy.record_page ∷ []) was mid)
     (owned : IsOwnedPage (heights_pages old.committed) i page copy location mid now) where
   record_is : location.record_page ≡ copy.record_page
@@ -84,7 +84,7 @@ module _ (old : Slot) (planes : TilePlanes) (copy location : PlaneLocation) (k :
   first_restaged = record {
     corner = refl;
     committed = refl;
-    same_total = owned.same_total ∙ taken.same_total;
+    same_range = owned.same_range ∙ taken.same_range;
     each = λ p.
         let behind : pages_behind copy ≡ heights_pages old.committed = ap pages_behind copied ∙ sym (ap heights_pages some) in
         let none : times p (differing (pages_behind copy) (heights_pages old.committed)) ≡ 0 =
@@ -190,39 +190,39 @@ module _ (old : Slot) (h : HeightsStaged) (k : KeptStaged) (is : old.staged ≡ 
   used_is : (p : ℕ) → times p (used_pages old) ≡ times p (pages_of_location (committed_tile old)) + (times p (fresh_heights_as old.committed h) + times p (fresh_kept_as k))
   used_is p = times-append p (pages_of_location (committed_tile old)) (fresh_pages old) ∙ ap (λ n. times p (pages_of_location (committed_tile old)) + n) (fresh_at p old h k is)
 
-  pub heights_in_use : (was : PageSet) → AreInUse (used_pages old) was → AreInUse (replaced_heights old.committed h) was
+  pub heights_in_use : (was : FreePages) → AreInUse (used_pages old) was → AreInUse (replaced_heights old.committed h) was
   heights_in_use was in_use p = omega (arith, in_use p, used_is p, replaced_count p old.corner old.committed h k)
 
-  pub kept_in_use : (was mid : PageSet) → AreInUse (used_pages old) was → AreGiven (replaced_heights old.committed h) was mid → AreInUse (replaced_kept (with_heights old.committed h) k) mid
+  pub kept_in_use : (was mid : FreePages) → AreInUse (used_pages old) was → AreGiven (replaced_heights old.committed h) was mid → AreInUse (replaced_kept (with_heights old.committed h) k) mid
   kept_in_use was mid in_use given p =
-      let total = ap (λ n. page_times n p) given.same_total in
+      let total = ap (λ n. page_times n p) given.same_range in
       omega (arith, total, given.each p, in_use p, used_is p, replaced_count p old.corner old.committed h k)
 
-  pub settled : (planes : Option TilePlanes) (was mid now : PageSet) → planes ≡ with_kept (with_heights old.committed h) k
+  pub settled : (planes : Option TilePlanes) (was mid now : FreePages) → planes ≡ with_kept (with_heights old.committed h) k
       → AreGiven (replaced_heights old.committed h) was mid → AreGiven (replaced_kept (with_heights old.committed h) k) mid now
       → IsEndedAs (staged_tile old) old (record { corner = old.corner; committed = planes; staged = as_committed }) was now
   settled planes was mid now planes_are first second = record {
     corner = refl;
     committed = ap (option_map (tile_at old.corner)) planes_are ∙ tile_with old.corner old.committed h k ∙ sym (ap (staged_as old.corner old.committed) is);
     staged = refl;
-    same_total = second.same_total ∙ first.same_total;
+    same_range = second.same_range ∙ first.same_range;
     each = λ p.
         let tile = ap (λ s. times p (pages_of_location (staged_as old.corner old.committed s))) is in
         omega (arith, tile, first.each p, second.each p, used_is p, replaced_count p old.corner old.committed h k);
   }
 
-  pub fresh_in_use : (was : PageSet) → AreInUse (used_pages old) was → AreInUse (fresh_heights_as old.committed h) was
+  pub fresh_in_use : (was : FreePages) → AreInUse (used_pages old) was → AreInUse (fresh_heights_as old.committed h) was
   fresh_in_use was in_use p = omega (arith, in_use p, used_is p)
 
-  pub fresh_kept_in_use : (was mid : PageSet) → AreInUse (used_pages old) was → AreGiven (fresh_heights_as old.committed h) was mid → AreInUse (fresh_kept_as k) mid
-  fresh_kept_in_use was mid in_use given p = let total = ap (λ n. page_times n p) given.same_total in omega (arith, total, in_use p, used_is p, given.each p)
+  pub fresh_kept_in_use : (was mid : FreePages) → AreInUse (used_pages old) was → AreGiven (fresh_heights_as old.committed h) was mid → AreInUse (fresh_kept_as k) mid
+  fresh_kept_in_use was mid in_use given p = let total = ap (λ n. page_times n p) given.same_range in omega (arith, total, in_use p, used_is p, given.each p)
 
-  pub given_up : (was mid now : PageSet) → AreGiven (fresh_heights_as old.committed h) was mid → AreGiven (fresh_kept_as k) mid now → IsEndedAs (committed_tile old) old (unstaged old) was now
+  pub given_up : (was mid now : FreePages) → AreGiven (fresh_heights_as old.committed h) was mid → AreGiven (fresh_kept_as k) mid now → IsEndedAs (committed_tile old) old (unstaged old) was now
   given_up was mid now first second = record {
     corner = refl;
     committed = refl;
     staged = refl;
-    same_total = second.same_total ∙ first.same_total;
+    same_range = second.same_range ∙ first.same_range;
     each = λ p. omega (arith, first.each p, second.each p, used_is p);
   }
 
@@ -230,22 +230,22 @@ module _ (old : Slot) (h : HeightsStaged) (k : KeptStaged) (is : old.staged ≡ 
   abbrev pub at_kept : KeptStaged → Slot
   at_kept j = record { corner = old.corner; committed = old.committed; staged = Tile h j }
 
-  pub staged_kept_in_use : (was : PageSet) → AreInUse (used_pages old) was → AreInUse (fresh_kept_as k) was
+  pub staged_kept_in_use : (was : FreePages) → AreInUse (used_pages old) was → AreInUse (fresh_kept_as k) was
   staged_kept_in_use was in_use p = omega (arith, in_use p, used_is p)
 
-  pub dropped_restaged : (was now : PageSet) → AreGiven (fresh_kept_as k) was now → IsRestaged old (at_kept of_kept.Dropped) was now
+  pub dropped_restaged : (was now : FreePages) → AreGiven (fresh_kept_as k) was now → IsRestaged old (at_kept of_kept.Dropped) was now
   dropped_restaged was now given = record {
     corner = refl;
     committed = refl;
-    same_total = given.same_total;
+    same_range = given.same_range;
     each = λ p. omega (arith, given.each p, fresh_at p old h k is, fresh_at p (at_kept of_kept.Dropped) h of_kept.Dropped refl);
   }
 
-  pub anew_restaged : (locations : KeptLocations) (was now : PageSet) → fresh_kept old ≡ [] → AreTaken (pages_of_kept (Some locations)) was now → IsRestaged old (at_kept (of_kept.Fresh locations)) was now
+  pub anew_restaged : (locations : KeptLocations) (was now : FreePages) → fresh_kept old ≡ [] → AreTaken (pages_of_kept (Some locations)) was now → IsRestaged old (at_kept (of_kept.Fresh locations)) was now
   anew_restaged locations was now none taken = record {
     corner = refl;
     committed = refl;
-    same_total = taken.same_total;
+    same_range = taken.same_range;
     each = λ p.
         let before = ap (times p) none in
         let same = ap (λ g. times p (fresh_kept_in g)) is in
@@ -266,10 +266,10 @@ kept_is_staged s h locations is filled =
     by o (of_heights.Fresh location) filled = refl
 
 -- a slot that was given up stages no tile
-pub removed_restaged : (old mid : Slot) (was now : PageSet) → IsEndedAs (committed_tile old) old mid was now → mid.committed ≡ old.committed → IsRestaged old (record mid { staged = Removed }) was now
+pub removed_restaged : (old mid : Slot) (was now : FreePages) → IsEndedAs (committed_tile old) old mid was now → mid.committed ≡ old.committed → IsRestaged old (record mid { staged = Removed }) was now
 removed_restaged old mid was now ended committed = record {
   corner = ended.corner;
   committed = committed;
-  same_total = ended.same_total;
+  same_range = ended.same_range;
   each = λ p. omega (arith, ended.each p, times-append p (pages_of_location (committed_tile old)) (fresh_pages old));
 }

@@ -9,7 +9,7 @@ use Rattle.std.proofs.lemmas.List.Elements.{All-nil, All-cons, All-head, All-tai
 use Rattle.lattice.specs.Corners.{Corner}
 use Rattle.lattice.specs.Lattice.{IsBefore}
 use Rattle.lattice.proofs.Rising.{Rising, rising_from}
-use Rattle.page_alloc.specs.Pages.{PageSet}
+use Rattle.charts.specs.FreePages.{FreePages}
 use Rattle.layout.specs.Formats.{Format}
 use Rattle.charts.specs.declared.locations.KeptLocations.{KeptLocations}
 use Rattle.charts.specs.declared.locations.TilePlanes.{TilePlanes}
@@ -108,16 +108,16 @@ all_pages_of_kept format None whole = tt
 all_pages_of_kept format (Some k) whole = record { levels = whole.levels.pages; labels = whole.labels.pages }
 
 -- ---- one tile after another
-module _ (format : Format) (slots : List Slot) (free : PageSet) (kept : IsKept format slots free) (clean : staged_tiles slots ≡ committed_tiles slots) where
+module _ (format : Format) (slots : List Slot) (free : FreePages) (kept : IsKept format slots free) (clean : staged_tiles slots ≡ committed_tiles slots) where
   none_staged : (p : ℕ) → times p (flat_map fresh_pages slots) ≡ 0
   none_staged p = ap (times p) (none_fresh format slots free kept clean)
 
   -- pages that were free are fresh
-  pub fresh_listings : (tiles : List TileLocation) (now : PageSet) → AreTaken (listings tiles) free now → All (IsFresh (chart_of format slots free)) (listings tiles)
+  pub fresh_listings : (tiles : List TileLocation) (now : FreePages) → AreTaken (listings tiles) free now → All (IsFresh (chart_of format slots free)) (listings tiles)
   fresh_listings tiles now taken =
       all_numbers (IsFresh (chart_of format slots free)) (listings tiles) (λ p some.
-      let few = page_le free.total p in
-      let page = page_at free.total p (omega (arith, some, taken.each p, kept.counted p)) in
+      let few = page_le free.range p in
+      let page = page_at free.range p (omega (arith, some, taken.each p, kept.counted p)) in
       record {
         low = page.0;
         high = page.1;
@@ -192,15 +192,15 @@ module _ (format : Format) (slots : List Slot) (free : PageSet) (kept : IsKept f
               map-append data_of made (tile ∷ []) ∙ ap₂ (λ (xs : List TileData) (x : TileData). xs ++ x ∷ []) same alike
               ∙ sym (map-append data_of so_far (tile_at s.corner planes ∷ [])) ∙ ap (map data_of) (sym one_more)
 
-          module _ (now after : PageSet) (before : AreTaken (listings made) free now) (taken : AreTaken (listing_of new.heights ++ listing_of_kept new.kept) now after) where
+          module _ (now after : FreePages) (before : AreTaken (listings made) free now) (taken : AreTaken (listing_of new.heights ++ listing_of_kept new.kept) now after) where
             pub taken_more : AreTaken (listings (made ++ tile ∷ [])) free after
             taken_more = record {
-              same_total = taken.same_total ∙ before.same_total;
+              same_range = taken.same_range ∙ before.same_range;
               each = λ p. omega (arith, before.each p, taken.each p, listings-append p made (tile ∷ []), times-append p (listing_of_tile tile) []);
             }
 
-            pub rule : KeepsPageRule free.total (made ++ tile ∷ [])
-            rule = page_rule free.total (made ++ tile ∷ []) (λ p.
+            pub rule : KeepsPageRule free.range.sectors (made ++ tile ∷ [])
+            rule = page_rule free.range (made ++ tile ∷ []) (λ p.
                 let split = tiles_split p (made ++ tile ∷ []) in
                 let pages = ap (λ ds. times p (all_data ds)) (data_more ∙ ap (map data_of) one_more) in
                 let first = data-append p so_far (tile_at s.corner planes ∷ []) in
@@ -217,11 +217,11 @@ nothing (x ∷ xs) none = absurd (omega (arith, none))
 
 -- a plane of index pages alone, with pages behind it
 module _ (listing new : PlaneLocation) (pages : List ℕ) (empty : length listing.pages ≡ 0) (more : new ≡ record listing { pages = listing.pages ++ pages }) where
-  pub listing_taken : (old now : PageSet) → AreTaken (pages_of_plane listing) old now → AreTaken (listing_of new) old now
+  pub listing_taken : (old now : FreePages) → AreTaken (pages_of_plane listing) old now → AreTaken (listing_of new) old now
   listing_taken old now taken =
       rw more
       (record {
-        same_total = taken.same_total;
+        same_range = taken.same_range;
         each = λ p. (let none = ap (times p) (nothing listing.pages empty) in omega (arith, taken.each p, plane_split p listing, none));
       })
 

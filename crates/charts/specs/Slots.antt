@@ -5,8 +5,7 @@ use Rattle.std.specs.List.{HoldsAt, AllWithin, filter_map, flat_map, AllByRecurs
 use Rattle.lattice.specs.Corners.{Corner, is_corner}
 use Rattle.lattice.specs.Lattice.{IsBefore}
 use Rattle.lattice.specs.Limits.{most_tiles}
-use Rattle.page_alloc.specs.Pages.{PageSet}
-use Rattle.layout.specs.Formats.{Format}
+use Rattle.layout.specs.Formats.{Format, upgraded}
 use Rattle.layout.specs.Sizes.{plane_pages_of, sectors_asked}
 use Rattle.charts.specs.declared.locations.KeptLocations.{KeptLocations}
 use Rattle.charts.specs.declared.locations.TilePlanes.{TilePlanes}
@@ -16,7 +15,7 @@ use Rattle.charts.specs.declared.slot.Ending.TheVariants.{Committed, GivenUp}
 use Rattle.charts.specs.declared.staged.Staged.{Staged}
 use Rattle.charts.specs.declared.staged.Staged.TheVariants.{Tile, Removed}
 use Rattle.charts.specs.Locations.{moved_plane, pages_of_plane, times}
-use Rattle.charts.specs.FreePages.{free_times, page_times}
+use Rattle.charts.specs.FreePages.{FreePages, PageRange, free_times, page_times}
 use Rattle.charts.specs.StagedPlanes.{as_committed, heights_as, kept_as, fresh_heights_as, fresh_kept_as, has_fresh_heights}
 use Rattle.charts.specs.TileLocations.{TileLocation, pages_of_kept, pages_of_tile, reached}
 use Rattle.charts.specs.Charts.{ChartValue, tile_at, AreWholeKept, IsWholeTile}
@@ -80,10 +79,10 @@ abbrev pub stages_heights : Slot → Bool
 stages_heights s = stages_heights_as s.staged
 
 -- the slot has other fresh pages for its staged tile, and the free pages make up for them
-pub record IsRestaged (old new : Slot) (was now : PageSet) : Type 0 where
+pub record IsRestaged (old new : Slot) (was now : FreePages) : Type 0 where
   pub corner : new.corner ≡ old.corner
   pub committed : new.committed ≡ old.committed
-  pub same_total : now.total ≡ was.total
+  pub same_range : now.range ≡ was.range
   pub each : (p : ℕ) → times p (fresh_pages new) + free_times now p ≡ times p (fresh_pages old) + free_times was p
 
 -- page i of the slot's heights is this fresh page, and the index page that lists it and their record are on fresh pages too;
@@ -134,11 +133,11 @@ pub record HasEndedAs (ending : Ending) (old new : Slot) : Type 0 where
   pub staged : new.staged ≡ as_committed
 
 -- the slot has this tile as committed, with nothing staged, and its other pages are free
-pub record IsEndedAs (tile : Option TileLocation) (old new : Slot) (was now : PageSet) : Type 0 where
+pub record IsEndedAs (tile : Option TileLocation) (old new : Slot) (was now : FreePages) : Type 0 where
   pub corner : new.corner ≡ old.corner
   pub committed : committed_tile new ≡ tile
   pub staged : new.staged ≡ as_committed
-  pub same_total : now.total ≡ was.total
+  pub same_range : now.range ≡ was.range
   pub each : (p : ℕ) → times p (pages_of_location tile) + free_times now p ≡ times p (used_pages old) + free_times was p
 
 -- the slot stands for a tile
@@ -154,12 +153,18 @@ pub record IsSound (format : Format) (s : Slot) : Type 0 where
   pub filled : is_filled_as s.committed s.staged ≡ true
 
 -- every page of the disk is committed, or fresh, or free, and no page is two of them
-abbrev pub AreCounted : List Slot → PageSet → Type 0
-AreCounted slots free = (p : ℕ) → times p (reached (committed_tiles slots)) + times p (flat_map fresh_pages slots) + free_times free p ≡ page_times free.total p
+abbrev pub AreCounted : List Slot → FreePages → Type 0
+AreCounted slots free = (p : ℕ) → times p (reached (committed_tiles slots)) + times p (flat_map fresh_pages slots) + free_times free p ≡ page_times free.range p
 
-pub record IsKept (format : Format) (slots : List Slot) (free : PageSet) : Type 0 where
-  pub size : sectors_asked format ≤ free.total
-  pub fits : free.total < 2 ^ 32
+-- pages are taken from as many as a store of the format asks and, where the disk has room for it, one of the second version
+pub record HasWindow (format : Format) (range : PageRange) : Type 0 where
+  pub enough : sectors_asked format ≤ range.window
+  pub within : range.window ≤ range.sectors
+  pub upgrade : sectors_asked (upgraded format) ≤ range.sectors → sectors_asked (upgraded format) ≤ range.window
+
+pub record IsKept (format : Format) (slots : List Slot) (free : FreePages) : Type 0 where
+  pub fits : free.range.sectors < 2 ^ 32
+  pub window : HasWindow format free.range
   pub few : format.capacity ≤ most_tiles
   pub in_order : AllAdjacentBelow (λ a b. IsBefore a.corner b.corner) slots (length slots)
   pub sound : AllByRecursion (IsSound format) slots
@@ -169,9 +174,9 @@ pub record IsKept (format : Format) (slots : List Slot) (free : PageSet) : Type 
   pub counted : AreCounted slots free
 
 -- what a chart of these slots is
-abbrev pub chart_of : Format → List Slot → PageSet → ChartValue
+abbrev pub chart_of : Format → List Slot → FreePages → ChartValue
 chart_of format slots free =
-    record { sectors = free.total; format = format; committed = committed_tiles slots; staged = staged_tiles slots }
+    record { sectors = free.range.sectors; format = format; committed = committed_tiles slots; staged = staged_tiles slots }
 
 -- the corner's slot stands at this index
 pub record IsSlotAt (c : Corner) (at : ℕ) (slots : List Slot) : Type 0 where
@@ -185,10 +190,10 @@ pub record IsRoomAt (c : Corner) (at : ℕ) (slots : List Slot) : Type 0 where
   pub after : AllWithin (λ s. IsBefore c s.corner) slots at (length slots)
 
 -- each slot has ended so, and pages that are no longer used are free
-pub record AreEndedAs (ending : Ending) (old new : List Slot) (was now : PageSet) : Type 0 where
+pub record AreEndedAs (ending : Ending) (old new : List Slot) (was now : FreePages) : Type 0 where
   pub same_length : length new ≡ length old
   pub each : (k : ℕ) (d : Slot) → k < length old → HasEndedAs ending (slice_index_or old k d) (slice_index_or new k d)
-  pub same_total : now.total ≡ was.total
+  pub same_range : now.range ≡ was.range
   pub counted : AreCounted new now
 
 -- the chart once what is staged has ended so

@@ -10,6 +10,7 @@ ghost use Rattle.lattice.specs.Lattice.{IsBefore};
 ghost use Rattle.lattice.specs.Limits.{most_tiles};
 ghost use Rattle.charts.specs.Slots.{IsSlotAt, IsRoomAt, AreCounted, AreEndedAs};
 
+use crate::free_pages::FreePages;
 use crate::locations::{KeptLocations, PagedPlane, TilePlanes};
 use crate::pages::{fresh_plane, mark_planes};
 use crate::plane::Plane;
@@ -19,7 +20,6 @@ use crate::upgrading::upgraded_planes;
 use arrayvec::ArrayVec;
 use lattice::{Corner, MOST_TILES, Refusal};
 use layout::Format;
-use page_alloc::Pages;
 use std::alloc::Global;
 use std::marker::Model;
 
@@ -36,7 +36,7 @@ pub struct Chart {
     format: Format,
     // In the order of their corners.
     slots: Vec<Slot>,
-    free: Pages,
+    free: FreePages,
 }
 
 impl Model for Chart {
@@ -66,7 +66,9 @@ impl Chart {
         ensures rules { IfOk result IsChart }
         ensures refused { IfErr result (λ refusal. refusal ≡ NoMemory) }
     {
-        let free = Pages::new(alloc, sectors).ok_or(Refusal::NoMemory)?;
+        // A store that is upgraded stays in the same window.
+        let window = sectors.min(format.upgraded().sectors());
+        let free = FreePages::new(alloc, sectors, window)?;
         Ok(Chart {
             alloc,
             format,
@@ -92,9 +94,7 @@ impl Chart {
             mut slots,
             mut free,
         } = self;
-        if !mark_planes(&mut free, &planes) {
-            return Err(Refusal::Damaged);
-        }
+        mark_planes(&mut free, &planes)?;
         let slot = Slot {
             corner,
             committed: Some(planes),
@@ -124,8 +124,8 @@ impl Chart {
         let format = self.format.upgraded();
         // That its side keeps the rules is told by it.
         let _side = format.side();
-        let mut free = self.free.copy(self.alloc).ok_or(Refusal::NoMemory)?;
-        let mut chart = Chart::new(self.alloc, free.total(), format)?;
+        let mut free = self.free.copy(self.alloc)?;
+        let mut chart = Chart::new(self.alloc, free.sectors(), format)?;
         for slot in &self.slots {
             if let Some(planes) = &slot.committed {
                 let planes = upgraded_planes(self.alloc, planes, format, &mut free)?;
@@ -421,7 +421,7 @@ fn precedes(a: Corner, b: Corner) -> bool
 }
 
 /// Commits or gives up what is staged in each slot.
-fn end_all(slots: &mut [Slot], ending: Ending, free: &mut Pages)
+fn end_all(slots: &mut [Slot], ending: Ending, free: &mut FreePages)
     requires { AreCounted slots.old free.old }
     ensures { AreEndedAs ending slots.old slots.new free.old free.new }
 {

@@ -6,6 +6,7 @@
 #![tactic(auto)]
 
 mod chart;
+mod free_pages;
 mod locations;
 mod pages;
 mod plane;

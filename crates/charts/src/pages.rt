@@ -1,30 +1,20 @@
 //! Pages taken and given back, many at once.
-ghost use Rattle.std.specs.Prelude.{◌≡◌, ◌+◌, ◌*◌, ◌<◌, ◌≤◌, ℕ, [], ◌∷◌, length, slice_index, Some, IsTrue, ◌↔◌, IfOk, IfErr, OnErr};
-ghost use Rattle.std.specs.Bool.{OnTrue, OnFalse};
+ghost use Rattle.std.specs.Prelude.{◌≡◌, ◌+◌, ◌*◌, ◌<◌, ◌≤◌, ℕ, [], ◌∷◌, length, slice_index, Some, IsTrue, ◌↔◌, IfOk, IfErr, OnOk, OnErr};
 ghost use Rattle.std.specs.FinSet as set;
 ghost use Rattle.lattice.specs.declared.refusal.Refusal.TheVariants.{NoMemory};
 ghost use Rattle.charts.specs.Locations.{times, pages_of_plane};
-ghost use Rattle.charts.specs.FreePages.{free_times, page_times, differing, pages_of_planes, AreTaken, AreGiven, AreInUse};
+ghost use Rattle.charts.specs.FreePages.{free_times, page_times, differing, pages_of_planes, AreTaken, AreGiven, AreInUse, IsUnmarked};
 ghost use Rattle.charts.specs.TileLocations.{pages_of_kept};
 
+use crate::free_pages::FreePages;
 use crate::locations::{KeptLocations, PagedPlane, TilePlanes};
 use lattice::Refusal;
-use page_alloc::Pages;
 use std::alloc::Global;
-
-/// Takes a free page.
-pub(crate) fn take_page(free: &mut Pages) -> u32
-    requires { 0 < set.len free.old.free }
-    ensures taken { AreTaken (result ∷ []) free.old free.new }
-    ensures left { set.len free.new.free + 1 ≡ set.len free.old.free }
-{
-    free.take().unwrap()
-}
 
 /// A plane of so many free index pages and so many free pages, and one for its record.
 pub(crate) fn fresh_plane(
     alloc: Global,
-    free: &mut Pages,
+    free: &mut FreePages,
     index_pages: u32,
     pages: u32,
 ) -> Result<PagedPlane, Refusal>
@@ -39,20 +29,20 @@ pub(crate) fn fresh_plane(
     let index_count = index_pages as usize;
     let mut behind = vec![in alloc; 0; index_count + pages as usize]?;
     for page in behind.iter_mut() {
-        *page = take_page(free);
+        *page = free.take();
     }
-    Ok(PagedPlane::new(take_page(free), behind, index_count))
+    Ok(PagedPlane::new(free.take(), behind, index_count))
 }
 
 /// Levels and labels of so many free index pages and so many free pages each.
 pub(crate) fn fresh_kept(
     alloc: Global,
-    free: &mut Pages,
+    free: &mut FreePages,
     index_pages: u32,
     pages: u32,
 ) -> Result<KeptLocations, Refusal>
     requires room { 2 * (index_pages + pages + 1) ≤ set.len free.old.free }
-    requires in_range { (p : ℕ) → free_times free.old p ≤ page_times free.old.total p }
+    requires in_range { (p : ℕ) → free_times free.old p ≤ page_times free.old.range p }
     ensures taken { IfOk result (λ kept. AreTaken (pages_of_kept (Some kept)) free.old free.new) }
     ensures levels { IfOk result (λ kept. (length kept.levels.index_pages ≡ index_pages) × (length kept.levels.pages ≡ pages)) }
     ensures labels { IfOk result (λ kept. (length kept.labels.index_pages ≡ index_pages) × (length kept.labels.pages ≡ pages)) }
@@ -70,7 +60,7 @@ pub(crate) fn fresh_kept(
 }
 
 /// Gives back the pages that don't stand at the same index among the others.
-pub(crate) fn give_differing(free: &mut Pages, pages: &[u32], others: &[u32])
+pub(crate) fn give_differing(free: &mut FreePages, pages: &[u32], others: &[u32])
     requires { AreInUse (differing pages.now others.now) free.old }
     ensures { AreGiven (differing pages.now others.now) free.old free.new }
 {
@@ -89,7 +79,7 @@ pub(crate) fn stands_at(page: u32, i: usize, pages: &[u32]) -> bool
 }
 
 /// Gives back all pages of a plane.
-pub(crate) fn give_plane(free: &mut Pages, plane: &PagedPlane)
+pub(crate) fn give_plane(free: &mut FreePages, plane: &PagedPlane)
     requires { AreInUse (pages_of_plane plane.now) free.old }
     ensures { AreGiven (pages_of_plane plane.now) free.old free.new }
 {
@@ -98,7 +88,7 @@ pub(crate) fn give_plane(free: &mut Pages, plane: &PagedPlane)
 }
 
 /// Gives back all pages of the kept planes of a tile.
-pub(crate) fn give_kept(free: &mut Pages, kept: &KeptLocations)
+pub(crate) fn give_kept(free: &mut FreePages, kept: &KeptLocations)
     requires { AreInUse (pages_of_kept (Some kept.now)) free.old }
     ensures { AreGiven (pages_of_kept (Some kept.now)) free.old free.new }
 {
@@ -106,39 +96,41 @@ pub(crate) fn give_kept(free: &mut Pages, kept: &KeptLocations)
     give_plane(free, &kept.labels);
 }
 
-/// Takes the pages of a plane out of the free ones. False where they aren't all free, or not all distinct.
-pub(crate) fn mark_plane(free: &mut Pages, plane: &PagedPlane) -> bool
-    ensures marked { OnTrue result (AreTaken (pages_of_plane plane.now) free.old free.new) }
-    ensures taken { OnFalse result ((p : ℕ) × (free_times free.old p < times p (pages_of_plane plane.now))) }
-    ensures total { free.new.total ≡ free.old.total }
+/// Takes the pages of a tile's planes out of the free ones. Refused with Damaged where they aren't all free, or not all
+/// distinct; and with NoMemory.
+pub(crate) fn mark_planes(free: &mut FreePages, planes: &TilePlanes) -> Result<(), Refusal>
+    ensures marked { OnOk result (AreTaken (pages_of_planes planes.now) free.old free.new) }
+    ensures refused { IfErr result (IsUnmarked free.old (pages_of_planes planes.now)) }
 {
-    free.mark(plane.record_page()) && mark_all(free, plane.behind())
+    mark_plane(free, &planes.heights)?;
+    match &planes.kept {
+        Some(kept) => mark_kept(free, kept),
+        None => Ok(()),
+    }
 }
 
-fn mark_all(free: &mut Pages, pages: &[u32]) -> bool
-    ensures marked { OnTrue result (AreTaken pages.now free.old free.new) }
-    ensures taken { OnFalse result ((p : ℕ) × (free_times free.old p < times p pages.now)) }
-    ensures total { free.new.total ≡ free.old.total }
+fn mark_kept(free: &mut FreePages, kept: &KeptLocations) -> Result<(), Refusal>
+    ensures marked { OnOk result (AreTaken (pages_of_kept (Some kept.now)) free.old free.new) }
+    ensures refused { IfErr result (IsUnmarked free.old (pages_of_kept (Some kept.now))) }
+{
+    mark_plane(free, &kept.levels)?;
+    mark_plane(free, &kept.labels)
+}
+
+fn mark_plane(free: &mut FreePages, plane: &PagedPlane) -> Result<(), Refusal>
+    ensures marked { OnOk result (AreTaken (pages_of_plane plane.now) free.old free.new) }
+    ensures refused { IfErr result (IsUnmarked free.old (pages_of_plane plane.now)) }
+{
+    free.mark(plane.record_page())?;
+    mark_all(free, plane.behind())
+}
+
+fn mark_all(free: &mut FreePages, pages: &[u32]) -> Result<(), Refusal>
+    ensures marked { OnOk result (AreTaken pages.now free.old free.new) }
+    ensures refused { IfErr result (IsUnmarked free.old pages.now) }
 {
     for page in pages {
-        if !free.mark(*page) {
-            return false;
-        }
+        free.mark(*page)?;
     }
-    true
-}
-
-/// The same for the planes of a tile.
-pub(crate) fn mark_planes(free: &mut Pages, planes: &TilePlanes) -> bool
-    ensures marked { OnTrue result (AreTaken (pages_of_planes planes.now) free.old free.new) }
-    ensures taken { OnFalse result ((p : ℕ) × (free_times free.old p < times p (pages_of_planes planes.now))) }
-    ensures total { free.new.total ≡ free.old.total }
-{
-    if !mark_plane(free, &planes.heights) {
-        return false;
-    }
-    match &planes.kept {
-        Some(kept) => mark_plane(free, &kept.levels) && mark_plane(free, &kept.labels),
-        None => true,
-    }
+    Ok(())
 }

@@ -9,12 +9,12 @@ ghost use Rattle.charts.specs.FreePages.{free_times, page_times, all_pages, diff
 ghost use Rattle.charts.specs.StagedPlanes.{with_heights, with_kept, fresh_heights_as, fresh_kept_as, replaced_heights, replaced_kept};
 ghost use Rattle.charts.specs.TileLocations.{pages_of_kept};
 
+use crate::free_pages::FreePages;
 use crate::locations::{KeptLocations, PagedPlane, TilePlanes};
-use crate::pages::{fresh_kept, give_differing, give_kept, give_plane, stands_at, take_page};
+use crate::pages::{fresh_kept, give_differing, give_kept, give_plane, stands_at};
 use crate::staged::{HeightsStaged, KeptStaged, Staged};
 use lattice::{Corner, Refusal};
 use layout::{Format, RECORD_PAGES};
-use page_alloc::Pages;
 use std::alloc::Global;
 use std::mem;
 
@@ -91,7 +91,7 @@ impl Slot {
         &mut self,
         alloc: Global,
         i: usize,
-        free: &mut Pages,
+        free: &mut FreePages,
     ) -> Result<u32, Refusal>
         requires room { HasRoom self.old (set.len free.old.free) }
         requires present { IsSome (staged_tile self.old) }
@@ -123,7 +123,7 @@ impl Slot {
     }
 
     /// Stages the heights as they are, where they aren't staged yet: their record goes to a free page.
-    pub(crate) fn prepare(&mut self, alloc: Global, free: &mut Pages) -> Result<(), Refusal>
+    pub(crate) fn prepare(&mut self, alloc: Global, free: &mut FreePages) -> Result<(), Refusal>
         requires room { HasRoom self.old (set.len free.old.free) }
         requires present { IsSome (staged_tile self.old) }
         ensures staged { OnOk result (IsRecordRestaged self.old self.new) }
@@ -166,12 +166,12 @@ impl Slot {
         &mut self,
         alloc: Global,
         format: Format,
-        free: &mut Pages,
+        free: &mut FreePages,
     ) -> Result<(), Refusal>
         requires room { 2 * plane_pages_of format ≤ set.len free.old.free }
         requires present { IsSome (staged_tile self.old) }
         requires none { fresh_kept self.old ≡ [] }
-        requires in_range { (p : ℕ) → free_times free.old p ≤ page_times free.old.total p }
+        requires in_range { (p : ℕ) → free_times free.old p ≤ page_times free.old.range p }
         ensures kept { OnOk result (IsKeptAnew format self.old self.new) }
         ensures restaged { IsRestaged self.old self.new free.old free.new }
         ensures refused { IfErr result (λ refusal. refusal ≡ NoMemory) }
@@ -186,7 +186,7 @@ impl Slot {
     }
 
     /// Stages the tile without kept planes. Gives back the pages of those that were staged.
-    pub(crate) fn drop_kept(&mut self, free: &mut Pages)
+    pub(crate) fn drop_kept(&mut self, free: &mut FreePages)
         requires present { IsSome (staged_tile self.old) }
         requires in_use { AreInUse (used_pages self.old) free.old }
         ensures dropped { IsKeptDropped self.old self.new }
@@ -200,7 +200,7 @@ impl Slot {
     }
 
     /// Stages no tile. Gives back the pages of what was staged.
-    pub(crate) fn remove(&mut self, free: &mut Pages)
+    pub(crate) fn remove(&mut self, free: &mut FreePages)
         requires { AreInUse (used_pages self.old) free.old }
         ensures removed { self.new ≡ record (self.old) { staged = Removed } }
         ensures restaged { IsRestaged self.old self.new free.old free.new }
@@ -217,7 +217,7 @@ impl Slot {
     }
 
     /// Commits or gives up what is staged, and gives back the pages that it does without.
-    pub(crate) fn end(&mut self, ending: Ending, free: &mut Pages)
+    pub(crate) fn end(&mut self, ending: Ending, free: &mut FreePages)
         requires { AreInUse (used_pages self.old) free.old }
         ensures { IsEndedAs (ended_tile ending self.old) self.old self.new free.old free.new }
     {
@@ -227,7 +227,7 @@ impl Slot {
         }
     }
 
-    fn settle(&mut self, free: &mut Pages)
+    fn settle(&mut self, free: &mut FreePages)
         requires { AreInUse (used_pages self.old) free.old }
         ensures { IsEndedAs (staged_tile self.old) self.old self.new free.old free.new }
     {
@@ -244,7 +244,7 @@ impl Slot {
         }
     }
 
-    fn give_up(&mut self, free: &mut Pages)
+    fn give_up(&mut self, free: &mut FreePages)
         requires { AreInUse (used_pages self.old) free.old }
         ensures ended { IsEndedAs (committed_tile self.old) self.old self.new free.old free.new }
         ensures committed { self.new.committed ≡ self.old.committed }
@@ -270,7 +270,7 @@ fn heights_in(committed: &Option<TilePlanes>) -> &[u32]
 }
 
 /// Gives back the pages of staged heights that no committed tile has.
-fn give_staged_heights(free: &mut Pages, heights: &HeightsStaged, committed: &Option<TilePlanes>)
+fn give_staged_heights(free: &mut FreePages, heights: &HeightsStaged, committed: &Option<TilePlanes>)
     requires { AreInUse (fresh_heights_as committed.now heights.now) free.old }
     ensures { AreGiven (fresh_heights_as committed.now heights.now) free.old free.new }
 {
@@ -284,7 +284,7 @@ fn give_staged_heights(free: &mut Pages, heights: &HeightsStaged, committed: &Op
 }
 
 /// Gives back the pages of staged kept planes.
-fn give_staged_kept(free: &mut Pages, kept: &KeptStaged)
+fn give_staged_kept(free: &mut FreePages, kept: &KeptStaged)
     requires { AreInUse (fresh_kept_as kept.now) free.old }
     ensures { AreGiven (fresh_kept_as kept.now) free.old free.new }
 {
@@ -299,7 +299,7 @@ fn give_staged_kept(free: &mut Pages, kept: &KeptStaged)
 fn with_fresh_record(
     alloc: Global,
     plane: &PagedPlane,
-    free: &mut Pages,
+    free: &mut FreePages,
 ) -> Result<PagedPlane, Refusal>
     requires { 0 < set.len free.old.free }
     ensures taken { IfOk result (λ copy. AreTaken (copy.record_page ∷ []) free.old free.new) }
@@ -309,12 +309,12 @@ fn with_fresh_record(
     ensures unchanged { OnErr result (free.new ≡ free.old) }
 {
     let behind = Vec::from_slice(alloc, plane.behind())?;
-    Ok(PagedPlane::new(take_page(free), behind, plane.index_count()))
+    Ok(PagedPlane::new(free.take(), behind, plane.index_count()))
 }
 
 /// Page `i` of the plane, and the index page that lists it where there is one: each is moved to a free page where the
 /// committed plane has it at the same index.
-fn own_listed(location: &mut PagedPlane, committed: &[u32], i: usize, free: &mut Pages) -> u32
+fn own_listed(location: &mut PagedPlane, committed: &[u32], i: usize, free: &mut FreePages) -> u32
     requires room { length (pages_behind location.old) ≤ length (differing (pages_behind location.old) committed.now) + set.len free.old.free }
     requires index { i < length location.old.pages }
     requires apart { (p : ℕ) → times p committed.now + free_times free.old p ≤ 1 }
@@ -329,7 +329,7 @@ fn own_listed(location: &mut PagedPlane, committed: &[u32], i: usize, free: &mut
 }
 
 /// One of the pages behind a record, which is moved to a free page where the committed plane has it at the same index.
-fn own_page(location: &mut PagedPlane, committed: &[u32], at: usize, free: &mut Pages) -> u32
+fn own_page(location: &mut PagedPlane, committed: &[u32], at: usize, free: &mut FreePages) -> u32
     requires room { length (pages_behind location.old) ≤ length (differing (pages_behind location.old) committed.now) + set.len free.old.free }
     requires index { at < length (pages_behind location.old) }
     requires apart { (p : ℕ) → times p committed.now + free_times free.old p ≤ 1 }
@@ -341,7 +341,7 @@ fn own_page(location: &mut PagedPlane, committed: &[u32], at: usize, free: &mut 
     if !stands_at(page, at, committed) {
         return page;
     }
-    let page = take_page(free);
+    let page = free.take();
     location.set_behind(at, page);
     page
 }
@@ -350,7 +350,7 @@ fn own_page(location: &mut PagedPlane, committed: &[u32], at: usize, free: &mut 
 fn settle_heights(
     committed: Option<TilePlanes>,
     heights: HeightsStaged,
-    free: &mut Pages,
+    free: &mut FreePages,
 ) -> Option<TilePlanes>
     requires { AreInUse (replaced_heights committed heights) free.old }
     ensures planes { result ≡ with_heights committed heights }
@@ -375,7 +375,7 @@ fn settle_heights(
 
 /// The planes with the staged kept ones. Gives back the pages of the kept planes that it does without: without planes, those
 /// of the staged ones.
-fn settle_kept(planes: Option<TilePlanes>, kept: KeptStaged, free: &mut Pages) -> Option<TilePlanes>
+fn settle_kept(planes: Option<TilePlanes>, kept: KeptStaged, free: &mut FreePages) -> Option<TilePlanes>
     requires { AreInUse (replaced_kept planes kept) free.old }
     ensures planes { result ≡ with_kept planes kept }
     ensures given { AreGiven (replaced_kept planes kept) free.old free.new }
@@ -396,7 +396,7 @@ fn settle_kept(planes: Option<TilePlanes>, kept: KeptStaged, free: &mut Pages) -
     })
 }
 
-fn give_planes(free: &mut Pages, planes: &Option<TilePlanes>)
+fn give_planes(free: &mut FreePages, planes: &Option<TilePlanes>)
     requires { AreInUse (all_pages planes.now) free.old }
     ensures { AreGiven (all_pages planes.now) free.old free.new }
 {
@@ -407,7 +407,7 @@ fn give_planes(free: &mut Pages, planes: &Option<TilePlanes>)
     give_any_kept(free, &planes.kept);
 }
 
-fn give_any_kept(free: &mut Pages, kept: &Option<KeptLocations>)
+fn give_any_kept(free: &mut FreePages, kept: &Option<KeptLocations>)
     requires { AreInUse (pages_of_kept kept.now) free.old }
     ensures { AreGiven (pages_of_kept kept.now) free.old free.new }
 {

@@ -9,11 +9,11 @@ ghost use Rattle.charts.specs.FreePages.{AreTaken};
 ghost use Rattle.charts.specs.Locations.{IsWholePlane};
 ghost use Rattle.charts.specs.Upgraded.{HasAllPages, HaveAllPages, KeptHaveAllPages, data_of, data_of_kept, listing_of, listing_of_kept};
 
+use crate::free_pages::FreePages;
 use crate::locations::{KeptLocations, PagedPlane, TilePlanes};
 use crate::pages::fresh_plane;
 use lattice::Refusal;
 use layout::Format;
-use page_alloc::Pages;
 use std::alloc::Global;
 
 /// The planes of a tile with the same pages, by a format with index pages: records and index pages are on free pages.
@@ -21,7 +21,7 @@ pub(crate) fn upgraded_planes(
     alloc: Global,
     planes: &TilePlanes,
     format: Format,
-    free: &mut Pages,
+    free: &mut FreePages,
 ) -> Result<TilePlanes, Refusal>
     requires whole { HaveAllPages format.side planes.now }
     requires room { 3 * (1 + index_pages_of format) ≤ set.len free.old.free }
@@ -40,7 +40,7 @@ fn upgraded_kept(
     alloc: Global,
     kept: &Option<KeptLocations>,
     format: Format,
-    free: &mut Pages,
+    free: &mut FreePages,
 ) -> Result<Option<KeptLocations>, Refusal>
     requires whole { IfSome kept.now (KeptHaveAllPages format.side) }
     requires room { 2 * (1 + index_pages_of format) ≤ set.len free.old.free }
@@ -62,7 +62,7 @@ fn upgraded_plane(
     alloc: Global,
     plane: &PagedPlane,
     format: Format,
-    free: &mut Pages,
+    free: &mut FreePages,
 ) -> Result<PagedPlane, Refusal>
     requires whole { HasAllPages format.side plane.now }
     requires room { 1 + index_pages_of format ≤ set.len free.old.free }

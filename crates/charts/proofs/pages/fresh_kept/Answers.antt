@@ -1,5 +1,5 @@
 use Rattle.std.proofs.Common.{ap, arith}
-use Rattle.page_alloc.specs.Pages.{PageSet}
+use Rattle.charts.specs.FreePages.{FreePages}
 use Rattle.charts.specs.Locations.{pages_of_plane}
 use Rattle.charts.specs.FreePages.{free_times, page_times}
 use Rattle.charts.proofs.FreeTimes.{taken-append}
@@ -11,9 +11,9 @@ fresh_plane-requires-2 c = omega (arith, c.requires.room, c.in_ok-levels.ensures
 pub give_plane-requires : goal.give_plane-requires
 give_plane-requires c = λ p.
     let taken = c.in_ok-levels.ensures.taken in
-    let free = ap (λ (s : PageSet). free_times s p) c.in-Err.ensures.unchanged in
-    let total = ap (λ (s : PageSet). page_times s.total p) c.in-Err.ensures.unchanged in
-    let first = ap (λ n. page_times n p) taken.same_total in
+    let free = ap (λ (s : FreePages). free_times s p) c.in-Err.ensures.unchanged in
+    let total = ap (λ (s : FreePages). page_times s.range p) c.in-Err.ensures.unchanged in
+    let first = ap (λ n. page_times n p) taken.same_range in
     omega (arith, taken.each p, free, total, first, c.requires.in_range p)
 
 pub returns-in-Ok-clause-taken : goal.returns-in-Ok-clause-taken

@@ -9,23 +9,23 @@ loop-page-init c = (taken_none _, omega arith, c.deref_mut-page-items.ensures.le
 
 pub loop-page-preserved : goal.loop-page-preserved
 loop-page-preserved c = (
-  taken_set _ _ _ _ _ _ (omega (arith, c.loop-page.auto.page-items, c.loop-page-test.true)) c.loop-page.invariant.0 c.take_page.ensures.taken,
-  omega (arith, c.loop-page.invariant.1, c.take_page.ensures.left),
+  taken_set _ _ _ _ _ _ (omega (arith, c.loop-page.auto.page-items, c.loop-page-test.true)) c.loop-page.invariant.0 c.take.ensures.taken,
+  omega (arith, c.loop-page.invariant.1, c.take.ensures.left),
   rw length-set c.loop-page.invariant.2,
 )
 
-pub take_page-requires : goal.take_page-requires
-take_page-requires c = omega (arith, c.requires, c.loop-page.invariant.1, c.loop-page.invariant.2, c.loop-page-test.true, c.loop-page.auto.page-items)
+pub take-requires : goal.take-requires
+take-requires c = omega (arith, c.requires, c.loop-page.invariant.1, c.loop-page.invariant.2, c.loop-page-test.true, c.loop-page.auto.page-items)
 
-pub take_page-requires-2 : goal.take_page-requires-2
-take_page-requires-2 c = omega (arith, c.requires, c.loop-page.invariant.1, c.loop-page.invariant.2, c.loop-page.auto.page-index-end, c.loop-page.auto.page-items)
+pub take-requires-2 : goal.take-requires-2
+take-requires-2 c = omega (arith, c.requires, c.loop-page.invariant.1, c.loop-page.invariant.2, c.loop-page.auto.page-index-end, c.loop-page.auto.page-items)
 
 pub returns-clause-taken : goal.returns-clause-taken
 returns-clause-taken c =
     let items = with_items_is c.in_ok-behind.behind c.loop-page.page-items (omega (arith, c.loop-page.auto.page-items, c.deref_mut-page-items.ensures.len)) in
     rw (c.new.ensures, items, take-append-drop c.args.index_pages c.loop-page.page-items)
-    (taken_plane _ _ _ _ _ _ (omega (arith, c.loop-page-test.false, c.loop-page.auto.page-items)) c.loop-page.invariant.0 c.take_page-2.ensures.taken)
+    (taken_plane _ _ _ _ _ _ (omega (arith, c.loop-page-test.false, c.loop-page.auto.page-items)) c.loop-page.invariant.0 c.take-2.ensures.taken)
 
 pub returns-clause-left : goal.returns-clause-left
 returns-clause-left c =
-    omega (arith, c.requires, c.loop-page.invariant.1, c.loop-page.invariant.2, c.take_page-2.ensures.left, c.loop-page-test.false, c.loop-page.auto.page-index-end, c.loop-page.auto.page-items)
+    omega (arith, c.requires, c.loop-page.invariant.1, c.loop-page.invariant.2, c.take-2.ensures.left, c.loop-page-test.false, c.loop-page.auto.page-index-end, c.loop-page.auto.page-items)

@@ -7,13 +7,8 @@ use Rattle.charts.proofs.pages.give_differing.Goals.{then-not-stands_at, else-no
 apart : (c : After-stands_at) → c.stands_at.result ≡ false → c.loop-i.i < length c.args.others.now → get_or c.args.pages.now c.loop-i.i 0 ≢ get_or c.args.others.now c.loop-i.i 0
 apart c differs within same = false≢true (sym differs ∙ c.stands_at.ensures.1 (within, sym same))
 
-pub give-requires-clause-in_range : goal.give-requires-clause-in_range
-give-requires-clause-in_range c =
-    (can_give _ _ _ _ _ c.loop-i.invariant c.loop-i-test.true c.requires (apart (goal.at.give-requires-clause-in_range c).After-stands_at c.if-not-stands_at.true)).0
-
-pub give-requires-clause-in_use : goal.give-requires-clause-in_use
-give-requires-clause-in_use c =
-    (can_give _ _ _ _ _ c.loop-i.invariant c.loop-i-test.true c.requires (apart (goal.at.give-requires-clause-in_use c).After-stands_at c.if-not-stands_at.true)).1
+pub give-requires : goal.give-requires
+give-requires c = can_give _ _ _ _ _ c.loop-i.invariant c.loop-i-test.true c.requires (apart (goal.at.give-requires c).After-stands_at c.if-not-stands_at.true)
 
 pub loop-i-preserved : goal.loop-i-preserved
 loop-i-preserved c = elim c.if-not-stands_at.branch [

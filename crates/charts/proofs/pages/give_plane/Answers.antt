@@ -2,15 +2,15 @@ use Rattle.std.proofs.Common.{[], ◌∷◌}
 use Rattle.charts.specs.Locations.{pages_behind}
 use Rattle.charts.specs.FreePages.{AreGiven}
 use Rattle.charts.proofs.Times.{differing-nil}
-use Rattle.charts.proofs.FreeTimes.{in_use-head, in_use-rest, given_one_page, given-append}
+use Rattle.charts.proofs.FreeTimes.{in_use-head, in_use-rest, given-append}
 use Rattle.charts.proofs.pages.give_plane.Goals as goal
 use Rattle.charts.proofs.pages.give_plane.Goals.{After-give}
 
-pub give-requires-clause-in_range : goal.give-requires-clause-in_range
-give-requires-clause-in_range c = rw c.record_page.ensures (in_use-head _ _ _ c.requires).0
+pub give-requires : goal.give-requires
+give-requires c = rw c.record_page.ensures (in_use-head _ _ _ c.requires)
 
 record_given : (c : After-give) → AreGiven (c.args.plane.now.record_page ∷ []) c.args.free.now c.give.new.self
-record_given c = given_one_page _ _ _ (in_use-head _ _ _ c.requires).1 (rw c.record_page.ensures at c.give.ensures)
+record_given c = rw c.record_page.ensures at c.give.ensures
 
 pub give_differing-requires : goal.give_differing-requires
 give_differing-requires c =

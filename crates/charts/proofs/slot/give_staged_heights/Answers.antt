@@ -1,25 +1,20 @@
 use Rattle.std.proofs.Common.{◌∷◌, []}
 use Rattle.charts.specs.Locations.{pages_behind}
 use Rattle.charts.specs.FreePages.{differing, heights_pages, AreGiven}
-use Rattle.charts.proofs.FreeTimes.{in_use-head, in_use-rest, given_one_page, given-append}
+use Rattle.charts.proofs.FreeTimes.{in_use-head, in_use-rest, given-append}
 use Rattle.charts.proofs.slot.give_staged_heights.Goals as goal
 
-pub give-requires-clause-in_range : goal.give-requires-clause-in_range
-give-requires-clause-in_range c =
+pub give-requires : goal.give-requires
+give-requires c =
     let location = c.in-Fresh.location in
-    rw c.record_page.ensures (in_use-head location.record_page (differing (pages_behind location) (heights_pages c.args.committed.now)) c.args.free.now (rw c.in-Fresh.is at c.requires)).0
-
-pub give-requires-clause-in_use : goal.give-requires-clause-in_use
-give-requires-clause-in_use c =
-    let location = c.in-Fresh.location in
-    rw c.record_page.ensures (in_use-head location.record_page (differing (pages_behind location) (heights_pages c.args.committed.now)) c.args.free.now (rw c.in-Fresh.is at c.requires)).1
+    rw c.record_page.ensures (in_use-head location.record_page (differing (pages_behind location) (heights_pages c.args.committed.now)) c.args.free.now (rw c.in-Fresh.is at c.requires))
 
 pub give_differing-requires : goal.give_differing-requires
 give_differing-requires c =
     let location = c.in-Fresh.location in
     let in_use = rw c.in-Fresh.is at c.requires in
     let part = differing (pages_behind location) (heights_pages c.args.committed.now) in
-    let given = given_one_page c.args.free.now c.give.new.self location.record_page (in_use-head location.record_page part c.args.free.now in_use).1 (rw c.record_page.ensures at c.give.ensures) in
+    let given : AreGiven (location.record_page ∷ []) c.args.free.now c.give.new.self = rw c.record_page.ensures at c.give.ensures in
     rw (c.behind.ensures, c.heights_in.ensures) (in_use-rest (location.record_page ∷ []) part c.args.free.now c.give.new.self c.args.free.now in_use given)
 
 pub returns-in-Fresh : goal.returns-in-Fresh
@@ -27,6 +22,6 @@ returns-in-Fresh c =
     let location = c.in-Fresh.location in
     let in_use = rw c.in-Fresh.is at c.requires in
     let part = differing (pages_behind location) (heights_pages c.args.committed.now) in
-    let given = given_one_page c.args.free.now c.give.new.self location.record_page (in_use-head location.record_page part c.args.free.now in_use).1 (rw c.record_page.ensures at c.give.ensures) in
+    let given : AreGiven (location.record_page ∷ []) c.args.free.now c.give.new.self = rw c.record_page.ensures at c.give.ensures in
     let rest : AreGiven part c.give.new.self c.give_differing.new.free = rw (c.behind.ensures, c.heights_in.ensures) at c.give_differing.ensures in
     rw c.in-Fresh.is (given-append (location.record_page ∷ []) part c.args.free.now c.give.new.self c.give_differing.new.free given rest)

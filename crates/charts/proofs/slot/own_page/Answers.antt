@@ -25,10 +25,10 @@ returns-clause-owned c =
     let there = c.stands_at.ensures.0 c.if-not-stands_at.false in
     let same : get_or (pages_behind c.args.location.now) c.args.at 0 ≡ get_or c.args.committed.now c.args.at 0 = rw (← c.behind.ensures) (sym there.1) in
     rw c.set_behind.ensures.moved
-    (owned_now c.args.committed.now (pages_behind c.args.location.now) c.args.at c.take_page-page.result c.args.free.now c.take_page-page.new.free c.requires.index there.0 same c.requires.apart c.take_page-page.ensures.taken)
+    (owned_now c.args.committed.now (pages_behind c.args.location.now) c.args.at c.take-page.result c.args.free.now c.take-page.new.self c.requires.index there.0 same c.requires.apart c.take-page.ensures.taken)
 
-pub take_page-page-requires : goal.take_page-page-requires
-take_page-page-requires c =
+pub take-page-requires : goal.take-page-requires
+take-page-requires c =
     let there = c.stands_at.ensures.0 c.if-not-stands_at.false in
     let same : get_or (pages_behind c.args.location.now) c.args.at 0 ≡ get_or c.args.committed.now c.args.at 0 = rw (← c.behind.ensures) (sym there.1) in
     omega (arith, c.requires.room, differing-less (pages_behind c.args.location.now) c.args.committed.now c.args.at c.requires.index there.0 same)
@@ -38,5 +38,5 @@ returns-clause-left c =
     let there = c.stands_at.ensures.0 c.if-not-stands_at.false in
     let same : get_or (pages_behind c.args.location.now) c.args.at 0 ≡ get_or c.args.committed.now c.args.at 0 = rw (← c.behind.ensures) (sym there.1) in
     rw c.set_behind.ensures.moved
-    (room_after c.args.committed.now (pages_behind c.args.location.now) c.args.at c.take_page-page.result c.args.free.now c.take_page-page.new.free c.requires.index there.0 same c.requires.apart
-    c.take_page-page.ensures.taken c.take_page-page.ensures.left c.requires.room)
+    (room_after c.args.committed.now (pages_behind c.args.location.now) c.args.at c.take-page.result c.args.free.now c.take-page.new.self c.requires.index there.0 same c.requires.apart
+    c.take-page.ensures.taken c.take-page.ensures.left c.requires.room)

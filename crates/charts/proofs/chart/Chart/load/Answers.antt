@@ -1,6 +1,8 @@
-use Rattle.std.proofs.Common.{◌≡◌, ◌<◌, List, [], ◌∷◌, ◌++◌, length, ap, sym, subst, ◌∙◌, refl, true, false, inr}
+use Rattle.std.proofs.Common.{◌≡◌, ⊎_elim, inl, ◌<◌, List, [], ◌∷◌, ◌++◌, length, ap, sym, subst, ◌∙◌, refl, true, false, inr}
 use Rattle.std.specs.Prelude.{All, Result, Ok, Err, is_ok, is_err}
 use Rattle.std.proofs.lemmas.Bool.{false≢true}
+use Rattle.std.proofs.lemmas.Result.{err_from_is_err_and}
+use Rattle.lattice.specs.declared.refusal.Refusal.{Refusal}
 use Rattle.lattice.specs.Lattice.{IsBefore}
 use Rattle.charts.specs.declared.slot.Slot.{Slot}
 use Rattle.charts.specs.TileLocations.{KeepsPageRule}
@@ -26,19 +28,24 @@ invariant_of-result c =
     (subst (λ (v : ChartValue). All (λ t. IsBefore t.corner c.args.corner) v.committed) (sym c.self.view_is) c.requires.after)
     (subst (λ (v : ChartValue). length v.committed < v.format.capacity) (sym c.self.view_is) c.requires.room)
     (subst (λ (v : ChartValue). IsWholeTile v.format (tile_at c.args.corner c.args.planes)) (sym c.self.view_is) c.requires.whole)
-    c.know_degrees.ensures c.mark_planes.new.free (rw c.if-not-mark_planes.false at c.mark_planes.ensures.marked))
+    c.know_degrees.ensures c.mark_planes.new.free c.in_ok-mark_planes.ensures.marked)
 
-pub returns-then-not-mark_planes-clause-refused : goal.returns-then-not-mark_planes-clause-refused
-returns-then-not-mark_planes-clause-refused c =
-    inr (
-      refl,
+pub returns-in_err-mark_planes-clause-refused : goal.returns-in_err-mark_planes-clause-refused
+returns-in_err-mark_planes-clause-refused c =
+    let p = err_from_is_err_and c.from_residual.result c.from_residual.ensures.1 in
+    let ended : c.from_residual.result ≡ Err c.in_err-mark_planes.field-0.0 = p.1 ∙ ap (λ (r : Refusal). Err r) p.2 in
+    rw ended
+    (⊎_elim inl
+    (λ damaged. inr (
+      damaged.0,
       subst (λ (v : ChartValue). KeepsPageRule v.sectors (v.committed ++ tile_at c.args.corner c.args.planes ∷ []) → ⊥) c.self.view_is
           (rule_broken c.self.inside.format c.self.inside.slots.items c.self.inside.free c.self.invariant (subst (λ (v : ChartValue). v.staged ≡ v.committed) (sym c.self.view_is) c.requires.clean) c.args.corner c.args.planes
           (subst (λ (v : ChartValue). All (λ t. IsBefore t.corner c.args.corner) v.committed) (sym c.self.view_is) c.requires.after)
           (subst (λ (v : ChartValue). length v.committed < v.format.capacity) (sym c.self.view_is) c.requires.room)
           (subst (λ (v : ChartValue). IsWholeTile v.format (tile_at c.args.corner c.args.planes)) (sym c.self.view_is) c.requires.whole)
-          (rw c.if-not-mark_planes.true at c.mark_planes.ensures.taken)),
-    )
+          damaged.1),
+    ))
+    c.in_err-mark_planes.ensures.refused)
 
 pub returns-clause-loaded : goal.returns-clause-loaded
 returns-clause-loaded c =
@@ -48,7 +55,7 @@ returns-clause-loaded c =
     (subst (λ (v : ChartValue). All (λ t. IsBefore t.corner c.args.corner) v.committed) (sym c.self.view_is) c.requires.after)
     (subst (λ (v : ChartValue). length v.committed < v.format.capacity) (sym c.self.view_is) c.requires.room)
     (subst (λ (v : ChartValue). IsWholeTile v.format (tile_at c.args.corner c.args.planes)) (sym c.self.view_is) c.requires.whole)
-    c.mark_planes.new.free (rw c.if-not-mark_planes.false at c.mark_planes.ensures.marked)
+    c.mark_planes.new.free c.in_ok-mark_planes.ensures.marked
     ∙ ap (λ (v : ChartValue). record v { committed = v.committed ++ tile_at c.args.corner c.args.planes ∷ []; staged = v.committed ++ tile_at c.args.corner c.args.planes ∷ [] }) c.self.view_is)
 
 pub returns-clause-rules : goal.returns-clause-rules
@@ -60,4 +67,4 @@ returns-clause-rules c =
     (subst (λ (v : ChartValue). All (λ t. IsBefore t.corner c.args.corner) v.committed) (sym c.self.view_is) c.requires.after)
     (subst (λ (v : ChartValue). length v.committed < v.format.capacity) (sym c.self.view_is) c.requires.room)
     (subst (λ (v : ChartValue). IsWholeTile v.format (tile_at c.args.corner c.args.planes)) (sym c.self.view_is) c.requires.whole)
-    c.know_degrees.ensures c.mark_planes.new.free (rw c.if-not-mark_planes.false at c.mark_planes.ensures.marked)))
+    c.know_degrees.ensures c.mark_planes.new.free c.in_ok-mark_planes.ensures.marked))

@@ -2,7 +2,7 @@ use Rattle.std.proofs.Common.{◌≡◌, ◌<◌, List, length, ap, sym, subst, 
 use Rattle.std.specs.Prelude.{Result, Ok, Err, is_ok, is_err, insert}
 use Rattle.std.proofs.lemmas.Bool.{false≢true}
 use Rattle.charts.specs.declared.slot.Slot.{Slot}
-use Rattle.page_alloc.specs.Pages.{PageSet}
+use Rattle.charts.specs.FreePages.{FreePages}
 use Rattle.charts.specs.Charts.{ChartValue, IsLocated, IsAdded}
 use Rattle.charts.specs.Slots.{IsKept, chart_of}
 use Rattle.charts.proofs.Room.{room_for_tile}
@@ -29,7 +29,7 @@ returns-in_err-reserve-clause-rules c =
 pub returns-in_err-location-clause-rules : goal.returns-in_err-location-clause-rules
 returns-in_err-location-clause-rules c =
     charted c.self.inside.format c.reserve.new.self.items c.fresh_plane.new.free
-    (subst (λ (s : PageSet). IsKept c.self.inside.format c.reserve.new.self.items s) (sym c.in_err-location.ensures.unchanged)
+    (subst (λ (s : FreePages). IsKept c.self.inside.format c.reserve.new.self.items s) (sym c.in_err-location.ensures.unchanged)
     (subst (λ (l : List Slot). IsKept c.self.inside.format l c.self.inside.free) (sym c.in_ok-reserve.ensures.items) c.self.invariant))
 
 pub invariant_of-self-in-Ok : goal.invariant_of-self-in-Ok

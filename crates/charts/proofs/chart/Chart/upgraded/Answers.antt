@@ -26,7 +26,7 @@ upgraded_planes-requires-clause-room c =
     let kept : IsKept format slots free = rw c.deref-slot-items.ensures.value c.self.invariant in
     let clean : staged_tiles slots ≡ committed_tiles slots = rw c.deref-slot-items.ensures.value (subst (λ (v : ChartValue). v.staged ≡ v.committed) (sym c.self.view_is) c.requires.clean) in
     let first : format.version ≡ One = subst (λ (v : ChartValue). v.format.version ≡ One) (sym c.self.view_is) c.requires.first in
-    let size : sectors_asked (upgraded format) ≤ free.total = subst (λ (v : ChartValue). sectors_asked (upgraded v.format) ≤ v.sectors) (sym c.self.view_is) c.requires.room in
+    let size : sectors_asked (upgraded format) ≤ free.range.sectors = subst (λ (v : ChartValue). sectors_asked (upgraded v.format) ≤ v.sectors) (sym c.self.view_is) c.requires.room in
     let side : 3 ≤ format.side = subst (λ (f : Format). 3 ≤ f.side) c.upgraded-format.ensures c.side-side.ensures.rules.side_low in
     let all = room_to_upgrade format slots free kept (none_fresh format slots free kept clean) first side size in
     room_next format slots free kept clean c.loop-slot.slot-index c.slot-item.result c.loop-slot-test.true c.slot-item.is c.in-Some.planes c.in-Some.is (3 * (1 + index_pages_of c.upgraded-format.result)) (len c.loop-slot.free.free)

@@ -10,7 +10,7 @@ use Rattle.charts.proofs.chart.Chart.upgraded.Given as goal
 abbrev pub invariant-loop-slot : goal.invariant-loop-slot
 invariant-loop-slot l = record {
   rules : IsChart l.chart;
-  sectors : l.chart.sectors ≡ l.self-inside.free.total;
+  sectors : l.chart.sectors ≡ l.self-inside.free.range.sectors;
   format : l.chart.format ≡ l.format;
   clean : IsClean l.chart;
   alike : map data_of l.chart.committed ≡ map data_of (committed_tiles (take l.slot-index l.slot-items));

@@ -1,4 +1,4 @@
-use Rattle.std.proofs.Common.{◌≤◌, ℕ, length, take, ap, arith}
+use Rattle.std.proofs.Common.{◌≤◌, length, ap, arith}
 use Rattle.std.proofs.lemmas.List.{length-take, take-append-drop}
 use Rattle.charts.specs.Locations.{PlaneLocation, pages_behind}
 use Rattle.charts.proofs.locations.PagedPlane.index_count.Goals as goal
