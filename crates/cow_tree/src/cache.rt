@@ -49,7 +49,7 @@ impl PageCache {
         true
     }
 
-    /// Whether the page is held; then two of its bytes are copied.
+    /// Whether the page is held; then its two bytes from `from` on are copied.
     pub(crate) fn find_two(&mut self, number: u32, from: usize, into: &mut [u8; 2]) -> bool
         requires { from + 2 ≤ 4096 }
         ensures kept { (page : ℕ) (bytes : List ℕ) → IsHeld self.new page bytes → IsHeld self.old page bytes }

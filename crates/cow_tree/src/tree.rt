@@ -291,7 +291,8 @@ impl<D: Disk> Tree<D> {
         answer
     }
 
-    /// Reads two bytes of page `i` of a plane as [`Tree::read_page`] does.
+    /// Reads the two bytes from `from` on of page `i` of a plane, as the next commit will have it: a page that was read
+    /// lately is not copied for them. Refused as [`Tree::read_page`] is.
     pub fn read_two(
         &mut self,
         c: Corner,

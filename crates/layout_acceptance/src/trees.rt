@@ -357,3 +357,95 @@ fn two_tiles_are_upgraded(rt: HostRuntime) -> Result<(), Fail> {
     assert!(rt; answer == Err(Refusal::NotOld) && disk.writes() == 20);
     Ok(())
 }
+
+// Many more sectors than two tiles ask for, and the last of them.
+const SECTORS_SPARE: u32 = 200;
+
+const LAST_SECTOR: u8 = 199;
+
+// The page in which the heights of the corner's tile are recorded.
+fn record_of(tree: &Tree<MemDisk>, c: Corner) -> Result<u32, Fail> {
+    for entry in tree.current().entries() {
+        if entry.corner == c {
+            return Ok(entry.heights);
+        }
+    }
+    Err("no entry")?
+}
+
+// The sector's bytes; zeros where there is no such sector.
+fn sector_of(disk: &mut MemDisk, s: u32) -> Result<[u8; 4096], Fail> {
+    let mut bytes = [0; 4096];
+    if s < disk.sectors() {
+        disk.read(s, &mut bytes)?;
+    }
+    Ok(bytes)
+}
+
+// The store with the only page of the corner's heights moved to this sector, in place, with no commit.
+fn with_heights_at(alloc: Global, disk: MemDisk, c: Corner, to: u8) -> Result<MemDisk, Fail> {
+    let tree = opened(alloc, disk)?;
+    let record = record_of(&tree, c)?;
+    let mut disk = tree.into_disk();
+    let page = sector_of(&mut disk, record)?[0];
+    let heights = sector_of(&mut disk, u32::from(page))?;
+    if u32::from(to) < disk.sectors() {
+        disk.write(u32::from(to), &heights)?;
+    }
+    set_byte(&mut disk, record, 0, to)?;
+    Ok(disk)
+}
+
+// Two tiles on a disk with sectors to spare, the first's heights on the last of them.
+fn with_far_heights(alloc: Global) -> Result<MemDisk, Fail> {
+    let disk = two_tiles(alloc, SECTORS_SPARE)?;
+    with_heights_at(alloc, disk, corner(6)?, LAST_SECTOR)
+}
+
+#[test]
+fn pages_lie_anywhere_on_a_long_disk(rt: HostRuntime) -> Result<(), Fail> {
+    let (first, second) = (corner(6)?, corner(-7)?);
+    let mut tree = opened(rt.alloc(), with_far_heights(rt.alloc())?)?;
+    let moved = [
+        samples_at(&mut tree, first) == Ok(FIRST_SAMPLES),
+        drop_tile(&mut tree, first) == Ok(()),
+    ];
+    assert_all(&rt, &moved, "a page far off");
+    let (disk, answer) = with_tile(rt.alloc(), tree.into_disk(), first, &SECOND)?;
+    let mut again = opened(rt.alloc(), disk)?;
+    let all = [
+        answer == Ok(()),
+        samples_at(&mut again, first) == Ok(SECOND_SAMPLES),
+        samples_at(&mut again, second) == Ok(SECOND_SAMPLES),
+    ];
+    assert_all(&rt, &all, "a page far off was given up");
+    Ok(())
+}
+
+#[test]
+fn a_store_with_a_page_far_off_is_upgraded(rt: HostRuntime) -> Result<(), Fail> {
+    let (disk, answer) = upgrade(rt.alloc(), with_far_heights(rt.alloc())?)?;
+    let mut tree = opened(rt.alloc(), disk)?;
+    let all = [
+        answer == Ok(()),
+        samples_at(&mut tree, corner(6)?) == Ok(FIRST_SAMPLES),
+        samples_at(&mut tree, corner(-7)?) == Ok(SECOND_SAMPLES),
+    ];
+    assert_all(&rt, &all, "upgraded with a page far off");
+    Ok(())
+}
+
+#[test]
+fn a_page_far_off_is_reached_once(rt: HostRuntime) -> Result<(), Fail> {
+    // The page of the first tile, and one past the end.
+    for page in [LAST_SECTOR, 200] {
+        let disk = with_far_heights(rt.alloc())?;
+        let disk = with_heights_at(rt.alloc(), disk, corner(-7)?, page)?;
+        let is_damaged = match Tree::open(rt.alloc(), disk) {
+            Ok(_) => false,
+            Err(not_opened) => not_opened.refusal == Refusal::Damaged,
+        };
+        assert_row(&rt, is_damaged, "page", u64::from(page));
+    }
+    Ok(())
+}
