@@ -12,3 +12,11 @@ pub mod Ways
 pub mod Tabulated
 pub mod SpillsExist
 pub mod SummariesExist
+pub mod EntryOrder
+pub mod Left
+pub mod Next
+pub mod Rise
+pub mod Crested
+pub mod Listing
+pub mod Told
+pub mod Others

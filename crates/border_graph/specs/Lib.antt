@@ -6,3 +6,10 @@ pub mod Waiting
 pub mod Rising
 pub mod Linking
 pub mod Sharing
+pub mod Edges
+pub mod Frontier
+pub mod Bottleneck
+pub mod Crests
+pub mod Placed
+pub mod TileGraph
+pub mod Others

@@ -1,18 +1,29 @@
 //! Joins the tiles of a mosaic at their rims.
 //!
 //! The layers above rest on this: from a summary of each tile's labelling, `join` gives the filled level of each ground
-//! point on the rim of a tile; and `links_between` gives the links between the rim points of tiles, for those who follow
-//! them one by one.
+//! point on the rim of a tile. `lowest_pass` gives that of one rim point, from a source of edges (`EdgeSource`) that is
+//! asked node by node: it asks only for tiles with a rim point that the point's water reaches at no more than that level.
+//! `TileGraph` and `edges_to_others` list the edges for such a source.
 #![tactic(auto)]
 
+mod bottleneck;
+mod edge_source;
+mod frontier;
 mod joining;
 mod linking;
 mod rising;
+mod seams;
 mod sharing;
 mod summary;
+mod tile_graph;
+mod visited;
 mod waiting;
 
+pub use bottleneck::lowest_pass;
+pub use edge_source::{Edge, EdgeSource};
 pub use joining::join;
 pub use linking::links_between;
+pub use seams::{edges_to_others, node_at};
 pub use summary::{RimPoint, Summary};
+pub use tile_graph::TileGraph;
 pub use waiting::Link;

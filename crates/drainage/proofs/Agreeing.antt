@@ -2,7 +2,7 @@
 use Rattle.std.proofs.Common.{ℕ, ℤ, sym, subst}
 use Rattle.lattice.specs.Mosaic.{Mosaic, IsMosaic}
 use Rattle.border_graph.specs.Links.{IsJoinedLevel}
-use Rattle.rising.specs.Placed.{IsPlacedLink}
+use Rattle.border_graph.specs.Placed.{IsPlacedLink}
 use Rattle.drainage.specs.Holding.{Known, IsRimLevel, IsRight, Agrees}
 use Rattle.drainage.proofs.RimNodes.{joined_by_filled}
 use Rattle.drainage.proofs.Whole.{summaries, all_fit}

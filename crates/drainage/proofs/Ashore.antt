@@ -22,12 +22,12 @@ use Rattle.border_graph.proofs.Joined.{at_node, ground_at, solid_at, there_at, a
 use Rattle.border_graph.proofs.Listed.{one_tile, one_number}
 use Rattle.border_graph.proofs.Rims.{link_is_full}
 use Rattle.border_graph.proofs.Shared.{rim_of_other, one_point, one_tile_at}
-use Rattle.rising.specs.Answers.{AreWays}
-use Rattle.rising.specs.Placed.{IsPlacedLink}
-use Rattle.rising.specs.Others.{corner_at, AreApart, IsToOther}
-use Rattle.rising.specs.TileWays.{TileWays}
-use Rattle.rising.specs.declared.ways.Way.{Way}
-use Rattle.drainage.specs.Shores.{AreTileWays}
+use Rattle.border_graph.specs.Edges.{AreEdges}
+use Rattle.border_graph.specs.Placed.{IsPlacedLink}
+use Rattle.border_graph.specs.Others.{corner_at, AreApart, IsToOther}
+use Rattle.border_graph.specs.TileGraph.{TileGraph}
+use Rattle.border_graph.specs.declared.edge_source.Edge.{Edge}
+use Rattle.drainage.specs.Shores.{AreTileEdges}
 
 abbrev none : Summary
 none = record { corner = record { lat = pos 0; lon = pos 0 }; rim = []; spills = [] }
@@ -83,7 +83,7 @@ module _ (m : Mosaic) (is : IsMosaic m) (summaries : List Summary) (all : AreSum
   apart t u small_t small_u equal = one_tile_at summaries (are_in_order m is summaries all) t u (summary_at summaries u).corner (subst (λ k. t < k) as_many small_t) (subst (λ k. u < k) as_many small_u)
       (sym (corner_is t) ∙ (equal ∙ corner_is u)) refl
 
-  module _ (t k : ℕ) (small : t < length summaries) (number : k < 4 * (m.side - 1)) (ways : TileWays) (is_told : summary_at summaries t ≡ ways.summary) (new : List Way) (listed : AreTileWays m.side corners ways t k [] new) where
+  module _ (t k : ℕ) (small : t < length summaries) (number : k < 4 * (m.side - 1)) (ways : TileGraph) (is_told : summary_at summaries t ≡ ways.summary) (new : List Edge) (listed : AreTileEdges m.side corners ways t k [] new) where
     c : Corner
     c = (summary_at summaries t).corner
 
@@ -132,7 +132,7 @@ module _ (m : Mosaic) (is : IsMosaic m) (summaries : List Summary) (all : AreSum
           subst (λ q. IsTrue (is_ground m q)) (sym point_is) (subst (λ e. IsTrue (is_ground m (point_of m.side (summary_at summaries t).corner e))) index (ground_at m is summaries all t small a.e a.solid))
 
       -- a way to the same point of another tile
-      to_other : (way : Way) → IsToOther m.side corners t (point_of m.side (corner_at corners t) listed.index) (rim_point ways.summary k).height way → IsPlacedLink m.side summaries (node_number m.side (Rim t k)) way.to way.level
+      to_other : (way : Edge) → IsToOther m.side corners t (point_of m.side (corner_at corners t) listed.index) (rim_point ways.summary k).height way → IsPlacedLink m.side summaries (node_number m.side (Rim t k)) way.to way.level
       to_other way o =
           let u = o.tile in
           let below : u < length summaries = subst (λ v. u < v) as_many o.small in
@@ -171,13 +171,13 @@ module _ (m : Mosaic) (is : IsMosaic m) (summaries : List Summary) (all : AreSum
     not_gap : int_eq (rim_point ways.summary k).height void ≡ false → (rim_point ways.summary k).height ≢ void
     not_gap full same = true≢false (sym ((Decides-int_eq (rim_point ways.summary k).height void).1 same) ∙ full)
 
-    before_others : (way : Way) → Contains listed.second way → Contains new way
+    before_others : (way : Edge) → Contains listed.second way → Contains new way
     before_others way has = elim (cases_Bool (int_eq (rim_point ways.summary k).height void)) [
-      | inl gap ↦ subst (λ (l : List Way). Contains l way) (sym (listed.nothing ((Decides-int_eq (rim_point ways.summary k).height void).0 gap))) has
+      | inl gap ↦ subst (λ (l : List Edge). Contains l way) (sym (listed.nothing ((Decides-int_eq (rim_point ways.summary k).height void).0 gap))) has
       | inr full ↦ (listed.others (not_gap full)).still way has
     ]
 
-    inner_only : (way : Way) → Contains listed.second way → IsPlacedLink m.side summaries (node_number m.side (Rim t k)) way.to way.level
+    inner_only : (way : Edge) → Contains listed.second way → IsPlacedLink m.side summaries (node_number m.side (Rim t k)) way.to way.level
     inner_only way has = elim (listed.across.only way has) [
       | inr by ↦ record {
         tile = t;
@@ -203,9 +203,9 @@ module _ (m : Mosaic) (is : IsMosaic m) (summaries : List Summary) (all : AreSum
         order : (a l : ℕ) → a + (1 + l) ≡ 1 + a + l
         order a l = omega arith
 
-    each : (way : Way) → Contains new way → IsPlacedLink m.side summaries (node_number m.side (Rim t k)) way.to way.level
+    each : (way : Edge) → Contains new way → IsPlacedLink m.side summaries (node_number m.side (Rim t k)) way.to way.level
     each way has = elim (cases_Bool (int_eq (rim_point ways.summary k).height void)) [
-      | inl gap ↦ inner_only way (subst (λ (l : List Way). Contains l way) (listed.nothing ((Decides-int_eq (rim_point ways.summary k).height void).0 gap)) has)
+      | inl gap ↦ inner_only way (subst (λ (l : List Edge). Contains l way) (listed.nothing ((Decides-int_eq (rim_point ways.summary k).height void).0 gap)) has)
       | inr full ↦ elim ((listed.others (not_gap full)).only way has) [
         | inl inner ↦ inner_only way inner
         | inr other ↦ to_other (not_gap full) way other
@@ -252,5 +252,5 @@ module _ (m : Mosaic) (is : IsMosaic m) (summaries : List Summary) (all : AreSum
         start u l Outlet link = link.0
         start u l (Rim v j) link = link.0
 
-    pub are_ways : AreWays (IsPlacedLink m.side summaries) (node_number m.side (Rim t k)) new
+    pub are_ways : AreEdges (IsPlacedLink m.side summaries) (node_number m.side (Rim t k)) new
     are_ways = record { each = each; all = all_listed }

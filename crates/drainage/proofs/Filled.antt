@@ -16,7 +16,7 @@ use Rattle.tile_flood.specs.Blocks.{LabelledGround}
 use Rattle.tile_flood.specs.Labelling.{OUT, NO_LABEL}
 use Rattle.border_graph.specs.Joining.{Rim}
 use Rattle.border_graph.specs.Linking.{node_number}
-use Rattle.rising.specs.Others.{corner_at}
+use Rattle.border_graph.specs.Others.{corner_at}
 use Rattle.derived.specs.Labellings.{IsFlooded}
 use Rattle.drainage.specs.Holding.{Known, IsRimLevel, IsGroundNode, IsRight}
 use Rattle.drainage.proofs.Agreeing.{joined_at}

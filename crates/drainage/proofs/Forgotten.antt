@@ -7,7 +7,7 @@ use Rattle.lattice.specs.Corners.{Corner}
 use Rattle.lattice.specs.declared.point.Point.{Point}
 use Rattle.lattice.specs.Mosaic.{Mosaic}
 use Rattle.derived.specs.Labellings.{IsFlooded}
-use Rattle.rising.specs.Others.{corner_at}
+use Rattle.border_graph.specs.Others.{corner_at}
 use Rattle.drainage.specs.Forgetting.{IsLeftOf}
 use Rattle.drainage.specs.Holding.{Known, IsRight}
 use Rattle.drainage.specs.Reaching.{is_reached, reaches, DifferBetween}

@@ -9,7 +9,7 @@ use Rattle.border_graph.specs.Links.{IsWayBelow, IsJoinedLevel}
 use Rattle.border_graph.specs.Joining.{Rim}
 use Rattle.border_graph.specs.Linking.{node_number}
 use Rattle.border_graph.specs.Summaries.{Summary}
-use Rattle.rising.specs.Placed.{IsPlacedLink}
+use Rattle.border_graph.specs.Placed.{IsPlacedLink}
 use Rattle.drainage.specs.Holding.{Known, IsRimLevel, IsGroundNode, IsRight, IsGrown, Agrees, level_of}
 use Rattle.drainage.proofs.Agreeing.{all_agree}
 use Rattle.drainage.proofs.RimNodes.{filled_by_joined, rim_level_of, way_out}

@@ -4,7 +4,7 @@ use Rattle.std.specs.Prelude.{Option, Some}
 use Rattle.lattice.specs.Corners.{Corner}
 use Rattle.catalogue.specs.declared.samples.Samples.{Ghosts}
 use Rattle.derived.specs.Labellings.{IsFlooded}
-use Rattle.rising.specs.Others.{corner_at}
+use Rattle.border_graph.specs.Others.{corner_at}
 use Rattle.tile_flood.specs.Blocks.{LabelledGround}
 use Rattle.drainage.specs.Shores.{AreKept}
 use Rattle.drainage.specs.Holding.{Known, IsRimLevel, IsRight, IsGrown, Agrees, entered_at, level_of}

@@ -7,11 +7,11 @@ use Rattle.tile_flood.proofs.Squares.{cell_of, row_of_cell}
 use Rattle.border_graph.specs.Summaries.{Summary}
 use Rattle.border_graph.specs.Joining.{Node, Outlet, Rim, IsThere, IsLink}
 use Rattle.border_graph.specs.Linking.{node_number}
-use Rattle.rising.specs.Answers.{AreWays}
-use Rattle.rising.specs.Placed.{IsPlacedLink, IsOfTile}
-use Rattle.rising.specs.TileWays.{TileWays}
-use Rattle.rising.specs.declared.ways.Way.{Way}
-use Rattle.drainage.specs.Shores.{told_at, Fits, AreTileWays}
+use Rattle.border_graph.specs.Edges.{AreEdges}
+use Rattle.border_graph.specs.Placed.{IsPlacedLink, IsOfTile}
+use Rattle.border_graph.specs.TileGraph.{TileGraph}
+use Rattle.border_graph.specs.declared.edge_source.Edge.{Edge}
+use Rattle.drainage.specs.Shores.{told_at, Fits, AreTileEdges}
 use Rattle.drainage.proofs.Ashore.{as_many, are_ways}
 
 node_is : (node size : ℕ) → 0 < node → 1 + ((node - 1) / size) * size + (node - 1) % size ≡ node
@@ -23,7 +23,7 @@ node_is node size some = let cell : node - 1 ≡ ((node - 1) / size) * size + (n
 rim_some : (n : ℕ) → 3 ≤ n → 0 < 4 * (n - 1)
 rim_some n low = omega arith
 
-module _ (side : ℕ) (corners : List Corner) (told : List (Option TileWays)) (n : ℕ) (summaries : List Summary) (fits : Fits side corners told n summaries) (node r r' : ℕ) (some : 0 < node) (low : 3 ≤ side) (is_r : r ≡ 4 * (side - 1)) (is_r' : r' ≡ 4 * (side - 1)) where
+module _ (side : ℕ) (corners : List Corner) (told : List (Option TileGraph)) (n : ℕ) (summaries : List Summary) (fits : Fits side corners told n summaries) (node r r' : ℕ) (some : 0 < node) (low : 3 ≤ side) (is_r : r ≡ 4 * (side - 1)) (is_r' : r' ≡ 4 * (side - 1)) where
   there_is : (t k : ℕ) (to : Node) (level : ℤ) → IsLink n summaries (Rim t k) to level → IsThere n summaries t k
   there_is t k Outlet level link = link.0
   there_is t k (Rim u l) level link = link.0
@@ -32,9 +32,9 @@ module _ (side : ℕ) (corners : List Corner) (told : List (Option TileWays)) (n
   many = as_many fits.mosaic fits.is summaries fits.all corners fits.same_corners
 
   -- there is no such tile
-  pub no_ways : length corners ≤ (node - 1) / r → (into : List Way) → into ≡ [] → AreWays (IsPlacedLink n summaries) node into
+  pub no_ways : length corners ≤ (node - 1) / r → (into : List Edge) → into ≡ [] → AreEdges (IsPlacedLink n summaries) node into
   no_ways past into empty = record {
-    each = λ way has. let h = (subst (λ (l : List Way). Contains l way) empty has).1 in absurd (omega arith);
+    each = λ way has. let h = (subst (λ (l : List Edge). Contains l way) empty has).1 in absurd (omega arith);
     all = λ y level link. absurd (none link.tile link.number link.starts (there_is link.tile link.number link.to level link.link));
   }
     where
@@ -52,7 +52,7 @@ module _ (side : ℕ) (corners : List Corner) (told : List (Option TileWays)) (n
           before a k node h = omega arith
 
   -- the tile is told
-  pub told_ways : (ways : TileWays) → told_at told ((node - 1) / r) ≡ Some ways → (node - 1) / r < length corners → (old new : List Way) → old ≡ [] → AreTileWays side corners ways ((node - 1) / r) ((node - 1) % r') old new → AreWays (IsPlacedLink n summaries) node new
+  pub told_ways : (ways : TileGraph) → told_at told ((node - 1) / r) ≡ Some ways → (node - 1) / r < length corners → (old new : List Edge) → old ≡ [] → AreTileEdges side corners ways ((node - 1) / r) ((node - 1) % r') old new → AreEdges (IsPlacedLink n summaries) node new
   told_ways ways is small old new empty listed =
       let m = fits.mosaic in
       let t = (node - 1) / r in
@@ -60,12 +60,12 @@ module _ (side : ℕ) (corners : List Corner) (told : List (Option TileWays)) (n
       let tells = fits.tells t ways is in
       let equal : side ≡ m.side = sym fits.same_side ∙ fits.whole in
       let number : (node - 1) % r' < 4 * (m.side - 1) = subst (λ s. (node - 1) % r' < 4 * (s - 1)) equal (subst (λ s. (node - 1) % r' < s) is_r' (mod-lt (node - 1) (subst (λ s. 0 < s) (sym is_r') (rim_some side low)))) in
-      let here : AreTileWays m.side corners ways ((node - 1) / r) ((node - 1) % r') [] new = subst (λ s. AreTileWays s corners ways ((node - 1) / r) ((node - 1) % r') [] new) equal (subst (λ (l : List Way). AreTileWays side corners ways ((node - 1) / r) ((node - 1) % r') l new) empty listed) in
-      let found : AreWays (IsPlacedLink m.side summaries) (node_number m.side (Rim t k)) new = are_ways m fits.is summaries fits.all corners fits.same_corners t k (subst (λ v. t < v) many small) number ways tells.1 new here in
+      let here : AreTileEdges m.side corners ways ((node - 1) / r) ((node - 1) % r') [] new = subst (λ s. AreTileEdges s corners ways ((node - 1) / r) ((node - 1) % r') [] new) equal (subst (λ (l : List Edge). AreTileEdges side corners ways ((node - 1) / r) ((node - 1) % r') l new) empty listed) in
+      let found : AreEdges (IsPlacedLink m.side summaries) (node_number m.side (Rim t k)) new = are_ways m fits.is summaries fits.all corners fits.same_corners t k (subst (λ v. t < v) many small) number ways tells.1 new here in
       let size : 4 * (m.side - 1) ≡ 4 * (side - 1) = ap (λ s. 4 * (s - 1)) (sym equal) in
       let at : 1 + ((node - 1) / r) * (4 * (m.side - 1)) + (node - 1) % r' ≡ node =
       ap (λ s. 1 + ((node - 1) / r) * s + (node - 1) % r') size ∙ (ap₂ (λ a b. 1 + ((node - 1) / a) * (4 * (side - 1)) + (node - 1) % b) is_r is_r' ∙ node_is node (4 * (side - 1)) some) in
-      subst (λ x. AreWays (IsPlacedLink n summaries) x new) at (subst (λ s. AreWays (IsPlacedLink s summaries) (node_number m.side (Rim t k)) new) (sym fits.whole) found)
+      subst (λ x. AreEdges (IsPlacedLink n summaries) x new) at (subst (λ s. AreEdges (IsPlacedLink s summaries) (node_number m.side (Rim t k)) new) (sym fits.whole) found)
 
   -- the node is one of that tile
   of_tile : node ≡ node_number n (Rim ((node - 1) / r) ((node - 1) % r'))
@@ -74,8 +74,8 @@ module _ (side : ℕ) (corners : List Corner) (told : List (Option TileWays)) (n
       sym (ap (λ s. 1 + ((node - 1) / r) * s + (node - 1) % r') size ∙ (ap₂ (λ a b. 1 + ((node - 1) / a) * (4 * (side - 1)) + (node - 1) % b) is_r is_r' ∙ node_is node (4 * (side - 1)) some))
 
   -- no other tile is told than that
-  pub told_of : (before : List (Option TileWays)) → ((u : ℕ) (ways : TileWays) → u ≢ (node - 1) / r → told_at told u ≡ Some ways → told_at before u ≡ Some ways)
-      → (u : ℕ) → ((ways : TileWays) × (told_at told u ≡ Some ways)) → ((ways : TileWays) × (told_at before u ≡ Some ways)) ⊎ IsOfTile n u node
+  pub told_of : (before : List (Option TileGraph)) → ((u : ℕ) (ways : TileGraph) → u ≢ (node - 1) / r → told_at told u ≡ Some ways → told_at before u ≡ Some ways)
+      → (u : ℕ) → ((ways : TileGraph) × (told_at told u ≡ Some ways)) → ((ways : TileGraph) × (told_at before u ≡ Some ways)) ⊎ IsOfTile n u node
   told_of before only u (ways, is) = elim (cases_eq u ((node - 1) / r)) [
     | inl here ↦ inr ((node - 1) % r', of_tile ∙ ap (λ v. node_number n (Rim v ((node - 1) % r'))) (sym here))
     | inr other ↦ inl (ways, only u ways other is)

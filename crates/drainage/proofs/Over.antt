@@ -21,9 +21,9 @@ use Rattle.tile_flood.proofs.Squares.{solid_below}
 use Rattle.border_graph.specs.Links.{IsJoinedLevel}
 use Rattle.border_graph.specs.Joining.{Rim}
 use Rattle.border_graph.specs.Linking.{node_number}
-use Rattle.rising.specs.Placed.{IsPlacedLink}
-use Rattle.rising.specs.Others.{corner_at}
-use Rattle.rising.specs.TileWays.{TileWays}
+use Rattle.border_graph.specs.Placed.{IsPlacedLink}
+use Rattle.border_graph.specs.Others.{corner_at}
+use Rattle.border_graph.specs.TileGraph.{TileGraph}
 use Rattle.derived.specs.Labellings.{IsFlooded}
 use Rattle.drainage.specs.Shores.{AreReady}
 use Rattle.drainage.specs.Holding.{IsGroundNode}
@@ -112,7 +112,7 @@ module _ (m : Mosaic) (is : IsMosaic m) (c : Corner) (present : IsTrue (is_prese
   level_over n v fill = level_of_part (block_terrain (block_of m.side heights sinks)) (terrain m) (λ i. point_of m.side c i) (is_rim m.side) (block_is_part m is c present heights sinks of) (block_is_lawful (block_of m.side heights sinks)) (terrain_is_lawful m)
       e (slice_index_or levels e void) v n.rest solid (labelling.level e solid) n.path n.at_level (subst (λ q. IsFilledLevel (terrain m) (point_of m.side c q) v) (sym n.ends) fill)
 
-module _ (m : Mosaic) (is : IsMosaic m) (side : ℕ) (corners : List Corner) (told : List (Option TileWays)) (ready : AreReady m side corners told) (t : ℕ) (small : t < length corners)
+module _ (m : Mosaic) (is : IsMosaic m) (side : ℕ) (corners : List Corner) (told : List (Option TileGraph)) (ready : AreReady m side corners told) (t : ℕ) (small : t < length corners)
     (labelled : LabelledGround) (flooded : IsFlooded m (corner_at corners t) labelled) (e : ℕ) (inside : e < m.side * m.side) where
   of : IsBlockOf m (corner_at corners t) (block_of m.side flooded.valid.0.heights flooded.valid.0.sinks)
   of = subst (λ n. IsBlockOf m (corner_at corners t) (record { side = n; heights = flooded.valid.0.heights; sinks = flooded.valid.0.sinks })) flooded.valid.1.0.side flooded.valid.1.0

@@ -5,7 +5,7 @@ use Rattle.border_graph.specs.Links.{IsWayBelow, IsJoinedLevel}
 use Rattle.border_graph.specs.Joining.{Node, Outlet, Rim, IsThere, IsLink}
 use Rattle.border_graph.specs.Linking.{node_number}
 use Rattle.border_graph.proofs.Listed.{one_tile, one_number}
-use Rattle.rising.specs.Placed.{IsPlacedLink}
+use Rattle.border_graph.specs.Placed.{IsPlacedLink}
 
 module _ (n : ℕ) (summaries : List Summary) where
   placed : (x y : Node) (level : ℤ) → IsLink n summaries x y level → IsPlacedLink n summaries (node_number n x) (node_number n y) level

@@ -12,15 +12,15 @@ use Rattle.border_graph.specs.Links.{IsWayBelow, IsJoinedLevel}
 use Rattle.border_graph.specs.Joining.{Node, Outlet, Rim, summary_at, IsLink, IsThere, IsRimNumberOf}
 use Rattle.border_graph.specs.Linking.{node_number}
 use Rattle.border_graph.proofs.Joined.{there_at, at_node, ground_at, solid_at, joined_is_filled, filled_is_joined, is_joined}
-use Rattle.rising.specs.Others.{corner_at}
-use Rattle.rising.specs.Placed.{IsPlacedLink}
-use Rattle.rising.specs.TileWays.{TileWays}
+use Rattle.border_graph.specs.Others.{corner_at}
+use Rattle.border_graph.specs.Placed.{IsPlacedLink}
+use Rattle.border_graph.specs.TileGraph.{TileGraph}
 use Rattle.drainage.specs.Holding.{IsRimLevel}
 use Rattle.drainage.specs.Shores.{AreReady}
 use Rattle.drainage.proofs.Placed.{joined_over_links, placed_over_links, to_placed}
 use Rattle.drainage.proofs.Whole.{summaries, are_summaries, as_many, corner_of_summary}
 
-module _ (m : Mosaic) (is : IsMosaic m) (side : ℕ) (corners : List Corner) (told : List (Option TileWays)) (ready : AreReady m side corners told)
+module _ (m : Mosaic) (is : IsMosaic m) (side : ℕ) (corners : List Corner) (told : List (Option TileGraph)) (ready : AreReady m side corners told)
     (t k e : ℕ) (place : t < length corners) (rim : IsRimPoint m.side k e) (on_ground : IsTrue (is_ground m (point_of m.side (corner_at corners t) e))) where
   small : t < length (summaries m is side corners told ready)
   small = subst (λ n. t < n) (sym (as_many m is side corners told ready)) place
@@ -66,7 +66,7 @@ module _ (m : Mosaic) (is : IsMosaic m) (side : ℕ) (corners : List Corner) (to
       within a size whole l le less past room = absurd (omega arith)
 
 -- a node from which a way leads out is that of a ground rim point
-module _ (m : Mosaic) (is : IsMosaic m) (side : ℕ) (corners : List Corner) (told : List (Option TileWays)) (ready : AreReady m side corners told) where
+module _ (m : Mosaic) (is : IsMosaic m) (side : ℕ) (corners : List Corner) (told : List (Option TileGraph)) (ready : AreReady m side corners told) where
   there_of : (u l : ℕ) (to : Node) (level : ℤ) → IsLink m.side (summaries m is side corners told ready) (Rim u l) to level → IsThere m.side (summaries m is side corners told ready) u l
   there_of u l Outlet level link = link.0
   there_of u l (Rim v j) level link = link.0

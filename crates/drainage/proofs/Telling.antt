@@ -10,11 +10,11 @@ use Rattle.lattice.specs.Mosaic.{Mosaic, void}
 use Rattle.catalogue.specs.declared.samples.Samples.{Ghosts}
 use Rattle.border_graph.specs.Summaries.{Summary}
 use Rattle.border_graph.specs.Joining.{IsSummaryOf}
-use Rattle.rising.specs.Others.{corner_at}
-use Rattle.rising.specs.TileWays.{TileWays}
+use Rattle.border_graph.specs.Others.{corner_at}
+use Rattle.border_graph.specs.TileGraph.{TileGraph}
 use Rattle.drainage.specs.Shores.{told_at, Fits, AreTold, AreKept}
 
-pub fits_before : {S : Type 0} (g : Ghosts S) (a b : S) (side : ℕ) (corners : List Corner) (told : List (Option TileWays)) (side' : ℕ) (corners' : List Corner) (told' : List (Option TileWays)) (n : ℕ) (summaries : List Summary)
+pub fits_before : {S : Type 0} (g : Ghosts S) (a b : S) (side : ℕ) (corners : List Corner) (told : List (Option TileGraph)) (side' : ℕ) (corners' : List Corner) (told' : List (Option TileGraph)) (n : ℕ) (summaries : List Summary)
     → AreKept g a b side corners told side' corners' told' → Fits side' corners' told' n summaries → Fits side corners told n summaries
 fits_before g a b side corners told side' corners' told' n summaries kept fits = record {
   mosaic = fits.mosaic;
@@ -29,27 +29,27 @@ fits_before g a b side corners told side' corners' told' n summaries kept fits =
 }
 
 -- a place that is told
-pub some_there : (told : List (Option TileWays)) (t : ℕ) (o : Option TileWays) → t < length told → o ≡ get_or told t o → is_some o ≡ true → (ways : TileWays) × (told_at told t ≡ Some ways)
+pub some_there : (told : List (Option TileGraph)) (t : ℕ) (o : Option TileGraph) → t < length told → o ≡ get_or told t o → is_some o ≡ true → (ways : TileGraph) × (told_at told t ≡ Some ways)
 some_there told t o small is some = by o some (get_or_default told t None o small ∙ sym is)
   where
-    by : (p : Option TileWays) → is_some p ≡ true → get_or told t None ≡ p → (ways : TileWays) × (told_at told t ≡ Some ways)
+    by : (p : Option TileGraph) → is_some p ≡ true → get_or told t None ≡ p → (ways : TileGraph) × (told_at told t ≡ Some ways)
     by None some is = absurd (true≢false (sym some))
     by (Some ways) some is = (ways, is)
 
-pub none_there : (told : List (Option TileWays)) (t : ℕ) (o : Option TileWays) → t < length told → o ≡ get_or told t o → is_some o ≡ false → told_at told t ≡ None
+pub none_there : (told : List (Option TileGraph)) (t : ℕ) (o : Option TileGraph) → t < length told → o ≡ get_or told t o → is_some o ≡ false → told_at told t ≡ None
 none_there told t o small is off = get_or_default told t None o small ∙ (sym is ∙ by o off)
   where
-    by : (p : Option TileWays) → is_some p ≡ false → p ≡ None
+    by : (p : Option TileGraph) → is_some p ≡ false → p ≡ None
     by None off = refl
     by (Some ways) off = absurd (true≢false off)
 
-pub some_is : (a b : TileWays) → ◌≡◌ {A = Option TileWays} (Some a) (Some b) → a ≡ b
+pub some_is : (a b : TileGraph) → ◌≡◌ {A = Option TileGraph} (Some a) (Some b) → a ≡ b
 some_is a b e = cc
 
-pub not_both : (a : TileWays) → ◌≡◌ {A = Option TileWays} None (Some a) → ⊥
+pub not_both : (a : TileGraph) → ◌≡◌ {A = Option TileGraph} None (Some a) → ⊥
 not_both a e = cc
 
-pub none_told : (m : Mosaic) (side : ℕ) (corners : List Corner) (told : List (Option TileWays)) → length told ≡ length corners → ((t : ℕ) → told_at told t ≡ None) → AreTold m side corners told
+pub none_told : (m : Mosaic) (side : ℕ) (corners : List Corner) (told : List (Option TileGraph)) → length told ≡ length corners → ((t : ℕ) → told_at told t ≡ None) → AreTold m side corners told
 none_told m side corners told whole none = record {
   whole = whole;
   sides = λ t ways is. absurd (not_both ways (sym (none t) ∙ is));
@@ -58,29 +58,29 @@ none_told m side corners told whole none = record {
 }
 
 -- one tile more
-module _ (side : ℕ) (corners : List Corner) (told : List (Option TileWays)) (t : ℕ) (c : Corner) (ways : TileWays) (inside : t < length told) (was : told_at told t ≡ None) where
-  other_still : (u : ℕ) (w : TileWays) → told_at told u ≡ Some w → u ≢ t
+module _ (side : ℕ) (corners : List Corner) (told : List (Option TileGraph)) (t : ℕ) (c : Corner) (ways : TileGraph) (inside : t < length told) (was : told_at told t ≡ None) where
+  other_still : (u : ℕ) (w : TileGraph) → told_at told u ≡ Some w → u ≢ t
   other_still u w is equal = not_both w (sym was ∙ (ap (told_at told) (sym equal) ∙ is))
 
-  this : (u : ℕ) (w : TileWays) → u ≡ t → told_at (slice_set told t (Some ways)) u ≡ Some w → ways ≡ w
+  this : (u : ℕ) (w : TileGraph) → u ≡ t → told_at (slice_set told t (Some ways)) u ≡ Some w → ways ≡ w
   this u w here is = some_is ways w (sym (get_or-set_same told t (Some ways) None inside) ∙ (ap (told_at (slice_set told t (Some ways))) (sym here) ∙ is))
 
-  pub still_told : (u : ℕ) (w : TileWays) → told_at told u ≡ Some w → told_at (slice_set told t (Some ways)) u ≡ Some w
+  pub still_told : (u : ℕ) (w : TileGraph) → told_at told u ≡ Some w → told_at (slice_set told t (Some ways)) u ≡ Some w
   still_told u w is = get_or-set_other told t u (Some ways) None (other_still u w is) ∙ is
 
   pub told_more : (m : Mosaic) → corner_at corners t ≡ c → ways.side ≡ side → ways.summary.corner ≡ c → IsSummaryOf m ways.summary → AreTold m side corners told → AreTold m side corners (slice_set told t (Some ways))
   told_more m place same corner summary r = record {
     whole = length-set told t (Some ways) ∙ r.whole;
     sides = λ u w is. elim (cases_eq u t) [
-      | inl here ↦ ap (λ (x : TileWays). x.side) (sym (this u w here is)) ∙ same
+      | inl here ↦ ap (λ (x : TileGraph). x.side) (sym (this u w here is)) ∙ same
       | inr other ↦ r.sides u w (sym (get_or-set_other told t u (Some ways) None other) ∙ is)
     ];
     places = λ u w is. elim (cases_eq u t) [
-      | inl here ↦ ap (λ (x : TileWays). x.summary.corner) (sym (this u w here is)) ∙ (corner ∙ (sym place ∙ ap (corner_at corners) (sym here)))
+      | inl here ↦ ap (λ (x : TileGraph). x.summary.corner) (sym (this u w here is)) ∙ (corner ∙ (sym place ∙ ap (corner_at corners) (sym here)))
       | inr other ↦ r.places u w (sym (get_or-set_other told t u (Some ways) None other) ∙ is)
     ];
     summaries = λ u w is. elim (cases_eq u t) [
-      | inl here ↦ subst (λ (x : TileWays). IsSummaryOf m x.summary) (this u w here is) summary
+      | inl here ↦ subst (λ (x : TileGraph). IsSummaryOf m x.summary) (this u w here is) summary
       | inr other ↦ r.summaries u w (sym (get_or-set_other told t u (Some ways) None other) ∙ is)
     ];
   }
@@ -99,5 +99,5 @@ pub is_gap : (h : ℤ) → SFits w16 h → of_z w16 h ≡ 32768 → h ≡ void
 is_gap h fits is = sym (to_z-of_z w16 h fits) ∙ ap (to_z w16) is
 
 -- no other place is told
-pub only_told : (told : List (Option TileWays)) (t : ℕ) (ways : TileWays) (u : ℕ) (w : TileWays) → u ≢ t → told_at (slice_set told t (Some ways)) u ≡ Some w → told_at told u ≡ Some w
+pub only_told : (told : List (Option TileGraph)) (t : ℕ) (ways : TileGraph) (u : ℕ) (w : TileGraph) → u ≢ t → told_at (slice_set told t (Some ways)) u ≡ Some w → told_at told u ≡ Some w
 only_told told t ways u w other is = sym (get_or-set_other told t u (Some ways) None other) ∙ is

@@ -8,7 +8,7 @@ use Rattle.border_graph.specs.Summaries.{Summary}
 use Rattle.border_graph.specs.Joining.{Node, Outlet, Rim, summary_at, rim_point, AreSummaries, IsLink, IsInnerLink, IsRimNumberOf}
 use Rattle.border_graph.specs.Linking.{node_number}
 use Rattle.border_graph.proofs.Joined.{of}
-use Rattle.rising.specs.Placed.{IsPlacedLink}
+use Rattle.border_graph.specs.Placed.{IsPlacedLink}
 
 inner_turned : (n : ℕ) (summaries : List Summary) (t k l : ℕ) (level : ℤ) → IsInnerLink n summaries t k l level → IsInnerLink n summaries t l k level
 inner_turned n summaries t k l level (inl label) = inr (inl label)

@@ -11,8 +11,8 @@ use Rattle.border_graph.specs.Summaries.{Summary}
 use Rattle.border_graph.specs.Joining.{Rim, summary_at, IsSummaryOf, AreSummaries}
 use Rattle.border_graph.proofs.Tabulated.{tabulated, length-tabulated, at_number}
 use Rattle.border_graph.proofs.SummariesExist.{summary_exists}
-use Rattle.rising.specs.Others.{corner_at}
-use Rattle.rising.specs.TileWays.{TileWays}
+use Rattle.border_graph.specs.Others.{corner_at}
+use Rattle.border_graph.specs.TileGraph.{TileGraph}
 use Rattle.drainage.specs.Shores.{told_at, Fits, AreReady}
 use Rattle.drainage.proofs.Lowest.{low_link}
 use Rattle.drainage.proofs.Turned.{placed_turned}
@@ -27,7 +27,7 @@ same_list d (x ∷ xs) (y ∷ ys) whole each = ap₂ (λ a b. a ∷ b) (each 0 (
 abbrev no_tile : Summary
 no_tile = record { corner = record { lat = pos 0; lon = pos 0 }; rim = []; spills = [] }
 
-module _ (m : Mosaic) (is : IsMosaic m) (side : ℕ) (corners : List Corner) (told : List (Option TileWays)) (ready : AreReady m side corners told) where
+module _ (m : Mosaic) (is : IsMosaic m) (side : ℕ) (corners : List Corner) (told : List (Option TileGraph)) (ready : AreReady m side corners told) where
   corners_are : corners ≡ corners_of m
   corners_are = ready.all
 
@@ -41,15 +41,15 @@ module _ (m : Mosaic) (is : IsMosaic m) (side : ℕ) (corners : List Corner) (to
   record IsPicked (t : ℕ) (b : Summary) : Type 0 where
     of : IsSummaryOf m b
     place : b.corner ≡ corner_at corners t
-    tells : (ways : TileWays) → told_at told t ≡ Some ways → b ≡ ways.summary
+    tells : (ways : TileGraph) → told_at told t ≡ Some ways → b ≡ ways.summary
 
-  picked_by : (t : ℕ) → t < length corners → (o : Option TileWays) → told_at told t ≡ o → (b : Summary) × IsPicked t b
+  picked_by : (t : ℕ) → t < length corners → (o : Option TileGraph) → told_at told t ≡ o → (b : Summary) × IsPicked t b
   picked_by t small (Some ways) at = (
     ways.summary,
     record {
       of = ready.tiles.summaries t ways at;
       place = ready.tiles.places t ways at;
-      tells = λ w also. ap (λ (x : TileWays). x.summary) (some_is ways w (sym at ∙ also));
+      tells = λ w also. ap (λ (x : TileGraph). x.summary) (some_is ways w (sym at ∙ also));
     },
   )
   picked_by t small None at =
@@ -93,7 +93,7 @@ module _ (m : Mosaic) (is : IsMosaic m) (side : ℕ) (corners : List Corner) (to
         subst (IsSummaryOf m) (sym (at_place t d below)) (pick_is t below).of;
   }
 
-  told_below : (t : ℕ) (ways : TileWays) → told_at told t ≡ Some ways → t < length corners
+  told_below : (t : ℕ) (ways : TileGraph) → told_at told t ≡ Some ways → t < length corners
   told_below t ways at = elim (cases_lt t (length told)) [
     | inl small ↦ subst (λ k. t < k) ready.tiles.whole small
     | inr past ↦ absurd (not_both ways (sym (get_or_past told t None past) ∙ at))

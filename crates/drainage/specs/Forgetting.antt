@@ -1,6 +1,6 @@
 -- What is left of what was known of a mosaic's water (this product's own profile).
 use Rattle.std.specs.Prelude.{◌≡◌, ◌↔◌, ℕ, Bool, false, Some, None, length}
-use Rattle.rising.specs.TileWays.{TileWays}
+use Rattle.border_graph.specs.TileGraph.{TileGraph}
 use Rattle.tile_flood.specs.Blocks.{LabelledGround}
 use Rattle.drainage.specs.Holding.{Known, entered_at, level_of}
 use Rattle.drainage.specs.Shores.{told_at}
@@ -10,6 +10,6 @@ pub record IsLeftOf (gone : ℕ → Bool) (known known' : Known) : Type 0 where
   pub same_side : known'.side ≡ known.side
   pub same_corners : known'.corners ≡ known.corners
   pub whole : length known'.told ≡ length known.told
-  pub told : (t : ℕ) (ways : TileWays) → told_at known'.told t ≡ Some ways ↔ ((told_at known.told t ≡ Some ways) × (gone t ≡ false))
+  pub told : (t : ℕ) (ways : TileGraph) → told_at known'.told t ≡ Some ways ↔ ((told_at known.told t ≡ Some ways) × (gone t ≡ false))
   pub entered : (t : ℕ) (labelled : LabelledGround) → entered_at known'.entered t ≡ Some labelled ↔ ((entered_at known.entered t ≡ Some labelled) × (gone t ≡ false))
   pub levels : (x : ℕ) → level_of known'.levels x ≡ None

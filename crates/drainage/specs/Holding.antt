@@ -16,9 +16,9 @@ use Rattle.border_graph.specs.Linking.{node_number}
 use Rattle.border_graph.specs.Summaries.{Summary}
 use Rattle.derived.specs.Labellings.{IsFlooded}
 use Rattle.lattice.specs.Corners.{Corner}
-use Rattle.rising.specs.Others.{corner_at}
-use Rattle.rising.specs.Placed.{IsPlacedLink}
-use Rattle.rising.specs.TileWays.{TileWays}
+use Rattle.border_graph.specs.Others.{corner_at}
+use Rattle.border_graph.specs.Placed.{IsPlacedLink}
+use Rattle.border_graph.specs.TileGraph.{TileGraph}
 use Rattle.tile_flood.specs.Blocks.{LabelledGround}
 use Rattle.drainage.specs.Shores.{Fits, AreReady, AreKept}
 
@@ -27,7 +27,7 @@ use Rattle.drainage.specs.Shores.{Fits, AreReady, AreKept}
 pub record Known : Type 0 where
   pub side : ℕ
   pub corners : List Corner
-  pub told : List (Option TileWays)
+  pub told : List (Option TileGraph)
   pub entered : List (Option LabelledGround)
   pub levels : List (Option ℤ)
 

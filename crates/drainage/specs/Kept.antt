@@ -8,22 +8,22 @@ use Rattle.lattice.specs.declared.refusal.Refusal.TheVariants.{NoMemory}
 use Rattle.catalogue.specs.declared.samples.Samples.{Ghosts}
 use Rattle.catalogue.proofs.Reading.{reads_nothing, reads_on}
 use Rattle.catalogue.proofs.Asking.{asked, asked_on}
-use Rattle.rising.specs.TileWays.{TileWays}
+use Rattle.border_graph.specs.TileGraph.{TileGraph}
 use Rattle.drainage.specs.Shores.{AreTold, AreReady, AreKept}
 use Rattle.drainage.specs.Holding.{Known, IsRight, IsGrown, IsCarried, IsRefused}
 
 module _ {S : Type 0} (g : Ghosts S) where
-  pub kept_itself : (a : S) (side : ℕ) (corners : List Corner) (told : List (Option TileWays)) → AreKept g a a side corners told side corners told
+  pub kept_itself : (a : S) (side : ℕ) (corners : List Corner) (told : List (Option TileGraph)) → AreKept g a a side corners told side corners told
   kept_itself a side corners told = record { honest = λ h. h; mosaic = λ _. refl; same_side = refl; same_corners = refl; still = λ t ways is. is; right = λ _ r. r }
 
-  module _ (a b : S) (side : ℕ) (corners : List Corner) (told : List (Option TileWays)) (side' : ℕ) (corners' : List Corner) (told' : List (Option TileWays)) (kept : AreKept g a b side corners told side' corners' told') where
+  module _ (a b : S) (side : ℕ) (corners : List Corner) (told : List (Option TileGraph)) (side' : ℕ) (corners' : List Corner) (told' : List (Option TileGraph)) (kept : AreKept g a b side corners told side' corners' told') where
     -- what was ready is, of the same mosaic
     pub ready_later : g.is_honest b → AreReady (g.mosaic a) side corners told → AreReady (g.mosaic a) side' corners' told'
     ready_later honest ready =
         subst (λ s. AreReady (g.mosaic a) s corners' told') (sym kept.same_side) (subst (λ (cs : List Corner). AreReady (g.mosaic a) side cs told') (sym kept.same_corners)
         (record { same_side = ready.same_side; all = ready.all; room = ready.room; tiles = kept.right honest ready.tiles }))
 
-    module _ (c : S) (side'' : ℕ) (corners'' : List Corner) (told'' : List (Option TileWays)) (then_ : AreKept g b c side' corners' told' side'' corners'' told'') where
+    module _ (c : S) (side'' : ℕ) (corners'' : List Corner) (told'' : List (Option TileGraph)) (then_ : AreKept g b c side' corners' told' side'' corners'' told'') where
       pub kept_on : AreKept g a c side corners told side'' corners'' told''
       kept_on = record {
         honest = λ honest. kept.honest (then_.honest honest);

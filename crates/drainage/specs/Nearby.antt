@@ -4,7 +4,7 @@ use Rattle.lattice.specs.declared.point.Point.{Point}
 use Rattle.lattice.specs.Lattice.{Holds}
 use Rattle.lattice.specs.Mosaic.{Mosaic, IsMosaic}
 use Rattle.downstream.specs.Levels.{IsLevelAt}
-use Rattle.rising.specs.Others.{corner_at}
+use Rattle.border_graph.specs.Others.{corner_at}
 use Rattle.drainage.specs.Holding.{Known, IsRight}
 
 -- the tile with this place holds the point, and this is its level, where what is known is right

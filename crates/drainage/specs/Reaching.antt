@@ -6,7 +6,7 @@ use Rattle.lattice.specs.Height.{height_of}
 use Rattle.lattice.specs.Mosaic.{Mosaic}
 use Rattle.lattice.specs.declared.point.Point.{Point}
 use Rattle.catalogue.specs.Tiles.{corners_of}
-use Rattle.rising.specs.Others.{corner_at}
+use Rattle.border_graph.specs.Others.{corner_at}
 
 -- ends included
 abbrev pub is_between : Point → Point → Point → Bool

@@ -9,17 +9,17 @@ use Rattle.catalogue.specs.Tiles.{corners_of}
 use Rattle.catalogue.specs.declared.samples.Samples.{Ghosts}
 use Rattle.border_graph.specs.Summaries.{Summary}
 use Rattle.border_graph.specs.Joining.{summary_at, rim_point, IsSummaryOf, AreSummaries}
-use Rattle.rising.specs.Placed.{IsPlacedLink}
-use Rattle.rising.specs.TileWays.{TileWays, AreWaysOut, AreWaysAcross}
-use Rattle.rising.specs.Others.{corner_at, AreOthersTold}
-use Rattle.rising.specs.declared.ways.Way.{Way}
+use Rattle.border_graph.specs.Placed.{IsPlacedLink}
+use Rattle.border_graph.specs.TileGraph.{TileGraph, AreEdgesOut, AreEdgesAcross}
+use Rattle.border_graph.specs.Others.{corner_at, AreOthersTold}
+use Rattle.border_graph.specs.declared.edge_source.Edge.{Edge}
 
 -- what is told of the tile with this place
-abbrev pub told_at : List (Option TileWays) → ℕ → Option TileWays
+abbrev pub told_at : List (Option TileGraph) → ℕ → Option TileGraph
 told_at told t = slice_index_or told t None
 
 -- summaries of all tiles of some mosaic, those of the tiles that are told among them
-pub record Fits (side : ℕ) (corners : List Corner) (told : List (Option TileWays)) (n : ℕ) (summaries : List Summary) : Type 0 where
+pub record Fits (side : ℕ) (corners : List Corner) (told : List (Option TileGraph)) (n : ℕ) (summaries : List Summary) : Type 0 where
   pub mosaic : Mosaic
   pub is : IsMosaic mosaic
   pub all : AreSummaries mosaic summaries
@@ -28,35 +28,35 @@ pub record Fits (side : ℕ) (corners : List Corner) (told : List (Option TileWa
   pub same_corners : map (λ b. b.corner) summaries ≡ corners
   pub low : (x y : ℕ) (level : ℤ) → IsPlacedLink n summaries x y level → void ≤ℤ level
   pub turns : (x y : ℕ) (level : ℤ) → 0 < y → IsPlacedLink n summaries x y level → IsPlacedLink n summaries y x level
-  pub tells : (t : ℕ) (ways : TileWays) → told_at told t ≡ Some ways → (ways.side ≡ n) × (summary_at summaries t ≡ ways.summary)
+  pub tells : (t : ℕ) (ways : TileGraph) → told_at told t ≡ Some ways → (ways.side ≡ n) × (summary_at summaries t ≡ ways.summary)
 
 -- the ways from a rim point of a tile, listed one kind after another
-pub record AreTileWays (n : ℕ) (corners : List Corner) (ways : TileWays) (t k : ℕ) (old new : List Way) : Type 0 where
+pub record AreTileEdges (n : ℕ) (corners : List Corner) (ways : TileGraph) (t k : ℕ) (old new : List Edge) : Type 0 where
   pub side : ways.side ≡ n
-  pub first : List Way
-  pub second : List Way
-  pub out : AreWaysOut n ways.summary k old first
-  pub across : AreWaysAcross n ways.summary k (t * (4 * (n - 1))) first second
+  pub first : List Edge
+  pub second : List Edge
+  pub out : AreEdgesOut n ways.summary k old first
+  pub across : AreEdgesAcross n ways.summary k (t * (4 * (n - 1))) first second
   pub index : ℕ
   pub rim : IsRimPoint n k index
   pub nothing : (rim_point ways.summary k).height ≡ void → new ≡ second
   pub others : (rim_point ways.summary k).height ≢ void → AreOthersTold n corners t (point_of n (corner_at corners t) index) (rim_point ways.summary k).height second new
 
 -- each tile that is told has this side, the corner of its place, and a summary of its corner's tile in the mosaic
-pub record AreTold (m : Mosaic) (side : ℕ) (corners : List Corner) (told : List (Option TileWays)) : Type 0 where
+pub record AreTold (m : Mosaic) (side : ℕ) (corners : List Corner) (told : List (Option TileGraph)) : Type 0 where
   pub whole : length told ≡ length corners
-  pub sides : (t : ℕ) (ways : TileWays) → told_at told t ≡ Some ways → ways.side ≡ side
-  pub places : (t : ℕ) (ways : TileWays) → told_at told t ≡ Some ways → ways.summary.corner ≡ corner_at corners t
-  pub summaries : (t : ℕ) (ways : TileWays) → told_at told t ≡ Some ways → IsSummaryOf m ways.summary
+  pub sides : (t : ℕ) (ways : TileGraph) → told_at told t ≡ Some ways → ways.side ≡ side
+  pub places : (t : ℕ) (ways : TileGraph) → told_at told t ≡ Some ways → ways.summary.corner ≡ corner_at corners t
+  pub summaries : (t : ℕ) (ways : TileGraph) → told_at told t ≡ Some ways → IsSummaryOf m ways.summary
 
 -- all tiles of the mosaic have their places, and each rim point its number
-pub record AreReady (m : Mosaic) (side : ℕ) (corners : List Corner) (told : List (Option TileWays)) : Type 0 where
+pub record AreReady (m : Mosaic) (side : ℕ) (corners : List Corner) (told : List (Option TileGraph)) : Type 0 where
   pub same_side : side ≡ m.side
   pub all : corners ≡ corners_of m
   pub room : 1 + length corners * (4 * (side - 1)) < 2 ^ 32
   pub tiles : AreTold m side corners told
 
-module _ {S : Type 0} (g : Ghosts S) (a b : S) (side : ℕ) (corners : List Corner) (told : List (Option TileWays)) (side' : ℕ) (corners' : List Corner) (told' : List (Option TileWays)) where
+module _ {S : Type 0} (g : Ghosts S) (a b : S) (side : ℕ) (corners : List Corner) (told : List (Option TileGraph)) (side' : ℕ) (corners' : List Corner) (told' : List (Option TileGraph)) where
   -- the samples stand for what they stood for, the places stay, what was told is told still, and what is told then is as
   -- right as it was
   pub record AreKept : Type 0 where
@@ -64,5 +64,5 @@ module _ {S : Type 0} (g : Ghosts S) (a b : S) (side : ℕ) (corners : List Corn
     pub mosaic : g.is_honest b → g.mosaic b ≡ g.mosaic a
     pub same_side : side' ≡ side
     pub same_corners : corners' ≡ corners
-    pub still : (t : ℕ) (ways : TileWays) → told_at told t ≡ Some ways → told_at told' t ≡ Some ways
+    pub still : (t : ℕ) (ways : TileGraph) → told_at told t ≡ Some ways → told_at told' t ≡ Some ways
     pub right : g.is_honest b → AreTold (g.mosaic a) side corners told → AreTold (g.mosaic a) side corners told'

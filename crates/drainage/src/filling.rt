@@ -23,7 +23,7 @@ use crate::held::Held;
 use crate::waters::Waters;
 use derived::Labellings;
 use lattice::{Corner, Point, Refusal, Side, VOID, index_in};
-use rising::{level_from, node_at};
+use border_graph::{lowest_pass, node_at};
 use std::alloc::Global;
 use tile_flood::{Labelled, NO_LABEL, OUT};
 
@@ -147,7 +147,7 @@ fn rim_level<S: Labellings>(
         return Ok(level);
     }
     let mut alike = Vec::new(alloc);
-    let Some(level) = level_from(alloc, waters, samples, start, &mut alike)? else {
+    let Some(level) = lowest_pass(alloc, waters, samples, start, &mut alike)? else {
         return Err(Refusal::Damaged);
     };
     waters.levels.know(start, level)?;

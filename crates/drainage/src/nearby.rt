@@ -3,7 +3,7 @@ ghost use Rattle.std.specs.Prelude.{◌≡◌, ◌<◌, Some, IfSome, length};
 ghost use Rattle.downstream.specs.Near.{IsNear};
 ghost use Rattle.lattice.specs.Mosaic.{Mosaic, IsMosaic};
 ghost use Rattle.lattice.specs.Steps.{step};
-ghost use Rattle.rising.specs.Others.{corner_at};
+ghost use Rattle.border_graph.specs.Others.{corner_at};
 ghost use Rattle.drainage.specs.Holding.{IsRight, entered_at};
 ghost use Rattle.drainage.specs.Nearby.{IsToldOf};
 ghost use Rattle.drainage.specs.Waters.{known_of};
@@ -12,7 +12,7 @@ use crate::filling::spot_of;
 use crate::waters::Waters;
 use downstream::Near;
 use lattice::{Corner, DIRECTIONS, Dir, Point, index_in, neighbour};
-use rising::node_at;
+use border_graph::node_at;
 use tile_flood::{Labelled, NO_LABEL, OUT};
 
 /// The filled level of a ground point and those of the points around it, where they all lie in one tile whose labelling is

@@ -7,19 +7,18 @@ ghost use Rattle.derived.specs.Labellings.{IsFlooded};
 ghost use Rattle.border_graph.specs.Joining.{IsSummaryOf};
 ghost use Rattle.lattice.specs.Mosaic.{Mosaic};
 ghost use Rattle.lattice.specs.declared.refusal.Refusal.TheVariants.{NoMemory, Damaged};
-ghost use Rattle.rising.specs.TileWays.{TileWays as TileWaysOf};
-ghost use Rattle.rising.specs.Others.{corner_at, AreTooMany};
+ghost use Rattle.border_graph.specs.TileGraph.{TileGraph as TileGraphOf};
+ghost use Rattle.border_graph.specs.Others.{corner_at, AreTooMany};
 ghost use Rattle.drainage.specs.Reaching.{is_reached};
-ghost use Rattle.drainage.specs.Shores.{told_at, AreTileWays, AreTold, AreReady, AreKept};
+ghost use Rattle.drainage.specs.Shores.{told_at, AreTileEdges, AreTold, AreReady, AreKept};
 
 use crate::growth::push;
 use crate::reaching::is_reached;
 use crate::summing::flood_tile;
-use border_graph::Summary;
+use border_graph::{Edge, Summary, TileGraph, edges_to_others, node_at};
 use catalogue::Samples;
 use derived::Labellings;
 use lattice::{Corner, Point, Refusal, Side, VOID, point_at, rim_index};
-use rising::{TileWays, Way, node_at, ways_to_others};
 use std::alloc::Global;
 use tile_flood::Labelled;
 
@@ -28,7 +27,7 @@ use tile_flood::Labelled;
 pub(crate) struct Shores {
     pub(crate) side: Side,
     pub(crate) corners: Vec<Corner>,
-    pub(crate) told: Vec<Option<TileWays>>,
+    pub(crate) told: Vec<Option<TileGraph>>,
 }
 
 impl Shores {
@@ -77,8 +76,8 @@ impl Shores {
         requires place { t < length self.old.corners.items }
         requires corner { corner_at self.old.corners.items t ≡ corner }
         ensures flooded { S.is_honest samples.new → IfOk result (λ labelled. IsFlooded (S.mosaic samples.old) corner labelled) }
-        ensures told { OnOk result ((ways : TileWaysOf) × (told_at self.new.told.items t ≡ Some ways)) }
-        ensures only { (u : ℕ) (ways : TileWaysOf) → u ≢ t → told_at self.new.told.items u ≡ Some ways → told_at self.old.told.items u ≡ Some ways }
+        ensures told { OnOk result ((ways : TileGraphOf) × (told_at self.new.told.items t ≡ Some ways)) }
+        ensures only { (u : ℕ) (ways : TileGraphOf) → u ≢ t → told_at self.new.told.items u ≡ Some ways → told_at self.old.told.items u ≡ Some ways }
         ensures kept { AreKept S.Samples samples.old samples.new self.old.side self.old.corners.items self.old.told.items self.new.side self.new.corners.items self.new.told.items }
         ensures reads { OnOk result (OnlyReads {T = Unit {0}} S.Samples samples.old samples.new (Ok tt)) }
         ensures asked { (S.is_honest samples.new → AreReady (S.mosaic samples.old) self.old.side self.old.corners.items self.old.told.items) → Asked S.Samples samples.old samples.new result }
@@ -98,11 +97,11 @@ impl Shores {
     // Has the ways of the tile with this place and summary from then on, unless it had them.
     fn learn(&mut self, alloc: Global, t: usize, summary: Summary) -> Result<(), Refusal>
         requires inside { t < length self.old.told.items }
-        ensures told { OnOk result ((ways : TileWaysOf) × (told_at self.new.told.items t ≡ Some ways)) }
-        ensures only { (u : ℕ) (ways : TileWaysOf) → u ≢ t → told_at self.new.told.items u ≡ Some ways → told_at self.old.told.items u ≡ Some ways }
+        ensures told { OnOk result ((ways : TileGraphOf) × (told_at self.new.told.items t ≡ Some ways)) }
+        ensures only { (u : ℕ) (ways : TileGraphOf) → u ≢ t → told_at self.new.told.items u ≡ Some ways → told_at self.old.told.items u ≡ Some ways }
         ensures side { self.new.side ≡ self.old.side }
         ensures corners { self.new.corners.items ≡ self.old.corners.items }
-        ensures still { (u : ℕ) (ways : TileWaysOf) → told_at self.old.told.items u ≡ Some ways → told_at self.new.told.items u ≡ Some ways }
+        ensures still { (u : ℕ) (ways : TileGraphOf) → told_at self.old.told.items u ≡ Some ways → told_at self.new.told.items u ≡ Some ways }
         ensures right { (m : Mosaic) → corner_at self.old.corners.items t ≡ summary.corner → IsSummaryOf m summary
             → AreTold m self.old.side self.old.corners.items self.old.told.items → AreTold m self.old.side self.old.corners.items self.new.told.items }
         ensures refusal { IfErr result (λ r. r ≡ NoMemory) }
@@ -110,7 +109,7 @@ impl Shores {
         if self.told[t].is_some() {
             return Ok(());
         }
-        let ways = TileWays::new(alloc, self.side, summary)?;
+        let ways = TileGraph::new(alloc, self.side, summary)?;
         self.told[t] = Some(ways);
         Ok(())
     }
@@ -120,7 +119,7 @@ impl Shores {
         ensures side { self.new.side ≡ self.old.side }
         ensures corners { self.new.corners.items ≡ self.old.corners.items }
         ensures whole { length self.new.told.items ≡ length self.old.told.items }
-        ensures told { (t : ℕ) (ways : TileWaysOf) → told_at self.new.told.items t ≡ Some ways
+        ensures told { (t : ℕ) (ways : TileGraphOf) → told_at self.new.told.items t ≡ Some ways
             ↔ ((told_at self.old.told.items t ≡ Some ways) × (is_reached self.old.side self.old.corners.items from to t ≡ false)) }
     {
         for t in 0..self.told.len() {
@@ -141,12 +140,12 @@ impl Shores {
     }
 
     // Lists the ways from the rim point with this number in the tile with this place, where the tile is told.
-    pub(crate) fn list(&self, t: usize, k: u32, into: &mut Vec<Way>) -> Result<(), Refusal>
+    pub(crate) fn list(&self, t: usize, k: u32, into: &mut Vec<Edge>) -> Result<(), Refusal>
         requires number { k < 4 * (self.now.side - 1) }
         requires place { t < length self.now.corners.items }
-        ensures ways { OnOk result ((ways : TileWaysOf) → told_at self.now.told.items t ≡ Some ways
-            → AreTileWays self.now.side self.now.corners.items ways t k into.old.items into.new.items) }
-        ensures refusal { IfErr result (λ r. (r ≡ NoMemory) ⊎ ((r ≡ Damaged) × ((ways : TileWaysOf) → told_at self.now.told.items t ≡ Some ways
+        ensures ways { OnOk result ((ways : TileGraphOf) → told_at self.now.told.items t ≡ Some ways
+            → AreTileEdges self.now.side self.now.corners.items ways t k into.old.items into.new.items) }
+        ensures refusal { IfErr result (λ r. (r ≡ NoMemory) ⊎ ((r ≡ Damaged) × ((ways : TileGraphOf) → told_at self.now.told.items t ≡ Some ways
             → (ways.side ≢ self.now.side) ⊎ AreTooMany self.now.side self.now.corners.items))) }
     {
         let Some(told) = self.told.get(t) else {
@@ -155,23 +154,23 @@ impl Shores {
         let Some(ways) = told else {
             return Err(Refusal::Damaged);
         };
-        list_ways(self.side, &self.corners, ways, t, k, into)?;
+        list_edges(self.side, &self.corners, ways, t, k, into)?;
         Ok(())
     }
 }
 
 // Lists the ways from the rim point with this number in the tile with this place.
-fn list_ways(
+fn list_edges(
     side: Side,
     corners: &[Corner],
-    ways: &TileWays,
+    ways: &TileGraph,
     t: usize,
     k: u32,
-    into: &mut Vec<Way>,
+    into: &mut Vec<Edge>,
 ) -> Result<(), Refusal>
     requires number { k < 4 * (side - 1) }
     requires place { t < length corners.now }
-    ensures ways { OnOk result (AreTileWays side corners.now ways.now t k into.old.items into.new.items) }
+    ensures ways { OnOk result (AreTileEdges side corners.now ways.now t k into.old.items into.new.items) }
     ensures refusal { IfErr result (λ r. (r ≡ NoMemory) ⊎ ((r ≡ Damaged) × ((ways.now.side ≢ side) ⊎ AreTooMany side corners.now))) }
 {
     if ways.side() != side {
@@ -181,13 +180,13 @@ fn list_ways(
         return Err(Refusal::Damaged);
     };
     let first = last - 1 - side.rim();
-    ways.ways_out(k, into)?;
-    ways.ways_across(first, k, into)?;
+    ways.edges_out(k, into)?;
+    ways.edges_across(first, k, into)?;
     let height = ways.height(k);
     if height == VOID {
         return Ok(());
     }
     let point = point_at(side, corners[t], rim_index(side, k));
-    ways_to_others(side, corners, t, point, height, into)?;
+    edges_to_others(side, corners, t, point, height, into)?;
     Ok(())
 }

@@ -6,8 +6,8 @@ ghost use Rattle.catalogue.specs.Readers.{OnlyReads};
 ghost use Rattle.derived.specs.Labellings.{IsFlooded};
 ghost use Rattle.lattice.specs.Mosaic.{Mosaic, void};
 ghost use Rattle.lattice.specs.declared.refusal.Refusal.TheVariants.{NoMemory};
-ghost use Rattle.rising.specs.TileWays.{TileWays as TileWaysOf};
-ghost use Rattle.rising.specs.Others.{corner_at};
+ghost use Rattle.border_graph.specs.TileGraph.{TileGraph as TileGraphOf};
+ghost use Rattle.border_graph.specs.Others.{corner_at};
 ghost use Rattle.tile_flood.specs.Blocks.{LabelledGround};
 ghost use Rattle.drainage.specs.Shores.{told_at};
 ghost use Rattle.drainage.specs.Forgetting.{IsLeftOf};
@@ -21,7 +21,7 @@ use crate::shores::Shores;
 use catalogue::Samples;
 use derived::Labellings;
 use lattice::{Corner, Point, Refusal};
-use rising::{Way, Ways};
+use border_graph::{Edge, EdgeSource};
 use std::alloc::Global;
 
 /// The ways of the tiles that water has come to, their labellings, and the levels of rim points that were found.
@@ -72,8 +72,8 @@ impl Waters {
     ) -> Result<(), Refusal>
         requires place { t < length self.old.shores.corners.items }
         requires corner { corner_at self.old.shores.corners.items t ≡ corner }
-        ensures told { OnOk result ((ways : TileWaysOf) × (told_at self.new.shores.told.items t ≡ Some ways)) }
-        ensures only { (u : ℕ) (ways : TileWaysOf) → u ≢ t → told_at self.new.shores.told.items u ≡ Some ways → told_at self.old.shores.told.items u ≡ Some ways }
+        ensures told { OnOk result ((ways : TileGraphOf) × (told_at self.new.shores.told.items t ≡ Some ways)) }
+        ensures only { (u : ℕ) (ways : TileGraphOf) → u ≢ t → told_at self.new.shores.told.items u ≡ Some ways → told_at self.old.shores.told.items u ≡ Some ways }
         ensures grown { IsGrown S.Samples samples.old samples.new (known_of self.old) (known_of self.new) }
         ensures reads { OnOk result (OnlyReads {T = Unit {0}} S.Samples samples.old samples.new (Ok tt)) }
         ensures asked { (S.is_honest samples.new → IsRight (S.mosaic samples.old) (known_of self.old)) → Asked S.Samples samples.old samples.new result }
@@ -123,9 +123,9 @@ impl Waters {
     }
 }
 
-impl<S: Labellings> Ways<S> for Waters {
+impl<S: Labellings> EdgeSource<S> for Waters {
     ghost use Rattle.std.specs.Prelude.{◌≡◌, Some};
-    ghost use Rattle.rising.specs.TileWays.{TileWays};
+    ghost use Rattle.border_graph.specs.TileGraph.{TileGraph};
     ghost use Rattle.drainage.specs.Shores.{told_at};
     ghost use Rattle.drainage.specs.Waters.{known_of};
     ghost use Rattle.drainage.specs.Holding.{Agrees, IsCarried, IsRefused};
@@ -135,7 +135,7 @@ impl<S: Labellings> Ways<S> for Waters {
 
     ghost keeps = { λ s a s' b. IsCarried S.Samples a b (known_of s) (known_of s') };
 
-    ghost told = { λ s t. (ways : TileWays) × (told_at s.shores.told.items t ≡ Some ways) };
+    ghost told = { λ s t. (ways : TileGraph) × (told_at s.shores.told.items t ≡ Some ways) };
 
     ghost refuses = { λ s a s' b r. IsRefused S.Samples a b (known_of s) (known_of s') r };
 
@@ -151,12 +151,12 @@ impl<S: Labellings> Ways<S> for Waters {
 
     ghost runs_out = { λ s s' a b kept. ran_out _ S.keeps_on a b (known_of s) (known_of s') kept };
 
-    fn ways_from(
+    fn edges_from(
         &mut self,
         alloc: Global,
         source: &mut S,
         node: u32,
-        into: &mut Vec<Way>,
+        into: &mut Vec<Edge>,
     ) -> Result<Option<i16>, Refusal> {
         if let Some(level) = self.levels.level(node) {
             return Ok(Some(level));

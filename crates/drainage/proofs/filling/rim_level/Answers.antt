@@ -5,7 +5,7 @@ use Rattle.catalogue.proofs.Reading.{reads_nothing}
 use Rattle.border_graph.specs.Joining.{Rim}
 use Rattle.border_graph.specs.Linking.{node_number}
 use Rattle.border_graph.specs.Links.{IsJoinedLevel, IsWayBelow}
-use Rattle.rising.specs.Placed.{IsPlacedLink}
+use Rattle.border_graph.specs.Placed.{IsPlacedLink}
 use Rattle.drainage.specs.Holding.{IsRight, IsRimLevel, level_of}
 use Rattle.drainage.specs.Kept.{right_still}
 use Rattle.drainage.specs.Waters.{known_of}
@@ -40,37 +40,37 @@ returns-in-Some-level-clause-asked g c = answered g.S.Samples c.args.samples.now
 pub returns-in_default-2-clause-asked : goal.returns-in_default-2-clause-asked
 returns-in_default-2-clause-asked g c =
     let a = c.args.samples.now in
-    let d = c.level_from.new.source in
+    let d = c.lowest_pass.new.source in
     let w = known_of c.args.waters.now in
     let carried = c.in_ok-level.ensures.keeps in
     stopped g.S.Samples a d carried.reads (λ honest.
     let before = carried.reads.honest honest in
-    never g.S.Samples a d (g.met.S.Samples.is_mosaic a before) w (known_of c.level_from.new.ways) carried.grown honest (c.requires.right before) c.args.t c.args.number c.requires.place (c.requires.there before) c.in-Some.start
+    never g.S.Samples a d (g.met.S.Samples.is_mosaic a before) w (known_of c.lowest_pass.new.ways) carried.grown honest (c.requires.right before) c.args.t c.args.number c.requires.place (c.requires.there before) c.in-Some.start
     (c.in-Some.ensures.some ∙ ap (λ k. 1 + c.args.t * (4 * (w.side - 1)) + k) c.from.ensures)
     (λ n all agrees level rest. subst (λ found. IfNone found ((level : ℤ) (rest : List ℕ) → IsWayBelow (IsPlacedLink n all) 0 level c.in-Some.start rest → ⊥)) c.in_default-2.is (c.in_ok-level.ensures.not_joined n all agrees) level rest))
 
 pub returns-clause-level : goal.returns-clause-level
 returns-clause-level g c honest =
     let a = c.args.samples.now in
-    let d = c.level_from.new.source in
+    let d = c.lowest_pass.new.source in
     let m = g.S.Samples.mosaic a in
     let w = known_of c.args.waters.now in
     let carried = c.in_ok-level.ensures.keeps in
     let before = carried.reads.honest honest in
     let in_range : SFits w16 c.in-Some-2.level = search rules in
     subst (IsRimLevel m w.corners (node_number m.side (Rim c.args.t c.args.number))) (sym (to_z-of_z w16 c.in-Some-2.level in_range))
-    (found g.S.Samples a d (g.met.S.Samples.is_mosaic a before) w (known_of c.level_from.new.ways) carried.grown honest (c.requires.right before) c.args.t c.args.number c.requires.place (c.requires.there before) c.in-Some.start
+    (found g.S.Samples a d (g.met.S.Samples.is_mosaic a before) w (known_of c.lowest_pass.new.ways) carried.grown honest (c.requires.right before) c.args.t c.args.number c.requires.place (c.requires.there before) c.in-Some.start
     (c.in-Some.ensures.some ∙ ap (λ k. 1 + c.args.t * (4 * (w.side - 1)) + k) c.from.ensures) c.in-Some-2.level
     (λ n all agrees. subst (λ found. IfSome found (IsJoinedLevel (IsPlacedLink n all) 0 c.in-Some.start)) c.in-Some-2.is (c.in_ok-level.ensures.joined n all agrees)))
 
 pub returns-clause-right : goal.returns-clause-right
 returns-clause-right g c honest =
     let a = c.args.samples.now in
-    let d = c.level_from.new.source in
+    let d = c.lowest_pass.new.source in
     let w = known_of c.args.waters.now in
     let carried = c.in_ok-level.ensures.keeps in
     let before = carried.reads.honest honest in
-    let known = known_of c.level_from.new.ways in
+    let known = known_of c.lowest_pass.new.ways in
     let in_range : SFits w16 c.in-Some-2.level = search rules in
     let same = to_z-of_z w16 c.in-Some-2.level in_range in
     let started : IsRight (g.S.Samples.mosaic d) (record { side = known.side; corners = known.corners; told = known.told; entered = known.entered; levels = c.know.new.self }) =
@@ -83,18 +83,18 @@ returns-clause-right g c honest =
     right_all (g.S.Samples.mosaic d) (record { side = known.side; corners = known.corners; told = known.told; entered = known.entered; levels = c.know.new.self }) c.know_all.new.self c.deref.result.now c.in-Some-2.level
     (λ x found is. subst (λ (v : ℤ). (level_of c.know.new.self x ≡ Some found) ⊎ (Contains c.deref.result.now x × (found ≡ v))) same (c.in_ok-know_all.ensures.only x found is))
     (λ x has. reached_later g.S.Samples a d (g.met.S.Samples.is_mosaic a before) w known carried.grown honest (c.requires.right before) x c.in-Some-2.level
-    (λ n all agrees. subst (λ found. IfSome found (λ level. (y : ℕ) → Contains c.level_from.new.alike.items y → (0 < y) × IsJoinedLevel (IsPlacedLink n all) 0 y level)) c.in-Some-2.is (c.in_ok-level.ensures.alike n all agrees) x
+    (λ n all agrees. subst (λ found. IfSome found (λ level. (y : ℕ) → Contains c.lowest_pass.new.alike.items y → (0 < y) × IsJoinedLevel (IsPlacedLink n all) 0 y level)) c.in-Some-2.is (c.in_ok-level.ensures.alike n all agrees) x
     (subst (λ (l : List ℕ). Contains l x) c.deref.ensures.value has)))
     started
 
 pub returns-in_err-know_all-clause-right : goal.returns-in_err-know_all-clause-right
 returns-in_err-know_all-clause-right g c honest =
     let a = c.args.samples.now in
-    let d = c.level_from.new.source in
+    let d = c.lowest_pass.new.source in
     let w = known_of c.args.waters.now in
     let carried = c.in_ok-level.ensures.keeps in
     let before = carried.reads.honest honest in
-    let known = known_of c.level_from.new.ways in
+    let known = known_of c.lowest_pass.new.ways in
     let in_range : SFits w16 c.in-Some-2.level = search rules in
     let same = to_z-of_z w16 c.in-Some-2.level in_range in
     let started : IsRight (g.S.Samples.mosaic d) (record { side = known.side; corners = known.corners; told = known.told; entered = known.entered; levels = c.know.new.self }) =
@@ -107,9 +107,9 @@ returns-in_err-know_all-clause-right g c honest =
     right_all (g.S.Samples.mosaic d) (record { side = known.side; corners = known.corners; told = known.told; entered = known.entered; levels = c.know.new.self }) c.know_all.new.self c.deref.result.now c.in-Some-2.level
     (λ x found is. subst (λ (v : ℤ). (level_of c.know.new.self x ≡ Some found) ⊎ (Contains c.deref.result.now x × (found ≡ v))) same (c.in_err-know_all.ensures.only x found is))
     (λ x has. reached_later g.S.Samples a d (g.met.S.Samples.is_mosaic a before) w known carried.grown honest (c.requires.right before) x c.in-Some-2.level
-    (λ n all agrees. subst (λ found. IfSome found (λ level. (y : ℕ) → Contains c.level_from.new.alike.items y → (0 < y) × IsJoinedLevel (IsPlacedLink n all) 0 y level)) c.in-Some-2.is (c.in_ok-level.ensures.alike n all agrees) x
+    (λ n all agrees. subst (λ found. IfSome found (λ level. (y : ℕ) → Contains c.lowest_pass.new.alike.items y → (0 < y) × IsJoinedLevel (IsPlacedLink n all) 0 y level)) c.in-Some-2.is (c.in_ok-level.ensures.alike n all agrees) x
     (subst (λ (l : List ℕ). Contains l x) c.deref.ensures.value has)))
     started
 
 pub returns-clause-asked : goal.returns-clause-asked
-returns-clause-asked g c = answered g.S.Samples c.args.samples.now c.level_from.new.source _ c.in_ok-level.ensures.keeps.reads
+returns-clause-asked g c = answered g.S.Samples c.args.samples.now c.lowest_pass.new.source _ c.in_ok-level.ensures.keeps.reads

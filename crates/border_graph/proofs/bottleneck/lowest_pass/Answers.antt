@@ -1,0 +1,153 @@
+use Rattle.std.proofs.Common.{rules, true, ◌≡◌, ◌<◌, ◌≤ℤ◌, ◌^◌, ◌⊎◌, ℕ, ℤ, inl, inr, Contains, int_lt, SFits, w16, refl, sym, subst, arith, to_z, of_z, List, [], ◌∷◌, map}
+use Rattle.std.specs.Prelude.{IfSome, IfNone}
+use Rattle.std.proofs.lemmas.List.Elements.{Contains-push_cases}
+use Rattle.std.proofs.lemmas.Int.{to_z-of_z}
+use Rattle.std.proofs.lemmas.Result.{err_from_is_err_and}
+use Rattle.lattice.specs.Mosaic.{void}
+use Rattle.border_graph.specs.Links.{IsJoinedLevel}
+use Rattle.border_graph.specs.Joining.{Rim}
+use Rattle.border_graph.specs.Linking.{node_number}
+use Rattle.border_graph.specs.Edges.{IsReachedBelow}
+use Rattle.border_graph.specs.Placed.{IsPlacedLink}
+use Rattle.border_graph.specs.Waiting.{IsAdded}
+use Rattle.border_graph.specs.Frontier.{is_among, IsNext, NoneLeft}
+use Rattle.border_graph.specs.declared.edge_source.Edge.{Edge}
+use Rattle.border_graph.specs.Crests.{crest, LeadsOut}
+use Rattle.border_graph.proofs.Surge.{way_up}
+use Rattle.border_graph.specs.declared.frontier.Entry.{Entry}
+use Rattle.border_graph.specs.Bottleneck.{IsEnd, IsExpanded}
+use Rattle.border_graph.proofs.Crested.{below_crest, least_crest}
+use Rattle.border_graph.proofs.Left.{fewer_left}
+use Rattle.border_graph.proofs.Next.{taken_now, taken_still, taken_other}
+use Rattle.border_graph.proofs.Rise.{IsTwoWay, two_way, alike, rising_first, no_way, reached_below, ended, risen}
+use Rattle.border_graph.proofs.bottleneck.lowest_pass.Goals as goal
+
+none : {X : Type 0} (x : X) → Contains [] x → ⊥
+none x has = let h = has.1 in absurd (omega arith)
+
+pub rise-init : goal.rise-init
+rise-init g c = record {
+  fits = λ n summaries fits. fits;
+  keeps = g.met.G.EdgeSource.keeps_itself c.args.graph.now c.args.source.now;
+  told = λ n summaries fits t told. inl told;
+  none = c.requires.empty;
+  settled = λ n summaries fits entry has. absurd (none entry (subst (λ (l : List Entry). Contains l entry) c.new-settled.ensures.items has));
+  rising = λ n summaries fits. rising_first (IsPlacedLink n summaries) c.args.start (λ x y level. g.met.G.EdgeSource.levels_fit c.args.graph.now n summaries x y level fits) c.requires.start c.new-visited.result c.new-visited.ensures c.push.new.self (record { crest = void; level = void; node = c.args.start })
+      (subst (λ old. IsAdded old c.push.new.self (record { crest = void; level = void; node = c.args.start })) c.new-frontier.ensures c.in_ok-push.ensures) refl refl;
+}
+
+pub returns-in-Some-2-clause-joined : goal.returns-in-Some-2-clause-joined
+returns-in-Some-2-clause-joined g c n summaries fits =
+    let in_range : SFits w16 c.in-Some-2.level = search rules in
+    let before = c.in_ok-level.ensures.fits n summaries fits in
+    let next : IsNext c.rise.frontier c.rise.visited c.pop_unvisited.new.frontier c.pop_unvisited.new.visited c.in-Some.entry =
+    subst (λ found. IfSome found (IsNext c.rise.frontier c.rise.visited c.pop_unvisited.new.frontier c.pop_unvisited.new.visited)) c.in-Some.is c.in_ok-entry.ensures.next in
+    subst (λ v. IsJoinedLevel (IsPlacedLink n summaries) 0 c.args.start v) (sym (to_z-of_z w16 c.in-Some-2.level in_range))
+    (ended (IsPlacedLink n summaries) c.args.start c.rise.visited c.rise.frontier (c.rise.invariant.rising n summaries before) c.pop_unvisited.new.frontier c.pop_unvisited.new.visited c.in-Some.entry next
+    (two_way n summaries (λ x y level some link. g.met.G.EdgeSource.links_turn c.expand.new.graph n summaries x y level fits some link)) c.in-Some-2.level
+    (subst (λ found. IfSome found (IsEnd (IsPlacedLink n summaries) c.in-Some.entry)) c.in-Some-2.is (c.in_ok-level.ensures.ends n summaries fits)))
+
+pub returns-in-Some-2-clause-level : goal.returns-in-Some-2-clause-level
+returns-in-Some-2-clause-level g c n summaries fits =
+    least_crest (IsPlacedLink n summaries) c.args.start (to_z w16 (of_z w16 c.in-Some-2.level)) (λ same. let some = c.requires.start in absurd (omega arith)) (returns-in-Some-2-clause-joined g c n summaries fits)
+
+pub returns-in-Some-2-clause-alike : goal.returns-in-Some-2-clause-alike
+returns-in-Some-2-clause-alike g c n summaries fits x has =
+    let before = c.in_ok-level.ensures.fits n summaries fits in
+    let two = two_way n summaries (λ x y level some link. g.met.G.EdgeSource.links_turn c.expand.new.graph n summaries x y level fits some link) in
+    by (IsPlacedLink n summaries) two (to_z w16 (of_z w16 c.in-Some-2.level)) (returns-in-Some-2-clause-joined g c n summaries fits) (λ entry held. c.rise.invariant.settled n summaries before entry (subst (λ (l : List Entry). Contains l entry) c.deref.ensures.value held))
+    (c.in_ok-list_below.ensures x has)
+  where
+    by : (L : ℕ → ℕ → ℤ → Type 0) → IsTwoWay L → (level : ℤ) → IsJoinedLevel L 0 c.args.start level → ((entry : Entry) → Contains c.deref.result.now entry → (0 < entry.node) × IsReachedBelow L c.args.start entry.crest entry.node)
+        → Contains c.rise.alike.items x ⊎ ((entry : Entry) × (Contains c.deref.result.now entry × ((entry.node ≡ x) × (int_lt entry.crest level ≡ true)))) → (0 < x) × IsJoinedLevel L 0 x level
+    by L two level joined settled (inl early) = absurd (none x (subst (λ (l : List ℕ). Contains l x) c.rise.invariant.none early))
+    by L two level joined settled (inr found) =
+        let entry = found.0 in
+        let reached = settled entry found.1.0 in
+        subst (λ y. (0 < y) × IsJoinedLevel L 0 y level) found.1.1.0
+        (reached.0, alike L two c.args.start entry.node entry.crest level joined reached.0 reached.1 found.1.1.1)
+
+pub returns-in-Some-2-clause-told : goal.returns-in-Some-2-clause-told
+returns-in-Some-2-clause-told g c n summaries fits t told =
+    let in_range : SFits w16 c.in-Some-2.level = search rules in
+    let before = c.in_ok-level.ensures.fits n summaries fits in
+    let next : IsNext c.rise.frontier c.rise.visited c.pop_unvisited.new.frontier c.pop_unvisited.new.visited c.in-Some.entry =
+    subst (λ found. IfSome found (IsNext c.rise.frontier c.rise.visited c.pop_unvisited.new.frontier c.pop_unvisited.new.visited)) c.in-Some.is c.in_ok-entry.ensures.next in
+    let rising = c.rise.invariant.rising n summaries before in
+    let end : IsEnd (IsPlacedLink n summaries) c.in-Some.entry c.in-Some-2.level = subst (λ found. IfSome found (IsEnd (IsPlacedLink n summaries) c.in-Some.entry)) c.in-Some-2.is (c.in_ok-level.ensures.ends n summaries fits) in
+    let up : (y : ℕ) → IsReachedBelow (IsPlacedLink n summaries) c.args.start c.in-Some.entry.crest y → IsReachedBelow (IsPlacedLink n summaries) c.args.start (to_z w16 (of_z w16 c.in-Some-2.level)) y =
+    λ y way. (way.0, way_up (IsPlacedLink n summaries) y c.in-Some.entry.crest (to_z w16 (of_z w16 c.in-Some-2.level)) (subst (λ v. c.in-Some.entry.crest ≤ℤ v) (sym (to_z-of_z w16 c.in-Some-2.level in_range)) end.high) c.args.start way.0 way.1) in
+    elim (c.in_ok-level.ensures.told n summaries fits t told) [
+      | inr here ↦ inr (here.0, up (node_number n (Rim t here.0)) (subst (IsReachedBelow (IsPlacedLink n summaries) c.args.start c.in-Some.entry.crest) here.1 (rising.ways c.in-Some.entry next.waited)))
+      | inl earlier ↦ elim (c.rise.invariant.told n summaries before t earlier) [
+        | inl first ↦ inl first
+        | inr at ↦ inr (at.0, up (node_number n (Rim t at.0)) (reached_below (IsPlacedLink n summaries) c.args.start c.rise.visited c.rise.frontier rising c.pop_unvisited.new.frontier c.pop_unvisited.new.visited c.in-Some.entry next (node_number n (Rim t at.0)) at.1))
+      ]
+    ]
+
+pub rise-smaller : goal.rise-smaller
+rise-smaller g c =
+    let next : IsNext c.rise.frontier c.rise.visited c.pop_unvisited.new.frontier c.pop_unvisited.new.visited c.in-Some.entry =
+    subst (λ found. IfSome found (IsNext c.rise.frontier c.rise.visited c.pop_unvisited.new.frontier c.pop_unvisited.new.visited)) c.in-Some.is c.in_ok-entry.ensures.next in
+    let small : c.in-Some.entry.node < 2 ^ 32 = search rules in
+    fewer_left (2 ^ 32) c.in-Some.entry.node (is_among c.rise.visited) (is_among c.pop_unvisited.new.visited) small next.fresh (taken_now c.rise.visited c.pop_unvisited.new.visited c.in-Some.entry.node next.takes)
+    (λ x apart. taken_other c.rise.visited c.pop_unvisited.new.visited c.in-Some.entry.node x next.takes apart)
+
+pub rise-preserved : goal.rise-preserved
+rise-preserved g c =
+    let next : IsNext c.rise.frontier c.rise.visited c.pop_unvisited.new.frontier c.pop_unvisited.new.visited c.in-Some.entry =
+    subst (λ found. IfSome found (IsNext c.rise.frontier c.rise.visited c.pop_unvisited.new.frontier c.pop_unvisited.new.visited)) c.in-Some.is c.in_ok-entry.ensures.next in
+    record {
+      fits = λ n summaries fits. c.rise.invariant.fits n summaries (c.in_ok-level.ensures.fits n summaries fits);
+      keeps = g.met.G.EdgeSource.keeps_on c.args.graph.now c.rise.graph c.expand.new.graph c.args.source.now c.rise.source c.expand.new.source c.rise.invariant.keeps c.in_ok-level.ensures.keeps;
+      told = λ n summaries fits t told. elim (c.in_ok-level.ensures.told n summaries fits t told) [
+        | inr here ↦ inr (here.0, subst (λ y. is_among c.pop_unvisited.new.visited y ≡ true) here.1 (taken_now c.rise.visited c.pop_unvisited.new.visited c.in-Some.entry.node next.takes))
+        | inl before ↦ elim (c.rise.invariant.told n summaries (c.in_ok-level.ensures.fits n summaries fits) t before) [
+          | inl first ↦ inl first
+          | inr at ↦ inr (at.0, taken_still c.rise.visited c.pop_unvisited.new.visited c.in-Some.entry.node (node_number n (Rim t at.0)) next.takes at.1)
+        ]
+      ];
+      none = c.rise.invariant.none;
+      settled = λ n summaries fits entry has.
+          let before = c.in_ok-level.ensures.fits n summaries fits in
+          let followed = subst (λ found. IfNone found (IsExpanded (IsPlacedLink n summaries) c.pop_unvisited.new.visited c.pop_unvisited.new.frontier c.expand.new.frontier c.in-Some.entry)) c.in_default-2.is (c.in_ok-level.ensures.followed n summaries fits) in
+          elim (Contains-push_cases c.rise.settled.items c.in-Some.entry entry (subst (λ (l : List Entry). Contains l entry) c.in_ok-settle.ensures has)) [
+            | inl earlier ↦ c.rise.invariant.settled n summaries before entry earlier
+            | inr last ↦ subst (λ (s : Entry). (0 < s.node) × IsReachedBelow (IsPlacedLink n summaries) c.args.start s.crest s.node) last
+                (followed.inner, (c.rise.invariant.rising n summaries before).ways c.in-Some.entry next.waited)
+          ];
+      rising = λ n summaries fits.
+          let before = c.in_ok-level.ensures.fits n summaries fits in
+          risen (IsPlacedLink n summaries) c.args.start c.rise.visited c.rise.frontier (c.rise.invariant.rising n summaries before) c.pop_unvisited.new.frontier c.pop_unvisited.new.visited c.in-Some.entry next c.expand.new.frontier
+          (subst (λ found. IfNone found (IsExpanded (IsPlacedLink n summaries) c.pop_unvisited.new.visited c.pop_unvisited.new.frontier c.expand.new.frontier c.in-Some.entry)) c.in_default-2.is (c.in_ok-level.ensures.followed n summaries fits));
+    }
+
+pub returns-in_err-level-clause-refusal : goal.returns-in_err-level-clause-refusal
+returns-in_err-level-clause-refusal g c =
+    let p = err_from_is_err_and c.from_residual-in_err-level.result c.from_residual-in_err-level.ensures.1 in
+    rw p.1 (subst (g.G.EdgeSource.refuses c.args.graph.now c.args.source.now c.expand.new.graph c.expand.new.source) (sym p.2)
+    (g.met.G.EdgeSource.refuses_on c.args.graph.now c.rise.graph c.expand.new.graph c.args.source.now c.rise.source c.expand.new.source c.in_err-level.field-0.0 c.rise.invariant.keeps c.in_err-level.ensures.refusal))
+
+pub returns-in_err-list_below-clause-refusal : goal.returns-in_err-list_below-clause-refusal
+returns-in_err-list_below-clause-refusal g c =
+    let keeps = g.met.G.EdgeSource.keeps_on c.args.graph.now c.rise.graph c.expand.new.graph c.args.source.now c.rise.source c.expand.new.source c.rise.invariant.keeps c.in_ok-level.ensures.keeps in
+    let out = g.met.G.EdgeSource.runs_out c.args.graph.now c.expand.new.graph c.args.source.now c.expand.new.source keeps in
+    search rules
+
+pub returns-in_err-settle-clause-refusal : goal.returns-in_err-settle-clause-refusal
+returns-in_err-settle-clause-refusal g c =
+    let keeps = g.met.G.EdgeSource.keeps_on c.args.graph.now c.rise.graph c.expand.new.graph c.args.source.now c.rise.source c.expand.new.source c.rise.invariant.keeps c.in_ok-level.ensures.keeps in
+    let out = g.met.G.EdgeSource.runs_out c.args.graph.now c.expand.new.graph c.args.source.now c.expand.new.source keeps in
+    search rules
+
+pub returns-clause-not_joined : goal.returns-clause-not_joined
+returns-clause-not_joined g c n summaries fits =
+    no_way (IsPlacedLink n summaries) c.args.start c.rise.visited c.rise.frontier (c.rise.invariant.rising n summaries fits)
+    (subst (λ found. IfNone found (NoneLeft c.rise.frontier c.rise.visited)) c.in_default.is c.in_ok-entry.ensures.none)
+
+pub returns-clause-none : goal.returns-clause-none
+returns-clause-none g c n summaries fits = none
+  where
+    none : (rest : List Edge) → LeadsOut (IsPlacedLink n summaries) c.args.start rest → ⊥
+    none [] out = absurd (omega (arith, c.requires.start))
+    none (way ∷ rest) out = returns-clause-not_joined g c n summaries fits (crest way rest) (map (λ (w : Edge). w.to) (way ∷ rest)) (below_crest (IsPlacedLink n summaries) c.args.start way rest out)

@@ -1,0 +1,5 @@
+use Rattle.border_graph.proofs.Others.{AreToldOf}
+use Rattle.border_graph.proofs.seams.edges_to_others.Given as goal
+
+abbrev pub invariant-loop-corner : goal.invariant-loop-corner
+invariant-loop-corner l = AreToldOf l.side l.corners l.t l.point l.height l.corner-items l.corner-index l.fn.into.items l.into.items

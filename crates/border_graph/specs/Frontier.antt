@@ -1,0 +1,22 @@
+-- What waits: nodes that water may reach next, the lowest crest first. And which nodes are visited.
+use Rattle.std.specs.Prelude.{◌≡◌, ℕ, ◌==◌, ◌≤ℤ◌, Bool, true, false, cond, List, Contains}
+use Rattle.std.specs.List.{list_any}
+use Rattle.border_graph.specs.declared.frontier.Entry.{Entry}
+
+-- whether the node is one of them
+abbrev pub is_among : List ℕ → ℕ → Bool
+is_among nodes x = list_any (λ y. x == y) nodes
+
+-- the entry waited, its node is visited now, and none that waited for another node that wasn't visited was lower
+pub record IsNext (old : List Entry) (visited : List ℕ) (new : List Entry) (visited' : List ℕ) (entry : Entry) : Type 0 where
+  pub waited : Contains old entry
+  pub fresh : is_among visited entry.node ≡ false
+  pub lowest : (l : Entry) → Contains old l → is_among visited l.node ≡ false → entry.crest ≤ℤ l.crest
+  pub above : (l : Entry) → Contains new l → entry.crest ≤ℤ l.crest
+  pub others : (l : Entry) → Contains old l → is_among visited' l.node ≡ false → Contains new l
+  pub only : (l : Entry) → Contains new l → Contains old l
+  pub takes : (x : ℕ) → is_among visited' x ≡ cond (entry.node == x) true (is_among visited x)
+
+-- each node that waits is visited
+abbrev pub NoneLeft : List Entry → List ℕ → Type 0
+NoneLeft frontier visited = (l : Entry) → Contains frontier l → is_among visited l.node ≡ true

@@ -1,0 +1,47 @@
+-- The ways from a rim point to the same point of other tiles, as they are listed.
+use Rattle.std.specs.Prelude.{◌≡◌, ◌≢◌, ℕ, ◌+◌, ◌-◌, ◌*◌, ◌^◌, ◌<◌, ◌≤◌, ℤ, pos, ◌⊎◌, List, Contains, length, slice_index_or}
+use Rattle.lattice.specs.declared.point.Point.{Point}
+use Rattle.lattice.specs.Corners.{Corner}
+use Rattle.lattice.specs.Lattice.{IsIndexOf}
+use Rattle.lattice.specs.Block.{rim_number}
+use Rattle.border_graph.specs.Joining.{Rim}
+use Rattle.border_graph.specs.Linking.{node_number}
+use Rattle.border_graph.specs.declared.edge_source.Edge.{Edge}
+use Rattle.border_graph.specs.TileGraph.{AreListedStill}
+
+abbrev pub corner_at : List Corner → ℕ → Corner
+corner_at corners t = slice_index_or corners t (record { lat = pos 0; lon = pos 0 })
+
+-- each of these corners is that of one tile
+abbrev pub AreApart : List Corner → Type 0
+AreApart corners = (t u : ℕ) → t < length corners → u < length corners → corner_at corners t ≡ corner_at corners u → t ≡ u
+
+-- their rim points have more numbers than there are
+abbrev pub AreTooMany : ℕ → List Corner → Type 0
+AreTooMany n corners = 2 ^ 32 ≤ 1 + length corners * (4 * (n - 1))
+
+module _ (n : ℕ) (corners : List Corner) (t : ℕ) (p : Point) (height : ℤ) where
+  -- the node of the point in another tile, at the height
+  pub record IsToOther (way : Edge) : Type 0 where
+    pub tile : ℕ
+    pub small : tile < length corners
+    pub apart : t ≢ tile
+    pub index : ℕ
+    pub at : IsIndexOf n (corner_at corners tile) p index
+    pub to : way.to ≡ node_number n (Rim tile (rim_number n index))
+    pub level : way.level ≡ height
+
+  -- that in the tile of the corner, if there is another one, is listed
+  abbrev pub IsOtherListed : Corner → List Edge → Type 0
+  IsOtherListed c new = (u e : ℕ) → u < length corners → corner_at corners u ≡ c → t ≢ u → IsIndexOf n c p e → Contains new (record { level = height; to = node_number n (Rim u (rim_number n e)) })
+
+  pub record IsOtherTold (c : Corner) (old new : List Edge) : Type 0 where
+    pub still : AreListedStill old new
+    pub only : (way : Edge) → Contains new way → Contains old way ⊎ IsToOther way
+    pub listed : AreApart corners → IsOtherListed c new
+
+  -- those in all other tiles that hold the point
+  pub record AreOthersTold (old new : List Edge) : Type 0 where
+    pub still : AreListedStill old new
+    pub only : (way : Edge) → Contains new way → Contains old way ⊎ IsToOther way
+    pub listed : AreApart corners → (c : Corner) → IsOtherListed c new

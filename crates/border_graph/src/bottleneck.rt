@@ -1,0 +1,162 @@
+//! The lowest pass from a node to an outlet: a bottleneck (minimax) search, lowest crest first.
+ghost use Rattle.std.specs.Prelude.{◌≡◌, ℕ, ℤ, ◌<◌, ◌⊎◌, List, [], ◌∷◌, ◌++◌, Contains, IfOk, IfErr, OnOk, IfSome, IfNone, length, int_lt, true};
+ghost use Rattle.border_graph.specs.Links.{IsJoinedLevel, IsWayBelow};
+ghost use Rattle.border_graph.specs.Summaries.{Summary};
+ghost use Rattle.border_graph.specs.Edges.{IsTileReached};
+ghost use Rattle.border_graph.specs.Placed.{IsPlacedLink, IsOfTile};
+ghost use Rattle.border_graph.specs.Crests.{LeadsOut, IsLeastCrest};
+ghost use Rattle.border_graph.specs.declared.edge_source.Edge.{Edge as EdgeOf};
+ghost use Rattle.border_graph.specs.Frontier.{IsNext, NoneLeft};
+ghost use Rattle.border_graph.specs.declared.frontier.Entry.{Entry as EntryOf};
+ghost use Rattle.border_graph.specs.Bottleneck.{IsExpanded, IsEnd, AreRaised, raised};
+
+use crate::frontier::{Entry, Frontier};
+use crate::visited::Visited;
+use crate::{Edge, EdgeSource};
+use lattice::Refusal;
+use std::alloc::{AllocError, Global};
+
+/// The least crest of the paths from a node to the outlet node, in metres, over all paths of the whole graph. None exactly
+/// where no path leads there. Both are said of paths edge by edge, and of lists of nodes as where all tiles are joined.
+///
+/// Where it answers a level, it asked only for tiles with a rim point that the start reaches at no more than that level.
+/// Then it lists nodes that have the very same level: those that the search settled below it. Each of them and the start
+/// reach one another below that level, so that they share their lowest pass.
+///
+/// It is refused as the graph's answers are, where want of memory is such a refusal.
+pub fn lowest_pass<S, G: EdgeSource<S>>(
+    alloc: Global,
+    graph: &mut G,
+    source: &mut S,
+    start: u32,
+    alike: &mut Vec<u32>,
+) -> Result<Option<i16>, Refusal>
+    requires start { 0 < start }
+    requires empty { alike.old.items ≡ [] }
+    ensures level { (n : ℕ) (summaries : List Summary) → G.fits graph.new n summaries
+        → IfOk result (λ found. IfSome found (IsLeastCrest (IsPlacedLink n summaries) start)) }
+    ensures joined { (n : ℕ) (summaries : List Summary) → G.fits graph.new n summaries
+        → IfOk result (λ found. IfSome found (IsJoinedLevel (IsPlacedLink n summaries) 0 start)) }
+    ensures alike { (n : ℕ) (summaries : List Summary) → G.fits graph.new n summaries
+        → IfOk result (λ found. IfSome found (λ level. (x : ℕ) → Contains alike.new.items x → (0 < x) × IsJoinedLevel (IsPlacedLink n summaries) 0 x level)) }
+    ensures none { (n : ℕ) (summaries : List Summary) → G.fits graph.new n summaries
+        → IfOk result (λ found. IfNone found ((rest : List EdgeOf) → LeadsOut (IsPlacedLink n summaries) start rest → ⊥)) }
+    ensures not_joined { (n : ℕ) (summaries : List Summary) → G.fits graph.new n summaries
+        → IfOk result (λ found. IfNone found ((level : ℤ) (rest : List ℕ) → IsWayBelow (IsPlacedLink n summaries) 0 level start rest → ⊥)) }
+    ensures told { (n : ℕ) (summaries : List Summary) → G.fits graph.new n summaries
+        → IfOk result (λ found. IfSome found (λ level. (t : ℕ) → G.told graph.new t → G.told graph.old t ⊎ IsTileReached n (IsPlacedLink n summaries) start level t)) }
+    ensures refusal { IfErr result (G.refuses graph.old source.old graph.new source.new) }
+    ensures fits { (n : ℕ) (summaries : List Summary) → G.fits graph.new n summaries → G.fits graph.old n summaries }
+    ensures keeps { OnOk result (G.keeps graph.old source.old graph.new source.new) }
+{
+    let mut visited = Visited::new(alloc);
+    let mut frontier = Frontier::new(alloc);
+    let mut settled = Vec::new(alloc);
+    frontier.push(Entry {
+        crest: i16::MIN,
+        level: i16::MIN,
+        node: start,
+    })?;
+    'rise: while let Some(entry) = pop_unvisited(&mut frontier, &mut visited)? {
+        if let Some(level) = expand(alloc, graph, source, entry, &visited, &mut frontier)? {
+            list_below(&settled, level, alike)?;
+            return Ok(Some(level));
+        }
+        settle(&mut settled, entry)?;
+    }
+    Ok(None)
+}
+
+// One settled entry more.
+fn settle(settled: &mut Vec<Entry>, entry: Entry) -> Result<(), AllocError>
+    ensures { OnOk result (settled.new.items ≡ settled.old.items ++ entry ∷ []) }
+{
+    settled.push(entry)?;
+    Ok(())
+}
+
+// Lists the nodes of the entries whose crest is below the level.
+fn list_below(settled: &[Entry], level: i16, into: &mut Vec<u32>) -> Result<(), AllocError>
+    ensures { OnOk result ((x : ℕ) → Contains into.new.items x → Contains into.old.items x ⊎ ((entry : EntryOf) × (Contains settled.now entry × ((entry.node ≡ x) × (int_lt entry.crest level ≡ true))))) }
+{
+    for entry in settled {
+        if entry.crest < level {
+            into.push(entry.node)?;
+        }
+    }
+    Ok(())
+}
+
+// Visits the node of the lowest entry of the frontier that isn't visited.
+fn pop_unvisited(
+    frontier: &mut Frontier,
+    visited: &mut Visited,
+) -> Result<Option<Entry>, AllocError>
+    ensures next { IfOk result (λ found. IfSome found (IsNext frontier.old visited.old frontier.new visited.new)) }
+    ensures none { IfOk result (λ found. IfNone found (NoneLeft frontier.old visited.old)) }
+{
+    while let Some(entry) = frontier.pop() {
+        if visited.insert(entry.node)? {
+            return Ok(Some(entry));
+        }
+    }
+    Ok(None)
+}
+
+// Puts each node on the frontier to which an edge leads from the entry's node, unless it is visited. Or, where that is the
+// outlet node or its level is known, the least crest of the paths on from there that go through it.
+fn expand<S, G: EdgeSource<S>>(
+    alloc: Global,
+    graph: &mut G,
+    source: &mut S,
+    entry: Entry,
+    visited: &Visited,
+    frontier: &mut Frontier,
+) -> Result<Option<i16>, Refusal>
+    ensures ends { (n : ℕ) (summaries : List Summary) → G.fits graph.new n summaries
+        → IfOk result (λ found. IfSome found (IsEnd (IsPlacedLink n summaries) entry)) }
+    ensures followed { (n : ℕ) (summaries : List Summary) → G.fits graph.new n summaries
+        → IfOk result (λ found. IfNone found (IsExpanded (IsPlacedLink n summaries) visited.now frontier.old frontier.new entry)) }
+    ensures told { (n : ℕ) (summaries : List Summary) → G.fits graph.new n summaries → (t : ℕ) → G.told graph.new t → G.told graph.old t ⊎ IsOfTile n t entry.node }
+    ensures refusal { IfErr result (G.refuses graph.old source.old graph.new source.new) }
+    ensures fits { (n : ℕ) (summaries : List Summary) → G.fits graph.new n summaries → G.fits graph.old n summaries }
+    ensures keeps { OnOk result (G.keeps graph.old source.old graph.new source.new) }
+{
+    if entry.node == 0 {
+        return Ok(Some(entry.crest));
+    }
+    let mut found = Vec::new(alloc);
+    if let Some(level) = graph.edges_from(alloc, source, entry.node, &mut found)? {
+        return Ok(Some(entry.crest.max(level)));
+    }
+    push_all(entry, &found, visited, frontier)?;
+    Ok(None)
+}
+
+// Puts each node on the frontier to which one of the edges leads from the entry's node, unless it is visited.
+fn push_all(
+    entry: Entry,
+    found: &[Edge],
+    visited: &Visited,
+    frontier: &mut Frontier,
+) -> Result<(), AllocError>
+    ensures { OnOk result (AreRaised found.now (length found.now) entry visited.now frontier.old frontier.new) }
+{
+    for edge in found {
+        if !visited.contains(edge.to) {
+            frontier.push(raised(entry, *edge))?;
+        }
+    }
+    Ok(())
+}
+
+// The entry at the end of an edge from the entry's node.
+fn raised(entry: Entry, edge: Edge) -> Entry
+    ensures { result ≡ raised entry edge }
+{
+    Entry {
+        crest: entry.crest.max(edge.level),
+        level: edge.level,
+        node: edge.to,
+    }
+}

@@ -1,0 +1,97 @@
+//! The edges to the same point of other tiles, and the numbers of nodes.
+ghost use Rattle.std.specs.Prelude.{◌≡◌, ℕ, ◌+◌, ◌*◌, ◌-◌, ◌^◌, ◌<◌, ◌≤◌, ◌⊎◌, [], ◌∷◌, ◌++◌, IfErr, OnOk, IfSome, IfNone, length};
+ghost use Rattle.lattice.specs.declared.refusal.Refusal.TheVariants.{NoMemory, Damaged};
+ghost use Rattle.border_graph.specs.Others.{corner_at, AreTooMany, IsOtherTold, AreOthersTold};
+
+use crate::Edge;
+use lattice::{Corner, Point, Refusal, Side, holders, index_in, rim_number};
+use std::alloc::AllocError;
+
+/// Lists the edges from a point of a tile to the same point of the others that hold it, at its height in metres. Tiles go
+/// by their place among the corners.
+///
+/// Damaged where there are more rim points than numbers for them. Otherwise NoMemory is the only refusal.
+pub fn edges_to_others(
+    side: Side,
+    corners: &[Corner],
+    t: usize,
+    point: Point,
+    height: i16,
+    into: &mut Vec<Edge>,
+) -> Result<(), Refusal>
+    ensures edges { OnOk result (AreOthersTold side corners.now t point height into.old.items into.new.items) }
+    ensures refusal { IfErr result (λ r. (r ≡ NoMemory) ⊎ ((r ≡ Damaged) × AreTooMany side corners.now)) }
+{
+    let holding = holders(side, point);
+    for corner in holding.as_slice() {
+        edge_to_other(side, corners, t, point, height, *corner, into)?;
+    }
+    Ok(())
+}
+
+// Lists the edge to the same point of the tile at the corner, where there is one and it is another.
+fn edge_to_other(
+    side: Side,
+    corners: &[Corner],
+    t: usize,
+    point: Point,
+    height: i16,
+    corner: Corner,
+    into: &mut Vec<Edge>,
+) -> Result<(), Refusal>
+    ensures edge { OnOk result (IsOtherTold side corners.now t point height corner into.old.items into.new.items) }
+    ensures refusal { IfErr result (λ r. (r ≡ NoMemory) ⊎ ((r ≡ Damaged) × AreTooMany side corners.now)) }
+{
+    // The side is known to be in range once it was read.
+    let _edge = side.edge();
+    let Some(u) = place_of(corners, corner) else {
+        return Ok(());
+    };
+    if u == t {
+        return Ok(());
+    }
+    let Some(index) = index_in(side, corner, point) else {
+        return Ok(());
+    };
+    let Some(to) = node_at(side, u, rim_number(side, index)) else {
+        return Err(Refusal::Damaged);
+    };
+    add(into, Edge { level: height, to })?;
+    Ok(())
+}
+
+// One edge more.
+fn add(into: &mut Vec<Edge>, edge: Edge) -> Result<(), AllocError>
+    ensures { OnOk result (into.new.items ≡ into.old.items ++ edge ∷ []) }
+{
+    into.push(edge)?;
+    Ok(())
+}
+
+// Where among the corners this one stands.
+fn place_of(corners: &[Corner], corner: Corner) -> Option<usize>
+    ensures some { IfSome result (λ u. (u < length corners.now) × (corner_at corners.now u ≡ corner)) }
+    ensures none { IfNone result ((u : ℕ) → u < length corners.now → corner_at corners.now u ≡ corner → ⊥) }
+{
+    for (place, found) in corners.iter().enumerate() {
+        if *found == corner {
+            return Some(place);
+        }
+    }
+    None
+}
+
+/// The number of a rim point's node, where there is one: the first tile's rim points are numbered from 1, the next one's
+/// follow.
+pub fn node_at(side: Side, t: usize, k: u32) -> Option<u32>
+    ensures some { IfSome result (λ node. node ≡ 1 + t * (4 * (side - 1)) + k) }
+    ensures none { IfNone result (2 ^ 32 ≤ 1 + t * (4 * (side - 1)) + k) }
+{
+    let size = side.rim();
+    if t > u32::MAX as usize {
+        return None;
+    }
+    let before = (t as u32).checked_mul(size)?;
+    let above = before.checked_add(k)?;
+    above.checked_add(1)
+}

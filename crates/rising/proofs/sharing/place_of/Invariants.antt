@@ -1,6 +1,0 @@
-use Rattle.std.proofs.Common.{◌≡◌, ℕ, ◌<◌}
-use Rattle.rising.specs.Others.{corner_at}
-use Rattle.rising.proofs.sharing.place_of.Given as goal
-
-abbrev pub invariant-loop-place : goal.invariant-loop-place
-invariant-loop-place l = (u : ℕ) → u < l.place → corner_at l.corners u ≡ l.corner → ⊥
