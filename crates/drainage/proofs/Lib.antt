@@ -22,3 +22,5 @@ pub mod Found
 pub mod Entering
 pub mod Unreached
 pub mod Forgotten
+pub mod Reached
+pub mod LeftHeld

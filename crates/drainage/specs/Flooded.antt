@@ -1,11 +1,14 @@
 -- Tiles flooded each by itself, and what their summaries say (this product's own profile, after the tiled flooding of
 -- Barnes 2016).
-use Rattle.std.specs.Prelude.{◌≡◌, ◌≢◌, ℕ, ◌<◌, ℤ, pos, List, length, slice_index, slice_index_or}
+use Rattle.std.specs.Prelude.{◌≡◌, ◌≢◌, ℕ, ◌<◌, ℤ, pos, IsTrue, List, length, slice_index, slice_index_or}
 use Rattle.lattice.specs.Corners.{Corner}
-use Rattle.lattice.specs.Lattice.{point_of}
+use Rattle.lattice.specs.declared.point.Point.{Point}
+use Rattle.lattice.specs.Lattice.{Holds, point_of}
 use Rattle.lattice.specs.Mosaic.{Mosaic, void}
-use Rattle.lattice.specs.Ground.{is_outlet, metres}
+use Rattle.lattice.specs.Ground.{is_ground, is_outlet, metres}
 use Rattle.lattice.specs.Height.{height_of}
+use Rattle.tile_flood.specs.Blocks.{LabelledGround}
+use Rattle.derived.specs.Labellings.{IsFlooded}
 use Rattle.border_graph.specs.declared.summary.RimPoint.{RimPoint}
 use Rattle.border_graph.specs.Joining.{nowhere}
 use Rattle.lattice.specs.RimPoints.{IsRimPoint}
@@ -17,6 +20,12 @@ pub record IsRimPointIn (m : Mosaic) (c : Corner) (labels : List ℕ) (k : ℕ) 
   pub height : p.height ≡ metres (height_of m (point_of m.side c index))
   pub label : p.label ≡ slice_index labels index
   pub outlet : p.outlet ≡ is_outlet m (point_of m.side c index)
+
+-- a ground point of a tile with a valid labelling
+pub record IsGroundOf (m : Mosaic) (c : Corner) (labelled : LabelledGround) (p : Point) : Type 0 where
+  pub flooded : IsFlooded m c labelled
+  pub held : Holds m.side c p
+  pub ground : IsTrue (is_ground m p)
 
 -- the level of some rim point isn't its height, void for void
 pub record HasOtherRimHeight (m : Mosaic) (c : Corner) (levels : List ℤ) : Type 0 where

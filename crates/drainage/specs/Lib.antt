@@ -10,3 +10,4 @@ pub mod Between
 pub mod Reaching
 pub mod Forgetting
 pub mod Nearby
+pub mod Changed

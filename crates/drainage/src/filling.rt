@@ -21,9 +21,9 @@ use crate::asking::check_ground;
 use crate::heights::is_height;
 use crate::held::Held;
 use crate::waters::Waters;
+use border_graph::{lowest_pass, node_at};
 use derived::Labellings;
 use lattice::{Corner, Point, Refusal, Side, VOID, index_in};
-use border_graph::{lowest_pass, node_at};
 use std::alloc::Global;
 use tile_flood::{Labelled, NO_LABEL, OUT};
 

@@ -10,9 +10,9 @@ ghost use Rattle.drainage.specs.Waters.{known_of};
 
 use crate::filling::spot_of;
 use crate::waters::Waters;
+use border_graph::node_at;
 use downstream::Near;
 use lattice::{Corner, DIRECTIONS, Dir, Point, index_in, neighbour};
-use border_graph::node_at;
 use tile_flood::{Labelled, NO_LABEL, OUT};
 
 /// The filled level of a ground point and those of the points around it, where they all lie in one tile whose labelling is

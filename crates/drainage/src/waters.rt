@@ -18,10 +18,10 @@ use crate::entered::Entered;
 use crate::filling::spot_of;
 use crate::rims::RimLevels;
 use crate::shores::Shores;
+use border_graph::{Edge, EdgeSource};
 use catalogue::Samples;
 use derived::Labellings;
 use lattice::{Corner, Point, Refusal};
-use border_graph::{Edge, EdgeSource};
 use std::alloc::Global;
 
 /// The ways of the tiles that water has come to, their labellings, and the levels of rim points that were found.

@@ -26,7 +26,7 @@ use crate::staling::{drop_near, drop_near_changes, drop_near_sink};
 use cow_tree::Plane;
 use disk::Disk;
 use edits::{Command, commands_make_mosaics};
-use forgetting::forget_changed;
+use drainage::forget_changed;
 use lattice::{Corner, Refusal};
 
 impl<D: Disk> Store<D> {

@@ -18,7 +18,7 @@ use cow_tree::Tree;
 use disk::Disk;
 use drainage::Held;
 use edits::{Command, with_sink, without_sink};
-use forgetting::forget_near_sink;
+use drainage::forget_near_sink;
 use lattice::{MOST_SINKS, Point, Refusal};
 
 // The sinks that the command comes to, or its refusal. Samples are read, and nothing is staged.

@@ -10,7 +10,7 @@ ghost use Rattle.table_engine.specs.TableState.{stale_among};
 use catalogue::{Samples, Table, height};
 use edits::{Change, Command, carry_out, commands_make_mosaics, leave_stale, plan};
 use engine::Engine;
-use forgetting::forget_changed;
+use drainage::forget_changed;
 use lattice::{Corner, Height, MOST_TILES, Point, Refusal, Side};
 use std::alloc::Global;
 use std::marker::Model;

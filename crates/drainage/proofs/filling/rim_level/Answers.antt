@@ -45,7 +45,7 @@ returns-in_default-2-clause-asked g c =
     let carried = c.in_ok-level.ensures.keeps in
     stopped g.S.Samples a d carried.reads (λ honest.
     let before = carried.reads.honest honest in
-    never g.S.Samples a d (g.met.S.Samples.is_mosaic a before) w (known_of c.lowest_pass.new.ways) carried.grown honest (c.requires.right before) c.args.t c.args.number c.requires.place (c.requires.there before) c.in-Some.start
+    never g.S.Samples a d (g.met.S.Samples.is_mosaic a before) w (known_of c.lowest_pass.new.graph) carried.grown honest (c.requires.right before) c.args.t c.args.number c.requires.place (c.requires.there before) c.in-Some.start
     (c.in-Some.ensures.some ∙ ap (λ k. 1 + c.args.t * (4 * (w.side - 1)) + k) c.from.ensures)
     (λ n all agrees level rest. subst (λ found. IfNone found ((level : ℤ) (rest : List ℕ) → IsWayBelow (IsPlacedLink n all) 0 level c.in-Some.start rest → ⊥)) c.in_default-2.is (c.in_ok-level.ensures.not_joined n all agrees) level rest))
 
@@ -59,7 +59,7 @@ returns-clause-level g c honest =
     let before = carried.reads.honest honest in
     let in_range : SFits w16 c.in-Some-2.level = search rules in
     subst (IsRimLevel m w.corners (node_number m.side (Rim c.args.t c.args.number))) (sym (to_z-of_z w16 c.in-Some-2.level in_range))
-    (found g.S.Samples a d (g.met.S.Samples.is_mosaic a before) w (known_of c.lowest_pass.new.ways) carried.grown honest (c.requires.right before) c.args.t c.args.number c.requires.place (c.requires.there before) c.in-Some.start
+    (found g.S.Samples a d (g.met.S.Samples.is_mosaic a before) w (known_of c.lowest_pass.new.graph) carried.grown honest (c.requires.right before) c.args.t c.args.number c.requires.place (c.requires.there before) c.in-Some.start
     (c.in-Some.ensures.some ∙ ap (λ k. 1 + c.args.t * (4 * (w.side - 1)) + k) c.from.ensures) c.in-Some-2.level
     (λ n all agrees. subst (λ found. IfSome found (IsJoinedLevel (IsPlacedLink n all) 0 c.in-Some.start)) c.in-Some-2.is (c.in_ok-level.ensures.joined n all agrees)))
 
@@ -70,7 +70,7 @@ returns-clause-right g c honest =
     let w = known_of c.args.waters.now in
     let carried = c.in_ok-level.ensures.keeps in
     let before = carried.reads.honest honest in
-    let known = known_of c.lowest_pass.new.ways in
+    let known = known_of c.lowest_pass.new.graph in
     let in_range : SFits w16 c.in-Some-2.level = search rules in
     let same = to_z-of_z w16 c.in-Some-2.level in_range in
     let started : IsRight (g.S.Samples.mosaic d) (record { side = known.side; corners = known.corners; told = known.told; entered = known.entered; levels = c.know.new.self }) =
@@ -94,7 +94,7 @@ returns-in_err-know_all-clause-right g c honest =
     let w = known_of c.args.waters.now in
     let carried = c.in_ok-level.ensures.keeps in
     let before = carried.reads.honest honest in
-    let known = known_of c.lowest_pass.new.ways in
+    let known = known_of c.lowest_pass.new.graph in
     let in_range : SFits w16 c.in-Some-2.level = search rules in
     let same = to_z-of_z w16 c.in-Some-2.level in_range in
     let started : IsRight (g.S.Samples.mosaic d) (record { side = known.side; corners = known.corners; told = known.told; entered = known.entered; levels = c.know.new.self }) =

@@ -52,5 +52,5 @@ returns-clause-ways c =
       nothing = λ gap. absurd (c.if-height.false (ap (of_z w16) (c.height-height.ensures ∙ gap)));
       others = λ full. subst (λ h. AreOthersTold c.args.side c.args.corners.now c.args.t (point_of c.args.side (corner_at c.args.corners.now c.args.t) c.rim_index.result) h c.edges_across.new.into.items c.edges_to_others.new.into.items) height
           (subst (λ p. AreOthersTold c.args.side c.args.corners.now c.args.t p (to_z w16 (of_z w16 c.height-height.result)) c.edges_across.new.into.items c.edges_to_others.new.into.items)
-          (c.point_at-point.ensures.value ∙ ap (λ (d : Corner). point_of c.args.side d c.rim_index.result) corner) c.in_ok-edges_to_others.ensures.ways);
+          (c.point_at-point.ensures.value ∙ ap (λ (d : Corner). point_of c.args.side d c.rim_index.result) corner) c.in_ok-edges_to_others.ensures.edges);
     }

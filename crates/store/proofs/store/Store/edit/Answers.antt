@@ -16,8 +16,8 @@ use Rattle.cow_tree.specs.Trees.{root_of, corners_of, has_begun, records_due, st
 use Rattle.cow_tree.proofs.ReadOnly.{never_refused}
 use Rattle.cow_tree.proofs.Steps.{on_ok}
 use Rattle.drainage.specs.Between.{IsHeldOf}
-use Rattle.forgetting.specs.Changed.{IsWithin}
-use Rattle.forgetting.proofs.LeftHeld.{set_within}
+use Rattle.drainage.specs.Changed.{IsWithin}
+use Rattle.drainage.proofs.LeftHeld.{set_within}
 use Rattle.store.specs.Applied.{IsApplied}
 use Rattle.store.specs.Editing.{HoldsMosaic, index_pages_due, writes_begun}
 use Rattle.store.specs.Staging.{CommitsNothing}

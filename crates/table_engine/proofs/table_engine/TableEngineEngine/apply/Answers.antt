@@ -13,9 +13,9 @@ use Rattle.edits.proofs.AllStale.{all_changed_side}
 use Rattle.calls.specs.declared.event.Event.TheVariants as ask
 use Rattle.table_engine.specs.TableState.{stale_among}
 use Rattle.drainage.specs.Between.{IsHeldOf}
-use Rattle.forgetting.specs.Changed.{IsWithin}
+use Rattle.drainage.specs.Changed.{IsWithin}
 use Rattle.table_engine.proofs.FreshTiles.{stale_then}
-use Rattle.forgetting.proofs.LeftHeld.{within_if}
+use Rattle.drainage.proofs.LeftHeld.{within_if}
 use Rattle.table_engine.proofs.TableCalls.{called, called_same, done, old, worn}
 use Rattle.table_engine.proofs.table_engine.TableEngineEngine.apply.Goals as goal
 

@@ -1,4 +1,4 @@
-//! What changes leave of what is held of a mosaic's water.
+//! Drops what changes of a mosaic may make wrong of what is held of its water.
 ghost use Rattle.std.specs.Prelude.{◌≡◌, ℕ, true, All, IfSome, IfNone};
 ghost use Rattle.lattice.specs.Mosaic.{Mosaic, IsMosaic};
 ghost use Rattle.lattice.specs.declared.point.Point.{Point};
@@ -6,9 +6,9 @@ ghost use Rattle.edits.specs.Changes.{changed, all_changed};
 ghost use Rattle.edits.specs.declared.change.Change.TheVariants.{Sink, Unsink};
 ghost use Rattle.drainage.specs.Between.{IsHeldOf};
 ghost use Rattle.drainage.specs.Reaching.{is_between};
-ghost use Rattle.forgetting.specs.Changed.{IsWithin, DifferIn, place_of};
+ghost use Rattle.drainage.specs.Changed.{IsWithin, DifferIn, place_of};
 
-use drainage::Held;
+use crate::held::Held;
 use edits::Change;
 use lattice::{Point, Side, point_at};
 

@@ -6,7 +6,7 @@ use Rattle.lattice.specs.declared.point.Point.{Point}
 use Rattle.edits.specs.declared.change.Change.{Change}
 use Rattle.edits.specs.declared.change.Change.TheVariants.{Set, Sink, Unsink}
 use Rattle.drainage.specs.Reaching.{DifferBetween}
-use Rattle.forgetting.specs.declared.forgetting.Span.{Span}
+use Rattle.drainage.specs.declared.invalidating.Span.{Span}
 
 -- a sample that is set is one of a tile with this side
 abbrev pub IsWithin : ℕ → Change → Type 0

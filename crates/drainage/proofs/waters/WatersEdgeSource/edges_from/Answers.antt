@@ -6,7 +6,7 @@ use Rattle.drainage.specs.Waters.{known_of}
 use Rattle.drainage.proofs.Growing.{agrees_before}
 use Rattle.drainage.proofs.Questioned.{own_refused}
 use Rattle.drainage.proofs.Numbered.{no_ways, told_ways, told_of}
-use Rattle.drainage.proofs.waters.WatersWays.edges_from.Goals as goal
+use Rattle.drainage.proofs.waters.WatersEdgeSource.edges_from.Goals as goal
 
 pub returns-in_default-corner-clause-answer : goal.returns-in_default-corner-clause-answer
 returns-in_default-corner-clause-answer g c n summaries agrees =

@@ -16,9 +16,9 @@ use Rattle.edits.specs.declared.change.Change.TheVariants.{Add, Drop, Set, Sink,
 use Rattle.drainage.specs.Between.{IsHeldOf}
 use Rattle.drainage.specs.Reaching.{is_between, DifferBetween}
 use Rattle.drainage.specs.declared.held.Held.{Held}
-use Rattle.forgetting.specs.Changed.{IsWithin, DifferIn, place_of}
-use Rattle.forgetting.specs.declared.forgetting.Span.{Span}
-use Rattle.forgetting.proofs.Reached.{between_itself, differ_there}
+use Rattle.drainage.specs.Changed.{IsWithin, DifferIn, place_of}
+use Rattle.drainage.specs.declared.invalidating.Span.{Span}
+use Rattle.drainage.proofs.Reached.{between_itself, differ_there}
 
 -- a change that can be made sets a sample of a tile, if any
 pub within_if : (n : ℕ) (corners : List Corner) (sinks : List Point) (x : Change) → CanBeMade n corners sinks x → IsWithin n x

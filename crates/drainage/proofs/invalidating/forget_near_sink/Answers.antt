@@ -2,9 +2,9 @@ use Rattle.std.proofs.Common.{refl}
 use Rattle.edits.specs.declared.change.Change.TheVariants.{Sink, Unsink}
 use Rattle.edits.specs.Changes.{changed}
 use Rattle.catalogue.proofs.OneTile.{corners_are}
-use Rattle.forgetting.proofs.LeftHeld.{unmoved}
-use Rattle.forgetting.proofs.Reached.{differ_there}
-use Rattle.forgetting.proofs.forgetting.forget_near_sink.Goals as goal
+use Rattle.drainage.proofs.LeftHeld.{unmoved}
+use Rattle.drainage.proofs.Reached.{differ_there}
+use Rattle.drainage.proofs.invalidating.forget_near_sink.Goals as goal
 
 pub returns-clause-still : goal.returns-clause-still
 returns-clause-still c m valid right = c.forget_between.ensures.right m m (unmoved m c.args.point c.args.point) right

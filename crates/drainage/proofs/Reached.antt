@@ -22,7 +22,7 @@ use Rattle.edits.specs.Sinks.{with_point, without_point}
 use Rattle.edits.specs.declared.change.Change.{Change}
 use Rattle.edits.specs.declared.change.Change.TheVariants.{Add, Drop, Set, Sink, Unsink}
 use Rattle.drainage.specs.Reaching.{is_between, DifferBetween}
-use Rattle.forgetting.specs.Changed.{place_of}
+use Rattle.drainage.specs.Changed.{place_of}
 
 -- ---- the box of one point
 

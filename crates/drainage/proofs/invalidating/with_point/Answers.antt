@@ -4,9 +4,9 @@ use Rattle.std.proofs.lemmas.Int.{ints}
 use Rattle.lattice.specs.declared.point.Point.{Point}
 use Rattle.lattice.proofs.IntTests.{le_true, le_from}
 use Rattle.drainage.specs.Reaching.{is_between}
-use Rattle.forgetting.specs.declared.forgetting.Span.{Span}
-use Rattle.forgetting.proofs.Reached.{between_parts, between_from}
-use Rattle.forgetting.proofs.forgetting.with_point.Goals as goal
+use Rattle.drainage.specs.declared.invalidating.Span.{Span}
+use Rattle.drainage.proofs.Reached.{between_parts, between_from}
+use Rattle.drainage.proofs.invalidating.with_point.Goals as goal
 
 wider : (from to low high : Point) → low.y ≤ℤ from.y → to.y ≤ℤ high.y → low.x ≤ℤ from.x → to.x ≤ℤ high.x → (p : Point) → is_between from to p ≡ true → is_between low high p ≡ true
 wider from to low high south north west east p within =

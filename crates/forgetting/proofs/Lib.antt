@@ -1,2 +1,0 @@
-pub mod LeftHeld
-pub mod Reached
