@@ -1,4 +1,4 @@
--- The least level of ways over links is the least of their crests.
+-- The least level of paths over links is the least of their crests.
 use Rattle.std.proofs.Common.{◌≡◌, ◌≢◌, ℕ, ℤ, ◌≤ℤ◌, List, [], ◌∷◌, map}
 use Rattle.std.specs.Int.{int_max}
 use Rattle.lattice.proofs.Levels.{≤ℤ_same, ≤ℤ_antisym, le-max_left, le-max_right, max-le}
@@ -8,7 +8,7 @@ use Rattle.border_graph.specs.declared.edge_source.Edge.{Edge}
 use Rattle.border_graph.specs.Crests.{crest, LeadsOut, IsLeastCrest}
 
 module _ (L : ℕ → ℕ → ℤ → Type 0) where
-  -- a way link by link, no higher than its crest
+  -- a path edge by edge, no higher than its crest
   pub below_crest : (x : ℕ) (way : Edge) (rest : List Edge) → LeadsOut L x (way ∷ rest) → IsWayBelow L 0 (crest way rest) x (map (λ (w : Edge). w.to) (way ∷ rest))
   below_crest x way [] out = ((way.level, (out.0, ≤ℤ_same way.level)), out.1)
   below_crest x way (next ∷ rest) out = (

@@ -1,4 +1,4 @@
--- EdgeSource listed one by one.
+-- Edges listed one by one.
 use Rattle.std.proofs.Common.{◌≡◌, ℕ, ◌+◌, ◌<◌, ◌≤◌, ◌⊎◌, inl, inr, List, [], ◌∷◌, ◌++◌, length, get_or, sym, ap, ◌∙◌, subst, arith, Contains}
 use Rattle.std.proofs.lemmas.Bool.{cases_lt}
 use Rattle.std.proofs.lemmas.List.{get_or_default}
@@ -7,7 +7,7 @@ use Rattle.border_graph.specs.declared.waiting.Link.{Link}
 use Rattle.border_graph.specs.declared.edge_source.Edge.{Edge}
 use Rattle.border_graph.specs.TileGraph.{turned, out_at, AreListedStill, AreTurned, AreOut}
 
--- one way more
+-- one edge more
 pub still_more : (old mid new : List Edge) (way : Edge) → new ≡ mid ++ way ∷ [] → AreListedStill old mid → AreListedStill old new
 still_more old mid new way is still x has = subst (λ (l : List Edge). Contains l x) (sym is) (Contains-append_left mid (way ∷ []) x (still x has))
 

@@ -1,4 +1,4 @@
--- The steps of water that rises from a start over links: what is visited next ends a least way (after the correctness
+-- The steps of a bottleneck search from a start over links: what is visited next ends a least path (after the correctness
 -- argument of Barnes, Lehman and Mulla 2014).
 use Rattle.std.proofs.Common.{◌≡◌, ℕ, zero, suc, ◌+◌, ◌*◌, ◌-◌, ◌<◌, ◌≤◌, ◌⊎◌, inl, inr, ℤ, ◌≤ℤ◌, true, false, List, [], ◌∷◌, length, get_or, refl, sym, ap, ◌∙◌, subst, arith, true≢false, Contains, int_lt}
 use Rattle.std.specs.Int.{int_max}
@@ -74,7 +74,7 @@ max_up a b c le = max-le a c (int_max b c) (≤ℤ_trans a b (int_max b c) le (l
 
 module _ (L : ℕ → ℕ → ℤ → Type 0) (start : ℕ) where
   module _ (visited : List ℕ) (frontier : List Entry) (s : IsSearching L start visited frontier) where
-    -- water waits at a node that isn't visited
+    -- an entry waits at a node that isn't visited
     record Enters (level : ℤ) : Type 0 where
       pub node : ℕ
       pub free : is_among visited node ≡ false
@@ -88,7 +88,7 @@ module _ (L : ℕ → ℕ → ℤ → Type 0) (start : ℕ) where
     on_up low high le x (inl full) = inl full
     on_up low high le x (inr w) = inr (waits_up frontier x low high le w)
 
-    -- a way that the water is on comes to such a node
+    -- a path from where the search is comes to such a node
     enters : (level : ℤ) → s.floor ≤ℤ level → (x : ℕ) (rest : List ℕ) → IsOn L start visited frontier x level → IsWayBelow L 0 level x rest → Enters level
     enters level low x [] on way = here_enters level x (ap (is_among visited) way ∙ s.outlet) on
     enters level low x (y ∷ rest) on way = elim (cases_Bool (is_among visited x)) [
@@ -217,7 +217,7 @@ end_at_known L entry level joined = record {
   least = λ lower rest low way. max-le entry.crest level lower low (joined.least lower rest way);
 }
 
--- what waits once all ways from a node are followed
+-- what waits once all edges from a node are followed
 pub followed_all : (L : ℕ → ℕ → ℤ → Type 0) (visited : List ℕ) (old new : List Entry) (entry : Entry) (found : List Edge) → 0 < entry.node → AreEdges L entry.node found → AreRaised found (length found) entry visited old new → IsExpanded L visited old new entry
 followed_all L visited old new entry found inner all r = record {
   inner = inner;
@@ -236,7 +236,7 @@ followed_all L visited old new entry found inner all r = record {
       | inr still ↦ inr (record { entry = raised entry (record { level = level; to = y }); waits = still; node = refl; low = ≤ℤ_same (int_max entry.crest level) })
     ]
 
--- the ways one by one
+-- the edges one by one
 module _ (found : List Edge) (i : ℕ) (entry : Entry) (visited : List ℕ) (old mid : List Entry) (e way : Edge) (r : AreRaised found i entry visited old mid) (small : i < length found) (at : way ≡ get_or found i e) where
   this : (k : ℕ) (d : Edge) → k < i + 1 → i ≤ k → way ≡ get_or found k d
   this k d below later =

@@ -1,4 +1,4 @@
--- Water rising from a start over links, over the lowest first (after Barnes, Lehman and Mulla 2014).
+-- A bottleneck (minimax) search from a start over links, the lowest first (after Barnes, Lehman and Mulla 2014).
 use Rattle.std.specs.Prelude.{◌≡◌, ℕ, ℤ, ◌<◌, ◌≤ℤ◌, ◌⊎◌, true, false, List, Contains, slice_index_or}
 use Rattle.std.specs.Int.{int_max}
 use Rattle.border_graph.specs.Links.{IsWayBelow}
@@ -7,17 +7,17 @@ use Rattle.border_graph.specs.declared.edge_source.Edge.{Edge}
 use Rattle.border_graph.specs.declared.frontier.Entry.{Entry}
 use Rattle.border_graph.specs.Frontier.{is_among}
 
--- the entry at the end of a way from the entry's node
+-- the entry at the end of an edge from the entry's node
 abbrev pub raised : Entry → Edge → Entry
 raised entry way = record { crest = int_max entry.crest way.level; level = way.level; node = way.to }
 
--- the ends of the first ways of the list wait or are visited, and what is new ends one of the ways
+-- the ends of the first edges of the list wait or are visited, and what is new ends one of the edges
 pub record AreRaised (ways : List Edge) (count : ℕ) (entry : Entry) (visited : List ℕ) (old new : List Entry) : Type 0 where
   pub waits : (k : ℕ) (d : Edge) → k < count → (is_among visited (slice_index_or ways k d).to ≡ true) ⊎ Contains new (raised entry (slice_index_or ways k d))
   pub others : (l : Entry) → Contains old l → Contains new l
   pub only : (l : Entry) → Contains new l → Contains old l ⊎ ((way : Edge) × (Contains ways way × (l ≡ raised entry way)))
 
--- water waits at x at no more than the level
+-- an entry waits at x at no more than the level
 pub record WaitsBelow (frontier : List Entry) (x : ℕ) (level : ℤ) : Type 0 where
   pub entry : Entry
   pub waits : Contains frontier entry
@@ -25,13 +25,13 @@ pub record WaitsBelow (frontier : List Entry) (x : ℕ) (level : ℤ) : Type 0 w
   pub low : entry.crest ≤ℤ level
 
 module _ (IsLink : ℕ → ℕ → ℤ → Type 0) where
-  -- the least level, no lower than the entry's crest, at which a way leads out from the entry's node
+  -- the least level, no lower than the entry's crest, at which a path leads out from the entry's node
   pub record IsEnd (entry : Entry) (level : ℤ) : Type 0 where
     pub high : entry.crest ≤ℤ level
     pub reached : (rest : List ℕ) × IsWayBelow IsLink 0 level entry.node rest
     pub least : (lower : ℤ) (rest : List ℕ) → entry.crest ≤ℤ lower → IsWayBelow IsLink 0 lower entry.node rest → level ≤ℤ lower
 
-  -- what waits once the node of a entry is followed
+  -- what waits once the node of an entry is expanded
   pub record IsExpanded (visited : List ℕ) (old new : List Entry) (entry : Entry) : Type 0 where
     pub inner : 0 < entry.node
     pub others : (l : Entry) → Contains old l → Contains new l
@@ -39,11 +39,11 @@ module _ (IsLink : ℕ → ℕ → ℤ → Type 0) where
     pub left : (y : ℕ) (level : ℤ) → IsLink entry.node y level → (is_among visited y ≡ true) ⊎ WaitsBelow new y (int_max entry.crest level)
 
   module _ (start : ℕ) (visited : List ℕ) (frontier : List Entry) where
-    -- x is visited, or water waits there at no more than the level
+    -- x is visited, or an entry waits there at no more than the level
     abbrev pub IsOn : ℕ → ℤ → Type 0
     IsOn x level = (is_among visited x ≡ true) ⊎ WaitsBelow frontier x level
 
-    -- each way from the start that is no higher than the floor has been followed
+    -- each path from the start that is no higher than the floor has been followed
     pub record IsSearching : Type 0 where
       pub floor : ℤ
       pub first : IsOn start floor

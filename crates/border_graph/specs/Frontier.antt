@@ -1,4 +1,4 @@
--- What waits: nodes that water may reach next, the lowest crest first. And which nodes are visited.
+-- The frontier of a search: nodes that it may visit next, the lowest crest first. And which nodes are visited.
 use Rattle.std.specs.Prelude.{◌≡◌, ℕ, ◌==◌, ◌≤ℤ◌, Bool, true, false, cond, List, Contains}
 use Rattle.std.specs.List.{list_any}
 use Rattle.border_graph.specs.declared.frontier.Entry.{Entry}

@@ -1,4 +1,4 @@
--- The ways from a rim point inside its own tile, as they are listed.
+-- The edges from a rim point inside its own tile, as they are listed.
 use Rattle.std.specs.Prelude.{◌≡◌, ◌≢◌, ℕ, ◌+◌, ◌<◌, ℤ, ◌⊎◌, List, [], ◌∷◌, Contains, slice_index_or}
 use Rattle.lattice.specs.Limits.{IsSide}
 use Rattle.lattice.specs.Mosaic.{void}
@@ -24,34 +24,34 @@ pub record AreTileLinks (n : ℕ) (b : Summary) (links : List (List Link)) : Typ
 abbrev pub AreListedStill : List Edge → List Edge → Type 0
 AreListedStill old new = (way : Edge) → Contains old way → Contains new way
 
--- the way to the start of a link, where nodes are numbered from the first one on
+-- the edge to the start of a link, where nodes are numbered from the first one on
 abbrev pub turned : ℕ → Link → Edge
 turned first link = record { level = link.level; to = first + link.from }
 
--- the ways to the starts of the first links of a row
+-- the edges to the starts of the first links of a row
 pub record AreTurned (row : List Link) (count first : ℕ) (old new : List Edge) : Type 0 where
   pub still : AreListedStill old new
   pub listed : (j : ℕ) (d : Link) → j < count → Contains new (turned first (slice_index_or row j d))
   pub only : (way : Edge) → Contains new way → Contains old way ⊎ ((link : Link) × (Contains row link × (way ≡ turned first link)))
 
--- the way to the outlet node at the level of a link
+-- the edge to the outlet node at the level of a link
 abbrev pub out_at : Link → Edge
 out_at link = record { level = link.level; to = 0 }
 
--- the ways out by those of the first links of a row that lead from the node
+-- the edges to the outlet node by those of the first links of a row that lead from the node
 pub record AreOut (row : List Link) (count from : ℕ) (old new : List Edge) : Type 0 where
   pub still : AreListedStill old new
   pub listed : (j : ℕ) (d : Link) → j < count → (slice_index_or row j d).from ≡ from → Contains new (out_at (slice_index_or row j d))
   pub only : (way : Edge) → Contains new way → Contains old way ⊎ ((link : Link) × (Contains row link × ((link.from ≡ from) × (way ≡ out_at link))))
 
 module _ (n : ℕ) (b : Summary) (k : ℕ) where
-  -- the ways from the rim point to the outlet node
+  -- the edges from the rim point to the outlet node
   pub record AreEdgesOut (old new : List Edge) : Type 0 where
     pub still : AreListedStill old new
     pub only : (way : Edge) → Contains new way → Contains old way ⊎ ((way.to ≡ 0) × IsLink n (b ∷ []) (Rim 0 k) Outlet way.level)
     pub all : AreInOrder (b ∷ []) → (level : ℤ) → IsLink n (b ∷ []) (Rim 0 k) Outlet level → level ≢ void → Contains new (record { level = level; to = 0 })
 
-  -- the ways from it to the others of its tile, whose nodes are numbered from the first one on
+  -- the edges from it to the others of its tile, whose nodes are numbered from the first one on
   pub record AreEdgesAcross (first : ℕ) (old new : List Edge) : Type 0 where
     pub still : AreListedStill old new
     pub only : (way : Edge) → Contains new way → Contains old way ⊎ ((l : ℕ) × ((way.to ≡ first + (1 + l)) × IsLink n (b ∷ []) (Rim 0 k) (Rim 0 l) way.level))

@@ -24,3 +24,4 @@ pub mod Unreached
 pub mod Forgotten
 pub mod Reached
 pub mod LeftHeld
+pub mod TileOutlets

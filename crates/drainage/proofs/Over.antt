@@ -31,7 +31,7 @@ use Rattle.drainage.proofs.RimNodes.{filled_by_joined}
 use Rattle.drainage.proofs.Whole.{summaries}
 
 -- a point whose label isn't that of a void
-ground_labelled : (m : Mosaic) (is : IsMosaic m) (c : Corner) (present : IsTrue (is_present m c)) (heights : List ℤ) (sinks : List ℕ) (of : IsBlockOf m c (block_of m.side heights sinks)) (levels : List ℤ) (labels : List ℕ)
+pub ground_labelled : (m : Mosaic) (is : IsMosaic m) (c : Corner) (present : IsTrue (is_present m c)) (heights : List ℤ) (sinks : List ℕ) (of : IsBlockOf m c (block_of m.side heights sinks)) (levels : List ℤ) (labels : List ℕ)
     (labelling : IsLabelling (block_of m.side heights sinks) levels labels) (e : ℕ) (inside : e < m.side * m.side) → slice_index labels e ≢ NO_LABEL → IsTrue (is_ground m (point_of m.side c e))
 ground_labelled m is c present heights sinks of levels labels labelling e inside some = by (is_ground m (point_of m.side c e)) refl
   where
@@ -95,7 +95,7 @@ module _ (m : Mosaic) (is : IsMosaic m) (c : Corner) (present : IsTrue (is_prese
       too_low k less same = let high = is.side_high in absurd (omega arith)
 
   -- a ground point's label isn't that of a void
-  never_unlabelled : slice_index labels e ≡ NO_LABEL → ⊥
+  pub never_unlabelled : slice_index labels e ≡ NO_LABEL → ⊥
   never_unlabelled none =
       let label = labelling.label e solid in
       let last = end_of (block_terrain (block_of m.side heights sinks)) e label.way.0 in

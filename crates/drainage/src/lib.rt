@@ -18,6 +18,7 @@ mod held;
 mod invalidating;
 mod laws;
 mod nearby;
+mod outlets;
 mod reaching;
 mod rims;
 mod shores;

@@ -11,15 +11,16 @@ ghost use Rattle.drainage.specs.Flooded.{IsRimPointIn, HasOtherRimHeight, AreRim
 
 use crate::growth::push;
 use crate::heights::is_height;
+use crate::outlets::is_tile_outlet;
 use border_graph::{RimPoint, Summary};
-use catalogue::{Samples, outlet};
+use catalogue::Samples;
 use derived::Labellings;
 use lattice::{Corner, Refusal, point_at, rim_index};
 use std::alloc::Global;
 use tile_flood::{Labelled, spills};
 
-/// The labelling of the corner's tile, and its summary. Beside what gives the labelling it reads the points around the
-/// tile's rim and those on it.
+/// The labelling of the corner's tile, and its summary. Beside what gives the labelling it reads the points of the tile's
+/// rim and those around the tile.
 ///
 /// It is refused for want of memory, as a read is, or with Damaged as a labelling is, or where the level of a rim point
 /// isn't its height.
@@ -51,7 +52,8 @@ fn rim_of<S: Samples>(
     labelled: &Labelled,
 ) -> Result<Option<Vec<RimPoint>>, Refusal>
     requires labelled_side { labelled.now.side ≡ S.side_of samples.old }
-    ensures rim { S.is_honest samples.new → IfOk result (λ found. MatchOption found (HasOtherRimHeight (S.mosaic samples.old) corner labelled.now.levels)
+    requires present { Contains (S.corners samples.old) corner }
+    ensures rim { S.is_honest samples.new → IsFlooded (S.mosaic samples.old) corner labelled.now → IfOk result (λ found. MatchOption found (HasOtherRimHeight (S.mosaic samples.old) corner labelled.now.levels)
         (λ rim. AreRimPointsIn (S.mosaic samples.old) corner labelled.now.labels rim.items (4 * (S.side_of samples.old - 1)))) }
     ensures refusal { IfErr result (λ r. (r ≡ NoMemory) ⊎ MayRefuse (S.failures samples.old) (S.failures samples.new) r) }
     ensures reads { OnlyReads S.Samples samples.old samples.new (reads_of result) }
@@ -76,8 +78,9 @@ fn rim_point<S: Samples>(
     number: u32,
 ) -> Result<Option<RimPoint>, Refusal>
     requires labelled_side { labelled.now.side ≡ S.side_of samples.old }
+    requires present { Contains (S.corners samples.old) corner }
     requires number { number < 4 * (S.side_of samples.old - 1) }
-    ensures point { S.is_honest samples.new → IfOk result (λ found. MatchOption found (HasOtherRimHeight (S.mosaic samples.old) corner labelled.now.levels)
+    ensures point { S.is_honest samples.new → IsFlooded (S.mosaic samples.old) corner labelled.now → IfOk result (λ found. MatchOption found (HasOtherRimHeight (S.mosaic samples.old) corner labelled.now.levels)
         (λ point. IsRimPointIn (S.mosaic samples.old) corner labelled.now.labels number point)) }
     ensures reads { OnlyReads S.Samples samples.old samples.new result }
 {
@@ -88,7 +91,7 @@ fn rim_point<S: Samples>(
     if !is_height(samples, point, level)? {
         return Ok(None);
     }
-    let is_outlet = outlet(samples, point)?;
+    let is_outlet = is_tile_outlet(samples, corner, labelled, point, index)?;
     Ok(Some(RimPoint {
         height: level,
         label: labelled.labels()[index as usize],

@@ -25,8 +25,8 @@ use crate::sinking::{forget_near, plan_sinks};
 use crate::staling::{drop_near, drop_near_changes, drop_near_sink};
 use cow_tree::Plane;
 use disk::Disk;
-use edits::{Command, commands_make_mosaics};
 use drainage::forget_changed;
+use edits::{Command, commands_make_mosaics};
 use lattice::{Corner, Refusal};
 
 impl<D: Disk> Store<D> {

@@ -16,9 +16,8 @@ ghost use Rattle.store.specs.TreeStates.{IsInState, IsClean};
 use arrayvec::ArrayVec;
 use cow_tree::Tree;
 use disk::Disk;
-use drainage::Held;
+use drainage::{Held, forget_near_sink};
 use edits::{Command, with_sink, without_sink};
-use drainage::forget_near_sink;
 use lattice::{MOST_SINKS, Point, Refusal};
 
 // The sinks that the command comes to, or its refusal. Samples are read, and nothing is staged.

@@ -8,9 +8,9 @@ ghost use Rattle.calls.specs.State.{fresh};
 ghost use Rattle.table_engine.specs.TableState.{stale_among};
 
 use catalogue::{Samples, Table, height};
+use drainage::forget_changed;
 use edits::{Change, Command, carry_out, commands_make_mosaics, leave_stale, plan};
 use engine::Engine;
-use drainage::forget_changed;
 use lattice::{Corner, Height, MOST_TILES, Point, Refusal, Side};
 use std::alloc::Global;
 use std::marker::Model;

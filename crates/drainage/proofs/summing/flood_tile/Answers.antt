@@ -6,6 +6,7 @@ use Rattle.lattice.specs.declared.refusal.Refusal.TheVariants.{NoMemory}
 use Rattle.catalogue.proofs.Asking.{asked_on, asked_by_reads}
 use Rattle.catalogue.proofs.Reading.{reads_on}
 use Rattle.border_graph.specs.Joining.{IsSummaryOf}
+use Rattle.derived.specs.Labellings.{IsFlooded}
 use Rattle.drainage.specs.Flooded.{HasOtherRimHeight, AreRimPointsIn}
 use Rattle.drainage.proofs.Questioned.{answered, asked_reads, passed_on, refused_by, stopped, wanting}
 use Rattle.drainage.proofs.Summed.{rim_holds, summary_is}
@@ -22,7 +23,7 @@ returns-clause-border g c honest =
     let side : g.S.Samples.side_of c.labelling.new.self ≡ m.side = reads.side ∙ sym (g.met.S.Samples.same_side old first) in
     let found : AreRimPointsIn (g.S.Samples.mosaic c.labelling.new.self) c.args.corner labelled.labels c.in-Some.rim.items (4 * (g.S.Samples.side_of c.labelling.new.self - 1)) =
     subst (λ found. MatchOption found (HasOtherRimHeight (g.S.Samples.mosaic c.labelling.new.self) c.args.corner labelled.levels)
-    (λ rim. AreRimPointsIn (g.S.Samples.mosaic c.labelling.new.self) c.args.corner labelled.labels rim.items (4 * (g.S.Samples.side_of c.labelling.new.self - 1)))) c.in-Some.is (c.in_ok-rim.ensures.rim honest) in
+    (λ rim. AreRimPointsIn (g.S.Samples.mosaic c.labelling.new.self) c.args.corner labelled.labels rim.items (4 * (g.S.Samples.side_of c.labelling.new.self - 1)))) c.in-Some.is (c.in_ok-rim.ensures.rim honest (subst (λ (s : Mosaic). IsFlooded s c.args.corner c.in_ok-labelled.labelled) (sym (reads.mosaic mid)) (c.in_ok-labelled.ensures.flooded mid))) in
     let points : AreRimPointsIn m c.args.corner labelled.labels c.in-Some.rim.items (4 * (m.side - 1)) =
     subst (λ n. AreRimPointsIn m c.args.corner labelled.labels c.in-Some.rim.items (4 * (n - 1))) side
     (subst (λ (s : Mosaic). AreRimPointsIn s c.args.corner labelled.labels c.in-Some.rim.items (4 * (g.S.Samples.side_of c.labelling.new.self - 1))) (reads.mosaic mid) found) in
@@ -47,7 +48,7 @@ returns-in_default-clause-asked g c =
     let mid = c.in_ok-rim.ensures.reads.honest honest in
     let other : HasOtherRimHeight (g.S.Samples.mosaic b) c.args.corner labelled.levels =
     subst (λ found. MatchOption found (HasOtherRimHeight (g.S.Samples.mosaic b) c.args.corner labelled.levels)
-    (λ rim. AreRimPointsIn (g.S.Samples.mosaic b) c.args.corner labelled.labels rim.items (4 * (g.S.Samples.side_of b - 1)))) c.in_default.is (c.in_ok-rim.ensures.rim honest) in
+    (λ rim. AreRimPointsIn (g.S.Samples.mosaic b) c.args.corner labelled.labels rim.items (4 * (g.S.Samples.side_of b - 1)))) c.in_default.is (c.in_ok-rim.ensures.rim honest (subst (λ (s : Mosaic). IsFlooded s c.args.corner c.in_ok-labelled.labelled) (sym (reads.mosaic mid)) (c.in_ok-labelled.ensures.flooded mid))) in
     rim_holds (g.S.Samples.mosaic a) c.args.corner labelled (c.in_ok-labelled.ensures.flooded mid) (subst (λ (m : Mosaic). HasOtherRimHeight m c.args.corner labelled.levels) (reads.mosaic mid) other))
 
 pub returns-in_err-rim-clause-asked : goal.returns-in_err-rim-clause-asked

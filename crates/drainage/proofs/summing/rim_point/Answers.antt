@@ -12,6 +12,7 @@ use Rattle.lattice.specs.Lattice.{point_of}
 use Rattle.lattice.specs.Mosaic.{Mosaic, void}
 use Rattle.lattice.specs.RimPoints.{IsRimPoint}
 use Rattle.border_graph.specs.declared.summary.RimPoint.{RimPoint}
+use Rattle.derived.specs.Labellings.{IsFlooded}
 use Rattle.catalogue.specs.Readers.{OnlyReads}
 use Rattle.catalogue.proofs.Reading.{reads_as, reads_on, reads_refused}
 use Rattle.drainage.proofs.summing.rim_point.Goals as goal
@@ -21,7 +22,7 @@ same_level : (read levels : List ℤ) (e : ℕ) → e < length read → read ≡
 same_level read levels e small same fits = to_z-of_z w16 (slice_index_or read e (pos 0)) fits ∙ (get_or_default read e (pos 0) void small ∙ ap (λ (l : List ℤ). slice_index_or l e void) same)
 
 pub returns-then-not-branch-clause-point : goal.returns-then-not-branch-clause-point
-returns-then-not-branch-clause-point g c honest =
+returns-then-not-branch-clause-point g c honest _ =
     let a = c.args.samples.now in
     let m = g.S.Samples.mosaic a in
     let e = c.rim_index-index.result in
@@ -44,14 +45,14 @@ pub returns-in_err-is_outlet-clause-reads : goal.returns-in_err-is_outlet-clause
 returns-in_err-is_outlet-clause-reads g c =
     let a = c.args.samples.now in
     let b = c.is_height.new.samples in
-    let d = c.outlet.new.samples in
+    let d = c.is_tile_outlet.new.samples in
     let p = err_from_is_err_and c.from_residual-in_err-is_outlet.result c.from_residual-in_err-is_outlet.ensures.1 in
     rw p.1 (subst (λ (r : Refusal). OnlyReads {T = Option RimPoint} g.S.Samples a d (Err r)) (sym p.2)
     (reads_on g.S.Samples g.met.S.Samples.keeps_on a b d c.in_ok-is_height.field-0 (Err c.in_err-is_outlet.field-0.0) c.in_ok-is_height.ensures.reads
     (reads_refused g.S.Samples b d c.in_err-is_outlet.field-0.0 c.in_err-is_outlet.ensures.reads)))
 
 pub returns-clause-point : goal.returns-clause-point
-returns-clause-point g c honest =
+returns-clause-point g c honest flooded =
     let a = c.args.samples.now in
     let m = g.S.Samples.mosaic a in
     let e = c.rim_index-index.result in
@@ -65,10 +66,10 @@ returns-clause-point g c honest =
       number = subst (λ n. IsRimPoint n c.args.number e) side (record { small = rim.small; rim = rim.rim; number = rim.number });
       height = (Decides-int_eq _ _).0 (sym (c.in_ok-is_height.ensures.value mid) ∙ c.if-not-branch.false) ∙ ap (λ p. metres (height_of m p)) point;
       label = search rules;
-      outlet = c.in_ok-is_outlet.ensures.value honest ∙ (ap (λ (s : Mosaic). is_outlet s c.point_at-point.result) (seen.mosaic mid) ∙ ap (is_outlet m) point);
+      outlet = c.in_ok-is_outlet.ensures.value honest (subst (λ (s : Mosaic). IsFlooded s c.args.corner c.args.labelled.now) (sym (seen.mosaic mid)) flooded) ∙ (ap (λ (s : Mosaic). is_outlet s c.point_at-point.result) (seen.mosaic mid) ∙ ap (is_outlet m) point);
     }
 
 pub returns-clause-reads : goal.returns-clause-reads
 returns-clause-reads g c =
-    reads_on g.S.Samples g.met.S.Samples.keeps_on c.args.samples.now c.is_height.new.samples c.outlet.new.samples c.in_ok-is_height.field-0 _ c.in_ok-is_height.ensures.reads
-    (reads_as g.S.Samples c.is_height.new.samples c.outlet.new.samples c.in_ok-is_outlet.is_outlet _ c.in_ok-is_outlet.ensures.reads)
+    reads_on g.S.Samples g.met.S.Samples.keeps_on c.args.samples.now c.is_height.new.samples c.is_tile_outlet.new.samples c.in_ok-is_height.field-0 _ c.in_ok-is_height.ensures.reads
+    (reads_as g.S.Samples c.is_height.new.samples c.is_tile_outlet.new.samples c.in_ok-is_outlet.is_outlet _ c.in_ok-is_outlet.ensures.reads)

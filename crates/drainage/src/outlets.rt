@@ -1,0 +1,100 @@
+//! Which rim points of a tile are outlets of the mosaic, by the tile's labelling and the points around the tile.
+ghost use Rattle.std.specs.Prelude.{◌≡◌, ◌<◌, ◌*◌, IfOk, Contains, false, true};
+ghost use Rattle.lattice.specs.Ground.{is_ground as ground, is_sink as is_declared, is_near, same_point, is_adjacent, degree_of, is_outlet};
+ghost use Rattle.lattice.specs.Lattice.{IsIndexOf};
+ghost use Rattle.catalogue.specs.Readers.{OnlyReads};
+ghost use Rattle.derived.specs.Labellings.{IsFlooded};
+ghost use Rattle.drainage.specs.Flooded.{IsGroundOf};
+
+use catalogue::{Samples, height, share_tile};
+use lattice::{Corner, Height, Point, Refusal, index_in, steps};
+use tile_flood::{Labelled, NO_LABEL};
+
+/// Whether water can leave at the point with this index in the corner's tile: it is ground, and is declared a sink or has
+/// fewer than eight adjacent points. What lies in the tile is ground where its label isn't that of a void, so that only
+/// points around the tile are read.
+pub(crate) fn is_tile_outlet<S: Samples>(
+    samples: &mut S,
+    corner: Corner,
+    labelled: &Labelled,
+    point: Point,
+    index: u32,
+) -> Result<bool, Refusal>
+    requires labelled_side { labelled.now.side ≡ S.side_of samples.old }
+    requires present { Contains (S.corners samples.old) corner }
+    requires index { IsIndexOf (S.side_of samples.old) corner point index }
+    requires inside { index < S.side_of samples.old * S.side_of samples.old }
+    ensures value { S.is_honest samples.new → IsFlooded (S.mosaic samples.old) corner labelled.now → IfOk result (λ answer. answer ≡ is_outlet (S.mosaic samples.old) point) }
+    ensures reads { OnlyReads S.Samples samples.old samples.new result }
+{
+    if labelled.labels()[index as usize] == NO_LABEL {
+        return Ok(false);
+    }
+    if is_sink(samples, point) {
+        return Ok(true);
+    }
+    let count = degree_in_tile(samples, corner, labelled, point)?;
+    Ok(count < 8)
+}
+
+// How many points are adjacent to the point, a ground point of the corner's tile.
+fn degree_in_tile<S: Samples>(
+    samples: &mut S,
+    corner: Corner,
+    labelled: &Labelled,
+    point: Point,
+) -> Result<u32, Refusal>
+    requires labelled_side { labelled.now.side ≡ S.side_of samples.old }
+    requires present { Contains (S.corners samples.old) corner }
+    ensures value { S.is_honest samples.new → IsGroundOf (S.mosaic samples.old) corner labelled.now point → IfOk result (λ count. count ≡ degree_of (S.mosaic samples.old) point) }
+    ensures reads { OnlyReads S.Samples samples.old samples.new result }
+{
+    let reach = steps(point);
+    let mut count = 0;
+    for step in reach.as_slice() {
+        if is_adjacent_to(samples, corner, labelled, point, step.to)? {
+            count += 1;
+        }
+    }
+    Ok(count)
+}
+
+// Whether the two points, one step apart, are adjacent, where the first is a ground point of the corner's tile.
+fn is_adjacent_to<S: Samples>(
+    samples: &mut S,
+    corner: Corner,
+    labelled: &Labelled,
+    point: Point,
+    to: Point,
+) -> Result<bool, Refusal>
+    requires labelled_side { labelled.now.side ≡ S.side_of samples.old }
+    requires present { Contains (S.corners samples.old) corner }
+    requires near { is_near point to ≡ true }
+    requires other { same_point point to ≡ false }
+    ensures value { S.is_honest samples.new → IsGroundOf (S.mosaic samples.old) corner labelled.now point → IfOk result (λ answer. answer ≡ is_adjacent (S.mosaic samples.old) point to) }
+    ensures reads { OnlyReads S.Samples samples.old samples.new result }
+{
+    if let Some(index) = index_in(labelled.side(), corner, to) {
+        return Ok(labelled.labels()[index as usize] != NO_LABEL);
+    }
+    if !share_tile(samples, point, to) {
+        return Ok(false);
+    }
+    is_ground(samples, to)
+}
+
+// Whether the point is declared a sink.
+fn is_sink<S: Samples>(samples: &S, point: Point) -> bool
+    ensures { S.is_honest samples.now → result ≡ is_declared (S.mosaic samples.now) point }
+{
+    samples.sinks().contains(&point)
+}
+
+// Whether the point has a height.
+fn is_ground<S: Samples>(samples: &mut S, point: Point) -> Result<bool, Refusal>
+    ensures value { S.is_honest samples.new → IfOk result (λ answer. answer ≡ ground (S.mosaic samples.old) point) }
+    ensures reads { OnlyReads S.Samples samples.old samples.new result }
+{
+    let height = height(samples, point)?;
+    Ok(matches!(height, Height::At(_)))
+}
