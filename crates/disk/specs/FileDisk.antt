@@ -1,5 +1,5 @@
 -- What contracts see of a disk over a file.
-use Rattle.std.specs.Prelude.{ℕ, List, length, ◌/◌, min}
+use Rattle.std.specs.Prelude.{ℕ, List, length}
 use Rattle.disk.specs.Disk.{Image}
 use Rattle.disk.specs.Memory.{MayLeave}
 use Rattle.disk.specs.FileCalls.{Answered, read, written, synced, state_after, IsHonest, LeftSince}
@@ -7,7 +7,6 @@ use Rattle.disk.specs.declared.transcript.FileCall.{FileCall}
 use Rattle.disk.specs.declared.transcript.FileCall.TheVariants as told
 use Rattle.disk.specs.declared.recorded_file.RecordedFile.{RecordedFile}
 use Rattle.disk.specs.declared.file.FileDisk.{FileDisk}
-use Rattle.disk.specs.declared.grown.Grown.{Grown}
 
 abbrev pub answered : FileCall → Answered
 answered (told.Read s ok bytes) = read s ok bytes.now
@@ -16,14 +15,6 @@ answered (told.Synced ok) = synced ok
 
 abbrev pub recorded : RecordedFile → List Answered
 recorded file = file.transcript.calls
-
--- the whole sectors of a file of so many bytes
-abbrev pub whole_sectors : ℕ → ℕ
-whole_sectors bytes = min (bytes / 4096) 4294967295
-
--- how many sectors a file was seen to have once it was made longer
-abbrev pub grown_sectors : Grown → ℕ
-grown_sectors grown = grown.sectors
 
 module _ {W : Type 0} where
   -- each call so far with its answer, the newest first

@@ -1,14 +1,13 @@
 //! A disk over a file.
-ghost use Rattle.std.specs.Prelude.{◌≡◌, ◌<◌, ◌≤◌, [], ◌∷◌, is_ok, IfOk, OnOk};
+ghost use Rattle.std.specs.Prelude.{◌≡◌, ◌<◌, ◌≤◌, [], ◌∷◌, is_ok, IfOk, OnOk, OnErr, max, min, ◌/◌};
 ghost use Rattle.disk.specs.Disk.{SameBut, TornAt, NoneNew, Only, counted, CountsFault, Elapses, Nothing};
 ghost use Rattle.disk.specs.FileCalls.{read, written, synced};
 ghost use Rattle.disk.specs.FileMembers.{seen_left, now_left, only_left};
 
-use crate::grown::{Grown, whole_sectors};
 use crate::recorded_file::{RecordedFile, SECTOR_BYTES};
 use crate::{Disk, Fault, World};
-use std::fs::{File, OpenOptions};
-use std::io;
+use std::fs::{self, File, Metadata, OpenOptions};
+use std::io::{self, ErrorKind};
 use std::marker::PhantomData;
 use std::path::Path;
 
@@ -30,7 +29,7 @@ pub struct FileDisk<W> {
 }
 
 impl<W: World> FileDisk<W> {
-    ghost use Rattle.disk.specs.FileDisk.{calls_of, sectors_of, failures_of, writes_of, grown_sectors};
+    ghost use Rattle.disk.specs.FileDisk.{calls_of, sectors_of, failures_of, writes_of};
 
     /// Makes a file of so many sectors of zeros, all of them settled.
     ///
@@ -46,17 +45,17 @@ impl<W: World> FileDisk<W> {
             .read(true)
             .write(true)
             .create_new(true)
-            .open(rt, path)?
-            .try_clone()?;
-        file.try_lock()?;
+            .open(rt, path)?;
+        let file = lock(file)?;
         file.set_len(u64::from(sectors) * SECTOR_BYTES)?;
         sync_folder(rt, path)?;
         FileDisk::over(file, sectors)
     }
 
-    /// Opens a file, and syncs it. Its sectors are its length divided by 4096, rounded down, at most 4,294,967,295; the
-    /// bytes after the last of them are neither read nor written. A file that is open as a disk already is refused as
-    /// `ErrorKind::WouldBlock`.
+    /// Opens a regular file, syncs it, and has the system forget what it holds of it, so that reads give what the drive
+    /// has. Its sectors are its length divided by 4096, rounded down, at most 4,294,967,295; the bytes after the last of
+    /// them are neither read nor written. What is no regular file is refused as `ErrorKind::InvalidInput`, and a file that
+    /// is open as a disk already as `ErrorKind::WouldBlock`.
     pub fn open(rt: &HostRuntime, path: &str) -> io::Result<FileDisk<W>>
         ensures calls { IfOk result (λ disk. calls_of disk ≡ []) }
         ensures failures { IfOk result (λ disk. failures_of disk ≡ 0) }
@@ -67,24 +66,39 @@ impl<W: World> FileDisk<W> {
         FileDisk::over(file, sectors)
     }
 
-    /// Appends sectors of zeros to a file that has fewer than so many, and syncs it. A file that has as many stays as it
-    /// is. Bytes after its last whole sector give way to the new ones. A file that is open as a disk is refused as
-    /// `ErrorKind::WouldBlock`, and one that stays shorter as `ErrorKind::UnexpectedEof`.
-    pub fn grow(rt: &HostRuntime, path: &str, sectors: u32) -> io::Result<Grown>
-        ensures { IfOk result (λ grown. sectors ≤ grown_sectors grown) }
-    {
-        Grown::to(open_locked(rt, path)?, sectors)
-    }
-
-    /// Opens a file that was made longer, and syncs it. It stayed locked.
-    pub fn open_grown(grown: Grown) -> io::Result<FileDisk<W>>
+    /// Opens a file as [`FileDisk::open`] does, and makes it longer where it has fewer sectors than so many. Where that
+    /// fails the error is `ErrorKind::Other`.
+    pub fn grow(rt: &HostRuntime, path: &str, sectors: u32) -> io::Result<FileDisk<W>>
         ensures calls { IfOk result (λ disk. calls_of disk ≡ []) }
-        ensures sectors { IfOk result (λ disk. sectors_of disk ≡ grown_sectors grown) }
+        ensures sectors { IfOk result (λ disk. sectors ≤ sectors_of disk) }
         ensures failures { IfOk result (λ disk. failures_of disk ≡ 0) }
         ensures writes { IfOk result (λ disk. writes_of disk ≡ 0) }
     {
-        let Grown { file, sectors } = grown;
-        FileDisk::over(file, sectors)
+        let mut disk = FileDisk::open(rt, path)?;
+        match disk.lengthen(sectors) {
+            Ok(()) => Ok(disk),
+            Err(Fault) => Err(io::Error::from(ErrorKind::Other)),
+        }
+    }
+
+    /// Appends sectors of zeros where there are fewer than so many, and syncs the file. A disk that has as many stays as it
+    /// is. Bytes after the last whole sector give way to the new ones. The file stays open and locked throughout.
+    ///
+    /// A call of the file that fails is a fault. Then the disk has the sectors that it had, and the file may be longer.
+    pub fn lengthen(&mut self, sectors: u32) -> Result<(), Fault>
+        ensures calls { calls_of self.new ≡ calls_of self.old }
+        ensures sectors { OnOk result (sectors_of self.new ≡ max (sectors_of self.old) sectors) }
+        ensures as_before { OnErr result (sectors_of self.new ≡ sectors_of self.old) }
+        ensures failures { CountsFault (failures_of self.old) (failures_of self.new) result }
+        ensures writes { writes_of self.new ≡ writes_of self.old }
+    {
+        if sectors <= self.count {
+            return Ok(());
+        }
+        let answer = self.file.lengthen(self.count, sectors);
+        self.tally(answer)?;
+        self.count = sectors;
+        Ok(())
     }
 
     fn over(file: File, sectors: u32) -> io::Result<FileDisk<W>>
@@ -118,16 +132,36 @@ impl<W: World> FileDisk<W> {
     }
 }
 
-// Opens a file and takes its lock, which is held until the file is closed.
+// Opens a regular file and takes its lock. What is at the path is asked before: to open a device may do something to it.
 fn open_locked(rt: &HostRuntime, path: &str) -> io::Result<File> {
-    // The clone's number is none of the standard streams', which may be closed.
-    let file = OpenOptions::new()
-        .read(true)
-        .write(true)
-        .open(rt, path)?
-        .try_clone()?;
+    ask_regular(&fs::metadata(rt, path)?)?;
+    let file = OpenOptions::new().read(true).write(true).open(rt, path)?;
+    ask_regular(&file.metadata()?)?;
+    lock(file)
+}
+
+fn ask_regular(found: &Metadata) -> io::Result<()> {
+    if found.is_file() {
+        Ok(())
+    } else {
+        Err(io::Error::from(ErrorKind::InvalidInput))
+    }
+}
+
+// Takes a file's lock, which is held until the file is closed. Where a standard stream is closed the file was opened under
+// its number, and what is written to the stream would be written to the file. A clone has a number from 3 on, and is the
+// same open file.
+fn lock(file: File) -> io::Result<File> {
+    let file = file.try_clone()?;
     file.try_lock()?;
     Ok(file)
+}
+
+// The whole sectors of a file of so many bytes.
+fn whole_sectors(bytes: u64) -> u32
+    ensures { result ≡ min (bytes / 4096) 4294967295 }
+{
+    u32::try_from(bytes / SECTOR_BYTES).unwrap_or(u32::MAX)
 }
 
 // Syncs the folder that holds a path, so that a new name in it outlasts a stop.

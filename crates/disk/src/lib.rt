@@ -12,7 +12,6 @@ mod faulty;
 mod file;
 mod file_laws;
 mod fuse;
-mod grown;
 mod memory;
 mod recorded_file;
 mod sector;
@@ -30,7 +29,6 @@ pub use file_laws::{
     disks_have_honest_records, false_reads_show, lost_writes_show, runs_have_honest_records,
 };
 pub use fuse::{Fuse, FuseDisk};
-pub use grown::Grown;
 pub use memory::MemDisk;
 pub use settled::settle;
 pub use tally::{CountedDisk, Tally};

@@ -258,8 +258,7 @@ fn a_file_is_one_disk_at_a_time(rt: HostRuntime) -> Result<(), Fail> {
 fn a_file_grows_by_sectors_of_zeros(rt: HostRuntime) -> Result<(), Fail> {
     let path = "disk_test_grow";
     fs::write(&rt, path, [5; 4097].as_slice())?;
-    let grown = FileDisk::<Brand>::grow(&rt, path, 3)?;
-    let disk = FileDisk::<Brand>::open_grown(grown)?;
+    let disk = FileDisk::<Brand>::grow(&rt, path, 3)?;
     assert_eq!(rt; disk.sectors(), 3);
     drop(disk);
     let bytes = fs::read(&rt, path)?;

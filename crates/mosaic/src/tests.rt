@@ -262,6 +262,22 @@ fn programs(rt: HostRuntime) {
 }
 
 #[test]
+fn what_is_no_regular_file(rt: HostRuntime) {
+    for (path, line) in [
+        (".", b"mosaic: cannot open .\n".as_slice()),
+        ("/dev/null", b"mosaic: cannot open /dev/null\n"),
+    ] {
+        let all = [
+            ends(&rt, &["serve", path], b"count\n", 1, line),
+            ends(&rt, &["check", path], b"", 1, line),
+            ends(&rt, &["upgrade", path], b"", 1, line),
+            ends(&rt, &["import", path, "N00E000.hgt"], b"", 1, line),
+        ];
+        assert_all(&rt, &all, path);
+    }
+}
+
+#[test]
 fn a_file_is_upgraded(rt: HostRuntime) -> Result<(), Fail> {
     let m = cleared(&rt, "server_test_upgraded");
     let tile = "N00E000.upgraded.hgt";

@@ -1,6 +1,7 @@
 -- What is at a path: a disk as it was opened, or why there is none (this product's own profile).
-use Rattle.std.specs.Prelude.{◌≡◌, ◌⊎◌, ◌<◌, ◌≤◌, ℕ, List, [], ◌++◌, codes, Option}
-use Rattle.disk.specs.FileDisk.{calls_of, failures_of, writes_of}
+use Rattle.std.specs.Prelude.{◌≡◌, ◌⊎◌, ◌<◌, ◌≤◌, ℕ, List, [], ◌++◌, codes, max, Option}
+use Rattle.disk.specs.Disk.{counted}
+use Rattle.disk.specs.FileDisk.{calls_of, failures_of, sectors_of, writes_of}
 use Rattle.disk.specs.declared.file.FileDisk.{FileDisk}
 use Rattle.lattice.specs.Limits.{largest_side, most_tiles}
 use Rattle.lattice.specs.declared.refusal.Refusal.TheVariants.{BadSide, BadCapacity}
@@ -13,6 +14,20 @@ pub record IsUntouched {V : Type 0} (disk : FileDisk V) : Type 0 where
   pub calls : calls_of disk ≡ []
   pub failures : failures_of disk ≡ 0
   pub writes : writes_of disk ≡ 0
+
+-- the open file was made as long as was wanted, where it was shorter, and nothing else of the disk changed
+pub record HasGrown {V : Type 0} (wanted : ℕ) (old new : FileDisk V) : Type 0 where
+  pub sectors : sectors_of new ≡ max (sectors_of old) wanted
+  pub calls : calls_of new ≡ calls_of old
+  pub failures : failures_of new ≡ failures_of old
+  pub writes : writes_of new ≡ writes_of old
+
+-- a call that was to make it longer failed, and nothing else of the disk changed
+pub record HasNotGrown {V : Type 0} (old new : FileDisk V) : Type 0 where
+  pub sectors : sectors_of new ≡ sectors_of old
+  pub calls : calls_of new ≡ calls_of old
+  pub failures : failures_of new ≡ counted (failures_of old)
+  pub writes : writes_of new ≡ writes_of old
 
 -- a store of this side and capacity is made
 pub record IsTaken (side capacity : ℕ) : Type 0 where

@@ -21,7 +21,7 @@ use Rattle.store.specs.Formatted.{format_2}
 use Rattle.command_line.specs.CommandLine.{AskedBy, AskNothing}
 use Rattle.server.specs.Endings.{Begins, EndsSession, TellsRefusal, bad_words}
 use Rattle.server.specs.OnDisks.{HasMeasured, ServesLines, ImportsTile, MakesStore, ChecksStore, TellsClosed, UpgradesStore}
-use Rattle.server.specs.Paths.{IsTaken, IsUntouched, MakesNone, TellsFault}
+use Rattle.server.specs.Paths.{HasGrown, HasNotGrown, IsTaken, IsUntouched, MakesNone, TellsFault}
 use Rattle.command_line.specs.declared.arguments.Arguments.{Arguments}
 use Rattle.command_line.specs.declared.arguments.Arguments.TheVariants.{Format, Import, Serve, Table, Check, Upgrade}
 use Rattle.server.specs.declared.files.PathFault.{PathFault}
@@ -73,18 +73,19 @@ module _ (images : ℕ → Image) where
   RunsCheck path written new disk status =
       ((disk ≡ None) × TellsFault path Closed written new status) ⊎ OnFile (λ g old left. ChecksStore g old left written new status) disk
 
-  -- the file is made as long as so many sectors, and opened to be upgraded where it has as many
-  abbrev pub RunsGrown : (path : List ℕ) → (sectors : ℕ) → (written new : Option (List ℕ)) → Option (FileDisk Brand) → ℕ → Type 0
-  RunsGrown path sectors written new disk status =
-      ((disk ≡ None) × (TellsRefusal Device written new status ⊎ TellsFault path Closed written new status))
-      ⊎ OnFile (λ g old left. (sectors ≤ g.size old) × UpgradesStore g old left written new status) disk
+  -- the open file is made as long as so many sectors, and the store in it is upgraded; or a call that was to make it longer
+  -- failed
+  abbrev pub RunsGrown : (sectors : ℕ) → (measured left : FileDisk Brand) → (written new : Option (List ℕ)) → ℕ → Type 0
+  RunsGrown sectors measured left written new status =
+      (HasNotGrown measured left × TellsRefusal Device written new status)
+      ⊎ ((longer : FileDisk Brand) × HasGrown sectors measured longer × UpgradesStore (giving images) longer left written new status)
 
-  -- the file is opened first to see how many sectors are asked
+  -- the file is opened, and the store in it tells how many sectors are asked; the disk is one throughout
   abbrev pub RunsUpgrade : (path : List ℕ) → (written new : Option (List ℕ)) → Option (FileDisk Brand) → ℕ → Type 0
   RunsUpgrade path written new disk status =
       ((disk ≡ None) × TellsFault path Closed written new status)
       ⊎ OnFile (λ g old left. TellsClosed g old left written new status) disk
-      ⊎ ((sectors : ℕ) × (first : FileDisk Brand) × OnFile (λ g old left. HasMeasured g old left sectors) (Some first) × RunsGrown path sectors written new disk status)
+      ⊎ OnFile (λ g old left. (sectors : ℕ) × (measured : FileDisk Brand) × HasMeasured g old measured sectors × RunsGrown sectors measured left written new status) disk
 
   -- ---- by its words
 

@@ -8,8 +8,8 @@ ghost use Rattle.server.specs.Program.{CarriesOut, EndsServing, Runs, RunsAs, Ru
 
 use crate::endings::{BAD_WORDS, REFUSED, end_session, end_with, refuse};
 use crate::files::{
-    PathFault, check_in_file, grow_file, import_to_file, make_in_file, measure_in_file, new_disk,
-    open_disk, open_grown, serve_on_file, tell_fault, upgrade_in_file,
+    PathFault, check_in_file, import_to_file, make_in_file, measure_in_file, new_disk, open_disk,
+    open_tile, serve_on_file, tell_fault, upgrade_in_file,
 };
 use command_line::{ArgumentFault, Arguments};
 use disk::FileDisk;
@@ -18,7 +18,6 @@ use lattice::{MOST_TILES, Refusal, Side};
 use serving::serve;
 use std::alloc::Global;
 use std::convert::AsStr;
-use std::fs::File;
 use std::io::{Read, Write};
 use std::marker::Brand;
 use table_engine::TableEngine;
@@ -58,9 +57,7 @@ pub fn program<S: AsStr, R: Read, W: Write>(
 ///
 /// What it does on a file is said of that disk, for whatever images the file's reads give: its record was empty when it
 /// was opened, each call on it stands there now, and where each answer is right for these images the promises hold. There
-/// is no disk where the words ask for none, where a line tells that none could be made or opened, or where an upgrade
-/// closed the file to make it longer and got no further. Of the disk that an upgrade closes, which told how many sectors
-/// are asked for, it is said only that there was one; `measure_in_file` says what it tells.
+/// is no disk where the words ask for none, or where a line tells that none could be made or opened.
 pub fn carry_out<S: AsStr, R: Read, W: Write>(
     rt: &HostRuntime,
     words: &[S],
@@ -159,7 +156,7 @@ fn import<W: Write>(rt: &HostRuntime, place: Place<'_>, tile: Place<'_>, writer:
     };
     match open_disk(rt, path) {
         Ok(disk) => {
-            let reader = File::open(rt, tile).ok();
+            let reader = open_tile(rt, tile);
             let (disk, status) = import_to_file(
                 rt.alloc(),
                 disk,
@@ -218,7 +215,8 @@ fn check<W: Write>(rt: &HostRuntime, place: Place<'_>, writer: &mut W) -> Ended
     }
 }
 
-/// Makes the store in a file one of the second version. The file is made as long as that version asks.
+/// Makes the store in a file one of the second version. The file is made as long as that version asks, and stays open and
+/// locked from the first call to the last.
 fn upgrade<W: Write>(rt: &HostRuntime, place: Place<'_>, writer: &mut W) -> Ended
     ghost images: { ℕ → Image }
     ensures { RunsUpgrade images place.entry.path.now (W.contents writer.old) (W.contents writer.new) result.disk result.status }
@@ -229,50 +227,31 @@ fn upgrade<W: Write>(rt: &HostRuntime, place: Place<'_>, writer: &mut W) -> Ende
         Err(fault) => return without_disk(rt.alloc(), path, fault, writer),
     };
     let (disk, measured) = measure_in_file(rt.alloc(), disk);
-    match measured {
-        Ok(sectors) => {
-            // It is closed, so that its lock is free for the next.
-            drop(disk);
-            upgrade_grown(rt, Place { path }, sectors, writer)
-        }
-        Err(refusal) => Ended {
-            status: refuse(writer, refusal),
-            disk: Some(disk),
-        },
+    let (disk, status) = match measured {
+        Ok(sectors) => upgrade_grown(rt.alloc(), disk, sectors, writer),
+        Err(refusal) => (disk, refuse(writer, refusal)),
+    };
+    Ended {
+        status,
+        disk: Some(disk),
     }
 }
 
-/// Makes the file of a store as long as so many sectors, and the store in it one of the second version. The disk that is
-/// upgraded is no shorter.
+/// Makes the file of a store as long as so many sectors, and the store in it one of the second version.
 fn upgrade_grown<W: Write>(
-    rt: &HostRuntime,
-    place: Place<'_>,
+    alloc: Global,
+    disk: FileDisk<Brand>,
     sectors: u32,
     writer: &mut W,
-) -> Ended
+) -> (FileDisk<Brand>, u8)
     ghost images: { ℕ → Image }
-    ensures { RunsGrown images place.entry.path.now sectors (W.contents writer.old) (W.contents writer.new) result.disk result.status }
+    ensures { RunsGrown images sectors disk result.0 (W.contents writer.old) (W.contents writer.new) result.1 }
 {
-    let Place { path } = place;
-    let grown = match grow_file(rt, path, sectors) {
-        Ok(grown) => grown,
-        Err(refusal) => {
-            return Ended {
-                status: refuse(writer, refusal),
-                disk: None,
-            };
-        }
-    };
-    match open_grown(grown) {
-        Ok(disk) => {
-            let (disk, status) = upgrade_in_file(rt.alloc(), disk, writer);
-            Ended {
-                status,
-                disk: Some(disk),
-            }
-        }
-        Err(fault) => without_disk(rt.alloc(), path, fault, writer),
+    let mut disk = disk;
+    if disk.lengthen(sectors).is_err() {
+        return (disk, refuse(writer, Refusal::Device));
     }
+    upgrade_in_file(alloc, disk, writer)
 }
 
 /// Tells why there is no disk at the path.

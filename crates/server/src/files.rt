@@ -3,11 +3,10 @@
 //! No contract sees what a file holds. So what is done to one is said for whatever images its reads may give: where each
 //! answer in the record of the file's calls is right for them, the file was an honest disk, and what holds of a store on
 //! such a disk holds of it.
-ghost use Rattle.std.specs.Prelude.{◌≡◌, ◌≤◌, ℕ, IfOk, IfErr};
+ghost use Rattle.std.specs.Prelude.{◌≡◌, ℕ, IfOk, IfErr};
 ghost use Rattle.disk.specs.Disk.{Image};
-ghost use Rattle.disk.specs.FileDisk.{grown_sectors, sectors_of};
+ghost use Rattle.disk.specs.FileDisk.{sectors_of};
 ghost use Rattle.disk.specs.FileWorlds.{giving};
-ghost use Rattle.lattice.specs.declared.refusal.Refusal.TheVariants.{Device};
 ghost use Rattle.page_codec.specs.Sizes.{sectors_asked};
 ghost use Rattle.store.specs.Formatted.{format_2};
 ghost use Rattle.server.specs.OnDisks.{ChecksStore, HasMeasured, ImportsTile, IsClosed, MakesStore, ServesLines, UpgradesStore, given_by};
@@ -18,10 +17,11 @@ use crate::disks::{
     check_store, import_tile, make_store, measure_store, serve_store, upgrade_store,
 };
 use crate::endings::{refuse, tell};
-use disk::{FileDisk, Grown, World};
+use disk::{FileDisk, World};
 use lattice::{Corner, Refusal};
 use page_codec::{Format, Version};
 use std::alloc::Global;
+use std::fs::File;
 use std::io::{ErrorKind, Read, Write};
 use std::marker::Brand;
 
@@ -68,23 +68,9 @@ pub(crate) fn open_disk(rt: &HostRuntime, path: &str) -> Result<FileDisk<Brand>,
     }
 }
 
-/// Makes the file of a store as long as so many sectors, where it is shorter.
-pub(crate) fn grow_file(rt: &HostRuntime, path: &str, sectors: u32) -> Result<Grown, Refusal>
-    ensures grown { IfOk result (λ grown. sectors ≤ grown_sectors grown) }
-    ensures fault { IfErr result (λ r. r ≡ Device) }
-{
-    FileDisk::<Brand>::grow(rt, path, sectors).map_err(|_| Refusal::Device)
-}
-
-/// Opens the file of a store that was made longer.
-pub(crate) fn open_grown(grown: Grown) -> Result<FileDisk<Brand>, PathFault>
-    ensures opened { IfOk result (λ disk. IsUntouched disk × (sectors_of disk ≡ grown_sectors grown)) }
-    ensures none { IfErr result (λ fault. fault ≡ Closed) }
-{
-    match FileDisk::<Brand>::open_grown(grown) {
-        Ok(disk) => Ok(disk),
-        Err(_) => Err(PathFault::Closed),
-    }
+/// Opens a tile's file, where there is one to read. As of a store's file, its number is none of the standard streams'.
+pub(crate) fn open_tile(rt: &HostRuntime, path: &str) -> Option<File> {
+    File::open(rt, path).ok()?.try_clone().ok()
 }
 
 /// Tells why there is no disk at the path, and answers the exit status.
