@@ -9,7 +9,7 @@ ghost use Rattle.server.specs.Program.{CarriesOut, EndsServing, Runs, RunsAs, Ru
 use crate::endings::{BAD_WORDS, REFUSED, end_session, end_with, refuse};
 use crate::files::{
     PathFault, check_in_file, import_to_file, make_in_file, measure_in_file, new_disk, open_disk,
-    open_tile, serve_on_file, tell_fault, upgrade_in_file,
+    serve_on_file, tell_fault, upgrade_in_file,
 };
 use command_line::{ArgumentFault, Arguments};
 use disk::FileDisk;
@@ -18,6 +18,7 @@ use lattice::{MOST_TILES, Refusal, Side};
 use serving::serve;
 use std::alloc::Global;
 use std::convert::AsStr;
+use std::fs::File;
 use std::io::{Read, Write};
 use std::marker::Brand;
 use table_engine::TableEngine;
@@ -156,7 +157,7 @@ fn import<W: Write>(rt: &HostRuntime, place: Place<'_>, tile: Place<'_>, writer:
     };
     match open_disk(rt, path) {
         Ok(disk) => {
-            let reader = open_tile(rt, tile);
+            let reader = File::open(rt, tile).ok();
             let (disk, status) = import_to_file(
                 rt.alloc(),
                 disk,
@@ -227,13 +228,18 @@ fn upgrade<W: Write>(rt: &HostRuntime, place: Place<'_>, writer: &mut W) -> Ende
         Err(fault) => return without_disk(rt.alloc(), path, fault, writer),
     };
     let (disk, measured) = measure_in_file(rt.alloc(), disk);
-    let (disk, status) = match measured {
-        Ok(sectors) => upgrade_grown(rt.alloc(), disk, sectors, writer),
-        Err(refusal) => (disk, refuse(writer, refusal)),
-    };
-    Ended {
-        status,
-        disk: Some(disk),
+    match measured {
+        Ok(sectors) => {
+            let (disk, status) = upgrade_grown(rt.alloc(), disk, sectors, writer);
+            Ended {
+                status,
+                disk: Some(disk),
+            }
+        }
+        Err(refusal) => Ended {
+            status: refuse(writer, refusal),
+            disk: Some(disk),
+        },
     }
 }
 

@@ -21,7 +21,6 @@ use disk::{FileDisk, World};
 use lattice::{Corner, Refusal};
 use page_codec::{Format, Version};
 use std::alloc::Global;
-use std::fs::File;
 use std::io::{ErrorKind, Read, Write};
 use std::marker::Brand;
 
@@ -66,11 +65,6 @@ pub(crate) fn open_disk(rt: &HostRuntime, path: &str) -> Result<FileDisk<Brand>,
         Ok(disk) => Ok(disk),
         Err(_) => Err(PathFault::Closed),
     }
-}
-
-/// Opens a tile's file, where there is one to read. As of a store's file, its number is none of the standard streams'.
-pub(crate) fn open_tile(rt: &HostRuntime, path: &str) -> Option<File> {
-    File::open(rt, path).ok()?.try_clone().ok()
 }
 
 /// Tells why there is no disk at the path, and answers the exit status.

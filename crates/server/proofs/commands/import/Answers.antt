@@ -10,7 +10,7 @@ use Rattle.server.proofs.commands.import.Goals as goal
 pub returns-in-Ok-open_disk : goal.returns-in-Ok-open_disk
 returns-in-Ok-open_disk g c =
     let named : IsFileName c.args.tile.path.now c.in-Ok.corner = search rules in
-    let given : Option (List ℕ) = given_by {R = File} (λ file. None) c.open_tile-reader.result in
+    let given : Option (List ℕ) = given_by {R = File} (λ file. None) c.ok-reader.result in
     let imports = subst (λ (tile : List ℕ). ImportsTile (giving g.images) c.in-Ok.corner tile given c.in-Ok-open_disk.disk c.import_to_file-disk.result.0
     (g.W.Write.contents c.args.writer.now) (g.W.Write.contents c.import_to_file-disk.new.writer) c.import_to_file-disk.result.1)
     c.as_bytes-in-Ok-open_disk.ensures.value c.import_to_file-disk.ensures in
