@@ -1,4 +1,5 @@
-"""Runs programs with some of their calls of files failing. It needs a C compiler, and the C library of Linux."""
+"""Runs programs with some of their calls of files failing, with what the system keeps of a file in a file of its own, or with
+another program trying for their file's lock. It needs a C compiler, and the C library of Linux."""
 
 import os
 import shutil
@@ -47,30 +48,179 @@ ssize_t pwrite(int file, const void *bytes, size_t count, off_t at) {
 int ftruncate(int file, off_t length) { return fails("ftruncate", 1) ? failed() : syscall(SYS_ftruncate, file, length); }
 int fsync(int file) { return fails("fsync", 0) ? failed() : syscall(SYS_fsync, file); }
 int fdatasync(int file) { return fails("fdatasync", 0) ? failed() : syscall(SYS_fdatasync, file); }
+
+int posix_fadvise(int file, off_t at, off_t length, int advice) {
+    return fails("posix_fadvise", 0) ? EIO : -syscall(SYS_fadvise64, file, at, length, advice);
+}
+"""
+
+# Stands before the C library's own calls. What a system keeps of one file, of so many sectors at most, is kept in a file of
+# its own, which outlasts the program. A sync that fails says that all of it is written, though nothing was.
+CACHE = r"""
+#include <errno.h>
+#include <fcntl.h>
+#include <stdlib.h>
+#include <string.h>
+#include <sys/mman.h>
+#include <sys/stat.h>
+#include <sys/syscall.h>
+#include <unistd.h>
+
+enum { SECTOR = 4096, SECTORS = 64 };
+enum state { ABSENT, CLEAN, DIRTY };
+
+struct cache {
+    unsigned char state[SECTORS];
+    unsigned char bytes[SECTORS][SECTOR];
+};
+
+static struct cache *kept(void) {
+    static struct cache *cache;
+    if (cache) return cache;
+    int file = open(getenv("CACHE"), O_RDWR | O_CREAT, 0600);
+    if (file < 0 || syscall(SYS_ftruncate, file, sizeof *cache)) abort();
+    cache = mmap(0, sizeof *cache, PROT_READ | PROT_WRITE, MAP_SHARED, file, 0);
+    if (cache == MAP_FAILED) abort();
+    close(file);
+    return cache;
+}
+
+static int is_due(const char *name, long number) { return getenv(name) && atol(getenv(name)) == number; }
+
+static int synced(int file) {
+    static long made = 0;
+    int fails = is_due("FAILING_SYNC", ++made);
+    for (int sector = 0; sector < SECTORS; sector++) {
+        if (kept()->state[sector] != DIRTY) continue;
+        if (!fails) syscall(SYS_pwrite64, file, kept()->bytes[sector], SECTOR, (off_t)sector * SECTOR);
+        kept()->state[sector] = CLEAN;
+    }
+    if (is_due("LAST_SYNC", made)) _exit(0);
+    if (fails) errno = EIO;
+    return -fails;
+}
+
+ssize_t pread(int file, void *bytes, size_t count, off_t at) {
+    long sector = at / SECTOR;
+    if (kept()->state[sector] == ABSENT) {
+        if (syscall(SYS_pread64, file, kept()->bytes[sector], SECTOR, at) != SECTOR) abort();
+        kept()->state[sector] = CLEAN;
+    }
+    memcpy(bytes, kept()->bytes[sector], count);
+    return count;
+}
+
+ssize_t pwrite(int file, const void *bytes, size_t count, off_t at) {
+    memcpy(kept()->bytes[at / SECTOR], bytes, count);
+    kept()->state[at / SECTOR] = DIRTY;
+    return count;
+}
+
+int fdatasync(int file) { return synced(file); }
+
+int fsync(int file) {
+    struct stat is;
+    return !fstat(file, &is) && S_ISREG(is.st_mode) ? synced(file) : syscall(SYS_fsync, file);
+}
+
+int posix_fadvise(int file, off_t at, off_t length, int advice) {
+    if (advice != POSIX_FADV_DONTNEED || getenv("FORGETS_NOTHING")) return 0;
+    for (int sector = at / SECTOR; sector < SECTORS && (!length || sector < (at + length) / SECTOR); sector++)
+        if (kept()->state[sector] == CLEAN) kept()->state[sector] = ABSENT;
+    return 0;
+}
+"""
+
+# Stands before the C library's own calls, and tells the name of each during which another program could lock the file, and
+# how many were made.
+LOCKS = r"""
+#include <fcntl.h>
+#include <stdio.h>
+#include <stdlib.h>
+#include <sys/file.h>
+#include <sys/syscall.h>
+#include <unistd.h>
+
+static void tried(const char *call) {
+    FILE *told = fopen(getenv("LOCKS_TOLD"), "a");
+    int other = open(getenv("LOCKED"), O_RDWR);
+    if (!told || other < 0) abort();
+    fprintf(told, "%s %s\n", flock(other, LOCK_EX | LOCK_NB) ? "held" : "free", call);
+    fclose(told);
+    close(other);
+}
+
+ssize_t pread(int file, void *bytes, size_t count, off_t at) { return tried("pread"), syscall(SYS_pread64, file, bytes, count, at); }
+ssize_t pwrite(int file, const void *bytes, size_t count, off_t at) { return tried("pwrite"), syscall(SYS_pwrite64, file, bytes, count, at); }
+int ftruncate(int file, off_t length) { return tried("ftruncate"), syscall(SYS_ftruncate, file, length); }
+int fsync(int file) { return tried("fsync"), syscall(SYS_fsync, file); }
+int fdatasync(int file) { return tried("fdatasync"), syscall(SYS_fdatasync, file); }
 """
 
 # One call fails; one write fails, after half of its bytes; all writes fail from one on.
 KINDS = ("once", "torn", "full")
 
 
-class FaultyCalls:
-    """Fails calls of a program's files: reads and writes at a place, syncs, and changes of a length, which count as writes. Its
-    library is made in the folder."""
+class Calls:
+    """Calls that stand before the C library's. Their library is made in the folder."""
+
+    def __init__(self, folder, name, text):
+        source, self.library = folder / f"{name}.c", folder / f"{name}.so"
+        source.write_text(text)
+        subprocess.run(["cc", "-O1", "-shared", "-fPIC", "-o", self.library, source], check=True)
 
     @staticmethod
     def can_be_made():
         return shutil.which("cc") is not None
 
+    def run_with(self, words, given, added):
+        """Runs the words with these in the environment: the status and the output."""
+        environment = {**os.environ, "LD_PRELOAD": str(self.library), **{name: str(value) for name, value in added.items()}}
+        done = subprocess.run(words, input=given, stdout=subprocess.PIPE, env=environment, timeout=60)
+        return done.returncode, done.stdout
+
+
+class FaultyCalls(Calls):
+    """Fails calls of a program's files: reads and writes at a place, syncs, and changes of a length, which count as writes."""
+
     def __init__(self, folder):
-        source, self.library, self.told = (folder / name for name in ("calls.c", "calls.so", "failing"))
-        source.write_text(CALLS)
-        subprocess.run(["cc", "-O1", "-shared", "-fPIC", "-o", self.library, source], check=True)
+        super().__init__(folder, "calls", CALLS)
+        self.told = folder / "failing"
 
     def run(self, words, given, kind, number):
         """Runs the words with the call of this number failing, the first being 1: the status, the output, and the name of that
         call, or none where fewer are made."""
         self.told.unlink(missing_ok=True)
-        added = {"LD_PRELOAD": self.library, "FAILING": number, "FAILING_KIND": kind, "FAILING_TOLD": self.told}
-        environment = {**os.environ, **{name: str(value) for name, value in added.items()}}
-        done = subprocess.run(words, input=given, stdout=subprocess.PIPE, env=environment, timeout=60)
-        return done.returncode, done.stdout, self.told.read_text() if self.told.exists() else None
+        found = self.run_with(words, given, {"FAILING": number, "FAILING_KIND": kind, "FAILING_TOLD": self.told})
+        return *found, self.told.read_text() if self.told.exists() else None
+
+
+class CachedCalls(Calls):
+    """Keeps what the system holds of a program's file in a file of its own, so that the file has what was synced and no more."""
+
+    def __init__(self, folder):
+        super().__init__(folder, "cache", CACHE)
+        self.cache = folder / "cache"
+
+    def run(self, words, given, **added):
+        """Runs the words. FAILING_SYNC is the number of a sync that fails, and leaves what it should have written as written;
+        LAST_SYNC that of one behind which the program ends; FORGETS_NOTHING has the system keep all."""
+        return self.run_with(words, given, {"CACHE": self.cache, **added})
+
+    def cut_power(self):
+        """Takes away what the system holds. The file stays as it is."""
+        self.cache.unlink(missing_ok=True)
+
+
+class TriedLocks(Calls):
+    """Tries for the lock of a program's file at each of its calls of the file."""
+
+    def __init__(self, folder):
+        super().__init__(folder, "locks", LOCKS)
+        self.told = folder / "tried"
+
+    def run(self, words, given, path):
+        """Runs the words: the status, the output, and of each call whether the file was held or free, and its name."""
+        self.told.unlink(missing_ok=True)
+        found = self.run_with(words, given, {"LOCKED": path, "LOCKS_TOLD": self.told})
+        return *found, self.told.read_text().splitlines()
