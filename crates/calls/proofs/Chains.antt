@@ -65,7 +65,7 @@ not_reopened event answer other matches is = opened event other (subst (λ (a : 
 
 module _ {E : Type 0} (of : Members E) (called : E → Event → Reply → E → Type 0) (laws : Laws of called) where
   pub keeps : (old : E) (events : List Event) (answers : List Reply) (engines : List E) → Chain called old events answers engines → Keeps of old answers (last_of old engines)
-  keeps old [] [] [] chain = record { honest = λ h. h; later = omega arith; device = omega arith }
+  keeps old [] [] [] chain = record { honest = λ h. h; sectors = refl; later = omega arith; device = omega arith }
   keeps old [] [] (next ∷ engines) chain = absurd chain
   keeps old [] (answer ∷ answers) engines chain = absurd chain
   keeps old (event ∷ events) [] engines chain = absurd chain
@@ -79,6 +79,7 @@ module _ {E : Type 0} (of : Members E) (called : E → Event → Reply → E →
       let more = rest.device in
       record {
         honest = λ h. first.honest (rest.honest h);
+        sectors = rest.sectors ∙ first.sectors;
         later = omega (arith, fewer, later);
         device = omega (arith, one, more);
       }

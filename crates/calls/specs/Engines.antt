@@ -33,6 +33,8 @@ pub record Members (E : Type 0) : Type 1 where
   -- how many calls of its disk have failed, and how many writes were made
   pub failures : E → ℕ
   pub writes : E → ℕ
+  -- how many sectors its disk has, where it has one
+  pub sectors : E → ℕ
   pub known : E → Known
 
 module _ {E : Type 0} (of : Members E) where
@@ -43,6 +45,7 @@ module _ {E : Type 0} (of : Members E) where
     pub capacity : answer ≢ reply.Reopened → of.capacity_of new ≡ of.capacity_of old
     pub told : IsTold (of.has_failed old) event answer (of.has_failed new)
     pub failures : IsCounted (of.failures old) answer (of.failures new)
+    pub sectors : of.sectors new ≡ of.sectors old
     pub writes : IsWritten (of.known old).version (of.side_of old) event answer (of.writes old) (of.writes new)
     pub known : Knows (of.known old) event answer (of.known new)
     -- no call makes a dishonest disk honest
@@ -84,6 +87,7 @@ module _ {E : Type 0} (of : Members E) where
   -- what is known over a chain of calls, on any disk
   pub record Keeps (old : E) (answers : List Reply) (new : E) : Type 0 where
     pub honest : of.is_honest new → of.is_honest old
+    pub sectors : of.sectors new ≡ of.sectors old
     pub later : of.failures old ≤ of.failures new
     -- the disk is blamed only where it failed
     pub device : failures_after (of.failures old) answers ≤ of.failures new

@@ -16,6 +16,7 @@ module _ {E : Type 0} (g : Ghosts E) where
     has_failed = g.has_failed;
     failures = g.failures;
     writes = g.writes;
+    sectors = g.sectors;
     known = g.known;
   }
 

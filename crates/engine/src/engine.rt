@@ -8,6 +8,7 @@ ghost use Rattle.calls.specs.declared.event.Event.TheVariants as ask;
 ghost use Rattle.calls.specs.declared.event.Reply.{Reply};
 ghost use Rattle.calls.specs.declared.event.Reply.TheVariants as reply;
 
+use calls::{Event, Reply};
 use edits::Command;
 use lattice::{Corner, Height, Point, Refusal, Side};
 use watershed::Run;
@@ -46,6 +47,9 @@ pub trait Engine {
 
     /// How many writes of the disk were made.
     ghost writes: { Self → ℕ };
+
+    /// How many sectors its disk has, where it has one.
+    ghost sectors: { Self → ℕ };
 
     /// What it knows without a disk: the version of its format, its accepted commands and its commits.
     ghost known: { Self → Known };
@@ -98,6 +102,40 @@ pub trait Engine {
     fn count(&self) -> u64
         ensures { called self.now ask.Count (reply.Count result) self.now };
 
+    /// Opens its disk again, which ends a failure. What is held in memory is then as the disk has it.
+    fn reopen(&mut self) -> Result<(), Refusal>
+        ensures { called self.old ask.Reopen (answered (λ u. reply.Reopened) result) self.new };
+
+    /// What the call that the event asks for answers.
+    fn answer(&mut self, event: &Event) -> Reply
+        ensures { called self.old event.now result self.new }
+    {
+        match event {
+            Event::Do(command) => self.apply(command).map_or_else(Reply::Refused, Reply::Done),
+            Event::Elevation(point) => self
+                .elevation(*point)
+                .map_or_else(Reply::Refused, Reply::Elevation),
+            Event::Fill(point) => self.fill(*point).map_or_else(Reply::Refused, Reply::Fill),
+            Event::Direction(point) => self
+                .direction(*point)
+                .map_or_else(Reply::Refused, Reply::Direction),
+            Event::Trace(point) => self.trace(*point).map_or_else(Reply::Refused, Reply::Trace),
+            Event::Watershed(point) => self
+                .watershed(*point)
+                .map_or_else(Reply::Refused, Reply::Watershed),
+            Event::Export(corner) => self
+                .export(*corner)
+                .map_or_else(Reply::Refused, Reply::Export),
+            Event::Tiles => self.tiles().map_or_else(Reply::Refused, Reply::Tiles),
+            Event::Sinks => self.sinks().map_or_else(Reply::Refused, Reply::Sinks),
+            Event::Step => self.step().map_or_else(Reply::Refused, Reply::Stepped),
+            Event::Count => Reply::Count(self.count()),
+            Event::Reopen => self
+                .reopen()
+                .map_or_else(Reply::Refused, |()| Reply::Reopened),
+        }
+    }
+
     /// What is known of a call: on any disk what its answer tells of failures, writes and counts, and on an honest one
     /// the answer, the state that it leaves, and what a stop leaves.
     ghost is_call: { (old new : Self) (event : Event) (answer : Reply) → called old event answer new
@@ -110,6 +148,7 @@ pub trait Engine {
           has_failed = has_failed;
           failures = failures;
           writes = writes;
+          sectors = sectors;
           known = known;
         }) old event answer new };
 

@@ -4,7 +4,6 @@ ghost use Rattle.serving.specs.Answers.{ImportComesTo, Replied, Turn, Turns};
 ghost use Rattle.serving.specs.Items.{Item};
 ghost use Rattle.serving.specs.Session.{Holds, Stored};
 
-use crate::asking::ask;
 use crate::hearing::KeptItem;
 use calls::Event;
 use edits::{Bytes, Command};
@@ -38,7 +37,7 @@ fn answer_import<E: Engine>(
     };
     let bytes = Bytes::new(payload);
     let import = Event::Do(Command::Import { corner, bytes });
-    tell(alloc, ask(engine, &import))
+    tell(alloc, engine.answer(&import))
 }
 
 /// Answers an item.
@@ -55,7 +54,7 @@ pub(crate) fn answer<E: Engine>(alloc: Global, engine: &mut E, item: KeptItem<'_
         Some(Request::Import { name, len }) => {
             answer_import(alloc, engine, name, len, payload, extent)
         }
-        Some(Request::Ask(event)) => tell(alloc, ask(engine, &event)),
+        Some(Request::Ask(event)) => tell(alloc, engine.answer(&event)),
         Some(Request::BadName) => Text::refused(Refusal::BadName),
         Some(Request::Quit) => Text::done(),
         None => Text::refused(Refusal::BadLine),

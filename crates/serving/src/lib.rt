@@ -10,7 +10,6 @@
 #![tactic(auto)]
 
 mod answering;
-mod asking;
 mod hearing;
 mod session;
 

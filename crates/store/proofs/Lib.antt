@@ -1,4 +1,3 @@
-pub mod Answering
 pub mod Committed
 pub mod EditingHeld
 pub mod EditingPages
@@ -21,6 +20,7 @@ pub mod Pages
 pub mod Querying
 pub mod QueryingDrainage
 pub mod QueryingPages
+pub mod Reopening
 pub mod Runs
 pub mod Sets
 pub mod SinksHeld

@@ -1,53 +1,37 @@
 -- Events that a store answered, one after another.
-use Rattle.std.proofs.Common.{◌≡◌, ◌≤◌, List, [], ◌∷◌, refl, sym, ◌∙◌, subst}
+use Rattle.std.proofs.Common.{◌≡◌, ◌≤◌, List, [], subst}
 use Rattle.disk.specs.Disk.{Image}
 use Rattle.disk.specs.declared.disk.Disk.{Ghosts}
 use Rattle.calls.specs.Engines.{IsCall, Calls, Laws}
-use Rattle.calls.specs.Runs.{last_of, Through}
 use Rattle.calls.specs.declared.event.Event.{Event}
 use Rattle.calls.specs.declared.event.Reply.{Reply}
 use Rattle.calls.proofs.Chains.{keeps, runs}
-use Rattle.store.specs.Calls.{HasAnswered, Runs}
+use Rattle.store.specs.Calls.{Runs}
 use Rattle.store.specs.StoreRuns.{nothing_done, one_by_one, among_more}
 use Rattle.store.specs.StoreState.{members}
 use Rattle.store.specs.Stores.{disk_of}
 use Rattle.store.specs.declared.store.Store.{Store}
 
 module _ {D : Type 0} (g : Ghosts D) where
-  pub answers : (old new : Store D g) (event asked : Event) (replied answer : Reply) → event ≡ asked → replied ≡ answer → g.size (disk_of new) ≡ g.size (disk_of old)
-      → IsCall (members g) old asked answer new → HasAnswered g old event replied new
-  answers old new event asked replied answer is says size call =
-      subst (λ (e : Event). HasAnswered g old e replied new) (sym is)
-      (subst (λ (r : Reply). HasAnswered g old asked r new) (sym says) (record { size = size; call = call }))
-
-  sized_all : (old : Store D g) (events : List Event) (replies : List Reply) (stores : List (Store D g)) → Through (HasAnswered g) old events replies stores
-      → g.size (disk_of (last_of old stores)) ≡ g.size (disk_of old)
-  sized_all old [] [] [] chain = refl
-  sized_all old (event ∷ events) (answer ∷ replies) (next ∷ stores) (step, chain) = sized_all next events replies stores chain ∙ step.size
-  sized_all old [] [] (next ∷ stores) chain = absurd chain
-  sized_all old [] (answer ∷ replies) stores chain = absurd chain
-  sized_all old (event ∷ events) [] stores chain = absurd chain
-  sized_all old (event ∷ events) (answer ∷ replies) [] chain = absurd chain
-
   module _ (only_now : (disk : D) (image : Image) → g.honest disk → g.since disk (g.moment disk) image → g.may disk image) where
-    laws : Laws (members g) (HasAnswered g)
+    laws : Laws (members g) (IsCall (members g))
     laws = record {
-      is_call = λ old new event answer step. step.call;
+      is_call = λ old new event answer call. call;
       stays = λ store s honest at. nothing_done store s [] (λ image. only_now (disk_of store) image) honest at;
       in_turn = λ first mid last states more before after. one_by_one first mid last states more before after;
       weaker = λ first last states more among before. among_more first last states more among before;
     }
 
-    pub ran : (old new : Store D g) (events : List Event) (replies : List Reply) → Calls (HasAnswered g) old events replies new → Runs g old new events replies
+    pub ran : (old new : Store D g) (events : List Event) (replies : List Reply) → Calls (IsCall (members g)) old events replies new → Runs g old new events replies
     ran old new events replies (stores, (is, chain)) = (
       stores,
       (
         is,
         record {
           answered = chain;
-          size = sized_all old events replies stores chain;
-          keeps = keeps (members g) (HasAnswered g) laws old events replies stores chain;
-          states = runs (members g) (HasAnswered g) laws old events replies stores chain;
+          size = (keeps (members g) (IsCall (members g)) laws old events replies stores chain).sectors;
+          keeps = keeps (members g) (IsCall (members g)) laws old events replies stores chain;
+          states = runs (members g) (IsCall (members g)) laws old events replies stores chain;
         },
       ),
     )

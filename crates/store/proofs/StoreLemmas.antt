@@ -136,6 +136,7 @@ module _ {D : Type 0} (g : Ghosts D) (old new : Store D g) {T : Type 0} (event :
       record {
         side = λ _. ap (λ (root : RootValue). root.side) reads.root;
         capacity = λ _. ap (λ (root : RootValue). root.capacity) reads.root;
+        sectors = reads.size;
         told = told event tell so (has_failed old) (has_failed new) result causes (λ had. ((reads.failed had).0, reads.still_failed had)) reads.works reads.fails reads.quiet;
         failures = counted_so event tell so (g.failures (disk_of old)) (g.failures (disk_of new)) result reads.later reads.device;
         writes = written_so event tell so (number_of (root_of old).version) (side_of old) before now result (few_as event tell Answers is (number_of (root_of old).version) (side_of old) before now reads.writes) (always_err result (λ _. reads.writes));
@@ -183,6 +184,7 @@ pub counts : {D : Type 0} (g : Ghosts D) → ((disk : D) (image : Image) → g.h
 counts g only_now store k known state = record {
   side = λ _. refl;
   capacity = λ _. refl;
+  sectors = refl;
   told = record { matches = tt; says = λ _. (k, refl); had_failed = λ e. cc; after_is = refl };
   failures = record { later = omega arith; device = λ e. cc };
   writes = record { few = refl; refused = λ r is other. refl };
@@ -232,6 +234,7 @@ pub commands : {D : Type 0} (g : Ghosts D) → ((disk : D) (image : Image) → g
 commands g only_now old new c result is few failed still_failed = record {
   side = λ _. is.side;
   capacity = λ _. is.capacity;
+  sectors = is.size;
   told = told (ask.Do c) reply.Done (is_command c) (has_failed old) (has_failed new) result is.causes (λ had. ((failed had).0, still_failed had)) is.works is.fails is.quiet;
   failures = counted_so (ask.Do c) reply.Done (is_command c) (g.failures (disk_of old)) (g.failures (disk_of new)) result is.later is.device;
   writes = written_so (ask.Do c) reply.Done (is_command c) (number_of (root_of old).version) (side_of old) (g.writes (disk_of old)) (g.writes (disk_of new)) result (writes_few (root_of old).version (side_of old) c (g.writes (disk_of old)) (g.writes (disk_of new)) few) is.unwritten;
@@ -293,6 +296,7 @@ pub steps : {D : Type 0} (g : Ghosts D) → ((disk : D) (image : Image) → g.ho
 steps g only_now old new result is few failed still_failed = record {
   side = λ _. is.side;
   capacity = λ _. is.capacity;
+  sectors = is.size;
   told = told ask.Step reply.Stepped is_step (has_failed old) (has_failed new) result is.causes (λ had. ((failed had).0, still_failed had)) is.works is.fails is.quiet;
   failures = counted_so ask.Step reply.Stepped is_step (g.failures (disk_of old)) (g.failures (disk_of new)) result is.later is.device;
   writes = written_so ask.Step reply.Stepped is_step (number_of (root_of old).version) (side_of old) (g.writes (disk_of old)) (g.writes (disk_of new)) result few is.unwritten;

@@ -10,16 +10,11 @@ use Rattle.store.specs.Stores.{disk_of}
 use Rattle.store.specs.StoreState.{IsStoreAt, members}
 use Rattle.store.specs.declared.store.Store.{Store}
 
--- It was asked this, and answered so: a call as of any engine, after which the disk has as many sectors.
-pub record HasAnswered {D : Type 0} (g : Ghosts D) (old : Store D g) (event : Event) (answer : Reply) (new : Store D g) : Type 0 where
-  pub size : g.size (disk_of new) ≡ g.size (disk_of old)
-  pub call : IsCall (members g) old event answer new
-
 -- The store answered the events so, and was one of these stores after each: what is known on any disk, and then on an
 -- honest one.
 pub record HasRun {D : Type 0} (g : Ghosts D) (old : Store D g) (events : List Event) (answers : List Reply) (stores : List (Store D g)) : Type 0 where
   -- each event was asked once, in order, and answered so
-  pub answered : Through (HasAnswered g) old events answers stores
+  pub answered : Through (IsCall (members g)) old events answers stores
   pub size : g.size (disk_of (last_of old stores)) ≡ g.size (disk_of old)
   -- the disk is blamed only where it failed, and is honest at the end only where it was
   pub keeps : Keeps (members g) old answers (last_of old stores)

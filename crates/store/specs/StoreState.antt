@@ -45,5 +45,6 @@ members g = record {
   has_failed = λ store. has_failed store;
   failures = λ store. g.failures (disk_of store);
   writes = λ store. g.writes (disk_of store);
+  sectors = λ store. g.size (disk_of store);
   known = λ store. known_by (root_of store);
 }

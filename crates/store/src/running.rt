@@ -1,13 +1,14 @@
 //! Whole runs of events.
 ghost use Rattle.std.specs.Prelude.{◌≡◌, ◌≤◌, ◌++◌, List, IfErr, OnErr, OnOk};
 ghost use Rattle.lattice.specs.declared.refusal.Refusal.TheVariants.{NoMemory};
-ghost use Rattle.store.specs.Calls.{HasAnswered, Runs};
+ghost use Rattle.store.specs.Calls.{Runs};
 ghost use Rattle.store.specs.Stores.{disk_of};
 ghost use Rattle.calls.specs.declared.event.Reply.{Reply};
 
 use crate::Store;
 use calls::{Event, Reply};
 use disk::Disk;
+use engine::Engine;
 use lattice::Refusal;
 
 impl<D: Disk> Store<D> {
@@ -36,35 +37,5 @@ impl<D: Disk> Store<D> {
             let _ = out.push(reply);
         }
         Ok(())
-    }
-
-    // What the call that the event asks for answers.
-    fn answer(&mut self, event: &Event) -> Reply
-        ensures { HasAnswered D.Disk self.old event.now result self.new }
-    {
-        match event {
-            Event::Do(command) => self.apply(command).map_or_else(Reply::Refused, Reply::Done),
-            Event::Elevation(point) => self
-                .elevation(*point)
-                .map_or_else(Reply::Refused, Reply::Elevation),
-            Event::Fill(point) => self.fill(*point).map_or_else(Reply::Refused, Reply::Fill),
-            Event::Direction(point) => self
-                .direction(*point)
-                .map_or_else(Reply::Refused, Reply::Direction),
-            Event::Trace(point) => self.trace(*point).map_or_else(Reply::Refused, Reply::Trace),
-            Event::Watershed(point) => self
-                .watershed(*point)
-                .map_or_else(Reply::Refused, Reply::Watershed),
-            Event::Export(corner) => self
-                .export(*corner)
-                .map_or_else(Reply::Refused, Reply::Export),
-            Event::Tiles => self.tiles().map_or_else(Reply::Refused, Reply::Tiles),
-            Event::Sinks => self.sinks().map_or_else(Reply::Refused, Reply::Sinks),
-            Event::Step => self.step().map_or_else(Reply::Refused, Reply::Stepped),
-            Event::Count => Reply::Count(self.count()),
-            Event::Reopen => self
-                .reopen()
-                .map_or_else(Reply::Refused, |()| Reply::Reopened),
-        }
     }
 }

@@ -39,6 +39,8 @@ impl<D: Disk> Engine for Store<D> {
 
     ghost writes = { λ e. D.writes (disk_of e) };
 
+    ghost sectors = { λ e. D.size (disk_of e) };
+
     ghost known = { λ e. known_by (root_of e) };
 
     ghost is_call = { λ old new event answer call. call };
@@ -97,5 +99,9 @@ impl<D: Disk> Engine for Store<D> {
 
     fn count(&self) -> u64 {
         Store::count(self)
+    }
+
+    fn reopen(&mut self) -> Result<(), Refusal> {
+        Store::reopen(self)
     }
 }

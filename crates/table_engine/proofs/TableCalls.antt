@@ -1,5 +1,5 @@
 -- What is known of a call of the mosaic in memory, which never fails.
-use Rattle.std.proofs.Common.{◌≡◌, ℕ, ℤ, ◌<◌, ◌+◌, false, true≢false, IsTrue, List, [], ◌∷◌, ◌++◌, refl, sym, ap, subst, arith}
+use Rattle.std.proofs.Common.{◌≡◌, inl, ℕ, ℤ, ◌<◌, ◌+◌, false, true≢false, IsTrue, List, [], ◌∷◌, ◌++◌, refl, sym, ap, subst, arith}
 use Rattle.std.specs.Prelude.{Result, Ok, Err, IsOk, IfOk, IfErr, MatchResult, Some, None, Contains}
 use Rattle.std.specs.Global.{Vec}
 use Rattle.lattice.specs.Corners.{Corner}
@@ -68,6 +68,7 @@ module _ (held : Held) where
   same event answer matches not_failed not_device after few knows happens = record {
     side = λ _. refl;
     capacity = λ _. refl;
+    sectors = refl;
     told = record { matches = matches; says = λ failed. absurd (true≢false (sym failed)); had_failed = λ is. absurd (not_failed is); after_is = after };
     failures = record { later = omega arith; device = λ is. absurd (not_device is) };
     writes = record { few = few; refused = λ r is other. refl };
@@ -123,6 +124,9 @@ module _ (held : Held) where
 
   pub no_room_to_export : (c : Corner) → Same (ask.Export c) (reply.Refused NoMemory)
   no_room_to_export c = same (ask.Export c) (reply.Refused NoMemory) refl (λ e. absurd (cc)) (λ e. absurd (cc)) refl refl refl stays
+
+  pub reopened : Same ask.Reopen reply.Reopened
+  reopened = same ask.Reopen reply.Reopened tt (λ e. absurd (cc)) (λ e. absurd (cc)) refl refl tt (inl refl)
 
   pub listed : (result : Result (Vec Corner) Refusal) → IfOk result (λ corners. corners.items ≡ corners_of here) → IfErr result (λ r. r ≡ NoMemory) → Same ask.Tiles (answered reply.Tiles result)
   listed (Ok corners) is memory = same ask.Tiles (reply.Tiles corners) tt (λ e. absurd (cc)) (λ e. absurd (cc)) refl refl refl (stays, is)
@@ -186,6 +190,7 @@ module _ (m : Mosaic) (capacity : ℕ) (fresh : List Corner) (k g : ℕ) where
   done c new left makes side below stale = record {
     side = λ _. side;
     capacity = λ _. refl;
+    sectors = refl;
     told = record { matches = tt; says = λ failed. absurd (true≢false (sym failed)); had_failed = λ e. absurd (cc); after_is = refl };
     failures = record { later = omega arith; device = λ e. absurd (cc) };
     writes = record { few = few_writes m.side c; refused = λ r is other. refl };
@@ -212,6 +217,7 @@ module _ (m : Mosaic) (capacity : ℕ) (fresh : List Corner) (k g : ℕ) where
   stepped_to c stale below = record {
     side = λ _. refl;
     capacity = λ _. refl;
+    sectors = refl;
     told = record { matches = tt; says = λ failed. absurd (true≢false (sym failed)); had_failed = λ e. absurd (cc); after_is = refl };
     failures = record { later = omega arith; device = λ e. absurd (cc) };
     writes = record { few = omega arith; refused = λ r is other. refl };

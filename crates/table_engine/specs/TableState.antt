@@ -36,6 +36,7 @@ table = record {
   has_failed = (λ _. false);
   failures = (λ _. 0);
   writes = (λ _. 0);
+  sectors = (λ _. 0);
   known = (λ held. record { version = 2; count = held.contents.count; number = held.contents.number });
 }
 

@@ -83,6 +83,8 @@ impl Engine for TableEngine {
 
     ghost writes = { table.writes };
 
+    ghost sectors = { table.sectors };
+
     ghost known = { table.known };
 
     ghost is_call = { λ old new event answer call. call };
@@ -165,6 +167,11 @@ impl Engine for TableEngine {
 
     fn count(&self) -> u64 {
         self.count
+    }
+
+    // It has no disk, and stays as it is.
+    fn reopen(&mut self) -> Result<(), Refusal> {
+        Ok(())
     }
 }
 

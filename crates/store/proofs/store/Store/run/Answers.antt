@@ -3,11 +3,12 @@ use Rattle.std.proofs.lemmas.List.{append-nil, append_assoc}
 use Rattle.std.specs.Result.{is_ok}
 use Rattle.disk.specs.Disk.{Image}
 use Rattle.disk.specs.declared.disk.Disk.{Ghosts}
-use Rattle.calls.specs.Engines.{Calls}
+use Rattle.calls.specs.Engines.{Calls, IsCall}
 use Rattle.calls.specs.declared.event.Event.{Event}
 use Rattle.calls.specs.declared.event.Reply.{Reply}
 use Rattle.calls.proofs.Chains.{asked_more, last_more, step_more}
-use Rattle.store.specs.Calls.{HasAnswered, Runs}
+use Rattle.store.specs.Calls.{Runs}
+use Rattle.store.specs.StoreState.{members}
 use Rattle.store.specs.declared.store.Store.{Store}
 use Rattle.store.proofs.Runs.{ran, size_then, later_then, honest_then}
 use Rattle.store.proofs.store.Store.run.Goals as goal
@@ -41,22 +42,22 @@ loop-event-preserved g c =
     let old = c.args.self.now in
     let new = c.answer-reply.new.self in
     let stores = so_far.1.0 in
-    let steps = step_more (HasAnswered g.D.Disk) l.self new event c.answer-reply.result old (take i events) replies stores so_far.1.1.0 so_far.1.1.1 c.answer-reply.ensures in (
+    let steps = step_more (IsCall (members g.D.Disk)) l.self new event c.answer-reply.result old (take i events) replies stores so_far.1.1.0 so_far.1.1.1 c.answer-reply.ensures in (
       omega (arith, room, len, capacity),
       (
         replies ++ c.answer-reply.result ∷ [],
         (
           items ∙ ap (λ (rs : List Reply). rs ++ c.answer-reply.result ∷ []) so_far.0 ∙ append_assoc c.args.out.now.items replies (c.answer-reply.result ∷ []),
-          subst (λ (es : List Event). Calls (HasAnswered g.D.Disk) old es (replies ++ c.answer-reply.result ∷ []) new) (sym (asked_more events i event below c.event-item.is))
-              (stores ++ new ∷ [], (last_more (HasAnswered g.D.Disk) l.self new event c.answer-reply.result old stores, steps)),
+          subst (λ (es : List Event). Calls (IsCall (members g.D.Disk)) old es (replies ++ c.answer-reply.result ∷ []) new) (sym (asked_more events i event below c.event-item.is))
+              (stores ++ new ∷ [], (last_more (IsCall (members g.D.Disk)) l.self new event c.answer-reply.result old stores, steps)),
         ),
       ),
     )
 
 -- at the end all were answered
 all_run : {D : Type 0} (g : Ghosts D) → ((disk : D) (image : Image) → g.honest disk → g.since disk (g.moment disk) image → g.may disk image) → (old new : Store D g) (events : List Event) (i : ℕ) (replies : List Reply)
-    → length events ≤ i → Calls (HasAnswered g) old (take i events) replies new → Runs g old new events replies
-all_run g only_now old new events i replies ended calls = ran g only_now old new events replies (subst (λ (es : List Event). Calls (HasAnswered g) old es replies new) (take_all i events ended) calls)
+    → length events ≤ i → Calls (IsCall (members g)) old (take i events) replies new → Runs g old new events replies
+all_run g only_now old new events i replies ended calls = ran g only_now old new events replies (subst (λ (es : List Event). Calls (IsCall (members g)) old es replies new) (take_all i events ended) calls)
 
 pub returns-clause-ran : goal.returns-clause-ran
 returns-clause-ran g c =

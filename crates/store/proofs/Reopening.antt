@@ -1,6 +1,6 @@
--- What a store answers to an event, by the call that the event asks for.
+-- What a reopening is as a call of an engine.
 use Rattle.std.proofs.Common.{◌≡◌, ◌≢◌, ◌⊎◌, inl, inr, ⊎_elim, ◌≤◌, true, false, IsTrue, [], ◌∷◌, refl, sym, ap, subst}
-use Rattle.std.specs.Prelude.{Some, Result, Ok, Err, OnOk, OnErr, IfErr, IsErrOf, MatchResult}
+use Rattle.std.specs.Prelude.{Some, Result, Ok, Err, OnOk, OnErr, IfErr, IsErrOf}
 use Rattle.std.proofs.lemmas.Bool.{both_ways}
 use Rattle.disk.specs.Disk.{HasRisen}
 use Rattle.disk.specs.Stops.{AddsNothing, weaker}
@@ -20,13 +20,6 @@ use Rattle.store.specs.StoreRuns.{allowed}
 use Rattle.store.specs.StoreState.{StandsForOne, known_by, members}
 use Rattle.store.specs.Stores.{IsAt, disk_of, root_of, side_of, capacity_of, has_failed}
 use Rattle.store.specs.declared.store.Store.{Store}
-
--- the reply tells what the call answered
-pub told_as : {T : Type 0} (tell : T → Reply) (result : Result T Refusal) (replied : Reply) → MatchResult result (λ x. replied ≡ tell x) (λ r. replied ≡ reply.Refused r) → replied ≡ answered tell result
-told_as tell (Ok x) replied tells = tells
-told_as tell (Err r) replied tells = tells
-
--- ---- a reopening
 
 module _ {D : Type 0} (g : Ghosts D) (old new : Store D g) where
   abbrev Opened : Result (Unit {0}) Refusal → Reply
@@ -88,6 +81,7 @@ module _ {D : Type 0} (g : Ghosts D) (old new : Store D g) where
   reopened result size writes later refused device nothing works failed last_known side capacity at stays sure = record {
     side = λ other. ap (λ (root : RootValue). root.side) (same_root result last_known other);
     capacity = λ other. ap (λ (root : RootValue). root.capacity) (same_root result last_known other);
+    sectors = size;
     told = told_reopening result refused works failed;
     failures = record { later = later; device = λ is. device (refused_for result is) };
     writes = record { few = writes; refused = λ r is other. writes };
