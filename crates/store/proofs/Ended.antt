@@ -175,11 +175,11 @@ module _ {D T : Type 0} (g : Ghosts D) (ending : Ending T) (old new : Tree D g) 
         (λ image. ⊎_elim (λ was. inl (sound.stored, was, sound.holds)) (λ is. inr (leads image (target s at, is, holds h s at)))) (run h s at)
 
     -- it was refused
-    pub fails_in_commit : (doubt : State → Option Contents) → ((s : State) → IsInState g old s → doubt s ≡ Some (made s)) → IsTrue (ending.may_refuse Device)
+    pub fails_in_commit : (doubt : State → Option Contents) → (g.honest (disk_of new) → (s : State) → IsInState g old s → doubt s ≡ Some (made s)) → IsTrue (ending.may_refuse Device)
         → ((s : State) → IsInState g old s → ending.Happens s (Err Device) (failing s (doubt s))) → root_of new ≡ root_of old → has_failed new ≡ true → HasRisen (g.failures (disk_of old)) (g.failures (disk_of new))
         → HasEnded g ending (Err Device) old new
     fails_in_commit doubt doubted may happens root failed risen =
-        fails_so doubt may happens size later honest root failed risen (λ h s at. run_to h s at (failing s (doubt s)) (λ image is. inr (made s, doubted s at, is)))
+        fails_so doubt may happens size later honest root failed risen (λ h s at. run_to h s at (failing s (doubt s)) (λ image is. inr (made s, doubted h s at, is)))
 
     -- the state that it made, where a number was left for it
     pub commits_made : (s : State) → IsInState g old s → s.contents.number < last_number → Commits s (made s) (working (made s))
@@ -191,7 +191,7 @@ module _ {D T : Type 0} (g : Ghosts D) (ending : Ending T) (old new : Tree D g) 
     pub commits_it : (answer : T) → has_failed new ≡ false → (root_of new).side ≡ (root_of old).side → (root_of new).capacity ≡ (root_of old).capacity → ending.Knows (root_of old) answer (root_of new)
         → ending.is_idle answer ≡ false → (g.honest (disk_of new) → g.may (disk_of new) (g.seen (disk_of new))) → (g.honest (disk_of new) → (s : State) → (at : IsInState g old s) → IsTreeAt g new (target s at))
         → (g.honest (disk_of new) → (s : State) → (at : IsInState g old s) → staged_in g new ≡ (target s at).tiles) → sinks_of new ≡ (root_of new).sinks
-        → ((s : State) → IsInState g old s → ending.Happens s (Ok answer) (working (made s))) → HasEnded g ending (Ok answer) old new
+        → (g.honest (disk_of new) → (s : State) → IsInState g old s → ending.Happens s (Ok answer) (working (made s))) → HasEnded g ending (Ok answer) old new
     commits_it answer now_works side capacity known busy seen now clean declared happens = record {
       size = size;
       side = side;
@@ -211,7 +211,7 @@ module _ {D T : Type 0} (g : Ghosts D) (ending : Ending T) (old new : Tree D g) 
         working (made s),
         (
           in_state g new (target s at) (now h s at) (clean h s at) (seen h) declared (root_of old).side (root_of old).capacity (made s) (holds h s at),
-          happens s at,
+          happens h s at,
           λ _. run_to h s at (working (made s)) (λ image is. inl is),
         ),
       );

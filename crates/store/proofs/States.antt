@@ -19,7 +19,7 @@ use Rattle.cow_tree.specs.Entries.{entry_of}
 use Rattle.cow_tree.specs.Layout.{StoresAt, Stands, tile_in}
 use Rattle.store.specs.Kept.{stale_in, stale_corners}
 use Rattle.store.specs.Standing.{Holds, StandsFor}
-use Rattle.store.specs.States.{StandsForState, EachStandsFor, StandsForMade, IsStateOf}
+use Rattle.store.specs.States.{StandsForState, EachStandsFor, IsStateOf}
 
 abbrev entry_corner : EntryValue → Corner
 entry_corner e = e.corner
@@ -116,13 +116,6 @@ module _ {D : Type 0} (g : Ghosts D) (disk : D) (root : RootValue) (failed : Boo
 pub still_contents : {D : Type 0} (g : Ghosts D) (disk : D) (side capacity : ℕ) (s : State) (doubt : Option Contents)
     → ((image : Image) → g.may disk image → StandsFor (g.size disk) side capacity image s.contents) → EachStandsFor g disk side capacity (failing s doubt)
 still_contents g disk side capacity s doubt each = λ image may. inl (each image may)
-
--- and of one image at any moment of a commit
-pub one_made : (sectors side capacity : ℕ) (c made : Contents) (command : Command) (stored next : Stored) (image : Image) → in_doubt capacity c command ≡ Some made
-    → Holds side capacity stored c → Holds side capacity next made → Stands sectors image stored ⊎ Stands sectors image next
-    → StandsFor sectors side capacity image c ⊎ StandsForMade sectors side capacity image c command
-one_made sectors side capacity c made command stored next image makes was will (inl stands) = inl (stored, stands, was)
-one_made sectors side capacity c made command stored next image makes was will (inr stands) = inr (made, makes, (next, stands, will))
 
 -- what calls that only read leave: no image is new
 

@@ -113,7 +113,7 @@ module _ {D : Type 0} (g : Ghosts D) (old mid new : Tree D g) (c : Corner) (stag
   pub fails_in_commit : root_of new ≡ root_of mid → has_failed new ≡ true → HasRisen (g.failures (disk_of mid)) (g.failures (disk_of new)) → IsStepped g (Err Device) old new
   fails_in_commit root failed risen =
       ended.fails_in_commit g step_ending old new staged.working made target (size ∙ staged.uncommitted.size) all_later (λ h. staged.uncommitted.honest (honest h)) run_through
-      (λ h s at. (staged.next (honest h) s at).will) (doubt_of c) (λ s at. ended.is_doubted s.contents (made s) (number_at s at)) refl (may_fail g old new staged.working c staged.stale)
+      (λ h s at. (staged.next (honest h) s at).will) (doubt_of c) (λ h s at. ended.is_doubted s.contents (made s) (number_at s at)) refl (may_fail g old new staged.working c staged.stale)
       (root ∙ staged.uncommitted.root) failed (omega (arith, risen, staged.uncommitted.later))
 
   -- it was done
@@ -134,4 +134,4 @@ module _ {D : Type 0} (g : Ghosts D) (old mid new : Tree D g) (c : Corner) (stag
       refl seen
       (λ h s at. subst (λ (k : ℕ). IsTreeAt g new (next_commit (at.sound staged.working).stored (sinks_of mid) (staged_in g mid) k)) (counted_at s at) (now h (at.sound staged.working).stored (mid_at (honest h) s at)))
       (λ h s at. clean h (at.sound staged.working).stored (mid_at (honest h) s at)) declared
-      (λ s at. (staged.stale s at, ended.commits_made g step_ending old new staged.working made target (size ∙ staged.uncommitted.size) all_later (λ h. staged.uncommitted.honest (honest h)) run_through (λ h s at. (staged.next (honest h) s at).will) s at (number_at s at)))
+      (λ h s at. (staged.stale s at, ended.commits_made g step_ending old new staged.working made target (size ∙ staged.uncommitted.size) all_later (λ h. staged.uncommitted.honest (honest h)) run_through (λ h s at. (staged.next (honest h) s at).will) s at (number_at s at)))

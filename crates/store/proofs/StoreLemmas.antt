@@ -16,9 +16,8 @@ use Rattle.edits.specs.declared.command.Command.{Command}
 use Rattle.edits.specs.declared.command.Command.TheVariants.{Import, Remove, Patch, Burn, Wall, Sink, Unsink}
 use Rattle.calls.specs.Engines.{answered, IsCall}
 use Rattle.calls.specs.Events.{fails_after, Happens}
-use Rattle.calls.specs.Outcomes.{Applies, Accepts, Fails}
-use Rattle.calls.specs.State.{Contents, State, made_by, in_doubt}
-use Rattle.calls.proofs.Applying.{doubt_is}
+use Rattle.calls.specs.Outcomes.{Applies}
+use Rattle.calls.specs.State.{State}
 use Rattle.calls.specs.Steps.{Steps}
 use Rattle.calls.specs.Told.{may_refuse, Knows, WritesFew as FewWrites, writes_a_step}
 use Rattle.calls.specs.declared.event.Event.{Event}
@@ -26,13 +25,11 @@ use Rattle.calls.specs.declared.event.Event.TheVariants as ask
 use Rattle.calls.specs.declared.event.Reply.{Reply}
 use Rattle.calls.specs.declared.event.Reply.TheVariants as reply
 use Rattle.calls.proofs.Questions.{IsAnswered, IsQuestion, answers_so, knows_as, right_as, few_as, told, counted_so, written_so}
-use Rattle.store.specs.Applied.{HasApplied}
+use Rattle.store.specs.Applied.{AppliesOn, HasApplied}
 use Rattle.store.specs.Editing.{WritesFew}
 use Rattle.store.specs.Queried.{Queries}
-use Rattle.store.specs.Standing.{StandsFor}
 use Rattle.store.specs.Ended.{LeavesOr}
 use Rattle.store.specs.Stepped.{StepsOn, HasStepped}
-use Rattle.store.specs.States.{StandsForState, StandsForMade}
 use Rattle.store.specs.Stores.{IsAt, disk_of, root_of, side_of, capacity_of, has_failed}
 use Rattle.store.specs.declared.store.Store.{Store}
 use Rattle.store.specs.StoreRuns.{allowed, nothing_done}
@@ -50,75 +47,20 @@ module _ {D : Type 0} (g : Ghosts D) where
         (allowed old s others is) (query.nothing honest).run;
   }
 
-abbrev is_device : Refusal → Bool
-is_device Device = true
-is_device _ = false
+-- a call that may commit leaves the state before it or the one after it
+ended_leaves : {D : Type 0} (g : Ghosts D) (old new : Store D g) (s t : State) → ((image : Image) → g.honest (disk_of old) → g.since (disk_of old) (g.moment (disk_of old)) image → g.may (disk_of old) image) → g.honest (disk_of old)
+    → (s.failed ≡ false → LeavesOnly g (disk_of old) (disk_of new) (LeavesOr g old.tree s t)) → (has_failed old ≡ true → disk_of new ≡ disk_of old) → IsStoreAt g old s
+    → LeavesOnly g (disk_of old) (disk_of new) (StandsForOne (g.size (disk_of old)) (side_of old) (capacity_of old) (s ∷ t ∷ []))
+ended_leaves g old new s t only_now honest any failed is = by s.failed refl
+  where
+    Allowed : Image → Type 0
+    Allowed = StandsForOne (g.size (disk_of old)) (side_of old) (capacity_of old) (s ∷ t ∷ [])
 
-not_device : (r : Refusal) → is_device r ≡ false → r ≢ Device
-not_device r not same = both_ways (is_device r) not (ap is_device same)
-
-same_contents : (a b : Contents) → Some a ≡ Some b → a ≡ b
-same_contents a b same = cc
-
-module _ (sectors side capacity : ℕ) (s t : State) (c : Command) (image : Image) where
-  -- what an accepted command makes is the new state's contents
-  made_stands : (k : ℕ) → Accepts capacity s c k t → StandsForMade sectors side capacity image s.contents c → StandsForState sectors side capacity image t
-  made_stands k accepts (made, is, stands) =
-      let new = accepts.effect_is.0 in
-      let effect = accepts.effect_is.1 in
-      let same = same_contents made (made_by s.contents c new) (sym is ∙ doubt_is capacity s.contents c new accepts.room effect.0) in
-      inl (subst (StandsFor sectors side capacity image) (same ∙ sym (ap (λ (z : State). z.contents) effect.1)) stands)
-
-  -- what a command that the disk failed would make is the new state's commit in doubt
-  doubt_stands : Fails s (in_doubt capacity s.contents c) t → StandsForMade sectors side capacity image s.contents c → StandsForState sectors side capacity image t
-  doubt_stands fails (made, is, stands) = inr (made, ap (λ (z : State). z.doubt) fails.fails ∙ is, stands)
-
-module _ {D : Type 0} (g : Ghosts D) (old new : Store D g) (s t : State) (c : Command) where
-  abbrev Before : Image → Type 0
-  Before image = StandsFor (g.size (disk_of old)) (side_of old) (capacity_of old) image s.contents
-
-  abbrev Made : Image → Type 0
-  Made image = StandsForMade (g.size (disk_of old)) (side_of old) (capacity_of old) image s.contents c
-
-  abbrev Allowed : Image → Type 0
-  Allowed = StandsForOne (g.size (disk_of old)) (side_of old) (capacity_of old) (s ∷ t ∷ [])
-
-  before : (image : Image) → Before image → Allowed image
-  before image was = (s, (0, omega arith, refl), inl was)
-
-  after : (image : Image) → StandsForState (g.size (disk_of old)) (side_of old) (capacity_of old) image t → Allowed image
-  after image is = (t, (1, omega arith, refl), is)
-
-  -- a command of a store that hasn't failed
-  applied : (r : Result ℕ Refusal) → LeavesOnly g (disk_of old) (disk_of new) (λ image. Before image ⊎ Made image)
-      → IfErr r (λ e. e ≢ Device → LeavesOnly g (disk_of old) (disk_of new) Before) → Applies (capacity_of old) s c r t → LeavesOnly g (disk_of old) (disk_of new) Allowed
-  applied (Ok k) any refused is =
-      weaker_on g (disk_of old) (disk_of new) (λ image. Before image ⊎ Made image) Allowed
-      (λ image. ⊎_elim (before image) (λ made. after image (made_stands (g.size (disk_of old)) (side_of old) (capacity_of old) s t c image k is made))) any
-  applied (Err Device) any refused is =
-      weaker_on g (disk_of old) (disk_of new) (λ image. Before image ⊎ Made image) Allowed
-      (λ image. ⊎_elim (before image) (λ made. after image (doubt_stands (g.size (disk_of old)) (side_of old) (capacity_of old) s t c image is made))) any
-  applied (Err r) any refused is = weaker_on g (disk_of old) (disk_of new) Before Allowed before (refused (not_device r refl))
-
-  -- a store that failed makes no call of its disk
-  unmoved : IsStoreAt g old s → disk_of new ≡ disk_of old → LeavesOnly g (disk_of old) (disk_of old) (g.may (disk_of old)) → LeavesOnly g (disk_of old) (disk_of new) Allowed
-  unmoved is same nothing =
-      subst (λ (disk : D). LeavesOnly g (disk_of old) disk Allowed) (sym same)
-      (weaker_on g (disk_of old) (disk_of old) (g.may (disk_of old)) Allowed (allowed old s (t ∷ []) is) nothing)
-
-  -- a command leaves the state before it or the one after it
-  pub commanded : (r : Result ℕ Refusal) → g.size (disk_of new) ≡ g.size (disk_of old) → side_of new ≡ side_of old → capacity_of new ≡ capacity_of old
-      → ((image : Image) → g.honest (disk_of old) → g.since (disk_of old) (g.moment (disk_of old)) image → g.may (disk_of old) image) → g.honest (disk_of old)
-      → (s.failed ≡ false → LeavesOnly g (disk_of old) (disk_of new) (λ image. Before image ⊎ Made image))
-      → (s.failed ≡ false → IfErr r (λ e. e ≢ Device → LeavesOnly g (disk_of old) (disk_of new) Before))
-      → (has_failed old ≡ true → (r ≡ Err Failed) × (disk_of new ≡ disk_of old)) → IsStoreAt g old s → Applies (capacity_of old) s c r t
-      → LeavesStates g old new (s ∷ t ∷ [])
-  commanded r size side capacity only_now honest any refused failed is applies =
-      record { size = size; side = side; capacity = capacity; run = by s.failed refl }
-    where
-      by : (b : Bool) → s.failed ≡ b → LeavesOnly g (disk_of old) (disk_of new) Allowed
-      by false works = applied r (any works) (refused works) applies
-      by true gone = unmoved is (failed (is.at.in_state.failed_is ∙ gone)).1 (nothing_done_on g (disk_of old) only_now honest).run
+    by : (b : Bool) → s.failed ≡ b → LeavesOnly g (disk_of old) (disk_of new) Allowed
+    by false works = weaker_on g (disk_of old) (disk_of new) (LeavesOr g old.tree s t) Allowed (λ image. ⊎_elim (λ was. (s, (0, omega arith, refl), inl was)) (λ later. (t, (1, omega arith, refl), later))) (any works)
+    by true gone =
+        subst (λ (disk : _). LeavesOnly g (disk_of old) disk Allowed) (sym (failed (is.at.in_state.failed_is ∙ gone)))
+        (weaker_on g (disk_of old) (disk_of old) (g.may (disk_of old)) Allowed (allowed old s (t ∷ []) is) (nothing_done_on g (disk_of old) only_now honest).run)
 
 -- ---- calls, as of any engine
 
@@ -196,15 +138,15 @@ counts g only_now store k known state = record {
 
 -- a command
 
-known_done : (old new : RootValue) (c : Command) (result : Result ℕ Refusal) → new.version ≡ old.version → IfOk result (λ k. (k ≡ old.count + 1) × (new.count ≡ k) × (new.number ≡ old.number + 1)) → OnErr result (new ≡ old)
+known_done : (old new : RootValue) (c : Command) (result : Result ℕ Refusal) → IfOk result (λ k. AppliesOn old k new) → OnErr result (new ≡ old)
     → Knows (known_by old) (ask.Do c) (answered reply.Done result) (known_by new)
-known_done old new c (Ok k) same counted last = (
-  counted.0,
-  ap (λ (v : Version). record { version = number_of v; count = new.count; number = new.number }) same
-      ∙ ap (λ (n : ℕ). record { version = number_of old.version; count = n; number = new.number }) counted.1
-      ∙ ap (λ (n : ℕ). record { version = number_of old.version; count = k; number = n }) counted.2,
+known_done old new c (Ok k) on last = (
+  on.accepted,
+  ap (λ (v : Version). record { version = number_of v; count = new.count; number = new.number }) on.version
+      ∙ ap (λ (n : ℕ). record { version = number_of old.version; count = n; number = new.number }) on.count
+      ∙ ap (λ (n : ℕ). record { version = number_of old.version; count = k; number = n }) on.number,
 )
-known_done old new c (Err r) same counted last = ap known_by last
+known_done old new c (Err r) on last = ap known_by last
 
 writes_few : (version : Version) (side : ℕ) (c : Command) (before now : ℕ) → WritesFew version c before now → FewWrites (number_of version) side (ask.Do c) before now
 writes_few version side (Import corner bytes) before now few = tt
@@ -238,7 +180,7 @@ commands g only_now old new c result is few failed still_failed = record {
   told = told (ask.Do c) reply.Done (is_command c) (has_failed old) (has_failed new) result is.causes (λ had. ((failed had).0, still_failed had)) is.works is.fails is.quiet;
   failures = counted_so (ask.Do c) reply.Done (is_command c) (g.failures (disk_of old)) (g.failures (disk_of new)) result is.later is.device;
   writes = written_so (ask.Do c) reply.Done (is_command c) (number_of (root_of old).version) (side_of old) (g.writes (disk_of old)) (g.writes (disk_of new)) result (writes_few (root_of old).version (side_of old) c (g.writes (disk_of old)) (g.writes (disk_of new)) few) is.unwritten;
-  known = known_done (root_of old) (root_of new) c result is.version is.counted is.last_known;
+  known = known_done (root_of old) (root_of new) c result is.known is.last_known;
   honest = is.honest;
   takes = λ h s at. (is.side, is.capacity);
   happens = λ h s at.
@@ -248,7 +190,7 @@ commands g only_now old new c result is few failed still_failed = record {
         (
           record { at = step.1.0; same_side = step.1.0.in_state.side_is },
           right_command (capacity_of old) s t c result step.1.1,
-          commanded g old new s t c result is.size is.side is.capacity (only_now (disk_of old)) (is.honest h) (is.any_moment h s at.at) (is.refused_any_moment h s at.at) failed at step.1.1,
+          record { size = is.size; side = is.side; capacity = is.capacity; run = ended_leaves g old new s t (only_now (disk_of old)) (is.honest h) step.1.2 (λ had. (failed had).1) at },
         ),
       );
 }
@@ -275,21 +217,6 @@ is_step = record { matches = λ tile. tt; says = refl; goes_on = λ b tile. refl
     passes_on b Device other = absurd (other refl)
     passes_on b r other = refl
 
--- it leaves the state before it or the one after it
-step_leaves : {D : Type 0} (g : Ghosts D) (old new : Store D g) (s t : State) → ((image : Image) → g.honest (disk_of old) → g.since (disk_of old) (g.moment (disk_of old)) image → g.may (disk_of old) image) → g.honest (disk_of old)
-    → (s.failed ≡ false → LeavesOnly g (disk_of old) (disk_of new) (LeavesOr g old.tree s t)) → (has_failed old ≡ true → disk_of new ≡ disk_of old) → IsStoreAt g old s
-    → LeavesOnly g (disk_of old) (disk_of new) (StandsForOne (g.size (disk_of old)) (side_of old) (capacity_of old) (s ∷ t ∷ []))
-step_leaves g old new s t only_now honest any failed is = by s.failed refl
-  where
-    Allowed : Image → Type 0
-    Allowed = StandsForOne (g.size (disk_of old)) (side_of old) (capacity_of old) (s ∷ t ∷ [])
-
-    by : (b : Bool) → s.failed ≡ b → LeavesOnly g (disk_of old) (disk_of new) Allowed
-    by false works = weaker_on g (disk_of old) (disk_of new) (LeavesOr g old.tree s t) Allowed (λ image. ⊎_elim (λ was. (s, (0, omega arith, refl), inl was)) (λ later. (t, (1, omega arith, refl), later))) (any works)
-    by true gone =
-        subst (λ (disk : _). LeavesOnly g (disk_of old) disk Allowed) (sym (failed (is.at.in_state.failed_is ∙ gone)))
-        (weaker_on g (disk_of old) (disk_of old) (g.may (disk_of old)) Allowed (allowed old s (t ∷ []) is) (nothing_done_on g (disk_of old) only_now honest).run)
-
 pub steps : {D : Type 0} (g : Ghosts D) → ((disk : D) (image : Image) → g.honest disk → g.since disk (g.moment disk) image → g.may disk image) → (old new : Store D g) (result : Result (Option Corner) Refusal)
     → HasStepped g result old new → g.writes (disk_of new) ≤ g.writes (disk_of old) + (writes_a_step (number_of (root_of old).version) (side_of old) + 3)
     → (has_failed old ≡ true → (result ≡ Err Failed) × (disk_of new ≡ disk_of old)) → (has_failed old ≡ true → has_failed new ≡ true) → IsCall (members g) old ask.Step (answered reply.Stepped result) new
@@ -310,7 +237,7 @@ steps g only_now old new result is few failed still_failed = record {
         (
           record { at = step.1.0; same_side = step.1.0.in_state.side_is },
           right_step (capacity_of old) s t result step.1.1,
-          record { size = is.size; side = is.side; capacity = is.capacity; run = step_leaves g old new s t (only_now (disk_of old)) (is.honest h) step.1.2 (λ had. (failed had).1) at },
+          record { size = is.size; side = is.side; capacity = is.capacity; run = ended_leaves g old new s t (only_now (disk_of old)) (is.honest h) step.1.2 (λ had. (failed had).1) at },
         ),
       );
 }

@@ -184,7 +184,7 @@ module _ {D : Type 0} (g : Ghosts D) (only_now : (disk : D) (image : Image) → 
   fails done =
       let may : MayUpgrade (g.size (disk_of old)) (root_of old) = may_of done.refused in
       ended.fails_in_commit g (upgrade_ending (g.size (disk_of old)) (root_of old)) old new works (λ s. upgraded s.contents) target (size_is (Err Device) done) (later_is (Err Device) done)
-      (honest_was (Err Device) done) (run (Err Device) done) (holds (Err Device) done) doubt (λ s at. ended.is_doubted s.contents (upgraded s.contents) (number_at may s at)) refl
+      (honest_was (Err Device) done) (run (Err Device) done) (holds (Err Device) done) doubt (λ h s at. ended.is_doubted s.contents (upgraded s.contents) (number_at may s at)) refl
       (λ s at. (old_at s at may, record { working = is_working g old works s at; fails = refl })) (done.last_known ∙ gave.root) (done.device refl)
       (subst (λ (d : D). HasRisen (g.failures d) (g.failures (disk_of new))) gave.disk (done.cause refl))
 
@@ -197,7 +197,7 @@ module _ {D : Type 0} (g : Ghosts D) (only_now : (disk : D) (image : Image) → 
       (record { version = done.version; count = done.count ∙ ap (λ (r : RootValue). r.count) gave.root; number = done.number ∙ ap (λ (r : RootValue). r.number + 1) gave.root })
       refl (seen_may (disk_of new)) (λ h s at. done.at h (at.sound works).stored (mid_at (Ok tt) done h s at)) (λ h s at. done.staged h (at.sound works).stored (mid_at (Ok tt) done h s at))
       (done.sinks ∙ gave.sinks ∙ sym done.declared)
-      (λ s at. (
+      (λ h s at. (
         old_at s at may,
         ended.commits_made g (upgrade_ending (g.size (disk_of old)) (root_of old)) old new works (λ s. upgraded s.contents) target (size_is (Ok tt) done) (later_is (Ok tt) done) (honest_was (Ok tt) done)
             (run (Ok tt) done) (holds (Ok tt) done) s at (number_at may s at),

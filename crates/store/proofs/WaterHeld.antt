@@ -15,7 +15,7 @@ use Rattle.cow_tree.specs.Trees.{disk_of, root_of}
 use Rattle.cow_tree.specs.declared.tree.Tree.{Tree}
 use Rattle.drainage.specs.Between.{IsHeldOf}
 use Rattle.drainage.specs.declared.held.Held.{Held}
-use Rattle.store.specs.Applied.{IsApplied, IsDone}
+use Rattle.store.specs.Applied.{IsApplied, command_ending}
 use Rattle.store.specs.Ended.{Ending, EndsAt, HasEnded}
 use Rattle.store.specs.Stepped.{IsStepped, step_ending}
 use Rattle.store.specs.TreeStates.{IsInState}
@@ -102,41 +102,11 @@ module _ {D : Type 0} (g : Ghosts D) (tree : Tree D g) (held : Held) (none : (m 
 -- ---- with what is held
 
 module _ {D : Type 0} (g : Ghosts D) (old new : Tree D g) where
-  -- a command that leaves what is held right
-  pub done_holding : (was now : Held) (c : Command) (result : Result ℕ Refusal)
-      → (g.honest (disk_of new) → (s : State) → IsInState g old s → IsHeldOf s.contents.mosaic was → IsLeftBy (root_of old).capacity s.contents.mosaic c result now)
-      → IsApplied g c result old new → IsDone g c result old new (λ s. IsHolding g old was s) (λ t. IsHolding g new now t)
-  done_holding was now c result left is = record {
-    size = is.size;
-    version = is.version;
-    side = is.side;
-    capacity = is.capacity;
-    later = is.later;
-    device = is.device;
-    works = is.works;
-    fails = is.fails;
-    causes = is.causes;
-    quiet = is.quiet;
-    counted = is.counted;
-    last_known = is.last_known;
-    unwritten = is.unwritten;
-    honest = is.honest;
-    outcome = λ honest s at.
-        let step = is.outcome honest s at.in_state in
-        (step.0, (record { in_state = step.1.0; right = left_right (root_of old).capacity s step.0 c result now (left honest s at.in_state at.right) step.1.1 }, step.1.1));
-    any_moment = λ honest s at. is.any_moment honest s at.in_state;
-    refused_any_moment = λ honest s at. is.refused_any_moment honest s at.in_state;
-  }
-
-  -- a command that is refused, and leaves what is held
-  pub unchanged_holding : (held : Held) (c : Command) (result : Result ℕ Refusal) {r : Refusal} → result ≡ Err r
-      → IsApplied g c result old new → IsDone g c result old new (λ s. IsHolding g old held s) (λ t. IsHolding g new held t)
-  unchanged_holding held c result {r} refused = done_holding held held c result (λ honest s at right. refused_left (root_of old).capacity s.contents.mosaic c result r held refused right)
-
-  -- a call that leaves the mosaic, and what is held
-  ended_holding : {T : Type 0} (ending : Ending T) (held : Held) (result : Result T Refusal) → ((s t : State) → ending.Happens s result t → t.contents.mosaic ≡ s.contents.mosaic)
-      → HasEnded g ending result old new → EndsAt g ending result old new (λ s. IsHolding g old held s) (λ t. IsHolding g new held t)
-  ended_holding ending held result same is = record {
+  -- a call that leaves what is held right
+  ended_holding : {T : Type 0} (ending : Ending T) (was now : Held) (result : Result T Refusal)
+      → (g.honest (disk_of new) → (s t : State) → IsInState g old s → IsHeldOf s.contents.mosaic was → ending.Happens s result t → IsHeldOf t.contents.mosaic now)
+      → HasEnded g ending result old new → EndsAt g ending result old new (λ s. IsHolding g old was s) (λ t. IsHolding g new now t)
+  ended_holding ending was now result left is = record {
     size = is.size;
     side = is.side;
     capacity = is.capacity;
@@ -153,12 +123,31 @@ module _ {D : Type 0} (g : Ghosts D) (old new : Tree D g) where
     honest = is.honest;
     outcome = λ honest s at.
         let step = is.outcome honest s at.in_state in
-        (step.0, (record { in_state = step.1.0; right = subst (λ (m : Mosaic). IsHeldOf m held) (sym (same s step.0 step.1.1)) at.right }, step.1.1, step.1.2));
+        (step.0, (record { in_state = step.1.0; right = left honest s step.0 at.in_state at.right step.1.1 }, step.1.1, step.1.2));
   }
 
+  -- a command that leaves what is held right
+  pub done_holding : (was now : Held) (c : Command) (result : Result ℕ Refusal)
+      → (g.honest (disk_of new) → (s : State) → IsInState g old s → IsHeldOf s.contents.mosaic was → IsLeftBy (root_of old).capacity s.contents.mosaic c result now)
+      → IsApplied g c result old new → EndsAt g (command_ending (root_of old).capacity c) result old new (λ s. IsHolding g old was s) (λ t. IsHolding g new now t)
+  done_holding was now c result left =
+      ended_holding (command_ending (root_of old).capacity c) was now result
+      (λ honest s t at right happens. left_right (root_of old).capacity s t c result now (left honest s at right) happens)
+
+  -- a command that is refused, and leaves what is held
+  pub unchanged_holding : (held : Held) (c : Command) (result : Result ℕ Refusal) {r : Refusal} → result ≡ Err r
+      → IsApplied g c result old new → EndsAt g (command_ending (root_of old).capacity c) result old new (λ s. IsHolding g old held s) (λ t. IsHolding g new held t)
+  unchanged_holding held c result {r} refused = done_holding held held c result (λ honest s at right. refused_left (root_of old).capacity s.contents.mosaic c result r held refused right)
+
+  -- a call that leaves the mosaic, and what is held
+  still_holding : {T : Type 0} (ending : Ending T) (held : Held) (result : Result T Refusal) → ((s t : State) → ending.Happens s result t → t.contents.mosaic ≡ s.contents.mosaic)
+      → HasEnded g ending result old new → EndsAt g ending result old new (λ s. IsHolding g old held s) (λ t. IsHolding g new held t)
+  still_holding ending held result same =
+      ended_holding ending held held result (λ honest s t at right happens. subst (λ (m : Mosaic). IsHeldOf m held) (sym (same s t happens)) right)
+
   pub stepped_holding : (held : Held) (result : Result (Option Corner) Refusal) → IsStepped g result old new → EndsAt g step_ending result old new (λ s. IsHolding g old held s) (λ t. IsHolding g new held t)
-  stepped_holding held result = ended_holding step_ending held result (λ s t. steps s t result)
+  stepped_holding held result = still_holding step_ending held result (λ s t. steps s t result)
 
   pub upgraded_holding : (held : Held) (result : Result (Unit {0}) Refusal) → IsUpgraded g result old new
       → EndsAt g (upgrade_ending (g.size (disk_of old)) (root_of old)) result old new (λ s. IsHolding g old held s) (λ t. IsHolding g new held t)
-  upgraded_holding held result = ended_holding (upgrade_ending (g.size (disk_of old)) (root_of old)) held result (λ s t. upgrades _ s t result)
+  upgraded_holding held result = still_holding (upgrade_ending (g.size (disk_of old)) (root_of old)) held result (λ s t. upgrades _ s t result)

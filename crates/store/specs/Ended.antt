@@ -1,4 +1,4 @@
--- How a call that may commit ends, by the store's tree (this product's own profile). A step is one.
+-- How a call that may commit ends, by the store's tree (this product's own profile): a command, a step or an upgrade.
 use Rattle.std.specs.Prelude.{◌≡◌, ◌≢◌, ◌≤◌, ◌⊎◌, Bool, false, true, IsTrue, Result, OnOk, OnErr, IfOk, IfErr, IsErrOf}
 use Rattle.disk.specs.Disk.{Image, HasRisen}
 use Rattle.disk.specs.Stops.{LeavesOnly}
@@ -6,16 +6,20 @@ use Rattle.disk.specs.declared.disk.Disk.{Ghosts}
 use Rattle.lattice.specs.declared.refusal.Refusal.{Refusal}
 use Rattle.lattice.specs.declared.refusal.Refusal.TheVariants.{Device, Failed}
 use Rattle.page_codec.specs.Roots.{RootValue}
-use Rattle.calls.specs.State.{State}
+use Rattle.calls.specs.State.{Contents, State}
 use Rattle.cow_tree.specs.Trees.{disk_of, root_of, has_failed}
 use Rattle.cow_tree.specs.declared.tree.Tree.{Tree}
-use Rattle.store.specs.Applied.{HasContents}
+use Rattle.store.specs.Standing.{StandsFor}
 use Rattle.store.specs.States.{StandsForState}
 use Rattle.store.specs.Stores.{IsAt}
 use Rattle.store.specs.TreeStates.{IsInState}
 use Rattle.store.specs.declared.store.Store.{Store}
 
--- an image of the tree's disk stands for the contents of the one state, or for the other state
+-- an image of the tree's disk stands for these contents, with the tree's side and capacity
+abbrev pub HasContents : {D : Type 0} (g : Ghosts D) → Tree D g → Contents → Image → Type 0
+HasContents g tree c image = StandsFor (g.size (disk_of tree)) (root_of tree).side (root_of tree).capacity image c
+
+-- .. for the contents of the one state, or for the other state
 abbrev pub LeavesOr : {D : Type 0} (g : Ghosts D) → Tree D g → State → State → Image → Type 0
 LeavesOr g tree s t image = HasContents g tree s.contents image ⊎ StandsForState (g.size (disk_of tree)) (root_of tree).side (root_of tree).capacity image t
 

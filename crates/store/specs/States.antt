@@ -22,11 +22,6 @@ StandsForState sectors side capacity image s =
 abbrev pub EachStandsFor : {D : Type 0} (g : Ghosts D) → D → (side capacity : ℕ) → State → Type 0
 EachStandsFor g disk side capacity s = (image : Image) → g.may disk image → StandsForState (g.size disk) side capacity image s
 
--- the image stands for what the command would make of the contents
-abbrev pub StandsForMade : (sectors side capacity : ℕ) → Image → Contents → Command → Type 0
-StandsForMade sectors side capacity image c command =
-    (made : Contents) × (in_doubt capacity c command ≡ Some made) × StandsFor sectors side capacity image made
-
 -- A tree that is at what is stored where the test says so: it is at what holds the contents, nothing is staged beyond it,
 -- and no commit is in doubt.
 pub record IsSound (side capacity : ℕ) (IsTreeAt : Stored → Type 0) (staged : List StoredTile) (sinks : List Point) (s : State) : Type 0 where

@@ -12,7 +12,6 @@ ghost use Rattle.calls.specs.State.{State};
 ghost use Rattle.calls.specs.Told.{may_refuse_command};
 ghost use Rattle.cow_tree.specs.Trees.{corners_of};
 ghost use Rattle.store.specs.Standing.{StandsFor};
-ghost use Rattle.store.specs.States.{StandsForMade};
 ghost use Rattle.store.specs.Applied.{SetsSamples, SetsSinks, HasApplied};
 ghost use Rattle.store.specs.Editing.{WritesFew};
 ghost use Rattle.store.specs.Stores.{disk_of, root_of, side_of, capacity_of, has_failed};
