@@ -30,3 +30,4 @@ pub use neighbours::are_neighbours;
 pub use planning::plan;
 pub use sinks::{with_sink, without_sink};
 pub use stale::leave_stale;
+pub use tiles::{can_import, can_remove};

@@ -1,11 +1,12 @@
 //! How many tiles are present.
-ghost use Rattle.std.specs.Prelude.{◌≤◌, ◌↔◌, IsTrue, length};
+ghost use Rattle.std.specs.Prelude.{◌<◌, ◌≤◌, IsTrue, IsFalse, length};
 
 use catalogue::Samples;
 
 /// Whether at least so many tiles are present.
 pub(crate) fn is_full<S: Samples>(samples: &S, capacity: u32) -> bool
-    ensures { IsTrue result ↔ (capacity ≤ length (S.corners samples.now)) }
+    ensures full { IsTrue result → capacity ≤ length (S.corners samples.now) }
+    ensures room { IsFalse result → length (S.corners samples.now) < capacity }
 {
     samples.count() >= capacity as usize
 }

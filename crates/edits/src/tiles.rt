@@ -1,8 +1,10 @@
 //! The commands of whole tiles.
-ghost use Rattle.std.specs.Prelude.{◌≡◌, ◌⊎◌, ℕ, [], ◌∷◌, All, IsTrue, IfOk, IfErr, vec_len};
+ghost use Rattle.std.specs.Prelude.{◌≡◌, ◌<◌, ◌*◌, ◌⊎◌, ℕ, [], ◌∷◌, All, Contains, IsTrue, Ok, Err, IfOk, IfErr, OnOk, length, vec_len};
 ghost use Rattle.lattice.specs.Corners.{Corner};
 ghost use Rattle.lattice.specs.Mosaic.{Mosaic};
 ghost use Rattle.lattice.specs.declared.refusal.Refusal.TheVariants.{NoMemory};
+ghost use Rattle.hgt.specs.Bytes.{samples_in};
+ghost use Rattle.catalogue.specs.Tiles.{added, corners_of, without};
 ghost use Rattle.edits.specs.Changes.{CanBeMade, all_changed};
 ghost use Rattle.edits.specs.Effect.{effect};
 ghost use Rattle.edits.specs.LeftStale.{is_beside};
@@ -15,6 +17,50 @@ use crate::{Bytes, Change, TileSamples};
 use catalogue::Samples;
 use lattice::{Corner, Refusal};
 use std::alloc::Global;
+
+/// Whether an import is accepted where at most `capacity` tiles may be present, by its tests in their order: BadLength,
+/// TileThere, Full. No sample is read.
+pub fn can_import<S: Samples>(
+    samples: &S,
+    capacity: u32,
+    corner: Corner,
+    bytes: &[u8],
+) -> Result<(), Refusal>
+    ensures whole { OnOk result (length bytes.now ≡ 2 * (S.side_of samples.now * S.side_of samples.now)) }
+    ensures absent { OnOk result (¬ Contains (S.corners samples.now) corner) }
+    ensures room { OnOk result (length (S.corners samples.now) < capacity) }
+
+    // Of whatever mosaic has this side and these tiles.
+    ensures accepted { (m : Mosaic) → m.side ≡ S.side_of samples.now → corners_of m ≡ S.corners samples.now
+        → OnOk result (effect capacity m (Import corner bytes.now) ≡ Ok (added (record { corner = corner; samples = samples_in bytes.now }) m)) }
+    ensures refused { (m : Mosaic) → m.side ≡ S.side_of samples.now → corners_of m ≡ S.corners samples.now
+        → IfErr result (λ r. effect capacity m (Import corner bytes.now) ≡ Err r) }
+    ensures causes { IfErr result (λ r. IsTrue (is_own (Import corner bytes.now) r)) }
+{
+    if bytes.len() != samples.side().file_bytes() as usize {
+        return Err(Refusal::BadLength);
+    }
+    if samples.present(corner) {
+        return Err(Refusal::TileThere);
+    }
+    if is_full(samples, capacity) {
+        return Err(Refusal::Full);
+    }
+    Ok(())
+}
+
+/// Whether a removal is accepted: else NoTile. No sample is read.
+pub fn can_remove<S: Samples>(samples: &S, corner: Corner) -> Result<(), Refusal>
+    ensures present { OnOk result (Contains (S.corners samples.now) corner) }
+    ensures accepted { (capacity : ℕ) (m : Mosaic) → corners_of m ≡ S.corners samples.now → OnOk result (effect capacity m (Remove corner) ≡ Ok (without corner m)) }
+    ensures refused { (capacity : ℕ) (m : Mosaic) → corners_of m ≡ S.corners samples.now → IfErr result (λ r. effect capacity m (Remove corner) ≡ Err r) }
+    ensures causes { IfErr result (λ r. IsTrue (is_own (Remove corner) r)) }
+{
+    if !samples.present(corner) {
+        return Err(Refusal::NoTile);
+    }
+    Ok(())
+}
 
 /// The change that an import comes to.
 pub(crate) fn import<S: Samples>(
@@ -31,18 +77,9 @@ pub(crate) fn import<S: Samples>(
     ensures one { IfOk result (λ changes. vec_len changes ≡ 1) }
     ensures beside { IfOk result (λ changes. (m : Mosaic) (p : Corner) → is_beside m changes.items p ≡ are_neighbours corner p) }
 {
-    let side = samples.side();
     let bytes = bytes.as_slice();
-    if bytes.len() != side.file_bytes() as usize {
-        return Err(Refusal::BadLength);
-    }
-    if samples.present(corner) {
-        return Err(Refusal::TileThere);
-    }
-    if is_full(samples, capacity) {
-        return Err(Refusal::Full);
-    }
-    let samples = TileSamples::new(hgt::samples(alloc, bytes, side)?);
+    can_import(samples, capacity, corner, bytes)?;
+    let samples = TileSamples::new(hgt::samples(alloc, bytes, samples.side())?);
     just(alloc, Change::Add { corner, samples })
 }
 
@@ -59,9 +96,7 @@ pub(crate) fn remove<S: Samples>(
     ensures one { IfOk result (λ changes. vec_len changes ≡ 1) }
     ensures beside { IfOk result (λ changes. (m : Mosaic) (p : Corner) → is_beside m changes.items p ≡ are_neighbours corner p) }
 {
-    if !samples.present(corner) {
-        return Err(Refusal::NoTile);
-    }
+    can_remove(samples, corner)?;
     just(alloc, Change::Drop { corner })
 }
 
