@@ -1,22 +1,22 @@
 -- The commands of whole tiles in a state, by what the tree holds in memory.
 use Rattle.std.proofs.Common.{◌≡◌, ◌≢◌, ℕ, ◌+◌, ◌*◌, ◌≤◌, ◌<◌, ◌^◌, false, List, [], ◌∷◌, length, map, Contains, All, refl, sym, ap, ◌∙◌, subst, arith}
 use Rattle.std.specs.Prelude.{IsTrue, Ok, Err}
-use Rattle.std.proofs.lemmas.List.{length-map}
+use Rattle.std.proofs.lemmas.Bool.{both_ways}
 use Rattle.disk.specs.Disk.{Image}
 use Rattle.disk.specs.declared.disk.Disk.{Ghosts}
 use Rattle.lattice.specs.Corners.{Corner, is_corner}
 use Rattle.lattice.specs.Mosaic.{Mosaic}
 use Rattle.lattice.specs.declared.refusal.Refusal.{Refusal}
-use Rattle.lattice.specs.declared.refusal.Refusal.TheVariants.{BadLength, TileThere, Full, NoTile}
+use Rattle.lattice.specs.declared.refusal.Refusal.TheVariants.{BadLength, TileThere, Full, NoTile, Device, Failed}
 use Rattle.hgt.specs.Bytes.{samples_in}
 use Rattle.catalogue.specs.Tiles.{corners_of, added, without}
-use Rattle.page_codec.specs.Entries.{EntryValue}
 use Rattle.page_codec.specs.Sizes.{pages_of}
 use Rattle.edits.specs.declared.command.Command.{Command}
 use Rattle.edits.specs.declared.command.Command.TheVariants.{Import, Remove}
 use Rattle.edits.specs.Effect.{effect}
+use Rattle.edits.specs.Plans.{is_own}
 use Rattle.edits.specs.Touched.{are_neighbours}
-use Rattle.calls.specs.Outcomes.{Refuses, IsWorn}
+use Rattle.calls.specs.Outcomes.{AppliesNot, Refuses, IsWorn}
 use Rattle.calls.specs.State.{State, last_number, made_by}
 use Rattle.edits.specs.EffectLaws.{CommandsMakeMosaics}
 use Rattle.charts.specs.TileLocations.{TileLocation}
@@ -32,10 +32,6 @@ use Rattle.store.specs.TreeStates.{IsInState}
 use Rattle.store.proofs.StoredCommands.{holds_imported, holds_removed}
 use Rattle.store.proofs.HeldTiles.{corners_held}
 use Rattle.store.proofs.Holding.{held}
-use Rattle.store.proofs.WholeTiles.{no_tile, removes, bad_length, tile_there, full, imports}
-
-pub entries_counted : (entries : List EntryValue) → length (map (λ (e : EntryValue). e.corner) entries) ≡ length entries
-entries_counted entries = length-map entries (λ (e : EntryValue). e.corner)
 
 pub corners_kept : (image : Image) (tiles : List TileLocation) → corners_of_locations tiles ≡ corners_of_stored (map (tile_in image) tiles)
 corners_kept image [] = refl
@@ -54,22 +50,13 @@ module _ {D : Type 0} (g : Ghosts D) (tree : Tree D g) (works : has_failed tree 
   abbrev pub sound_at : IsSound (root_of tree).side (root_of tree).capacity (λ (stored : Stored). IsTreeAt g tree stored) (staged_in g tree) (sinks_of tree) s
   sound_at = at.sound works
 
-  side_is : s.contents.mosaic.side ≡ n
+  pub side_is : s.contents.mosaic.side ≡ (root_of tree).side
   side_is = sound_at.holds.side_is
-
-  area_is : 2 * (s.contents.mosaic.side * s.contents.mosaic.side) ≡ 2 * (n * n)
-  area_is = ap (λ (k : ℕ). 2 * (k * k)) side_is
 
   pub corners_are : corners_under tree ≡ corners_of s.contents.mosaic
   corners_are =
       corners_kept (g.seen (disk_of tree)) tree.chart.staged ∙ ap corners_of_stored sound_at.nothing_staged
       ∙ corners_held n sound_at.stored.tiles s.contents.mosaic (held n capacity sound_at.stored s.contents sound_at.holds)
-
-  there : (c : Corner) → Contains (corners_under tree) c → Contains (corners_of s.contents.mosaic) c
-  there c has = subst (λ (cs : List Corner). Contains cs c) corners_are has
-
-  absent : (c : Corner) → ¬ Contains (corners_under tree) c → ¬ Contains (corners_of s.contents.mosaic) c
-  absent c none has = none (subst (λ (cs : List Corner). Contains cs c) (sym corners_are) has)
 
   refuses : (command : Command) (r : Refusal) → effect capacity s.contents.mosaic command ≡ Err r → Refuses capacity s command r s
   refuses command r refused = record { stays = record { working = is_working; same = refl }; refused = refused }
@@ -87,46 +74,43 @@ module _ {D : Type 0} (g : Ghosts D) (tree : Tree D g) (works : has_failed tree 
   -- a removal
 
   module _ (c : Corner) where
-    pub no_tile_at : ¬ Contains (corners_under tree) c → Refuses capacity s (Remove c) NoTile s
-    no_tile_at none = refuses (Remove c) NoTile (no_tile s.contents.mosaic c capacity (absent c none))
+    pub remove_refused : (r : Refusal) → IsTrue (is_own (Remove c) r) → effect (root_of tree).capacity s.contents.mosaic (Remove c) ≡ Err r → AppliesNot (root_of tree).capacity s (Remove c) r s
+    remove_refused NoTile own refused = refuses (Remove c) NoTile refused
+    remove_refused _ own refused = absurd (both_ways false refl own)
 
-    pub removes_at : Contains (corners_under tree) c → effect capacity s.contents.mosaic (Remove c) ≡ Ok (without c s.contents.mosaic)
-    removes_at has = removes s.contents.mosaic c capacity (there c has)
-
-    pub removed_at : CommandsMakeMosaics → Contains (corners_under tree) c
+    pub removed_at : CommandsMakeMosaics → effect (root_of tree).capacity s.contents.mosaic (Remove c) ≡ Ok (without c s.contents.mosaic)
         → Holds n capacity (next_commit sound_at.stored sound_at.stored.sinks (staled (are_neighbours c) (without_tile c sound_at.stored.tiles)) (s.contents.count + 1)) (made_by s.contents (Remove c) (without c s.contents.mosaic))
-    removed_at valid has =
-        let makes = removes_at has in
+    removed_at valid makes =
         holds_removed n capacity sound_at.stored s.contents sound_at.holds (without c s.contents.mosaic)
         (valid capacity s.contents.mosaic (Remove c) (without c s.contents.mosaic) sound_at.holds.valid tt makes) c makes
 
     -- an import
 
     module _ (bytes : List ℕ) where
-      pub bad_length_at : length bytes ≢ 2 * (n * n) → Refuses capacity s (Import c bytes) BadLength s
-      bad_length_at other = refuses (Import c bytes) BadLength (bad_length s.contents.mosaic c capacity bytes (λ e. other (e ∙ area_is)))
+      pub import_refused : (r : Refusal) → IsTrue (is_own (Import c bytes) r) → effect (root_of tree).capacity s.contents.mosaic (Import c bytes) ≡ Err r → AppliesNot (root_of tree).capacity s (Import c bytes) r s
+      import_refused BadLength own refused = refuses (Import c bytes) BadLength refused
+      import_refused TileThere own refused = refuses (Import c bytes) TileThere refused
+      import_refused Full own refused = refuses (Import c bytes) Full refused
+      import_refused _ own refused = absurd (both_ways false refl own)
 
-      module _ (whole : length bytes ≡ 2 * (n * n)) where
-        whole_there : length bytes ≡ 2 * (s.contents.mosaic.side * s.contents.mosaic.side)
-        whole_there = whole ∙ sym area_is
+      pub imported_at : CommandsMakeMosaics → IsTrue (is_corner c) → All (λ b. b < 256) bytes
+          → effect (root_of tree).capacity s.contents.mosaic (Import c bytes) ≡ Ok (added (record { corner = c; samples = samples_in bytes }) s.contents.mosaic)
+          → Holds n capacity (next_commit sound_at.stored sound_at.stored.sinks (with_tile (stale_tile c (pages_of_bytes (pages_of n) bytes)) (staled (are_neighbours c) sound_at.stored.tiles)) (s.contents.count + 1))
+          (made_by s.contents (Import c bytes) (added (record { corner = c; samples = samples_in bytes }) s.contents.mosaic))
+      imported_at valid corner each makes =
+          let new : Mosaic = added (record { corner = c; samples = samples_in bytes }) s.contents.mosaic in
+          holds_imported n capacity sound_at.stored s.contents sound_at.holds new
+          (valid capacity s.contents.mosaic (Import c bytes) new sound_at.holds.valid (corner, each) makes) c bytes each makes
 
-        pub tile_there_at : Contains (corners_under tree) c → Refuses capacity s (Import c bytes) TileThere s
-        tile_there_at has = refuses (Import c bytes) TileThere (tile_there s.contents.mosaic c capacity bytes whole_there (there c has))
+-- a refusal of a command's own tests is of no read
+pub import_unread : (c : Corner) (bytes : List ℕ) (r : Refusal) → IsTrue (is_own (Import c bytes) r) → (r ≢ Device) × (r ≢ Failed)
+import_unread c bytes r own = (
+  λ e. both_ways false refl (subst (λ (x : Refusal). IsTrue (is_own (Import c bytes) x)) e own),
+  λ e. both_ways false refl (subst (λ (x : Refusal). IsTrue (is_own (Import c bytes) x)) e own),
+)
 
-        module _ (none : ¬ Contains (corners_under tree) c) where
-          pub full_at : capacity ≤ length (corners_under tree) → Refuses capacity s (Import c bytes) Full s
-          full_at most =
-              refuses (Import c bytes) Full (full s.contents.mosaic c capacity bytes whole_there (absent c none) (subst (λ (cs : List Corner). capacity ≤ length cs) corners_are most))
-
-          module _ (room : length (corners_under tree) < capacity) where
-            pub imports_at : effect capacity s.contents.mosaic (Import c bytes) ≡ Ok (added (record { corner = c; samples = samples_in bytes }) s.contents.mosaic)
-            imports_at =
-                imports s.contents.mosaic c capacity bytes whole_there (absent c none) (subst (λ (cs : List Corner). length cs < capacity) corners_are room)
-
-            pub imported_at : CommandsMakeMosaics → IsTrue (is_corner c) → All (λ b. b < 256) bytes
-                → Holds n capacity (next_commit sound_at.stored sound_at.stored.sinks (with_tile (stale_tile c (pages_of_bytes (pages_of n) bytes)) (staled (are_neighbours c) sound_at.stored.tiles)) (s.contents.count + 1))
-                (made_by s.contents (Import c bytes) (added (record { corner = c; samples = samples_in bytes }) s.contents.mosaic))
-            imported_at valid corner each =
-                let new : Mosaic = added (record { corner = c; samples = samples_in bytes }) s.contents.mosaic in
-                holds_imported n capacity sound_at.stored s.contents sound_at.holds new
-                (valid capacity s.contents.mosaic (Import c bytes) new sound_at.holds.valid (corner, each) imports_at) c bytes each imports_at
+pub remove_unread : (c : Corner) (r : Refusal) → IsTrue (is_own (Remove c) r) → (r ≢ Device) × (r ≢ Failed)
+remove_unread c r own = (
+  λ e. both_ways false refl (subst (λ (x : Refusal). IsTrue (is_own (Remove c) x)) e own),
+  λ e. both_ways false refl (subst (λ (x : Refusal). IsTrue (is_own (Remove c) x)) e own),
+)

@@ -32,4 +32,3 @@ pub mod StoreLemmas
 pub mod StoredCommands
 pub mod UpgradedTrees
 pub mod WaterHeld
-pub mod WholeTiles

@@ -6,6 +6,8 @@ ghost use Rattle.lattice.specs.Corners.{is_corner};
 ghost use Rattle.lattice.specs.declared.refusal.Refusal.TheVariants.{Device, Failed};
 ghost use Rattle.lattice.specs.Mosaic.{Mosaic};
 ghost use Rattle.edits.specs.declared.command.Command.TheVariants.{Import, Remove};
+ghost use Rattle.hgt.specs.Bytes.{samples_in};
+ghost use Rattle.catalogue.specs.Tiles.{added, without};
 ghost use Rattle.edits.specs.Effect.{effect};
 ghost use Rattle.calls.specs.Outcomes.{Applies, AppliesNot};
 ghost use Rattle.calls.specs.State.{State};
@@ -25,7 +27,7 @@ use crate::staling::{drop_near, drop_near_changes, drop_near_sink};
 use cow_tree::Plane;
 use disk::Disk;
 use drainage::forget_changed;
-use edits::{Command, commands_make_mosaics};
+use edits::{Command, can_import, can_remove, commands_make_mosaics};
 use lattice::{Corner, Refusal};
 
 impl<D: Disk> Store<D> {
@@ -127,6 +129,8 @@ impl<D: Disk> Store<D> {
         ensures absent { OnOk result (¬ Contains (corners_of self.now.tree) corner) }
         ensures room { OnOk result (length (corners_of self.now.tree) < capacity_of self.now) }
         ensures number { OnOk result ((root_of self.now).number + 1 < 2 ^ 64) }
+        ensures accepted { (s : State) → IsInState D.Disk self.now.tree s
+            → OnOk result (effect (capacity_of self.now) s.contents.mosaic (Import corner bytes.now) ≡ Ok (added (record { corner = corner; samples = samples_in bytes.now }) s.contents.mosaic)) }
         ensures refused { (s : State) → IsInState D.Disk self.now.tree s → IfErr result (λ r. AppliesNot (capacity_of self.now) s (Import corner bytes.now) r s) }
         ensures own { IfErr result (λ r. (r ≢ Device) × (r ≢ Failed)) }
         ensures causes { IfErr result (λ r. IsTrue (may_refuse_command (Import corner bytes.now) r)) }
@@ -134,30 +138,11 @@ impl<D: Disk> Store<D> {
         // That it is a corner is told by its fields.
         let _lat = corner.lat;
         let root = self.tree.current();
-        if bytes.len() != root.side().file_bytes() as usize {
-            return Err(Refusal::BadLength);
-        }
-        if self.tree.present(corner) {
-            return Err(Refusal::TileThere);
-        }
-        if self.is_full() {
-            return Err(Refusal::Full);
-        }
+        can_import(&self.tree, root.capacity(), corner, bytes)?;
         if root.number() == u64::MAX {
             return Err(Refusal::Worn);
         }
         Ok(())
-    }
-
-    // Whether as many tiles are present as there is room for.
-    #[tactic(auto, using(crate::proofs::InMemory::entries_counted))]
-    fn is_full(&self) -> bool
-        requires { has_failed self.now ≡ false }
-        ensures full { IsTrue result → capacity_of self.now ≤ length (corners_of self.now.tree) }
-        ensures room { IsFalse result → length (corners_of self.now.tree) < capacity_of self.now }
-    {
-        let root = self.tree.current();
-        root.entries().len() >= root.capacity() as usize
     }
 
     // Whether a removal is accepted, by what is held in memory.
@@ -165,13 +150,13 @@ impl<D: Disk> Store<D> {
         requires { has_failed self.now ≡ false }
         ensures present { OnOk result (Contains (corners_of self.now.tree) corner) }
         ensures number { OnOk result ((root_of self.now).number + 1 < 2 ^ 64) }
+        ensures accepted { (s : State) → IsInState D.Disk self.now.tree s
+            → OnOk result (effect (capacity_of self.now) s.contents.mosaic (Remove corner) ≡ Ok (without corner s.contents.mosaic)) }
         ensures refused { (s : State) → IsInState D.Disk self.now.tree s → IfErr result (λ r. AppliesNot (capacity_of self.now) s (Remove corner) r s) }
         ensures own { IfErr result (λ r. (r ≢ Device) × (r ≢ Failed)) }
         ensures causes { IfErr result (λ r. IsTrue (may_refuse_command (Remove corner) r)) }
     {
-        if !self.tree.present(corner) {
-            return Err(Refusal::NoTile);
-        }
+        can_remove(&self.tree, corner)?;
         if self.tree.current().number() == u64::MAX {
             return Err(Refusal::Worn);
         }

@@ -47,7 +47,7 @@ returns g c =
       next = λ honest s at.
           let sound = at.sound c.requires in
           on_ok c.stage_plane-staged.result
-          (λ staged. import_holds d old mid c.requires s at c.commands_make_mosaics.ensures.mosaic c.args.corner c.args.bytes.now can.corner can.bytes can.whole can.absent can.room
+          (λ staged. import_holds d old mid c.requires s at c.commands_make_mosaics.ensures.mosaic c.args.corner c.args.bytes.now can.corner can.bytes (can.accepted s at)
           (staged ∙ ap₂ (λ (r : RootValue) (tiles : List StoredTile). with_tile (stale_tile c.args.corner (pages_of_bytes (pages_of r.side) c.args.bytes.now)) tiles) drops.root drops.staged)
           (is.sinks ∙ drops.sinks))
           (is.staged honest sound.stored (drops.at sound.stored sound.tree));

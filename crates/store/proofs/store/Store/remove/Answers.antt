@@ -39,6 +39,6 @@ returns g c =
       working = c.requires;
       uncommitted = in_memory d old mid (Ok tt) g.met.D.Disk.only_now (drops.disk ∙ is.disk) (drops.root ∙ is.root) (drops.failed ∙ is.not_failed) (λ s at. drops.at s (is.at s at)) (λ refused. never_refused tt Device refused);
       refused = tt;
-      next = λ honest s at. remove_holds d old mid c.requires s at c.commands_make_mosaics.ensures.mosaic c.args.corner c.in_ok-can_remove.ensures.present
+      next = λ honest s at. remove_holds d old mid c.requires s at c.commands_make_mosaics.ensures.mosaic c.args.corner (c.in_ok-can_remove.ensures.accepted s at)
           (drops.staged ∙ ap (staled (are_neighbours c.args.corner)) is.staged) (drops.sinks ∙ is.sinks);
     }))
