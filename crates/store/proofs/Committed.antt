@@ -1,6 +1,6 @@
 -- A command by the trees that it goes through: what commits nothing, and the commit of what was staged.
-use Rattle.std.proofs.Common.{◌≡◌, ◌≢◌, ◌⊎◌, inl, inr, ⊎_elim, ℕ, ◌+◌, ◌≤◌, ◌<◌, ◌^◌, Bool, true, false, refl, sym, ap, ◌∙◌, subst, arith}
-use Rattle.std.specs.Prelude.{Option, Result, Ok, Err, IfErr, IsErrOf, IsTrue}
+use Rattle.std.proofs.Common.{◌≡◌, ◌≢◌, ◌⊎◌, inl, inr, ⊎_elim, ℕ, ◌+◌, ◌≤◌, ◌<◌, ◌^◌, true, false, refl, sym, ap, ◌∙◌, subst, arith}
+use Rattle.std.specs.Prelude.{Result, Ok, Err, IfErr, IsErrOf, IsTrue}
 use Rattle.std.proofs.lemmas.Bool.{or_right}
 use Rattle.disk.specs.Disk.{Image, HasRisen}
 use Rattle.disk.specs.Stops.{LeavesOnly, weaker, in_turn}
@@ -14,7 +14,7 @@ use Rattle.edits.specs.Effect.{effect, unless_refused}
 use Rattle.edits.specs.Plans.{is_own, may_end}
 use Rattle.edits.specs.declared.command.Command.{Command}
 use Rattle.calls.specs.Outcomes.{AppliesNot}
-use Rattle.calls.specs.State.{Contents, State, last_number, made_by, in_doubt, failing, working}
+use Rattle.calls.specs.State.{Contents, State, last_number, made_by, in_doubt, working}
 use Rattle.calls.specs.Told.{may_refuse_command}
 use Rattle.cow_tree.specs.Layout.{Stands}
 use Rattle.cow_tree.specs.Stored.{Stored, next_commit}
@@ -24,7 +24,6 @@ use Rattle.store.specs.Applied.{IsApplied, command_ending}
 use Rattle.store.specs.Staging.{CommitsNothing, IsStaged}
 use Rattle.store.specs.Standing.{Holds}
 use Rattle.store.specs.TreeStates.{IsInState}
-use Rattle.store.proofs.EditingSteps.{refusal_is}
 use Rattle.store.proofs.Ended as ended
 use Rattle.store.proofs.InMemory.{is_working}
 use Rattle.calls.proofs.Applying.{fails, doubt_is, no_memory}

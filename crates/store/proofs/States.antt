@@ -1,5 +1,5 @@
 -- The states of a store, by what is seen of its tree.
-use Rattle.std.proofs.Common.{◌≡◌, ◌⊎◌, inl, inr, ℕ, Bool, true, false, List, [], ◌∷◌, map, refl, sym, ap, ◌∙◌, subst, true≢false}
+use Rattle.std.proofs.Common.{◌≡◌, inl, inr, ℕ, Bool, true, false, List, [], ◌∷◌, map, refl, sym, ap, ◌∙◌, subst, true≢false}
 use Rattle.std.specs.Prelude.{Option, Some, None, filter}
 use Rattle.std.specs.Option.{is_none}
 use Rattle.std.proofs.lemmas.Option.{none-some}
@@ -10,13 +10,12 @@ use Rattle.lattice.specs.Corners.{Corner}
 use Rattle.page_codec.specs.Entries.{EntryValue}
 use Rattle.layout.specs.Formats.{number_of}
 use Rattle.page_codec.specs.Roots.{RootValue}
-use Rattle.edits.specs.declared.command.Command.{Command}
-use Rattle.calls.specs.State.{Contents, State, in_doubt, failing, working}
+use Rattle.calls.specs.State.{Contents, State, failing, working}
 use Rattle.cow_tree.specs.Stored.{StoredTile, Stored}
 use Rattle.charts.specs.TileLocations.{TileLocation}
 use Rattle.charts.specs.declared.locations.KeptLocations.{KeptLocations}
 use Rattle.cow_tree.specs.Entries.{entry_of}
-use Rattle.cow_tree.specs.Layout.{StoresAt, Stands, tile_in}
+use Rattle.cow_tree.specs.Layout.{StoresAt, tile_in}
 use Rattle.store.specs.Kept.{stale_in, stale_corners}
 use Rattle.store.specs.Standing.{Holds, StandsFor}
 use Rattle.store.specs.States.{StandsForState, EachStandsFor, IsStateOf}

@@ -6,8 +6,7 @@ use Rattle.disk.specs.declared.disk.Disk.{Ghosts}
 use Rattle.lattice.specs.declared.point.Point.{Point}
 use Rattle.layout.specs.Formats.{number_of}
 use Rattle.page_codec.specs.Roots.{RootValue}
-use Rattle.edits.specs.declared.command.Command.{Command}
-use Rattle.calls.specs.State.{Contents, State, in_doubt}
+use Rattle.calls.specs.State.{Contents, State}
 use Rattle.cow_tree.specs.Stored.{StoredTile, Stored}
 use Rattle.store.specs.Kept.{stale_in}
 use Rattle.store.specs.Standing.{Holds, StandsFor}

@@ -1,19 +1,15 @@
 //! The commands of a store.
-ghost use Rattle.std.specs.Prelude.{◌≡◌, ◌≢◌, ◌≤◌, ◌<◌, ◌+◌, ◌*◌, ◌^◌, ◌⊎◌, false, true, length, All, Contains, IsTrue, IsFalse, Ok, Err, OnOk, OnErr, IfOk, IfErr, IsErrOf};
-ghost use Rattle.disk.specs.Disk.{HasRisen};
-ghost use Rattle.disk.specs.Stops.{LeavesOnly};
+ghost use Rattle.std.specs.Prelude.{◌≡◌, ◌≢◌, ◌≤◌, ◌<◌, ◌+◌, ◌*◌, ◌^◌, false, true, length, All, Contains, IsTrue, Ok, Err, OnOk, IfErr};
 ghost use Rattle.lattice.specs.Corners.{is_corner};
 ghost use Rattle.lattice.specs.declared.refusal.Refusal.TheVariants.{Device, Failed};
-ghost use Rattle.lattice.specs.Mosaic.{Mosaic};
-ghost use Rattle.edits.specs.declared.command.Command.TheVariants.{Import, Remove};
 ghost use Rattle.hgt.specs.Bytes.{samples_in};
 ghost use Rattle.catalogue.specs.Tiles.{added, without};
+ghost use Rattle.edits.specs.declared.command.Command.TheVariants.{Import, Remove};
 ghost use Rattle.edits.specs.Effect.{effect};
-ghost use Rattle.calls.specs.Outcomes.{Applies, AppliesNot};
+ghost use Rattle.calls.specs.Outcomes.{AppliesNot};
 ghost use Rattle.calls.specs.State.{State};
 ghost use Rattle.calls.specs.Told.{may_refuse_command};
 ghost use Rattle.cow_tree.specs.Trees.{corners_of};
-ghost use Rattle.store.specs.Standing.{StandsFor};
 ghost use Rattle.store.specs.Applied.{SetsSamples, SetsSinks, HasApplied};
 ghost use Rattle.store.specs.Editing.{WritesFew};
 ghost use Rattle.store.specs.Stores.{disk_of, root_of, side_of, capacity_of, has_failed};

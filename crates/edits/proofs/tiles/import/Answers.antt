@@ -1,5 +1,5 @@
-use Rattle.std.proofs.Common.{◌≡◌, ◌∙◌, ◌*◌, ℕ, inr, List, IsTrue, [], ◌∷◌, length, ap, sym, subst}
-use Rattle.std.specs.Prelude.{Result, Ok, Err, IfErr}
+use Rattle.std.proofs.Common.{◌≡◌, ◌∙◌, ◌*◌, ℕ, inr, List, IsTrue, [], ◌∷◌, length, ap, subst}
+use Rattle.std.specs.Prelude.{Ok, Err}
 use Rattle.std.specs.List.{All}
 use Rattle.std.proofs.lemmas.Result.{IfOk-weaker, err_from_is_err_and}
 use Rattle.lattice.specs.declared.refusal.Refusal.{Refusal}
