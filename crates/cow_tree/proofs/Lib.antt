@@ -27,4 +27,5 @@ pub mod PageReads
 pub mod SampleReads
 pub mod TreeReads
 pub mod ListingWrites
+pub mod LongerDisks
 pub mod UpgradeLands

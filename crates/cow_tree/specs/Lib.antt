@@ -4,6 +4,7 @@ pub mod Found
 pub mod Kept
 pub mod Layout
 pub mod Listings
+pub mod Longer
 pub mod OverRoots
 pub mod Planes
 pub mod Reading

@@ -12,6 +12,7 @@ mod entries;
 mod keeping;
 mod laws;
 mod listings;
+mod longer;
 mod opening;
 mod samples;
 mod sinks;
@@ -20,5 +21,6 @@ mod writing;
 
 pub use charts::Plane;
 pub use laws::{images_stand_for_one, no_tiles_stand, planes_read_back};
+pub use longer::stands_where_longer;
 pub use roots::NotOpened;
 pub use tree::Tree;
