@@ -5,6 +5,7 @@ pub mod EditingReads
 pub mod EditingSteps
 pub mod EditingWrites
 pub mod Ended
+pub mod FatesInTurn
 pub mod Finding
 pub mod Grouped
 pub mod HeldTiles
@@ -13,6 +14,7 @@ pub mod Importing
 pub mod InMemory
 pub mod Keeping
 pub mod Labelled
+pub mod Moves
 pub mod Nearby
 pub mod Opened
 pub mod Openings
@@ -21,7 +23,9 @@ pub mod Querying
 pub mod QueryingDrainage
 pub mod QueryingPages
 pub mod Reopening
+pub mod RightPlanes
 pub mod Runs
+pub mod SessionsInTurn
 pub mod Sets
 pub mod SinksHeld
 pub mod Staled

@@ -2,10 +2,13 @@ pub mod Applied
 pub mod Calls
 pub mod Editing
 pub mod Ended
+pub mod Fates
 pub mod Formatted
 pub mod Kept
+pub mod KeptRight
 pub mod Labelling
 pub mod Queried
+pub mod Sessions
 pub mod Staging
 pub mod Staling
 pub mod Standing

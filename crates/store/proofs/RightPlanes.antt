@@ -1,0 +1,45 @@
+-- What is kept through any events.
+use Rattle.std.proofs.Common.{◌≡◌, inl, inr, ℕ, List, [], ◌∷◌, map, refl, ap₂, subst, sym}
+use Rattle.std.specs.List.{AllZip}
+use Rattle.disk.specs.Disk.{Image}
+use Rattle.disk.specs.declared.disk.Disk.{Ghosts}
+use Rattle.lattice.specs.Corners.{Corner}
+use Rattle.lattice.specs.Mosaic.{Tile}
+use Rattle.calls.specs.Engines.{Members, AreAt}
+use Rattle.calls.specs.Runs.{last_of}
+use Rattle.calls.specs.State.{Contents, State}
+use Rattle.cow_tree.specs.Stored.{StoredTile, corners_of_stored}
+use Rattle.store.specs.KeptRight.{KeepsPlanesOf, KeepsPlanes, PlanesStayRight}
+use Rattle.store.specs.Standing.{HoldsTile, StandsFor}
+use Rattle.store.specs.States.{StandsForState}
+use Rattle.store.specs.StoreState.{IsStoreAt, members}
+use Rattle.store.specs.Stores.{disk_of}
+use Rattle.store.specs.declared.store.Store.{Store}
+
+-- the last engine is at the last state
+at_last : {E : Type 0} (of : Members E) (old : E) (engines : List E) (s : State) (states : List State) → AreAt of (old ∷ engines) (s ∷ states) → of.is_at (last_of old engines) (last_of s states)
+at_last of old [] s [] at = at.0
+at_last of old (next ∷ engines) s (t ∷ states) at = at_last of next engines t states at.1
+at_last of old [] s (t ∷ states) at = absurd at.1
+at_last of old (next ∷ engines) s [] at = absurd at.1
+
+same_corners : (n : ℕ) (stored : List StoredTile) (tiles : List Tile) → AllZip (HoldsTile n) stored tiles → corners_of_stored stored ≡ map (λ t. t.corner) tiles
+same_corners n [] [] holds = refl
+same_corners n [] (t ∷ tiles) holds = absurd holds
+same_corners n (s ∷ stored) [] holds = absurd holds
+same_corners n (s ∷ stored) (t ∷ tiles) holds = ap₂ (λ (c : Corner) (cs : List Corner). c ∷ cs) holds.0.corner (same_corners n stored tiles holds.1)
+
+keeps : (sectors side capacity : ℕ) (image : Image) (c : Contents) → StandsFor sectors side capacity image c → KeepsPlanesOf sectors c image
+keeps sectors side capacity image c (stored, stands, holds) =
+    record { stored = stored; stands = stands; tiles = same_corners side stored.tiles c.mosaic.tiles holds.tiles; kept = holds.kept; stale = holds.stale }
+
+keeps_in : (sectors side capacity : ℕ) (image : Image) (s : State) → StandsForState sectors side capacity image s → KeepsPlanes sectors s image
+keeps_in sectors side capacity image s (inl known) = inl (keeps sectors side capacity image s.contents known)
+keeps_in sectors side capacity image s (inr (doubted, is, stands)) = inr (doubted, is, keeps sectors side capacity image doubted stands)
+
+pub planes_stay_right : {D : Type 0} (g : Ghosts D) → PlanesStayRight g
+planes_stay_right g old new events answers s (stores, (is, run)) honest at =
+    let ended = subst (λ (store : Store _ g). g.honest (disk_of store)) (sym is) honest in
+    let (states, through) = run.states ended s (record { at = at; same_side = at.in_state.side_is }) in
+    let last = subst (λ (store : Store _ g). IsStoreAt g store (last_of s states)) is (at_last (members g) old stores s states through.at) in
+    (states, through.run, last.at, λ image may. keeps_in _ _ _ image (last_of s states) (last.at.in_state.images image may))

@@ -1,0 +1,5 @@
+use Rattle.store.proofs.RightPlanes.{planes_stay_right}
+use Rattle.store.proofs.kept_right.planes_stay_right.Goals as goal
+
+pub returns : goal.returns
+returns g c = planes_stay_right g.D.Disk
