@@ -90,7 +90,7 @@ module _ {D : Type 0} (g : Ghosts D) (only_now : (disk : D) (image : Image) → 
     same_size : g.size (disk_of store) ≡ size
 
   honest_before : (old new : Store D g) (call : Call) → IsMade g old call new → g.honest (disk_of new) → g.honest (disk_of old)
-  honest_before old new (Asked event answer) made honest = made.call.honest honest
+  honest_before old new (Asked event answer) made honest = made.honest honest
   honest_before old new (Upgraded result) made honest = made.0.honest honest
 
   honest_first : (store : Store D g) (calls : List (Made g)) → AreMade g store calls → g.honest (disk_of (last_store g store calls)) → g.honest (disk_of store)
@@ -112,12 +112,12 @@ module _ {D : Type 0} (g : Ghosts D) (only_now : (disk : D) (image : Image) → 
   one_call : (old new : Store D g) (call : Call) → IsMade g old call new → g.honest (disk_of new) → (size : ℕ) (s : State) → Found old size s → CallLeaves old new call size s
   one_call old new (Asked event answer) made honest size s found =
       let here : IsStoreAt g old s = record { at = found.at; same_side = found.at.in_state.side_is } in
-      let (t, (at, happens, leaves)) = made.call.happens honest s here in
-      let takes = made.call.takes honest s here in
+      let (t, (at, happens, leaves)) = made.happens honest s here in
+      let takes = made.takes honest s here in
       let moves = happened capacity s t found.sober event answer (subst (λ (n : ℕ). Happens n s event answer t) found.same_capacity happens) in
       record {
         after = t;
-        found = record { at = at.at; sober = moves.sober; same_side = takes.0 ∙ found.same_side; same_capacity = takes.1 ∙ found.same_capacity; same_size = made.size ∙ found.same_size };
+        found = record { at = at.at; sober = moves.sober; same_side = takes.0 ∙ found.same_side; same_capacity = takes.1 ∙ found.same_capacity; same_size = leaves.size ∙ found.same_size };
         moves = moves;
         leaves = λ image left. one_stands size side capacity image s t
             (same_one (g.size (disk_of old)) (side_of old) (capacity_of old) size side capacity found.same_size found.same_side found.same_capacity (s ∷ t ∷ []) image (leaves.run.each image left));
@@ -276,22 +276,25 @@ module _ {D : Type 0} (g : Ghosts D) (only_now : (disk : D) (image : Image) → 
   last_opened : (next : D) (opened : Result (Store D g) (NotOpened D)) → IsOpening g next opened → g.honest (disk_after opened) → (a b : Contents) → HoldsEither g next side capacity a b → FindsOrRefuses a b [] opened
   last_opened next (Ok store) opening honest a b holds = (
     ⊎_elim
-    (λ found. record { contents = a; from = inl (unchanged capacity [] refl a a refl refl); at = found.at; same_side = found.same_side; same_capacity = found.same_capacity })
-    (λ found. record { contents = b; from = inr (unchanged capacity [] refl b b refl refl); at = found.at; same_side = found.same_side; same_capacity = found.same_capacity })
-    (opened_at next store opening honest a b holds),
+        (λ found. record { contents = a; from = inl (unchanged capacity [] refl a a refl refl); at = found.at; same_side = found.same_side; same_capacity = found.same_capacity })
+        (λ found. record { contents = b; from = inr (unchanged capacity [] refl b b refl refl); at = found.at; same_side = found.same_side; same_capacity = found.same_capacity })
+        (opened_at next store opening honest a b holds),
     tt,
   )
   last_opened next (Err e) opening honest a b holds = (tt, opening.sure honest side capacity a b holds)
 
   finds_more : (a b : Contents) (fates more : List Fate) (opened : Result (Store D g) (NotOpened D)) (one other : Contents) → FromEither a b fates one → FromEither a b fates other
       → FindsOrRefuses one other more opened → FindsOrRefuses a b (fates ++ more) opened
-  finds_more a b fates more (Ok store) one other one_comes other_comes (finds, sure) = (record {
-    contents = finds.contents;
-    from = from_both a b one other finds.contents fates more one_comes other_comes finds.from;
-    at = finds.at;
-    same_side = finds.same_side;
-    same_capacity = finds.same_capacity;
-  }, tt)
+  finds_more a b fates more (Ok store) one other one_comes other_comes (finds, sure) = (
+    record {
+      contents = finds.contents;
+      from = from_both a b one other finds.contents fates more one_comes other_comes finds.from;
+      at = finds.at;
+      same_side = finds.same_side;
+      same_capacity = finds.same_capacity;
+    },
+    tt,
+  )
   finds_more a b fates more (Err e) one other one_comes other_comes (none, sure) = (tt, sure)
 
   all_sessions : (sectors : ℕ) (Left : Image → Type 0) (sessions : List (Session g)) (next : D) (opened : Result (Store D g) (NotOpened D)) → InTurn g sectors Left sessions next

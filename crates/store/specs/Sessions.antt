@@ -7,14 +7,15 @@ use Rattle.disk.specs.declared.disk.Disk.{Ghosts}
 use Rattle.lattice.specs.declared.refusal.Refusal.{Refusal}
 use Rattle.lattice.specs.declared.refusal.Refusal.TheVariants.{Device, NoMemory}
 use Rattle.edits.specs.declared.command.Command.{Command}
+use Rattle.calls.specs.Engines.{IsCall}
 use Rattle.calls.specs.State.{Contents, working}
 use Rattle.calls.specs.declared.event.Event.{Event}
 use Rattle.calls.specs.declared.event.Reply.{Reply}
 use Rattle.cow_tree.specs.Longer.{AgreesBelow}
 use Rattle.roots.specs.declared.roots.NotOpened.{NotOpened}
-use Rattle.store.specs.Calls.{HasAnswered}
 use Rattle.store.specs.Fates.{Fate, AreAccepted, ComesBy, known_by, doubted_of}
 use Rattle.store.specs.Standing.{StandsFor}
+use Rattle.store.specs.StoreState.{members}
 use Rattle.store.specs.Stores.{disk_of, side_of, capacity_of, has_failed, disk_after, IsAt}
 use Rattle.store.specs.Upgraded.{HasUpgraded}
 use Rattle.store.specs.declared.store.Store.{Store}
@@ -40,7 +41,7 @@ module _ {D : Type 0} (g : Ghosts D) where
 
   -- the call was made of the store, and this is the store then
   abbrev pub IsMade : Store D g → Call → Store D g → Type 0
-  IsMade old (Asked event answer) new = HasAnswered g old event answer new
+  IsMade old (Asked event answer) new = IsCall (members g) old event answer new
   IsMade old (Upgraded result) new = HasUpgraded g old new result × (has_failed old ≡ true → disk_of new ≡ disk_of old)
 
   -- a call, and the store after it
