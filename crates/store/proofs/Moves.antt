@@ -1,7 +1,7 @@
 -- What a call of a store leaves of what was accepted: a stop inside it finds the contents before it or after it.
-use Rattle.std.proofs.Common.{◌≡◌, ◌⊎◌, inl, inr, ⊎_elim, ℕ, ◌+◌, ◌<◌, Bool, true, false, true≢false, List, [], ◌∷◌, refl, sym, ap, ◌∙◌, subst, arith}
-use Rattle.std.specs.Prelude.{Result, Ok, Err, Some, None, Option, unwrap_or, nat_lt, if◌then◌else◌, IsFalse, not, filter}
-use Rattle.lattice.specs.Corners.{Corner, same_corner}
+use Rattle.std.proofs.Common.{◌≡◌, ◌⊎◌, inl, inr, ⊎_elim, ℕ, Bool, true, false, true≢false, List, [], ◌∷◌, refl, sym, ap, ◌∙◌, subst}
+use Rattle.std.specs.Prelude.{Result, Ok, Err, Some, None, Option, unwrap_or, nat_lt, if◌then◌else◌, IsFalse}
+use Rattle.lattice.specs.Corners.{Corner}
 use Rattle.lattice.specs.Mosaic.{Mosaic}
 use Rattle.lattice.specs.declared.point.Point.{Point}
 use Rattle.lattice.specs.declared.refusal.Refusal.{Refusal}
@@ -9,8 +9,8 @@ use Rattle.lattice.specs.declared.refusal.Refusal.TheVariants.{NoTile, Outside, 
 use Rattle.edits.specs.declared.command.Command.{Command}
 use Rattle.edits.specs.Effect.{effect}
 use Rattle.calls.specs.State.{Contents, State, working, failing, made_by, would_make, if_numbered, in_doubt, last_number}
-use Rattle.calls.specs.Outcomes.{Stays, StaysFailed, Fails, AppliesNot, ElevatesNot, ExportsNot, ListsNot, AnswersNot}
-use Rattle.calls.specs.Steps.{Commits, IsStepOf, stepped, step_in_doubt, StepsNot, Steps, upgraded, Upgrades, UpgradesNot}
+use Rattle.calls.specs.Outcomes.{Fails, AppliesNot, ElevatesNot, ExportsNot, ListsNot, AnswersNot}
+use Rattle.calls.specs.Steps.{Commits, stepped, step_in_doubt, StepsNot, Steps, upgraded, Upgrades, UpgradesNot}
 use Rattle.calls.specs.Events.{Happens, Reopens, ReopensNot}
 use Rattle.calls.specs.declared.event.Event.{Event}
 use Rattle.calls.specs.declared.event.Event.TheVariants as ask

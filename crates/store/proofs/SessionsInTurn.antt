@@ -1,26 +1,24 @@
 -- Sessions, one after another: by what each of them leaves.
-use Rattle.std.proofs.Common.{◌≡◌, ◌⊎◌, inl, inr, ⊎_elim, ℕ, ◌≤◌, Bool, true, false, true≢false, List, [], ◌∷◌, ◌++◌, refl, sym, ap, ◌∙◌, subst, arith}
-use Rattle.std.specs.Prelude.{Result, Ok, Err, Some, None, IfOk, IfErr, Contains, nat_le}
+use Rattle.std.proofs.Common.{◌≡◌, ◌⊎◌, inl, inr, ⊎_elim, ℕ, ◌≤◌, Bool, true, false, List, [], ◌∷◌, ◌++◌, refl, sym, ◌∙◌, subst, arith}
+use Rattle.std.specs.Prelude.{Result, Ok, Err, IfOk, IfErr}
 use Rattle.std.proofs.lemmas.List.Elements.{Contains-push_cases}
 use Rattle.disk.specs.Disk.{Image}
 use Rattle.disk.specs.Stops.{LeavesOnly}
 use Rattle.disk.specs.declared.disk.Disk.{Ghosts}
-use Rattle.lattice.specs.declared.refusal.Refusal.{Refusal}
 use Rattle.lattice.specs.declared.refusal.Refusal.TheVariants.{Device, NoMemory}
-use Rattle.edits.specs.declared.command.Command.{Command}
 use Rattle.calls.specs.State.{Contents, State, working}
 use Rattle.calls.specs.Events.{Happens}
 use Rattle.cow_tree.specs.Longer.{AgreesBelow}
 use Rattle.cow_tree.proofs.LongerDisks.{stands_where_longer}
 use Rattle.roots.specs.declared.roots.NotOpened.{NotOpened}
 use Rattle.store.specs.Ended.{LeavesOr}
-use Rattle.store.specs.Fates.{Fate, IsMadeOf, AreAccepted, ComesBy}
+use Rattle.store.specs.Fates.{Fate, IsMadeOf}
 use Rattle.store.specs.Sessions.{Call, Asked, Upgraded, HoldsEither, IsOpening, IsMade, Made, AreMade, last_store, Session, Unopened, Ended, Stopped, IsSession, first_disk, last_disk, MayLeave, fates_of_call, doubts_of_call, fates_of_calls, fates_of_session, fates_of, TakesOver, InTurn, HasAccepted, SessionsCompose}
 use Rattle.store.specs.Standing.{StandsFor}
 use Rattle.store.specs.States.{StandsForState}
 use Rattle.store.specs.StoreState.{IsStoreAt, StandsForOne}
 use Rattle.store.specs.Upgraded.{has_room}
-use Rattle.store.specs.Stores.{disk_of, root_of, side_of, capacity_of, has_failed, disk_after, IsAt}
+use Rattle.store.specs.Stores.{disk_of, root_of, side_of, capacity_of, disk_after, IsAt}
 use Rattle.store.specs.declared.store.Store.{Store}
 use Rattle.store.proofs.FatesInTurn.{both_made}
 use Rattle.store.proofs.Moves.{not_some, MayHold, IsSober, IsMadeFrom, Moves, happened, made_newer, one_of_two, second_held, second_of, unchanged}

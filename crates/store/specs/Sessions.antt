@@ -1,6 +1,6 @@
 -- Sessions of a store, one after another: each is begun by an opening, and each is ended, stopped (a power cut) or upgraded
 -- as it may be (this product's own profile).
-use Rattle.std.specs.Prelude.{◌≡◌, ◌⊎◌, ◌≤◌, ℕ, true, List, [], ◌∷◌, ◌++◌, Result, Ok, Err, IfOk, IfErr}
+use Rattle.std.specs.Prelude.{◌≡◌, ◌⊎◌, ◌≤◌, ℕ, true, List, [], ◌∷◌, ◌++◌, Result, Ok, IfOk, IfErr}
 use Rattle.disk.specs.Disk.{Image}
 use Rattle.disk.specs.Stops.{AddsNothing}
 use Rattle.disk.specs.declared.disk.Disk.{Ghosts}
