@@ -1,5 +1,4 @@
 //! The program's words, and what it does on files of stores.
-mod lengths;
 mod sessions;
 
 use disk::FileDisk;
