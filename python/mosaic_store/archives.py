@@ -1,0 +1,120 @@
+"""HGT files as people have them: in folders, in zips, gzipped, with names in any case and with more in them than a tile.
+
+A tile's name may stand anywhere in a file's name, apart from other letters and digits: N37W105.hgt,
+n37w105.SRTMGL1.hgt.zip, USGS_N37W105_1arc.HGT. It tells the south-west corner.
+"""
+
+from __future__ import annotations
+
+import gzip
+import os
+import pathlib
+import re
+import zipfile
+import zlib
+from collections.abc import Iterable, Iterator
+from dataclasses import dataclass
+
+from .errors import MosaicError
+from .lattice import Corner, corner_of
+
+_NAMED = re.compile(r"(?<![A-Z0-9])[NS]\d\d[EW]\d\d\d(?![A-Z0-9])", re.IGNORECASE | re.ASCII)
+
+
+class Unreadable(MosaicError):
+    """A file, or what an archive holds, can't be read."""
+
+
+@dataclass(frozen=True)
+class Source:
+    """A file that may hold a tile, or one in an archive."""
+
+    path: pathlib.Path
+    member: str | None = None
+    """Its name in the archive; None where the file is it."""
+    length: int | None = None
+    """How many bytes it has, unpacked; None where only reading tells."""
+
+    @property
+    def shown(self) -> str:
+        """Its path, and its name in the archive after a colon, in characters that any terminal shows."""
+        name = str(self.path) if self.member is None else f"{self.path}:{self.member}"
+        return name.encode("utf-8", "backslashreplace").decode()
+
+    @property
+    def corner(self) -> Corner | None:
+        """The corner that its name tells; None where it tells none, or several."""
+        name = (self.member or self.path.name).rsplit("/", 1)[-1]
+        corners = {corner_of(found) for found in _NAMED.findall(name)}
+        return corners.pop() if len(corners) == 1 else None
+
+    def read(self, most: int) -> bytes:
+        """Its bytes, unpacked; the first `most` + 1 of a longer one. Unreadable where it can't be read."""
+        try:
+            if self.member is not None:
+                with zipfile.ZipFile(self.path) as archive, archive.open(self.member) as member:
+                    return member.read(most + 1)
+            with gzip.open(self.path) if _is(self.path.name, ".gz") else open(self.path, "rb") as file:
+                return file.read(most + 1)
+        except (OSError, EOFError, ValueError, zipfile.BadZipFile, zlib.error, RuntimeError, NotImplementedError) as fault:
+            raise _unreadable(self.shown, fault) from None
+
+
+@dataclass(frozen=True)
+class Trouble:
+    """A file without a tile."""
+
+    shown: str
+    """Its path."""
+    cause: str
+    """Why, in a clause."""
+    cure: str
+    """What to do, in a clause; empty where nothing needs to be done."""
+
+
+def files_below(paths: Iterable[str]) -> list[pathlib.Path]:
+    """The files that paths name, and those in the folders that they name, in order. MosaicError where there is none."""
+    found: list[pathlib.Path] = []
+    for path in map(pathlib.Path, paths):
+        if not path.exists():
+            raise MosaicError(f"{path}: no such file or folder: check the path")
+        found += sorted(below for below in path.rglob("*") if below.is_file()) if path.is_dir() else [path]
+    return list(dict.fromkeys(found))
+
+
+def sources_of(path: pathlib.Path) -> Iterator[Source | Trouble]:
+    """What may be tiles in a file: itself, or what an archive holds. Nothing is unpacked yet."""
+    name = path.name
+    if _is(name, ".hgt"):
+        yield Source(path, None, path.stat().st_size)
+    elif _is(name, ".hgt.gz"):
+        yield Source(path)
+    elif _is(name, ".zip"):
+        yield from _members(path)
+    else:
+        yield Trouble(str(path), "no HGT file, and no archive of them", "")
+
+
+def _members(path: pathlib.Path) -> Iterator[Source | Trouble]:
+    try:
+        with zipfile.ZipFile(path) as archive:
+            held = [entry for entry in archive.infolist() if _is(entry.filename, ".hgt")]
+    except (OSError, zipfile.BadZipFile, NotImplementedError, ValueError) as fault:
+        yield Trouble(str(path), f"not read as a zip: {_reason(fault)}", "fetch it again")
+        return
+    for entry in held:
+        yield Source(path, entry.filename, entry.file_size)
+    if not held:
+        yield Trouble(str(path), "a zip without an HGT file", "")
+
+
+def _is(name: str, ending: str) -> bool:
+    return name.lower().endswith(ending)
+
+
+def _unreadable(shown: str, fault: Exception) -> Unreadable:
+    return Unreadable(f"{shown}: not read: {_reason(fault)}")
+
+
+def _reason(fault: Exception) -> str:
+    return os.strerror(fault.errno) if isinstance(fault, OSError) and fault.errno else str(fault) or type(fault).__name__

@@ -1,0 +1,126 @@
+"""mosaic-draw: a picture of a window with a watershed, standing water, a flow path, a road."""
+
+from __future__ import annotations
+
+import argparse
+import functools
+import pathlib
+import sys
+from collections.abc import Sequence
+from typing import TYPE_CHECKING, Any
+
+from ..drawing import Scene, draw, needed_matplotlib, range_of
+from ..lattice import degrees_of
+from ..rasters import Heights, depths_of, heights_of, levels_of
+from ..session import Session
+from .frame import (
+    DONE,
+    CommandError,
+    Progress,
+    add_places,
+    add_snap,
+    add_window,
+    opened,
+    outlet_given,
+    parser,
+    point_given,
+    run,
+    shown_place,
+    window_given,
+    written_whole,
+)
+
+if TYPE_CHECKING:
+    import numpy
+
+    Array = numpy.ndarray[Any, Any]
+
+NAME = "mosaic-draw"
+MOST_POINTS = 1200
+FORMS = (".png", ".svg", ".pdf")
+DESCRIPTION = f"""Draws a window of a store: shaded heights with degrees, a scale and a legend, on them what is asked for.
+
+  mosaic-draw STORE river.png --watershed 37.5 -105.25
+  mosaic-draw STORE pond.png --window 0.12 0.32 0.17 0.37 --water --road 0.1525 0.3275 0.1525 0.3525
+
+A window of more than {MOST_POINTS} points one way is thinned. Standing water takes a question for each pit of the window,
+and isn't drawn in thinned ones."""
+
+
+def main(arguments: Sequence[str] | None = None) -> int:
+    """Runs the command; its status."""
+    return run(NAME, functools.partial(_draw, _parsed(arguments)))
+
+
+def _parsed(arguments: Sequence[str] | None) -> argparse.Namespace:
+    made = parser(NAME, DESCRIPTION)
+    made.add_argument("store")
+    made.add_argument("picture", help="the file to write: .png, .svg or .pdf")
+    add_window(made)
+    place = ("LATITUDE", "LONGITUDE")
+    made.add_argument("--watershed", nargs=2, type=float, metavar=place, help="the watershed of a place, its outlet")
+    made.add_argument("--trace", nargs=2, type=float, metavar=place, help="the flow path of a place")
+    made.add_argument("--road", nargs="+", type=float, default=[], metavar="LATITUDE LONGITUDE", help="a line of places")
+    made.add_argument("--water", action="store_true", help="standing water")
+    made.add_argument("--title", help="what stands above; the store's name without it")
+    add_places(made)
+    add_snap(made)
+    options = made.parse_args(arguments)
+    if len(options.road) % 2 or len(options.road) == 2:
+        made.error("a road takes two places or more, two numbers each")
+    return options
+
+
+def _draw(options: argparse.Namespace) -> int:
+    needed_matplotlib()
+    if pathlib.Path(options.picture).suffix.lower() not in FORMS:
+        raise CommandError(f"{options.picture}: the name of a picture ends in {', '.join(FORMS)}")
+    with opened(options.store, options.program) as session, written_whole(options.picture) as path:
+        scene = _scene(session, options)
+        draw(scene, path)
+    print(f"{options.picture}: {_told(scene)}")
+    return DONE
+
+
+def _scene(session: Session, options: argparse.Namespace) -> Scene:
+    window = window_given(options.window, session, options.points)
+    every = -(-max(window.height, window.width) // MOST_POINTS)
+    if options.water and every > 1:
+        raise CommandError(
+            f"standing water is drawn in windows of at most {MOST_POINTS} points each way, and this one has "
+            f"{window.width} x {window.height}: give a smaller --window"
+        )
+    pairs = zip(options.road[::2], options.road[1::2])
+    road = [point_given(pair, session, options.points) for pair in pairs]
+    scene = Scene(heights_of(session, window, every), options.title or pathlib.Path(options.store).name, road=road)
+    if options.watershed is not None:
+        scene.outlet = outlet_given(options.watershed, session, options)
+        scene.watershed = session.watershed(*scene.outlet)
+    if options.trace is not None:
+        scene.path = session.trace(*point_given(options.trace, session, options.points))
+    if options.water:
+        scene.depths = depths_of(scene.heights, _levels(session, scene.heights))
+    return scene
+
+
+def _levels(session: Session, heights: Heights) -> Array:
+    progress = Progress(NAME, 0, "levels asked")
+    levels = levels_of(session, heights, progress.tell_of)
+    progress.clear()
+    return levels
+
+
+def _told(scene: Scene) -> str:
+    """What the picture shows, in a line."""
+    low, high = range_of(scene.heights)
+    parts = [f"heights from {low} to {high} m"]
+    if scene.watershed is not None and scene.outlet is not None:
+        place = shown_place(degrees_of(scene.outlet, scene.heights.side))
+        parts.append(f"{scene.watershed.cells} points drain to {place}")
+    if scene.depths is not None:
+        parts.append(f"{int((scene.depths > 0).sum())} points under water, at most {max(0, int(scene.depths.max()))} m deep")
+    return "; ".join(parts)
+
+
+if __name__ == "__main__":
+    sys.exit(main())

@@ -1,0 +1,222 @@
+"""What the commands have in common: arguments, errors in one line, files written whole, progress.
+
+A command ends with 0 where all was done, 1 where something was refused or failed, 2 for arguments that it can't read.
+"""
+
+from __future__ import annotations
+
+import argparse
+import contextlib
+import io
+import os
+import pathlib
+import sys
+import tempfile
+import time
+from collections.abc import Callable, Iterator, Sequence
+from typing import NoReturn
+
+from ..errors import MosaicError, Refusal, SessionDied
+from ..lattice import Place, Point, Window, corner_of, degrees_of
+from ..session import Session, open_store
+from ..snapping import snapped
+from ..version import VERSION
+
+DONE, FAILED, BAD_ARGUMENTS, INTERRUPTED = 0, 1, 2, 130
+
+_SECONDS_BETWEEN_LINES = 10.0
+_FARTHEST_SNAP = 50
+
+
+class CommandError(MosaicError):
+    """Something that stops a command: told in one line."""
+
+
+class Parser(argparse.ArgumentParser):
+    """Arguments, with errors in one line."""
+
+    def error(self, message: str) -> NoReturn:
+        self.exit(BAD_ARGUMENTS, f"{self.prog}: {message}; see {self.prog} --help\n")
+
+
+def parser(name: str, description: str) -> Parser:
+    """The arguments that each command takes."""
+    made = Parser(prog=name, description=description, formatter_class=argparse.RawDescriptionHelpFormatter)
+    made.add_argument("--version", action="version", version=f"%(prog)s {VERSION}")
+    made.add_argument("--program", help="the program `mosaic`; otherwise what MOSAIC names, or the one on PATH")
+    return made
+
+
+def add_places(made: argparse.ArgumentParser) -> None:
+    """Lets places be given as points."""
+    made.add_argument(
+        "--points", action="store_true", help="numbers are points y x of the lattice, in place of degrees north and east"
+    )
+
+
+def add_snap(made: argparse.ArgumentParser) -> None:
+    """Lets the outlets of watersheds move to the stream."""
+    made.add_argument(
+        "--snap",
+        type=int,
+        default=0,
+        metavar="STEPS",
+        help="moves the outlet of a watershed to the point within so many steps that most points drain to",
+    )
+
+
+def outlet_given(numbers: Sequence[float], session: Session, options: argparse.Namespace) -> Point:
+    """The outlet that two numbers tell, moved to the stream as far as `--snap` allows."""
+    point = point_given(numbers, session, options.points)
+    if not 0 <= options.snap <= _FARTHEST_SNAP:
+        raise CommandError(f"an outlet moves by 0 to {_FARTHEST_SNAP} steps, not {options.snap}")
+    return snapped(session, point, options.snap) if options.snap else point
+
+
+def add_window(made: argparse.ArgumentParser) -> None:
+    """Lets a window be given."""
+    made.add_argument(
+        "--window",
+        nargs=4,
+        type=float,
+        metavar=("SOUTH", "WEST", "NORTH", "EAST"),
+        help="the window, ends included; all tiles without it",
+    )
+
+
+def run(name: str, body: Callable[[], int]) -> int:
+    """Runs a command; its status. What stops it is told in one line."""
+    if isinstance(sys.stdout, io.TextIOWrapper):
+        sys.stdout.reconfigure(errors="backslashreplace")  # names of files are any bytes
+    try:
+        return body()
+    except Refusal as refusal:
+        return _stopped(name, f"{refusal}: {refusal.cure}")
+    except SessionDied as death:
+        return _stopped(name, f"{death}: what was acknowledged stands; run this again")
+    except MosaicError as error:
+        return _stopped(name, str(error))
+    except BrokenPipeError:
+        os.dup2(os.open(os.devnull, os.O_WRONLY), sys.stdout.fileno())
+        return FAILED
+    except OSError as error:
+        return _stopped(name, f"{error.filename or 'a file'}: {error.strerror or error}")
+    except MemoryError:
+        return _stopped(name, "not enough memory: take a smaller window")
+    except KeyboardInterrupt:
+        _stopped(name, "interrupted")
+        return INTERRUPTED
+
+
+def _stopped(name: str, message: str) -> int:
+    print(f"{name}: {' '.join(message.split())}", file=sys.stderr)
+    return FAILED
+
+
+@contextlib.contextmanager
+def opened(path: str, program: str | None) -> Iterator[Session]:
+    """A session with a store that has a tile."""
+    with open_store(path, program) as session:
+        if not session.tiles():
+            raise CommandError(f"{path}: the store has no tile: load some with mosaic-load")
+        yield session
+
+
+def point_given(numbers: Sequence[float], session: Session, as_points: bool) -> Point:
+    """The point that two numbers tell, by degrees or as they are."""
+    if not as_points:
+        try:
+            return session.point_of(*numbers)
+        except ValueError as fault:
+            raise CommandError(f"{fault}; with --points numbers are points of the lattice") from None
+    if not all(float(number).is_integer() for number in numbers):
+        shown = " ".join(f"{number:g}" for number in numbers)
+        raise CommandError(f"points are whole numbers y x, not {shown}: leave --points out for degrees")
+    return Point(*map(int, numbers))
+
+
+def window_given(numbers: Sequence[float] | None, session: Session, as_points: bool) -> Window:
+    """The window that four numbers tell; without them the least that has all tiles."""
+    extent = extent_of(session)
+    if numbers is None:
+        return extent
+    south_west = point_given(numbers[:2], session, as_points)
+    north_east = point_given(numbers[2:], session, as_points)
+    window = Window(*south_west, *north_east)
+    if window.width < 1 or window.height < 1:
+        raise CommandError("the window is out of order: give its south-west end first, then its north-east end")
+    if not any(_meet(window, tile) for tile in tile_windows(session)):
+        reach = shown_window(extent, session.side)
+        raise CommandError(f"the window lies off the tiles, which reach {reach}: choose one there")
+    return window
+
+
+def tile_windows(session: Session) -> list[Window]:
+    """The points of each tile of a store."""
+    corners = filter(None, map(corner_of, session.tiles()))
+    return [corner.window(session.side) for corner in corners]
+
+
+def extent_of(session: Session) -> Window:
+    """The least window that has all tiles of a store."""
+    south, west, north, east = zip(*tile_windows(session))
+    return Window(min(south), min(west), max(north), max(east))
+
+
+def shown_window(window: Window, side: int) -> str:
+    """A window in words, by degrees and points."""
+    low, high = (degrees_of(Point(*end), side) for end in (window[:2], window[2:]))
+    return f"from {shown_place(low)} to {shown_place(high)} (points {window.y0} {window.x0} to {window.y1} {window.x1})"
+
+
+def shown_place(place: Place) -> str:
+    """A place in words, as 37.5 N 105.25 W."""
+    north = f"{abs(place.latitude):.6g} {'S' if place.latitude < 0 else 'N'}"
+    return f"{north} {abs(place.longitude):.6g} {'W' if place.longitude < 0 else 'E'}"
+
+
+def _meet(one: Window, other: Window) -> bool:
+    return one.y0 <= other.y1 and other.y0 <= one.y1 and one.x0 <= other.x1 and other.x0 <= one.x1
+
+
+@contextlib.contextmanager
+def written_whole(path: str) -> Iterator[str]:
+    """The name of a file to write beside `path`, which takes its place once it was written; a failure leaves nothing."""
+    target = pathlib.Path(path)
+    if target.is_dir():
+        raise CommandError(f"{path}: is a folder: give the name of a file in it")
+    if not target.parent.is_dir():
+        raise CommandError(f"{path}: there is no folder {target.parent}: make it first")
+    with tempfile.TemporaryDirectory(dir=target.parent, prefix=f".{target.name}.") as folder:
+        made = os.path.join(folder, target.name)
+        yield made
+        os.replace(made, path)
+
+
+class Progress:
+    """Tells on standard error how far a command is: in place on a terminal, now and then elsewhere."""
+
+    def __init__(self, name: str, total: int, what: str) -> None:
+        self._name, self._total, self._what = name, total, what
+        self._on_terminal = sys.stderr.isatty()
+        self._told = time.monotonic()
+
+    def tell_of(self, done: int, total: int) -> None:
+        """So many of so many are done."""
+        self._total = total
+        self.tell(done)
+
+    def tell(self, done: int) -> None:
+        """So many are done."""
+        now = time.monotonic()
+        if now - self._told < (0.1 if self._on_terminal else _SECONDS_BETWEEN_LINES):
+            return
+        self._told = now
+        line = f"{self._name}: {done} of {self._total} {self._what}"
+        shown = f"\r{line}\033[K" if self._on_terminal else f"{line}\n"
+        print(shown, end="", file=sys.stderr, flush=True)
+
+    def clear(self) -> None:
+        """Makes room for another line."""
+        if self._on_terminal:
+            print("\r\033[K", end="", file=sys.stderr, flush=True)

@@ -1,0 +1,73 @@
+"""mosaic-geojson: watersheds, flow paths and the outlines of tiles as GeoJSON, for QGIS and others."""
+
+from __future__ import annotations
+
+import argparse
+import functools
+import json
+import sys
+from collections.abc import Sequence
+
+from ..geojson import Feature, collection, tile_feature, trace_feature, watershed_feature
+from ..lattice import corner_of
+from ..session import Session
+from .frame import DONE, add_places, add_snap, opened, outlet_given, parser, point_given, run, written_whole
+
+NAME = "mosaic-geojson"
+DESCRIPTION = """Writes watersheds, flow paths or the outlines of a store's tiles as GeoJSON, in degrees.
+
+  mosaic-geojson STORE watershed 37.5 -105.25 -o river.geojson
+  mosaic-geojson STORE trace 37.5 -105.25 37.6 -105.2 > paths.geojson
+  mosaic-geojson STORE tiles > tiles.geojson
+
+A point is the middle of a cell. A watershed's polygons run around its cells, so that their area in cells is its number
+of points, which is the property `cells`."""
+
+
+def main(arguments: Sequence[str] | None = None) -> int:
+    """Runs the command; its status."""
+    return run(NAME, functools.partial(_write, _parsed(arguments)))
+
+
+def _parsed(arguments: Sequence[str] | None) -> argparse.Namespace:
+    made = parser(NAME, DESCRIPTION)
+    made.add_argument("store")
+    made.add_argument("what", choices=["watershed", "trace", "tiles"])
+    made.add_argument("places", nargs="*", type=float, metavar="LATITUDE LONGITUDE", help="places, north and east positive")
+    made.add_argument("-o", "--output", help="the file to write; standard output without it")
+    add_places(made)
+    add_snap(made)
+    options = made.parse_args(arguments)
+    if options.what == "tiles" and options.places:
+        made.error("tiles takes no place")
+    if options.what != "tiles" and (not options.places or len(options.places) % 2):
+        made.error(f"{options.what} takes places, two numbers each")
+    return options
+
+
+def _write(options: argparse.Namespace) -> int:
+    with opened(options.store, options.program) as session:
+        text = json.dumps(collection(_features(session, options)), separators=(",", ":")) + "\n"
+    if options.output is None:
+        sys.stdout.write(text)
+        sys.stdout.flush()
+    else:
+        with written_whole(options.output) as path, open(path, "w", encoding="ascii") as file:
+            file.write(text)
+    return DONE
+
+
+def _features(session: Session, options: argparse.Namespace) -> list[Feature]:
+    side = session.side
+    if options.what == "tiles":
+        return [tile_feature(corner, side) for corner in map(corner_of, session.tiles()) if corner is not None]
+    pairs = zip(options.places[::2], options.places[1::2])
+    if options.what == "trace":
+        starts = [point_given(pair, session, options.points) for pair in pairs]
+        return [trace_feature(session.trace(*start), side) for start in starts]
+    outlets = [outlet_given(pair, session, options) for pair in pairs]
+    return [watershed_feature(session.watershed(*outlet), outlet, side) for outlet in outlets]
+
+
+if __name__ == "__main__":
+    sys.exit(main())

@@ -1,0 +1,114 @@
+"""mosaic-load: folders of HGT files, or the tiles of another store, into a store."""
+
+from __future__ import annotations
+
+import argparse
+import collections
+import functools
+import os
+import sys
+import time
+from collections.abc import Callable, Iterable, Sequence
+
+from ..loading import Found, Kind, Outcome, copy, find, load
+from ..session import Session, open_store
+from ..stores import Shape, format_store, shape_of
+from .frame import DONE, FAILED, CommandError, Progress, parser, run
+
+NAME = "mosaic-load"
+DESCRIPTION = """Imports HGT files and archives of them (.hgt, .zip, .hgt.gz, names in any case), folders with all below them.
+
+  mosaic-load STORE FOLDER..          makes the store where there is none, with the side and the tiles that it finds
+  mosaic-load NEW --from OLD --capacity 200
+                                      the tiles and sinks of a store into one of another capacity; OLD stays
+
+Run it again to go on after an interruption: tiles that are there are passed by. Each failure is told with its cause and
+cure, and the status is 1 then."""
+
+
+def main(arguments: Sequence[str] | None = None) -> int:
+    """Runs the command; its status."""
+    return run(NAME, functools.partial(_load, _parsed(arguments)))
+
+
+def _parsed(arguments: Sequence[str] | None) -> argparse.Namespace:
+    made = parser(NAME, DESCRIPTION)
+    made.add_argument("store")
+    made.add_argument("paths", nargs="*", metavar="FOLDER", help="folders and files")
+    made.add_argument("--from", dest="origin", metavar="STORE", help="takes tiles and sinks from another store")
+    made.add_argument("--side", type=int, help="of a store that is made: what most files have, without it")
+    made.add_argument("--capacity", type=int, help="of a store that is made: as many as there are tiles, without it")
+    options = made.parse_args(arguments)
+    if bool(options.paths) == bool(options.origin):
+        made.error("folders and files are needed, or --from a store")
+    return options
+
+
+def _load(options: argparse.Namespace) -> int:
+    return _from_files(options) if options.paths else _from_store(options)
+
+
+def _from_files(options: argparse.Namespace) -> int:
+    found = find(options.paths)
+    if not found.sources:
+        raise CommandError(f"no HGT file and no archive of one in {', '.join(options.paths)}: nothing to load")
+    _make_where_none(options, found.shape)
+    with open_store(options.store, options.program) as session:
+        return _summed_up(load(session, found), len(found.sources) + len(found.troubles), _files(found), session)
+
+
+def _from_store(options: argparse.Namespace) -> int:
+    if os.path.exists(options.store) and os.path.exists(options.origin) and os.path.samefile(options.store, options.origin):
+        raise CommandError(f"{options.store}: tiles move to another store: name a new one")
+    with open_store(options.origin, options.program) as other:
+        shape = Shape(other.side, max(1, len(other.tiles())))
+        if options.capacity is not None and options.capacity < len(other.tiles()):
+            raise CommandError(f"{options.origin} holds {len(other.tiles())} tiles: give no smaller --capacity")
+        if options.side not in (None, other.side):
+            raise CommandError(f"{options.origin} has the side {other.side}, and tiles keep theirs: leave --side out")
+        _make_where_none(options, lambda _, capacity: Shape(shape.side, capacity or shape.capacity))
+        with open_store(options.store, options.program) as session:
+            total = len(other.tiles()) + len(other.sinks())
+            return _summed_up(copy(session, other), total, f"{total} tiles and sinks", session)
+
+
+def _make_where_none(options: argparse.Namespace, shape_for: Callable[[int | None, int | None], Shape]) -> None:
+    """Makes the store where there is none; checks what is asked of one that is there."""
+    if not os.path.lexists(options.store):
+        shape = shape_for(options.side, options.capacity)
+        format_store(options.store, shape.side, shape.capacity, options.program)
+        print(f"{options.store}: made, for at most {shape.capacity} tiles of {shape.side} x {shape.side} samples")
+        return
+    there = shape_of(options.store)
+    for what in ("side", "capacity") if there is not None else ():
+        asked, has = getattr(options, what), getattr(there, what)
+        if asked not in (None, has):
+            raise CommandError(f"{options.store}: its {what} is {has}, not {asked}: leave --{what} out, or name a new store")
+
+
+def _files(found: Found) -> str:
+    return f"{found.files} file" + ("" if found.files == 1 else "s")
+
+
+def _summed_up(outcomes: Iterable[Outcome], total: int, what: str, session: Session) -> int:
+    """Tells each failure as it comes, and a summary; the status."""
+    start = time.monotonic()
+    progress = Progress(NAME, total, "done")
+    tally: collections.Counter[Kind] = collections.Counter()
+    try:
+        for outcome in outcomes:
+            tally[outcome.kind] += 1
+            if outcome.kind is Kind.FAILED or (outcome.kind is Kind.PASSED_BY and outcome.cause):
+                progress.clear()
+                print(outcome, file=sys.stderr, flush=True)
+            progress.tell(sum(tally.values()))
+    finally:
+        progress.clear()
+        counts = ", ".join(f"{tally[kind]} {kind.value}" for kind in Kind if tally[kind]) or "nothing done"
+        print(f"{what} in {time.monotonic() - start:.1f} s: {counts}", flush=True)
+    print(f"the store holds {len(session.tiles())} of {session.capacity} tiles")
+    return FAILED if tally[Kind.FAILED] else DONE
+
+
+if __name__ == "__main__":
+    sys.exit(main())

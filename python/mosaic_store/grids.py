@@ -1,0 +1,76 @@
+"""Arrays as raster files that GDAL opens: GeoTIFF by rasterio, ESRI ASCII by hand.
+
+A sample is the middle of a cell, so that a raster reaches half a point beyond its outermost points.
+"""
+
+from __future__ import annotations
+
+from typing import TYPE_CHECKING, Any
+
+from .errors import BadArgument
+from .lattice import Window
+
+if TYPE_CHECKING:
+    import numpy
+
+GEOTIFF, ASCII = (".tif", ".tiff"), (".asc",)
+
+
+def write_grid(path: str, array: numpy.ndarray[Any, Any], window: Window, side: int, no_data: int, what: str) -> None:
+    """Writes the whole numbers of a window, of shape (window.height, window.width), the north row first.
+
+    `path` ends in .tif, for a GeoTIFF, or in .asc, for ESRI ASCII. `what` is the description of a GeoTIFF's band.
+    """
+    if path.lower().endswith(GEOTIFF):
+        _write_geotiff(path, array, window, side, no_data, what)
+    elif path.lower().endswith(ASCII):
+        _write_ascii(path, array, window, side, no_data)
+    else:
+        raise BadArgument(f"{path}: the name of a raster ends in .tif (GeoTIFF) or .asc (ESRI ASCII)")
+
+
+def check_format(path: str) -> None:
+    """BadArgument where no raster of this name can be written."""
+    if path.lower().endswith(GEOTIFF):
+        _rasterio()
+    elif not path.lower().endswith(ASCII):
+        raise BadArgument(f"{path}: the name of a raster ends in .tif (GeoTIFF) or .asc (ESRI ASCII)")
+
+
+def _write_geotiff(
+    path: str, array: numpy.ndarray[Any, Any], window: Window, side: int, no_data: int, what: str
+) -> None:
+    rasterio = _rasterio()
+    cell = 1 / (side - 1)
+    north_west = rasterio.transform.from_origin((window.x0 - 0.5) * cell, (window.y1 + 0.5) * cell, cell, cell)
+    form = {"driver": "GTiff", "dtype": array.dtype.name, "count": 1, "nodata": no_data, "compress": "deflate"}
+    size = {"height": array.shape[0], "width": array.shape[1]}
+    with rasterio.open(path, "w", crs="EPSG:4326", transform=north_west, **form, **size) as file:
+        file.write(array, 1)
+        file.set_band_description(1, what)
+
+
+def _write_ascii(path: str, array: numpy.ndarray[Any, Any], window: Window, side: int, no_data: int) -> None:
+    cell = 1 / (side - 1)
+    head = {
+        "ncols": array.shape[1],
+        "nrows": array.shape[0],
+        "xllcorner": repr((window.x0 - 0.5) * cell),
+        "yllcorner": repr((window.y0 - 0.5) * cell),
+        "cellsize": repr(cell),
+        "NODATA_value": no_data,
+    }
+    with open(path, "w", encoding="ascii") as file:
+        file.writelines(f"{word} {value}\n" for word, value in head.items())
+        file.writelines(" ".join(map(str, row)) + "\n" for row in array.tolist())
+
+
+def _rasterio() -> Any:
+    try:
+        import rasterio
+        import rasterio.transform
+    except ImportError:
+        raise BadArgument(
+            "rasterio isn't installed, and GeoTIFF needs it: apt-get install python3-rasterio, or write a file .asc"
+        ) from None
+    return rasterio

@@ -1,0 +1,171 @@
+"""Tiles into a store: from files, or from another store. Each has an outcome that tells its cause and cure."""
+
+from __future__ import annotations
+
+import collections
+import enum
+import hashlib
+from collections.abc import Iterable, Iterator
+from dataclasses import dataclass
+
+from .archives import Source, Trouble, Unreadable, files_below, sources_of
+from .errors import Device, Failed, Full, MosaicError, Refusal
+from .lattice import GREATEST_SIDE, MOST_TILES, side_of
+from .session import Session
+from .stores import Shape
+
+
+class Kind(enum.Enum):
+    """What became of a file."""
+
+    IMPORTED = "imported"
+    THERE = "there already"
+    PASSED_BY = "passed by"
+    FAILED = "failed"
+
+
+@dataclass(frozen=True)
+class Outcome:
+    """What became of a file or a tile."""
+
+    shown: str
+    """Its path or its name."""
+    kind: Kind
+    cause: str = ""
+    cure: str = ""
+
+    def __str__(self) -> str:
+        return ": ".join(part for part in (self.shown, self.kind.value, self.cause, self.cure) if part)
+
+
+@dataclass(frozen=True)
+class Found:
+    """What lies in some folders."""
+
+    files: int
+    """How many files there are."""
+    sources: list[Source]
+    troubles: list[Trouble]
+
+    def shape(self, side: int | None = None, capacity: int | None = None) -> Shape:
+        """The side that most of them have, and room for every tile of it: for a store to be made of them."""
+        sides = collections.Counter(filter(None, (side_of(source.length or 0) for source in self._named())))
+        if side is None and not sides:
+            lengths = (source for source in self._named() if source.length is None)
+            sides.update(filter(None, (side_of(_length(source)) for source in lengths)))
+        if side is None and not sides:
+            raise MosaicError("no file is a tile by its name and length (2 * side * side bytes): nothing to make a store of")
+        corners = {source.corner for source in self._named()}
+        if capacity is None and len(corners) > MOST_TILES:
+            raise MosaicError(
+                f"{len(corners)} tiles, and a store takes at most {MOST_TILES}: load a basin at a time, to a store each"
+            )
+        return Shape(side or max(sides, key=lambda at: (sides[at], at)), capacity or max(1, len(corners)))
+
+    def _named(self) -> Iterator[Source]:
+        return (source for source in self.sources if source.corner is not None)
+
+
+def find(paths: Iterable[str]) -> Found:
+    """What lies in folders and files. MosaicError where a path leads nowhere."""
+    files = files_below(paths)
+    parts = [part for path in files for part in sources_of(path)]
+    sources = [part for part in parts if isinstance(part, Source)]
+    return Found(len(files), sources, [part for part in parts if isinstance(part, Trouble)])
+
+
+def load(session: Session, found: Found) -> Iterator[Outcome]:
+    """Imports what was found, a tile after another; the outcome of each. Tiles that are there are left as they are.
+
+    What stops all that follows, as a drive that fails, is raised.
+    """
+    for trouble in found.troubles:
+        kind = Kind.FAILED if trouble.cure else Kind.PASSED_BY
+        yield Outcome(trouble.shown, kind, trouble.cause, trouble.cure)
+    present = set(session.tiles())
+    taken: dict[str, tuple[Source, bytes]] = {}
+    for source in found.sources:
+        yield _loaded(session, source, present, taken)
+
+
+def copy(session: Session, other: Session) -> Iterator[Outcome]:
+    """Imports every tile of another store, and declares its sinks; the outcome of each."""
+    if session.side != other.side:
+        raise MosaicError(f"sides {session.side} and {other.side}: tiles move between stores of one side")
+    present = set(session.tiles())
+    for name in other.tiles():
+        if name not in present:
+            session.import_tile(name, other.export(name))
+            yield Outcome(name, Kind.IMPORTED)
+        elif session.export(name) == other.export(name):
+            yield Outcome(name, Kind.THERE)
+        else:
+            yield Outcome(name, Kind.FAILED, "the tile is there with other samples", "remove one of them first")
+    declared = set(session.sinks())
+    for sink in other.sinks():
+        if sink not in declared:
+            yield _declared(session, sink.y, sink.x)
+
+
+def _declared(session: Session, y: int, x: int) -> Outcome:
+    try:
+        session.sink(y, x)
+    except (Device, Failed):
+        raise
+    except Refusal as refusal:
+        return Outcome(f"sink {y} {x}", Kind.FAILED, f"{refusal.number} {refusal.word}: {refusal.cause}", refusal.cure)
+    return Outcome(f"sink {y} {x}", Kind.IMPORTED)
+
+
+def _loaded(session: Session, source: Source, present: set[str], taken: dict[str, tuple[Source, bytes]]) -> Outcome:
+    corner = source.corner
+    if corner is None:
+        return _failed(source, "its name tells no tile", "rename it after its south-west corner, as N37W105.hgt")
+    name = corner.name
+    if name in present:
+        return Outcome(source.shown, Kind.THERE, name)
+    wanted = 2 * session.side**2
+    if source.length not in (None, wanted):
+        return _failed(source, *_misfit(source.length or 0, session.side))
+    try:
+        data = source.read(wanted)
+    except Unreadable as fault:
+        return _failed(source, str(fault).removeprefix(f"{source.shown}: "), "fetch it again")
+    digest = hashlib.sha256(data).digest()
+    if name in taken:
+        return _again(source, digest, *taken[name])
+    if len(data) != wanted:
+        return _failed(source, *_misfit(len(data), session.side))
+    try:
+        session.import_tile(name, data)
+    except Full as full:
+        return _failed(source, full.cause, full.cure)
+    taken[name] = source, digest
+    return Outcome(source.shown, Kind.IMPORTED, name)
+
+
+def _again(source: Source, digest: bytes, first: Source, known: bytes) -> Outcome:
+    if digest == known:
+        return Outcome(source.shown, Kind.THERE, f"the same as {first.shown}")
+    return _failed(source, f"the same tile as {first.shown}, with other samples", "keep the one that is right")
+
+
+def _failed(source: Source, cause: str, cure: str) -> Outcome:
+    return Outcome(source.shown, Kind.FAILED, cause, cure)
+
+
+def _misfit(length: int, side: int) -> tuple[str, str]:
+    """Why a tile of a length doesn't go into a store of a side, and what to do."""
+    other = side_of(length)
+    longer = "or more " if length > 2 * side**2 else ""
+    wanted = f"the store's tiles have {side} x {side} samples, {2 * side**2} bytes"
+    if other is None:
+        return f"{length} {longer}bytes are no tile; {wanted}", "fetch it again: it may be cut short"
+    return f"a tile of {other} x {other} samples; {wanted}", f"load it to a store of side {other}, or resample it"
+
+
+def _length(source: Source) -> int:
+    try:
+        return len(source.read(2 * GREATEST_SIDE**2))
+    except Unreadable:
+        return 0

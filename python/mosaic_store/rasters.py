@@ -1,0 +1,180 @@
+"""Windows of a store as numpy arrays: heights, filled levels, standing water, directions.
+
+Arrays have the north row first and the western column first. They need numpy.
+"""
+
+from __future__ import annotations
+
+from collections.abc import Callable, Sequence
+from dataclasses import dataclass
+from typing import TYPE_CHECKING, Any
+
+from .errors import BadReply, Refusal
+from .lattice import VOID, Corner, Window, corner_of
+from .questions import Fill, FlowDirection, Question
+from .samples import needed_numpy
+from .session import Session
+
+if TYPE_CHECKING:
+    import numpy
+
+    Array = numpy.ndarray[Any, Any]
+
+NO_DIRECTION = 255
+"""Stands for no direction, where a point isn't ground."""
+
+_STEPS = ((0, 1), (-1, 1), (-1, 0), (-1, -1), (0, -1), (1, -1), (1, 0), (1, 1))
+_ASKED_AT_ONCE = 2048
+
+Told = Callable[[int, int], None]
+"""Is told how many of how many questions were answered."""
+
+
+@dataclass(frozen=True)
+class Heights:
+    """The heights of a window, thinned to each `every`-th row and column."""
+
+    window: Window
+    side: int
+    every: int
+    ys: Array
+    """The y of each row, falling: int64 of shape (rows,)."""
+    xs: Array
+    """The x of each column, rising: int64 of shape (columns,)."""
+    samples: Array
+    """The heights in metres by the seam rule, int16 of shape (rows, columns); -32768 where the point is void or outside."""
+    held: Array
+    """Whether some tile holds the point: bool of that shape."""
+    corners: tuple[Corner, ...]
+    """The present tiles, in order."""
+
+    @property
+    def ground(self) -> Array:
+        """Whether the point has a height: bool of that shape."""
+        return self.samples != VOID
+
+
+def heights_of(session: Session, window: Window, every: int = 1) -> Heights:
+    """The heights of a window, by an export of each tile that reaches into it."""
+    numpy = needed_numpy()
+    side, reach = session.side, session.side - 1
+    ys = numpy.arange(window.y1, window.y0 - 1, -every)
+    xs = numpy.arange(window.x0, window.x1 + 1, every)
+    samples = numpy.full((len(ys), len(xs)), VOID, numpy.int16)
+    held = numpy.zeros(samples.shape, bool)
+    corners = tuple(filter(None, map(corner_of, session.tiles())))
+    for corner in corners:
+        rows = numpy.flatnonzero((corner.latitude * reach <= ys) & (ys <= (corner.latitude + 1) * reach))
+        columns = numpy.flatnonzero((corner.longitude * reach <= xs) & (xs <= (corner.longitude + 1) * reach))
+        if not len(rows) or not len(columns):
+            continue
+        tile = session.tile(corner.name)
+        own = tile[numpy.ix_((corner.latitude + 1) * reach - ys[rows], xs[columns] - corner.longitude * reach)]
+        place = numpy.ix_(rows, columns)
+        samples[place] = numpy.where(samples[place] == VOID, own, samples[place])
+        held[place] = True
+    return Heights(window, side, every, ys, xs, samples, held, corners)
+
+
+def levels_of(session: Session, heights: Heights, told: Told | None = None) -> Array:
+    """The filled level of each ground point in metres, int32 of the heights' shape, -32768 elsewhere.
+
+    Few questions do. A point that lies beside one that isn't higher has the greater of its own height and that one's
+    level: water that leaves from one reaches the other first. So only the pits of the window are asked for.
+    """
+    numpy = needed_numpy()
+    pits = _pits(heights)
+    ground = heights.ground.ravel()
+    asked, place = numpy.unique(pits[ground], return_inverse=True)
+    points = _points(heights, asked)
+    answers = numpy.array(_asked(session, [Fill(y, x) for y, x in points], told), numpy.int32).reshape(-1)
+    levels = numpy.full(ground.shape, VOID, numpy.int32)
+    levels[ground] = numpy.maximum(answers[place], heights.samples.ravel()[ground])
+    return levels.reshape(heights.samples.shape)
+
+
+def depths_of(heights: Heights, levels: Array) -> Array:
+    """The depth of standing water in metres, int32: the filled level less the height; -32768 where there is no height."""
+    numpy = needed_numpy()
+    return numpy.where(heights.ground, levels - heights.samples.astype(numpy.int32), VOID)
+
+
+def directions_of(session: Session, heights: Heights, told: Told | None = None) -> Array:
+    """The direction code of each ground point, uint8 of the heights' shape; 255 elsewhere. One question for each."""
+    numpy = needed_numpy()
+    ground = numpy.flatnonzero(heights.ground.ravel())
+    answers = _asked(session, [FlowDirection(y, x) for y, x in _points(heights, ground)], told)
+    codes = numpy.full(heights.samples.size, NO_DIRECTION, numpy.uint8)
+    codes[ground] = numpy.array([int(answer) for answer in answers], numpy.uint8)
+    return codes.reshape(heights.samples.shape)
+
+
+def _points(heights: Heights, cells: Array) -> list[tuple[int, int]]:
+    """The points of cells, which are numbered by rows."""
+    rows, columns = divmod(cells, len(heights.xs))
+    return list(zip(heights.ys[rows].tolist(), heights.xs[columns].tolist()))
+
+
+def _asked(session: Session, asked: Sequence[Question[int]], told: Told | None) -> list[int]:
+    answers: list[int] = []
+    for at in range(0, len(asked), _ASKED_AT_ONCE):
+        for answer in session.ask_many(asked[at : at + _ASKED_AT_ONCE]):
+            if isinstance(answer, Refusal):
+                raise answer
+            answers.append(answer)
+        if told is not None:
+            told(len(answers), len(asked))
+    return answers
+
+
+def _pits(heights: Heights) -> Array:
+    """Of each cell, by its number, the cell where a walk to ever lower neighbours ends; among equals the first one."""
+    numpy = needed_numpy()
+    if heights.every != 1:
+        raise BadReply("water is asked for in windows that aren't thinned")
+    shape = heights.samples.shape
+    size = heights.samples.size
+    order = heights.samples.astype(numpy.int64) * size + numpy.arange(size).reshape(shape)
+    lowest = order.copy()
+    for step in _STEPS:
+        here, there = _shifted(shape, step)
+        joined = _adjacent(heights, here, step) & heights.ground[here] & heights.ground[there]
+        lowest[here] = numpy.where(joined & (order[there] < lowest[here]), order[there], lowest[here])
+    ahead = (lowest % size).ravel()
+    while not numpy.array_equal(further := ahead[ahead], ahead):
+        ahead = further
+    return ahead
+
+
+def _shifted(shape: tuple[int, ...], step: tuple[int, int]) -> tuple[tuple[slice, slice], tuple[slice, slice]]:
+    """The cells that have a neighbour in the window by a step in y and x, and these neighbours."""
+    (height, width), (north, east) = shape, step
+    rows = slice(max(0, north), height + min(0, north))
+    columns = slice(max(0, -east), width - max(0, east))
+    there = slice(rows.start - north, rows.stop - north), slice(columns.start + east, columns.stop + east)
+    return (rows, columns), there
+
+
+def _adjacent(heights: Heights, here: tuple[slice, slice], step: tuple[int, int]) -> Array:
+    """Whether some one tile holds a cell and its neighbour by a step."""
+    numpy = needed_numpy()
+    reach = heights.side - 1
+    present = set(heights.corners)
+    latitudes = _shared(heights.ys[here[0]], step[0], reach)
+    longitudes = _shared(heights.xs[here[1]], step[1], reach)
+    joined = numpy.zeros((len(heights.ys[here[0]]), len(heights.xs[here[1]])), bool)
+    for latitude in numpy.unique(latitudes):
+        for longitude in numpy.unique(longitudes):
+            if Corner(int(latitude), int(longitude)) in present:
+                rows = (latitudes == latitude).any(0)
+                columns = (longitudes == longitude).any(0)
+                joined |= numpy.outer(rows, columns)
+    return joined
+
+
+def _shared(at: Array, step: int, reach: int) -> Array:
+    """Of coordinates and those a step away, the one or two tiles' degrees that hold both: of shape (2, n)."""
+    numpy = needed_numpy()
+    first = numpy.minimum(at, at + step) // reach
+    second = first - ((at % reach == 0) if step == 0 else 0)
+    return numpy.stack([first, second])

@@ -1,0 +1,42 @@
+"""HGT bytes and numpy arrays of samples. numpy is needed only where arrays are."""
+
+from __future__ import annotations
+
+import math
+from typing import TYPE_CHECKING, Any
+
+from .errors import BadArgument
+
+if TYPE_CHECKING:
+    import numpy
+
+
+def array_of(data: bytes) -> numpy.ndarray[Any, Any]:
+    """HGT bytes as an array of int16 of shape (side, side), the north row first."""
+    numpy = needed_numpy()
+    side = math.isqrt(len(data) // 2)
+    return numpy.frombuffer(data, ">i2").astype(numpy.int16).reshape(side, side)
+
+
+def bytes_of(data: bytes | bytearray | memoryview | numpy.ndarray[Any, Any]) -> bytes:
+    """The HGT bytes of a tile: bytes as they are, or an array of whole numbers of shape (side, side)."""
+    if isinstance(data, (bytes, bytearray, memoryview)):
+        return bytes(data)
+    numpy = needed_numpy()
+    array = numpy.asarray(data)
+    if array.ndim != 2 or array.shape[0] != array.shape[1]:
+        raise BadArgument(f"a tile is a square of samples, not of shape {array.shape}")
+    if array.dtype.kind not in "iu":
+        raise BadArgument(f"samples are whole numbers, not {array.dtype}")
+    if array.size and not (-32768 <= int(array.min()) and int(array.max()) <= 32767):
+        raise BadArgument("samples go from -32768 (void) to 32767")
+    return bytes(array.astype(">i2").tobytes())
+
+
+def needed_numpy() -> Any:
+    """The module numpy, or one line that says how to come by it."""
+    try:
+        import numpy
+    except ImportError:
+        raise BadArgument("numpy isn't installed, and arrays need it: apt-get install python3-numpy") from None
+    return numpy

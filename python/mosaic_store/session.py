@@ -1,0 +1,468 @@
+"""A session with a store: one method a word of the language, safe for threads, begun anew after a crash.
+
+    with open_store("region/store") as store:
+        y, x = store.point_of(37.5, -105.25)
+        print(store.fill(y, x), "m")
+"""
+
+from __future__ import annotations
+
+import contextlib
+import itertools
+import os
+import threading
+import time
+from collections.abc import Callable, Iterable, Iterator, Sequence
+from dataclasses import dataclass
+from types import TracebackType
+from typing import TYPE_CHECKING, Any, TypeVar, Union, cast
+
+from . import questions
+from .channel import Channel, Word
+from .errors import BadArgument, BadReply, Device, Refusal, SessionDied, StoreBusy, StoreChanged, refusal_of
+from .lattice import Direction, Place, Point, degrees_of, point_of
+from .questions import Command, Question, Watershed
+from .samples import array_of, bytes_of
+from .stores import PathLike, Shape, cannot_open, find_program, shape_of
+from .trials import Trial
+
+if TYPE_CHECKING:
+    import numpy
+
+Answer = TypeVar("Answer")
+Result = TypeVar("Result")
+
+Points = Iterable[tuple[int, int]]
+
+_BATCH = 4096
+_BUSY_PAUSE = 0.02
+_MOST_RESTARTS = 5
+_SECONDS_TO_FREE = 10.0
+
+
+@dataclass(frozen=True)
+class Recovery:
+    """What a session that was begun anew found."""
+
+    acknowledged: int
+    """How many commands were known to be accepted before."""
+    count: int
+    """How many are accepted now."""
+    in_doubt: Command | None
+    """The command that was sent and not answered, or answered Device; None where there was none."""
+
+    @property
+    def stands(self) -> bool:
+        """Whether the command in doubt was made, whole. If not, nothing of it was."""
+        return self.in_doubt is not None and self.count == self.acknowledged + 1
+
+
+class Session:
+    """A conversation with a program that serves a store. Made by `open_store` or `memory_table`.
+
+    Heights, levels and depths are whole metres; points are y, x in samples. Each method sends one line and reads its
+    whole reply. A refusal is raised as the class of `errors` that has its number and word; the session goes on. Any
+    number of threads may use a session: one line is asked at a time.
+    """
+
+    def __init__(self, words: Sequence[Word], path: PathLike | None, timeout: float | None, restart: bool) -> None:
+        self._words, self._path = words, path
+        self._timeout, self._restart = timeout, restart
+        self._lock = threading.RLock()
+        self._channel: Channel | None = None
+        self._shape: Shape | None = None
+        self._acknowledged = 0
+        self._in_doubt: Command | None = None
+        self._trial: Trial | None = None
+        self._is_closed = False
+
+    # ---- the store ----
+
+    @property
+    def side(self) -> int:
+        """The side of each tile, in samples."""
+        return self._known_shape().side
+
+    @property
+    def capacity(self) -> int:
+        """The greatest number of tiles."""
+        return self._known_shape().capacity
+
+    @property
+    def acknowledged(self) -> int:
+        """The last k that was answered: it and all commands before it are on the drive."""
+        return self._acknowledged
+
+    @property
+    def pid(self) -> int | None:
+        """The id of the program's process; None where none runs."""
+        channel = self._channel
+        return None if channel is None else channel.process.pid
+
+    def point_of(self, latitude: float, longitude: float) -> Point:
+        """The point that is nearest to a place in degrees, north and east positive."""
+        return point_of(latitude, longitude, self.side)
+
+    def degrees_of(self, y: int, x: int) -> Place:
+        """The place of a point in degrees, north and east positive."""
+        return degrees_of(Point(y, x), self.side)
+
+    # ---- commands: each answers k, the number of commands accepted since the store was formatted ----
+
+    def import_tile(self, name: str, data: bytes | numpy.ndarray[Any, Any]) -> int:
+        """Adds a tile: its HGT bytes, or an array of whole numbers of shape (side, side), the north row first."""
+        return self.ask(questions.Import(name, bytes_of(data)))
+
+    def remove(self, name: str) -> int:
+        """Takes a tile out."""
+        return self.ask(questions.Remove(name))
+
+    def patch(self, y0: int, x0: int, y1: int, x1: int, height: int) -> int:
+        """Gives a height to each void of a box, ends included, at most `side` points each way."""
+        return self.ask(questions.Patch(y0, x0, y1, x1, height))
+
+    def burn(self, depth: int, points: Points) -> int:
+        """Lowers 1 to 64 points by a depth from 1 to 32767."""
+        return self.ask(questions.Burn(depth, tuple(points)))
+
+    def wall(self, height: int, points: Points) -> int:
+        """Raises 1 to 64 points to a height, where they are lower."""
+        return self.ask(questions.Wall(height, tuple(points)))
+
+    def sink(self, y: int, x: int) -> int:
+        """Declares a ground point a sink."""
+        return self.ask(questions.Sink(y, x))
+
+    def unsink(self, y: int, x: int) -> int:
+        """Takes a declared sink back."""
+        return self.ask(questions.Unsink(y, x))
+
+    # ---- questions ----
+
+    def elevation(self, y: int, x: int) -> int | None:
+        """The height of a point; None where it is void. Outside where no tile holds it."""
+        return self.ask(questions.Elevation(y, x))
+
+    def fill(self, y: int, x: int) -> int:
+        """The filled level of a point: as high as water stands before it runs off."""
+        return self.ask(questions.Fill(y, x))
+
+    def direction(self, y: int, x: int) -> Direction:
+        """Where water goes from a point."""
+        return self.ask(questions.FlowDirection(y, x))
+
+    def trace(self, y: int, x: int) -> list[Point]:
+        """The flow path of a point, itself first, to where water leaves the mosaic."""
+        return self.ask(questions.Trace(y, x))
+
+    def watershed(self, y: int, x: int) -> Watershed:
+        """The points whose flow path contains this one, itself among them."""
+        return self.ask(questions.WatershedOf(y, x))
+
+    def export(self, name: str) -> bytes:
+        """A tile's own HGT bytes, 2 * side * side of them."""
+        return self.ask(questions.Export(name))
+
+    def tile(self, name: str) -> numpy.ndarray[Any, Any]:
+        """A tile's own samples in metres, an array of int16 of shape (side, side), the north row first; -32768 is void."""
+        return array_of(self.export(name))
+
+    def tiles(self) -> list[str]:
+        """The names of the present tiles, in order."""
+        return self.ask(questions.Tiles())
+
+    def sinks(self) -> list[Point]:
+        """The declared sinks, in rising (y, x)."""
+        return self.ask(questions.Sinks())
+
+    def step(self) -> str | None:
+        """Floods one stale tile and keeps what it found; its name, or None where no tile is stale."""
+        return self.ask(questions.Step())
+
+    def count(self) -> int:
+        """How many commands were accepted since the store was formatted."""
+        return self.ask(questions.Count())
+
+    def ask(self, question: Question[Answer]) -> Answer:
+        """The answer to any question or command of `questions`.
+
+        A session with `restart` is begun anew within the call where it died; a command is asked again only where it
+        doesn't stand.
+        """
+        line = question.line()
+        with self._lock:
+            if self._trial is not None and isinstance(question, Command):
+                self._trial.prepare(question)
+            return self._surely(lambda: self._asked(question, line), question)
+
+    def ask_many(self, asked: Iterable[Question[Answer]]) -> list[Answer | Refusal]:
+        """The answers to many questions in their order, refusals in place; far faster than one by one.
+
+        Questions are sent while replies are read, so that neither side waits for the other. Commands aren't taken: at
+        most one is ever in doubt. Where the session dies, nothing is lost: ask again.
+        """
+        return list(self.pipeline(asked))
+
+    def pipeline(self, asked: Iterable[Question[Answer]]) -> Iterator[Answer | Refusal]:
+        """As `ask_many`, one answer after another; a few thousand questions are sent at a time."""
+        rest = iter(asked)
+        while batch := list(itertools.islice(rest, _BATCH)):
+            yield from self._asked_many(batch)
+
+    # ---- trials ----
+
+    @contextlib.contextmanager
+    def trial(self) -> Iterator[Trial]:
+        """Edits inside are taken back exactly at the end, unless `keep` was called. Other threads wait meanwhile.
+
+            with store.trial():
+                store.wall(1193, road)
+                level = store.fill(y, x)
+
+        Heights of every tile and the sinks are then as before. The count k goes up by the edits and by those that take
+        them back, and the tiles touched and their neighbours are stale. The edits are on the drive meanwhile: where
+        this process ends inside, they stay.
+        """
+        with self._lock:
+            trial = self.begin_trial()
+            try:
+                yield trial
+            finally:
+                if trial.is_open:
+                    trial.take_back()
+
+    def begin_trial(self) -> Trial:
+        """A trial that is ended by hand, from any thread, by its `keep` or `take_back`. One at a time.
+
+        Every edit of the session meanwhile belongs to it, whichever thread makes it.
+        """
+        with self._lock:
+            if self._trial is not None:
+                raise BadArgument("a trial is in progress: keep it or take it back first")
+            self._trial = Trial(self, self.sinks(), self._end_trial)
+            return self._trial
+
+    def _end_trial(self) -> None:
+        self._trial = None
+
+    # ---- beginning and ending ----
+
+    def reopen(self) -> Recovery:
+        """Begins the session anew, after it died or where it is failed, and tells which commands stand.
+
+        All acknowledged commands stand. Of the one in doubt `Recovery.stands` tells. StoreChanged where another
+        program has changed the store meanwhile.
+        """
+        with self._lock:
+            if self._path is None:
+                raise SessionDied("a table in memory is gone with its program: make another one")
+            self._end_channel()
+            self._is_closed = False
+            acknowledged, in_doubt = self._acknowledged, self._in_doubt
+            self._start(_SECONDS_TO_FREE)
+            recovery = Recovery(acknowledged, self._acknowledged, in_doubt)
+            if recovery.count - acknowledged not in ((0, 1) if in_doubt is not None else (0,)):
+                raise StoreChanged(
+                    f"{os.fsdecode(self._path)}: {acknowledged} commands were acknowledged, and the store counts "
+                    f"{recovery.count}: another program has changed it meanwhile"
+                )
+            return recovery
+
+    def after_crash(self) -> Recovery:
+        """The same as `reopen`."""
+        return self.reopen()
+
+    def close(self) -> None:
+        """Ends the program by the end of its input. What was acknowledged stays, a trial that wasn't taken back too."""
+        with self._lock:
+            self._is_closed = True
+            self._end_channel()
+
+    def quit(self) -> None:
+        """The same as `close`."""
+        self.close()
+
+    def __enter__(self) -> Session:
+        return self
+
+    def __exit__(
+        self, kind: type[BaseException] | None, error: BaseException | None, trace: TracebackType | None
+    ) -> None:
+        self.close()
+
+    # ---- within ----
+
+    def _start(self, wait: float) -> None:
+        """Starts the program and asks the count; waits so many seconds for another program to end."""
+        until = time.monotonic() + wait
+        while True:
+            try:
+                self._start_once()
+                return
+            except StoreBusy:
+                if time.monotonic() >= until:
+                    raise
+                time.sleep(_BUSY_PAUSE)
+
+    def _start_once(self) -> None:
+        channel = Channel(self._words, self._timeout)
+        count = questions.Count()
+        try:
+            channel.send(_end(count.line()))
+            words = channel.line()
+            if words[:1] == ["mosaic:"] and self._path is not None:
+                raise cannot_open(self._path)
+            refusal = refusal_of(words, " ".join(map(os.fsdecode, self._words[1:])))
+            if refusal is not None:
+                raise refusal
+            self._acknowledged = _answer(count, words, channel)
+        except BaseException:
+            channel.kill()
+            raise
+        self._channel, self._in_doubt = channel, None
+
+    def _end_channel(self) -> None:
+        channel, self._channel = self._channel, None
+        if channel is not None:
+            (channel.finish if channel.is_idle else channel.kill)()
+
+    def _living(self) -> Channel:
+        if self._is_closed:
+            raise SessionDied("the session is closed")
+        if self._channel is None:
+            raise SessionDied("the session died: `reopen` begins it anew")
+        return self._channel
+
+    def _asked(self, question: Question[Answer], line: str) -> Answer:
+        channel = self._living()
+        command = question if isinstance(question, Command) else None
+        earlier = self._in_doubt
+        self._in_doubt = command or earlier
+        try:
+            channel.send(_end(line), command.payload() if command is not None else b"")
+            answer = _replied(question, line, channel)
+        except Refusal as refusal:
+            if not isinstance(refusal, Device):
+                self._in_doubt = earlier
+            raise
+        except BaseException:
+            self._kill()  # a reply may be half read, and the next would be taken for it
+            raise
+        if command is not None:
+            self._acknowledged, self._in_doubt = cast(int, answer), None
+        return answer
+
+    def _asked_many(self, batch: list[Question[Answer]]) -> list[Answer | Refusal]:
+        lines = [question.line() for question in batch]
+        if any(isinstance(question, Command) for question in batch):
+            raise BadArgument("commands are asked one at a time, so that at most one is in doubt")
+        with self._lock:
+            return self._surely(lambda: self._pipelined(batch, lines))
+
+    def _surely(self, ask: Callable[[], Result], question: Question[Any] | None = None) -> Result:
+        """What `ask` answers. A session with `restart` is begun anew where it dies, and asked again what doesn't stand."""
+        for _ in range(_MOST_RESTARTS):
+            try:
+                return ask()
+            except SessionDied:
+                if not self._restart or self._is_closed or self._path is None:
+                    raise
+            with contextlib.suppress(SessionDied):  # it may die while it opens
+                recovery = self.reopen()
+                if recovery.stands and recovery.in_doubt is question:
+                    return cast(Result, recovery.count)
+        return ask()
+
+    def _pipelined(self, batch: list[Question[Answer]], lines: list[str]) -> list[Answer | Refusal]:
+        channel = self._living()
+        answers: list[Answer | Refusal] = []
+        try:
+            channel.send(_end("\n".join(lines)))
+            for question, line in zip(batch, lines):
+                try:
+                    answers.append(_replied(question, line, channel))
+                except Refusal as refusal:
+                    answers.append(refusal)
+        except BaseException:
+            self._kill()
+            raise
+        return answers
+
+    def _kill(self) -> None:
+        channel, self._channel = self._channel, None
+        if channel is not None:
+            channel.kill()
+
+    def _known_shape(self) -> Shape:
+        if self._shape is None:
+            self._shape = shape_of(self._path) if self._path is not None else None
+        if self._shape is None:
+            raise BadReply("the store tells no side")
+        return self._shape
+
+
+def open_store(
+    path: PathLike,
+    program: PathLike | None = None,
+    timeout: float | None = None,
+    wait: float = 0.0,
+    restart: bool = False,
+) -> Session:
+    """Opens a store by `mosaic serve`: a session, to be used in a `with`.
+
+    `program` is the program's path (see `find_program`). `timeout` is how many seconds may pass while the program
+    neither reads nor writes; it is ended then. `wait` is how many seconds a store that another program has open is
+    waited for. With `restart` a session that dies is begun anew within the call, and nothing is asked twice.
+
+    CannotOpen, StoreBusy, ProgramNotFound, or a refusal of opening (NotAStore, Version, Damaged, TooSmall, Device).
+    """
+    if not os.path.isfile(path):
+        raise cannot_open(path)
+    session = _session(["serve", os.fsencode(path)], path, program, timeout, restart)
+    session._start(wait)
+    return session
+
+
+def memory_table(
+    side: int, capacity: int, program: PathLike | None = None, timeout: float | None = None
+) -> Session:
+    """An empty mosaic in memory by `mosaic table`, for tiles of a side, at most `capacity` of them: for tests and trials.
+
+    BadSide or BadCapacity out of range.
+    """
+    session = _session(["table", str(side), str(capacity)], None, program, timeout, False)
+    session._shape = Shape(side, capacity)
+    session._start(0.0)
+    return session
+
+
+def _session(
+    words: list[Union[str, bytes]], path: PathLike | None, program: PathLike | None, timeout: float | None, restart: bool
+) -> Session:
+    return Session([find_program(program), *words], path, timeout, restart)
+
+
+def _end(line: str) -> bytes:
+    return line.encode("ascii") + b"\n"
+
+
+def _replied(question: Question[Answer], line: str, channel: Channel) -> Answer:
+    """The answer to a question that was sent; its refusal raised."""
+    words = channel.line()
+    if words[:1] == ["OK"]:
+        return _answer(question, words, channel)
+    refusal = refusal_of(words, line)
+    if refusal is not None:
+        raise refusal
+    if words[:1] == ["mosaic:"]:
+        raise SessionDied(" ".join(words))
+    raise BadReply(f"a reply was due, and this came: {' '.join(words)[:80]!r}")
+
+
+def _answer(question: Question[Answer], words: list[str], channel: Channel) -> Answer:
+    if words[:1] != ["OK"]:
+        raise BadReply(f"a reply was due, and this came: {' '.join(words)[:80]!r}: is this the program `mosaic`?")
+    try:
+        return question.answer(words[1:], channel)
+    except ValueError as fault:
+        raise BadReply(str(fault)) from None

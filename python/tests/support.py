@@ -1,0 +1,108 @@
+"""What the tests have in common: the program that they talk to, tiles, and what isn't installed."""
+
+from __future__ import annotations
+
+import importlib.util
+import os
+import pathlib
+import random
+import struct
+import subprocess
+import sys
+import tempfile
+import unittest
+
+from mosaic_store import Corner, ProgramNotFound, find_program, format_store, open_store
+
+TESTS = pathlib.Path(__file__).resolve().parent
+PYTHON = TESTS.parent
+FAKE = str(TESTS / "fake_mosaic.py")
+
+
+def _chosen() -> str:
+    """The real program where it is found, else the plain one in Python that stands here."""
+    try:
+        found = find_program()
+    except ProgramNotFound:
+        print(f"tests: the program `mosaic` wasn't found, so they talk to {FAKE}", file=sys.stderr)
+        return FAKE
+    print(f"tests: they talk to {found}", file=sys.stderr)
+    return found
+
+
+PROGRAM = _chosen()
+IS_REAL = PROGRAM != FAKE
+
+THREE = struct.pack(">9h", 9, 9, 9, 9, 1, 9, 9, 9, 5)
+"""The tile of side 3 of docs/lines.md."""
+
+
+def needs(*modules: str):
+    """Leaves a test out where a module isn't installed, and says which."""
+    missing = [module for module in modules if importlib.util.find_spec(module) is None]
+    return unittest.skipIf(missing, f"{', '.join(missing)} isn't installed")
+
+
+def hills(side: int, rows: int, columns: int, seed: int = 1) -> dict[str, bytes]:
+    """Tiles of rough ground with pits, a lake and a void, from N00E000; neighbours agree on their common edges."""
+    reach, chance = side - 1, random.Random(seed)
+    heights = {}
+    for y in range(rows * reach + 1):
+        for x in range(columns * reach + 1):
+            heights[y, x] = 300 + 3 * y + (x * x) % 37 + chance.randrange(25)
+    for y in range(reach // 4, reach // 2):
+        for x in range(reach // 4, reach // 2):
+            heights[y, x] = 250
+    heights[3, 2] = -32768
+    tiles = {}
+    for latitude in range(rows):
+        for longitude in range(columns):
+            north, west = (latitude + 1) * reach, longitude * reach
+            samples = [heights[north - row, west + column] for row in range(side) for column in range(side)]
+            tiles[Corner(latitude, longitude).name] = struct.pack(f">{side * side}h", *samples)
+    return tiles
+
+
+class InFolder(unittest.TestCase):
+    """A test with a folder of its own."""
+
+    def setUp(self) -> None:
+        kept = tempfile.TemporaryDirectory()
+        self.addCleanup(kept.cleanup)
+        self.folder = pathlib.Path(kept.name)
+
+    def store(self, side: int = 11, rows: int = 2, columns: int = 2, capacity: int = 4, name: str = "store") -> str:
+        """A store of hills."""
+        path = str(self.folder / name)
+        format_store(path, side, capacity, PROGRAM)
+        with open_store(path, PROGRAM) as session:
+            for tile, data in hills(side, rows, columns).items():
+                session.import_tile(tile, data)
+        return path
+
+    def script(self, text: str) -> str:
+        """A program in Python, to be taken for `mosaic`."""
+        path = self.folder / f"program{len(list(self.folder.iterdir()))}"
+        path.write_text(f"#!{sys.executable}\nimport os, sys, time\n{text}\n")
+        path.chmod(0o755)
+        return str(path)
+
+    def command(self, name: str, *words: str) -> subprocess.CompletedProcess[str]:
+        """Runs a command of the package."""
+        return subprocess.run(
+            [sys.executable, "-m", "mosaic_store", name, *words],
+            cwd=self.folder,
+            env={**os.environ, "PYTHONPATH": str(PYTHON), "MOSAIC": PROGRAM},
+            stdin=subprocess.DEVNULL,
+            capture_output=True,
+            text=True,
+            timeout=300,
+            check=False,
+        )
+
+    def refused(self, done: subprocess.CompletedProcess[str], *words: str, status: int = 1) -> None:
+        """A command ended in one line that holds these words, without a traceback."""
+        self.assertEqual(done.returncode, status, done.stderr)
+        self.assertEqual(len(done.stderr.splitlines()), 1, done.stderr)
+        for word in words:
+            self.assertIn(word, done.stderr)

@@ -1,0 +1,172 @@
+"""The examples: a service that loses nothing to kill -9, and fifty variants of a culvert."""
+
+import http.client
+import json
+import os
+import re
+import signal
+import subprocess
+import sys
+import threading
+import time
+import unittest
+
+from mosaic_store import check_store, open_store
+
+from .support import PROGRAM, PYTHON, InFolder
+
+BEGUN = re.compile(r"service: .* at http://127\.0\.0\.1:(\d+), program (\d+)")
+JSON = {"Content-Type": "application/json"}
+
+
+class Service(InFolder):
+    def start(self, path):
+        """Starts the service; its process, its port, and the process of its program."""
+        process = subprocess.Popen(
+            [sys.executable, PYTHON / "examples" / "service.py", path, "--port", "0", "--program", PROGRAM],
+            stdout=subprocess.PIPE,
+            text=True,
+        )
+        self.addCleanup(self.end, process)
+        line = process.stdout.readline()
+        found = BEGUN.match(line)
+        self.assertTrue(found, line)
+        return process, int(found[1]), int(found[2])
+
+    def end(self, process):
+        process.kill()
+        process.wait()
+        process.stdout.close()
+
+    def ask(self, port, method, target, body=None, headers=JSON):
+        connection = http.client.HTTPConnection("127.0.0.1", port, timeout=60)
+        try:
+            connection.request(method, target, body, headers)
+            reply = connection.getresponse()
+            return reply.status, json.loads(reply.read())
+        finally:
+            connection.close()
+
+    def test_answers_and_refusals(self):
+        path = self.store(11)
+        _, port, _ = self.start(path)
+        self.assertEqual(self.ask(port, "GET", "/elevation?latitude=0.5&longitude=0.5")[0], 200)
+        self.assertEqual(self.ask(port, "GET", "/count"), (200, {"answer": 4}))
+        self.assertEqual(self.ask(port, "GET", "/fill?y=99&x=0")[1]["word"], "Outside")
+        wall = json.dumps({"height": 900, "points": [[5, 5]]})
+        self.assertEqual(self.ask(port, "POST", "/wall", wall), (200, {"answer": 5}))
+        self.assertEqual(self.ask(port, "GET", "/elevation?y=5&x=5"), (200, {"answer": 900}))
+        self.assertEqual(self.ask(port, "GET", "/watershed?y=5&x=5")[1]["answer"]["cells"], 1)
+        bad = [
+            ("GET", "/fill", None, {}),
+            ("GET", "/fill?y=1&x=a", None, {}),
+            ("GET", "/fill?y=1e9&x=9999999999", None, {}),
+            ("GET", "/fill?latitude=100&longitude=nan", None, {}),
+            ("GET", "/quit", None, {}),
+            ("POST", "/wall", wall, {}),
+            ("POST", "/wall", "[1]", JSON),
+            ("POST", "/wall", "{", JSON),
+            ("POST", "/wall", json.dumps({"height": 1, "points": []}), JSON),
+            ("POST", "/wall", json.dumps({"height": "x", "points": [[1, 1]]}), JSON),
+        ]
+        for request in bad:
+            with self.subTest(request):
+                self.assertEqual(self.ask(port, *request)[0], 400)
+        self.assertEqual(self.ask(port, "POST", "/burn", json.dumps({"depth": 0, "points": [[5, 5]]}))[0], 409)
+        self.assertEqual(self.ask(port, "GET", "/count"), (200, {"answer": 5}))
+
+    def test_questions_a_second(self):
+        """A client that asks one after another, and four at a time: the rate is told, not asserted."""
+        path = self.store(11)
+        _, port, _ = self.start(path)
+        rates = {}
+        for clients in (1, 4):
+            start = time.monotonic()
+            threads = [threading.Thread(target=self.repeat, args=(port, 500)) for _ in range(clients)]
+            for thread in threads:
+                thread.start()
+            for thread in threads:
+                thread.join()
+            rates[clients] = round(500 * clients / (time.monotonic() - start))
+        print(f"service: {rates[1]} questions a second from one client, {rates[4]} from four", file=sys.stderr)
+
+    def repeat(self, port, count):
+        connection = http.client.HTTPConnection("127.0.0.1", port, timeout=60)
+        for _ in range(count):
+            connection.request("GET", "/fill?y=5&x=5")
+            reply = connection.getresponse()
+            self.assertEqual(reply.status, 200)
+            reply.read()
+        connection.close()
+
+    def test_nothing_is_lost_to_kills(self):
+        """Clients raise points while the program is killed, and then the service: what was answered stands."""
+        path = self.store(21)
+        service, port, program = self.start(path)
+        acknowledged = [{} for _ in range(3)]
+        ending = threading.Event()
+        clients = [
+            threading.Thread(target=self.raise_points, args=(lambda: port, number, heights, ending))
+            for number, heights in enumerate(acknowledged)
+        ]
+        for client in clients:
+            client.start()
+        for _ in range(2):
+            self.wait_for_more(acknowledged)
+            os.kill(program, signal.SIGKILL)
+            self.wait_for_more(acknowledged)
+            os.kill(service.pid, signal.SIGKILL)
+            service.wait()
+            service, port, program = self.start(path)
+        self.wait_for_more(acknowledged)
+        ending.set()
+        for client in clients:
+            client.join()
+        service.send_signal(signal.SIGTERM)
+        service.wait(30)
+        with open_store(path, PROGRAM, wait=10) as store:
+            for heights in acknowledged:
+                for point, height in heights.items():
+                    self.assertGreaterEqual(store.elevation(*point), height)
+        self.assertGreater(check_store(path, PROGRAM).count, 4)
+
+    def raise_points(self, port, number, heights, ending):
+        """Raises points of a row one after another, and notes what was answered."""
+        height = 5000
+        while not ending.is_set():
+            height += 1
+            point = number * 5 + 2, height % 20
+            try:
+                status, _ = self.ask(port(), "POST", "/wall", json.dumps({"height": height, "points": [point]}))
+            except (OSError, http.client.HTTPException, ValueError):
+                time.sleep(0.01)  # it is down
+                continue
+            if status == 200:
+                heights[point] = height
+
+    def wait_for_more(self, acknowledged):
+        wanted = sum(max(heights.values(), default=5000) for heights in acknowledged) + 20
+        until = time.monotonic() + 60
+        while sum(max(heights.values(), default=5000) for heights in acknowledged) < wanted:
+            self.assertLess(time.monotonic(), until)
+            time.sleep(0.01)
+
+
+class Variants(InFolder):
+    def test_fifty(self):
+        path = self.store(21)
+        before = self.image(path)
+        words = [sys.executable, PYTHON / "examples" / "variants.py", path, "0.5", "0.6", "0.9", "--program", PROGRAM]
+        done = subprocess.run(words, capture_output=True, text=True, timeout=600, check=False)
+        self.assertEqual((done.returncode, done.stderr), (0, ""))
+        self.assertRegex(done.stdout, r"50 variants in [\d.]+ s\nleast water: \d+ m, with a road of \d+ m")
+        self.assertEqual(self.image(path), before)
+
+    @staticmethod
+    def image(path):
+        with open_store(path, PROGRAM) as store:
+            return {name: store.export(name) for name in store.tiles()}, store.sinks()
+
+
+if __name__ == "__main__":
+    unittest.main()

@@ -1,0 +1,191 @@
+"""mosaic-load: a hundred files with every trouble, going on after an end, and moving to another capacity."""
+
+import gzip
+import os
+import pathlib
+import unittest
+import zipfile
+
+from mosaic_store import Corner, check_store, format_store, open_store, shape_of
+
+from .support import PROGRAM, InFolder, hills
+
+SIDE = 5
+
+
+def hundred_files(folder: pathlib.Path, side: int = SIDE) -> dict[str, bytes]:
+    """100 files: tiles in names and archives of each kind, and seven troubles; the tiles that are whole."""
+    tiles = {}
+    for number, data in enumerate(hills(side, 10, 10).values()):
+        corner = Corner(30 + number // 10, -110 + number % 10)
+        below = folder / f"part {number % 3}"
+        below.mkdir(exist_ok=True)
+        if number >= 95:
+            continue
+        tiles[corner.name] = data
+        write(below, corner.name, number % 6, data)
+    spare = tiles["N30W110"]
+    (folder / "N40W110.hgt").write_bytes(spare[:-7])
+    (folder / "copy_of_N30W110.hgt").write_bytes(tiles["N30W110"])
+    (folder / "N40W109.zip").write_bytes(b"PK\3\4 cut short")
+    (folder / "readme.txt").write_text("where they come from")
+    (folder / "unnamed.hgt").write_bytes(spare)
+    return tiles
+
+
+def write(folder: pathlib.Path, name: str, kind: int, data: bytes) -> None:
+    """A tile as one of six kinds of files."""
+    if kind == 0:
+        (folder / f"{name.lower()}.HGT").write_bytes(data)
+    elif kind == 1:
+        with zipfile.ZipFile(folder / f"{name}.SRTMGL1.hgt.zip", "w", zipfile.ZIP_DEFLATED) as archive:
+            archive.writestr(f"inside/{name}.hgt", data)
+    elif kind == 2:
+        (folder / f"USGS_{name}_1arc.hgt").write_bytes(data)
+    elif kind == 3:
+        (folder / f"{name}.SRTMGL3.Hgt").write_bytes(data)
+    elif kind == 4:
+        (folder / f"{name}.hgt.gz").write_bytes(gzip.compress(data, 1))
+    else:
+        (folder / f"{name}.hgt").write_bytes(data)
+
+
+class Loading(InFolder):
+    def load(self, *words):
+        return self.command("load", *words)
+
+    def exports(self, path):
+        with open_store(str(path), PROGRAM) as store:
+            return {name: store.export(name) for name in store.tiles()}
+
+    def test_a_hundred_files(self):
+        files = self.folder / "files"
+        files.mkdir()
+        tiles = hundred_files(files)
+        store = str(self.folder / "store")
+        done = self.load(store, str(files))
+        self.assertEqual(done.returncode, 1)
+        self.assertIn("100 files in", done.stdout)
+        self.assertIn("95 imported, 1 there already, 1 passed by, 3 failed", done.stdout)
+        self.assertEqual(self.exports(store), tiles)
+        self.assertEqual(shape_of(store).side, SIDE)
+        troubles = done.stderr.splitlines()
+        self.assertEqual(len(troubles), 4)
+        for name, cause, cure in (
+            ("N40W110.hgt", "43 bytes are no tile", "it may be cut short"),
+            ("N40W109.zip", "not read as a zip", "fetch it again"),
+            ("unnamed.hgt", "tells no tile", "rename it"),
+            ("readme.txt", "no HGT file", ""),
+        ):
+            (line,) = [trouble for trouble in troubles if name in trouble]
+            self.assertIn(cause, line)
+            self.assertIn(cure, line)
+        again = self.load(store, str(files))
+        self.assertIn("96 there already, 1 passed by, 3 failed", again.stdout)
+        self.assertEqual(check_store(store, PROGRAM).count, 95)
+
+    def test_going_on(self):
+        files, store = self.folder / "files", str(self.folder / "store")
+        files.mkdir()
+        tiles = hills(SIDE, 2, 2)
+        for name, data in tiles.items():
+            (files / f"{name}.hgt").write_bytes(data)
+        format_store(store, SIDE, 4, PROGRAM)
+        with open_store(store, PROGRAM) as session:
+            session.import_tile("N01E000", tiles["N01E000"])
+            session.wall(5000, [(6, 1)])
+        done = self.load(store, str(files))
+        self.assertEqual((done.returncode, done.stderr), (0, ""))
+        self.assertIn("3 imported, 1 there already", done.stdout)
+        with open_store(store, PROGRAM) as session:
+            self.assertEqual(session.elevation(6, 1), 5000)  # what was edited stays
+
+    def test_troubles_of_their_own(self):
+        files, store = self.folder / "files", str(self.folder / "store")
+        files.mkdir()
+        one, other = hills(SIDE, 1, 2).values()
+        (files / "N00E000.hgt").write_bytes(one)
+        (files / "N00E000b.hgt").write_bytes(other)  # N00E000b is no name
+        (files / "n00e000 (2).hgt").write_bytes(other)
+        (files / "N01E000.hgt").write_bytes(hills(9, 1, 1)["N00E000"])
+        with zipfile.ZipFile(files / "bad.zip", "w") as archive:
+            archive.writestr("N05E005.hgt", other)
+        damaged = bytearray((files / "bad.zip").read_bytes())
+        damaged[45:50] = b"\1\2\3\4\5"
+        (files / "bad.zip").write_bytes(damaged)
+        with zipfile.ZipFile(files / "empty.zip", "w") as archive:
+            archive.writestr("about.txt", "nothing")
+        (files / "N07E007.hgt.gz").write_bytes(gzip.compress(bytes(10**7)))
+        (files / "N08E008.hgt.gz").write_bytes(gzip.compress(other)[:-9])
+        with zipfile.ZipFile(files / "bomb.zip", "w", zipfile.ZIP_DEFLATED) as archive:
+            archive.writestr("N06E006.hgt", bytes(10**7))
+        os.symlink("nowhere", files / "gone.hgt")
+        done = self.load(store, str(files))
+        self.assertEqual(done.returncode, 1)
+        told = ["with other samples", "a tile of 9 x 9 samples", "bad.zip:N05E005.hgt: failed: not read"]
+        told += ["bomb.zip:N06E006.hgt: failed: 10000000 or more", "N07E007.hgt.gz: failed: 51 or more bytes", "E008.hgt.gz: failed"]
+        for words in (*told, "without an HGT", "tells no tile"):
+            self.assertIn(words, done.stderr)
+        self.assertNotIn("Traceback", done.stderr)
+        self.assertEqual(self.exports(store), {"N00E000": one})
+
+    def test_full(self):
+        files, store = self.folder / "files", str(self.folder / "store")
+        files.mkdir()
+        for name, data in hills(SIDE, 2, 2).items():
+            (files / f"{name}.hgt").write_bytes(data)
+        done = self.load(store, str(files), "--capacity", "3")
+        self.assertEqual(done.returncode, 1)
+        self.assertIn("3 imported, 1 failed", done.stdout)
+        self.assertIn("mosaic-load --from", done.stderr)
+        moved = self.load(str(self.folder / "greater"), "--from", store, "--capacity", "9")
+        self.assertEqual((moved.returncode, moved.stderr), (0, ""))
+        self.assertEqual(self.load(str(self.folder / "greater"), str(files)).returncode, 0)
+        self.assertEqual(self.exports(self.folder / "greater"), hills(SIDE, 2, 2))
+
+    def test_moving(self):
+        old, new = self.store(SIDE), str(self.folder / "new")
+        with open_store(old, PROGRAM) as session:
+            session.wall(900, [(4, 4)])
+            session.sink(3, 3)
+            session.sink(7, 1)
+            wanted = self.image(session)
+        done = self.load(new, "--from", old, "--capacity", "7")
+        self.assertEqual((done.returncode, done.stderr), (0, ""))
+        self.assertIn("6 tiles and sinks", done.stdout)
+        self.assertEqual(shape_of(new).capacity, 7)
+        for path in (old, new):
+            with open_store(path, PROGRAM) as session:
+                self.assertEqual(self.image(session), wanted)
+        self.assertIn("4 there already", self.load(new, "--from", old).stdout)
+
+    @staticmethod
+    def image(session):
+        return {name: session.export(name) for name in session.tiles()}, session.sinks()
+
+    def test_bad_input(self):
+        store = str(self.folder / "made")
+        empty = self.folder / "empty"
+        empty.mkdir()
+        there = self.store(SIDE)
+        self.refused(self.load(store, "nowhere"), "no such file or folder")
+        self.refused(self.load(store, str(empty)), "nothing to load")
+        self.refused(self.load(store), "needed", status=2)
+        (empty / "N00E000.hgt").write_bytes(b"ab")
+        self.refused(self.load(store, str(empty)), "nothing to make a store of")
+        self.refused(self.load(store, "--from", str(self.folder / "none")), "no such file")
+        self.refused(self.load(there, "--from", there), "another store")
+        self.refused(self.load(store, "--from", there, "--capacity", "2"), "holds 4 tiles")
+        self.refused(self.load(store, "--from", there, "--side", "7"), "tiles keep theirs")
+        self.refused(self.load(there, str(empty), "--side", "7"), "its side is 5, not 7")
+        self.refused(self.load(str(empty), str(empty)), "no regular file")
+        self.refused(self.load(store, str(empty), "--side", "2", "--capacity", "1"), "32 BadSide", "from 3 to 3601")
+        self.assertFalse(pathlib.Path(store).exists())
+        with open_store(there, PROGRAM) as session:
+            self.refused(self.load(there, str(empty)), "another program has it open")
+            self.refused(self.load(store, "--from", there), "another program has it open")
+            self.assertEqual(session.count(), 4)
+
+
+if __name__ == "__main__":
+    unittest.main()

@@ -1,0 +1,155 @@
+"""Trials: what is taken back, what is kept."""
+
+import os
+import signal
+import struct
+import threading
+import unittest
+
+from mosaic_store import BadArgument, SessionDied, errors, open_store
+
+from .support import PROGRAM, InFolder
+
+SIDE = 11
+
+
+class Trials(InFolder):
+    def setUp(self):
+        super().setUp()
+        self.session = open_store(self.store(SIDE), PROGRAM)
+        self.addCleanup(self.session.close)
+        self.session.sink(7, 7)
+        self.session.sink(15, 4)
+        self.before = self.image()
+
+    def image(self):
+        """Every sample of every tile, and the sinks."""
+        session = self.session
+        return {name: session.export(name) for name in session.tiles()}, session.sinks()
+
+    def test_each_command_is_taken_back(self):
+        session = self.session
+        edits = {
+            "wall": lambda: session.wall(2000, [(10, x) for x in range(21)]),
+            "burn at four tiles": lambda: session.burn(5, [(10, 10)]),
+            "patch": lambda: session.patch(0, 0, 9, 9, 7),
+            "remove": lambda: session.remove("N01E001"),
+            "sink": lambda: session.sink(3, 3),
+            "unsink": lambda: session.unsink(7, 7),
+            "another tile": lambda: session.remove("N00E000")
+            and session.import_tile("n00e000", struct.pack(f">{SIDE**2}h", *[5] * SIDE**2)),
+            "a removed sink": lambda: session.remove("N00E000") and session.sink(15, 5),
+        }
+        for name, edit in edits.items():
+            with self.subTest(name):
+                level = session.fill(12, 12)
+                with session.trial() as trial:
+                    edit()
+                    self.assertNotEqual(self.image(), self.before)
+                self.assertFalse(trial.is_open)
+                self.assertEqual(self.image(), self.before)
+                self.assertEqual(session.fill(12, 12), level)
+
+    def test_seams_that_disagree_stay_so(self):
+        """A wall gives every holder of a point one height; the tiles get their own samples back, voids too."""
+        session = self.session
+        own = struct.pack(f">{SIDE**2}h", *([-32768] * SIDE + [70] * (SIDE**2 - SIDE)))
+        session.remove("N00E001")
+        session.import_tile("N00E001", own)
+        before = self.image()
+        with session.trial():
+            session.wall(3000, [(y, 10) for y in range(11)] + [(10, x) for x in range(11, 20)])
+        self.assertEqual(self.image(), before)
+        self.assertEqual(session.export("N00E001"), own)
+
+    def test_kept(self):
+        with self.session.trial() as trial:
+            self.session.wall(2000, [(5, 5)])
+            trial.keep()
+        self.assertEqual(self.session.elevation(5, 5), 2000)
+        self.assertEqual(trial.touched, ["N00E000"])
+        with self.session.trial():
+            self.session.wall(2100, [(5, 5)])
+        self.assertEqual(self.session.elevation(5, 5), 2000)
+
+    def test_an_error_inside(self):
+        with self.assertRaises(ZeroDivisionError), self.session.trial():
+            self.session.burn(1, [(5, 5)])
+            1 / 0
+        self.assertEqual(self.image(), self.before)
+
+    def test_refused_edits_leave_nothing(self):
+        count = self.session.count()
+        with self.session.trial():
+            for edit in (
+                lambda: self.session.burn(0, [(5, 5)]),
+                lambda: self.session.remove("S05E000"),
+                lambda: self.session.patch(9, 0, 0, 9, 1),
+                lambda: self.session.remove("XX"),
+                lambda: self.session.wall(5, [(500, 500)]),
+            ):
+                with self.assertRaises(errors.Refusal):
+                    edit()
+        self.assertEqual((self.image(), self.session.count()), (self.before, count))
+
+    def test_a_trial_at_a_time(self):
+        with self.session.trial():
+            with self.assertRaises(BadArgument):
+                self.session.begin_trial()
+        self.session.begin_trial().keep()
+        trial = self.session.begin_trial()
+        self.session.burn(1, [(5, 5)])
+        ending = threading.Thread(target=trial.take_back)  # by hand, from another thread
+        ending.start()
+        ending.join()
+        self.assertEqual(self.image(), self.before)
+        with self.assertRaises(BadArgument):
+            trial.take_back()
+
+    def test_a_sink_that_could_not_be_declared_again(self):
+        session = self.session
+        session.remove("N00E000")
+        with session.trial():
+            with self.assertRaises(BadArgument):
+                session.unsink(7, 7)
+        self.assertEqual(session.sinks(), self.before[1])
+
+    def test_sinks_whose_ground_comes_and_goes(self):
+        """A sink is declared again where its point was ground, whatever became of its tile in the trial."""
+        session = self.session
+        tile = session.export("N00E000")
+        with session.trial():
+            session.remove("N00E000")
+            session.unsink(7, 7)
+        self.assertEqual(self.image(), self.before)
+        session.remove("N00E000")
+        with session.trial():
+            session.import_tile("N00E000", tile)
+            with self.assertRaises(BadArgument):
+                session.unsink(7, 7)
+            with self.assertRaises(errors.NoSink):
+                session.unsink(8, 8)
+        self.assertEqual((session.tiles(), session.sinks()), (["N00E001", "N01E000", "N01E001"], self.before[1]))
+
+    def test_the_program_dies_inside(self):
+        session = self.session
+        with self.assertRaises(SessionDied), session.trial():
+            session.burn(1, [(5, 5)])
+            os.kill(session.pid, signal.SIGKILL)
+            session.fill(1, 1)
+        self.assertEqual(self.image(), self.before)
+
+    def test_other_threads_wait(self):
+        session, seen = self.session, []
+        height = session.elevation(5, 5)
+        with session.trial():
+            thread = threading.Thread(target=lambda: seen.append(session.elevation(5, 5)))
+            session.wall(4000, [(5, 5)])
+            thread.start()
+            session.fill(5, 5)
+        thread.join()
+        self.assertEqual(seen, [height])
+
+
+if __name__ == "__main__":
+    unittest.main()
