@@ -1,0 +1,157 @@
+"""The map's own web server: on the loopback alone, and for this page alone.
+
+Every path begins with a token that is drawn at each start and told to nobody but whoever started the program, so that no
+page of another site can guess one. Besides, the name that a browser asked for has to be the loopback's, so that no other
+name can be pointed at it, and what changes something has to come as JSON with a header that only this page sends.
+"""
+
+from __future__ import annotations
+
+import json
+import re
+import secrets
+from collections.abc import Callable, Mapping
+from http import HTTPStatus
+from http.server import BaseHTTPRequestHandler, ThreadingHTTPServer
+from importlib.resources import files
+from typing import Any
+from urllib.parse import urlsplit
+
+from ..errors import Refusal
+from .workbench import BadRequest, Workbench
+
+MOST_BYTES = 1 << 16
+"""The longest body that a request may have."""
+
+PAGE_FILES = {
+    "": ("index.html", "text/html; charset=utf-8"),
+    "map.js": ("map.js", "text/javascript; charset=utf-8"),
+    "style.css": ("style.css", "text/css; charset=utf-8"),
+}
+
+POLICY = "default-src 'none'; img-src 'self' data: blob:; script-src 'self'; style-src 'self'; connect-src 'self'; form-action 'none'; frame-ancestors 'none'; base-uri 'none'"
+
+
+class MapServer(ThreadingHTTPServer):
+    """Serves the page of one workbench at `url`."""
+
+    daemon_threads = True
+
+    def __init__(self, workbench: Workbench, port: int = 0):
+        super().__init__(("127.0.0.1", port), _Handler)
+        self.workbench = workbench
+        self.token = secrets.token_urlsafe(18)
+
+    @property
+    def url(self) -> str:
+        return f"http://127.0.0.1:{self.server_port}/{self.token}/"
+
+    def names(self) -> set[str]:
+        """What a browser on this machine may call this server."""
+        return {f"{name}:{self.server_port}" for name in ("127.0.0.1", "localhost")}
+
+
+class _Handler(BaseHTTPRequestHandler):
+    server: MapServer
+    protocol_version = "HTTP/1.1"
+    server_version = "mosaic-view"
+    sys_version = ""
+    timeout = 60
+
+    def do_GET(self) -> None:
+        path = self._path()
+        if path is None:
+            return
+        if path in PAGE_FILES:
+            name, kind = PAGE_FILES[path]
+            self._send(HTTPStatus.OK, (files(__package__) / "page" / name).read_bytes(), kind)
+            return
+        picture = re.fullmatch(r"(relief|standing)/(\d{1,2})/(-?\d{1,7})/(-?\d{1,7})\.png", path)
+        if picture:
+            layer, zoom, row, column = picture.groups()
+            self._answer(lambda: self.server.workbench.picture(layer, int(zoom), int(row), int(column)), "image/png")
+        elif path == "region":
+            self._answer(self.server.workbench.describe)
+        else:
+            self._fail(HTTPStatus.NOT_FOUND, "there is nothing at this path")
+
+    def do_POST(self) -> None:
+        path = self._path()
+        if path is None:
+            return
+        if self.headers.get("X-Mosaic") != self.server.token:
+            self._fail(HTTPStatus.FORBIDDEN, "this request isn't the page's own")
+            return
+        act = self.server.workbench.acts().get(path)
+        if act is None:
+            self._fail(HTTPStatus.NOT_FOUND, "there is nothing at this path")
+            return
+        words = self._words()
+        if words is not None:
+            self._answer(lambda: act(words))
+
+    def _path(self) -> str | None:
+        """What follows the token in the path asked for; None where the request was refused already."""
+        if self.headers.get("Host") not in self.server.names():
+            self._fail(HTTPStatus.FORBIDDEN, "this server answers to 127.0.0.1 alone")
+            return None
+        token, slash, rest = urlsplit(self.path).path.removeprefix("/").partition("/")
+        if not slash or not secrets.compare_digest(token.encode(), self.server.token.encode()):
+            self._fail(HTTPStatus.NOT_FOUND, "there is nothing at this path; open the address that mosaic-view printed")
+            return None
+        return rest
+
+    def _words(self) -> Mapping[str, Any] | None:
+        """The request's body, which has to be a JSON object; None where the request was refused already."""
+        length = self.headers.get("Content-Length", "")
+        if self.headers.get_content_type() != "application/json" or not length.isascii() or not length.isdigit() or int(length) > MOST_BYTES:
+            self._fail(HTTPStatus.BAD_REQUEST, f"a request is JSON of at most {MOST_BYTES} bytes")
+            return None
+        try:
+            words = json.loads(self.rfile.read(int(length)))
+        except (ValueError, RecursionError):
+            words = None
+        if not isinstance(words, dict):
+            self._fail(HTTPStatus.BAD_REQUEST, "a request is one JSON object")
+            return None
+        return words
+
+    def _answer(self, act: Callable[[], Any], kind: str = "application/json") -> None:
+        try:
+            answer = act()
+        except BadRequest as bad:
+            self._fail(HTTPStatus.BAD_REQUEST, str(bad))
+            return
+        except Refusal as refusal:
+            self._fail(HTTPStatus.CONFLICT, f"{refusal.cause}: {refusal.cure}")
+            return
+        except Exception as fault:  # the page has to be told, whatever it was
+            self._fail(HTTPStatus.SERVICE_UNAVAILABLE, f"{type(fault).__name__}: {fault}")
+            return
+        self._send(HTTPStatus.OK, answer if isinstance(answer, bytes) else json.dumps(answer).encode(), kind)
+
+    def _fail(self, status: HTTPStatus, why: str) -> None:
+        # What the body holds isn't read, so the connection ends with this answer.
+        self.close_connection = True
+        self._send(status, json.dumps({"error": why}).encode(), "application/json")
+
+    def _send(self, status: HTTPStatus, body: bytes, kind: str) -> None:
+        self.send_response(status)
+        headers = {
+            "Content-Type": kind,
+            "Content-Length": str(len(body)),
+            "Cache-Control": "no-store",
+            "Content-Security-Policy": POLICY,
+            "Cross-Origin-Resource-Policy": "same-origin",
+            "Referrer-Policy": "no-referrer",
+            "X-Content-Type-Options": "nosniff",
+        }
+        if self.close_connection:
+            headers["Connection"] = "close"
+        for name, value in headers.items():
+            self.send_header(name, value)
+        self.end_headers()
+        self.wfile.write(body)
+
+    def log_message(self, format: str, *values: object) -> None:
+        """Nothing is logged: the token stands in each path."""

@@ -1,0 +1,320 @@
+"""What the map's page asks of a store: pictures, points, watersheds, and trials of edits that are kept or taken back.
+
+A trial is made on a copy of the store in memory. Nothing of it reaches the store until it is kept, so that nothing is
+left of it wherever the program is stopped.
+"""
+
+from __future__ import annotations
+
+import base64
+import threading
+from collections import OrderedDict
+from collections.abc import Callable, Mapping, Sequence
+from dataclasses import dataclass
+from typing import Any
+
+import numpy as np
+
+from ..lattice import METRES_A_DEGREE, VOID, Point
+from ..session import Session
+from ..trials import Trial
+from . import lines, pictures
+from .region import Grid, Region, Samples
+from .water import Water, standing_water
+
+PIXELS = 256
+"""Pixels each way of a picture of the map."""
+
+MOST_ZOOM = 16
+MOST_CORNERS = 200
+MOST_POINTS = 20_000
+"""The most corners of a line, and the most points on it."""
+
+MOST_OF_A_PATH = 20_000
+"""The most points of a flow path that are told; of a longer one, some between."""
+
+MOST_PIXELS = 2048
+"""The most pixels each way of a watershed's picture; a larger one is thinned."""
+
+AROUND = 160
+"""How many points around a line the water before and after is shown."""
+
+MOST_AROUND = 512
+"""The most points each way of that box."""
+
+WATERSHED_COLOUR = (214, 60, 44)
+
+
+class BadRequest(Exception):
+    """The page asked for something that can't be: the text says what, for a person to read."""
+
+
+@dataclass(frozen=True)
+class Edit:
+    """A line that is raised to a height ("wall") or lowered by a depth ("burn"), in metres."""
+
+    kind: str
+    amount: int
+    points: Sequence[Point]
+
+    def make(self, session: Session) -> None:
+        act = session.wall if self.kind == "wall" else session.burn
+        for part in lines.commands(self.points):
+            act(self.amount, part)
+
+
+class Workbench:
+    """One store, asked by one page. Its calls may come from several threads."""
+
+    def __init__(self, name: str, session: Session, copy: Callable[[], Session]):
+        """`copy` makes an empty mosaic in memory of the same side, with room for all tiles."""
+        self._name = name
+        self._store = session
+        self._copy = copy
+        self._lock = threading.RLock()
+        self._copied: Session | None = None
+        self._trial: tuple[Edit, Trial] | None = None
+        self._pictures: OrderedDict[tuple[str, int, int, int], bytes] = OrderedDict()
+        names = session.tiles()
+        if not names:
+            raise BadRequest("the store has no tile; import some first, as with mosaic-load")
+        self.region = Region(session.side, names, session.export)
+        self.lowest, self.highest = self.region.range_of_heights()
+
+    def close(self) -> None:
+        with self._lock:
+            if self._copied is not None:
+                self._copied.close()
+
+    def acts(self) -> Mapping[str, Callable[[Mapping[str, Any]], Any]]:
+        """What a request may ask for, by its path."""
+        return {
+            "ask": lambda words: self.ask(point_in(words)),
+            "watershed": lambda words: self.watershed(point_in(words)),
+            "try": lambda words: self.try_edit(edit_in(words)),
+            "keep": lambda words: self.keep(),
+            "discard": lambda words: self.discard(),
+        }
+
+    def describe(self) -> dict[str, Any]:
+        """What the page has to know of the store before it draws."""
+        return {
+            "name": self._name,
+            "side": self.region.side,
+            "metres": self._metres(1),
+            "bounds": self.region.bounds(),
+            "tiles": [corner.name for corner in sorted(self.region.corners)],
+            "sinks": [list(point) for point in self._store.sinks()],
+            "lowest": self.lowest,
+            "highest": self.highest,
+        }
+
+    # Pictures
+
+    def picture(self, layer: str, zoom: int, row: int, column: int) -> bytes:
+        """A picture of 256 x 256 pixels, each of 2^zoom points: "relief", or "standing" water at zoom 0."""
+        if zoom > MOST_ZOOM or (layer == "standing" and zoom):
+            raise BadRequest("there is no picture at this zoom")
+        key = (layer, zoom, row, column)
+        with self._lock:
+            held = self._pictures.get(key)
+        if held is not None:
+            return held
+        step = 1 << zoom
+        span = PIXELS * step
+        grid = Grid(row * span + span - step, column * span, PIXELS, PIXELS, step)
+        drawn = pictures.png(self._relief(grid) if layer == "relief" else self._standing(grid))
+        with self._lock:
+            self._pictures[key] = drawn
+            while len(self._pictures) > 512:
+                self._pictures.popitem(last=False)
+        return drawn
+
+    def _relief(self, grid: Grid) -> pictures.Colours:
+        ring = Grid(grid.top + grid.step, grid.left - grid.step, grid.rows + 2, grid.columns + 2, grid.step)
+        heights, held = self.region.heights(ring)
+        return pictures.relief(heights, held, self._metres(grid.step), self.lowest, self.highest)
+
+    def _standing(self, grid: Grid) -> pictures.Colours:
+        heights, _ = self.region.heights(grid)
+        found = standing_water(self._store, grid, heights)
+        return pictures.water(found.depths, max(20, found.deepest))
+
+    def _metres(self, step: int) -> float:
+        return METRES_A_DEGREE / (self.region.side - 1) * step
+
+    # Questions
+
+    def ask(self, point: Point) -> dict[str, Any]:
+        """Height, filled level, direction and flow path of a point."""
+        y, x = self._inside(point)
+        height = self._store.elevation(y, x)
+        if height is None:
+            return {"y": y, "x": x, "height": None}
+        path = self._store.trace(y, x)
+        every = -(-len(path) // MOST_OF_A_PATH)
+        told = [list(step) for step in path[::every]]
+        if told[-1] != list(path[-1]):
+            told.append(list(path[-1]))
+        return {
+            "y": y,
+            "x": x,
+            "height": height,
+            "level": self._store.fill(y, x),
+            "direction": self._store.direction(y, x).name,
+            "steps": len(path),
+            "path": told,
+        }
+
+    def watershed(self, point: Point) -> dict[str, Any]:
+        """The watershed of a point: how many points it has, and a picture of them with its box."""
+        y, x = self._inside(point)
+        found = self._store.watershed(y, x)
+        runs = np.array(found.runs, np.int64).reshape(-1, 3)
+        top, bottom, left, right = runs[:, 0].max(), runs[:, 0].min(), runs[:, 1].min(), runs[:, 2].max()
+        step = int(max(1, -(-max(top - bottom + 1, right - left + 1) // MOST_PIXELS)))
+        marked = np.zeros(((top - bottom) // step + 1, (right - left) // step + 1), np.bool_)
+        for row, first, last in zip((top - runs[:, 0]) // step, (runs[:, 1] - left) // step, (runs[:, 2] - left) // step):
+            marked[row, first : last + 1] = True
+        box = {"top": int(top), "left": int(left), "rows": marked.shape[0] * step, "columns": marked.shape[1] * step}
+        return {"cells": found.cells, "box": box, "picture": as_url(pictures.mask(marked, WATERSHED_COLOUR, 120))}
+
+    def _inside(self, point: Point) -> Point:
+        if not self.region.holders([point]):
+            raise BadRequest("no tile is there")
+        return point
+
+    # Trials
+
+    def try_edit(self, edit: Edit) -> dict[str, Any]:
+        """Makes an edit in a copy in memory; tells the water before and after in a box around it."""
+        outside = [point for point in edit.points if not self.region.holders([point])]
+        if outside:
+            raise BadRequest(f"the line leaves the tiles at y {outside[0].y}, x {outside[0].x}")
+        with self._lock:
+            if self._trial is not None:
+                raise BadRequest("a trial is under way: keep it or take it back first")
+            copy = self._copy_of_store()
+            trial = copy.begin_trial()
+            try:
+                edit.make(copy)
+                answer = self._water_around(edit, copy)
+            except BaseException:
+                trial.take_back()
+                raise
+            self._trial = edit, trial
+            return answer
+
+    def _water_around(self, edit: Edit, copy: Session) -> dict[str, Any]:
+        """The water around an edit: in the store, and in the copy where it was made."""
+        grid = self._around(edit.points)
+        heights, _ = self.region.heights(grid)
+        before = standing_water(self._store, grid, heights)
+        after = standing_water(copy, grid, heights_after(copy, grid, heights, edit.points))
+        deepest = max(20, before.deepest, after.deepest)
+        middle = edit.points[len(edit.points) // 2]
+        return {
+            "box": {"top": grid.top, "left": grid.left, "rows": grid.rows, "columns": grid.columns},
+            "before": told(before, deepest, self._store.fill(*middle)),
+            "after": told(after, deepest, copy.fill(*middle)),
+        }
+
+    def keep(self) -> dict[str, Any]:
+        """Makes the trial's edit in the store."""
+        with self._lock:
+            edit, trial = self._under_way()
+            edit.make(self._store)
+            trial.keep()
+            self._trial = None
+            self.region.forget(self.region.holders(edit.points))
+            self._pictures.clear()
+            return {"count": self._store.count()}
+
+    def discard(self) -> dict[str, Any]:
+        """Takes the trial's edit back from the copy; the store never had it."""
+        with self._lock:
+            _, trial = self._under_way()
+            trial.take_back()
+            self._trial = None
+            return {"count": self._store.count()}
+
+    def _under_way(self) -> tuple[Edit, Trial]:
+        if self._trial is None:
+            raise BadRequest("no trial is under way")
+        return self._trial
+
+    def _copy_of_store(self) -> Session:
+        """The copy in memory, made at the first trial."""
+        if self._copied is None:
+            copy = self._copy()
+            for name in self._store.tiles():
+                copy.import_tile(name, self._store.export(name))
+            for y, x in self._store.sinks():
+                copy.sink(y, x)
+            self._copied = copy
+        return self._copied
+
+    def _around(self, points: Sequence[Point]) -> Grid:
+        """The box in which the water of an edit is told: around its points, within the tiles and a greatest size."""
+        south, west, north, east = self.region.bounds()
+        ys, xs = zip(*points)
+        bottom, top = clipped(min(ys) - AROUND, max(ys) + AROUND, south, north)
+        left, right = clipped(min(xs) - AROUND, max(xs) + AROUND, west, east)
+        return Grid(top, left, top - bottom + 1, right - left + 1, 1)
+
+
+def clipped(low: int, high: int, lowest: int, highest: int) -> tuple[int, int]:
+    """A range within bounds, and cut around its middle to the greatest size of a box."""
+    low, high = max(low, lowest), min(high, highest)
+    excess = max(0, high - low + 1 - MOST_AROUND)
+    return low + excess // 2, high - (excess - excess // 2)
+
+
+def heights_after(session: Session, grid: Grid, heights: Samples, points: Sequence[Point]) -> Samples:
+    """The heights on a grid of single points once some of them were edited."""
+    changed = heights.copy()
+    for y, x in points:
+        row, column = grid.top - y, x - grid.left
+        if 0 <= row < grid.rows and 0 <= column < grid.columns:
+            height = session.elevation(y, x)
+            changed[row, column] = VOID if height is None else height
+    return changed
+
+
+def told(water: Water, deepest: int, level: int) -> dict[str, Any]:
+    """Water as the page shows it, with the filled level at the middle of the edit's line."""
+    picture = as_url(pictures.water(water.depths, deepest))
+    return {"points": water.points, "deepest": water.deepest, "volume": water.volume, "level": level, "picture": picture}
+
+
+def as_url(colours: pictures.Colours) -> str:
+    return "data:image/png;base64," + base64.b64encode(pictures.png(colours)).decode()
+
+
+def point_in(words: Mapping[str, Any]) -> Point:
+    return Point(coordinate(words.get("y")), coordinate(words.get("x")))
+
+
+def coordinate(value: Any) -> int:
+    if type(value) is not int or abs(value) > 999_999_999:
+        raise BadRequest("a point is two whole numbers, y and x")
+    return value
+
+
+def edit_in(words: Mapping[str, Any]) -> Edit:
+    """The edit that a request names, with each bound tested."""
+    kind, amount, corners = words.get("kind"), words.get("amount"), words.get("line")
+    if kind not in ("wall", "burn"):
+        raise BadRequest('an edit is a "wall" or a "burn"')
+    lowest = 1 if kind == "burn" else -32767
+    if type(amount) is not int or not lowest <= amount <= 32767:
+        raise BadRequest(f"metres are a whole number from {lowest} to 32767")
+    if not isinstance(corners, list) or not 1 <= len(corners) <= MOST_CORNERS:
+        raise BadRequest(f"a line has 1 to {MOST_CORNERS} corners")
+    if not all(isinstance(corner, list) and len(corner) == 2 for corner in corners):
+        raise BadRequest("each corner of a line is a list of y and x")
+    places = [Point(coordinate(y), coordinate(x)) for y, x in corners]
+    length = sum(abs(a.y - b.y) + abs(a.x - b.x) for a, b in zip(places, places[1:]))
+    if length > MOST_POINTS:
+        raise BadRequest(f"a line has at most {MOST_POINTS} points, and this one has {length}")
+    return Edit(kind, amount, lines.points_along(places))

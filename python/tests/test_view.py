@@ -1,0 +1,201 @@
+"""The map in the browser: drawn lines, pictures, the web server's refusals, and trials, over a table in memory."""
+
+from __future__ import annotations
+
+import http.client
+import json
+import threading
+import unittest
+import zlib
+from typing import Any, NamedTuple
+
+from mosaic_store.errors import ProgramNotFound
+from mosaic_store.lattice import VOID, Point
+from mosaic_store.session import memory_table
+from mosaic_store.stores import find_program
+from mosaic_store.view import lines
+
+try:
+    import numpy as np
+
+    from mosaic_store.view import pictures
+    from mosaic_store.view.region import Grid, Region
+    from mosaic_store.view.server import MapServer
+    from mosaic_store.view.workbench import Workbench
+except ImportError:
+    np = None  # type: ignore[assignment]
+
+SIDE = 41
+
+
+def has_program() -> bool:
+    try:
+        find_program()
+    except ProgramNotFound:
+        return False
+    return True
+
+
+def valley() -> list[bytes]:
+    """Two tiles side by side: a valley that falls to the east along y = 20, and a void at y = 2, x = 2."""
+    tiles = []
+    for west in (0, SIDE - 1):
+        ys, xs = np.mgrid[SIDE - 1 : -1 : -1, west : west + SIDE]
+        heights = 200 - xs + 5 * np.abs(ys - 20)
+        tiles.append(np.where((ys == 2) & (xs == 2), VOID, heights).astype(">i2").tobytes())
+    return tiles
+
+
+class Lines(unittest.TestCase):
+    def test_a_line_has_no_gap_that_water_passes(self) -> None:
+        for end in [(0, 0), (0, 7), (-5, 0), (3, 5), (-4, 9), (6, -6)]:
+            with self.subTest(end=end):
+                points = lines.points_along([Point(0, 0), Point(*end)])
+                self.assertEqual((points[0], points[-1]), ((0, 0), end))
+                steps = {abs(b.y - a.y) + abs(b.x - a.x) for a, b in zip(points, points[1:])}
+                self.assertLessEqual(steps, {1})
+
+    def test_each_point_of_a_line_is_named_once(self) -> None:
+        points = lines.points_along([Point(0, 0), Point(0, 4), Point(0, 0), Point(3, 0)])
+        self.assertEqual(len(points), len(set(points)))
+
+    def test_commands_name_at_most_64_points(self) -> None:
+        parts = list(lines.commands(lines.points_along([Point(0, 0), Point(0, 150)])))
+        self.assertEqual([len(part) for part in parts], [64, 64, 23])
+
+
+@unittest.skipIf(np is None, "numpy isn't installed: apt-get install python3-numpy")
+class Pictures(unittest.TestCase):
+    def test_a_png_says_its_pixels(self) -> None:
+        colours = np.zeros((2, 3, 4), np.uint8)
+        colours[1, 2] = (9, 8, 7, 255)
+        data = pictures.png(colours)
+        self.assertEqual(data[:8], b"\x89PNG\r\n\x1a\n")
+        rows = zlib.decompress(data[data.index(b"IDAT") + 4 : data.index(b"IEND") - 8])
+        self.assertEqual(rows, bytes(13) + bytes(9) + bytes((9, 8, 7, 255)))
+
+    def test_heights_follow_the_seam_rule(self) -> None:
+        tiles = {
+            "N00E000": np.array([[1, 2, VOID], [4, 5, 6], [7, 8, 9]], ">i2").tobytes(),
+            "N00E001": np.array([[30, 31, 32], [33, 34, 35], [36, 37, 38]], ">i2").tobytes(),
+        }
+        region = Region(3, tiles, tiles.__getitem__)
+        heights, held = region.heights(Grid(2, 1, 3, 5, 1))
+        self.assertEqual(heights.tolist(), [[2, 30, 31, 32, VOID], [5, 6, 34, 35, VOID], [8, 9, 37, 38, VOID]])
+        self.assertEqual(held[0].tolist(), [True, True, True, True, False])
+
+
+class Request(NamedTuple):
+    """A request, the status that is due, and words of the answer."""
+
+    method: str
+    path: str
+    words: Any
+    status: int
+    has: str
+    headers: dict[str, str] = {}
+
+
+@unittest.skipIf(np is None, "numpy isn't installed: apt-get install python3-numpy")
+@unittest.skipUnless(has_program(), "the program mosaic isn't built: examples/program builds it")
+class Served(unittest.TestCase):
+    def setUp(self) -> None:
+        self.session = memory_table(SIDE, 4)
+        for name, data in zip(("N00E000", "N00E001"), valley()):
+            self.session.import_tile(name, data)
+        self.bench = Workbench("valley", self.session, lambda: memory_table(SIDE, 4))
+        self.server = MapServer(self.bench)
+        threading.Thread(target=self.server.serve_forever, daemon=True).start()
+
+    def tearDown(self) -> None:
+        self.server.shutdown()
+        self.server.server_close()
+        self.bench.close()
+        self.session.close()
+
+    def request(self, method: str, path: str, words: Any = None, headers: dict[str, str] | None = None) -> tuple[int, bytes]:
+        connection = http.client.HTTPConnection("127.0.0.1", self.server.server_port, timeout=30)
+        own = {"Content-Type": "application/json", "X-Mosaic": self.server.token, **(headers or {})}
+        body = words if words is None or isinstance(words, bytes) else json.dumps(words).encode()
+        connection.request(method, path.replace("TOKEN", self.server.token), body, own)
+        answer = connection.getresponse()
+        status, told = answer.status, answer.read()
+        connection.close()
+        return status, told
+
+    def post(self, path: str, words: Any) -> dict[str, Any]:
+        status, told = self.request("POST", f"/TOKEN/{path}", words)
+        self.assertEqual(status, 200, told)
+        return json.loads(told)
+
+    def test_requests_of_others_and_bad_ones_are_refused(self) -> None:
+        rows = [
+            Request("GET", "/", None, 404, "nothing"),
+            Request("GET", "/guess/region", None, 404, "nothing"),
+            Request("GET", "/TOKEN/../../etc/passwd", None, 404, "nothing"),
+            Request("GET", "/TOKEN/region", None, 403, "127.0.0.1 alone", {"Host": "elsewhere.example"}),
+            Request("POST", "/TOKEN/keep", {}, 403, "page's own", {"X-Mosaic": "guess"}),
+            Request("POST", "/TOKEN/keep", b"kind=wall", 400, "JSON", {"Content-Type": "text/plain"}),
+            Request("POST", "/TOKEN/ask", b"[" * 60000, 400, "one JSON object"),
+            Request("POST", "/TOKEN/ask", b"x" * 70000, 400, "at most"),
+            Request("POST", "/TOKEN/ask", {"y": "0", "x": 0}, 400, "whole numbers"),
+            Request("POST", "/TOKEN/ask", {"y": 10**12, "x": 0}, 400, "whole numbers"),
+            Request("POST", "/TOKEN/ask", {"y": -900, "x": 0}, 400, "no tile"),
+            Request("POST", "/TOKEN/try", {"kind": "flood"}, 400, "wall"),
+            Request("POST", "/TOKEN/try", {"kind": "burn", "amount": 0, "line": [[1, 1]]}, 400, "metres"),
+            Request("POST", "/TOKEN/try", {"kind": "wall", "amount": 9, "line": []}, 400, "corners"),
+            Request("POST", "/TOKEN/try", {"kind": "wall", "amount": 9, "line": [[0, 0], [0, 99999]]}, 400, "points"),
+            Request("POST", "/TOKEN/try", {"kind": "wall", "amount": 9, "line": [[0, 0], [0, 99]]}, 400, "leaves the tiles"),
+            Request("POST", "/TOKEN/keep", {}, 400, "no trial"),
+            Request("POST", "/TOKEN/nothing", {}, 404, "nothing"),
+            Request("GET", "/TOKEN/relief/99/0/0.png", None, 400, "no picture"),
+        ]
+        for row in rows:
+            with self.subTest(row=row):
+                status, told = self.request(row.method, row.path, row.words, row.headers)
+                self.assertEqual((status, row.has in told.decode()), (row.status, True), told)
+        self.assertEqual(self.session.count(), 2)
+
+    def test_the_page_and_its_pictures_are_served(self) -> None:
+        rows = [
+            ("", b"<!doctype html>"),
+            ("map.js", b'"use strict"'),
+            ("style.css", b":root"),
+            ("relief/0/0/0.png", b"\x89PNG"),
+            ("standing/0/0/0.png", b"\x89PNG"),
+        ]
+        for path, begins in rows:
+            with self.subTest(path=path):
+                status, told = self.request("GET", f"/TOKEN/{path}")
+                self.assertEqual((status, told[: len(begins)]), (200, begins))
+
+    def test_a_point_tells_height_level_and_path(self) -> None:
+        told = self.post("ask", {"y": 25, "x": 10})
+        self.assertEqual((told["height"], told["level"], told["path"][-1]), (215, 215, [20, 80]))
+        self.assertIsNone(self.post("ask", {"y": 2, "x": 2})["height"])
+
+    def test_a_watershed_has_its_points(self) -> None:
+        told = self.post("watershed", {"y": 20, "x": 80})
+        self.assertEqual((told["cells"], told["box"]["left"]), (self.session.watershed(20, 80).cells, 0))
+
+    def test_a_trial_reaches_the_store_only_when_it_is_kept(self) -> None:
+        road = {"kind": "wall", "amount": 190, "line": [[10, 40], [30, 40]]}
+        told = self.post("try", road)
+        self.assertEqual((told["before"]["points"], told["before"]["level"], told["after"]["level"]), (0, 160, 190))
+        self.assertGreater(told["after"]["points"], 100)
+        self.assertEqual((self.session.count(), self.session.fill(20, 39)), (2, 161))
+        self.post("discard", {})
+        self.assertEqual(self.post("try", road)["after"]["level"], 190)
+        self.assertEqual(self.post("keep", {})["count"], 3)
+        self.assertEqual(self.session.fill(20, 39), 190)
+
+    def test_a_trial_that_is_refused_leaves_nothing(self) -> None:
+        line = [[2, x] for x in (70, 2)]
+        status, told = self.request("POST", "/TOKEN/try", {"kind": "burn", "amount": 5, "line": line})
+        self.assertEqual((status, b"no height" in told), (409, True), told)
+        told = self.post("try", {"kind": "burn", "amount": 5, "line": [[2, 60]]})
+        self.assertEqual((told["before"]["level"], told["after"]["level"]), (230, 225))
+
+
+if __name__ == "__main__":
+    unittest.main()
