@@ -48,10 +48,6 @@ ssize_t pwrite(int file, const void *bytes, size_t count, off_t at) {
 int ftruncate(int file, off_t length) { return fails("ftruncate", 1) ? failed() : syscall(SYS_ftruncate, file, length); }
 int fsync(int file) { return fails("fsync", 0) ? failed() : syscall(SYS_fsync, file); }
 int fdatasync(int file) { return fails("fdatasync", 0) ? failed() : syscall(SYS_fdatasync, file); }
-
-int posix_fadvise(int file, off_t at, off_t length, int advice) {
-    return fails("posix_fadvise", 0) ? EIO : -syscall(SYS_fadvise64, file, at, length, advice);
-}
 """
 
 # Stands before the C library's own calls. What a system keeps of one file, of so many sectors at most, is kept in a file of
@@ -111,8 +107,11 @@ ssize_t pread(int file, void *bytes, size_t count, off_t at) {
 }
 
 ssize_t pwrite(int file, const void *bytes, size_t count, off_t at) {
-    memcpy(kept()->bytes[at / SECTOR], bytes, count);
-    kept()->state[at / SECTOR] = DIRTY;
+    long sector = at / SECTOR;
+    int is_same = kept()->state[sector] == CLEAN && !memcmp(kept()->bytes[sector], bytes, count);
+    if (is_same && getenv("SAME_BYTES_STAY_CLEAN")) return count;
+    memcpy(kept()->bytes[sector], bytes, count);
+    kept()->state[sector] = DIRTY;
     return count;
 }
 
@@ -121,13 +120,6 @@ int fdatasync(int file) { return synced(file); }
 int fsync(int file) {
     struct stat is;
     return !fstat(file, &is) && S_ISREG(is.st_mode) ? synced(file) : syscall(SYS_fsync, file);
-}
-
-int posix_fadvise(int file, off_t at, off_t length, int advice) {
-    if (advice != POSIX_FADV_DONTNEED || getenv("FORGETS_NOTHING")) return 0;
-    for (int sector = at / SECTOR; sector < SECTORS && (!length || sector < (at + length) / SECTOR); sector++)
-        if (kept()->state[sector] == CLEAN) kept()->state[sector] = ABSENT;
-    return 0;
 }
 """
 
@@ -204,7 +196,8 @@ class CachedCalls(Calls):
 
     def run(self, words, given, **added):
         """Runs the words. FAILING_SYNC is the number of a sync that fails, and leaves what it should have written as written;
-        LAST_SYNC that of one behind which the program ends; FORGETS_NOTHING has the system keep all."""
+        LAST_SYNC that of one behind which the program ends. With SAME_BYTES_STAY_CLEAN a write of the bytes that are there
+        already is none."""
         return self.run_with(words, given, {"CACHE": self.cache, **added})
 
     def cut_power(self):
