@@ -52,10 +52,9 @@ impl<W: World> FileDisk<W> {
         FileDisk::over(file, sectors)
     }
 
-    /// Opens a regular file, syncs it, and has the system forget what it holds of it, so that reads give what the drive
-    /// has. Its sectors are its length divided by 4096, rounded down, at most 4,294,967,295; the bytes after the last of
-    /// them are neither read nor written. What is no regular file is refused as `ErrorKind::InvalidInput`, and a file that
-    /// is open as a disk already as `ErrorKind::WouldBlock`.
+    /// Opens a regular file, and syncs it. Its sectors are its length divided by 4096, rounded down, at most 4,294,967,295;
+    /// the bytes after the last of them are neither read nor written. What is no regular file is refused as
+    /// `ErrorKind::InvalidInput`, and a file that is open as a disk already as `ErrorKind::WouldBlock`.
     pub fn open(rt: &HostRuntime, path: &str) -> io::Result<FileDisk<W>>
         ensures calls { IfOk result (λ disk. calls_of disk ≡ []) }
         ensures failures { IfOk result (λ disk. failures_of disk ≡ 0) }

@@ -6,7 +6,6 @@ ghost use Rattle.disk.specs.FileDisk.{recorded};
 use crate::transcript::{FileCall, Transcript};
 use std::fs::File;
 use std::io;
-use std::os::fd::AsRawFd;
 use std::os::unix::fs::FileExt;
 
 pub(crate) const SECTOR_BYTES: u64 = 4096;
@@ -15,22 +14,38 @@ pub(crate) const SECTOR_BYTES: u64 = 4096;
 pub(crate) struct RecordedFile {
     file: File,
     transcript: Transcript,
-    // A call failed since the system was last made to forget the file.
-    is_doubted: bool,
+    unsynced: Unsynced,
+}
+
+// Which sectors were written since the last sync that answered Ok.
+#[derive(Clone, Copy)]
+enum Unsynced {
+    None,
+    One(u32),
+    Many,
+}
+
+impl Unsynced {
+    fn and(self, s: u32) -> Unsynced {
+        match self {
+            Unsynced::None => Unsynced::One(s),
+            Unsynced::One(only) if only == s => self,
+            _ => Unsynced::Many,
+        }
+    }
 }
 
 impl RecordedFile {
-    // Syncs the file and has the system forget it, so that what reads give at first is settled. This comes before the
-    // record begins: that it does what it says is trusted.
+    // Syncs the file, so that what reads give at first is settled. This sync comes before the record begins: that it does
+    // what it says is trusted.
     pub(crate) fn settled(file: File) -> io::Result<RecordedFile>
         ensures { IfOk result (λ settled. recorded settled ≡ []) }
     {
         file.sync_all()?;
-        forget(&file)?;
         Ok(RecordedFile {
             file,
             transcript: Transcript::new(),
-            is_doubted: false,
+            unsynced: Unsynced::None,
         })
     }
 
@@ -39,9 +54,7 @@ impl RecordedFile {
     pub(crate) fn lengthen(&mut self, from: u32, to: u32) -> io::Result<()>
         ensures { recorded self.new ≡ recorded self.old }
     {
-        let answer = set_sectors(&self.file, from, to);
-        self.is_doubted |= answer.is_err();
-        answer
+        set_sectors(&self.file, from, to)
     }
 
     pub(crate) fn read_sector(&mut self, s: u32, into: &mut [u8; 4096]) -> io::Result<()>
@@ -51,7 +64,6 @@ impl RecordedFile {
         self.transcript = self
             .transcript
             .and(&FileCall::Read(s, answer.is_ok(), into));
-        self.is_doubted |= answer.is_err();
         answer
     }
 
@@ -62,35 +74,35 @@ impl RecordedFile {
         self.transcript = self
             .transcript
             .and(&FileCall::Written(s, answer.is_ok(), from));
-        self.is_doubted |= answer.is_err();
+        self.unsynced = self.unsynced.and(s);
         answer
     }
 
     pub(crate) fn sync(&mut self) -> io::Result<()>
         ensures { recorded self.new ≡ synced (is_ok result) ∷ recorded self.old }
     {
-        let answer = self.settle();
+        let answer = self.file.sync_data();
         self.transcript = self.transcript.and(&FileCall::Synced(answer.is_ok()));
-        self.is_doubted = answer.is_err();
+        match answer {
+            Ok(()) => self.unsynced = Unsynced::None,
+            Err(_) => self.write_again(),
+        }
         answer
     }
 
-    // Syncs the file. After a call that failed the system is made to forget the file, too.
-    fn settle(&self) -> io::Result<()> {
-        self.file.sync_data()?;
-        if self.is_doubted {
-            forget(&self.file)?;
+    // After a sync that failed, some systems call the bytes written that the drive never took, and the next sync answers Ok
+    // without a write. So a sector that was written alone since the last good sync, as a gate is, is written once more with
+    // the bytes that the system holds: the next sync, of whatever process, then has to put it on the drive. The sector is
+    // unsettled all the while, so this call adds nothing that a stop may leave, and the record needs no entry. Where it
+    // fails, too, nothing more can be done.
+    fn write_again(&self) {
+        let Unsynced::One(s) = self.unsynced else {
+            return;
+        };
+        let mut sector = [0; 4096];
+        if self.file.read_exact_at(&mut sector, offset_of(s)).is_ok() {
+            let _ = self.file.write_all_at(&sector, offset_of(s));
         }
-        Ok(())
-    }
-}
-
-// Has the system forget what it holds of a file, so that the next reads are answered by the drive. After a sync that failed
-// the system may hold bytes that the drive never took, and call them written.
-fn forget(file: &File) -> io::Result<()> {
-    match libc::posix_fadvise(file.as_raw_fd(), 0, 0, libc::POSIX_FADV_DONTNEED) {
-        0 => Ok(()),
-        number => Err(io::Error::from_raw_os_error(number)),
     }
 }
 
