@@ -14,6 +14,7 @@ mod seams_between;
 mod table;
 
 pub use adjacency::{adjacent, degree, outlet, share_tile};
+pub use lattice::Height;
 pub use listing::tiles;
 pub use samples::Samples;
 pub use sealing::{block_heights, sealed};

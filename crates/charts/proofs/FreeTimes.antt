@@ -90,6 +90,7 @@ module _ (old new : FreePages) (same : new.range ≡ old.range) (k : ℕ) where
           omega arith
     ];
   }
+
   near_given : contains old.free k ≡ false → new.free ≡ insert old.free k → (p : ℕ) → p < old.range.window → free_times new p ≡ one p k + free_times old p
   near_given was is p near =
       let more : contains new.free p ≡ (eqb p k || contains old.free p) = rw is (contains-with old.free k p) in

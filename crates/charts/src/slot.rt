@@ -270,7 +270,11 @@ fn heights_in(committed: &Option<TilePlanes>) -> &[u32]
 }
 
 /// Gives back the pages of staged heights that no committed tile has.
-fn give_staged_heights(free: &mut FreePages, heights: &HeightsStaged, committed: &Option<TilePlanes>)
+fn give_staged_heights(
+    free: &mut FreePages,
+    heights: &HeightsStaged,
+    committed: &Option<TilePlanes>,
+)
     requires { AreInUse (fresh_heights_as committed.now heights.now) free.old }
     ensures { AreGiven (fresh_heights_as committed.now heights.now) free.old free.new }
 {
@@ -375,7 +379,11 @@ fn settle_heights(
 
 /// The planes with the staged kept ones. Gives back the pages of the kept planes that it does without: without planes, those
 /// of the staged ones.
-fn settle_kept(planes: Option<TilePlanes>, kept: KeptStaged, free: &mut FreePages) -> Option<TilePlanes>
+fn settle_kept(
+    planes: Option<TilePlanes>,
+    kept: KeptStaged,
+    free: &mut FreePages,
+) -> Option<TilePlanes>
     requires { AreInUse (replaced_kept planes kept) free.old }
     ensures planes { result ≡ with_kept planes kept }
     ensures given { AreGiven (replaced_kept planes kept) free.old free.new }

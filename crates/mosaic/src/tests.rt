@@ -1,4 +1,5 @@
 //! The program's words, and what it does on files of stores.
+mod lengths;
 mod sessions;
 
 use disk::FileDisk;
