@@ -4,6 +4,10 @@ from __future__ import annotations
 
 import http.client
 import json
+import os
+import shutil
+import subprocess
+import tempfile
 import threading
 import unittest
 import zlib
@@ -188,6 +192,19 @@ class Served(unittest.TestCase):
         self.assertEqual(self.post("try", road)["after"]["level"], 190)
         self.assertEqual(self.post("keep", {})["count"], 3)
         self.assertEqual(self.session.fill(20, 39), 190)
+
+    @unittest.skipUnless(shutil.which("chromium"), "chromium isn't installed: apt-get install chromium")
+    def test_a_browser_draws_the_map_and_a_trial(self) -> None:
+        link = f"{self.server.url}#at=20,40,0.1&ask=25,10&watershed&wall=190;10,40;30,40"
+        with tempfile.TemporaryDirectory() as folder:
+            words = ["chromium", "--headless", "--no-sandbox", "--disable-gpu", "--virtual-time-budget=10000", "--dump-dom", link]
+            environment = os.environ | {"HOME": folder}
+            done = subprocess.run(words, stdout=subprocess.PIPE, stderr=subprocess.DEVNULL, env=environment, timeout=120)
+        page = done.stdout.decode()
+        for shown in ("valley: 2 tiles of 41", "<dd>215 m</dd>", "<dt>Watershed</dt>", "<th>Level at the line, m</th><td>160</td><td>190</td>"):
+            with self.subTest(shown=shown):
+                self.assertIn(shown, page)
+        self.assertEqual(self.session.count(), 2)
 
     def test_a_trial_that_is_refused_leaves_nothing(self) -> None:
         line = [[2, x] for x in (70, 2)]
