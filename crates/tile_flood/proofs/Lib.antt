@@ -1,6 +1,9 @@
 pub mod Buckets
 pub mod Squares
 pub mod Spreading
+pub mod InCells
+pub mod Runs
+pub mod PlainRows
 pub mod Dependence
 pub mod Seeds
 pub mod Relaxation

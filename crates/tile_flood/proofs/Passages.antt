@@ -1,6 +1,6 @@
 -- Where water passes between labels: each two adjacent points are met once, and the lowest place between two labels is
 -- the first in order.
-use Rattle.std.proofs.Common.{◌≡◌, ◌≢◌, ℕ, ◌+◌, ◌*◌, ◌-◌, ◌/◌, ◌%◌, ◌<◌, ◌≤◌, ◌⊎◌, inl, inr, ℤ, ◌≤ℤ◌, Bool, true, false, not, IsTrue, ◌&&◌, List, [], ◌∷◌, ◌++◌, length, get_or, slice_index, refl, sym, ap, ap₂, ◌∙◌, subst, arith, true≢false, cond, int_lt, nat_eq, All, Contains}
+use Rattle.std.proofs.Common.{◌≡◌, ◌≢◌, ℕ, ◌+◌, ◌*◌, ◌-◌, ◌/◌, ◌%◌, ◌<◌, ◌≤◌, ◌⊎◌, inl, inr, ℤ, ◌≤ℤ◌, Bool, true, false, not, IsTrue, ◌&&◌, List, [], ◌∷◌, ◌++◌, length, get_or, set, get_or-set_same, get_or-set_other, length-set, slice_index, refl, sym, ap, ap₂, ◌∙◌, subst, add-zero, arith, true≢false, cond, int_lt, nat_eq, All, Contains}
 use Rattle.std.specs.Int.{int_max}
 use Rattle.std.specs.Ordering.{int_eq, is_lt, nat_cmp, int_cmp, ordering_then}
 use Rattle.std.specs.declared.cmp.Ordering.TheVariants.{Less, Equal, Greater}
@@ -24,7 +24,7 @@ use Rattle.tile_flood.specs.declared.passing.Spill.{Spill}
 use Rattle.tile_flood.specs.Flooding.{is_marked}
 use Rattle.tile_flood.specs.Labelling.{IsLabelling}
 use Rattle.tile_flood.specs.Spills.{Meets, AreSpills, HaveSameLabels}
-use Rattle.tile_flood.specs.Passing.{IsPassage, IsNoPassage, AreFoundStill, AreBeside, ArePassages, IsFound, AreFoundBelow, IsInOrder, AreFirsts, AreFirstsBelow, HasLowerLabels}
+use Rattle.tile_flood.specs.Passing.{IsPassage, IsNoPassage, IsMetBy, IsListed, AreFoundStill, AreBeside, IsSquare, IsOneLabel, IsSquareFound, ArePassages, IsFound, AreFoundBelow, IsInOrder, AreFirsts, AreFirstsBelow, HasLowerLabels}
 use Rattle.tile_flood.specs.Blocks.{block_of, bare_block}
 use Rattle.tile_flood.proofs.Squares.{linked_parts, linked_from, linked_apart, beside_if, solid_below, solid_if, row_of_cell, column_of_cell, cell_of, row_below, test_if, solid_height}
 
@@ -82,32 +82,84 @@ beside_east n i inside =
       apart = omega arith;
     }
 
-pub beside_south : (n i : ℕ) → i + 1 < n → AreBeside n (i * n) (i * n + n) n
-beside_south n i inside =
-    let room = last_row n (i + 1) inside in record {
+-- so many points of two neighbouring rows, or of one, from these columns on
+one_beside : (n i j i' j' e f : ℕ) → e ≡ i * n + j → f ≡ i' * n + j' → i < n → i' < n → j < n → j' < n → e < f → i ≤ i' + 1 → i' ≤ i + 1 → j ≤ j' + 1 → j' ≤ j + 1 → AreBeside n e f 1
+one_beside n i j i' j' e f at_e at_f row row' small small' apart north south west east =
+    let room = last_row n i row in
+    let room' = last_row n i' row' in
+    record {
       first = omega arith;
       second = omega arith;
-      beside = λ k less. beside_cells n i k (i + 1) k (i * n + k) (i * n + n + k) refl (omega arith) (omega arith) (omega arith) (omega arith) (omega arith) (omega arith) (omega arith);
-      apart = omega arith;
+      beside = λ k less. let none : 0 ≡ k = omega arith in subst (λ d. IsTrue (is_beside n (e + d) (f + d))) none (beside_cells n i j i' j' (e + 0) (f + 0) (omega arith) (omega arith) small small' north south west east);
+      apart = apart;
     }
 
-pub beside_south_east : (n i : ℕ) → i + 1 < n → AreBeside n (i * n) (i * n + n + 1) (n - 1)
-beside_south_east n i inside =
-    let room = last_row n (i + 1) inside in record {
-      first = omega arith;
-      second = omega arith;
-      beside = λ k less. beside_cells n i k (i + 1) (k + 1) (i * n + k) (i * n + n + 1 + k) refl (omega arith) (omega arith) (omega arith) (omega arith) (omega arith) (omega arith) (omega arith);
-      apart = omega arith;
-    }
+pub square_below : (n e : ℕ) → IsSquare n e → e + n + 1 < n * n
+square_below n e s =
+    let row = s.row in let column = s.column in let above = s.above in let left = s.left in let at = s.at in
+    let room = last_row n (row + 1) above in omega arith
 
-pub beside_south_west : (n i : ℕ) → i + 1 < n → AreBeside n (i * n + 1) (i * n + n) (n - 1)
-beside_south_west n i inside =
-    let room = last_row n (i + 1) inside in record {
-      first = omega arith;
-      second = omega arith;
-      beside = λ k less. beside_cells n i (k + 1) (i + 1) k (i * n + 1 + k) (i * n + n + k) (omega arith) (omega arith) (omega arith) (omega arith) (omega arith) (omega arith) (omega arith) (omega arith);
-      apart = omega arith;
-    }
+-- the pairs of points of a square
+module _ (n i j e : ℕ) (above : i + 1 < n) (left : j + 1 < n) (at : e ≡ i * n + j) where
+  pub square_east : AreBeside n e (e + 1) 1
+  square_east = one_beside n i j i (j + 1) e (e + 1) at (omega arith) (omega arith) (omega arith) (omega arith) left (omega arith) (omega arith) (omega arith) (omega arith) (omega arith)
+
+  pub square_south : AreBeside n e (e + n) 1
+  square_south = one_beside n i j (i + 1) j e (e + n) at (omega arith) (omega arith) above (omega arith) (omega arith) (omega arith) (omega arith) (omega arith) (omega arith) (omega arith)
+
+  pub square_south_east : AreBeside n e (e + n + 1) 1
+  square_south_east = one_beside n i j (i + 1) (j + 1) e (e + n + 1) at (omega arith) (omega arith) above (omega arith) left (omega arith) (omega arith) (omega arith) (omega arith) (omega arith)
+
+  pub square_south_west : AreBeside n (e + 1) (e + n) 1
+  square_south_west = one_beside n i (j + 1) (i + 1) j (e + 1) (e + n) (omega arith) (omega arith) (omega arith) above left (omega arith) (omega arith) (omega arith) (omega arith) (omega arith) (omega arith)
+
+pub beside_last_column : (n i : ℕ) → i + 1 < n → AreBeside n (i * n + n - 1) (i * n + n - 1 + n) 1
+beside_last_column n i inside = one_beside n i (n - 1) (i + 1) (n - 1) (i * n + n - 1) (i * n + n - 1 + n) (omega arith) (omega arith) (omega arith) inside (omega arith) (omega arith) (omega arith) (omega arith) (omega arith) (omega arith) (omega arith)
+
+-- what was met is met still
+pub met_still : (old new : List Spill) (p : Spill) → AreFoundStill old new → IsMetBy old p → IsMetBy new p
+met_still old new p still (q, (has, (same, low))) =
+    let on = still q has in
+    (on.0, (on.1.0, (record { same_a = on.1.1.0.same_a ∙ same.same_a; same_b = on.1.1.0.same_b ∙ same.same_b }, ≤ℤ_trans on.0.level q.level p.level on.1.1.1 low)))
+
+-- nothing is lost
+pub nothing_lost : (found : List Spill) → AreFoundStill found found
+nothing_lost found p has = (p, (has, (record { same_a = refl; same_b = refl }, ≤ℤ_same p.level)))
+
+-- one more at the end
+pub listed_last : (found found' : List Spill) (p : Spill) → found' ≡ found ++ p ∷ [] → IsListed found found' p
+listed_last found found' p is = subst (λ l. IsListed found l p) (sym is) (record {
+  only = λ q has. Contains-push_cases found p q has;
+  still = λ q has. (q, (Contains-append_left found (p ∷ []) q has, (record { same_a = refl; same_b = refl }, ≤ℤ_same q.level)));
+  listed = (p, (Contains-push found p, (record { same_a = refl; same_b = refl }, ≤ℤ_same p.level)));
+})
+
+-- in the place of a higher one between the same labels
+module _ (found : List Spill) (k : ℕ) (p : Spill) (small : k < length found) (same : (d : Spill) → HaveSameLabels (get_or found k d) p) where
+  pub listed_before : (get_or found k p).level ≤ℤ p.level → IsListed found found p
+  listed_before low = record {
+    only = λ q has. inl has;
+    still = nothing_lost found;
+    listed = (get_or found k p, (Contains-get_or found k p small, (same p, low)));
+  }
+
+  there : Contains (set found k p) p
+  there = (k, subst (λ n. k < n) (sym (length-set found k p)) small, get_or-set_same found k p p small)
+
+  pub listed_in_place : p.level ≤ℤ (get_or found k p).level → IsListed found (set found k p) p
+  listed_in_place low = record {
+    only = λ q has. elim (cases_eq has.0 k) [
+      | inl here ↦ inr (sym (get_or-set_same found k p q small) ∙ (ap (λ i. get_or (set found k p) i q) (sym here) ∙ has.2))
+      | inr other ↦ inl (has.0, subst (λ n. has.0 < n) (length-set found k p) has.1, sym (get_or-set_other found k has.0 p q other) ∙ has.2)
+    ];
+    still = λ q has. elim (cases_eq has.0 k) [
+      | inl here ↦
+          let is : get_or found k p ≡ q = get_or_default found k p q small ∙ (ap (λ i. get_or found i q) (sym here) ∙ has.2) in
+          (p, (there, subst (λ (r : Spill). HaveSameLabels p r × (p.level ≤ℤ r.level)) is (record { same_a = sym (same p).same_a; same_b = sym (same p).same_b }, low)))
+      | inr other ↦ (q, ((has.0, subst (λ n. has.0 < n) (sym (length-set found k p)) has.1, get_or-set_other found k has.0 p q other ∙ has.2), (record { same_a = refl; same_b = refl }, ≤ℤ_same q.level)))
+    ];
+    listed = (p, (there, (record { same_a = refl; same_b = refl }, ≤ℤ_same p.level)));
+  }
 
 module _ (n : ℕ) (levels : List ℤ) (labels : List ℕ) where
   -- a place between two points beside each other is one where their labels meet
@@ -135,21 +187,26 @@ module _ (n : ℕ) (levels : List ℤ) (labels : List ℕ) where
           not-true false h = refl
 
   pub found_still : (old new : List Spill) (e f : ℕ) → AreFoundStill old new → IsFound n levels labels old e f → IsFound n levels labels new e f
-  found_still old new e f still was link apart = let h = was link apart in (h.0, (still h.0 h.1.0, h.1.1))
+  found_still old new e f still was link apart = let h = was link apart in (h.0, (met_still old new h.0 still h.1.0, h.1.1))
 
-  -- a place is added
-  pub added : (found found' : List Spill) (p : Spill) → found' ≡ found ++ p ∷ [] → AreFoundStill found found'
-  added found found' p is q has = subst (λ l. Contains l q) (sym is) (Contains-append_left found (p ∷ []) q has)
+  pub square_still : (old new : List Spill) (e : ℕ) → AreFoundStill old new → IsSquareFound n levels labels old e → IsSquareFound n levels labels new e
+  square_still old new e still was = record {
+    east = found_still old new e (e + 1) still was.east;
+    south = found_still old new e (e + n) still was.south;
+    south_east = found_still old new e (e + n + 1) still was.south_east;
+    south_west = found_still old new (e + 1) (e + n) still was.south_west;
+  }
 
-  pub passages_more : (found found' : List Spill) (p : Spill) (e f : ℕ) → found' ≡ found ++ p ∷ [] → ArePassages n levels labels found →
+  -- a place is listed
+  pub passages_more : (found found' : List Spill) (p : Spill) (e f : ℕ) → IsListed found found' p → ArePassages n levels labels found →
       e < n * n → f < n * n → e ≢ f → IsTrue (is_beside n e f) → IsPassage levels labels e f p → ArePassages n levels labels found'
-  passages_more found found' p e f is all in_e in_f other beside h q has = elim (Contains-push_cases found p q (subst (λ l. Contains l q) is has)) [
+  passages_more found found' p e f is all in_e in_f other beside h q has = elim (is.only q has) [
     | inl old ↦ all q old
     | inr new ↦ subst (λ r. (r.a < r.b) × Meets n levels levels labels r.a r.b r.level) new (passage_meets e f p in_e in_f other beside h)
   ]
 
-  pub found_now : (found found' : List Spill) (p : Spill) (e f : ℕ) → found' ≡ found ++ p ∷ [] → IsPassage levels labels e f p → IsFound n levels labels found' e f
-  found_now found found' p e f is h link apart = (p, (subst (λ l. Contains l p) (sym is) (Contains-push found p), h))
+  pub found_now : (found found' : List Spill) (p : Spill) (e f : ℕ) → IsListed found found' p → IsPassage levels labels e f p → IsFound n levels labels found' e f
+  found_now found found' p e f is h link apart = (p, (is.listed, h))
 
   pub none_there : (found : List Spill) (e f : ℕ) → IsNoPassage levels labels e f → IsFound n levels labels found e f
   none_there found e f h link apart = elim h [
@@ -163,14 +220,25 @@ module _ (n : ℕ) (levels : List ℤ) (labels : List ℕ) where
       marked_of : (e : ℕ) → IsTrue (is_solid (bare_block n levels) e) → IsTrue (is_marked levels e)
       marked_of e solid = test_if (get_or levels e void) (solid_height n levels e solid)
 
-  -- the points of a row: with the next one, and with those of the row below
+  pub found_here : (found : List Spill) (e f : ℕ) → IsFound n levels labels found (e + 0) (f + 0) → IsFound n levels labels found e f
+  found_here found e f h = subst (λ v. IsFound n levels labels found v f) (add-zero e) (subst (λ v. IsFound n levels labels found (e + 0) v) (add-zero f) h)
+
+  -- a square with one label
+  pub square_within : (found : List Spill) (e : ℕ) → IsOneLabel n labels e → IsSquareFound n levels labels found e
+  square_within found e one = record {
+    east = none_there found e (e + 1) (inr (inr one.east));
+    south = none_there found e (e + n) (inr (inr one.south));
+    south_east = none_there found e (e + n + 1) (inr (inr one.south_east));
+    south_west = none_there found (e + 1) (e + n) (inr (inr (sym one.east ∙ one.south)));
+  }
+
+  -- the points of a row: in the squares below it, or with the next one
   pub row_found : (found : List Spill) (i : ℕ) → i < n →
-      ((k : ℕ) → k < n - 1 → IsFound n levels labels found (i * n + k) (i * n + 1 + k)) →
-      (i + 1 < n → (k : ℕ) → k < n → IsFound n levels labels found (i * n + k) (i * n + n + k)) →
-      (i + 1 < n → (k : ℕ) → k < n - 1 → IsFound n levels labels found (i * n + k) (i * n + n + 1 + k)) →
-      (i + 1 < n → (k : ℕ) → k < n - 1 → IsFound n levels labels found (i * n + 1 + k) (i * n + n + k)) →
+      (i + 1 < n → (k : ℕ) → k < n - 1 → IsSquareFound n levels labels found (i * n + k)) →
+      (i + 1 < n → IsFound n levels labels found (i * n + n - 1) (i * n + n - 1 + n)) →
+      (i + 1 ≡ n → (k : ℕ) → k < n - 1 → IsFound n levels labels found (i * n + k) (i * n + 1 + k)) →
       AreFoundBelow n levels labels found (i * n) → AreFoundBelow n levels labels found ((i + 1) * n)
-  row_found found i inside east south south_east south_west before e f low less link = elim (cases_lt e (i * n)) [
+  row_found found i inside squares last_column last_row before e f low less link = elim (cases_lt e (i * n)) [
     | inl earlier ↦ before e f earlier less link
     | inr here ↦
         let parts = linked_parts n levels e f link in
@@ -187,17 +255,22 @@ module _ (n : ℕ) (levels : List ℤ) (labels : List ℕ) where
         elim (cases_eq (f / n) i) [
           | inl same ↦
               let at' : f ≡ i * n + f % n = cell' ∙ ap (λ r. r * n + f % n) same in
-              let next : f ≡ i * n + 1 + e % n = omega arith in
-              moved (i * n + e % n) (i * n + 1 + e % n) at next (east (e % n) (omega arith)) link
+              elim (cases_lt (i + 1) n) [
+                | inl more ↦ moved (i * n + e % n) (i * n + e % n + 1) at (omega arith) (squares more (e % n) (omega arith)).east link
+                | inr last ↦ moved (i * n + e % n) (i * n + 1 + e % n) at (omega arith) (last_row (omega arith) (e % n) (omega arith)) link
+              ]
           | inr other ↦
               let below : f / n ≡ i + 1 = later f i (at_least f i (omega arith)) other (omega arith) in
               let at' : f ≡ (i + 1) * n + f % n = cell' ∙ ap (λ r. r * n + f % n) below in
               let more : i + 1 < n = omega arith in
               elim (cases_eq (f % n) (e % n)) [
-                | inl same ↦ moved (i * n + e % n) (i * n + n + e % n) at (omega arith) (south more (e % n) column) link
+                | inl same ↦ elim (cases_lt (e % n) (n - 1)) [
+                  | inl small ↦ moved (i * n + e % n) (i * n + e % n + n) at (omega arith) (squares more (e % n) small).south link
+                  | inr end ↦ moved (i * n + n - 1) (i * n + n - 1 + n) (omega arith) (omega arith) (last_column more) link
+                ]
                 | inr aside ↦ elim (cases_lt (e % n) (f % n)) [
-                  | inl right ↦ moved (i * n + e % n) (i * n + n + 1 + e % n) at (omega arith) (south_east more (e % n) (omega arith)) link
-                  | inr left ↦ moved (i * n + 1 + f % n) (i * n + n + f % n) (omega arith) (omega arith) (south_west more (f % n) (omega arith)) link
+                  | inl right ↦ moved (i * n + e % n) (i * n + e % n + n + 1) at (omega arith) (squares more (e % n) (omega arith)).south_east link
+                  | inr left ↦ moved (i * n + f % n + 1) (i * n + f % n + n) (omega arith) (omega arith) (squares more (f % n) (omega arith)).south_west link
                 ]
               ]
         ]
@@ -248,10 +321,13 @@ module _ (n : ℕ) (levels : List ℤ) (labels : List ℕ) where
       of_found : (p : Spill) → Contains firsts p → (p.a < p.b) × Meets n levels levels labels p.a p.b p.level
       of_found p has = passages p (Contains-permutation sorted found p (IsPermutation-sym found sorted moved) (is.from p has))
 
-      first_of : (r : Spill) → Contains found r → (q : Spill) × (Contains firsts q × (HaveSameLabels q r × (q.level ≤ℤ r.level)))
-      first_of r has =
+      first_of_it : AreFoundStill found firsts
+      first_of_it r has =
           let there = Contains-permutation found sorted r moved has in
           subst (λ (v : Spill). (q : Spill) × (Contains firsts q × (HaveSameLabels q v × (q.level ≤ℤ v.level)))) there.2 (is.each there.0 r there.1)
+
+      first_of : (r : Spill) → IsMetBy found r → IsMetBy firsts r
+      first_of r met = met_still found firsts r first_of_it met
 
       -- two adjacent points with these labels were met, so there is a place between them that is no higher
       lowest : (a b : ℕ) (level : ℤ) → a < b → Meets n levels levels labels a b level → (q : Spill) × (Contains firsts q × ((q.a ≡ a) × ((q.b ≡ b) × (q.level ≤ℤ level))))

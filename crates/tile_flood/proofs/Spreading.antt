@@ -14,11 +14,11 @@ use Rattle.lattice.proofs.Levels.{level_beside, level_of_outlet, all_marked, le-
 use Rattle.lattice.proofs.Lawful.{block_is_lawful}
 use Rattle.tile_flood.specs.Waiting.{Queue, Waits, HasBucket, IsJoined, IsTaken}
 use Rattle.tile_flood.specs.Labelling.{IsLabelAt, IsLabelling, Names, OUT, NO_LABEL}
-use Rattle.tile_flood.specs.Flooding.{is_marked, unmarked, lack, AreMarks, IsSeeding, IsFlooding, IsSpreading, AreMarkedStill, IsRowMarked, IsOwnLabel}
+use Rattle.tile_flood.specs.Flooding.{is_marked, unmarked, lack, AreMarks, IsSeeding, IsFlooding, IsSpreading, AreMarkedStill, IsRowMarked, IsOwnLabel, IsNear}
 use Rattle.tile_flood.specs.Blocks.{block_of, bare_block}
 use Rattle.tile_flood.specs.Carried.{IsCarried, IsCarriedBy, AreCarried}
 use Rattle.tile_flood.proofs.Buckets.{has_bucket}
-use Rattle.tile_flood.proofs.Squares.{not_void_if, test_if, linked_parts, linked_from, solid_height, solid_below, beside_if, row_of_cell, column_of_cell, cell_of, leads}
+use Rattle.tile_flood.proofs.Squares.{rim_is_exit, not_void_if, test_if, linked_parts, linked_from, solid_height, solid_below, beside_if, row_of_cell, column_of_cell, cell_of, leads}
 
 -- a point of a path is ground
 start_solid : (n : ℕ) (heights : List ℤ) (sinks : List ℕ) (e : ℕ) (rest : List ℕ) → IsPath (block_terrain (block_of n heights sinks)) e rest → IsTrue (is_solid (bare_block n heights) e)
@@ -455,3 +455,16 @@ rows_more n heights levels levels' c i still before here z below link = elim (ca
 pub taken_below : (n : ℕ) (heights : List ℤ) (sinks : List ℕ) (levels : List ℤ) (labels : List ℕ) (queue : Queue) (c : ℕ) (low : ℤ) (label : ℕ) → IsSpreading (block_of n heights sinks) levels labels queue c low label → c < length labels
 taken_below n heights sinks levels labels queue c low label s =
     subst (λ k. c < k) (sym s.marks.labels_whole) (solid_below n heights c (marked_solid n heights sinks levels labels queue c s.marks s.taken.0))
+
+-- a ground point without a level, near c, is linked to it: on the rim there is none
+pub near_linked : (n : ℕ) (heights : List ℤ) (sinks : List ℕ) (levels : List ℤ) (labels : List ℕ) (queue : Queue) (c : ℕ) (low : ℤ) (label e : ℕ) → IsSpreading (block_of n heights sinks) levels labels queue c low label → IsNear n c e →
+    IsTrue (is_solid (bare_block n heights) e) → is_marked levels e ≡ false → IsTrue (is_linked (bare_block n heights) c e)
+near_linked n heights sinks levels labels queue c low label e s near solid off = elim near [
+  | inl rim ↦ absurd (true≢false (sym (s.outlets e (rim_is_exit n heights sinks e solid rim)) ∙ off))
+  | inr beside ↦ linked_from n heights c e (record {
+    from = marked_solid n heights sinks levels labels queue c s.marks s.taken.0;
+    to = solid;
+    apart = ap not (ne_eqb c e (λ h. true≢false (sym s.taken.0 ∙ (ap (is_marked levels) h ∙ off))));
+    beside = beside;
+  })
+]

@@ -1,10 +1,10 @@
 -- A flood of a block on its way (after Barnes, Lehman and Mulla 2014): the points that have their levels and labels, and
 -- those of them that still wait to spread.
-use Rattle.std.specs.Prelude.{◌≡◌, ℕ, ◌*◌, ◌/◌, ◌<◌, ◌≤◌, ℤ, ◌≤ℤ◌, Bool, false, not, cond, IsTrue, List, length, slice_index, slice_index_or, ◌⊎◌, sum_by}
+use Rattle.std.specs.Prelude.{◌≡◌, ℕ, ◌+◌, ◌*◌, ◌/◌, ◌<◌, ◌≤◌, ℤ, ◌≤ℤ◌, Bool, false, not, cond, IsTrue, List, length, slice_index, slice_index_or, ◌⊎◌, sum_by}
 use Rattle.std.specs.Ordering.{int_eq}
 use Rattle.lattice.specs.Mosaic.{void}
 use Rattle.lattice.specs.Terrain.{IsFilledLevel}
-use Rattle.lattice.specs.Block.{Block, block_terrain, is_solid, is_linked, is_exit, is_inner_outlet}
+use Rattle.lattice.specs.Block.{Block, block_terrain, is_solid, is_linked, is_exit, is_inner_outlet, is_rim, is_beside}
 use Rattle.tile_flood.specs.Blocks.{bare_block}
 use Rattle.tile_flood.specs.Labelling.{IsLabelAt, Names, OUT, NO_LABEL}
 use Rattle.tile_flood.specs.Carried.{IsCarried}
@@ -27,6 +27,18 @@ AreMarkedStill old new = (e : ℕ) → IsTrue (is_marked old e) → IsTrue (is_m
 -- the points of row i that are adjacent to c are marked
 abbrev pub IsRowMarked : ℕ → List ℤ → List ℤ → ℕ → ℕ → Type 0
 IsRowMarked n heights levels c i = (z : ℕ) → z / n ≡ i → IsTrue (is_linked (bare_block n heights) c z) → IsTrue (is_marked levels z)
+
+-- on the rim, or at most one row and one column away
+abbrev pub IsNear : ℕ → ℕ → ℕ → Type 0
+IsNear n c e = IsTrue (is_rim n e) ⊎ IsTrue (is_beside n c e)
+
+-- all points of row i are ground
+abbrev pub IsFullRow : ℕ → List ℤ → ℕ → Type 0
+IsFullRow n heights i = (j : ℕ) → j < n → IsTrue (is_solid (bare_block n heights) (i * n + j))
+
+-- no point of row i but its ends is an outlet
+abbrev pub IsPlainRow : Block → ℕ → Type 0
+IsPlainRow b i = (j : ℕ) → 0 < j → j + 1 < b.side → is_exit b (i * b.side + j) ≡ false
 
 -- the label that an outlet starts with
 pub record IsOwnLabel (b : Block) (e label : ℕ) : Type 0 where

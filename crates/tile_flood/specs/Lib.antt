@@ -6,6 +6,7 @@ pub mod Raising
 pub mod Waiting
 pub mod Blocks
 pub mod Flooding
+pub mod Cells
 pub mod Mending
 pub mod Affected
 pub mod Clearing

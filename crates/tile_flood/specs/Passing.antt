@@ -22,9 +22,19 @@ pub record IsPassage (levels : List ℤ) (labels : List ℕ) (e f : ℕ) (p : Sp
 abbrev pub IsNoPassage : List ℤ → List ℕ → ℕ → ℕ → Type 0
 IsNoPassage levels labels e f = (is_marked levels e ≡ false) ⊎ ((is_marked levels f ≡ false) ⊎ (slice_index labels e ≡ slice_index labels f))
 
--- all that was found is found still
+-- one of them has the same labels, and is no higher
+abbrev pub IsMetBy : List Spill → Spill → Type 0
+IsMetBy found p = (q : Spill) × (Contains found q × (HaveSameLabels q p × (q.level ≤ℤ p.level)))
+
+-- all that was found is found still, or one that is no higher between the same labels
 abbrev pub AreFoundStill : List Spill → List Spill → Type 0
-AreFoundStill old new = (p : Spill) → Contains old p → Contains new p
+AreFoundStill old new = (p : Spill) → Contains old p → IsMetBy new p
+
+-- the passage is found from now on
+pub record IsListed (old new : List Spill) (p : Spill) : Type 0 where
+  pub only : (q : Spill) → Contains new q → Contains old q ⊎ (p ≡ q)
+  pub still : AreFoundStill old new
+  pub listed : IsMetBy new p
 
 -- from e and from f on, so many points after one another lie beside each other, e's before f's
 pub record AreBeside (n e f count : ℕ) : Type 0 where
@@ -33,6 +43,20 @@ pub record AreBeside (n e f count : ℕ) : Type 0 where
   pub beside : (k : ℕ) → k < count → IsTrue (is_beside n (e + k) (f + k))
   pub apart : e < f
 
+-- the square of two by two points with this north-west point lies in the block
+pub record IsSquare (n e : ℕ) : Type 0 where
+  pub row : ℕ
+  pub column : ℕ
+  pub above : row + 1 < n
+  pub left : column + 1 < n
+  pub at : e ≡ row * n + column
+
+-- the square with this north-west point has one label
+pub record IsOneLabel (n : ℕ) (labels : List ℕ) (e : ℕ) : Type 0 where
+  pub east : slice_index labels e ≡ slice_index labels (e + 1)
+  pub south : slice_index labels e ≡ slice_index labels (e + n)
+  pub south_east : slice_index labels e ≡ slice_index labels (e + n + 1)
+
 module _ (n : ℕ) (levels : List ℤ) (labels : List ℕ) where
   -- each place that was found is one between two adjacent points
   abbrev pub ArePassages : List Spill → Type 0
@@ -40,7 +64,14 @@ module _ (n : ℕ) (levels : List ℤ) (labels : List ℕ) where
 
   -- if water passes between the two points, then that was found
   abbrev pub IsFound : List Spill → ℕ → ℕ → Type 0
-  IsFound found e f = IsTrue (is_linked (bare_block n levels) e f) → slice_index labels e ≢ slice_index labels f → (p : Spill) × (Contains found p × IsPassage levels labels e f p)
+  IsFound found e f = IsTrue (is_linked (bare_block n levels) e f) → slice_index labels e ≢ slice_index labels f → (p : Spill) × (IsMetBy found p × IsPassage levels labels e f p)
+
+  -- the same inside the square with this north-west point
+  pub record IsSquareFound (found : List Spill) (e : ℕ) : Type 0 where
+    pub east : IsFound found e (e + 1)
+    pub south : IsFound found e (e + n)
+    pub south_east : IsFound found e (e + n + 1)
+    pub south_west : IsFound found (e + 1) (e + n)
 
   -- the same for all points before k, with those after them
   abbrev pub AreFoundBelow : List Spill → ℕ → Type 0

@@ -1,5 +1,5 @@
 //! Affected points lose their levels and labels, and so does all that may depend on one of them.
-ghost use Rattle.std.specs.Prelude.{◌≡◌, ◌<◌, ◌*◌, ◌+◌, ◌++◌, ◌∷◌, [], ℕ, OnOk, IsTrue, length, slice_set, slice_index, slice_index_or};
+ghost use Rattle.std.specs.Prelude.{◌≡◌, ◌<◌, ◌*◌, ◌+◌, ◌++◌, ◌∷◌, [], ℕ, IfOk, OnOk, IsTrue, length, slice_set, slice_index, slice_index_or};
 ghost use Rattle.lattice.specs.Limits.{IsSide};
 ghost use Rattle.lattice.specs.Mosaic.{void};
 ghost use Rattle.lattice.specs.Block.{is_beside};
@@ -29,28 +29,33 @@ impl Flood {
         }
     }
 
-    // Takes them from each point that may depend on an affected one, which affects it too.
+    // Takes them from each point that may depend on an affected one, which affects it too. Answers whether all of these were
+    // found: it is given up once more than `most` points are affected.
     pub(crate) fn clear_dependents(
         &mut self,
         n: usize,
         heights: &[i16],
         sinks: &[u32],
         affected: &mut Vec<Affected>,
-    ) -> Result<(), AllocError>
+        most: usize,
+    ) -> Result<bool, AllocError>
         requires side { IsSide n }
         requires small { n * n < 4294967296 }
         requires whole { length heights.now ≡ n * n }
         requires state { IsClearing (block_of n heights.now sinks.now) self.old.levels.items self.old.labels.items affected.old.items }
-        ensures dependents_cleared { OnOk result (AreDependentsCleared (block_of n heights.now sinks.now) self.new.levels.items self.new.labels.items affected.new.items) }
+        ensures dependents_cleared { IfOk result (λ all. IsTrue all → AreDependentsCleared (block_of n heights.now sinks.now) self.new.levels.items self.new.labels.items affected.new.items) }
         ensures queue { OnOk result (self.new.queue ≡ self.old.queue) }
     {
         let mut k = 0;
         while k < affected.len() {
+            if affected.len() > most {
+                return Ok(false);
+            }
             let from = affected[k];
             self.clear_dependents_of(n, heights, sinks, from, affected)?;
             k += 1;
         }
-        Ok(())
+        Ok(true)
     }
 
     // Takes them from the points beside the affected one that may depend on it.

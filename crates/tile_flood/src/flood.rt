@@ -9,12 +9,16 @@ ghost use Rattle.tile_flood.specs.Labelling.{IsLabelling, NO_LABEL as no_label};
 ghost use Rattle.tile_flood.specs.Carried.{AreCarried};
 ghost use Rattle.tile_flood.specs.Blocks.{block_of, bare_block};
 ghost use Rattle.tile_flood.specs.Waiting.{Waits, HasBucket, waiting, IsJoined};
+ghost use Rattle.tile_flood.specs.Cells.{levels_of, labels_of, AreCells};
 ghost use Rattle.tile_flood.specs.Flooding.{is_marked, unmarked, AreMarkedStill, IsRowMarked, IsSeeding, IsFlooding, IsSpreading};
 
 use crate::block::Block;
-use crate::labelled::{Labelled, NO_LABEL};
-use crate::outlets::{is_ground, own_label};
+use crate::cells::{Cell, labels_in, levels_in, unlabelled};
+use crate::labelled::Labelled;
+use crate::outlets::is_ground;
 use crate::queue::Queue;
+use crate::seeding::seed;
+use crate::settling::settle;
 use crate::values::{at, has_level, higher, range_of};
 use lattice::Refusal;
 use std::alloc::{AllocError, Global};
@@ -48,66 +52,11 @@ impl Flood {
         let side = block.side();
         let n = side.samples() as usize;
         let heights = block.heights();
-        let sinks = block.sinks();
-        let mut flood = Flood::new(alloc, heights)?;
-        flood.seed(n, heights, sinks)?;
-        flood.settle(n, heights, sinks)?;
-        Ok(Labelled::of_flood(side, flood.levels, flood.labels))
-    }
-
-    // No point has a level, and none waits.
-    fn new(alloc: Global, heights: &[i16]) -> Result<Flood, AllocError>
-        ensures levels { IfOk result (λ flood. length flood.levels.items ≡ length heights.now) }
-        ensures labels { IfOk result (λ flood. length flood.labels.items ≡ length heights.now) }
-        ensures no_level { IfOk result (λ flood. (e : ℕ) → slice_index_or flood.levels.items e void ≡ void) }
-        ensures no_label { IfOk result (λ flood. (e : ℕ) → e < length heights.now → slice_index flood.labels.items e ≡ no_label) }
-        ensures buckets { IfOk result (λ flood. (e : ℕ) → e < length heights.now → slice_index_or heights.now e void ≢ void → HasBucket flood.queue (slice_index_or heights.now e void)) }
-        ensures nobody { IfOk result (λ flood. (l : ℤ) (e : ℕ) → Waits flood.queue l e → ⊥) }
-    {
-        let area = heights.len();
-        Ok(Flood {
-            levels: vec![in alloc; i16::MIN; area]?,
-            labels: vec![in alloc; NO_LABEL; area]?,
-            queue: Queue::new(alloc, range_of(heights))?,
-        })
-    }
-
-    // Marks the outlets, each at its own height and with its own label.
-    fn seed(&mut self, n: usize, heights: &[i16], sinks: &[u32]) -> Result<(), AllocError>
-        requires side { IsSide n }
-        requires small { n * n < 4294967296 }
-        requires whole { length heights.now ≡ n * n }
-        requires state { IsSeeding (block_of n heights.now sinks.now) self.old.levels.items self.old.labels.items self.old.queue 0 }
-        ensures { OnOk result (IsFlooding (block_of n heights.now sinks.now) self.new.levels.items self.new.labels.items self.new.queue) }
-    {
-        for i in 0..n {
-            self.seed_row(n, heights, sinks, i)?;
-        }
-        Ok(())
-    }
-
-    // Marks the outlets of a row.
-    fn seed_row(
-        &mut self,
-        n: usize,
-        heights: &[i16],
-        sinks: &[u32],
-        i: usize,
-    ) -> Result<(), AllocError>
-        requires side { IsSide n }
-        requires small { n * n < 4294967296 }
-        requires whole { length heights.now ≡ n * n }
-        requires i { i < n }
-        requires state { IsSeeding (block_of n heights.now sinks.now) self.old.levels.items self.old.labels.items self.old.queue (i * n) }
-        ensures { OnOk result (IsSeeding (block_of n heights.now sinks.now) self.new.levels.items self.new.labels.items self.new.queue ((i + 1) * n)) }
-    {
-        for j in 0..n {
-            if let Some(label) = own_label(n, heights, sinks, i, j) {
-                let e = i * n + j;
-                self.mark(e, at(heights, e), label)?;
-            }
-        }
-        Ok(())
+        let mut cells = unlabelled(alloc, heights)?;
+        flood_cells(alloc, n, heights, block.sinks(), &mut cells)?;
+        let levels = levels_in(alloc, &cells)?;
+        let labels = labels_in(alloc, &cells)?;
+        Ok(Labelled::of_flood(side, levels, labels))
     }
 
     // Lets each point that waits spread, until none does.
@@ -242,4 +191,26 @@ impl Flood {
         self.labels[e] = label;
         Ok(())
     }
+}
+
+// Floods a block where no point has a label yet. What waits is given back at the end.
+fn flood_cells(
+    alloc: Global,
+    n: usize,
+    heights: &[i16],
+    sinks: &[u32],
+    cells: &mut [Cell],
+) -> Result<(), AllocError>
+    requires side { IsSide n }
+    requires small { n * n < 4294967296 }
+    requires whole { length heights.now ≡ n * n }
+    requires cells { AreCells heights.now cells.old }
+    requires unlabelled { (e : ℕ) → e < n * n → slice_index (labels_of cells.old) e ≡ no_label }
+    ensures labelling { OnOk result (IsLabelling (block_of n heights.now sinks.now) (levels_of cells.new) (labels_of cells.new)) }
+    ensures carried { OnOk result (AreCarried (block_of n heights.now sinks.now) (levels_of cells.new) (labels_of cells.new)) }
+{
+    let mut queue = Queue::new(alloc, range_of(heights))?;
+    seed(n, heights, sinks, cells, &mut queue)?;
+    settle(n, heights, sinks, cells, &mut queue)?;
+    Ok(())
 }

@@ -9,6 +9,7 @@
 
 mod affected;
 mod block;
+mod cells;
 mod clearing;
 mod flood;
 mod labelled;
@@ -19,6 +20,8 @@ mod passing;
 mod queue;
 mod raising;
 mod reseeding;
+mod seeding;
+mod settling;
 mod values;
 
 pub use block::Block;

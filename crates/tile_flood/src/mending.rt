@@ -17,7 +17,7 @@ use std::alloc::{AllocError, Global};
 /// The labelling of the block, from one of the block as it was before the heights of these points changed, by index: what
 /// `Flood::run` or `mend` answered for it. Which points are ground, and the sinks, must be the same as before; points of the
 /// list that aren't ground are passed over. It takes the time that the changed levels and labels and those beside them
-/// need, not that of the block. NoMemory is the only refusal.
+/// need, and where these are a large part of the block, that of a flood. NoMemory is the only refusal.
 pub fn mend(
     alloc: Global,
     block: &Block,
@@ -40,7 +40,11 @@ pub fn mend(
     flood.lower_changed(n, heights, sinks, points, &mut affected)?;
     flood.lower_levels(n, heights, sinks, &mut affected)?;
     flood.clear_listed(&affected);
-    flood.clear_dependents(n, heights, sinks, &mut affected)?;
+    // Of a wide flat most points may hang on a changed one: then to flood anew takes less.
+    let most = heights.len() / 8;
+    if !flood.clear_dependents(n, heights, sinks, &mut affected, most)? {
+        return Flood::run(alloc, block);
+    }
     flood.reseed(n, heights, sinks, &affected)?;
     flood.settle(n, heights, sinks)?;
     Ok(Labelled::of_flood(side, flood.levels, flood.labels))

@@ -1,10 +1,11 @@
 //! Where water passes between what drains to one label and what drains to another.
-ghost use Rattle.std.specs.Prelude.{◌≡◌, ℕ, ◌+◌, ◌*◌, ◌<◌, ◌↔◌, All, IfOk, IfErr, OnOk, IfSome, IfNone, IsTrue, length};
+ghost use Rattle.std.specs.Prelude.{◌≡◌, ℕ, ◌+◌, ◌-◌, ◌*◌, ◌<◌, ◌↔◌, All, IfOk, IfErr, OnOk, IfSome, IfNone, IsTrue, int_lt, length, slice_index_or};
 ghost use Rattle.lattice.specs.Block.{Block};
 ghost use Rattle.lattice.specs.Limits.{IsSide};
 ghost use Rattle.lattice.specs.Mosaic.{IsSample};
 ghost use Rattle.lattice.specs.declared.refusal.Refusal.TheVariants.{NoMemory};
 ghost use Rattle.tile_flood.specs.Labelling.{IsLabelling};
+ghost use Rattle.tile_flood.specs.declared.passing.Spill.{Spill as SpillOf};
 
 use crate::labelled::Labelled;
 use crate::values::{has_level, higher_of};
@@ -20,6 +21,9 @@ pub struct Spill {
     pub level: i16,
 }
 
+// How many places are remembered at which pairs of labels were listed.
+const PLACES: usize = 4096;
+
 /// For each two labels of the block that meet, the level at which water passes between them, each two once. `OUT` is a
 /// label too. NoMemory is the only refusal: of labels that aren't a valid labelling these are the spills between the
 /// points that have a level.
@@ -30,16 +34,18 @@ pub fn spills(alloc: Global, labelled: &Labelled) -> Result<Vec<Spill>, Refusal>
     ensures refusal { IfErr result (λ refusal. refusal ≡ NoMemory) }
 {
     let n = labelled.side().samples() as usize;
+    let mut table = vec![in alloc; 0; PLACES]?;
+    let places: &mut [usize] = &mut table;
     let mut found = Vec::new(alloc);
     for i in 0..n {
-        gather_row(n, labelled, i, &mut found)?;
+        gather_row(n, labelled, i, &mut found, places)?;
     }
     found.sort()?;
     Ok(first_of_each(alloc, &found)?)
 }
 
 ghost use Rattle.tile_flood.specs.Spills.{AreSpills, HaveSameLabels};
-ghost use Rattle.tile_flood.specs.Passing.{IsPassage, IsNoPassage, AreFoundStill, AreBeside, ArePassages, IsFound, AreFoundBelow, IsInOrder, AreFirsts};
+ghost use Rattle.tile_flood.specs.Passing.{IsPassage, IsNoPassage, AreFoundStill, AreBeside, IsSquare, IsOneLabel, IsSquareFound, ArePassages, IsFound, AreFoundBelow, IsListed, IsInOrder, AreFirsts};
 
 // Gathers the places where water passes from the points of a row to later points.
 fn gather_row(
@@ -47,9 +53,11 @@ fn gather_row(
     labelled: &Labelled,
     i: usize,
     found: &mut Vec<Spill>,
+    places: &mut [usize],
 ) -> Result<(), AllocError>
     requires side { (n ≡ labelled.now.side) × IsSide n }
     requires small { n * n < 4294967296 }
+    requires places { length places.old ≡ PLACES }
     requires row { i < n }
     requires passages { ArePassages n labelled.now.levels labelled.now.labels found.old.items }
     requires before { AreFoundBelow n labelled.now.levels labelled.now.labels found.old.items (i * n) }
@@ -57,14 +65,83 @@ fn gather_row(
     ensures upto { OnOk result (AreFoundBelow n labelled.now.levels labelled.now.labels found.new.items ((i + 1) * n)) }
 {
     let west = i * n;
-    gather(n, labelled, west, west + 1, n - 1, found)?;
     if i + 1 == n {
+        gather(n, labelled, west, west + 1, n - 1, found, places)?;
         return Ok(());
     }
-    gather(n, labelled, west, west + n, n, found)?;
-    gather(n, labelled, west, west + n + 1, n - 1, found)?;
-    gather(n, labelled, west + 1, west + n, n - 1, found)?;
+    gather_squares(n, labelled, i, found, places)?;
+    gather(
+        n,
+        labelled,
+        west + n - 1,
+        west + n - 1 + n,
+        1,
+        found,
+        places,
+    )?;
     Ok(())
+}
+
+// Gathers the places where water passes in the squares of two by two points between a row and the next one.
+fn gather_squares(
+    n: usize,
+    labelled: &Labelled,
+    i: usize,
+    found: &mut Vec<Spill>,
+    places: &mut [usize],
+) -> Result<(), AllocError>
+    requires side { (n ≡ labelled.now.side) × IsSide n }
+    requires small { n * n < 4294967296 }
+    requires places { length places.old ≡ PLACES }
+    requires row { i + 1 < n }
+    requires passages { ArePassages n labelled.now.levels labelled.now.labels found.old.items }
+    ensures passages { OnOk result (ArePassages n labelled.now.levels labelled.now.labels found.new.items) }
+    ensures still { OnOk result (AreFoundStill found.old.items found.new.items) }
+    ensures found { OnOk result ((k : ℕ) → k < n - 1 → IsSquareFound n labelled.now.levels labelled.now.labels found.new.items (i * n + k)) }
+{
+    let west = i * n;
+    let labels = labelled.labels();
+    for k in 0..n - 1 {
+        // Most squares lie inside one basin.
+        if !is_one_label(n, labels, west + k) {
+            gather_square(n, labelled, west + k, found, places)?;
+        }
+    }
+    Ok(())
+}
+
+// Gathers the places where water passes in the square with this north-west point, but for the edges that the next squares
+// to the east and to the south have too.
+fn gather_square(
+    n: usize,
+    labelled: &Labelled,
+    e: usize,
+    found: &mut Vec<Spill>,
+    places: &mut [usize],
+) -> Result<(), AllocError>
+    requires side { n ≡ labelled.now.side }
+    requires small { n * n < 4294967296 }
+    requires places { length places.old ≡ PLACES }
+    requires square { IsSquare n e }
+    requires passages { ArePassages n labelled.now.levels labelled.now.labels found.old.items }
+    ensures passages { OnOk result (ArePassages n labelled.now.levels labelled.now.labels found.new.items) }
+    ensures still { OnOk result (AreFoundStill found.old.items found.new.items) }
+    ensures found { OnOk result (IsSquareFound n labelled.now.levels labelled.now.labels found.new.items e) }
+{
+    gather(n, labelled, e, e + 1, 1, found, places)?;
+    gather(n, labelled, e, e + n, 1, found, places)?;
+    gather(n, labelled, e, e + n + 1, 1, found, places)?;
+    gather(n, labelled, e + 1, e + n, 1, found, places)?;
+    Ok(())
+}
+
+// Whether the square with this north-west point has one label.
+fn is_one_label(n: usize, labels: &[u16], e: usize) -> bool
+    requires { e + n + 1 < length labels.now }
+    ensures { IsTrue result → IsOneLabel n labels.now e }
+{
+    let label = labels[e];
+    labels[e + 1] == label && labels[e + n] == label && labels[e + n + 1] == label
 }
 
 // Gathers the places where water passes between the points from e on and those from f on.
@@ -75,9 +152,11 @@ fn gather(
     f: usize,
     count: usize,
     found: &mut Vec<Spill>,
+    places: &mut [usize],
 ) -> Result<(), AllocError>
-    requires side { (n ≡ labelled.now.side) × IsSide n }
+    requires side { n ≡ labelled.now.side }
     requires small { n * n < 4294967296 }
+    requires places { length places.old ≡ PLACES }
     requires beside { AreBeside n e f count }
     requires passages { ArePassages n labelled.now.levels labelled.now.labels found.old.items }
     ensures passages { OnOk result (ArePassages n labelled.now.levels labelled.now.labels found.new.items) }
@@ -88,10 +167,44 @@ fn gather(
     let labels = labelled.labels();
     for k in 0..count {
         if let Some(passage) = passage(levels, labels, e + k, f + k) {
-            found.push(passage)?;
+            list(found, places, passage)?;
         }
     }
     Ok(())
+}
+
+// Lists the passage. Where one between the same labels was listed lately, that one is lowered to it, so that few are listed
+// twice.
+fn list(found: &mut Vec<Spill>, places: &mut [usize], passage: Spill) -> Result<(), AllocError>
+    requires { length places.old ≡ PLACES }
+    ensures { OnOk result (IsListed found.old.items found.new.items passage) }
+{
+    let remembered = (61 * passage.a as usize + passage.b as usize) % PLACES;
+    let place = places[remembered];
+    if place < found.len() && have_same_labels(found[place], passage) {
+        lower(found, place, passage);
+        return Ok(());
+    }
+    places[remembered] = found.len();
+    found.push(passage)?;
+    Ok(())
+}
+
+// Puts the passage in the place of one between the same labels, unless it is higher.
+fn lower(found: &mut [Spill], place: usize, passage: Spill)
+    requires inside { place < length found.old }
+    requires same { (d : SpillOf) → HaveSameLabels (slice_index_or found.old place d) passage }
+    ensures { IsListed found.old found.new passage }
+{
+    if is_lower(passage, found[place]) {
+        found[place] = passage;
+    }
+}
+
+fn is_lower(one: Spill, other: Spill) -> bool
+    ensures { result ≡ int_lt one.level other.level }
+{
+    one.level < other.level
 }
 
 // Between which labels water passes at these two points, where it does, and at which level.

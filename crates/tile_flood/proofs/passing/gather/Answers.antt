@@ -1,9 +1,9 @@
 use Rattle.std.proofs.Common.{arith, subst, ◌<◌, ◌≢◌, ◌*◌, ◌+◌}
 use borrow.Author.Count.{below_more}
 use Rattle.tile_flood.specs.Passing.{IsFound, IsPassage, IsNoPassage}
-use Rattle.tile_flood.proofs.Passages.{added, passages_more, found_now, found_still, none_there}
+use Rattle.tile_flood.proofs.Passages.{met_still, passages_more, found_now, found_still, none_there}
 use Rattle.tile_flood.proofs.passing.gather.Goals as goal
-use Rattle.tile_flood.proofs.passing.gather.Goals.{in-Some+in_ok-push, in_default}
+use Rattle.tile_flood.proofs.passing.gather.Goals.{in-Some+in_ok-list, in_default}
 
 pub loop-k-preserved : goal.loop-k-preserved
 loop-k-preserved c =
@@ -20,15 +20,17 @@ loop-k-preserved c =
     let at_levels = c.levels-levels.ensures.value in
     let at_labels = c.labels-labels.ensures.value in
     elim c.match-passage.branch [
-      | in-Some+in_ok-push w ↦ rw w.found-is (record {
-        passages = passages_more n levels labels c.loop-k.found.items w.push.new.self.items w.in-Some.passage (c.args.e + k) (c.args.f + k) w.in_ok-push.ensures.items c.loop-k.invariant.passages
-            in_e in_f other (c.requires.beside.beside k (omega arith)) (subst (λ ls. IsPassage ls labels (c.args.e + k) (c.args.f + k) w.in-Some.passage) at_levels (subst (λ bs. IsPassage c.levels-levels.result.now bs (c.args.e + k) (c.args.f + k) w.in-Some.passage) at_labels w.in-Some.ensures.some));
-        still = λ p has. added n levels labels c.loop-k.found.items w.push.new.self.items w.in-Some.passage w.in_ok-push.ensures.items p (c.loop-k.invariant.still p has);
-        found = below_more (λ j. IsFound n levels labels w.push.new.self.items (c.args.e + j) (c.args.f + j)) k
-            (λ j less. found_still n levels labels c.loop-k.found.items w.push.new.self.items (c.args.e + j) (c.args.f + j)
-            (added n levels labels c.loop-k.found.items w.push.new.self.items w.in-Some.passage w.in_ok-push.ensures.items) (c.loop-k.invariant.found j less))
-            (found_now n levels labels c.loop-k.found.items w.push.new.self.items w.in-Some.passage (c.args.e + k) (c.args.f + k) w.in_ok-push.ensures.items (subst (λ ls. IsPassage ls labels (c.args.e + k) (c.args.f + k) w.in-Some.passage) at_levels (subst (λ bs. IsPassage c.levels-levels.result.now bs (c.args.e + k) (c.args.f + k) w.in-Some.passage) at_labels w.in-Some.ensures.some)));
-      })
+      | in-Some+in_ok-list w ↦ rw w.found-is (
+          let passage = subst (λ ls. IsPassage ls labels (c.args.e + k) (c.args.f + k) w.in-Some.passage) at_levels (subst (λ bs. IsPassage c.levels-levels.result.now bs (c.args.e + k) (c.args.f + k) w.in-Some.passage) at_labels w.in-Some.ensures.some) in
+          let listed = w.in_ok-list.ensures in
+          record {
+            passages = passages_more n levels labels c.loop-k.found.items w.list.new.found.items w.in-Some.passage (c.args.e + k) (c.args.f + k) listed c.loop-k.invariant.passages
+                in_e in_f other (c.requires.beside.beside k (omega arith)) passage;
+            still = λ p has. met_still c.loop-k.found.items w.list.new.found.items p listed.still (c.loop-k.invariant.still p has);
+            found = below_more (λ j. IsFound n levels labels w.list.new.found.items (c.args.e + j) (c.args.f + j)) k
+                (λ j less. found_still n levels labels c.loop-k.found.items w.list.new.found.items (c.args.e + j) (c.args.f + j) listed.still (c.loop-k.invariant.found j less))
+                (found_now n levels labels c.loop-k.found.items w.list.new.found.items w.in-Some.passage (c.args.e + k) (c.args.f + k) listed passage);
+          })
       | in_default w ↦ rw w.found-is (record {
         passages = c.loop-k.invariant.passages;
         still = c.loop-k.invariant.still;

@@ -34,7 +34,7 @@ loop-k-preserved c =
     }
 
 pub returns-clause-dependents_cleared : goal.returns-clause-dependents_cleared
-returns-clause-dependents_cleared c =
+returns-clause-dependents_cleared c all =
     let test = c.loop-k-test.false in
     let within = c.loop-k.invariant.within in
     let at_end : c.loop-k.k ≡ length c.loop-k.affected.items = omega arith in

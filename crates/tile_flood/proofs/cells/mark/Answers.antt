@@ -1,0 +1,18 @@
+use Rattle.std.proofs.Common.{rules, ◌≡◌, ◌∙◌, set, ap, SFits, w16, to_z, of_z}
+use Rattle.std.proofs.lemmas.Int.{to_z-of_z}
+use Rattle.tile_flood.specs.declared.cells.Cell.{Cell}
+use Rattle.tile_flood.specs.Cells.{levels_of, labels_of}
+use Rattle.tile_flood.proofs.InCells.{set_levels, set_labels, set_cells}
+use Rattle.tile_flood.proofs.cells.mark.Goals as goal
+
+pub returns-clause-levels : goal.returns-clause-levels
+returns-clause-levels c =
+    let fits : SFits w16 c.args.level = search rules in
+    let cell : Cell = record { level = to_z w16 (of_z w16 c.args.level); label = c.args.label } in
+    set_levels c.args.cells.now c.args.e cell c.requires.labelled ∙ ap (set (levels_of c.args.cells.now) c.args.e) (to_z-of_z w16 c.args.level fits)
+
+pub returns-clause-labels : goal.returns-clause-labels
+returns-clause-labels c = set_labels c.args.cells.now c.args.e (record { level = to_z w16 (of_z w16 c.args.level); label = c.args.label }) c.requires.labelled
+
+pub returns-clause-cells : goal.returns-clause-cells
+returns-clause-cells c = set_cells c.args.cells.now c.args.e (record { level = to_z w16 (of_z w16 c.args.level); label = c.args.label }) c.requires.labelled c.requires.inside

@@ -1,0 +1,13 @@
+use Rattle.std.proofs.Common.{arith, ◌≡◌, ◌*◌, subst}
+use Rattle.tile_flood.specs.Flooding.{IsSeeding}
+use Rattle.tile_flood.specs.Blocks.{block_of}
+use Rattle.tile_flood.specs.Cells.{levels_of, labels_of}
+use Rattle.tile_flood.proofs.Spreading.{seeding_end}
+use Rattle.tile_flood.proofs.seeding.seed.Goals as goal
+
+pub returns-clause-state : goal.returns-clause-state
+returns-clause-state c =
+    let at_end : c.loop-i.i ≡ c.args.n = omega arith in
+    let cells = c.loop-i.cells in
+    seeding_end c.args.n c.args.heights.now c.args.sinks.now (levels_of cells) (labels_of cells) c.loop-i.queue
+    (subst (λ k. IsSeeding (block_of c.args.n c.args.heights.now c.args.sinks.now) (levels_of cells) (labels_of cells) c.loop-i.queue (k * c.args.n)) at_end c.loop-i.invariant.state)

@@ -1,0 +1,53 @@
+use Rattle.std.proofs.Common.{arith, rules, ◌≡◌, ℕ, ◌+◌, ◌*◌, ◌<◌, ℤ, List, sym, subst, ◌∙◌, SFits, w16, to_z, of_z}
+use Rattle.std.proofs.lemmas.Int.{to_z-of_z}
+use Rattle.std.proofs.lemmas.Nat.{rows}
+use Rattle.lattice.proofs.Lawful.{block_is_lawful}
+use Rattle.tile_flood.specs.Waiting.{Queue, HasBucket}
+use Rattle.tile_flood.specs.Flooding.{IsSeeding}
+use Rattle.tile_flood.specs.Cells.{levels_of, labels_of}
+use Rattle.tile_flood.proofs.InCells.{own_labelled}
+use Rattle.tile_flood.proofs.Spreading.{seeded, seed_passed}
+use Rattle.tile_flood.proofs.seeding.seed_at.Goals as goal
+use Rattle.tile_flood.specs.Blocks.{block_of}
+
+in_square : (n i j : ℕ) → i < n → j < n → i * n + j < n * n
+in_square n i j row column = grind (arith, rows)
+
+pub mark-requires-clause-bucket : goal.mark-requires-clause-bucket
+mark-requires-clause-bucket c =
+    let fits : SFits w16 c.at.result = search rules in
+    let s = c.requires.state in
+    subst (HasBucket c.args.queue.now) (sym (to_z-of_z w16 c.at.result fits ∙ c.at.ensures))
+    (s.marks.buckets (c.args.i * c.args.n + c.args.j) ((block_is_lawful (block_of c.args.n c.args.heights.now c.args.sinks.now)).outlet_ground (c.args.i * c.args.n + c.args.j) c.in-Some.ensures.outlet) (s.fresh (c.args.i * c.args.n + c.args.j) (omega arith)))
+
+pub mark-requires-clause-labelled : goal.mark-requires-clause-labelled
+mark-requires-clause-labelled c = own_labelled c.args.n c.args.heights.now c.args.sinks.now (c.args.i * c.args.n + c.args.j) c.in-Some.label c.requires.side (in_square c.args.n c.args.i c.args.j c.requires.cell.0 c.requires.cell.1) c.in-Some.ensures.label
+
+next_point : (n : ℕ) (heights : List ℤ) (sinks : List ℕ) (levels : List ℤ) (labels : List ℕ) (queue : Queue) (west j : ℕ) →
+    IsSeeding (block_of n heights sinks) levels labels queue ((west + j) + 1) → IsSeeding (block_of n heights sinks) levels labels queue (west + (j + 1))
+next_point n heights sinks levels labels queue west j s = let same : (west + j) + 1 ≡ west + (j + 1) = omega arith in subst (IsSeeding (block_of n heights sinks) levels labels queue) same s
+
+pub returns-clause-cells : goal.returns-clause-cells
+returns-clause-cells c = c.in_ok-mark.ensures.cells c.args.heights.now c.requires.cells
+
+pub returns-clause-state : goal.returns-clause-state
+returns-clause-state c =
+    let fits : SFits w16 c.at.result = search rules in
+    let a = c.in_ok-mark.ensures in
+    let west = c.args.i * c.args.n in
+    let j = c.args.j in
+    let levels = levels_of c.args.cells.now in
+    let labels = labels_of c.args.cells.now in
+    let levels' = levels_of c.mark.new.cells in
+    let labels' = labels_of c.mark.new.cells in
+    next_point c.args.n c.args.heights.now c.args.sinks.now levels' labels' c.mark.new.queue west j
+    (seeded c.args.n c.args.heights.now c.args.sinks.now levels levels' labels labels' c.args.queue.now c.mark.new.queue (west + j) (to_z w16 (of_z w16 c.at.result)) c.in-Some.label c.requires.state
+    c.in-Some.ensures.outlet c.in-Some.ensures.label (to_z-of_z w16 c.at.result fits ∙ c.at.ensures) a.levels a.labels a.joined)
+
+pub returns-in_default-clause-state : goal.returns-in_default-clause-state
+returns-in_default-clause-state c =
+    let west = c.args.i * c.args.n in
+    let levels = levels_of c.args.cells.now in
+    let labels = labels_of c.args.cells.now in
+    next_point c.args.n c.args.heights.now c.args.sinks.now levels labels c.args.queue.now west c.args.j
+    (seed_passed c.args.n c.args.heights.now c.args.sinks.now levels labels c.args.queue.now (west + c.args.j) c.requires.state c.in_default.ensures.none)

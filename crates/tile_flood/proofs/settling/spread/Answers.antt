@@ -1,0 +1,25 @@
+use Rattle.std.proofs.Common.{arith, ◌≡◌, ℕ, ◌+◌, ◌-◌, ◌/◌, ◌<◌, IsTrue, inl, inr}
+use Rattle.std.proofs.lemmas.Bool.{cases_eq}
+use Rattle.tile_flood.specs.Cells.{levels_of, labels_of}
+use Rattle.tile_flood.proofs.Squares.{linked_apart}
+use Rattle.tile_flood.proofs.Spreading.{spread_end}
+use Rattle.tile_flood.proofs.settling.spread.Goals as goal
+
+pub returns-clause-state : goal.returns-clause-state
+returns-clause-state c =
+    let n = c.args.n in
+    let heights = c.args.heights.now in
+    let point = c.args.front.point in
+    let cells' = c.visit_row-3.new.cells in
+    spread_end n heights c.args.sinks.now (levels_of cells') (labels_of cells') c.visit_row-3.new.queue point c.args.front.level c.args.front.label c.in_ok-visit_row-3.ensures.state
+    (λ z link.
+    let apart = linked_apart n heights point z link in
+    let north = apart.north in
+    let south = apart.south in
+    elim (cases_eq (z / n + 1) (point / n)) [
+      | inl above ↦ c.in_ok-visit_row-3.ensures.still z (c.in_ok-visit_row-2.ensures.still z (c.in_ok-visit_row.ensures.marked z link (omega arith)))
+      | inr rest ↦ elim (cases_eq (z / n) (point / n)) [
+        | inl same ↦ c.in_ok-visit_row-3.ensures.still z (c.in_ok-visit_row-2.ensures.marked z link (omega arith))
+        | inr below ↦ c.in_ok-visit_row-3.ensures.marked z link (omega arith)
+      ]
+    ])

@@ -1,0 +1,60 @@
+use Rattle.std.proofs.Common.{arith, rules, ◌≡◌, ◌≢◌, ◌<◌, ℤ, ℕ, false, not, nat_eq, ◌&&◌, IsTrue, List, length, get_or, slice_index_or, ap, sym, subst, ◌∙◌, true≢false, SFits, w16, to_z, of_z}
+use Rattle.std.specs.Ordering.{int_eq}
+use Rattle.std.proofs.lemmas.Bool.{cases_Bool, and_parts, eqb-true}
+use Rattle.lattice.specs.Mosaic.{void}
+use Rattle.lattice.specs.Block.{is_solid, is_linked}
+use Rattle.tile_flood.specs.Waiting.{HasBucket}
+use Rattle.tile_flood.specs.Blocks.{bare_block}
+use Rattle.tile_flood.specs.Cells.{levels_of, labels_of}
+use Rattle.tile_flood.specs.Flooding.{is_marked}
+use Rattle.tile_flood.proofs.InCells.{IsOpen, none, open_if, marked_unless_open, front_labelled}
+use Rattle.tile_flood.proofs.Spreading.{IsVisited, visited_as, passed_max, higher_bucket, near_linked}
+use Rattle.tile_flood.proofs.settling.visit.Goals as goal
+
+opened : (c : goal.After-higher) → IsOpen c.args.n c.args.heights.now c.args.cells.now c.args.e
+opened c = open_if c.args.n c.args.heights.now c.args.cells.now c.args.e c.requires.whole c.requires.cells c.requires.e c.cell_at-cell.result (c.cell_at-cell.ensures none) (sym c.is_open.ensures ∙ c.if-is_open.true)
+
+pub mark-requires-clause-labelled : goal.mark-requires-clause-labelled
+mark-requires-clause-labelled c = front_labelled c.args.n c.args.heights.now c.args.sinks.now c.args.cells.now c.args.queue.now c.args.front.point c.args.front.level c.args.front.label c.requires.whole c.requires.cells c.requires.state
+
+pub mark-requires-clause-bucket : goal.mark-requires-clause-bucket
+mark-requires-clause-bucket c =
+    let o = opened c in
+    let fits_height : SFits w16 c.cell_at-cell.result.level = search rules in
+    let fits_low : SFits w16 c.args.front.level = search rules in
+    let fits_new : SFits w16 c.higher.result = search rules in
+    let height = slice_index_or c.args.heights.now c.args.e void in
+    subst (HasBucket c.args.queue.now)
+    (sym (passed_max c.higher.result c.cell_at-cell.result.level c.args.front.level height fits_new fits_height fits_low c.higher.ensures (ap (λ cell. cell.level) (c.cell_at-cell.ensures none) ∙ o.height none)))
+    (higher_bucket c.args.queue.now height c.args.front.level (c.requires.state.marks.buckets c.args.e o.solid o.off) c.requires.state.bucket)
+
+after : (c : goal.In_ok-mark) → IsVisited c.args.n c.args.heights.now c.args.sinks.now (levels_of c.args.cells.now) (levels_of c.mark.new.cells) (labels_of c.mark.new.cells) c.mark.new.queue
+    c.args.front.point c.args.front.level c.args.front.label c.args.e
+after c =
+    let fits_height : SFits w16 c.cell_at-cell.result.level = search rules in
+    let fits_low : SFits w16 c.args.front.level = search rules in
+    let fits_new : SFits w16 c.higher.result = search rules in
+    let o = open_if c.args.n c.args.heights.now c.args.cells.now c.args.e c.requires.whole c.requires.cells c.requires.e c.cell_at-cell.result (c.cell_at-cell.ensures none) (sym c.is_open.ensures ∙ c.if-is_open.true) in
+    visited_as c.args.n c.args.heights.now c.args.sinks.now (levels_of c.args.cells.now) (levels_of c.mark.new.cells) (labels_of c.args.cells.now) (labels_of c.mark.new.cells)
+    c.args.queue.now c.mark.new.queue c.args.front.point c.args.front.level c.args.e (to_z w16 (of_z w16 c.higher.result)) c.args.front.label
+    c.requires.state (near_linked c.args.n c.args.heights.now c.args.sinks.now (levels_of c.args.cells.now) (labels_of c.args.cells.now) c.args.queue.now c.args.front.point c.args.front.level c.args.front.label c.args.e c.requires.state c.requires.near o.solid o.off) o.off
+    (passed_max c.higher.result c.cell_at-cell.result.level c.args.front.level (slice_index_or c.args.heights.now c.args.e void) fits_new fits_height fits_low c.higher.ensures (ap (λ cell. cell.level) (c.cell_at-cell.ensures none) ∙ o.height none))
+    c.in_ok-mark.ensures.levels c.in_ok-mark.ensures.labels c.in_ok-mark.ensures.joined
+
+pub returns-in_ok-mark-clause-cells : goal.returns-in_ok-mark-clause-cells
+returns-in_ok-mark-clause-cells c = c.in_ok-mark.ensures.cells c.args.heights.now c.requires.cells
+
+pub returns-in_ok-mark-clause-state : goal.returns-in_ok-mark-clause-state
+returns-in_ok-mark-clause-state c = (after c).state
+
+pub returns-in_ok-mark-clause-marked : goal.returns-in_ok-mark-clause-marked
+returns-in_ok-mark-clause-marked c = λ _. (after c).marked
+
+pub returns-in_ok-mark-clause-still : goal.returns-in_ok-mark-clause-still
+returns-in_ok-mark-clause-still c = (after c).still
+
+pub returns-in_ok-mark-clause-count : goal.returns-in_ok-mark-clause-count
+returns-in_ok-mark-clause-count c = let fewer = (after c).count in let more = c.in_ok-mark.ensures.count in omega arith
+
+pub returns-else-is_open-clause-marked : goal.returns-else-is_open-clause-marked
+returns-else-is_open-clause-marked c = marked_unless_open c.args.n c.args.heights.now c.args.sinks.now c.args.cells.now c.args.queue.now c.args.e c.requires.whole c.requires.cells c.requires.state.marks c.requires.e c.cell_at-cell.result (c.cell_at-cell.ensures none) (sym c.is_open.ensures ∙ c.if-is_open.false)

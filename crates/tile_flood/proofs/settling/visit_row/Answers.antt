@@ -1,0 +1,66 @@
+use Rattle.std.proofs.Common.{arith, ◌≡◌, ℕ, ◌+◌, ◌*◌, ◌-◌, ◌/◌, ◌<◌, ◌≤◌, IsTrue, inl, inr, sym, subst, ◌∙◌}
+use Rattle.std.proofs.lemmas.Bool.{cases_eq}
+use Rattle.lattice.specs.Block.{is_solid}
+use Rattle.tile_flood.specs.Blocks.{bare_block}
+use Rattle.tile_flood.specs.Cells.{levels_of}
+use Rattle.tile_flood.specs.Flooding.{is_marked}
+use Rattle.tile_flood.proofs.Squares.{linked_parts, linked_below, solid_below, rim_is_exit}
+use Rattle.tile_flood.proofs.Spreading.{marked_solid}
+use Rattle.tile_flood.proofs.Runs.{run_near, run_of, outer_row}
+use Rattle.tile_flood.proofs.settling.visit_row.Goals as goal
+use Rattle.tile_flood.proofs.settling.visit_row.Goals.{then-from-n-via-then-from-n, then-from-n-via-else-from-n+then-from-cells}
+
+pub visit-requires-clause-near : goal.visit-requires-clause-near
+visit-requires-clause-near c = let low = c.if-from-n.false in run_near c.args.n c.args.front.point c.args.i 0 (c.args.front.point + c.args.i * c.args.n - c.args.n - 1) c.requires.side.0 c.requires.i (omega arith) (omega arith)
+
+pub visit-requires-2-clause-near : goal.visit-requires-2-clause-near
+visit-requires-2-clause-near c = let low = c.if-from-n.false in run_near c.args.n c.args.front.point c.args.i 1 (c.args.front.point + c.args.i * c.args.n - c.args.n - 1 + 1) c.requires.side.0 c.requires.i (omega arith) (omega arith)
+
+pub visit-requires-3-clause-near : goal.visit-requires-3-clause-near
+visit-requires-3-clause-near c = let low = c.if-from-n.false in run_near c.args.n c.args.front.point c.args.i 2 (c.args.front.point + c.args.i * c.args.n - c.args.n - 1 + 2) c.requires.side.0 c.requires.i (omega arith) (omega arith)
+
+pub returns-clause-still : goal.returns-clause-still
+returns-clause-still c e on = c.in_ok-visit-3.ensures.still e (c.in_ok-visit-2.ensures.still e (c.in_ok-visit.ensures.still e on))
+
+pub returns-then-from-n-clause-marked : goal.returns-then-from-n-clause-marked
+returns-then-from-n-clause-marked c z link row =
+    let n = c.args.n in
+    let heights = c.args.heights.now in
+    let s = c.requires.state in
+    let l = linked_parts n heights c.args.front.point z link in
+    let inside : c.args.front.point < n * n = solid_below n heights c.args.front.point l.from in
+    let whole = c.requires.cells.whole in
+    let whole' = c.requires.whole in
+    let rim = outer_row n c.args.front.point c.args.i z c.requires.side.0 inside (linked_below n heights c.args.front.point z link) row
+    (elim c.then-from-n.branch [
+      | then-from-n-via-then-from-n w ↦ let low = w.if-from-n.true in inl (omega arith)
+      | then-from-n-via-else-from-n+then-from-cells w ↦ let high = w.if-from-cells.true in inr (omega arith)
+    ]) in
+    s.outlets z (rim_is_exit n heights c.args.sinks.now z l.to rim)
+
+pub returns-clause-marked : goal.returns-clause-marked
+returns-clause-marked c z link row =
+    let n = c.args.n in
+    let heights = c.args.heights.now in
+    let point = c.args.front.point in
+    let l = linked_parts n heights point z link in
+    let found = run_of n point c.args.i z l.beside row in
+    let within = found.1.0 in
+    let at = found.1.1 in
+    let low = c.if-from-n.false in
+    let west : ℕ = point + c.args.i * n - n - 1 in
+    let levels' = levels_of c.visit-3.new.cells in
+    let b = bare_block n heights in
+    elim (cases_eq found.0 0) [
+      | inl first ↦
+          let is : z ≡ west = omega arith in
+          c.in_ok-visit-3.ensures.still z (c.in_ok-visit-2.ensures.still z (subst (λ v. IsTrue (is_solid b v) → IsTrue (is_marked (levels_of c.visit.new.cells) v)) (sym is) c.in_ok-visit.ensures.marked l.to))
+      | inr later ↦ elim (cases_eq found.0 1) [
+        | inl second ↦
+            let is : z ≡ west + 1 = omega arith in
+            c.in_ok-visit-3.ensures.still z (subst (λ v. IsTrue (is_solid b v) → IsTrue (is_marked (levels_of c.visit-2.new.cells) v)) (sym is) c.in_ok-visit-2.ensures.marked l.to)
+        | inr last ↦
+            let is : z ≡ west + 2 = omega arith in
+            subst (λ v. IsTrue (is_solid b v) → IsTrue (is_marked levels' v)) (sym is) c.in_ok-visit-3.ensures.marked l.to
+      ]
+    ]

@@ -1,0 +1,115 @@
+//! What a flood knows of the points of a block, in one array: what is read and written of a point lies in one place.
+ghost use Rattle.std.specs.Prelude.{◌≡◌, ◌≢◌, ◌+◌, ◌<◌, ℕ, ℤ, List, IfOk, OnOk, length, slice_set, slice_index};
+ghost use Rattle.tile_flood.specs.Labelling.{NO_LABEL as no_label};
+ghost use Rattle.tile_flood.specs.Waiting.{HasBucket, waiting, IsJoined};
+ghost use Rattle.tile_flood.specs.Cells.{levels_of, labels_of, AreCells};
+
+use crate::labelled::NO_LABEL;
+use crate::queue::Queue;
+use crate::values::at;
+use std::alloc::{AllocError, Global};
+
+/// The label of a point and its level, or its height as long as it has no label.
+#[derive(Clone, Copy)]
+pub(crate) struct Cell {
+    pub(crate) level: i16,
+    pub(crate) label: u16,
+}
+
+// The points of a block of these heights, none with a label yet.
+pub(crate) fn unlabelled(alloc: Global, heights: &[i16]) -> Result<Vec<Cell>, AllocError>
+    ensures cells { IfOk result (λ cells. AreCells heights.now cells.items) }
+    ensures unlabelled { IfOk result (λ cells. (e : ℕ) → e < length heights.now → slice_index (labels_of cells.items) e ≡ no_label) }
+{
+    let none = Cell {
+        level: i16::MIN,
+        label: NO_LABEL,
+    };
+    let mut cells = vec![in alloc; none; heights.len()]?;
+    for e in 0..heights.len() {
+        cells[e] = Cell {
+            level: at(heights, e),
+            label: NO_LABEL,
+        };
+    }
+    Ok(cells)
+}
+
+// The levels of the points, void where they have no label.
+pub(crate) fn levels_in(alloc: Global, cells: &[Cell]) -> Result<Vec<i16>, AllocError>
+    ensures { IfOk result (λ levels. levels.items ≡ levels_of cells.now) }
+{
+    let mut levels = vec![in alloc; i16::MIN; cells.len()]?;
+    for e in 0..cells.len() {
+        levels[e] = level_in(cell_at(cells, e));
+    }
+    Ok(levels)
+}
+
+// Their labels.
+pub(crate) fn labels_in(alloc: Global, cells: &[Cell]) -> Result<Vec<u16>, AllocError>
+    ensures { IfOk result (λ labels. labels.items ≡ labels_of cells.now) }
+{
+    let mut labels = vec![in alloc; NO_LABEL; cells.len()]?;
+    for e in 0..cells.len() {
+        labels[e] = cell_at(cells, e).label;
+    }
+    Ok(labels)
+}
+
+// Gives the point its level and its label, and lets it wait.
+#[inline(always)]
+pub(crate) fn mark(
+    cells: &mut [Cell],
+    queue: &mut Queue,
+    e: usize,
+    level: i16,
+    label: u16,
+) -> Result<(), AllocError>
+    requires small { e < 4294967296 }
+    requires inside { e < length cells.old }
+    requires bucket { HasBucket queue.old level }
+    requires labelled { label ≢ no_label }
+    ensures levels { OnOk result (levels_of cells.new ≡ slice_set (levels_of cells.old) e level) }
+    ensures labels { OnOk result (labels_of cells.new ≡ slice_set (labels_of cells.old) e label) }
+    ensures cells { OnOk result ((heights : List ℤ) → AreCells heights cells.old → AreCells heights cells.new) }
+    ensures joined { OnOk result (IsJoined queue.old queue.new level e) }
+    ensures count { OnOk result (waiting queue.new ≡ waiting queue.old + 1) }
+{
+    queue.push(level, e as u32)?;
+    cells[e] = Cell { level, label };
+    Ok(())
+}
+
+ghost use Rattle.std.specs.Prelude.{nat_eq, not, ◌&&◌, slice_index_or};
+ghost use Rattle.std.specs.Ordering.{int_eq};
+ghost use Rattle.lattice.specs.Mosaic.{void};
+ghost use Rattle.tile_flood.specs.Cells.{level_of};
+
+// The cell of the point e.
+#[inline(always)]
+pub(crate) fn cell_at(cells: &[Cell], e: usize) -> Cell
+    requires { e < length cells.now }
+    ensures { (d : Cell) → result ≡ slice_index_or cells.now e d }
+{
+    cells[e]
+}
+
+// It is one of a ground point without a label.
+#[inline(always)]
+pub(crate) fn is_open(cell: Cell) -> bool
+    ensures { result ≡ (nat_eq cell.label no_label && not (int_eq cell.level void)) }
+{
+    cell.label == NO_LABEL && cell.level != i16::MIN
+}
+
+// The level of the point, void where it has no label.
+fn level_in(cell: Cell) -> i16
+    ensures { result ≡ level_of cell }
+{
+    if cell.label == NO_LABEL {
+        i16::MIN
+    } else {
+        cell.level
+    }
+}

@@ -1,0 +1,147 @@
+//! Labelled points spread to the points beside them, the lowest level first.
+ghost use Rattle.std.specs.Prelude.{◌≡◌, ◌<◌, ◌*◌, ◌+◌, ◌/◌, ℕ, OnOk, IsTrue, length, slice_index};
+ghost use Rattle.lattice.specs.Limits.{IsSide};
+ghost use Rattle.lattice.specs.Block.{is_solid, is_linked};
+ghost use Rattle.tile_flood.specs.Labelling.{IsLabelling};
+ghost use Rattle.tile_flood.specs.Carried.{AreCarried};
+ghost use Rattle.tile_flood.specs.Blocks.{block_of, bare_block};
+ghost use Rattle.tile_flood.specs.Waiting.{waiting};
+ghost use Rattle.tile_flood.specs.Cells.{levels_of, labels_of, AreCells};
+ghost use Rattle.tile_flood.specs.Flooding.{is_marked, unmarked, AreMarkedStill, IsNear, IsFlooding, IsSpreading};
+
+use crate::cells::{Cell, cell_at, is_open, mark};
+use crate::queue::Queue;
+use crate::values::higher;
+use std::alloc::AllocError;
+
+// The point that spreads, with its level and its label.
+#[derive(Clone, Copy)]
+struct Front {
+    point: usize,
+    level: i16,
+    label: u16,
+}
+
+// Lets each point that waits spread, until none does.
+pub(crate) fn settle(
+    n: usize,
+    heights: &[i16],
+    sinks: &[u32],
+    cells: &mut [Cell],
+    queue: &mut Queue,
+) -> Result<(), AllocError>
+    requires side { IsSide n }
+    requires small { n * n < 4294967296 }
+    requires whole { length heights.now ≡ n * n }
+    requires cells { AreCells heights.now cells.old }
+    requires state { IsFlooding (block_of n heights.now sinks.now) (levels_of cells.old) (labels_of cells.old) queue.old }
+    ensures labelling { OnOk result (IsLabelling (block_of n heights.now sinks.now) (levels_of cells.new) (labels_of cells.new)) }
+    ensures carried { OnOk result (AreCarried (block_of n heights.now sinks.now) (levels_of cells.new) (labels_of cells.new)) }
+{
+    while let Some(seat) = queue.pop() {
+        let point = seat.point as usize;
+        let front = Front {
+            point,
+            level: seat.level,
+            label: cell_at(cells, point).label,
+        };
+        spread(n, heights, sinks, cells, queue, front)?;
+    }
+    Ok(())
+}
+
+// Marks all points beside the front.
+fn spread(
+    n: usize,
+    heights: &[i16],
+    sinks: &[u32],
+    cells: &mut [Cell],
+    queue: &mut Queue,
+    front: Front,
+) -> Result<(), AllocError>
+    requires side { IsSide n }
+    requires small { n * n < 4294967296 }
+    requires whole { length heights.now ≡ n * n }
+    requires cells { AreCells heights.now cells.old }
+    requires state { IsSpreading (block_of n heights.now sinks.now) (levels_of cells.old) (labels_of cells.old) queue.old front.point front.level front.label }
+    ensures cells { OnOk result (AreCells heights.now cells.new) }
+    ensures state { OnOk result (IsFlooding (block_of n heights.now sinks.now) (levels_of cells.new) (labels_of cells.new) queue.new) }
+    ensures count { OnOk result (unmarked (levels_of cells.new) + waiting queue.new ≡ unmarked (levels_of cells.old) + waiting queue.old) }
+{
+    visit_row(n, heights, sinks, cells, queue, front, 0)?;
+    visit_row(n, heights, sinks, cells, queue, front, 1)?;
+    visit_row(n, heights, sinks, cells, queue, front, 2)?;
+    Ok(())
+}
+
+// Marks the points beside the front in the row above it, in its own, or in the row below. The three points from the
+// front's western column on lie beside it, or on the rim, where all ground points are marked: so there are no columns to
+// be told apart, and where there are no three such points the row is one of the rim.
+#[inline(always)]
+fn visit_row(
+    n: usize,
+    heights: &[i16],
+    sinks: &[u32],
+    cells: &mut [Cell],
+    queue: &mut Queue,
+    front: Front,
+    i: usize,
+) -> Result<(), AllocError>
+    requires side { IsSide n }
+    requires small { n * n < 4294967296 }
+    requires whole { length heights.now ≡ n * n }
+    requires cells { AreCells heights.now cells.old }
+    requires state { IsSpreading (block_of n heights.now sinks.now) (levels_of cells.old) (labels_of cells.old) queue.old front.point front.level front.label }
+    requires i { i < 3 }
+    ensures cells { OnOk result (AreCells heights.now cells.new) }
+    ensures state { OnOk result (IsSpreading (block_of n heights.now sinks.now) (levels_of cells.new) (labels_of cells.new) queue.new front.point front.level front.label) }
+    ensures still { OnOk result (AreMarkedStill (levels_of cells.old) (levels_of cells.new)) }
+    ensures count { OnOk result (unmarked (levels_of cells.new) + waiting queue.new ≡ unmarked (levels_of cells.old) + waiting queue.old) }
+    ensures marked { OnOk result ((z : ℕ) → IsTrue (is_linked (bare_block n heights.now) front.point z) → z / n + 1 ≡ front.point / n + i → IsTrue (is_marked (levels_of cells.new) z)) }
+{
+    let from = front.point + i * n;
+    if from <= n || from + 1 >= cells.len() + n {
+        return Ok(());
+    }
+    let west = from - n - 1;
+    visit(n, heights, sinks, cells, queue, front, west)?;
+    visit(n, heights, sinks, cells, queue, front, west + 1)?;
+    visit(n, heights, sinks, cells, queue, front, west + 2)?;
+    Ok(())
+}
+
+// Marks the point e, near the front, that was taken at the lowest level.
+#[inline(always)]
+fn visit(
+    n: usize,
+    heights: &[i16],
+    sinks: &[u32],
+    cells: &mut [Cell],
+    queue: &mut Queue,
+    front: Front,
+    e: usize,
+) -> Result<(), AllocError>
+    requires small { n * n < 4294967296 }
+    requires whole { length heights.now ≡ n * n }
+    requires cells { AreCells heights.now cells.old }
+    requires state { IsSpreading (block_of n heights.now sinks.now) (levels_of cells.old) (labels_of cells.old) queue.old front.point front.level front.label }
+    requires e { e < n * n }
+    requires near { IsNear n front.point e }
+    ensures cells { OnOk result (AreCells heights.now cells.new) }
+    ensures state { OnOk result (IsSpreading (block_of n heights.now sinks.now) (levels_of cells.new) (labels_of cells.new) queue.new front.point front.level front.label) }
+    ensures still { OnOk result (AreMarkedStill (levels_of cells.old) (levels_of cells.new)) }
+    ensures count { OnOk result (unmarked (levels_of cells.new) + waiting queue.new ≡ unmarked (levels_of cells.old) + waiting queue.old) }
+    ensures marked { OnOk result (IsTrue (is_solid (bare_block n heights.now) e) → IsTrue (is_marked (levels_of cells.new) e)) }
+{
+    let cell = cell_at(cells, e);
+    if is_open(cell) {
+        mark(
+            cells,
+            queue,
+            e,
+            higher(cell.level, front.level),
+            front.label,
+        )?;
+    }
+    Ok(())
+}
