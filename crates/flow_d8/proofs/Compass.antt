@@ -101,3 +101,7 @@ dir_listed NorthEast x = refl
 
 pub dir_at_place : (d x : Dir) (i : ℕ) → order_of d ≡ i → get_or directions i x ≡ d
 dir_at_place d x i is = subst (λ k. get_or directions k x ≡ d) is (dir_listed d x)
+
+-- the rank of the direction that stands at a place of the list
+pub order_at : (k : ℕ) (x : Dir) → k < 8 → order_of (get_or directions k x) ≡ k
+order_at k x small = ap order_of (dir_at_place (dir_at k) x k (order_of-dir_at k small)) ∙ order_of-dir_at k small

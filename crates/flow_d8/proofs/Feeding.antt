@@ -15,8 +15,9 @@ use Rattle.lattice.specs.Stepping.{fits_point}
 use Rattle.lattice.specs.Mosaic.{void, is_void}
 use Rattle.flow_d8.specs.Filled.{Filled, AreLevels, is_held, is_deep, number_of}
 use Rattle.flow_d8.specs.Surface.{has_level, beside_of}
-use Rattle.flow_d8.specs.Crossing.{unknown, distance_at}
-use Rattle.flow_d8.specs.Directions.{Directions, AreWhole, DrainsTo, direction_in, number_beside, back_of}
+use Rattle.flow_d8.specs.Propagation.{unknown, distance_at}
+use Rattle.flow_d8.specs.Directions.{Directions, AreWhole, DrainsTo, direction_in, number_beside}
+use Rattle.flow_d8.specs.Places.{back_of}
 use Rattle.flow_d8.proofs.Compass.{order_below, same_order}
 use Rattle.flow_d8.proofs.Numbers.{seat_of, held_fits, number_below}
 use Rattle.flow_d8.proofs.Surfaces.{beside_some, surface_lawful, level_from, level_held}

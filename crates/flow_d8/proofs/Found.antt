@@ -11,7 +11,8 @@ use Rattle.lattice.specs.Ground.{is_ground, terrain}
 use Rattle.flow_d8.specs.Drainage.{AreFilledLevels, IsDirection}
 use Rattle.flow_d8.specs.Filled.{Filled, AreLevels, IsFilledOf, is_held}
 use Rattle.flow_d8.specs.Surface.{number_in, level_at, has_level, surface}
-use Rattle.flow_d8.specs.Crossing.{unknown, distance_at, AreDistances, AreDrained, drain_at, LeadsNowhere}
+use Rattle.flow_d8.specs.Crossing.{AreDistances, AreDrained, drain_at, LeadsNowhere}
+use Rattle.flow_d8.specs.Propagation.{unknown, distance_at}
 use Rattle.flow_d8.specs.Directions.{AreDirectionsOf}
 use Rattle.flow_d8.proofs.Numbers.{number_past, number_injective}
 use Rattle.flow_d8.proofs.Surfaces.{level_held}
@@ -33,7 +34,7 @@ module _ (f : Filled) (drains : List (Option Dir)) (distances : List ℕ) (drain
   level_of_known : (p : Point) → distance_at distances (number_in f p) < unknown → IsTrue (has_level f p)
   level_of_known p lt = elim (cases_Bool (is_held f.side f.corners p)) [
     | inl held ↦
-        let s = (are.right (number_in f p) lt).1 in
+        let s = are.right (number_in f p) lt in
         let same = number_injective f.side f.corners s.point p are.valid.side_low (level_held f are.valid s.point s.level) held s.numbered in
         subst (λ q. IsTrue (has_level f q)) same s.level
     | inr out ↦

@@ -1,5 +1,5 @@
 -- All around a point at least two samples from the edges of its tile lies inside that tile, and no other tile holds it.
-use Rattle.std.proofs.Common.{◌≡◌, ℕ, zero, suc, ◌+◌, ◌-◌, ◌*◌, ◌/◌, ◌%◌, ◌<◌, ◌≤◌, ℤ, pos, ◌+ℤ◌, ◌-ℤ◌, ◌*ℤ◌, Bool, true, not, IsTrue, ◌&&◌, inl, inr, Option, Some, None, List, [], ◌∷◌, length, get_or, refl, sym, ◌∙◌, ap, ap₂, subst, arith, true≢false}
+use Rattle.std.proofs.Common.{◌≡◌, ℕ, zero, suc, ◌+◌, ◌-◌, ◌*◌, ◌/◌, ◌%◌, ◌<◌, ◌≤◌, pos, ◌+ℤ◌, ◌-ℤ◌, ◌*ℤ◌, Bool, true, not, IsTrue, ◌&&◌, inl, inr, Option, Some, None, List, [], ◌∷◌, length, get_or, refl, sym, ◌∙◌, ap, ap₂, subst, arith, true≢false}
 use Rattle.std.specs.Prelude.{nat_le, slice_index_or, slice_get, if◌then◌else◌}
 use Rattle.std.specs.List.{list_any, AllAdjacentBelow}
 use Rattle.std.proofs.Math.Nat.{mul-le-mul_right}
@@ -20,7 +20,9 @@ use Rattle.lattice.proofs.Rising.{rising_from, one_index}
 use Rattle.lattice.proofs.Samples.{index_is, index_of_held}
 use Rattle.flow_d8.specs.Filled.{Filled, AreLevels, is_holder, is_held, is_deep}
 use Rattle.flow_d8.specs.Surface.{number_in, has_level, is_shared, beside_of}
-use Rattle.flow_d8.proofs.Numbers.{seat_of, holder_holds, holds_holder, index_small, tile_below}
+use Rattle.flow_d8.specs.Places.{IsInner}
+use Rattle.flow_d8.specs.Crossing.{sample_point}
+use Rattle.flow_d8.proofs.Numbers.{seat_of, holder_holds, holds_holder, index_small, tile_below, point_at_number, number_past}
 use Rattle.flow_d8.proofs.Surfaces.{level_held, level_from, step_adjoins, beside_there, beside_none, not_adjoins}
 
 -- corners in order are listed once
@@ -63,6 +65,12 @@ module _ (f : Filled) (whole : AreLevels f) where
       let number : seat.number ≡ k = listed_once f.corners c seat.number k whole.in_order seat.in_range is.in_range (seat.at c ∙ same ∙ sym (is.at c)) in
       let index : index_of f.side c p ≡ i * f.side + j = index_is f.side c p (i * f.side + j) (record { corner = is.corner; sample = (i, j, (is.sample, refl)) }) in
       seat.numbered ∙ ap₂ (λ m d. m * (f.side * f.side) + index_of f.side d p) number same ∙ ap (λ e. k * (f.side * f.side) + e) index
+
+  -- the point of its sample
+  inside_site : (p : Point) (k : ℕ) (c : Corner) (i j g : ℕ) → IsInside f p k c i j → g ≡ k * (f.side * f.side) + (i * f.side + j) → sample_point f g ≡ p
+  inside_site p k c i j g is at =
+      let held : IsTrue (is_held f.side f.corners p) = any_at (λ d. is_holder f.side d p) f.corners k c is.listed (inside_holder p k c i j is) in
+      point_at_number f.side f.corners p g (record { lat = pos 0; lon = pos 0 }) whole.side_low held (inside_place p k c i j is ∙ sym at)
 
   -- what lies in a direction, inside the same tile
   module _ (p : Point) (level : IsTrue (has_level f p)) (k : ℕ) (c : Corner) (i j : ℕ) (is : IsInside f p k c i j) (d : Dir) (i' j' g : ℕ) (there : IsInside f (step d p) k c i' j')
@@ -182,6 +190,8 @@ module _ (f : Filled) (whole : AreLevels f) (p : Point) (level : IsTrue (has_lev
 
     pub record Beside (d : Dir) (g : ℕ) : Type 0 where
       pub within : g < length f.levels
+      pub site : sample_point f g ≡ step d p
+      pub numbered : number_in f (step d p) ≡ g
       pub is : (if not (is_void (slice_index_or f.levels g void)) then Some g else None) ≡ beside_of f p d
 
     beside_at : (d : Dir) (i' j' g : ℕ) → pos i' ≡ pos deep.i -ℤ north_of d → pos j' ≡ pos deep.j +ℤ east_of d → 0 < i' → i' < f.side - 1 → 0 < j' → j' < f.side - 1
@@ -190,6 +200,8 @@ module _ (f : Filled) (whole : AreLevels f) (p : Point) (level : IsTrue (has_lev
         let there = moved_inside d i' j' row column i_some i_inside j_some j_inside in
         record {
           within = inside_within f whole p level deep.k deep.c deep.i deep.j deep.inside d i' j' g there numbered;
+          site = inside_site f whole (step d p) deep.k deep.c i' j' g there numbered;
+          numbered = inside_place f whole (step d p) deep.k deep.c i' j' there ∙ sym numbered;
           is = inside_beside f whole p level deep.k deep.c deep.i deep.j deep.inside d i' j' g there numbered;
         }
 
@@ -227,11 +239,6 @@ module _ (f : Filled) (whole : AreLevels f) (p : Point) (level : IsTrue (has_lev
     pub north_east : Beside NorthEast (number - f.side + 1)
     north_east = let a = deep.i_low in let b = deep.i_high in let c = deep.j_low in let d = deep.j_high in let e = deep.numbered in let r = north_row in
         beside_at NorthEast (deep.i - 1) (deep.j + 1) (number - f.side + 1) (omega (arith, ints)) (omega (arith, ints)) (omega arith) (omega arith) (omega arith) (omega arith) (omega arith)
-
-    -- what is read of a list that holds the levels
-    pub told : (d : Dir) (xs : List ℤ) (n : ℕ) (g : ℕ → ℕ) (r : Option ℕ) → xs ≡ f.levels → n ≡ f.side → r ≡ (if not (is_void (slice_index_or xs (g n) void)) then Some (g n) else None) → Beside d (g f.side)
-        → r ≡ beside_of f p d
-    told d xs n g r same side is b = is ∙ ap₂ (λ ys m. if not (is_void (slice_index_or ys (g m) void)) then Some (g m) else None) same side ∙ b.is
 
     -- there is room on all sides
     pub room : (n : ℕ) → n ≡ f.side → n + 1 ≤ number
@@ -293,3 +300,32 @@ deep_site f whole p number area corners c n same side area_is read small index t
     let listed : slice_get f.corners k ≡ Some c = slice_get_read f.corners (length f.corners) k c refl within at in
     let here : IsIndexOf f.side c p (number % (f.side * f.side)) = subst (λ m. IsIndexOf m c p (number % (f.side * f.side))) side (subst (λ a. IsIndexOf n c p (number % a)) area_is index) in
     deep_number f whole p k (number % (f.side * f.side)) c listed within here test ∙ tile_and_index (f.side * f.side) number
+
+-- a deep sample has room on all sides
+pub deep_room : (f : Filled) → AreLevels f → (number : ℕ) → number < length f.levels → is_deep f.side (number % (f.side * f.side)) ≡ true → IsInner f.side (length f.levels) number
+deep_room f whole number small test =
+    let n = f.side in
+    let area = n * n in
+    let e = number % area in
+    let k = number / area in
+    let q = e / n in
+    let r = e % n in
+    let said = deep_says n e test in
+    let some : 1 * 1 ≤ area = grind (arith, whole.side_low) in
+    let within : k < length f.corners = tile_below area (length f.corners) number (omega arith) (omega (arith, small, whole.whole)) in
+    let tiles : suc k * area ≤ length f.corners * area = mul-le-mul_right area (omega (arith, within)) in
+    let rows : (q + 3) * n ≤ area = mul-le-mul_right n said.1 in
+    let some_rows : 2 * n ≤ q * n = mul-le-mul_right n said.0 in
+    let split : k * area + e ≡ number = tile_and_index area number in
+    let index : q * n + r ≡ e = tile_and_index n e in
+    let count : length f.levels ≡ length f.corners * area = whole.whole in
+    let column_low : 2 ≤ r = said.2 in
+    let column_high : r + 3 ≤ n = said.3 in
+    record { before = omega arith; after = omega arith }
+
+-- and the point of a number has it
+pub numbered_point : (f : Filled) → AreLevels f → (number : ℕ) (p : Point) → number < length f.levels → number_in f p ≡ number → number_in f (sample_point f number) ≡ number
+numbered_point f whole number p small at = elim (cases_Bool (is_held f.side f.corners p)) [
+  | inl held ↦ ap (number_in f) (point_at_number f.side f.corners p number (record { lat = pos 0; lon = pos 0 }) whole.side_low held at) ∙ at
+  | inr off ↦ absurd (omega (arith, number_past f.side f.corners p off, whole.whole))
+]

@@ -1,22 +1,25 @@
 -- The first step to a point nearer to the way out of a flat.
-use Rattle.std.proofs.Common.{◌≡◌, ℕ, zero, suc, ◌-◌, ◌<◌, ◌≤◌, Bool, true, false, IsTrue, IsFalse, Option, Some, None, List, inl, inr, ⊎_elim, refl, subst, arith}
+use Rattle.std.proofs.Common.{◌≡◌, ℕ, ℤ, zero, suc, ◌-◌, ◌*◌, ◌%◌, ◌<◌, ◌≤◌, Bool, true, false, IsTrue, IsFalse, Option, Some, None, List, inl, inr, refl, sym, ap, ◌∙◌, subst, arith}
 use Rattle.lattice.specs.declared.point.Point.{Point}
 use Rattle.lattice.specs.declared.direction.Dir.{Dir}
-use Rattle.lattice.specs.Steps.{step}
+use Rattle.std.specs.Prelude.{IfSome, IfNone, MatchOption, slice_index_or}
+use Rattle.lattice.specs.Mosaic.{void}
+use Rattle.lattice.specs.Steps.{step, order_of}
 use Rattle.flow_d8.specs.Drainage.{IsFlatDistance, IsNearer, IsFirstNearer, IsDirection}
-use Rattle.flow_d8.specs.Filled.{Filled, AreLevels}
+use Rattle.flow_d8.specs.Filled.{Filled, AreLevels, is_deep}
 use Rattle.flow_d8.specs.Surface.{number_in, level_at, has_level, adjoins, leads_off, surface}
-use Rattle.flow_d8.specs.Crossing.{unknown, distance_at, AreDistances, IsDownhill}
-use Rattle.flow_d8.proofs.Surfaces.{surface_lawful, surface_steps}
+use Rattle.flow_d8.specs.Crossing.{AreDistances}
+use Rattle.flow_d8.specs.Propagation.{unknown, distance_at, IsCloser}
+use Rattle.flow_d8.proofs.Surfaces.{surface_lawful, surface_steps, same_site, at_level}
+use Rattle.flow_d8.proofs.SampleFlows.{deep_beside, deep_adjoins}
 use Rattle.flow_d8.proofs.Unique.{one_distance}
-use Rattle.flow_d8.proofs.Waves.{site_is}
 
 module _ (f : Filled) (whole : AreLevels f) (distances : List ℕ) (is : AreDistances f distances) where
   -- a known distance is the flat distance
   pub known_is : (p : Point) → IsTrue (has_level f p) → distance_at distances (number_in f p) < unknown → IsFlatDistance (surface f) (level_at f) p (distance_at distances (number_in f p))
   known_is p level known =
       let s = is.right (number_in f p) known in
-      subst (λ q. IsFlatDistance (surface f) (level_at f) q (distance_at distances (number_in f p))) (site_is f whole p s.0 (number_in f p) (distance_at distances (number_in f p)) level refl s.1) s.1.exact
+      subst (λ q. IsFlatDistance (surface f) (level_at f) q (distance_at distances (number_in f p))) (same_site f whole s.point p s.level level s.numbered) s.exact
 
   -- and the flat distance is known
   pub distance_is : (p : Point) (k : ℕ) → IsTrue (has_level f p) → IsFlatDistance (surface f) (level_at f) p k → distance_at distances (number_in f p) ≡ k
@@ -63,13 +66,7 @@ module _ (f : Filled) (whole : AreLevels f) (distances : List ℕ) (is : AreDist
             let away = surface_steps f p y on in
             none away.0 (subst (λ q. IsNearer (surface f) (level_at f) p q) away.1 (nearer_from y some on dist.crosses.1.1 (omega arith)))
 
-    -- where the point has no lower one beside it, its direction
-    pub on_flat : (d : Option Dir) → IsDownhill f p d → k ≡ 0 → IsDirection (surface f) (level_at f) p d
-    on_flat (Some d) down zero_k = inl down
-    on_flat None none zero_k =
-        let dist : IsFlatDistance (surface f) (level_at f) p 0 = subst (λ j. IsFlatDistance (surface f) (level_at f) p j) zero_k here in
-        ⊎_elim (λ low. absurd (none low)) (λ out. (none, out)) dist.crosses
-
+    -- the direction of a point across a flat
     pub across_flat : (d : Dir) → 0 < k → IsFirstNearer (surface f) (level_at f) p d → IsDirection (surface f) (level_at f) p (Some d)
     across_flat d some first = inr ((λ low. absurd (omega (arith, here.least 0 (inl low)))), (not_out, first))
       where
@@ -79,3 +76,40 @@ module _ (f : Filled) (whole : AreLevels f) (distances : List ℕ) (is : AreDist
             inner : (b : Bool) → leads_off f p ≡ b → IsFalse b
             inner true out = absurd (omega (arith, here.least 0 (inr out)))
             inner false out = refl
+
+    -- where all around the sample lies in its own tile
+    module _ (test : is_deep f.side (number_in f p % (f.side * f.side)) ≡ true) (some : 0 < k) where
+      abbrev closer : Dir → Type 0
+      closer d = IsCloser f.levels distances f.side (number_in f p) d
+
+      pub nearer_of : (d : Dir) → closer d → IsNearer (surface f) (level_at f) p (step d p)
+      nearer_of d is =
+          let there = deep_beside f p whole (number_in f p) refl test level d in
+          let same : level_at f (step d p) ≡ level_at f p = sym (at_level f (step d p)) ∙ ap (λ g. slice_index_or f.levels g void) there.numbered ∙ is.0 ∙ at_level f p in
+          let on : IsTrue (adjoins f p (step d p)) = deep_adjoins f p whole (number_in f p) refl test level d (is.0 ∙ at_level f p) in
+          let less : distance_at distances (number_in f (step d p)) < k = omega (arith, ap (distance_at distances) there.numbered, is.1) in
+          let q_dist = known_is (step d p) ((surface_lawful f).to_ground p (step d p) on) (omega arith) in
+          let far : k ≤ suc (distance_at distances (number_in f (step d p))) = here.least (suc (distance_at distances (number_in f (step d p)))) (step d p, (on, same, q_dist.crosses)) in
+          nearer_from (step d p) some on same (omega arith)
+
+      pub closer_of : (e : Dir) → IsNearer (surface f) (level_at f) p (step e p) → closer e
+      closer_of e near =
+          let there = deep_beside f p whole (number_in f p) refl test level e in
+          let less = nearer_said (step e p) near in (
+            ap (λ g. slice_index_or f.levels g void) (sym there.numbered) ∙ at_level f (step e p) ∙ near.same_level ∙ sym (at_level f p),
+            omega (arith, ap (distance_at distances) there.numbered),
+          )
+
+      -- what the kernel finds is the first nearer step
+      pub first_is : (r : Option Dir) → IfNone r ((d : Dir) → closer d → ⊥) → IfSome r closer → IfSome r (λ d. (e : Dir) → closer e → order_of d ≤ order_of e)
+          → MatchOption r ⊥ (λ d. IsFirstNearer (surface f) (level_at f) p d)
+      first_is None none is first = some_nearer some (λ e near. none e (closer_of e near))
+      first_is (Some d) none is first = record { nearer = nearer_of d is; first = λ e near. first e (closer_of e near) }
+
+      -- as read of lists that hold the levels, at a number that is the point's
+      abbrev IsFirstOf : ℕ → List ℤ → ℕ → Type 0
+      IsFirstOf g xs n = (r : Option Dir) → IfNone r ((d : Dir) → IsCloser xs distances n g d → ⊥) → IfSome r (λ d. IsCloser xs distances n g d)
+          → IfSome r (λ d. (e : Dir) → IsCloser xs distances n g e → order_of d ≤ order_of e) → MatchOption r ⊥ (λ d. IsFirstNearer (surface f) (level_at f) p d)
+
+      pub first_at : (g : ℕ) (xs : List ℤ) (n : ℕ) → number_in f p ≡ g → f.levels ≡ xs → f.side ≡ n → IsFirstOf g xs n
+      first_at g xs n numbered same side = subst (λ h. IsFirstOf h xs n) numbered (subst (λ ys. IsFirstOf (number_in f p) ys n) same (subst (λ m. IsFirstOf (number_in f p) f.levels m) side first_is))

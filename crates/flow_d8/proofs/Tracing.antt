@@ -13,7 +13,7 @@ use Rattle.lattice.specs.Ground.{is_ground, terrain}
 use Rattle.flow_d8.specs.Drainage.{IsDirection}
 use Rattle.flow_d8.specs.FlowPath.{IsFlowPath}
 use Rattle.flow_d8.specs.Filled.{is_held, number_of}
-use Rattle.flow_d8.specs.Crossing.{unknown, distance_at}
+use Rattle.flow_d8.specs.Propagation.{unknown, distance_at}
 use Rattle.flow_d8.specs.Directions.{Directions, AreWhole, AreDirectionsOf, IsKnown, direction_in, distance_in}
 use Rattle.flow_d8.proofs.FlowPaths.{from_next}
 use Rattle.flow_d8.proofs.Numbers.{number_past}

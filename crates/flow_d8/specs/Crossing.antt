@@ -1,123 +1,120 @@
--- The search over flats on its way: which distances are known, and which points the next ones lie beside.
-use Rattle.std.specs.Prelude.{◌≡◌, ℕ, ◌<◌, ◌≤◌, cond, nat_eq, IsTrue, Option, Some, None, List, length, All, Contains, slice_index_or, sum_by}
+-- What is known of the samples of filled levels: where each point drains, and how far it is across its flat.
+use Rattle.std.specs.Prelude.{◌≡◌, ℕ, ◌+◌, ◌*◌, ◌/◌, ◌%◌, ◌<◌, ◌≤◌, pos, true, IsTrue, IsFalse, Option, None, List, length, slice_index_or}
 use Rattle.lattice.specs.declared.point.Point.{Point}
 use Rattle.lattice.specs.declared.direction.Dir.{Dir}
+use Rattle.lattice.specs.Steps.{step, order_of}
+use Rattle.lattice.specs.Lattice.{point_of}
+use Rattle.flow_d8.specs.declared.local_flow.LocalFlow.{LocalFlow}
+use Rattle.flow_d8.specs.declared.local_flow.LocalFlow.TheVariants.{NoGround, Edge, Flat, Seam, Drains}
 use Rattle.flow_d8.specs.Drainage.{HasLower, IsSteepest, CrossesFlat, IsFlatDistance, IsDirection}
-use Rattle.flow_d8.specs.Filled.{Filled, AreLevels}
-use Rattle.flow_d8.specs.Surface.{number_in, level_at, has_level, adjoins, surface}
+use Rattle.flow_d8.specs.FlatCertificate as certificate
+use Rattle.flow_d8.specs.Filled.{Filled, AreLevels, is_deep}
+use Rattle.flow_d8.specs.Propagation.{unknown, distance_at, IsEnd}
+use Rattle.flow_d8.specs.Surface.{number_in, level_at, has_level, leads_off, surface}
 
--- the distance of a point whose distance isn't known
-abbrev pub unknown : ℕ
-unknown = 4294967295
+abbrev pub IsSeam : List LocalFlow → ℕ → Type 0
+IsSeam flows g = slice_index_or flows g NoGround ≡ Seam
 
-abbrev pub distance_at : List ℕ → ℕ → ℕ
-distance_at distances g = slice_index_or distances g unknown
-
-abbrev pub gap : ℕ → ℕ
-gap distance = cond (nat_eq distance unknown) 1 0
-
--- how many distances aren't known
-abbrev pub gaps : List ℕ → ℕ
-gaps distances = sum_by gap distances
-
--- what is known stays
-abbrev pub AreKept : List ℕ → List ℕ → Type 0
-AreKept old new = (g : ℕ) → distance_at old g < unknown → distance_at new g ≡ distance_at old g
+-- samples that aren't on seams keep their distances
+abbrev pub AreKeptOffSeams : List LocalFlow → List ℕ → List ℕ → Type 0
+AreKeptOffSeams flows old new = (g : ℕ) → (IsSeam flows g → ⊥) → distance_at new g ≡ distance_at old g
 
 module _ (f : Filled) where
   abbrev pub Crosses : Point → ℕ → Type 0
   Crosses p k = CrossesFlat (surface f) (level_at f) p k
 
-  -- a point with a level has this number, and this flat distance of at most k
-  pub record IsNumberOf (k g distance : ℕ) : Type 0 where
+  -- the point of a sample
+  abbrev pub sample_point : ℕ → Point
+  sample_point g = point_of f.side (slice_index_or f.corners (g / (f.side * f.side)) (record { lat = pos 0; lon = pos 0 })) (g % (f.side * f.side))
+
+  -- what is said of a point with a level is so
+  abbrev pub DrainsLike : Point → LocalFlow → Type 0
+  DrainsLike p NoGround = ⊥
+  DrainsLike p Edge = (HasLower (surface f) (level_at f) p → ⊥) × IsTrue (leads_off f p)
+  DrainsLike p Flat = (HasLower (surface f) (level_at f) p → ⊥) × IsFalse (leads_off f p)
+  DrainsLike p Seam = (HasLower (surface f) (level_at f) p → ⊥) × IsFalse (leads_off f p)
+  DrainsLike p (Drains d) = IsSteepest (surface f) (level_at f) p d
+
+  -- some point with a level has this number
+  abbrev pub HasSite : ℕ → Type 0
+  HasSite g = (p : Point) × (IsTrue (has_level f p) × (number_in f p ≡ g))
+
+  -- where the point with this number drains; NoGround where there is none
+  pub record IsSampleFlow (g : ℕ) (flow : LocalFlow) : Type 0 where
+    pub right : (p : Point) → IsTrue (has_level f p) → number_in f p ≡ g → DrainsLike p flow
+    pub site : (flow ≡ NoGround → ⊥) → HasSite g
+    pub deep : flow ≡ Flat → is_deep f.side (g % (f.side * f.side)) ≡ true
+
+  -- the first k samples have their flows
+  pub record AreFlowsTo (k : ℕ) (flows : List LocalFlow) : Type 0 where
+    pub valid : AreLevels f
+    pub each : (g : ℕ) → g < k → IsSampleFlow g (slice_index_or flows g NoGround)
+
+  pub record AreLocalFlows (flows : List LocalFlow) : Type 0 where
+    pub valid : AreLevels f
+    pub whole : length flows ≡ length f.levels
+    pub each : (g : ℕ) → g < length f.levels → IsSampleFlow g (slice_index_or flows g NoGround)
+
+  -- q lies beside p and has its level
+  abbrev pub IsAcross : Point → Point → Type 0
+  IsAcross p q = certificate.IsAcross (surface f) (level_at f) p q
+
+  -- no point across in the first k directions has a less distance
+  abbrev pub IsLeastTo : Point → List ℕ → ℕ → ℕ → Type 0
+  IsLeastTo p distances k least = (d : Dir) → order_of d < k → IsAcross p (step d p) → least ≤ distance_at distances (number_in f (step d p))
+
+  -- a distance that is known is that of a point across
+  abbrev pub IsOneAcross : Point → List ℕ → ℕ → Type 0
+  IsOneAcross p distances least = least < unknown → (q : Point) × (IsAcross p q × (distance_at distances (number_in f q) ≡ least))
+
+  -- no step across from the point with this number saves more than one
+  abbrev pub IsSeamRelaxed : List ℕ → ℕ → Type 0
+  IsSeamRelaxed distances g = (p q : Point) → IsTrue (has_level f p) → number_in f p ≡ g → IsAcross p q → distance_at distances (number_in f q) < unknown → distance_at distances g ≤ distance_at distances (number_in f q) + 1
+
+  abbrev pub AreSeamsRelaxed : List LocalFlow → List ℕ → ℕ → Type 0
+  AreSeamsRelaxed flows distances k = (g : ℕ) → g < k → IsSeam flows g → IsSeamRelaxed distances g
+
+  -- each known distance was walked
+  abbrev pub AreWalkedOver : List ℕ → Type 0
+  AreWalkedOver distances = (g : ℕ) → distance_at distances g < unknown → Crosses (sample_point g) (distance_at distances g)
+
+  -- a known distance is a point's, and was walked; what drains at once has the distance 0
+  pub record AreBounds (flows : List LocalFlow) (distances : List ℕ) : Type 0 where
+    pub whole : length distances ≡ length f.levels
+    pub ends : (g : ℕ) → IsEnd flows g → distance_at distances g ≡ 0
+    pub nowhere : (g : ℕ) → slice_index_or flows g NoGround ≡ NoGround → distance_at distances g ≡ unknown
+    pub walked : AreWalkedOver distances
+
+  -- a point with a level has this number, and this flat distance
+  pub record IsNumberOf (g distance : ℕ) : Type 0 where
     pub point : Point
     pub level : IsTrue (has_level f point)
     pub numbered : number_in f point ≡ g
-    pub near : distance ≤ k
     pub exact : IsFlatDistance (surface f) (level_at f) point distance
-
-  -- what is known is right and at most k
-  pub record AreRight (distances : List ℕ) (k : ℕ) : Type 0 where
-    pub valid : AreLevels f
-    pub whole : length distances ≡ length f.levels
-    pub right : (g : ℕ) → distance_at distances g < unknown → IsNumberOf k g (distance_at distances g)
-
-  -- and all distances up to k are known; the wave has the points at k
-  pub record IsWave (distances : List ℕ) (k : ℕ) (wave : List ℕ) : Type 0 where
-    pub right : AreRight distances k
-    pub known : (p : Point) (j : ℕ) → IsTrue (has_level f p) → j ≤ k → Crosses p j → distance_at distances (number_in f p) < unknown
-    pub waits : (p : Point) → IsTrue (has_level f p) → distance_at distances (number_in f p) ≡ k → Contains wave (number_in f p)
-    pub members : All (λ g. distance_at distances g ≡ k) wave
-
-  -- and all distances below k are known; the next wave has the points at k that were found
-  pub record IsSpreading (distances : List ℕ) (k : ℕ) (next : List ℕ) : Type 0 where
-    pub right : AreRight distances k
-    pub known : (p : Point) (j : ℕ) → IsTrue (has_level f p) → j < k → Crosses p j → distance_at distances (number_in f p) < unknown
-    pub waits : (p : Point) → IsTrue (has_level f p) → distance_at distances (number_in f p) ≡ k → Contains next (number_in f p)
-    pub members : All (λ g. distance_at distances g ≡ k) next
-
-  -- the points of the same level beside the one with this number have their distances
-  abbrev pub IsSpread : List ℕ → ℕ → Type 0
-  IsSpread distances g = (p q : Point) → number_in f p ≡ g → IsTrue (adjoins f p q) → level_at f q ≡ level_at f p → distance_at distances (number_in f q) < unknown
 
   -- every point that leads anywhere over its flat has its distance
   pub record AreDistances (distances : List ℕ) : Type 0 where
     pub valid : AreLevels f
     pub whole : length distances ≡ length f.levels
-    pub right : (g : ℕ) → distance_at distances g < unknown → (k : ℕ) × IsNumberOf k g (distance_at distances g)
+    pub right : (g : ℕ) → distance_at distances g < unknown → IsNumberOf g (distance_at distances g)
     pub all : (p : Point) (j : ℕ) → IsTrue (has_level f p) → Crosses p j → distance_at distances (number_in f p) < unknown
-
-  -- the steepest way down, where there is one
-  abbrev pub IsDownhill : Point → Option Dir → Type 0
-  IsDownhill p (Some d) = IsSteepest (surface f) (level_at f) p d
-  IsDownhill p None = HasLower (surface f) (level_at f) p → ⊥
 
   abbrev pub drain_at : List (Option Dir) → Point → Option Dir
   drain_at drains p = slice_index_or drains (number_in f p) None
-
-  pub record AreDownhill (drains : List (Option Dir)) : Type 0 where
-    pub whole : length drains ≡ length f.levels
-    pub downhill : (p : Point) → IsTrue (has_level f p) → IsDownhill p (drain_at drains p)
 
   pub record AreDrained (drains : List (Option Dir)) : Type 0 where
     pub whole : length drains ≡ length f.levels
     pub drained : (p : Point) → IsTrue (has_level f p) → IsDirection (surface f) (level_at f) p (drain_at drains p)
 
-  -- of the points with numbers below k the downhill ones are drained, and those with a flat distance of 0 have it
-  pub record IsBegun (drains : List (Option Dir)) (distances : List ℕ) (k : ℕ) : Type 0 where
-    pub right : AreRight distances 0
-    pub drains_whole : length drains ≡ length f.levels
-    pub downhill : (p : Point) → IsTrue (has_level f p) → number_in f p < k → IsDownhill p (drain_at drains p)
-    pub known : (p : Point) → IsTrue (has_level f p) → number_in f p < k → Crosses p 0 → distance_at distances (number_in f p) < unknown
-    pub no_drain : (g : ℕ) → k ≤ g → slice_index_or drains g None ≡ None
+  -- where the point with this number drains, if there is one
+  abbrev pub IsDrainOf : ℕ → Option Dir → Type 0
+  IsDrainOf g d = (p : Point) → IsTrue (has_level f p) → number_in f p ≡ g → IsDirection (surface f) (level_at f) p d
 
-  -- the points with a flat distance of 0 have it, and no others have one
-  pub record IsStart (distances : List ℕ) : Type 0 where
-    pub right : AreRight distances 0
-    pub known : (p : Point) → IsTrue (has_level f p) → Crosses p 0 → distance_at distances (number_in f p) < unknown
-
-  -- q lies beside p and has its level
-  pub record IsAcross (p q : Point) : Type 0 where
-    pub beside : IsTrue (adjoins f p q)
-    pub same_level : level_at f q ≡ level_at f p
-
-  -- q lies beside p, has its level and the distance 0
-  pub record IsWayOut (distances : List ℕ) (p q : Point) : Type 0 where
-    pub beside : IsTrue (adjoins f p q)
-    pub same_level : level_at f q ≡ level_at f p
-    pub drains : distance_at distances (number_in f q) ≡ 0
-
-  -- of the points with numbers below k those beside a way out have their distances; the next wave has those at 1
-  pub record IsReaching (distances : List ℕ) (next : List ℕ) (k : ℕ) : Type 0 where
-    pub spreading : IsSpreading distances 1 next
-    pub reached : (p q : Point) → number_in f p < k → IsWayOut distances p q → distance_at distances (number_in f p) < unknown
-
-  -- the points with numbers below k are drained, the others as far as they lead downhill
-  pub record IsFinishing (drains : List (Option Dir)) (distances : List ℕ) (k : ℕ) : Type 0 where
+  -- the points with numbers below k are drained, and have known distances
+  pub record AreDrainedTo (k : ℕ) (drains : List (Option Dir)) (distances : List ℕ) : Type 0 where
     pub whole : length drains ≡ length f.levels
     pub drained : (p : Point) → IsTrue (has_level f p) → number_in f p < k → IsDirection (surface f) (level_at f) p (drain_at drains p)
     pub known : (p : Point) → IsTrue (has_level f p) → number_in f p < k → distance_at distances (number_in f p) < unknown
-    pub downhill : (p : Point) → IsTrue (has_level f p) → k ≤ number_in f p → IsDownhill p (drain_at drains p)
 
   -- some point lies on a flat from which nothing leads away
   abbrev pub LeadsNowhere : Type 0

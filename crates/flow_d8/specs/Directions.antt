@@ -3,7 +3,6 @@ use Rattle.std.specs.Prelude.{◌≡◌, ℕ, ◌*◌, ◌<◌, ◌≤◌, ℤ, 
 use Rattle.lattice.specs.Limits.{largest_side, most_tiles}
 use Rattle.lattice.specs.declared.point.Point.{Point}
 use Rattle.lattice.specs.declared.direction.Dir.{Dir}
-use Rattle.lattice.specs.declared.direction.Dir.TheVariants.{East, SouthEast, South, SouthWest, West, NorthWest, North, NorthEast}
 use Rattle.lattice.specs.Steps.{step}
 use Rattle.lattice.specs.Stepping.{fits_point}
 use Rattle.std.specs.List.{AllAdjacentBelow}
@@ -13,7 +12,7 @@ use Rattle.lattice.specs.Mosaic.{Mosaic}
 use Rattle.lattice.specs.Ground.{is_ground, terrain}
 use Rattle.flow_d8.specs.Drainage.{IsFlatDistance, IsDirection}
 use Rattle.flow_d8.specs.Filled.{is_held, number_of}
-use Rattle.flow_d8.specs.Crossing.{unknown, distance_at}
+use Rattle.flow_d8.specs.Propagation.{unknown, distance_at}
 
 -- the corners of the tiles, and for each of their samples a direction and a flat distance
 pub record Directions : Type 0 where
@@ -45,17 +44,6 @@ distance_in d p = if nat_lt (distance_at d.distances (number_of d.side d.corners
 -- the number of the point one step away, where some tile holds it and its coordinates are numbers of 32 bits
 abbrev pub number_beside : Directions → Point → Dir → Option ℕ
 number_beside d p e = if fits_point (step e p) && is_held d.side d.corners (step e p) then Some (number_of d.side d.corners (step e p)) else None
-
--- the direction of the step back
-abbrev pub back_of : Dir → Dir
-back_of East = West
-back_of SouthEast = NorthWest
-back_of South = North
-back_of SouthWest = NorthEast
-back_of West = East
-back_of NorthWest = SouthEast
-back_of North = South
-back_of NorthEast = SouthWest
 
 -- x drains straight to p
 abbrev pub DrainsTo : Directions → Point → Point → Type 0

@@ -2,8 +2,12 @@ pub mod Drainage
 pub mod FlowPath
 pub mod Grid
 pub mod DrainageLaws
+pub mod FlatCertificate
+pub mod LevelGrid
+pub mod SteepestStep
+pub mod Places
+pub mod Propagation
 pub mod Filled
 pub mod Surface
-pub mod Descents
 pub mod Crossing
 pub mod Directions

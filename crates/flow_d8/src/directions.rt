@@ -9,12 +9,13 @@ ghost use Rattle.lattice.specs.Mosaic.{Mosaic, IsMosaic};
 ghost use Rattle.lattice.specs.Ground.{is_ground, terrain};
 ghost use Rattle.flow_d8.specs.FlowPath.{IsFlowPath};
 ghost use Rattle.flow_d8.specs.Filled.{is_held, is_deep, number_of};
-ghost use Rattle.flow_d8.specs.Crossing.{unknown, distance_at};
-ghost use Rattle.flow_d8.specs.Directions.{AreDirectionsOf, AreWhole, DrainsTo, IsKnown, back_of, direction_in, distance_in, number_beside};
+ghost use Rattle.flow_d8.specs.Propagation.{unknown, distance_at};
+ghost use Rattle.flow_d8.specs.Directions.{AreDirectionsOf, AreWhole, DrainsTo, IsKnown, direction_in, distance_in, number_beside};
+ghost use Rattle.flow_d8.specs.Places.{back_of};
 
 use crate::filled::lies_deep;
-use crate::flats::UNKNOWN;
 use crate::numbering::number_of;
+use crate::propagating::UNKNOWN;
 use arrayvec::ArrayVec;
 use lattice::{Corner, DIRECTIONS, Dir, Point, Refusal, Side, neighbour};
 use std::alloc::{AllocError, Global};
@@ -237,11 +238,12 @@ impl Directions {
 
     /// The point's flow path: the point, then the one that it drains to, and so on, to one that drains off the mosaic.
     /// Empty where the point isn't ground. NoMemory is the only refusal.
-    pub fn trace(&self, alloc: Global, point: Point) -> Result<Vec<Point>, Refusal>
+    pub fn trace(&self, point: Point) -> Result<Vec<Point>, Refusal>
         ensures path { IfOk result (λ path. (m : Mosaic) (level : Point → ℤ) → IsMosaic m → AreDirectionsOf m level self.now → IsTrue (is_ground m point) → IsFlowPath (terrain m) level point path.items) }
         ensures elsewhere { IfOk result (λ path. (m : Mosaic) (level : Point → ℤ) → AreDirectionsOf m level self.now → IsFalse (is_ground m point) → path.items ≡ []) }
         ensures refusal { IfErr result (λ r. r ≡ NoMemory) }
     {
+        let alloc = *self.distances.allocator();
         if self.known_number(point).is_none() {
             return Ok(Vec::new(alloc));
         }

@@ -6,10 +6,13 @@ ghost use Rattle.lattice.specs.Lattice.{IsBefore};
 ghost use Rattle.lattice.specs.Mosaic.{void, is_void};
 ghost use Rattle.lattice.specs.declared.point.Point.{Point};
 ghost use Rattle.flow_d8.specs.Filled.{AreLevels, is_held, is_deep};
+ghost use Rattle.flow_d8.specs.Crossing.{sample_point};
+ghost use Rattle.flow_d8.specs.Places.{IsInner};
 ghost use Rattle.flow_d8.specs.Surface.{number_in, has_level, is_declared, beside_of, around_of};
 
 use crate::numbering::{number_of, share_tile};
 use lattice::{Corner, Dir, MOST_TILES, Point, Side, VOID, neighbour, point_at};
+use std::alloc::Global;
 use std::marker::Model;
 
 /// The filled levels of all present tiles, from which directions are found.
@@ -56,6 +59,11 @@ impl Filled {
         } else {
             None
         }
+    }
+
+    /// Where its memory is from, and that of what is found from it.
+    pub(crate) fn allocator(&self) -> Global {
+        *self.levels.allocator()
     }
 
     /// The side of each tile.
@@ -107,8 +115,8 @@ impl Filled {
         if first == number { Some(point) } else { None }
     }
 
-    // The point of a sample. Where the sample lies deep in its tile, no other tile holds the point.
-    fn point(&self, number: usize) -> Point
+    /// The point of a sample. Where the sample lies deep in its tile, no other tile holds the point.
+    pub(crate) fn point(&self, number: usize) -> Point
         requires { number < length self.now.levels }
         ensures first { (p : Point) → IsTrue (is_held self.now.side self.now.corners p) → number_in self.now p ≡ number → result ≡ p }
         ensures deep { is_deep self.now.side (number % (self.now.side * self.now.side)) ≡ true → number_in self.now result ≡ number }
@@ -118,55 +126,24 @@ impl Filled {
         point_at(self.side(), corners[number / area], (number % area) as u32)
     }
 
-    /// The numbers of the points that are adjacent to the one with this number, by direction in the order of codes.
+    /// The samples of a row. As many lie before a sample deep in its tile, and after it, and one more; and where the
+    /// sample has a level, it has a point.
     #[inline(always)]
-    pub(crate) fn around(&self, point: Point, number: usize) -> [Option<usize>; 8]
-        requires level { IsTrue (has_level self.now point) }
-        requires numbered { number_in self.now point ≡ number }
-        ensures { result ≡ around_of self.now point }
-    {
-        if lies_deep(self.side(), number) {
-            self.around_inside(number)
-        } else {
-            self.around_edges(point)
-        }
-    }
-
-    // The same for a point that isn't near the edges of its tile: all around it lies inside that tile alone.
-    #[inline(always)]
-    fn around_inside(&self, number: usize) -> [Option<usize>; 8]
-        requires site { (p : Point) × (IsTrue (has_level self.now p) × (number_in self.now p ≡ number)) }
-        requires deep { is_deep self.now.side (number % (self.now.side * self.now.side)) ≡ true }
-        ensures { (p : Point) → IsTrue (has_level self.now p) → number_in self.now p ≡ number → result ≡ around_of self.now p }
-    {
-        let levels = self.levels();
-        let n = self.row_length(number);
-        [
-            number_with_level(levels, number + 1),
-            number_with_level(levels, number + n + 1),
-            number_with_level(levels, number + n),
-            number_with_level(levels, number + n - 1),
-            number_with_level(levels, number - 1),
-            number_with_level(levels, number - n - 1),
-            number_with_level(levels, number - n),
-            number_with_level(levels, number - n + 1),
-        ]
-    }
-
-    // The samples of a row. As many lie before such a point, and after it, and one more.
-    fn row_length(&self, number: usize) -> usize
-        requires site { (p : Point) × (IsTrue (has_level self.now p) × (number_in self.now p ≡ number)) }
+    pub(crate) fn row_length(&self, number: usize) -> usize
+        requires number { number < length self.now.levels }
         requires deep { is_deep self.now.side (number % (self.now.side * self.now.side)) ≡ true }
         ensures value { result ≡ self.now.side }
-        ensures before { result + 1 ≤ number }
-        ensures after { number + result + 1 < length self.now.levels }
+        ensures inner { IsInner result (length self.now.levels) number }
+        ensures numbered { number_in self.now (sample_point self.now number) ≡ number }
+        ensures valid { AreLevels self.now }
     {
         let _levels = self.levels();
+        let _point = self.point(number);
         self.side().samples() as usize
     }
 
-    // The same for any point: over edges that tiles share.
-    fn around_edges(&self, point: Point) -> [Option<usize>; 8]
+    /// The numbers of the points that are adjacent to this one, by direction in the order of codes.
+    pub(crate) fn around(&self, point: Point) -> [Option<usize>; 8]
         requires { IsTrue (has_level self.now point) }
         ensures { result ≡ around_of self.now point }
     {
@@ -212,18 +189,6 @@ pub(crate) fn lies_deep(side: Side, number: usize) -> bool
     let row = index / n;
     let column = index % n;
     2 <= row && row + 3 <= n && 2 <= column && column + 3 <= n
-}
-
-// The number, where its point has a level.
-fn number_with_level(levels: &[i16], number: usize) -> Option<usize>
-    requires { number < length levels.now }
-    ensures { result ≡ (if not (is_void (slice_index_or levels.now number void)) then Some number else None) }
-{
-    if is_level(levels, number) {
-        Some(number)
-    } else {
-        None
-    }
 }
 
 // Whether the point of a sample has a level.

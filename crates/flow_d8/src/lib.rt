@@ -5,17 +5,23 @@
 //! the mosaic's filled levels `Filled::directions` finds them.
 #![tactic(auto)]
 
+mod crossing;
 mod directions;
-mod downhill;
 mod filled;
 mod finding;
 mod flats;
+mod flows;
 mod laws;
+mod local_flow;
+mod nearer;
 mod numbering;
+mod propagating;
+mod seeding;
+mod slopes;
 
 pub use directions::Directions;
 pub use filled::Filled;
 pub use laws::{
-    directions_are_unique, flat_distances_are_unique, flow_paths_are_unique,
-    watersheds_follow_flow_paths,
+    certified_distances_are_flat_distances, directions_are_unique, flat_distances_are_unique,
+    flow_paths_are_unique, measured_distances_are_flat_distances, watersheds_follow_flow_paths,
 };

@@ -39,7 +39,7 @@ pub(crate) fn found(
     sinks: &[Point],
 ) -> Result<Directions, Refusal> {
     let filled = filled(alloc, side, corners, levels, sinks).ok_or(Refusal::BadLength)?;
-    filled.directions(alloc)
+    filled.directions()
 }
 
 /// Levels of tiles, and how water flows over them. Points are written as y and x.
@@ -210,13 +210,9 @@ fn lies(directions: &Directions, rows: &[(i32, i32, Option<u32>)]) -> bool {
     true
 }
 
-fn has_paths(
-    alloc: Global,
-    directions: &Directions,
-    rows: &[(i32, i32, &[(i32, i32)])],
-) -> Result<bool, Refusal> {
+fn has_paths(directions: &Directions, rows: &[(i32, i32, &[(i32, i32)])]) -> Result<bool, Refusal> {
     for (y, x, path) in rows {
-        if !are_points(&directions.trace(alloc, at(*y, *x))?, path) {
+        if !are_points(&directions.trace(at(*y, *x))?, path) {
             return Ok(false);
         }
     }
@@ -225,7 +221,7 @@ fn has_paths(
 
 fn flows_so(alloc: Global, row: &Row) -> Result<bool, Refusal> {
     let directions = found(alloc, row.side, row.corners, row.levels, row.sinks)?;
-    let has_paths = has_paths(alloc, &directions, row.paths)?;
+    let has_paths = has_paths(&directions, row.paths)?;
     Ok(has_paths && leads(&directions, row.leads) && lies(&directions, row.lies))
 }
 

@@ -169,7 +169,7 @@ fn diagonal_steps_are_longer(rt: HostRuntime) {
     assert!(rt; steeper(Dir::North, 65_534, Dir::NorthEast, 65_534));
 }
 
-const REFUSALS: [(Refusal, u8, &str); 27] = [
+const REFUSALS: [(Refusal, u8, &str); 28] = [
     (Refusal::BadLine, 1, "BadLine"),
     (Refusal::BadName, 2, "BadName"),
     (Refusal::BadLength, 3, "BadLength"),
@@ -197,6 +197,7 @@ const REFUSALS: [(Refusal, u8, &str); 27] = [
     (Refusal::BadSide, 32, "BadSide"),
     (Refusal::BadCapacity, 33, "BadCapacity"),
     (Refusal::TooSmall, 34, "TooSmall"),
+    (Refusal::NotOld, 35, "NotOld"),
 ];
 
 // The number and the word by which replies name each.

@@ -1,7 +1,7 @@
 use Rattle.std.proofs.Common.{◌<◌, length, sym, ap, subst, ◌∙◌, arith, true≢false, refl}
 use Rattle.std.proofs.lemmas.List.{get_or_default}
 use Rattle.lattice.specs.Steps.{step}
-use Rattle.flow_d8.specs.Crossing.{unknown, distance_at}
+use Rattle.flow_d8.specs.Propagation.{unknown, distance_at}
 use Rattle.flow_d8.proofs.Surfaces.{beside_some, beside_not, surface_lawful, read_level, read_within}
 use Rattle.flow_d8.proofs.flats.distance_across.Goals as goal
 

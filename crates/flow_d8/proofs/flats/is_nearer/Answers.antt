@@ -2,7 +2,7 @@ use Rattle.std.proofs.Common.{◌≡◌, ◌-◌, sym, ap, ◌∙◌, true≢fal
 use Rattle.std.proofs.lemmas.Bool.{eqb-true}
 use Rattle.lattice.specs.Steps.{step}
 use Rattle.flow_d8.specs.Surface.{number_in}
-use Rattle.flow_d8.specs.Crossing.{distance_at}
+use Rattle.flow_d8.specs.Propagation.{distance_at}
 use Rattle.flow_d8.proofs.Nearest.{nearer_from, nearer_said}
 use Rattle.flow_d8.proofs.flats.is_nearer.Goals as goal
 

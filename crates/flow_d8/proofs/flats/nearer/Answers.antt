@@ -1,5 +1,5 @@
 use Rattle.std.proofs.Common.{ap, ◌∙◌, arith}
-use Rattle.flow_d8.specs.Crossing.{distance_at}
+use Rattle.flow_d8.specs.Propagation.{distance_at}
 use Rattle.flow_d8.proofs.Compass.{order_below}
 use Rattle.flow_d8.proofs.Nearest.{some_nearer}
 use Rattle.flow_d8.proofs.flats.nearer.Goals as goal

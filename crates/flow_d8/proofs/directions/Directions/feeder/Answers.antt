@@ -2,7 +2,8 @@ use Rattle.std.proofs.Common.{◌≡◌, Some, IsTrue, sym, ◌∙◌, ap, subst
 use Rattle.std.specs.Prelude.{MatchOption}
 use Rattle.lattice.specs.Steps.{step}
 use Rattle.lattice.specs.Stepping.{fits_point}
-use Rattle.flow_d8.specs.Directions.{back_of, direction_in}
+use Rattle.flow_d8.specs.Directions.{direction_in}
+use Rattle.flow_d8.specs.Places.{back_of}
 use Rattle.flow_d8.proofs.Feeding.{beside_is, beside_not, direction_there, direction_hidden, drains_said, answered, none_some}
 use Rattle.flow_d8.proofs.directions.Directions.feeder.Goals as goal
 use Rattle.flow_d8.proofs.directions.Directions.feeder.Goals.{else-drains_by-via-then-drains_by+else-is_known, else-drains_by-via-else-drains_by}

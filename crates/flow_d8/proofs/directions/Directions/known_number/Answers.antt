@@ -4,7 +4,7 @@ use Rattle.lattice.specs.Corners.{Corner}
 use Rattle.std.specs.Prelude.{SomeIff}
 use Rattle.std.proofs.lemmas.Grind.{common_steps}
 use Rattle.flow_d8.specs.Filled.{is_held, number_of}
-use Rattle.flow_d8.specs.Crossing.{unknown, distance_at}
+use Rattle.flow_d8.specs.Propagation.{unknown, distance_at}
 use Rattle.flow_d8.specs.Directions.{Directions, IsKnown}
 use Rattle.flow_d8.proofs.Numbers.{number_below}
 use Rattle.flow_d8.proofs.Tracing.{unheld_unknown, read_known, read_unknown}

@@ -1,0 +1,218 @@
+-- Distances over all tiles that were walked, and that no step across saves more than one, are the flat distances.
+use Rattle.std.proofs.Common.{◌≡◌, ℕ, zero, suc, ◌+◌, ◌<◌, ◌≤◌, Bool, true, ◌&&◌, IsTrue, Option, Some, None, inl, inr, ⊎_elim, List, [], ◌∷◌, length, get_or, refl, sym, ap, ◌∙◌, subst, arith, true≢false, eq-eqb, eqb}
+use Rattle.std.specs.Prelude.{nat_lt, if◌then◌else◌, slice_index_or}
+use Rattle.std.specs.List.{list_any}
+use Rattle.std.proofs.lemmas.Bool.{cases_Bool, cases_eq, cases_lt, cond-true, cond-false, and_parts, and_from, or_left, or_right}
+use Rattle.std.proofs.lemmas.Bool.Decides.{nat_tests}
+use Rattle.std.proofs.lemmas.List.{get_or_past}
+use Rattle.std.proofs.lemmas.Map.Steps.{le-length_from_below}
+use Rattle.lattice.specs.declared.point.Point.{Point}
+use Rattle.lattice.specs.Steps.{step}
+use Rattle.lattice.specs.Mosaic.{void}
+use Rattle.flow_d8.specs.declared.local_flow.LocalFlow.{LocalFlow}
+use Rattle.flow_d8.specs.declared.local_flow.LocalFlow.TheVariants.{NoGround, Edge, Flat, Seam, Drains}
+use Rattle.flow_d8.specs.Drainage.{IsFlatDistance}
+use Rattle.flow_d8.specs.Filled.{Filled}
+use Rattle.flow_d8.specs.FlatCertificate.{AreMeasured, AreExact, IsClosed}
+use Rattle.flow_d8.specs.Surface.{number_in, level_at, has_level, adjoins, surface}
+use Rattle.flow_d8.specs.Places.{place_by}
+use Rattle.flow_d8.specs.Propagation.{unknown, distance_at, DrainsAtOnce, AreRelaxed}
+use Rattle.flow_d8.specs.Crossing.{Crosses, DrainsLike, HasSite, AreLocalFlows, AreBounds, AreSeamsRelaxed, AreDistances, IsAcross}
+use Rattle.flow_d8.proofs.FlatCertificate.{exact}
+use Rattle.flow_d8.proofs.Unique.{one_distance}
+use Rattle.flow_d8.proofs.Numbers.{few_samples}
+use Rattle.flow_d8.proofs.Surfaces.{surface_lawful, surface_steps, level_within, at_level}
+use Rattle.flow_d8.proofs.SampleFlows.{deep_beside, sample_is}
+
+lt-true : (a b : ℕ) → a < b → nat_lt a b ≡ true
+lt-true a b h = grind (arith, nat_tests)
+
+lt-said : (a b : ℕ) → nat_lt a b ≡ true → a < b
+lt-said a b h = grind (arith, nat_tests)
+
+any_of : (xs : List ℕ) (g q d : ℕ) → g < length xs → get_or xs g d ≡ q → list_any (eqb q) xs ≡ true
+any_of [] g q d small is = absurd (omega arith)
+any_of (x ∷ xs) zero q d small is = or_left (eqb q x) (list_any (eqb q) xs) (eq-eqb q x (sym is))
+any_of (x ∷ xs) (suc g) q d small is = or_right (eqb q x) (list_any (eqb q) xs) (any_of xs g q d (omega arith) is)
+
+module _ (f : Filled) (p : Point) where
+  -- a point that drains at once is an end
+  pub end_of : (flow : LocalFlow) → DrainsLike f p flow → Crosses f p 0 → DrainsAtOnce flow
+  end_of NoGround is crosses = is
+  end_of Edge is crosses = tt
+  end_of Flat is crosses = ⊎_elim (λ low. absurd (is.0 low)) (λ out. absurd (true≢false (sym out ∙ is.1))) crosses
+  end_of Seam is crosses = ⊎_elim (λ low. absurd (is.0 low)) (λ out. absurd (true≢false (sym out ∙ is.1))) crosses
+  end_of (Drains d) is crosses = tt
+
+  -- and an end's point drains at once
+  pub crosses_end : (flow : LocalFlow) → DrainsLike f p flow → DrainsAtOnce flow → Crosses f p 0
+  crosses_end NoGround is end = absurd is
+  crosses_end Edge is end = inr is.1
+  crosses_end Flat is end = absurd end
+  crosses_end Seam is end = absurd end
+  crosses_end (Drains d) is end = inl (step d p, is.lower)
+
+module _ (f : Filled) (flows : List LocalFlow) (are : AreLocalFlows f flows) where
+  abbrev flow_at : Point → LocalFlow
+  flow_at p = slice_index_or flows (number_in f p) NoGround
+
+  pub like_at : (p : Point) → IsTrue (has_level f p) → DrainsLike f p (flow_at p)
+  like_at p level = (are.each (number_in f p) (level_within f are.valid p level)).right p level refl
+
+  module _ (distances : List ℕ) (bounds : AreBounds f flows distances) (relaxed : AreRelaxed f.levels flows f.side distances) (seams : AreSeamsRelaxed f flows distances (length flows)) where
+    abbrev dist : Point → ℕ
+    dist p = distance_at distances (number_in f p)
+
+    abbrev is_known : Point → Bool
+    is_known p = has_level f p && nat_lt (dist p) unknown
+
+    abbrev distance : Point → Option ℕ
+    distance p = if is_known p then Some (dist p) else None
+
+    some_same : {a b : ℕ} → Some a ≡ Some b → a ≡ b
+    some_same e = cc
+
+    no_some : {a : ℕ} → ◌≡◌ {A = Option ℕ} None (Some a) → ⊥
+    no_some e = cc
+
+    record IsKnownAs (p : Point) (d : ℕ) : Type 0 where
+      level : IsTrue (has_level f p)
+      at : dist p ≡ d
+      small : d < unknown
+
+    some_is : (p : Point) (d : ℕ) → distance p ≡ Some d → IsKnownAs p d
+    some_is p d is = elim (cases_Bool (is_known p)) [
+      | inl on ↦
+          let parts = and_parts (has_level f p) (nat_lt (dist p) unknown) on in
+          let at : dist p ≡ d = some_same (sym (cond-true (is_known p) (Some (dist p)) None on) ∙ is) in
+          record { level = parts.0; at = at; small = subst (λ v. v < unknown) at (lt-said (dist p) unknown parts.1) }
+      | inr off ↦ absurd (no_some (sym (cond-false (is_known p) (Some (dist p)) None off) ∙ is))
+    ]
+
+    some_from : (p : Point) → IsTrue (has_level f p) → dist p < unknown → distance p ≡ Some (dist p)
+    some_from p level small = cond-true (is_known p) (Some (dist p)) None (and_from (has_level f p) (nat_lt (dist p) unknown) level (lt-true (dist p) unknown small))
+
+    walked_at : (p : Point) → IsTrue (has_level f p) → dist p < unknown → Crosses f p (dist p)
+    walked_at p level small = subst (λ q. Crosses f q (dist p)) (sample_is f are.valid p level) (bounds.walked (number_in f p) small)
+
+    end_zero : (p : Point) → IsTrue (has_level f p) → Crosses f p 0 → dist p ≡ 0
+    end_zero p level crosses = bounds.ends (number_in f p) (end_of f p (flow_at p) (like_at p level) crosses)
+
+    -- no step across saves more than one
+    module _ (p q : Point) (level : IsTrue (has_level f p)) (across : IsAcross f p q) (known : dist q < unknown) where
+      small : number_in f p < length flows
+      small = let within = level_within f are.valid p level in omega (arith, are.whole)
+
+      over_flat : flow_at p ≡ Flat → dist p ≤ dist q + 1
+      over_flat is =
+          let away = surface_steps f p q across.beside in
+          let d = away.0 in
+          let test = (are.each (number_in f p) (level_within f are.valid p level)).deep is in
+          let there = deep_beside f p are.valid (number_in f p) refl test level d in
+          let at : place_by f.side (number_in f p) d ≡ number_in f q = sym there.numbered ∙ ap (number_in f) (sym away.1) in
+          let same : slice_index_or f.levels (place_by f.side (number_in f p) d) void ≡ slice_index_or f.levels (number_in f p) void =
+          ap (λ g. slice_index_or f.levels g void) at ∙ at_level f q ∙ across.same_level ∙ sym (at_level f p) in
+          let far : distance_at distances (place_by f.side (number_in f p) d) ≡ dist q = ap (distance_at distances) at in
+          let le = relaxed (number_in f p) is d same (omega (arith, far)) in
+          omega (arith, far)
+
+      over : (flow : LocalFlow) → flow_at p ≡ flow → DrainsLike f p flow → dist p ≤ dist q + 1
+      over NoGround is like = absurd like
+      over Edge is like = let none = bounds.ends (number_in f p) (subst DrainsAtOnce (sym is) tt) in omega arith
+      over Flat is like = over_flat is
+      over Seam is like = seams (number_in f p) small is p q level refl across known
+      over (Drains d) is like = let none = bounds.ends (number_in f p) (subst DrainsAtOnce (sym is) tt) in omega arith
+
+      pub step_saves_one : dist p ≤ dist q + 1
+      step_saves_one = over (flow_at p) refl (like_at p level)
+
+    closed : IsClosed (surface f) (level_at f) (has_level f)
+    closed x y level across = (surface_lawful f).to_ground x y across.beside
+
+    measured : AreMeasured (surface f) (level_at f) (has_level f) distance 4294967294
+    measured = record {
+      walked = λ x d is. let s = some_is x d is in subst (Crosses f x) s.at (walked_at x s.level (subst (λ v. v < unknown) (sym s.at) s.small));
+      ends = λ x level crosses. let none = end_zero x level crosses in some_from x level (omega arith) ∙ ap Some none;
+      relaxed = λ x y d level across is near.
+          let s = some_is y d is in
+          let at = s.at in
+          let le = step_saves_one x y level across (omega (arith, s.small)) in
+          (dist x, (some_from x level (omega arith), omega arith));
+    }
+
+    right : AreExact (surface f) (level_at f) (has_level f) distance 4294967294
+    right = exact (surface f) (level_at f) (has_level f) distance 4294967294 closed measured
+
+    exact_at : (p : Point) → IsTrue (has_level f p) → dist p < unknown → IsFlatDistance (surface f) (level_at f) p (dist p)
+    exact_at p level small = right.near p (dist p) level (some_from p level small) (omega arith)
+
+    -- along the way out all distances come
+    record IsAt (q : ℕ) : Type 0 where
+      point : Point
+      level : IsTrue (has_level f point)
+      far : IsFlatDistance (surface f) (level_at f) point q
+
+    on_way : (k : ℕ) (y : Point) → IsTrue (has_level f y) → IsFlatDistance (surface f) (level_at f) y k → (q : ℕ) → q ≤ k → IsAt q
+    on_way zero y level is q le = let none : 0 ≡ q = omega arith in record { point = y; level = level; far = subst (IsFlatDistance (surface f) (level_at f) y) none is }
+    on_way (suc k) y level is q le = elim (cases_eq q (suc k)) [
+      | inl same ↦ record { point = y; level = level; far = subst (IsFlatDistance (surface f) (level_at f) y) (sym same) is }
+      | inr other ↦
+          let next = is.crosses.0 in
+          let on = is.crosses.1.0 in
+          let flat = is.crosses.1.1 in
+          on_way k next ((surface_lawful f).to_ground y next on) (record { crosses = is.crosses.1.2; least = λ j c. omega (arith, is.least (suc j) (y_over next on flat j c)) }) q (omega arith)
+    ]
+      where
+        y_over : (next : Point) → IsTrue (adjoins f y next) → level_at f next ≡ level_at f y → (j : ℕ) → Crosses f next j → Crosses f y (suc j)
+        y_over next on flat j c = (next, (on, flat, c))
+
+    comes : (q : ℕ) → IsAt q → q ≤ 4294967294 → list_any (eqb q) distances ≡ true
+    comes q at le =
+        let p = at.point in
+        let found = right.far p q at.level at.far.crosses le in
+        let s = some_is p found.0 found.1.0 in
+        let same : dist p ≡ q = one_distance (surface f) (level_at f) p (dist p) q (exact_at p at.level (omega (arith, s.at, s.small))) at.far in
+        let within = level_within f are.valid p at.level in
+        any_of distances (number_in f p) q unknown (omega (arith, within, bounds.whole)) same
+
+    -- so there is none greater than the number of samples
+    room : (k : ℕ) (p : Point) → IsTrue (has_level f p) → IsFlatDistance (surface f) (level_at f) p k → k < unknown → k < 3112192240
+    room k p level is small =
+        let many : suc k ≤ length distances = le-length_from_below distances (suc k) (λ q below. comes q (on_way k p level is q (omega arith)) (omega arith)) in
+        let few = few_samples f.side (length f.corners) (length f.levels) are.valid.side_high are.valid.few are.valid.whole in
+        omega (arith, bounds.whole)
+
+    no_room : (p : Point) → IsTrue (has_level f p) → dist p ≡ 4294967294 → ⊥
+    no_room p level far =
+        let below : dist p < 3112192240 = room (dist p) p level (exact_at p level (omega arith)) (omega arith) in
+        omega arith
+
+    all_known : (j : ℕ) (p : Point) → IsTrue (has_level f p) → Crosses f p j → dist p < unknown
+    all_known zero p level crosses = let none = end_zero p level crosses in omega arith
+    all_known (suc j) p level crosses =
+        let y = crosses.0 in
+        let on = (surface_lawful f).to_ground p y crosses.1.0 in
+        let known = all_known j y on crosses.1.2 in
+        let le = step_saves_one p y level (record { beside = crosses.1.0; same_level = crosses.1.1 }) known in
+        elim (cases_eq (dist y) 4294967294) [ inl far ↦ absurd (no_room y on far) | inr other ↦ omega arith ]
+
+    site_of : (g : ℕ) → distance_at distances g < unknown → HasSite f g
+    site_of g known =
+        let within : g < length distances = elim (cases_lt g (length distances)) [ inl small ↦ small | inr past ↦ absurd (omega (arith, get_or_past distances g unknown past)) ] in
+        (are.each g (omega (arith, bounds.whole))).site (λ none. absurd (omega (arith, bounds.nowhere g none)))
+
+    pub crossed : AreDistances f distances
+    crossed = record {
+      valid = are.valid;
+      whole = bounds.whole;
+      right = λ g known.
+          let s = site_of g known in
+          let at = s.1.1 in
+          record {
+            point = s.0;
+            level = s.1.0;
+            numbered = at;
+            exact = subst (λ n. IsFlatDistance (surface f) (level_at f) s.0 (distance_at distances n)) at (exact_at s.0 s.1.0 (omega (arith, ap (distance_at distances) at)));
+          };
+      all = λ p j level crosses. all_known j p level crosses;
+    }

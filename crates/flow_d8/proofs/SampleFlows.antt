@@ -1,0 +1,267 @@
+-- Where the points of samples drain, as the levels around them show.
+use Rattle.std.proofs.Common.{◌≡◌, ℕ, ◌<◌, ◌*◌, ◌%◌, ℤ, pos, Bool, true, false, not, ◌&&◌, ◌||◌, IsTrue, IsFalse, Option, Some, None, List, [], ◌∷◌, ◌++◌, ◌+◌, length, inl, inr, refl, sym, ap, ◌∙◌, subst, arith, true≢false}
+use Rattle.std.specs.Prelude.{IfSome, MatchOption, nat_lt, if◌then◌else◌, slice_index_or, count_by}
+use Rattle.std.proofs.lemmas.Int.{ints}
+use Rattle.std.proofs.lemmas.List.{get_or_append_left, get_or-append-add}
+use Rattle.std.proofs.lemmas.Bool.{cases_Bool, cases_eq, cond-true, cond-false, and_from}
+use Rattle.lattice.specs.declared.point.Point.{Point}
+use Rattle.lattice.specs.declared.direction.Dir.{Dir}
+use Rattle.lattice.specs.declared.direction.Dir.TheVariants.{East, SouthEast, South, SouthWest, West, NorthWest, North, NorthEast}
+use Rattle.lattice.specs.Steps.{step, directions}
+use Rattle.lattice.specs.Mosaic.{void, is_void}
+use Rattle.flow_d8.specs.declared.local_flow.LocalFlow.{LocalFlow}
+use Rattle.flow_d8.specs.declared.local_flow.LocalFlow.TheVariants.{NoGround, Edge, Flat, Seam, Drains}
+use Rattle.flow_d8.specs.Filled.{Filled, AreLevels, is_deep, is_held}
+use Rattle.flow_d8.specs.Surface.{number_in, level_at, has_level, adjoins, leads_off, is_declared, surface, beside_of}
+use Rattle.flow_d8.specs.LevelGrid.{level_beside, IsLevelGrid}
+use Rattle.flow_d8.specs.Places.{place_by, IsShown, IsLocalFlow, IsFlowAt}
+use Rattle.flow_d8.specs.Crossing.{sample_point, DrainsLike, IsSampleFlow}
+use Rattle.flow_d8.proofs.Beginning.{counted}
+use Rattle.flow_d8.proofs.Surfaces.{surface_lawful, surface_steps, beside_there, beside_none, at_level, level_held, level_within, same_site, beside_some}
+use Rattle.flow_d8.proofs.Numbers.{point_at_number}
+use Rattle.flow_d8.proofs.Inside.{Beside, deep_of, east, south_east, south, south_west, west, north_west, north, north_east}
+
+void_is : (v : ℤ) → not (is_void v) ≡ false → v ≡ void
+void_is v h = grind (arith, ints)
+
+module _ (f : Filled) where
+  level_some : (x : Point) → IsTrue (has_level f x) → level_at f x ≡ void → ⊥
+  unfolding has_level
+  level_some x here none = true≢false (sym here ∙ ap (λ v. not (is_void v)) none)
+
+  level_none : (x : Point) → IsFalse (has_level f x) → level_at f x ≡ void
+  unfolding has_level
+  level_none x off = void_is (level_at f x) off
+
+  pub level_grid : IsLevelGrid (surface f) (level_at f)
+  level_grid = record { lawful = surface_lawful f; steps = surface_steps f; some = level_some }
+
+  pub sample_is : AreLevels f → (p : Point) → IsTrue (has_level f p) → sample_point f (number_in f p) ≡ p
+  sample_is whole p level = point_at_number f.side f.corners p (number_in f p) (record { lat = pos 0; lon = pos 0 }) whole.side_low (level_held f whole p level) refl
+
+  module _ (p : Point) where
+    pub shown_here : (number : ℕ) → number_in f p ≡ number → slice_index_or f.levels number void ≡ (if has_level f p then level_at f p else void)
+    shown_here number at =
+        let is : slice_index_or f.levels number void ≡ level_at f p = ap (λ k. slice_index_or f.levels k void) (sym at) ∙ at_level f p in
+        elim (cases_Bool (has_level f p)) [
+          | inl on ↦ is ∙ sym (cond-true (has_level f p) (level_at f p) void on)
+          | inr off ↦ is ∙ level_none p off ∙ sym (cond-false (has_level f p) (level_at f p) void off)
+        ]
+
+    -- the level at the number that stands in a direction
+    pub shown_beside : (d : Dir) (g : ℕ) → beside_of f p d ≡ Some g → slice_index_or f.levels g void ≡ level_beside (surface f) (level_at f) p d
+    shown_beside d g is = elim (cases_Bool (adjoins f p (step d p))) [
+      | inl on ↦
+          let at : number_in f (step d p) ≡ g = some_same (sym (beside_there f p d on) ∙ is) in
+          ap (λ k. slice_index_or f.levels k void) (sym at) ∙ at_level f (step d p) ∙ sym (cond-true (adjoins f p (step d p)) (level_at f (step d p)) void on)
+      | inr off ↦ absurd (no_some (sym is ∙ beside_none f p d off))
+    ]
+      where
+        some_same : {a b : ℕ} → Some a ≡ Some b → a ≡ b
+        some_same e = cc
+
+        no_some : {a : ℕ} → ◌≡◌ {A = Option ℕ} (Some a) None → ⊥
+        no_some e = cc
+
+    pub void_beside : (d : Dir) → beside_of f p d ≡ None → void ≡ level_beside (surface f) (level_at f) p d
+    void_beside d is = elim (cases_Bool (adjoins f p (step d p))) [
+      | inl on ↦ absurd (no_none (sym is ∙ beside_there f p d on))
+      | inr off ↦ sym (cond-false (adjoins f p (step d p)) (level_at f (step d p)) void off)
+    ]
+      where
+        no_none : {a : ℕ} → ◌≡◌ {A = Option ℕ} None (Some a) → ⊥
+        no_none e = cc
+
+    -- as a number that may be void
+    maybe_beside : (d : Dir) (g : ℕ) → (if not (is_void (slice_index_or f.levels g void)) then Some g else None) ≡ beside_of f p d
+        → slice_index_or f.levels g void ≡ level_beside (surface f) (level_at f) p d
+    maybe_beside d g is = elim (cases_Bool (not (is_void (slice_index_or f.levels g void)))) [
+      | inl on ↦ shown_beside d g (sym is ∙ cond-true (not (is_void (slice_index_or f.levels g void))) (Some g) None on)
+      | inr off ↦ void_is (slice_index_or f.levels g void) off ∙ void_beside d (sym is ∙ cond-false (not (is_void (slice_index_or f.levels g void))) (Some g) None off)
+    ]
+
+    -- a deep sample's levels show its point
+    module _ (whole : AreLevels f) (number : ℕ) (at : number_in f p ≡ number) (test : is_deep f.side (number % (f.side * f.side)) ≡ true) where
+      pub deep_beside : (level : IsTrue (has_level f p)) (d : Dir) → Beside f whole p level number at (deep_of f whole p level number at test) d (place_by f.side number d)
+      deep_beside level East = east f whole p level number at (deep_of f whole p level number at test)
+      deep_beside level SouthEast = south_east f whole p level number at (deep_of f whole p level number at test)
+      deep_beside level South = south f whole p level number at (deep_of f whole p level number at test)
+      deep_beside level SouthWest = south_west f whole p level number at (deep_of f whole p level number at test)
+      deep_beside level West = west f whole p level number at (deep_of f whole p level number at test)
+      deep_beside level NorthWest = north_west f whole p level number at (deep_of f whole p level number at test)
+      deep_beside level North = north f whole p level number at (deep_of f whole p level number at test)
+      deep_beside level NorthEast = north_east f whole p level number at (deep_of f whole p level number at test)
+
+      pub deep_shown : IsShown (surface f) (level_at f) f.levels f.side p number
+      deep_shown = record { here = shown_here number at; around = λ level d. maybe_beside d (place_by f.side number d) (deep_beside level d).is }
+
+      -- a place with the level of the point has an adjacent point
+      pub deep_adjoins : IsTrue (has_level f p) → (d : Dir) → slice_index_or f.levels (place_by f.side number d) void ≡ level_at f p → IsTrue (adjoins f p (step d p))
+      deep_adjoins level d same = elim (cases_Bool (adjoins f p (step d p))) [
+        | inl on ↦ on
+        | inr off ↦ absurd (level_some p level (sym same ∙ maybe_beside d (place_by f.side number d) (deep_beside level d).is ∙ cond-false (adjoins f p (step d p)) (level_at f (step d p)) void off))
+      ]
+
+    abbrev beside : Dir → Bool
+    beside d = adjoins f p (step d p)
+
+    abbrev all_there : Bool
+    all_there = beside East && (beside SouthEast && (beside South && (beside SouthWest && (beside West && (beside NorthWest && (beside North && (beside NorthEast && true)))))))
+
+    under : (a r : Bool) → r ≡ false → (a && r) ≡ false
+    under true r is = is
+    under false r is = refl
+
+    here_out : (a r : Bool) → a ≡ false → (a && r) ≡ false
+    here_out a r is = ap (λ b. b && r) is
+
+    some_out : (d : Dir) → beside d ≡ false → all_there ≡ false
+    some_out East gap = here_out (beside East) _ gap
+    some_out SouthEast gap = under (beside East) _ (here_out (beside SouthEast) _ gap)
+    some_out South gap = under (beside East) _ (under (beside SouthEast) _ (here_out (beside South) _ gap))
+    some_out SouthWest gap = under (beside East) _ (under (beside SouthEast) _ (under (beside South) _ (here_out (beside SouthWest) _ gap)))
+    some_out West gap = under (beside East) _ (under (beside SouthEast) _ (under (beside South) _ (under (beside SouthWest) _ (here_out (beside West) _ gap))))
+    some_out NorthWest gap = under (beside East) _ (under (beside SouthEast) _ (under (beside South) _ (under (beside SouthWest) _ (under (beside West) _ (here_out (beside NorthWest) _ gap)))))
+    some_out North gap = under (beside East) _ (under (beside SouthEast) _ (under (beside South) _ (under (beside SouthWest) _ (under (beside West) _ (under (beside NorthWest) _ (here_out (beside North) _ gap))))))
+    some_out NorthEast gap = under (beside East) _ (under (beside SouthEast) _ (under (beside South) _ (under (beside SouthWest) _ (under (beside West) _ (under (beside NorthWest) _ (under (beside North) _ (here_out (beside NorthEast) _ gap)))))))
+
+    both : (a r : Bool) → a ≡ true → r ≡ true → (a && r) ≡ true
+    both a r is_a is_r = and_from a r is_a is_r
+
+    none_out : ((d : Dir) → beside d ≡ true) → all_there ≡ true
+    none_out all = both _ _ (all East) (both _ _ (all SouthEast) (both _ _ (all South) (both _ _ (all SouthWest) (both _ _ (all West) (both _ _ (all NorthWest) (both _ _ (all North) (both _ _ (all NorthEast) refl)))))))
+
+    outlet_is : IsTrue (has_level f p) → leads_off f p ≡ (not all_there || is_declared f p)
+    unfolding leads_off
+    outlet_is level = ap (λ b. b && (nat_lt (count_by (λ d. adjoins f p (step d p)) directions) 8 || is_declared f p)) level ∙ ap (λ b. b || is_declared f p) (counted _ _ _ _ _ _ _ _)
+
+    edge_off : (d : Dir) → IsTrue (has_level f p) → IsFalse (adjoins f p (step d p)) → IsTrue (leads_off f p)
+    edge_off d level gap = outlet_is level ∙ ap (λ b. not b || is_declared f p) (some_out d gap)
+
+    inner_is : IsTrue (has_level f p) → ((d : Dir) → IsTrue (adjoins f p (step d p))) → leads_off f p ≡ is_declared f p
+    inner_is level all = outlet_is level ∙ ap (λ b. not b || is_declared f p) (none_out all)
+
+    module _ (level : IsTrue (has_level f p)) where
+      -- what the kernel says of a point with a level, but on flats
+      pub drains_like : (flow : LocalFlow) → (flow ≡ Flat → ⊥) → IsLocalFlow (surface f) (level_at f) p flow → DrainsLike f p flow
+      drains_like NoGround other is = absurd (true≢false (sym level ∙ is))
+      drains_like Edge other is = (is.1, edge_off is.2.0 level is.2.1)
+      drains_like Flat other is = absurd (other refl)
+      drains_like Seam other is = absurd is
+      drains_like (Drains d) other is = is.1
+
+      pub flat_like : IsLocalFlow (surface f) (level_at f) p Flat → DrainsLike f p (if is_declared f p then Edge else Flat)
+      flat_like is = elim (cases_Bool (is_declared f p)) [
+        | inl sink ↦ subst (DrainsLike f p) (sym (cond-true (is_declared f p) Edge Flat sink)) (is.1, inner_is level is.2 ∙ sink)
+        | inr none ↦ subst (DrainsLike f p) (sym (cond-false (is_declared f p) Edge Flat none)) (is.1, inner_is level is.2 ∙ none)
+      ]
+
+      pub seam_like : IsLocalFlow (surface f) (level_at f) p Flat → DrainsLike f p (if is_declared f p then Edge else Seam)
+      seam_like is = elim (cases_Bool (is_declared f p)) [
+        | inl sink ↦ subst (DrainsLike f p) (sym (cond-true (is_declared f p) Edge Seam sink)) (is.1, inner_is level is.2 ∙ sink)
+        | inr none ↦ subst (DrainsLike f p) (sym (cond-false (is_declared f p) Edge Seam none)) (is.1, inner_is level is.2 ∙ none)
+      ]
+
+    -- a flow that isn't NoGround is of a point with a level
+    pub solid_of : (flow : LocalFlow) → (flow ≡ NoGround → ⊥) → IsLocalFlow (surface f) (level_at f) p flow → IsTrue (has_level f p)
+    solid_of NoGround other is = absurd (other refl)
+    solid_of Edge other is = is.0
+    solid_of Flat other is = is.0
+    solid_of Seam other is = absurd is
+    solid_of (Drains d) other is = is.0
+
+-- a deep sample's flow, as the kernel reads it
+module _ (f : Filled) (whole : AreLevels f) (number : ℕ) (test : is_deep f.side (number % (f.side * f.side)) ≡ true) (at : number_in f (sample_point f number) ≡ number) where
+  one_point : (p : Point) → IsTrue (has_level f p) → number_in f p ≡ number → IsTrue (has_level f (sample_point f number)) → sample_point f number ≡ p
+  one_point p level same there = same_site f whole (sample_point f number) p there level (at ∙ sym same)
+
+  read : (flow : LocalFlow) → IsFlowAt f.levels f.side number flow → IsLocalFlow (surface f) (level_at f) (sample_point f number) flow
+  read flow is = is (surface f) (level_at f) (sample_point f number) (level_grid f) (deep_shown f (sample_point f number) whole number at test)
+
+  pub deep_flow : (flow : LocalFlow) → (flow ≡ Flat → ⊥) → IsFlowAt f.levels f.side number flow → IsSampleFlow f number flow
+  deep_flow flow other is = record {
+    right = λ p level same. drains_like f p level flow other (is (surface f) (level_at f) p (level_grid f) (deep_shown f p whole number same test));
+    site = λ some. (sample_point f number, (solid_of f (sample_point f number) flow some (read flow is), at));
+    deep = λ flat. absurd (other flat);
+  }
+
+  pub deep_flat : IsFlowAt f.levels f.side number Flat → (flow : LocalFlow) → ((p : Point) → number_in f p ≡ number → IsTrue (is_held f.side f.corners p) → flow ≡ (if is_declared f p then Edge else Flat))
+      → IsSampleFlow f number flow
+  deep_flat is flow told = record {
+    right = λ p level same. subst (DrainsLike f p) (sym (told p same (level_held f whole p level))) (flat_like f p level (is (surface f) (level_at f) p (level_grid f) (deep_shown f p whole number same test)));
+    site = λ some. (sample_point f number, ((read Flat is).0, at));
+    deep = λ flat. test;
+  }
+
+-- a level that is read at a number, where there is one
+module _ (f : Filled) (whole : AreLevels f) (p : Point) where
+  pub number_within : (xs : List ℤ) → xs ≡ f.levels → (o : Option ℕ) (d : Dir) → o ≡ beside_of f p d → IfSome o (λ g. g < length xs)
+  number_within xs same None d is = tt
+  number_within xs same (Some g) d is =
+      let s = beside_some f p d g (sym is) in
+      subst (λ ys. g < length ys) (sym same) (subst (λ n. n < length f.levels) (sym s.1) (level_within f whole (step d p) ((surface_lawful f).to_ground p (step d p) s.0)))
+
+  pub level_read : (xs : List ℤ) → xs ≡ f.levels → (o : Option ℕ) (d : Dir) (v : ℤ) → o ≡ beside_of f p d → MatchOption o (v ≡ void) (λ g. v ≡ slice_index_or xs g void) → v ≡ level_beside (surface f) (level_at f) p d
+  level_read xs same None d v is read = read ∙ void_beside f p d (sym is)
+  level_read xs same (Some g) d v is read = read ∙ ap (λ ys. slice_index_or ys g void) same ∙ shown_beside f p d g (sym is)
+
+-- the flow that three rows of levels show
+module _ (f : Filled) (p : Point) (number : ℕ) (level : IsTrue (has_level f p)) (at : number_in f p ≡ number) (whole : AreLevels f) (xs : List ℤ) (shown : IsShown (surface f) (level_at f) xs 3 p 4) where
+  same_point : (q : Point) → IsTrue (has_level f q) → number_in f q ≡ number → p ≡ q
+  same_point q q_level q_at = same_site f whole p q level q_level (at ∙ sym q_at)
+
+  pub edge_flow : (flow : LocalFlow) → (flow ≡ Flat → ⊥) → IsFlowAt xs 3 4 flow → IsSampleFlow f number flow
+  edge_flow flow other is = record {
+    right = λ q q_level q_at. subst (λ x. DrainsLike f x flow) (same_point q q_level q_at) (drains_like f p level flow other (is (surface f) (level_at f) p (level_grid f) shown));
+    site = λ some. (p, (level, at));
+    deep = λ flat. absurd (other flat);
+  }
+
+  not_flat : (sink : Bool) → (if sink then Edge else Seam) ≡ Flat → ⊥
+  not_flat true e = cc
+  not_flat false e = cc
+
+  pub seam_flow : IsFlowAt xs 3 4 Flat → (flow : LocalFlow) → flow ≡ (if is_declared f p then Edge else Seam) → IsSampleFlow f number flow
+  seam_flow is flow told = record {
+    right = λ q q_level q_at. subst (λ x. DrainsLike f x flow) (same_point q q_level q_at) (subst (DrainsLike f p) (sym told) (seam_like f p level (is (surface f) (level_at f) p (level_grid f) shown)));
+    site = λ some. (p, (level, at));
+    deep = λ flat. absurd (not_flat (is_declared f p) (sym told ∙ flat));
+  }
+
+-- no point has the number
+pub no_flow : (f : Filled) (number : ℕ) → ((p : Point) → IsTrue (has_level f p) → number_in f p ≡ number → ⊥) → IsSampleFlow f number NoGround
+no_flow f number none = record { right = λ p level at. none p level at; site = λ some. absurd (some refl); deep = λ flat. absurd (ground_flat flat) }
+  where
+    ground_flat : ◌≡◌ {A = LocalFlow} NoGround Flat → ⊥
+    ground_flat e = cc
+
+-- nine levels in three rows, of which each is the point's or that of the point beside it
+pub rows_shown : (f : Filled) (p : Point) (nw n ne w here e sw s se : ℤ) → here ≡ (if has_level f p then level_at f p else void) → nw ≡ level_beside (surface f) (level_at f) p NorthWest → n ≡ level_beside (surface f) (level_at f) p North
+    → ne ≡ level_beside (surface f) (level_at f) p NorthEast → w ≡ level_beside (surface f) (level_at f) p West → e ≡ level_beside (surface f) (level_at f) p East → sw ≡ level_beside (surface f) (level_at f) p SouthWest
+    → s ≡ level_beside (surface f) (level_at f) p South → se ≡ level_beside (surface f) (level_at f) p SouthEast → IsShown (surface f) (level_at f) (nw ∷ n ∷ ne ∷ w ∷ here ∷ e ∷ sw ∷ s ∷ se ∷ []) 3 p 4
+rows_shown f p nw n ne w here e sw s se is_here is_nw is_n is_ne is_w is_e is_sw is_s is_se = record { here = is_here; around = λ level. each }
+  where
+    each : (d : Dir) → slice_index_or (nw ∷ n ∷ ne ∷ w ∷ here ∷ e ∷ sw ∷ s ∷ se ∷ []) (place_by 3 4 d) void ≡ level_beside (surface f) (level_at f) p d
+    each East = is_e
+    each SouthEast = is_se
+    each South = is_s
+    each SouthWest = is_sw
+    each West = is_w
+    each NorthWest = is_nw
+    each North = is_n
+    each NorthEast = is_ne
+
+-- one more flow
+pub flows_more : (f : Filled) (old new : List LocalFlow) (k : ℕ) (flow : LocalFlow) → length old ≡ k → new ≡ old ++ (flow ∷ []) → ((g : ℕ) → g < k → IsSampleFlow f g (slice_index_or old g NoGround)) → IsSampleFlow f k flow
+    → (g : ℕ) → g < k + 1 → IsSampleFlow f g (slice_index_or new g NoGround)
+flows_more f old new k flow whole is was this g below = elim (cases_eq g k) [
+  | inl same ↦
+      let read : slice_index_or new k NoGround ≡ flow = ap (λ l. slice_index_or l k NoGround) is ∙ ap (λ i. slice_index_or (old ++ (flow ∷ [])) i NoGround) (at_end k (length old) whole) ∙ get_or-append-add old (flow ∷ []) 0 NoGround in
+      subst (λ n. IsSampleFlow f n (slice_index_or new n NoGround)) (sym same) (subst (IsSampleFlow f k) (sym read) this)
+  | inr other ↦
+      let read : slice_index_or new g NoGround ≡ slice_index_or old g NoGround = ap (λ l. slice_index_or l g NoGround) is ∙ get_or_append_left old (flow ∷ []) NoGround g (omega arith) in
+      subst (IsSampleFlow f g) (sym read) (was g (omega arith))
+]
+  where
+    at_end : (k n : ℕ) → n ≡ k → k ≡ n + 0
+    at_end k n is = omega arith

@@ -1,0 +1,17 @@
+-- What kernels over levels ask of a terrain.
+use Rattle.std.specs.Prelude.{◌≡◌, ℤ, IsTrue, if◌then◌else◌}
+use Rattle.lattice.specs.declared.point.Point.{Point}
+use Rattle.lattice.specs.declared.direction.Dir.{Dir}
+use Rattle.lattice.specs.Steps.{step}
+use Rattle.lattice.specs.Terrain.{Terrain, IsLawful}
+use Rattle.lattice.specs.Mosaic.{void}
+
+-- the level of the adjacent point in the direction; void if there is none
+abbrev pub level_beside : Terrain Point → (Point → ℤ) → Point → Dir → ℤ
+level_beside t level p d = if t.is_adjacent p (step d p) then level (step d p) else void
+
+-- adjacent points are a step apart, and no level of ground is the void
+pub record IsLevelGrid (t : Terrain Point) (level : Point → ℤ) : Type 0 where
+  pub lawful : IsLawful t
+  pub steps : (x y : Point) → IsTrue (t.is_adjacent x y) → (d : Dir) × (y ≡ step d x)
+  pub some : (x : Point) → IsTrue (t.is_ground x) → level x ≡ void → ⊥

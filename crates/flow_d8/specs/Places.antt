@@ -1,0 +1,62 @@
+-- Levels row by row, and what those at a place and around it show of a terrain.
+use Rattle.std.specs.Prelude.{◌≡◌, ℕ, ◌+◌, ◌-◌, ◌<◌, ◌≤◌, ℤ, IsTrue, IsFalse, if◌then◌else◌, List, slice_index_or}
+use Rattle.lattice.specs.declared.point.Point.{Point}
+use Rattle.lattice.specs.declared.direction.Dir.{Dir}
+use Rattle.lattice.specs.declared.direction.Dir.TheVariants.{East, SouthEast, South, SouthWest, West, NorthWest, North, NorthEast}
+use Rattle.lattice.specs.Steps.{step}
+use Rattle.lattice.specs.Terrain.{Terrain}
+use Rattle.lattice.specs.Mosaic.{void}
+use Rattle.flow_d8.specs.Drainage.{HasLower, IsSteepest}
+use Rattle.flow_d8.specs.declared.local_flow.LocalFlow.{LocalFlow}
+use Rattle.flow_d8.specs.declared.local_flow.LocalFlow.TheVariants.{NoGround, Edge, Flat, Seam, Drains}
+use Rattle.flow_d8.specs.declared.slopes.Best.{Best}
+use Rattle.flow_d8.specs.SteepestStep.{IsSteepestOf}
+use Rattle.flow_d8.specs.LevelGrid.{level_beside, IsLevelGrid}
+
+-- where a step leads, in rows of this width
+abbrev pub place_by : ℕ → ℕ → Dir → ℕ
+place_by width k East = k + 1
+place_by width k SouthEast = k + width + 1
+place_by width k South = k + width
+place_by width k SouthWest = k + width - 1
+place_by width k West = k - 1
+place_by width k NorthWest = k - width - 1
+place_by width k North = k - width
+place_by width k NorthEast = k - width + 1
+
+-- the direction of the step back
+abbrev pub back_of : Dir → Dir
+back_of East = West
+back_of SouthEast = NorthWest
+back_of South = North
+back_of SouthWest = NorthEast
+back_of West = East
+back_of NorthWest = SouthEast
+back_of North = South
+back_of NorthEast = SouthWest
+
+-- the place isn't in the first row or the last, nor at the end beside them
+pub record IsInner (width count k : ℕ) : Type 0 where
+  pub before : width + 1 ≤ k
+  pub after : k + width + 1 < count
+
+-- the place has the point's level, and those around it have the levels of the points around it; void where there is none
+pub record IsShown (t : Terrain Point) (level : Point → ℤ) (levels : List ℤ) (width : ℕ) (p : Point) (k : ℕ) : Type 0 where
+  pub here : slice_index_or levels k void ≡ (if t.is_ground p then level p else void)
+  pub around : IsTrue (t.is_ground p) → (d : Dir) → slice_index_or levels (place_by width k d) void ≡ level_beside t level p d
+
+-- what is said of the point is so
+abbrev pub IsLocalFlow : Terrain Point → (Point → ℤ) → Point → LocalFlow → Type 0
+IsLocalFlow t level p NoGround = IsFalse (t.is_ground p)
+IsLocalFlow t level p Edge = IsTrue (t.is_ground p) × (HasLower t level p → ⊥) × ((d : Dir) × IsFalse (t.is_adjacent p (step d p)))
+IsLocalFlow t level p Flat = IsTrue (t.is_ground p) × (HasLower t level p → ⊥) × ((d : Dir) → IsTrue (t.is_adjacent p (step d p)))
+IsLocalFlow t level p Seam = ⊥
+IsLocalFlow t level p (Drains d) = IsTrue (t.is_ground p) × IsSteepest t level p d
+
+-- it is so of each terrain that the levels show
+abbrev pub IsFlowAt : List ℤ → ℕ → ℕ → LocalFlow → Type 0
+IsFlowAt levels width k flow = (t : Terrain Point) (level : Point → ℤ) (p : Point) → IsLevelGrid t level → IsShown t level levels width p k → IsLocalFlow t level p flow
+
+abbrev pub IsBestAt : List ℤ → ℕ → ℕ → Best → Type 0
+IsBestAt levels width k best = (t : Terrain Point) (level : Point → ℤ) (p : Point) → IsLevelGrid t level → level p ≡ slice_index_or levels k void
+    → ((d : Dir) → slice_index_or levels (place_by width k d) void ≡ level_beside t level p d) → IsSteepestOf t level p 8 best
