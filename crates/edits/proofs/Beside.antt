@@ -28,7 +28,7 @@ pub same_bools : (a b : Bool) → (a ≡ true → b ≡ true) → (b ≡ true �
 same_bools true b there back = sym (there refl)
 same_bools false b there back = sym (false_from_ne_true b (λ e. let contrary : false ≡ true = back e in cc))
 
-some_edge : (n : ℕ) → 3 ≤ n → 0 < n
+pub some_edge : (n : ℕ) → 3 ≤ n → 0 < n
 some_edge n side = omega arith
 
 -- the corner of a tile is that of a present one
@@ -94,7 +94,7 @@ module _ (m : Mosaic) (valid : IsMosaic m) (points : List Point) where
 
 -- the tiles that hold a void point of the box
 module _ (m : Mosaic) (valid : IsMosaic m) (from to : Point) where
-  void_says : (t : Tile) → IsTile m.side t → has_void_from m from to t.corner 0 t.samples ≡ true → HasOne m (is_void_within m from to) t
+  pub void_says : (t : Tile) → IsTile m.side t → has_void_from m from to t.corner 0 t.samples ≡ true → HasOne m (is_void_within m from to) t
   void_says t tile some =
       let found = some_index m from to t.corner 0 t.samples some in
       let below = found.1.0 in

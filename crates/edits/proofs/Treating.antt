@@ -170,7 +170,7 @@ module _ {S : Type 0} (g : Ghosts S) (t : Treatment) (points : List Point) where
       all_treated is_mosaic = puts_edit (g.mosaic old) (is_mosaic old was) (is_named points) sample changes named_puts
 
 -- why a point ends the treatment
-fault_says : (t : Treatment) (h : Height) (r : Refusal) (later : Option Refusal) → fault_of h r → IsTrue (is_fault t r) → fault_at (depth_of t) h later ≡ Some r
+pub fault_says : (t : Treatment) (h : Height) (r : Refusal) (later : Option Refusal) → fault_of h r → IsTrue (is_fault t r) → fault_at (depth_of t) h later ≡ Some r
 fault_says t h Outside later why fault = ap (λ v. fault_at (depth_of t) v later) why
 fault_says t h Void later why fault = ap (λ v. fault_at (depth_of t) v later) why
 fault_says (Lower by) h Device later why fault = absurd (both_ways false refl fault)

@@ -1,5 +1,5 @@
 -- Boxes row by row.
-use Rattle.std.specs.Prelude.{ℕ, pos, ◌+ℤ◌, int_le, int_lt, Bool, ◌&&◌}
+use Rattle.std.specs.Prelude.{◌≡◌, ℕ, ℤ, pos, ◌+ℤ◌, int_le, int_lt, Bool, true, false, ◌&&◌}
 use Rattle.std.specs.Ordering.{int_eq}
 use Rattle.lattice.specs.declared.point.Point.{Point}
 use Rattle.lattice.specs.Mosaic.{Mosaic}
@@ -18,3 +18,12 @@ is_void_in_row m start columns p = is_in_row start columns p && is_void_at m p
 
 abbrev pub is_void_in_rows : Mosaic → Point → ℕ → ℕ → Point → Bool
 is_void_in_rows m start rows columns p = is_in_rows start rows columns p && is_void_at m p
+
+-- the value lies in both stretches, ends included
+abbrev pub is_overlap : ℤ → ℤ → ℤ → ℤ → ℤ → Bool
+is_overlap first last low high v = (int_le first v && int_le v last) && (int_le low v && int_le v high)
+
+-- whether the test passes at some point
+abbrev pub IsSomewhere : (Point → Bool) → Bool → Type 0
+IsSomewhere test true = (p : Point) × (test p ≡ true)
+IsSomewhere test false = (p : Point) → test p ≡ false

@@ -1,5 +1,6 @@
 pub mod Boxes
 pub mod Changes
+pub mod Edits
 pub mod Effect
 pub mod EffectLaws
 pub mod LeftStale

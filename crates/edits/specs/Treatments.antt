@@ -1,15 +1,15 @@
 -- What burns and walls make of a height (this product's own profile).
-use Rattle.std.specs.Prelude.{◌≡◌, ℤ, pos, ◌-ℤ◌, Bool, true, false, if◌then◌else◌, List}
+use Rattle.std.specs.Prelude.{◌≡◌, ℤ, pos, ◌-ℤ◌, Bool, true, false, if◌then◌else◌, Result, Err, List}
 use Rattle.std.specs.Int.{int_max}
 use Rattle.lattice.specs.declared.height.Height.{Height}
 use Rattle.lattice.specs.declared.height.Height.TheVariants as height
 use Rattle.lattice.specs.declared.refusal.Refusal.{Refusal}
-use Rattle.lattice.specs.declared.refusal.Refusal.TheVariants.{Outside, Void, TooDeep, Device, Failed, Damaged}
+use Rattle.lattice.specs.declared.refusal.Refusal.TheVariants.{Outside, Void, TooDeep, Repeated, Device, Failed, Damaged}
 use Rattle.lattice.specs.declared.point.Point.{Point}
 use Rattle.lattice.specs.Mosaic.{Mosaic}
 use Rattle.lattice.specs.Height.{height_of}
 use Rattle.lattice.specs.Ground.{metres}
-use Rattle.edits.specs.Effect.{is_named}
+use Rattle.edits.specs.Effect.{is_named, is_repeated, first_fault, unless_fault, edited}
 use Rattle.edits.specs.declared.named.Treatment.{Treatment}
 use Rattle.edits.specs.declared.named.Treatment.TheVariants.{Lower, Raise}
 
@@ -45,3 +45,11 @@ is_fault t r = is_groundless r
 -- what becomes of a sample at a point, where these are treated
 abbrev pub treatment_at : Treatment → Mosaic → List Point → Point → ℤ → ℤ
 treatment_at t m points p s = if is_named points p then treated t (metres (height_of m p)) else s
+
+-- the points treated, or the first refusal that applies
+abbrev pub treats : Treatment → Mosaic → List Point → Result Mosaic Refusal
+treats t m points = if is_repeated points then Err Repeated else unless_fault (first_fault m (depth_of t) points) (edited (treatment_at t m points) m)
+
+abbrev pub refuses : Treatment → Refusal → Bool
+refuses t Repeated = true
+refuses t r = is_fault t r

@@ -7,7 +7,9 @@
 mod carrying;
 mod change;
 mod command;
+mod edit;
 mod growth;
+mod heights;
 mod laws;
 mod named;
 mod neighbours;
@@ -18,16 +20,18 @@ mod sinking;
 mod sinks;
 mod stale;
 mod tiles;
+mod void_tiles;
 
 pub use carrying::carry_out;
 pub use change::{Change, TileSamples};
 pub use command::{Bytes, Command};
+pub use edit::{Edit, NewHeight, edit_of};
 pub use laws::{
     commands_make_mosaics, fresh_blocks_stay, sinks_make_mosaics, stale_tiles_are_present,
     untouched_tiles_stay,
 };
 pub use neighbours::are_neighbours;
 pub use planning::plan;
-pub use sinks::{with_sink, without_sink};
-pub use stale::leave_stale;
+pub use sinks::{with_point, with_sink, without_point, without_sink};
+pub use stale::{leave_stale, leaves_stale};
 pub use tiles::{can_import, can_remove};

@@ -30,7 +30,7 @@ pub(crate) const LOWEST: i32 = -32767;
 
 pub(crate) const HIGHEST: i32 = 32767;
 
-const DEEPEST: i32 = 32767;
+pub(crate) const DEEPEST: i32 = 32767;
 
 /// What becomes of the height of a named point, in metres.
 #[derive(Clone, Copy)]
@@ -131,7 +131,7 @@ fn treat<S: Samples>(
 
 impl Treatment {
     // What the height becomes; TooDeep where that is below the lowest height.
-    fn of(self, metres: i16) -> Result<i16, Refusal>
+    pub(crate) fn of(self, metres: i16) -> Result<i16, Refusal>
         ensures sample { IfOk result (λ s. s ≡ treated self metres) }
         ensures deep { metres ≢ void → MatchResult result (λ s. int_lt (metres -ℤ depth_of self) (negsuc 32766) ≡ false) (λ r. int_lt (metres -ℤ depth_of self) (negsuc 32766) ≡ true) }
         ensures refusal { IfErr result (λ r. (r ≡ TooDeep) × IsTrue (is_fault self r)) }
@@ -190,6 +190,7 @@ pub(crate) fn ground<S: Samples>(samples: &mut S, point: Point) -> Result<i16, R
     ensures metres { S.is_honest samples.new → IfOk result (λ h. height_of (S.mosaic samples.old) point ≡ height_is.At h) }
     ensures refused { S.is_honest samples.new → IfErr result (λ r. fault_of (height_of (S.mosaic samples.old) point) r) }
     ensures causes { IfErr result (λ r. IsTrue (is_groundless r || ends_any r)) }
+    ensures memory { IfErr result (λ r. r ≢ NoMemory) }
     ensures reads { OnlyReads S.Samples samples.old samples.new (reads_of result) }
 {
     match height(samples, point)? {
@@ -200,7 +201,7 @@ pub(crate) fn ground<S: Samples>(samples: &mut S, point: Point) -> Result<i16, R
 }
 
 // Whether two of the points are equal.
-fn is_repeated(points: &[Point]) -> bool
+pub(crate) fn is_repeated(points: &[Point]) -> bool
     ensures { result ≡ is_repeated points.now }
 {
     for (i, point) in points.iter().enumerate() {

@@ -51,13 +51,13 @@ pub(crate) fn patch<S: Samples>(
 
 // How many points a box has each way.
 #[derive(Clone, Copy)]
-struct BoxSize {
+pub(crate) struct BoxSize {
     rows: u32,
     columns: u32,
 }
 
 // The size of the box, where its corners are in order and at most a side's points apart each way.
-fn size_of_box(side: Side, from: Point, to: Point) -> Option<BoxSize>
+pub(crate) fn size_of_box(side: Side, from: Point, to: Point) -> Option<BoxSize>
     ensures none { IfNone result (is_box side from to ≡ false) }
     ensures some { IfSome result (λ size. (is_box side from to ≡ true) × (to.y +ℤ pos 1 ≡ from.y +ℤ pos size.rows) × (to.x +ℤ pos 1 ≡ from.x +ℤ pos size.columns)) }
 {
@@ -67,7 +67,7 @@ fn size_of_box(side: Side, from: Point, to: Point) -> Option<BoxSize>
 }
 
 // How many samples there are from the one to the other, ends included, if they are in order and at most a side.
-fn span(side: Side, first: i32, last: i32) -> Option<u32>
+pub(crate) fn span(side: Side, first: i32, last: i32) -> Option<u32>
     ensures none { IfNone result ((int_le first last && int_lt (last -ℤ first) (pos side)) ≡ false) }
     ensures some { IfSome result (λ k. ((int_le first last && int_lt (last -ℤ first) (pos side)) ≡ true) × (last +ℤ pos 1 ≡ first +ℤ pos k)) }
 {
@@ -145,7 +145,7 @@ fn patch_point<S: Samples>(
 }
 
 // The point so many samples north.
-fn north_of(point: Point, rows: u32) -> Point
+pub(crate) fn north_of(point: Point, rows: u32) -> Point
     requires { (point.y +ℤ pos rows) <ℤ pos (2 ^ 31) }
     ensures { result ≡ record { y = point.y +ℤ pos rows; x = point.x } }
 {
@@ -156,7 +156,7 @@ fn north_of(point: Point, rows: u32) -> Point
 }
 
 // The point so many samples east.
-fn east_of(point: Point, columns: u32) -> Point
+pub(crate) fn east_of(point: Point, columns: u32) -> Point
     requires { (point.x +ℤ pos columns) <ℤ pos (2 ^ 31) }
     ensures { result ≡ record { y = point.y; x = point.x +ℤ pos columns } }
 {

@@ -1,9 +1,9 @@
 //! Declared sinks: the list of them once a point is declared one, or is none any more.
-ghost use Rattle.std.specs.Prelude.{◌≡◌, ◌||◌, ◌<◌, ◌≤◌, IsTrue, IfOk, IfErr, Ok, Err, length};
+ghost use Rattle.std.specs.Prelude.{◌≡◌, ◌≢◌, ◌||◌, ◌<◌, ◌≤◌, IsTrue, IfOk, IfErr, Ok, Err, length};
 ghost use Rattle.std.specs.List.{list_any};
 ghost use Rattle.lattice.specs.Ground.{same_point};
 ghost use Rattle.lattice.specs.Mosaic.{AreSinks};
-ghost use Rattle.lattice.specs.declared.refusal.Refusal.TheVariants.{NoSink};
+ghost use Rattle.lattice.specs.declared.refusal.Refusal.TheVariants.{NoMemory, NoSink};
 ghost use Rattle.catalogue.specs.Endings.{ends_any};
 ghost use Rattle.catalogue.specs.Readers.{OnlyReads, reads_of};
 ghost use Rattle.catalogue.specs.Tiles.{with_sinks};
@@ -27,6 +27,7 @@ pub fn with_sink<S: Samples>(
 
     // Any other refusal is of a read.
     ensures causes { IfErr result (λ r. IsTrue (refuses_sink r || ends_any r)) }
+    ensures memory { IfErr result (λ r. r ≢ NoMemory) }
     ensures reads { OnlyReads S.Samples samples.old samples.new (reads_of result) }
 {
     if !is_held(samples.side(), point) {
@@ -67,8 +68,8 @@ fn is_among(points: &[Point], point: Point) -> bool
     points.iter().any(|other| *other == point)
 }
 
-// The points with one more, in their order.
-pub(crate) fn with_point(points: &[Point], point: Point) -> ArrayVec<Point, MOST_SINKS>
+/// The points with one more, in their order.
+pub fn with_point(points: &[Point], point: Point) -> ArrayVec<Point, MOST_SINKS>
     requires { length points.now < MOST_SINKS }
     ensures { result.items ≡ with_point point points.now }
 {
@@ -87,8 +88,8 @@ pub(crate) fn with_point(points: &[Point], point: Point) -> ArrayVec<Point, MOST
     with
 }
 
-// The points without this one.
-pub(crate) fn without_point(points: &[Point], point: Point) -> ArrayVec<Point, MOST_SINKS>
+/// The points without this one.
+pub fn without_point(points: &[Point], point: Point) -> ArrayVec<Point, MOST_SINKS>
     requires { length points.now ≤ MOST_SINKS }
     ensures { result.items ≡ without_point point points.now }
 {

@@ -1,10 +1,13 @@
 //! Which tiles changes leave stale.
-ghost use Rattle.std.specs.Prelude.{◌≡◌};
+ghost use Rattle.std.specs.Prelude.{◌≡◌, ◌&&◌};
+ghost use Rattle.std.specs.List.{list_any};
 ghost use Rattle.lattice.specs.Lattice.{holds};
+ghost use Rattle.edits.specs.Edits.{goes_stale_by, holds_any};
+ghost use Rattle.edits.specs.Touched.{are_neighbours};
 ghost use Rattle.edits.specs.LeftStale.{is_beside, is_near, is_near_one};
 
-use crate::Change;
 use crate::neighbours::are_neighbours;
+use crate::{Change, Edit, NewHeight};
 use catalogue::Samples;
 use lattice::{Corner, Point, holders};
 
@@ -33,10 +36,48 @@ fn is_near<S: Samples>(samples: &S, change: &Change, corner: Corner) -> bool
     }
 }
 
+/// Whether the corner's tile goes stale by the edit: the edit is of the tile or of a neighbour, or of a sink that one of
+/// these holds. No sample is read.
+pub fn leaves_stale<S: Samples>(samples: &S, edit: &Edit, corner: Corner) -> bool
+    ensures { result ≡ goes_stale_by (S.side_of samples.now) (S.corners samples.now) edit.now corner }
+{
+    match edit {
+        Edit::Add { corner: own, .. } => are_neighbours(*own, corner),
+        Edit::Drop { corner: own } => are_neighbours(*own, corner),
+        Edit::Heights { heights } => is_one_near(samples, heights.as_slice(), corner),
+        Edit::Voids { tiles, .. } => is_near_any(tiles.as_slice(), corner),
+        Edit::Sink { point } => is_held_near(samples, *point, corner),
+        Edit::Unsink { point } => is_held_near(samples, *point, corner),
+    }
+}
+
+// The corner is one of these, or a neighbour of one.
+fn is_near_any(tiles: &[Corner], corner: Corner) -> bool
+    ensures { result ≡ list_any (λ c. are_neighbours c corner) tiles.now }
+{
+    tiles.iter().any(|own| are_neighbours(*own, corner))
+}
+
+// The corner's tile or a neighbour is present and holds one of the points.
+fn is_one_near<S: Samples>(samples: &S, heights: &[NewHeight], corner: Corner) -> bool
+    ensures { result ≡ list_any (λ c. holds_any (S.side_of samples.now) heights.now c && are_neighbours c corner) (S.corners samples.now) }
+{
+    for height in heights {
+        if is_held_near(samples, height.point, corner) {
+            return true;
+        }
+    }
+    false
+}
+
 // The corner's tile or a neighbour is present and holds the point.
 fn is_held_near<S: Samples>(samples: &S, point: Point, corner: Corner) -> bool
-    ensures { S.is_honest samples.now → result ≡ is_near_one (λ t. holds (S.mosaic samples.now).side t.corner point) (S.mosaic samples.now) corner }
+    ensures held { result ≡ list_any (λ c. holds (S.side_of samples.now) c point && are_neighbours c corner) (S.corners samples.now) }
+    ensures honest { S.is_honest samples.now → result ≡ is_near_one (λ t. holds (S.mosaic samples.now).side t.corner point) (S.mosaic samples.now) corner }
 {
+    // What a side is, and that the corners are those of tiles, is told by asking.
+    let _edge = samples.side().edge();
+    let _is_present = samples.present(corner);
     let side = samples.side();
     let corners = holders(side, point);
     for holder in corners.as_slice() {

@@ -1,0 +1,106 @@
+-- The tiles that go stale by an edit are those that go stale by its command.
+use Rattle.std.proofs.Common.{◌≡◌, ℕ, zero, suc, arith, ◌<◌, ◌≤◌, Bool, true, false, ◌&&◌, ◌||◌, IsTrue, List, [], ◌∷◌, map, length, get_or, refl, sym, ◌∙◌, ap, subst}
+use Rattle.std.specs.List.{All, Contains, list_any}
+use Rattle.std.proofs.lemmas.Bool.{and_parts, and_from, false_from_ne_true}
+use Rattle.std.proofs.lemmas.List.Elements.{All-contains}
+use Rattle.lattice.specs.Corners.{Corner, is_corner, same_corner}
+use Rattle.lattice.specs.declared.point.Point.{Point}
+use Rattle.lattice.specs.Lattice.{Holds, holds}
+use Rattle.lattice.specs.Mosaic.{Tile, Mosaic}
+use Rattle.lattice.proofs.CornerOrder.{same_says, same_from}
+use Rattle.lattice.proofs.Samples.{holds_is}
+use Rattle.catalogue.specs.Tiles.{AreCorners, corners_of, is_listed}
+use Rattle.edits.specs.declared.edit.NewHeight.{NewHeight}
+use Rattle.edits.specs.Edits.{AreVoidTiles, holds_any, points_of}
+use Rattle.edits.specs.Effect.{has_void_from}
+use Rattle.edits.specs.Touched.{are_neighbours, holds_one}
+use Rattle.edits.specs.LeftStale.{is_near_one}
+use Rattle.edits.proofs.Beside.{same_bools}
+use Rattle.edits.proofs.Voids.{any_says, any_from, tile_at}
+
+any_corner : (test : Corner → Bool) (ts : List Tile) → list_any test (map (λ t. t.corner) ts) ≡ list_any (λ t. test t.corner) ts
+any_corner test [] = refl
+any_corner test (t ∷ ts) = ap (λ (b : Bool). test t.corner || b) (any_corner test ts)
+
+-- of whatever mosaic has this side and these corners
+pub stale_holders : (m : Mosaic) (n : ℕ) (corners : List Corner) → m.side ≡ n → corners_of m ≡ corners → (q : Point) (p : Corner)
+    → list_any (λ c. holds n c q && are_neighbours c p) corners ≡ is_near_one (λ t. holds m.side t.corner q) m p
+stale_holders m n corners side same q p =
+    ap (λ (cs : List Corner). list_any (λ c. holds n c q && are_neighbours c p) cs) (sym same)
+    ∙ any_corner (λ c. holds n c q && are_neighbours c p) m.tiles
+    ∙ ap (λ (k : ℕ). list_any (λ t. holds k t.corner q && are_neighbours t.corner p) m.tiles) (sym side)
+
+module _ (n : ℕ) (side : 3 ≤ n) (corners : List Corner) (are : AreCorners corners) (q : Point) (p : Corner) where
+  held_there : (c : Corner) → Contains corners c → IsTrue (is_corner c)
+  held_there c there = All-contains (λ d. IsTrue (is_corner d)) corners c are there
+
+  -- a present tile near the corner holds the point
+  pub held_near : (h : Corner) → Contains corners h → Holds n h q → are_neighbours h p ≡ true → list_any (λ c. holds n c q && are_neighbours c p) corners ≡ true
+  held_near h there held close = any_from (λ c. holds n c q && are_neighbours c p) corners h there (and_from (holds n h q) (are_neighbours h p) ((holds_is n h q side (held_there h there)).1 held) close)
+
+  -- none of the tiles that hold it is present and near
+  pub not_held_near : (hs : List Corner) → ((c : Corner) → Holds n c q → Contains hs c)
+      → ((k : ℕ) (d : Corner) → k < length hs → Contains corners (get_or hs k d) → are_neighbours (get_or hs k d) p ≡ true → ⊥)
+      → list_any (λ c. holds n c q && are_neighbours c p) corners ≡ false
+  not_held_near hs all none = false_from_ne_true (list_any (λ c. holds n c q && are_neighbours c p) corners) (λ some.
+      let found = any_says (λ c. holds n c q && are_neighbours c p) corners some in
+      let c = found.0 in
+      let both = and_parts (holds n c q) (are_neighbours c p) found.1.1 in
+      let at = all c ((holds_is n c q side (held_there c found.1.0)).0 both.0) in
+      none at.0 c at.1 (subst (λ (d : Corner). Contains corners d) (sym at.2) found.1.0) (ap (λ (d : Corner). are_neighbours d p) at.2 ∙ both.1))
+
+-- some of the points are held near the corner
+pub any_near : (n : ℕ) (corners : List Corner) (heights : List NewHeight) (p : Corner) →
+    list_any (λ h. list_any (λ c. holds n c h.point && are_neighbours c p) corners) heights ≡ list_any (λ c. holds_any n heights c && are_neighbours c p) corners
+any_near n corners heights p = same_bools _ _
+    (λ some.
+    let height = any_says (λ (h : NewHeight). list_any (λ c. holds n c h.point && are_neighbours c p) corners) heights some in
+    let h = height.0 in
+    let found = any_says (λ c. holds n c h.point && are_neighbours c p) corners height.1.1 in
+    let both = and_parts (holds n found.0 h.point) (are_neighbours found.0 p) found.1.1 in
+    any_from (λ c. holds_any n heights c && are_neighbours c p) corners found.0 found.1.0
+    (and_from (holds_any n heights found.0) (are_neighbours found.0 p) (any_from (λ (k : NewHeight). holds n found.0 k.point) heights h height.1.0 both.0) both.1))
+    (λ some.
+    let found = any_says (λ c. holds_any n heights c && are_neighbours c p) corners some in
+    let both = and_parts (holds_any n heights found.0) (are_neighbours found.0 p) found.1.1 in
+    let height = any_says (λ (k : NewHeight). holds n found.0 k.point) heights both.0 in
+    any_from (λ (h : NewHeight). list_any (λ c. holds n c h.point && are_neighbours c p) corners) heights height.0 height.1.0
+    (any_from (λ c. holds n c height.0.point && are_neighbours c p) corners found.0 found.1.0 (and_from (holds n found.0 height.0.point) (are_neighbours found.0 p) height.1.1 both.1)))
+
+-- the tiles of an edit of heights, and of voids, are those of the command
+
+pub stale_named : (m : Mosaic) (n : ℕ) (corners : List Corner) → m.side ≡ n → corners_of m ≡ corners → (heights : List NewHeight) (p : Corner)
+    → list_any (λ c. holds_any n heights c && are_neighbours c p) corners ≡ is_near_one (λ t. holds_one m (points_of heights) t.corner) m p
+stale_named m n corners side same heights p =
+    ap (λ (cs : List Corner). list_any (λ c. holds_any n heights c && are_neighbours c p) cs) (sym same)
+    ∙ any_corner (λ c. holds_any n heights c && are_neighbours c p) m.tiles
+    ∙ ap (λ (test : Corner → Bool). list_any (λ (t : Tile). test t.corner && are_neighbours t.corner p) m.tiles) (λ i c. held c i)
+  where
+    held : (c : Corner) → holds_any n heights c ≡ holds_one m (points_of heights) c
+    held c = ap (λ (k : ℕ). list_any (λ (h : NewHeight). holds k c h.point) heights) (sym side) ∙ named heights
+      where
+        named : (hs : List NewHeight) → list_any (λ (h : NewHeight). holds m.side c h.point) hs ≡ holds_one m (points_of hs) c
+        named [] = refl
+        named (h ∷ hs) = ap (λ (b : Bool). holds m.side c h.point || b) (named hs)
+
+pub stale_voids : (m : Mosaic) (from to : Point) (tiles : List Corner) → AreVoidTiles m from to tiles → All (Contains (corners_of m)) tiles → (p : Corner)
+    → list_any (λ c. are_neighbours c p) tiles ≡ is_near_one (λ t. has_void_from m from to t.corner 0 t.samples) m p
+stale_voids m from to tiles voids present p = same_bools _ _
+    (λ some.
+    let found = any_says (λ c. are_neighbours c p) tiles some in
+    let tile = tile_at m found.0 (All-contains (Contains (corners_of m)) tiles found.0 present found.1.0) in
+    let t = tile.0 in
+    let named : is_listed t.corner tiles ≡ true = any_from (λ d. same_corner d t.corner) tiles found.0 found.1.0 (same_from found.0 t.corner (sym tile.1.1)) in
+    any_from (λ (u : Tile). has_void_from m from to u.corner 0 u.samples && are_neighbours u.corner p) m.tiles t tile.1.0
+    (and_from (has_void_from m from to t.corner 0 t.samples) (are_neighbours t.corner p) (sym (voids t tile.1.0) ∙ named) (ap (λ (c : Corner). are_neighbours c p) tile.1.1 ∙ found.1.1)))
+    (λ some.
+    let found = any_says (λ (u : Tile). has_void_from m from to u.corner 0 u.samples && are_neighbours u.corner p) m.tiles some in
+    let t = found.0 in
+    let both = and_parts (has_void_from m from to t.corner 0 t.samples) (are_neighbours t.corner p) found.1.1 in
+    let named = any_says (λ d. same_corner d t.corner) tiles (voids t found.1.0 ∙ both.0) in
+    any_from (λ c. are_neighbours c p) tiles named.0 named.1.0 (ap (λ (c : Corner). are_neighbours c p) (same_says named.0 t.corner named.1.1) ∙ both.1))
+
+pub read_within : {X : Type 0} (xs : List X) (i : ℕ) (d e : X) → i < length xs → get_or xs i d ≡ get_or xs i e
+read_within [] i d e within = absurd (omega arith)
+read_within (x ∷ xs) zero d e within = refl
+read_within (x ∷ xs) (suc i) d e within = read_within xs i d e (omega arith)

@@ -1,0 +1,61 @@
+-- Edits of a mosaic, one after another.
+use Rattle.std.proofs.Common.{◌≡◌, ℕ, ◌+◌, ℤ, Bool, true, false, ◌||◌, List, [], ◌∷◌, map, refl, sym, ◌∙◌, ap, ap₂}
+use Rattle.std.specs.Prelude.{if◌then◌else◌}
+use Rattle.lattice.specs.declared.point.Point.{Point}
+use Rattle.lattice.specs.Lattice.{point_of}
+use Rattle.lattice.specs.Ground.{same_point}
+use Rattle.lattice.specs.Mosaic.{Tile, Mosaic}
+use Rattle.edits.specs.declared.edit.NewHeight.{NewHeight}
+use Rattle.edits.specs.Edits.{with_height, with_heights}
+use Rattle.edits.specs.Effect.{changed_from, edited, is_named}
+use Rattle.edits.proofs.SamePoints.{same_point_says}
+
+none_from : (e : ℕ) (l : List ℤ) → changed_from (λ e s. s) e l ≡ l
+none_from e [] = refl
+none_from e (s ∷ l) = ap (λ (r : List ℤ). s ∷ r) (none_from (e + 1) l)
+
+twice_from : (f g : ℕ → ℤ → ℤ) (e : ℕ) (l : List ℤ) → changed_from g e (changed_from f e l) ≡ changed_from (λ e s. g e (f e s)) e l
+twice_from f g e [] = refl
+twice_from f g e (s ∷ l) = ap (λ (r : List ℤ). g e (f e s) ∷ r) (twice_from f g (e + 1) l)
+
+-- to edit nothing
+pub edited_none : (m : Mosaic) → edited (λ p s. s) m ≡ m
+edited_none m = ap (λ (ts : List Tile). record m { tiles = ts }) (each m.tiles)
+  where
+    each : (ts : List Tile) → map (λ t. record { corner = t.corner; samples = changed_from (λ e s. s) 0 t.samples }) ts ≡ ts
+    each [] = refl
+    each (t ∷ ts) = ap₂ (λ (l : List ℤ) (rest : List Tile). record { corner = t.corner; samples = l } ∷ rest) (none_from 0 t.samples) (each ts)
+
+pub edited_twice : (f g : Point → ℤ → ℤ) (m : Mosaic) → edited g (edited f m) ≡ edited (λ p s. g p (f p s)) m
+edited_twice f g m = ap (λ (ts : List Tile). record m { tiles = ts }) (each m.tiles)
+  where
+    at : (Point → ℤ → ℤ) → Tile → Tile
+    at h t = record { corner = t.corner; samples = changed_from (λ e s. h (point_of m.side t.corner e) s) 0 t.samples }
+
+    each : (ts : List Tile) → map (at g) (map (at f) ts) ≡ map (at (λ p s. g p (f p s))) ts
+    each [] = refl
+    each (t ∷ ts) = ap₂ (λ (l : List ℤ) (rest : List Tile). record { corner = t.corner; samples = l } ∷ rest)
+        (twice_from (λ e s. f (point_of m.side t.corner e) s) (λ e s. g (point_of m.side t.corner e) s) 0 t.samples) (each ts)
+
+-- edits that come to the same
+pub edited_alike : (f g : Point → ℤ → ℤ) → ((p : Point) (s : ℤ) → f p s ≡ g p s) → (m : Mosaic) → edited f m ≡ edited g m
+edited_alike f g same m = ap (λ (h : Point → ℤ → ℤ). edited h m) (λ i p s. same p s i)
+
+abbrev pub height_by : (Point → ℤ) → Point → NewHeight
+height_by f p = record { point = p; metres = f p }
+
+-- the points with what is said of each, one after another
+pub named_heights : (f : Point → ℤ) (points : List Point) (m : Mosaic) → with_heights (map (height_by f) points) m ≡ edited (λ p s. if is_named points p then f p else s) m
+named_heights f [] m = sym (edited_none m)
+named_heights f (q ∷ rest) m =
+    named_heights f rest (with_height q (f q) m)
+    ∙ edited_twice (λ p s. if same_point p q then f q else s) (λ p s. if is_named rest p then f p else s) m
+    ∙ edited_alike (λ p s. if is_named rest p then f p else (if same_point p q then f q else s)) (λ p s. if is_named (q ∷ rest) p then f p else s) one m
+  where
+    by : (p : Point) (s : ℤ) (a b : Bool) → (a ≡ true → p ≡ q) → (if b then f p else (if a then f q else s)) ≡ (if a || b then f p else s)
+    by p s true true is = refl
+    by p s true false is = ap f (sym (is refl))
+    by p s false b is = refl
+
+    one : (p : Point) (s : ℤ) → (if is_named rest p then f p else (if same_point p q then f q else s)) ≡ (if is_named (q ∷ rest) p then f p else s)
+    one p s = by p s (same_point p q) (is_named rest p) (same_point_says p q)

@@ -1,0 +1,134 @@
+-- Treating the named points one after another.
+use Rattle.std.proofs.Common.{◌≡◌, ◌≢◌, ℕ, ◌+◌, ◌<◌, ◌≤◌, ℤ, pos, negsuc, ◌-ℤ◌, true, false, IsTrue, List, [], ◌∷◌, ◌++◌, map, length, get_or, take, drop, refl, sym, ◌∙◌, ap, ap₂}
+use Rattle.std.specs.Prelude.{Option, Some, Result, Ok, Err, IfOk, int_lt, if◌then◌else◌}
+use Rattle.std.proofs.lemmas.List.{take_more, take_all, at_drop_more, at_drop_all, map-append}
+use Rattle.arrayvec.specs.ArrayVec.{ArrayVec}
+use Rattle.lattice.specs.declared.point.Point.{Point}
+use Rattle.lattice.specs.declared.height.Height.TheVariants as height
+use Rattle.lattice.specs.declared.refusal.Refusal.{Refusal}
+use Rattle.lattice.specs.declared.refusal.Refusal.TheVariants.{TooDeep, Repeated}
+use Rattle.lattice.specs.Mosaic.{Mosaic, void}
+use Rattle.lattice.specs.Height.{height_of}
+use Rattle.lattice.specs.Ground.{metres}
+use Rattle.catalogue.specs.declared.samples.Samples.{Ghosts}
+use Rattle.catalogue.specs.Readers.{OnlyReads}
+use Rattle.catalogue.proofs.Reading.{reads_on, reads_nothing}
+use Rattle.edits.specs.declared.command.Command.TheVariants.{Burn, Wall}
+use Rattle.edits.specs.declared.edit.NewHeight.{NewHeight}
+use Rattle.edits.specs.declared.named.Treatment.{Treatment}
+use Rattle.edits.specs.declared.named.Treatment.TheVariants.{Lower, Raise}
+use Rattle.edits.specs.Edits.{points_of, with_heights}
+use Rattle.edits.specs.Effect.{effect, is_depth, is_height, is_repeated, first_fault, fault_at, edited, unless_fault, burnt, walled}
+use Rattle.edits.specs.Treatments.{treated, depth_of, treatment_at, fault_of, refuses, treats}
+use Rattle.edits.proofs.Edited.{height_by, named_heights}
+use Rattle.edits.proofs.Treating.{height_not_void, fault_says}
+
+-- the height that a point gets
+abbrev pub treated_at : Treatment → Mosaic → Point → ℤ
+treated_at t m p = treated t (metres (height_of m p))
+
+-- the first of these points have their new heights
+pub record HaveHeights {S : Type 0} (g : Ghosts S) (t : Treatment) (points : List Point) (i : ℕ) (old now : S) (heights : List NewHeight) : Type 0 where
+  pub reads : OnlyReads {T = Unit {0}} g old now (Ok tt)
+  pub named : points_of heights ≡ take i points
+  pub values : g.is_honest now → heights ≡ map (height_by (treated_at t (g.mosaic old))) (take i points)
+  pub faults : g.is_honest now → first_fault (g.mosaic old) (depth_of t) points ≡ first_fault (g.mosaic old) (depth_of t) (drop i points)
+
+module _ {S : Type 0} (g : Ghosts S) (t : Treatment) (points : List Point) where
+  pub heights_none : ((s : S) → g.keeps s s) → (s : S) → HaveHeights g t points 0 s s []
+  heights_none keeps_itself s = record {
+    reads = reads_nothing g keeps_itself s tt;
+    named = refl;
+    values = λ _. refl;
+    faults = λ _. refl;
+  }
+
+  module _ (i : ℕ) (p : Point) (old mid now : S) (heights : List NewHeight) (within : i < length points) (is : p ≡ get_or points i p) (so : HaveHeights g t points i old mid heights) where
+    -- the first fault from here on is this point's or a later one's
+    fault_from : g.is_honest mid → first_fault (g.mosaic old) (depth_of t) points ≡ fault_at (depth_of t) (height_of (g.mosaic mid) p) (first_fault (g.mosaic old) (depth_of t) (drop (i + 1) points))
+    fault_from honest =
+        so.faults honest
+        ∙ at_drop_more (first_fault (g.mosaic old) (depth_of t)) points i p within
+        ∙ ap₂ (λ (m : Mosaic) (q : Point). fault_at (depth_of t) (height_of m q) (first_fault (g.mosaic old) (depth_of t) (drop (i + 1) points))) (sym (so.reads.mosaic honest)) (sym is)
+
+    next : take i points ++ p ∷ [] ≡ take (i + 1) points
+    next = ap (λ (q : Point). take i points ++ q ∷ []) is ∙ sym (take_more points i p within)
+
+    pub heights_more : (keeps_on : (a b c : S) → g.keeps a b → g.keeps b c → g.keeps a c) (h s : ℤ) → OnlyReads {T = Unit {0}} g mid now (Ok tt) →
+        (g.is_honest now → height_of (g.mosaic mid) p ≡ height.At h) → s ≡ treated t h →
+        (h ≢ void → int_lt (h -ℤ depth_of t) (negsuc 32766) ≡ false) →
+        HaveHeights g t points (i + 1) old now (heights ++ record { point = p; metres = s } ∷ [])
+    heights_more keeps_on h s read at value shallow = record {
+      reads = reads_on g keeps_on old mid now tt (Ok tt) so.reads read;
+      named = map-append (λ (n : NewHeight). n.point) heights (record { point = p; metres = s } ∷ []) ∙ ap (λ (l : List Point). l ++ p ∷ []) so.named ∙ next;
+      values = λ honest.
+          let was = read.honest honest in
+          let here : s ≡ f p = value ∙ ap (treated t) (sym (ap metres (ap (λ (m : Mosaic). height_of m p) (sym (so.reads.mosaic was)) ∙ at honest))) in
+          ap₂ (λ (l : List NewHeight) (v : ℤ). l ++ record { point = p; metres = v } ∷ []) (so.values was) here
+          ∙ sym (map-append (height_by f) (take i points) (p ∷ []))
+          ∙ ap (map (height_by f)) next;
+      faults = λ honest. fault_from (read.honest honest) ∙ ap (λ v. fault_at (depth_of t) v (first_fault (g.mosaic old) (depth_of t) (drop (i + 1) points))) (at honest)
+          ∙ ap (λ b. if b then Some TooDeep else first_fault (g.mosaic old) (depth_of t) (drop (i + 1) points)) (shallow (height_not_void (g.mosaic mid) p h (at honest)));
+    }
+      where
+        f : Point → ℤ
+        f = treated_at t (g.mosaic old)
+
+    -- without a height, or too deep
+    pub heights_end : is_repeated points ≡ false → (r : Refusal) → g.is_honest mid → fault_at (depth_of t) (height_of (g.mosaic mid) p) (first_fault (g.mosaic old) (depth_of t) (drop (i + 1) points)) ≡ Some r →
+        treats t (g.mosaic old) points ≡ Err r
+    heights_end single r honest fault =
+        ap (λ b. if b then Err Repeated else unless_fault (first_fault (g.mosaic old) (depth_of t) points) made) single
+        ∙ ap (λ f. unless_fault f made) (fault_from honest ∙ fault)
+      where
+        made : Mosaic
+        made = edited (treatment_at t (g.mosaic old) points) (g.mosaic old)
+
+  module _ (i : ℕ) (old now : S) (heights : List NewHeight) (all : length points ≤ i) (so : HaveHeights g t points i old now heights) where
+    pub heights_named : points_of heights ≡ points
+    heights_named = so.named ∙ take_all i points all
+
+    pub heights_made : is_repeated points ≡ false → g.is_honest now → treats t (g.mosaic old) points ≡ Ok (with_heights heights (g.mosaic old))
+    heights_made single honest =
+        let m = g.mosaic old in
+        ap (λ b. if b then Err Repeated else unless_fault (first_fault m (depth_of t) points) (edited (treatment_at t m points) m)) single
+        ∙ ap (λ f. unless_fault f (edited (treatment_at t m points) m)) (so.faults honest ∙ at_drop_all (first_fault m (depth_of t)) points i all)
+        ∙ ap (λ (n : Mosaic). Ok n) (sym (ap (λ (l : List NewHeight). with_heights l m) (so.values honest ∙ ap (map (height_by (treated_at t m))) (take_all i points all))
+        ∙ named_heights (treated_at t m) points m))
+
+-- why a point ends the treatment
+pub ends_treating : {S : Type 0} (g : Ghosts S) (t : Treatment) (points : List Point) (i : ℕ) (p : Point) (old mid now : S) (heights : List NewHeight) → i < length points → p ≡ get_or points i p
+    → HaveHeights g t points i old mid heights → is_repeated points ≡ false → (r : Refusal) → g.is_honest mid → fault_of (height_of (g.mosaic mid) p) r → IsTrue (refuses t r) → treats t (g.mosaic old) points ≡ Err r
+ends_treating g t points i p old mid now heights within is so single r honest why fault =
+    heights_end g t points i p old mid now heights within is so single r honest (by r why fault)
+  where
+    later : Option Refusal
+    later = first_fault (g.mosaic old) (depth_of t) (drop (i + 1) points)
+
+    by : (r : Refusal) → fault_of (height_of (g.mosaic mid) p) r → IsTrue (refuses t r) → fault_at (depth_of t) (height_of (g.mosaic mid) p) later ≡ Some r
+    by Repeated why fault = absurd why
+    by r why fault = fault_says t (height_of (g.mosaic mid) p) r later why fault
+
+pub deep_treating : {S : Type 0} (g : Ghosts S) (t : Treatment) (points : List Point) (i : ℕ) (p : Point) (old mid now : S) (heights : List NewHeight) → i < length points → p ≡ get_or points i p
+    → HaveHeights g t points i old mid heights → is_repeated points ≡ false → (h : ℤ) → g.is_honest mid → height_of (g.mosaic mid) p ≡ height.At h → int_lt (h -ℤ depth_of t) (negsuc 32766) ≡ true
+    → treats t (g.mosaic old) points ≡ Err TooDeep
+deep_treating g t points i p old mid now heights within is so single h honest at deep =
+    heights_end g t points i p old mid now heights within is so single TooDeep honest
+    (ap (λ v. fault_at (depth_of t) v later) at ∙ ap (λ b. if b then Some TooDeep else later) deep)
+  where
+    later : Option Refusal
+    later = first_fault (g.mosaic old) (depth_of t) (drop (i + 1) points)
+
+-- the effect of burns and walls, by the treatment of their points
+
+pub burn_made : (capacity : ℕ) (m : Mosaic) (depth : ℤ) (by_ : ℕ) (points : ArrayVec Point) (result : Result (ArrayVec NewHeight) Refusal) → is_depth depth ≡ true → depth ≡ pos by_ →
+    IfOk result (λ heights. treats (Lower by_) m points.items ≡ Ok (with_heights heights.items m)) → IfOk result (λ heights. effect capacity m (Burn depth points) ≡ Ok (with_heights heights.items m))
+burn_made capacity m depth by_ points (Ok heights) in_range same made =
+    rw in_range (ap (λ d. if is_repeated points.items then Err Repeated else unless_fault (first_fault m d points.items) (burnt d points.items m)) same ∙ made)
+burn_made capacity m depth by_ points (Err r) in_range same made = tt
+
+pub wall_made : (capacity : ℕ) (m : Mosaic) (h to : ℤ) (points : ArrayVec Point) (result : Result (ArrayVec NewHeight) Refusal) → is_height h ≡ true → h ≡ to →
+    IfOk result (λ heights. treats (Raise to) m points.items ≡ Ok (with_heights heights.items m)) → IfOk result (λ heights. effect capacity m (Wall h points) ≡ Ok (with_heights heights.items m))
+wall_made capacity m h to points (Ok heights) in_range same made =
+    rw in_range (ap (λ k. if is_repeated points.items then Err Repeated else unless_fault (first_fault m (pos 0) points.items) (walled k points.items m)) same ∙ made)
+wall_made capacity m h to points (Err r) in_range same made = tt

@@ -1,0 +1,83 @@
+//! The heights that burns and walls give to the points that they name.
+ghost use Rattle.std.specs.Prelude.{◌≡◌, ◌≢◌, ◌||◌, ℕ, Ok, Err, IsTrue, IfOk, IfErr};
+ghost use Rattle.lattice.specs.declared.refusal.Refusal.TheVariants.{NoMemory};
+ghost use Rattle.catalogue.specs.Endings.{ends_any};
+ghost use Rattle.catalogue.specs.Readers.{OnlyReads, reads_of};
+ghost use Rattle.edits.specs.Edits.{points_of, with_heights};
+ghost use Rattle.edits.specs.Effect.{effect};
+ghost use Rattle.edits.specs.Plans.{is_own, may_end};
+ghost use Rattle.edits.specs.Treatments.{treats, refuses};
+ghost use Rattle.edits.specs.declared.command.Command.TheVariants.{Burn, Wall};
+
+use crate::NewHeight;
+use crate::named::{DEEPEST, HIGHEST, LOWEST, Treatment, ground, is_repeated};
+use arrayvec::ArrayVec;
+use catalogue::Samples;
+use lattice::{Point, Refusal};
+
+/// The heights that a burn gives to its points.
+pub(crate) fn lowered<S: Samples>(
+    samples: &mut S,
+    depth: i32,
+    points: &ArrayVec<Point, 64>,
+) -> Result<ArrayVec<NewHeight, 64>, Refusal>
+    ensures made { (capacity : ℕ) → S.is_honest samples.new → IfOk result (λ heights. effect capacity (S.mosaic samples.old) (Burn depth points.now) ≡ Ok (with_heights heights.items (S.mosaic samples.old))) }
+    ensures refused { (capacity : ℕ) → S.is_honest samples.new → IfErr result (λ r. IsTrue (is_own (Burn depth points.now) r) → effect capacity (S.mosaic samples.old) (Burn depth points.now) ≡ Err r) }
+    ensures causes { IfErr result (λ r. IsTrue (may_end (Burn depth points.now) r)) }
+    ensures memory { IfErr result (λ r. r ≢ NoMemory) }
+    ensures points { IfOk result (λ heights. points_of heights.items ≡ points.now.items) }
+    ensures reads { OnlyReads S.Samples samples.old samples.new (reads_of result) }
+{
+    if depth < 1 || DEEPEST < depth {
+        return Err(Refusal::BadDepth);
+    }
+    treat(samples, points, Treatment::Lower { by: depth as u16 })
+}
+
+/// The heights that a wall gives to its points.
+pub(crate) fn raised<S: Samples>(
+    samples: &mut S,
+    height: i32,
+    points: &ArrayVec<Point, 64>,
+) -> Result<ArrayVec<NewHeight, 64>, Refusal>
+    ensures made { (capacity : ℕ) → S.is_honest samples.new → IfOk result (λ heights. effect capacity (S.mosaic samples.old) (Wall height points.now) ≡ Ok (with_heights heights.items (S.mosaic samples.old))) }
+    ensures refused { (capacity : ℕ) → S.is_honest samples.new → IfErr result (λ r. IsTrue (is_own (Wall height points.now) r) → effect capacity (S.mosaic samples.old) (Wall height points.now) ≡ Err r) }
+    ensures causes { IfErr result (λ r. IsTrue (may_end (Wall height points.now) r)) }
+    ensures memory { IfErr result (λ r. r ≢ NoMemory) }
+    ensures points { IfOk result (λ heights. points_of heights.items ≡ points.now.items) }
+    ensures reads { OnlyReads S.Samples samples.old samples.new (reads_of result) }
+{
+    if height < LOWEST || HIGHEST < height {
+        return Err(Refusal::BadHeight);
+    }
+    treat(samples, points, Treatment::Raise { to: height as i16 })
+}
+
+// The points with their new heights. None of them may be named twice.
+fn treat<S: Samples>(
+    samples: &mut S,
+    points: &ArrayVec<Point, 64>,
+    treatment: Treatment,
+) -> Result<ArrayVec<NewHeight, 64>, Refusal>
+    ensures made { S.is_honest samples.new → IfOk result (λ heights. treats treatment (S.mosaic samples.old) points.now.items ≡ Ok (with_heights heights.items (S.mosaic samples.old))) }
+    ensures refused { S.is_honest samples.new → IfErr result (λ r. IsTrue (refuses treatment r) → treats treatment (S.mosaic samples.old) points.now.items ≡ Err r) }
+    ensures causes { IfErr result (λ r. IsTrue (refuses treatment r || ends_any r)) }
+    ensures memory { IfErr result (λ r. r ≢ NoMemory) }
+    ensures points { IfOk result (λ heights. points_of heights.items ≡ points.now.items) }
+    ensures reads { OnlyReads S.Samples samples.old samples.new (reads_of result) }
+{
+    let points = points.as_slice();
+    if is_repeated(points) {
+        return Err(Refusal::Repeated);
+    }
+    let mut heights = ArrayVec::new();
+    for point in points {
+        let height = ground(samples, *point)?;
+        let metres = treatment.of(height)?;
+        heights.push(NewHeight {
+            point: *point,
+            metres,
+        });
+    }
+    Ok(heights)
+}
