@@ -20,3 +20,4 @@ pub mod Crested
 pub mod Listing
 pub mod Told
 pub mod Others
+pub mod RowsTogether

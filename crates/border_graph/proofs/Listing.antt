@@ -3,7 +3,7 @@ use Rattle.std.proofs.Common.{◌≡◌, ℕ, ◌+◌, ◌<◌, ◌≤◌, ◌�
 use Rattle.std.proofs.lemmas.Bool.{cases_lt}
 use Rattle.std.proofs.lemmas.List.{get_or_default}
 use Rattle.std.proofs.lemmas.List.Elements.{Contains-get_or, Contains-append_left, Contains-push, Contains-push_cases}
-use Rattle.border_graph.specs.declared.waiting.Link.{Link}
+use Rattle.border_graph.specs.declared.link_rows.ShortLink.{ShortLink}
 use Rattle.border_graph.specs.declared.edge_source.Edge.{Edge}
 use Rattle.border_graph.specs.TileGraph.{turned, out_at, AreListedStill, AreTurned, AreOut}
 
@@ -17,8 +17,8 @@ last_has mid new way is = subst (λ (l : List Edge). Contains l way) (sym is) (C
 pub before_or_last : (mid new : List Edge) (way x : Edge) → new ≡ mid ++ way ∷ [] → Contains new x → Contains mid x ⊎ (x ≡ way)
 before_or_last mid new way x is has = elim (Contains-push_cases mid way x (subst (λ (l : List Edge). Contains l x) is has)) [ inl before ↦ inl before | inr last ↦ inr (sym last) ]
 
-module _ (row : List Link) (i : ℕ) (link d : Link) (small : i < length row) (at : link ≡ get_or row i d) where
-  this : (j : ℕ) (e : Link) → j < i + 1 → i ≤ j → link ≡ get_or row j e
+module _ (row : List ShortLink) (i : ℕ) (link d : ShortLink) (small : i < length row) (at : link ≡ get_or row i d) where
+  this : (j : ℕ) (e : ShortLink) → j < i + 1 → i ≤ j → link ≡ get_or row j e
   this j e below later =
       let same : i ≡ j = omega arith in
       at ∙ (get_or_default row i d e small ∙ ap (λ k. get_or row k e) same)
@@ -31,7 +31,7 @@ module _ (row : List Link) (i : ℕ) (link d : Link) (small : i < length row) (a
     still = still_more old mid new way more r.still;
     listed = λ j e below. elim (cases_lt j i) [
       | inl earlier ↦ still_more mid mid new way more (λ x has. has) (turned first (get_or row j e)) (r.listed j e earlier)
-      | inr later ↦ subst (λ (l : Link). Contains new (turned first l)) (this j e below later) (subst (Contains new) is (last_has mid new way more))
+      | inr later ↦ subst (λ (l : ShortLink). Contains new (turned first l)) (this j e below later) (subst (Contains new) is (last_has mid new way more))
     ];
     only = λ x has. elim (before_or_last mid new way x more has) [
       | inl before ↦ r.only x before
@@ -45,7 +45,7 @@ module _ (row : List Link) (i : ℕ) (link d : Link) (small : i < length row) (a
       still = still_more old mid new way more r.still;
       listed = λ j e below of. elim (cases_lt j i) [
         | inl earlier ↦ still_more mid mid new way more (λ x has. has) (out_at (get_or row j e)) (r.listed j e earlier of)
-        | inr later ↦ subst (λ (l : Link). Contains new (out_at l)) (this j e below later) (subst (Contains new) is (last_has mid new way more))
+        | inr later ↦ subst (λ (l : ShortLink). Contains new (out_at l)) (this j e below later) (subst (Contains new) is (last_has mid new way more))
       ];
       only = λ x has. elim (before_or_last mid new way x more has) [
         | inl before ↦ r.only x before
@@ -58,7 +58,7 @@ module _ (row : List Link) (i : ℕ) (link d : Link) (small : i < length row) (a
       still = r.still;
       listed = λ j e below of. elim (cases_lt j i) [
         | inl earlier ↦ r.listed j e earlier of
-        | inr later ↦ absurd (other (ap (λ (l : Link). l.from) (this j e below later) ∙ of))
+        | inr later ↦ absurd (other (ap (λ (l : ShortLink). l.from) (this j e below later) ∙ of))
       ];
       only = r.only;
     }

@@ -13,3 +13,4 @@ pub mod Crests
 pub mod Placed
 pub mod TileGraph
 pub mod Others
+pub mod LinkRows

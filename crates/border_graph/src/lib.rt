@@ -10,6 +10,7 @@ mod bottleneck;
 mod edge_source;
 mod frontier;
 mod joining;
+mod link_rows;
 mod linking;
 mod rising;
 mod seams;

@@ -2,13 +2,13 @@
 ghost use Rattle.std.specs.Prelude.{◌≡◌, ◌+◌, ◌-◌, ◌*◌, ◌^◌, ◌<◌, IfOk, IfErr, OnOk, Contains, length};
 ghost use Rattle.lattice.specs.declared.refusal.Refusal.TheVariants.{NoMemory};
 ghost use Rattle.border_graph.specs.Joining.{rim_point};
-ghost use Rattle.border_graph.specs.declared.waiting.Link.{Link as LinkOf};
+ghost use Rattle.border_graph.specs.declared.link_rows.ShortLink.{ShortLink as LinkOf};
 ghost use Rattle.border_graph.specs.TileGraph.{turned, out_at, AreTurned, AreOut, AreEdgesOut, AreEdgesAcross};
 
 use crate::Edge;
+use crate::link_rows::{LinkRows, ShortLink, rows_together};
 use crate::linking::links_between;
 use crate::summary::Summary;
-use crate::waiting::Link;
 use lattice::{Refusal, Side, VOID};
 use std::alloc::{AllocError, Global};
 use std::marker::Model;
@@ -19,18 +19,17 @@ use std::slice::from_ref;
 pub struct TileGraph {
     side: Side,
     summary: Summary,
-    links: Vec<Vec<Link>>,
+    rows: LinkRows,
 }
 
 impl Model for TileGraph {
-    ghost use Rattle.std.specs.Prelude.{map};
-    ghost use Rattle.border_graph.specs.TileGraph.{TileGraph, AreTileLinks};
+    ghost use Rattle.border_graph.specs.TileGraph.{TileGraph, AreTileRows};
 
     ghost Value = { TileGraph };
 
     ghost view = { λ t. record { side = t.side; summary = t.summary } };
 
-    ghost invariant = { λ t. AreTileLinks t.side t.summary (map (λ v. v.items) t.links.items) };
+    ghost invariant = { λ t. AreTileRows t.side t.summary t.rows.starts.items t.rows.links.items };
 }
 
 impl TileGraph {
@@ -42,10 +41,11 @@ impl TileGraph {
         // The side is known to be in range once it was read.
         let _edge = side.edge();
         let links = links_between(alloc, side, from_ref(&summary))?;
+        let rows = rows_together(alloc, &links)?;
         Ok(TileGraph {
             side,
             summary,
-            links,
+            rows,
         })
     }
 
@@ -71,7 +71,7 @@ impl TileGraph {
         requires { k < 4 * (self.now.side - 1) }
         ensures { OnOk result (AreEdgesOut self.now.side self.now.summary k into.old.items into.new.items) }
     {
-        push_out(&self.links[0], 1 + k as usize, into)?;
+        push_out(self.rows.row(0), 1 + k as usize, into)?;
         Ok(())
     }
 
@@ -82,17 +82,17 @@ impl TileGraph {
         requires room { first + 4 * (self.now.side - 1) < 2 ^ 32 }
         ensures { OnOk result (AreEdgesAcross self.now.side self.now.summary k first into.old.items into.new.items) }
     {
-        push_turned(&self.links[1 + k as usize], first, into)?;
+        push_turned(self.rows.row(1 + k as usize), first, into)?;
         Ok(())
     }
 }
 
 // Lists an edge to the outlet node for each link of the row that leads from the node.
-fn push_out(row: &[Link], from: usize, into: &mut Vec<Edge>) -> Result<(), AllocError>
+fn push_out(row: &[ShortLink], from: usize, into: &mut Vec<Edge>) -> Result<(), AllocError>
     ensures { OnOk result (AreOut row.now (length row.now) from into.old.items into.new.items) }
 {
     for link in row {
-        if link.from == from {
+        if link.from as usize == from {
             into.push(out_at(*link))?;
         }
     }
@@ -100,7 +100,7 @@ fn push_out(row: &[Link], from: usize, into: &mut Vec<Edge>) -> Result<(), Alloc
 }
 
 // Lists an edge to the start of each link of the row.
-fn push_turned(row: &[Link], first: u32, into: &mut Vec<Edge>) -> Result<(), AllocError>
+fn push_turned(row: &[ShortLink], first: u32, into: &mut Vec<Edge>) -> Result<(), AllocError>
     requires { (link : LinkOf) → Contains row.now link → first + link.from < 2 ^ 32 }
     ensures { OnOk result (AreTurned row.now (length row.now) first into.old.items into.new.items) }
 {
@@ -111,7 +111,7 @@ fn push_turned(row: &[Link], first: u32, into: &mut Vec<Edge>) -> Result<(), All
 }
 
 // The edge to the outlet node at the level of the link.
-fn out_at(link: Link) -> Edge
+fn out_at(link: ShortLink) -> Edge
     ensures { result ≡ out_at link }
 {
     Edge {
@@ -121,12 +121,12 @@ fn out_at(link: Link) -> Edge
 }
 
 // The edge to the start of the link.
-fn turned(first: u32, link: Link) -> Edge
+fn turned(first: u32, link: ShortLink) -> Edge
     requires { first + link.from < 2 ^ 32 }
     ensures { result ≡ turned first link }
 {
     Edge {
         level: link.level,
-        to: first + link.from as u32,
+        to: first + u32::from(link.from),
     }
 }

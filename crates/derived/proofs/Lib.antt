@@ -1,2 +1,3 @@
 mod LittleBytes
 mod Fitting
+mod Mended

@@ -1,10 +1,14 @@
 -- Labellings of tiles, made or kept, and when the marks of what is kept fit each other (this product's own profile, after
 -- the tiled flooding of Barnes 2016).
-use Rattle.std.specs.Prelude.{◌≡◌, ◌≢◌, ℕ, ◌*◌, ◌-◌, ◌<◌, ℤ, List, None, IsTrue, length, slice_index, slice_index_or}
+use Rattle.std.specs.Prelude.{◌≡◌, ◌≢◌, ℕ, ◌*◌, ◌-◌, ◌<◌, ◌⊎◌, ℤ, List, None, IsTrue, Contains, length, slice_index, slice_index_or}
 use Rattle.lattice.specs.Corners.{Corner}
+use Rattle.lattice.specs.Lattice.{point_of}
 use Rattle.lattice.specs.Mosaic.{Mosaic, void}
-use Rattle.lattice.specs.Block.{Block, IsBlockOf, is_rim, rim_number}
+use Rattle.lattice.specs.Block.{Block, IsBlockOf, is_rim, is_sink_at, rim_number}
+use Rattle.lattice.specs.Ground.{is_sink, metres}
+use Rattle.lattice.specs.Height.{height_of}
 use Rattle.tile_flood.specs.Blocks.{LabelledGround}
+use Rattle.tile_flood.specs.Carried.{AreCarried}
 use Rattle.tile_flood.specs.Labelling.{IsLabelling}
 use Rattle.tile_flood.specs.Raising.{raised_level}
 
@@ -12,6 +16,25 @@ use Rattle.tile_flood.specs.Raising.{raised_level}
 pub record IsFlooded (m : Mosaic) (c : Corner) (labelled : LabelledGround) : Type 0 where
   pub side : labelled.side ≡ m.side
   pub valid : (b : Block) × (IsBlockOf m c b × IsLabelling b labelled.levels labelled.labels)
+
+-- a block, its labelling, and those of its points whose heights may have changed since
+pub record FloodedGround : Type 0 where
+  pub block : Block
+  pub labelled : LabelledGround
+  pub changed : List ℕ
+
+-- a valid labelling of the block, carried to each point
+pub record IsFloodOf (b : Block) (labelled : LabelledGround) : Type 0 where
+  pub side : labelled.side ≡ b.side
+  pub labelling : IsLabelling b labelled.levels labelled.labels
+  pub carried : AreCarried b labelled.levels labelled.labels
+
+-- the block is the ground of the corner's tile, but for the heights of these points
+pub record IsBlockBut (m : Mosaic) (c : Corner) (changed : List ℕ) (b : Block) : Type 0 where
+  pub side : b.side ≡ m.side
+  pub whole : length b.heights ≡ m.side * m.side
+  pub heights : (e : ℕ) → e < m.side * m.side → (slice_index_or b.heights e void ≡ metres (height_of m (point_of m.side c e))) ⊎ Contains changed e
+  pub sinks : (e : ℕ) → e < m.side * m.side → is_sink_at b e ≡ is_sink m (point_of m.side c e)
 
 -- these are the levels of the rim, by rim number
 pub record AreLevelsOfRim (n : ℕ) (levels rim : List ℤ) : Type 0 where

@@ -1,1 +1,3 @@
 pub mod Labellings
+pub mod TileLabellings
+pub mod Updating

@@ -1,28 +1,32 @@
 //! Labellings of tiles, whether they are made or were kept.
-ghost use Rattle.std.specs.Prelude.{◌≡◌, ◌⊎◌, IsTrue, IfOk, IfErr, Contains};
+ghost use Rattle.std.specs.Prelude.{◌≡◌, ◌⊎◌, [], IsTrue, IfOk, IfErr, Contains};
 ghost use Rattle.lattice.specs.Block.{IsBlockOf};
 ghost use Rattle.lattice.specs.declared.refusal.Refusal.TheVariants.{NoMemory};
 ghost use Rattle.catalogue.specs.Asked.{Asked};
 ghost use Rattle.catalogue.specs.Endings.{ends_any};
 ghost use Rattle.catalogue.specs.Readers.{OnlyReads, reads_of};
 ghost use Rattle.catalogue.specs.Reading.{MayRefuse};
-ghost use Rattle.derived.specs.Labellings.{IsFlooded};
+ghost use Rattle.derived.specs.Labellings.{IsBlockBut};
+ghost use Rattle.derived.specs.TileLabellings.{labelled_of, IsCurrent, IsTileLabelling};
 
+use crate::flooded_block::FloodedBlock;
+use crate::tile_labelling::TileLabelling;
 use catalogue::{Samples, Table, block_heights};
 use lattice::{Corner, Refusal, sinks_in};
 use std::alloc::Global;
-use tile_flood::{Block, Flood, Labelled};
+use tile_flood::Block;
 
 /// Samples of which the labelling of each tile can be had: by a flood, or because it was kept.
 pub trait Labellings: Samples {
-    /// A valid labelling of the block of the corner's tile.
+    /// A valid labelling of the block of the corner's tile, as it was kept, or with the block where that was flooded.
     ///
     /// Refused with NoMemory, as a read is, or with Damaged where what was kept of the tile is no labelling. After that
     /// the samples can be read on.
-    fn labelling(&mut self, alloc: Global, corner: Corner) -> Result<Labelled, Refusal>
+    fn labelling(&mut self, alloc: Global, corner: Corner) -> Result<TileLabelling, Refusal>
         requires { Contains (Self.corners self.old) corner }
-        ensures flooded { Self.is_honest self.new → IfOk result (IsFlooded (Self.mosaic self.old) corner) }
-        ensures side { IfOk result (λ labelled. labelled.side ≡ Self.side_of self.old) }
+        ensures valid { Self.is_honest self.new → IfOk result (IsTileLabelling (Self.mosaic self.old) corner) }
+        ensures current { IfOk result IsCurrent }
+        ensures side { IfOk result (λ labelling. (labelled_of labelling).side ≡ Self.side_of self.old) }
         ensures causes { IfErr result (λ r. IsTrue (ends_any r)) }
         ensures asked { Asked Self.Samples self.old self.new result };
 }
@@ -33,15 +37,16 @@ pub fn flooded<S: Samples>(
     alloc: Global,
     samples: &mut S,
     corner: Corner,
-) -> Result<Labelled, Refusal>
+) -> Result<FloodedBlock, Refusal>
     requires { Contains (S.corners samples.old) corner }
-    ensures flooded { S.is_honest samples.new → IfOk result (IsFlooded (S.mosaic samples.old) corner) }
-    ensures side { IfOk result (λ labelled. labelled.side ≡ S.side_of samples.old) }
+    ensures block { S.is_honest samples.new → IfOk result (λ flooded. IsBlockBut (S.mosaic samples.old) corner [] flooded.block) }
+    ensures current { IfOk result (λ flooded. flooded.changed ≡ []) }
+    ensures side { IfOk result (λ flooded. flooded.labelled.side ≡ S.side_of samples.old) }
     ensures refusal { IfErr result (λ r. (r ≡ NoMemory) ⊎ MayRefuse (S.failures samples.old) (S.failures samples.new) r) }
     ensures reads { OnlyReads S.Samples samples.old samples.new (reads_of result) }
 {
     let block = block_of(alloc, samples, corner)?;
-    Flood::run(alloc, &block)
+    FloodedBlock::new(alloc, block)
 }
 
 // The block of the corner's tile.
@@ -62,7 +67,7 @@ fn block_of<S: Samples>(alloc: Global, samples: &mut S, corner: Corner) -> Resul
 }
 
 impl Labellings for Table {
-    fn labelling(&mut self, alloc: Global, corner: Corner) -> Result<Labelled, Refusal> {
-        flooded(alloc, self, corner)
+    fn labelling(&mut self, alloc: Global, corner: Corner) -> Result<TileLabelling, Refusal> {
+        Ok(TileLabelling::Flooded(flooded(alloc, self, corner)?))
     }
 }

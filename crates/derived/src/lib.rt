@@ -5,10 +5,14 @@
 #![tactic(auto)]
 
 mod bytes;
+mod flooded_block;
 mod labellings;
 mod planes;
 mod reading;
+mod tile_labelling;
 
+pub use flooded_block::FloodedBlock;
 pub use labellings::{Labellings, flooded};
 pub use planes::{KeptPlanes, kept_planes};
 pub use reading::labelled_from;
+pub use tile_labelling::TileLabelling;

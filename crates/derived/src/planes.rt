@@ -34,7 +34,8 @@ pub fn kept_planes<S: Samples>(
     ensures refusal { IfErr result (λ r. (r ≡ NoMemory) ⊎ MayRefuse (S.failures samples.old) (S.failures samples.new) r) }
     ensures reads { OnlyReads S.Samples samples.old samples.new (reads_of result) }
 {
-    let labelled = flooded(alloc, samples, corner)?;
+    let flooded = flooded(alloc, samples, corner)?;
+    let labelled = flooded.labelled();
     let levels = level_bytes(alloc, labelled.levels())?;
     let labels = label_bytes(alloc, labelled.labels())?;
     Ok(KeptPlanes { levels, labels })

@@ -15,17 +15,18 @@ use Rattle.catalogue.specs.Tiles.{corners_of}
 use Rattle.catalogue.proofs.Sharing.{shared_from}
 use Rattle.downstream.specs.Near.{IsNear}
 use Rattle.downstream.proofs.Nearby.{all_around, level_ground, told}
+use Rattle.derived.specs.Labellings.{IsFlooded}
 use Rattle.border_graph.specs.Others.{corner_at}
 use Rattle.tile_flood.specs.Blocks.{LabelledGround}
 use Rattle.tile_flood.specs.Labelling.{OUT, NO_LABEL}
-use Rattle.drainage.specs.Holding.{Known, IsRimLevel, IsRight, entered_at, level_of}
+use Rattle.drainage.specs.Holding.{Known, IsRimLevel, IsRight, level_of}
 use Rattle.drainage.specs.Nearby.{IsToldOf}
 use Rattle.drainage.proofs.Filled.{level_inside, level_over}
 use Rattle.drainage.proofs.Found.{start_is}
 
 -- a point by its index in a tile whose labelling is held, with its level and its label there
 module _ (known : Known) (p : Point) (t e : ℕ) (c : Corner) (small : t < length known.corners) (place : corner_at known.corners t ≡ c) (index : IsIndexOf known.side c p e)
-    (labelled : LabelledGround) (held : entered_at known.entered t ≡ Some labelled) (level : ℤ) (label : ℕ) (level_is : level ≡ slice_index_or labelled.levels e void) (label_is : label ≡ slice_index labelled.labels e) where
+    (labelled : LabelledGround) (held : (m : Mosaic) → IsRight m known → IsFlooded m c labelled) (level : ℤ) (label : ℕ) (level_is : level ≡ slice_index_or labelled.levels e void) (label_is : label ≡ slice_index labelled.labels e) where
   index_here : IsIndexOf known.side (corner_at known.corners t) p e
   index_here = subst (λ (d : Corner). IsIndexOf known.side d p e) (sym place) index
 
@@ -35,18 +36,21 @@ module _ (known : Known) (p : Point) (t e : ℕ) (c : Corner) (small : t < lengt
   at : corner_at known.corners t ≡ get_or known.corners t (corner_at known.corners t)
   at = sym (get_or_default known.corners t (corner_at known.corners t) (record { lat = pos 0; lon = pos 0 }) small)
 
+  flooded : (m : Mosaic) → IsRight m known → IsFlooded m (corner_at known.corners t) labelled
+  flooded m right = subst (λ (d : Corner). IsFlooded m d labelled) (sym place) (held m right)
+
   -- its label is OUT
   pub told_out : label ≢ NO_LABEL → label ≡ OUT → IsToldOf known t p (Some level)
   told_out ground out = record {
     held = holds;
-    level = λ m is right. level_inside m is p known right known.corners refl t e (small, index_here) (corner_at known.corners t) at level label (labelled, (right.entered t labelled held, (level_is, label_is))) ground out;
+    level = λ m is right. level_inside m is p known right known.corners refl t e (small, index_here) (corner_at known.corners t) at level label (labelled, (flooded m right, (level_is, label_is))) ground out;
   }
 
   -- or names a rim point whose level is known
   pub told_over : label ≢ NO_LABEL → label ≢ OUT → (start : ℕ) (v : ℤ) → start ≡ 1 + t * (4 * (known.side - 1)) + label → level_of known.levels start ≡ Some v → IsToldOf known t p (Some (int_max level v))
   told_over ground named start v node known_there = record {
     held = holds;
-    level = λ m is right. level_over m is p known right known.corners refl t e (small, index_here) (corner_at known.corners t) at level label (labelled, (right.entered t labelled held, (level_is, label_is))) ground named v
+    level = λ m is right. level_over m is p known right known.corners refl t e (small, index_here) (corner_at known.corners t) at level label (labelled, (flooded m right, (level_is, label_is))) ground named v
         (subst (λ x. IsRimLevel m known.corners x v) (start_is m known t label start right node) (right.levels start v known_there));
   }
 

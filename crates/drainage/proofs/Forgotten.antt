@@ -1,55 +1,72 @@
 -- What is left of what was known is right for the mosaic as it changed; and lists whose elements are given up one by one.
-use Rattle.std.proofs.Common.{◌≡◌, ℕ, zero, suc, ◌+◌, ◌-◌, ◌*◌, ◌^◌, ◌<◌, ◌≤◌, inl, inr, Bool, true, false, List, [], ◌∷◌, length, get_or, sym, ap, ◌∙◌, subst, arith}
+use Rattle.std.proofs.Common.{◌≡◌, ℕ, zero, suc, ℤ, ◌+◌, ◌-◌, ◌*◌, ◌^◌, ◌<◌, ◌≤◌, inl, inr, Bool, true, false, List, [], ◌∷◌, length, get_or, sym, ap, ◌∙◌, subst, arith}
 use Rattle.std.specs.Prelude.{◌↔◌, Option, Some, None, slice_set, nat_lt, not}
 use Rattle.std.proofs.lemmas.Bool.{cases_eq, or_parts, both_ways}
 use Rattle.std.proofs.lemmas.List.{get_or-set_other, get_or-set_same, length-set}
 use Rattle.lattice.specs.Corners.{Corner}
 use Rattle.lattice.specs.declared.point.Point.{Point}
 use Rattle.lattice.specs.Mosaic.{Mosaic}
-use Rattle.derived.specs.Labellings.{IsFlooded}
+use Rattle.derived.specs.TileLabellings.{IsTileLabelling}
 use Rattle.border_graph.specs.Others.{corner_at}
-use Rattle.drainage.specs.Forgetting.{IsLeftOf}
-use Rattle.drainage.specs.Holding.{Known, IsRight}
-use Rattle.drainage.specs.Reaching.{is_reached, reaches, DifferBetween}
-use Rattle.drainage.specs.Shores.{AreReady}
-use Rattle.drainage.proofs.Unreached.{flooded_still, summary_still}
+use Rattle.border_graph.specs.TileGraph.{TileGraph}
+use Rattle.drainage.specs.Forgetting.{IsLeftOf, IsNotedOf}
+use Rattle.drainage.specs.Holding.{Known, IsEntered, IsRight, IsRimLevel, level_of}
+use Rattle.drainage.specs.Reaching.{is_reached, reaches, DifferAt, DifferBetween}
+use Rattle.drainage.specs.Shores.{AreReady, told_at}
+use Rattle.drainage.proofs.Unreached.{labelling_still, summary_still}
 
 -- ---- what is left is right
 
 none_is : {A : Type 0} (a : A) → ◌≡◌ {A = Option A} None (Some a) → ⊥
 none_is a e = cc
 
+module _ (m new : Mosaic) (from to : Point) (known known' : Known) (differ : DifferBetween m new from to) (same_side : known'.side ≡ known.side) (same_corners : known'.corners ≡ known.corners)
+    (whole : length known'.told ≡ length known.told)
+    (told : (t : ℕ) (ways : TileGraph) → told_at known'.told t ≡ Some ways ↔ ((told_at known.told t ≡ Some ways) × (is_reached known.side known.corners from to t ≡ false)))
+    (right : IsRight m known) where
+  unreached : (t : ℕ) → is_reached known.side known.corners from to t ≡ false → reaches m.side (corner_at known.corners t) from to ≡ false
+  unreached t out = ap (λ (n : ℕ). reaches n (corner_at known.corners t) from to) (sym right.ready.same_side)
+      ∙ (or_parts (not (nat_lt t (length known.corners))) (reaches known.side (corner_at known.corners t) from to) out).1
+
+  -- the summaries that are left
+  left_ready : AreReady new known'.side known'.corners known'.told
+  left_ready = record {
+    same_side = same_side ∙ (right.ready.same_side ∙ sym differ.same_side);
+    all = same_corners ∙ (right.ready.all ∙ sym differ.same_corners);
+    room = subst (λ (n : ℕ). 1 + length known'.corners * (4 * (n - 1)) < 2 ^ 32) (sym same_side)
+        (subst (λ (cs : List Corner). 1 + length cs * (4 * (known.side - 1)) < 2 ^ 32) (sym same_corners) right.ready.room);
+    tiles = record {
+      whole = whole ∙ (right.ready.tiles.whole ∙ ap (λ (cs : List Corner). length cs) (sym same_corners));
+      sides = λ t ways is. right.ready.tiles.sides t ways ((told t ways).0 is).0 ∙ sym same_side;
+      places = λ t ways is. right.ready.tiles.places t ways ((told t ways).0 is).0 ∙ ap (λ (cs : List Corner). corner_at cs t) (sym same_corners);
+      summaries = λ t ways is.
+          let was = (told t ways).0 is in
+          let out : reaches m.side ways.summary.corner from to ≡ false = ap (λ (c : Corner). reaches m.side c from to) (right.ready.tiles.places t ways was.0) ∙ unreached t was.1 in
+          summary_still m new from to differ ways.summary out (right.ready.tiles.summaries t ways was.0);
+    };
+  }
+
+  no_levels : ((x : ℕ) → level_of known'.levels x ≡ None) → (x : ℕ) (level : ℤ) → level_of known'.levels x ≡ Some level → IsRimLevel new known'.corners x level
+  no_levels none x level is = absurd (none_is level (sym (none x) ∙ is))
+
 pub left_right : (m new : Mosaic) (from to : Point) (known known' : Known) → DifferBetween m new from to → IsLeftOf (is_reached known.side known.corners from to) known known' → IsRight m known → IsRight new known'
 left_right m new from to known known' differ left right = record {
-  ready = record {
-    same_side = left.same_side ∙ (ready.same_side ∙ sym differ.same_side);
-    all = left.same_corners ∙ (ready.all ∙ sym differ.same_corners);
-    room = subst (λ (n : ℕ). 1 + length known'.corners * (4 * (n - 1)) < 2 ^ 32) (sym left.same_side)
-        (subst (λ (cs : List Corner). 1 + length cs * (4 * (known.side - 1)) < 2 ^ 32) (sym left.same_corners) ready.room);
-    tiles = record {
-      whole = left.whole ∙ (ready.tiles.whole ∙ ap (λ (cs : List Corner). length cs) (sym left.same_corners));
-      sides = λ t ways is. ready.tiles.sides t ways ((left.told t ways).0 is).0 ∙ sym left.same_side;
-      places = λ t ways is. ready.tiles.places t ways ((left.told t ways).0 is).0 ∙ ap (λ (cs : List Corner). corner_at cs t) (sym left.same_corners);
-      summaries = λ t ways is.
-          let was = (left.told t ways).0 is in
-          let out : reaches m.side ways.summary.corner from to ≡ false =
-          ap (λ (n : ℕ). reaches n ways.summary.corner from to) (sym ready.same_side) ∙ (ap (λ (c : Corner). reaches known.side c from to) (ready.tiles.places t ways was.0) ∙ unreached t was.1) in
-          summary_still m new from to differ ways.summary out (ready.tiles.summaries t ways was.0);
-    };
-  };
-  entered = λ t labelled is.
-      let was = (left.entered t labelled).0 is in
-      let out : reaches m.side (corner_at known.corners t) from to ≡ false = ap (λ (n : ℕ). reaches n (corner_at known.corners t) from to) (sym ready.same_side) ∙ unreached t was.1 in
-      subst (λ (cs : List Corner). IsFlooded new (corner_at cs t) labelled) (sym left.same_corners)
-      (flooded_still m new from to differ (corner_at known.corners t) out labelled (right.entered t labelled was.0));
-  levels = λ x level is. absurd (none_is level (sym (left.levels x) ∙ is));
+  ready = left_ready m new from to known known' differ left.same_side left.same_corners left.whole left.told right;
+  entered = λ t labelling is.
+      let was = (left.entered t labelling).0 is in
+      subst (λ (cs : List Corner). IsTileLabelling new (corner_at cs t) labelling) (sym left.same_corners)
+      (labelling_still m new from to differ (corner_at known.corners t) (unreached m new from to known known' differ left.same_side left.same_corners left.whole left.told right t was.1) labelling (right.entered t labelling was.0));
+  levels = no_levels m new from to known known' differ left.same_side left.same_corners left.whole left.told right left.levels;
 }
-  where
-    ready : AreReady m known.side known.corners known.told
-    ready = right.ready
 
-    unreached : (t : ℕ) → is_reached known.side known.corners from to t ≡ false → reaches known.side (corner_at known.corners t) from to ≡ false
-    unreached t out = (or_parts (not (nat_lt t (length known.corners))) (reaches known.side (corner_at known.corners t) from to) out).1
+-- what is left where a height may have changed
+pub noted_right : (m new : Mosaic) (p : Point) (known known' : Known) → DifferAt m new p → IsNotedOf (is_reached known.side known.corners p p) p known known'
+    → ((t : ℕ) → IsEntered m (corner_at known.corners t) known.entered t → IsEntered new (corner_at known.corners t) known'.entered t) → IsRight m known → IsRight new known'
+noted_right m new p known known' differ left entered right = record {
+  ready = left_ready m new p p known known' differ.around left.same_side left.same_corners left.whole left.told right;
+  entered = λ t. subst (λ (cs : List Corner). IsEntered new (corner_at cs t) known'.entered t) (sym left.same_corners) (entered t (right.entered t));
+  levels = no_levels m new p p known known' differ.around left.same_side left.same_corners left.whole left.told right left.levels;
+}
 
 -- ---- elements given up one by one
 

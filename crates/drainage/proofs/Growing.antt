@@ -1,13 +1,14 @@
 -- What is known of a mosaic's water grows as tiles are told and entered.
-use Rattle.std.proofs.Common.{◌≡◌, ◌⊎◌, inl, inr, ℕ, ℤ, List, sym, ap, ◌∙◌, subst}
+use Rattle.std.proofs.Common.{◌≡◌, ℕ, ℤ, List, refl, sym, ap, ◌∙◌, subst}
 use Rattle.std.specs.Prelude.{Option, Some}
 use Rattle.lattice.specs.Corners.{Corner}
 use Rattle.catalogue.specs.declared.samples.Samples.{Ghosts}
-use Rattle.derived.specs.Labellings.{IsFlooded}
+use Rattle.derived.specs.TileLabellings.{IsTileLabelling}
+use Rattle.derived.specs.declared.tile_labelling.TileLabelling.{TileLabelling}
+use Rattle.lattice.specs.Mosaic.{Mosaic}
 use Rattle.border_graph.specs.Others.{corner_at}
-use Rattle.tile_flood.specs.Blocks.{LabelledGround}
-use Rattle.drainage.specs.Shores.{AreKept}
-use Rattle.drainage.specs.Holding.{Known, IsRimLevel, IsRight, IsGrown, Agrees, entered_at, level_of}
+use Rattle.drainage.specs.Shores.{AreTold, AreKept}
+use Rattle.drainage.specs.Holding.{Known, IsRimLevel, IsEntered, IsRight, IsGrown, Agrees, level_of}
 use Rattle.border_graph.specs.Summaries.{Summary}
 use Rattle.drainage.specs.Kept.{ready_later}
 use Rattle.drainage.proofs.Telling.{fits_before}
@@ -17,25 +18,32 @@ module _ {S : Type 0} (g : Ghosts S) (a b : S) (known known' : Known) (kept : Ar
   levels_later right x level is = subst (λ (cs : List Corner). IsRimLevel (g.mosaic a) cs x level) (sym kept.same_corners)
       (right.levels x level (ap (λ (l : List (Option ℤ)). level_of l x) (sym levels) ∙ is))
 
-  entered_later : IsRight (g.mosaic a) known → (u : ℕ) (l : LabelledGround) → IsFlooded (g.mosaic a) (corner_at known.corners u) l → IsFlooded (g.mosaic a) (corner_at known'.corners u) l
-  entered_later right u l flooded = subst (λ (cs : List Corner). IsFlooded (g.mosaic a) (corner_at cs u) l) (sym kept.same_corners) flooded
-
   -- one labelling more
-  pub grown_by : (t : ℕ) (c : Corner) (labelled : LabelledGround) → corner_at known.corners t ≡ c → (g.is_honest b → IsFlooded (g.mosaic a) c labelled)
-      → ((u : ℕ) (l : LabelledGround) → entered_at known'.entered u ≡ Some l → ((u ≡ t) × (l ≡ labelled)) ⊎ (entered_at known.entered u ≡ Some l)) → IsGrown g a b known known'
-  grown_by t c labelled place flooded only = record {
+  pub grown_by : (t : ℕ) (c : Corner) (labelling : TileLabelling) → corner_at known.corners t ≡ c → (g.is_honest b → IsRight (g.mosaic a) known → IsTileLabelling (g.mosaic a) c labelling)
+      → (g.is_honest b → IsRight (g.mosaic a) known → AreTold (g.mosaic a) known.side known.corners known'.told)
+      → ((m : Mosaic) (d : Corner) (u : ℕ) → (u ≡ t → IsTileLabelling m d labelling) → IsEntered m d known.entered u → IsEntered m d known'.entered u) → IsGrown g a b known known'
+  grown_by t c labelling place valid told only = record {
     kept = kept;
     levels = levels;
     right = λ honest right. record {
-      ready = ready_later g a b known.side known.corners known.told known'.side known'.corners known'.told kept honest right.ready;
-      entered = λ u l is. entered_later right u l (elim (only u l is) [
-        | inl here ↦ subst (λ (x : LabelledGround). IsFlooded (g.mosaic a) (corner_at known.corners u) x) (sym here.1)
-            (subst (λ (d : Corner). IsFlooded (g.mosaic a) d labelled) (sym place ∙ ap (corner_at known.corners) (sym here.0)) (flooded honest))
-        | inr before ↦ right.entered u l before
-      ]);
+      ready = ready_later g a b known.side known.corners known.told known'.side known'.corners known'.told kept right.ready (told honest right);
+      entered = λ u. subst (λ (cs : List Corner). IsEntered (g.mosaic a) (corner_at cs u) known'.entered u) (sym kept.same_corners)
+          (only (g.mosaic a) (corner_at known.corners u) u
+          (λ here. subst (λ (d : Corner). IsTileLabelling (g.mosaic a) d labelling) (sym place ∙ ap (corner_at known.corners) (sym here)) (valid honest right))
+          (right.entered u));
       levels = levels_later right;
     };
   }
+
+-- labellings that were held are given up, and nothing else is done but reads
+pub grown_fewer : {S : Type 0} (g : Ghosts S) (a b : S) (known : Known) (entered : List (Option TileLabelling)) → (g.is_honest b → g.is_honest a) → (g.is_honest b → g.mosaic b ≡ g.mosaic a)
+    → ((m : Mosaic) (c : Corner) (u : ℕ) → IsEntered m c known.entered u → IsEntered m c entered u)
+    → IsGrown g a b known (record { side = known.side; corners = known.corners; told = known.told; entered = entered; levels = known.levels })
+grown_fewer g a b known entered honest mosaic left = record {
+  kept = record { honest = honest; mosaic = mosaic; same_side = refl; same_corners = refl; still = λ t ways is. is };
+  levels = refl;
+  right = λ _ right. record { ready = right.ready; entered = λ u. left (g.mosaic a) (corner_at known.corners u) u (right.entered u); levels = right.levels };
+}
 
 -- what agrees with what is known then agreed with what was known
 pub agrees_before : {S : Type 0} (g : Ghosts S) (a b : S) (known known' : Known) → IsGrown g a b known known' → (n : ℕ) (summaries : List Summary) → Agrees known' n summaries → Agrees known n summaries

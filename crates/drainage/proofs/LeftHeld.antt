@@ -10,7 +10,7 @@ use Rattle.lattice.specs.Height.{height_of}
 use Rattle.lattice.specs.Mosaic.{Mosaic, IsMosaic}
 use Rattle.catalogue.specs.Tiles.{AreCorners, corners_of}
 use Rattle.catalogue.proofs.OneTile.{corners_are}
-use Rattle.edits.specs.Changes.{CanBeMade, CanBeSet, changed, all_changed}
+use Rattle.edits.specs.Changes.{CanBeMade, CanBeSet, IsSet, changed, all_changed}
 use Rattle.edits.specs.declared.change.Change.{Change}
 use Rattle.edits.specs.declared.change.Change.TheVariants.{Add, Drop, Set, Sink, Unsink}
 use Rattle.drainage.specs.Between.{IsHeldOf}
@@ -64,6 +64,41 @@ module _ (m : Mosaic) (changes : List Change) (span : Option Span) (held left : 
   pub given_up : IsLeftFor m changes None left
   given_up = record { before = still_right; since = all_changed changes m; right = changed_right; differ = refl; same_side = is.same_side; same_corners = is.same_corners }
 
+appended : (xs : List Change) (x : Change) (y : Mosaic) → all_changed (xs ++ x ∷ []) y ≡ changed x (all_changed xs y)
+appended [] x y = refl
+appended (z ∷ xs) x y = appended xs x (changed z y)
+
+next_is : (m : Mosaic) (changes : List Change) (i : ℕ) (x : Change) → i < length changes → x ≡ get_or changes i x → all_changed (take (i + 1) changes) m ≡ changed x (all_changed (take i changes) m)
+next_is m changes i x below is_x = ap (λ (xs : List Change). all_changed xs m) (take_more changes i x below ∙ ap (λ (y : Change). take i changes ++ y ∷ []) (sym is_x)) ∙ appended (take i changes) x m
+
+set_sinks : (x : Change) (m : Mosaic) → IsSet x → (q : Point) → is_sink (changed x m) q ≡ is_sink m q
+set_sinks (Set c i s) m set q = refl
+set_sinks (Add c samples) m set q = absurd set
+set_sinks (Drop c) m set q = absurd set
+set_sinks (Sink p) m set q = absurd set
+set_sinks (Unsink p) m set q = absurd set
+
+-- a change is seen by itself
+pub one_seen : (m : Mosaic) (changes : List Change) (i : ℕ) (x : Change) (p : Point) (held left : Held) → IsMosaic m → i < length changes → x ≡ get_or changes i x → place_of m.side x ≡ Some p
+    → ((a b : Mosaic) → DifferBetween a b p p → (IsSet x → (q : Point) → is_sink b q ≡ is_sink a q) → IsHeldOf a held → IsHeldOf b left)
+    → IsLeftFor m (take i changes) None held → IsLeftFor m (take (i + 1) changes) None left
+one_seen m changes i x p held left valid below is_x at gives is =
+    let mid : Mosaic = all_changed (take i changes) m in
+    let next = next_is m changes i x below is_x in
+    let differ = differ_there mid x p (subst (λ n. 3 ≤ n) (sym is.same_side) valid.side_low) (subst AreCorners (sym is.same_corners) (corners_are m valid)) (ap (λ n. place_of n x) is.same_side ∙ at) in
+    record {
+      before = gives m m (unmoved m p p) (λ _ q. refl) is.before;
+      since = all_changed (take (i + 1) changes) m;
+      right = subst (λ (y : Mosaic). IsHeldOf y left) (sym next) (gives mid (changed x mid) differ (set_sinks x mid) (subst (λ (y : Mosaic). IsHeldOf y held) (sym is.differ) is.right));
+      differ = refl;
+      same_side = ap (λ (y : Mosaic). y.side) next ∙ (differ.same_side ∙ is.same_side);
+      same_corners = ap corners_of next ∙ (differ.same_corners ∙ is.same_corners);
+    }
+
+-- all are
+pub each_right : (m : Mosaic) (changes : List Change) (held : Held) → IsLeftFor m changes None held → IsHeldOf (all_changed changes m) held
+each_right m changes held is = subst (λ (y : Mosaic). IsHeldOf y held) (sym is.differ) is.right
+
 -- a box with one point more
 module _ (span : Option Span) (p : Point) (wide : Span) (there : is_between wide.from wide.to p ≡ true) (wider : IfSome span (λ s. (q : Point) → is_between s.from s.to q ≡ true → is_between wide.from wide.to q ≡ true)) where
   out_of_point : (q : Point) → is_between wide.from wide.to q ≡ false → is_between p p q ≡ false
@@ -93,7 +128,7 @@ module _ (span : Option Span) (p : Point) (wide : Span) (there : is_between wide
       → IsLeftFor m (take i changes) span held → IsLeftFor m (take (i + 1) changes) (Some wide) held
   one_more m changes i x held valid below is_x at is =
       let mid : Mosaic = all_changed (take i changes) m in
-      let next : all_changed (take (i + 1) changes) m ≡ changed x mid = ap (λ (xs : List Change). all_changed xs m) (take_more changes i x below ∙ ap (λ (y : Change). take i changes ++ y ∷ []) (sym is_x)) ∙ appended (take i changes) m in
+      let next = next_is m changes i x below is_x in
       let differ = differ_there mid x p (subst (λ n. 3 ≤ n) (sym is.same_side) valid.side_low) (subst AreCorners (sym is.same_corners) (corners_are m valid)) (ap (λ n. place_of n x) is.same_side ∙ at) in
       record {
         before = is.before;
@@ -103,7 +138,3 @@ module _ (span : Option Span) (p : Point) (wide : Span) (there : is_between wide
         same_side = ap (λ (y : Mosaic). y.side) next ∙ (differ.same_side ∙ is.same_side);
         same_corners = ap corners_of next ∙ (differ.same_corners ∙ is.same_corners);
       }
-    where
-      appended : (xs : List Change) (y : Mosaic) → all_changed (xs ++ x ∷ []) y ≡ changed x (all_changed xs y)
-      appended [] y = refl
-      appended (z ∷ xs) y = appended xs (changed z y)

@@ -25,3 +25,7 @@ pub mod Forgotten
 pub mod Reached
 pub mod LeftHeld
 pub mod TileOutlets
+mod Noted
+mod Renewed
+mod Beyond
+mod EditedBox

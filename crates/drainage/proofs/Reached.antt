@@ -50,11 +50,11 @@ between_itself p q within =
     let x : p.x ≡ q.x = omega (arith, ints) in
     ap₂ (λ (a b : ℤ). record { y = a; x = b }) y x
 
-at_itself : (p : Point) → is_between p p p ≡ true
+pub at_itself : (p : Point) → is_between p p p ≡ true
 at_itself p = between_from p p p (le_from p.y p.y (omega (arith, ints))) (le_from p.y p.y (omega (arith, ints))) (le_from p.x p.x (omega (arith, ints))) (le_from p.x p.x (omega (arith, ints)))
 
 -- a point out of the box isn't the one
-other_point : (p q : Point) → is_between p p q ≡ false → p ≡ q → ⊥
+pub other_point : (p q : Point) → is_between p p q ≡ false → p ≡ q → ⊥
 other_point p q out same = both_ways (is_between p p q) out (ap (is_between p p) (sym same) ∙ at_itself p)
 
 -- ---- one sample is set
@@ -108,7 +108,7 @@ point_says p q same = key_is (same_says (key p) (key q) same)
     key_is : key p ≡ key q → p ≡ q
     key_is e = ap₂ (λ (y x : ℤ). record { y = y; x = x }) (ap (λ (c : Corner). c.lat) e) (ap (λ (c : Corner). c.lon) e)
 
-apart_points : (p q : Point) → (p ≡ q → ⊥) → same_point p q ≡ false
+pub apart_points : (p q : Point) → (p ≡ q → ⊥) → same_point p q ≡ false
 apart_points p q apart = false_from_ne_true (same_point p q) (λ same. apart (point_says p q same))
 
 any_with : (q p : Point) (points : List Point) → same_point p q ≡ false → list_any (λ s. same_point s q) (with_point p points) ≡ list_any (λ s. same_point s q) points

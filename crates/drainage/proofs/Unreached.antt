@@ -1,5 +1,5 @@
 -- A tile that reaches no point of a box keeps its block and its summary, where two mosaics differ in that box alone.
-use Rattle.std.proofs.Common.{◌≡◌, ℕ, zero, suc, ◌-◌, ◌*◌, ◌/◌, ◌%◌, ◌<◌, ℤ, pos, ◌+ℤ◌, ◌-ℤ◌, ◌*ℤ◌, nat_abs, int_le, Bool, true, false, not, ◌&&◌, ◌||◌, IsTrue, List, [], ◌∷◌, map, refl, sym, ◌∙◌, ap, ap₂, subst, arith}
+use Rattle.std.proofs.Common.{◌≡◌, inl, inr, ℕ, zero, suc, ◌-◌, ◌*◌, ◌/◌, ◌%◌, ◌<◌, ℤ, pos, ◌+ℤ◌, ◌-ℤ◌, ◌*ℤ◌, nat_abs, int_le, Bool, true, false, not, ◌&&◌, ◌||◌, IsTrue, List, [], ◌∷◌, map, refl, sym, ◌∙◌, ap, ap₂, subst, arith}
 use Rattle.std.specs.Prelude.{nat_lt, count_by, slice_index, slice_index_or}
 use Rattle.std.specs.List.{list_any}
 use Rattle.std.proofs.Math.Path.{fun_ext}
@@ -20,8 +20,10 @@ use Rattle.lattice.proofs.IntTests.{le_true, le_from}
 use Rattle.lattice.proofs.Samples.{along_of_sample, row_below}
 use Rattle.border_graph.specs.Joining.{IsSummaryOf, rim_point}
 use Rattle.border_graph.specs.Summaries.{Summary}
-use Rattle.derived.specs.Labellings.{IsFlooded}
-use Rattle.tile_flood.specs.Blocks.{LabelledGround, block_of}
+use Rattle.derived.specs.TileLabellings.{IsTileLabelling}
+use Rattle.derived.specs.declared.tile_labelling.TileLabelling.{TileLabelling}
+use Rattle.derived.specs.declared.tile_labelling.TileLabelling.TheVariants.{Kept, Flooded}
+use Rattle.tile_flood.specs.Blocks.{block_of}
 use Rattle.tile_flood.specs.Labelling.{IsLabelling}
 use Rattle.tile_flood.specs.Spills.{AreSpills}
 use Rattle.drainage.specs.Reaching.{is_between, reaches_along, reaches, DifferBetween}
@@ -53,11 +55,11 @@ module _ (n : ℕ) (c : Corner) (from to : Point) (out : reaches n c from to ≡
 
 -- ---- the points of a tile
 
-some_side : (n e : ℕ) → e < n * n → 0 < n
+pub some_side : (n e : ℕ) → e < n * n → 0 < n
 some_side zero e small = absurd (omega arith)
 some_side (suc n) e small = omega arith
 
-held_by_index : (n : ℕ) (c : Corner) (e : ℕ) → e < n * n → holds n c (point_of n c e) ≡ true
+pub held_by_index : (n : ℕ) (c : Corner) (e : ℕ) → e < n * n → holds n c (point_of n c e) ≡ true
 held_by_index n c e small =
     let some = some_side n e small in
     let row : e / n < n = row_below n e some small in
@@ -72,6 +74,41 @@ any_corner f (t ∷ ts) = ap (λ b. f t.corner || b) (any_corner f ts)
 
 fourth_fails : (a b c d e : Bool) → d ≡ false → (a && b && c && d && e) ≡ false
 fourth_fails a b c d e off = ap (λ x. x && e) (and_right (a && b && c) d off)
+
+-- ---- two mosaics that are alike in a tile
+
+module _ (m new : Mosaic) (c : Corner) (same_side : new.side ≡ m.side) (heights : (e : ℕ) → e < m.side * m.side → height_of new (point_of m.side c e) ≡ height_of m (point_of m.side c e))
+    (sinks : (e : ℕ) → e < m.side * m.side → is_sink new (point_of m.side c e) ≡ is_sink m (point_of m.side c e)) where
+  smaller : (e : ℕ) → e < new.side * new.side → e < m.side * m.side
+  smaller e small = subst (λ n. e < n * n) same_side small
+
+  height_as : (e : ℕ) → e < new.side * new.side → metres (height_of m (point_of m.side c e)) ≡ metres (height_of new (point_of new.side c e))
+  height_as e small = ap metres (sym (heights e (smaller e small))) ∙ ap (λ n. metres (height_of new (point_of n c e))) (sym same_side)
+
+  sink_as : (e : ℕ) → e < new.side * new.side → is_sink m (point_of m.side c e) ≡ is_sink new (point_of new.side c e)
+  sink_as e small = sym (sinks e (smaller e small)) ∙ ap (λ n. is_sink new (point_of n c e)) (sym same_side)
+
+  pub same_block : (b : Block) → IsBlockOf m c b → IsBlockOf new c b
+  same_block b is = record {
+    side = is.side ∙ sym same_side;
+    heights = record {
+      whole = is.heights.whole ∙ ap (λ n. n * n) (sym same_side);
+      values = λ e small. is.heights.values e (smaller e small) ∙ height_as e small;
+    };
+    sinks = λ e small. is.sinks e (smaller e small) ∙ sink_as e small;
+  }
+
+  pub tile_still : (labelling : TileLabelling) → IsTileLabelling m c labelling → IsTileLabelling new c labelling
+  tile_still (Kept labelled) is = record { side = is.side ∙ sym same_side; valid = (is.valid.0, (same_block is.valid.0 is.valid.1.0, is.valid.1.1)) }
+  tile_still (Flooded flooded) is = record {
+    side = is.side ∙ sym same_side;
+    whole = is.whole ∙ ap (λ n. n * n) (sym same_side);
+    heights = λ e small. elim (is.heights e (smaller e small)) [
+      | inl right ↦ inl (right ∙ height_as e small)
+      | inr has ↦ inr has
+    ];
+    sinks = λ e small. is.sinks e (smaller e small) ∙ sink_as e small;
+  }
 
 -- ---- two mosaics that differ in the box alone
 
@@ -109,26 +146,17 @@ module _ (m new : Mosaic) (from to : Point) (differ : DifferBetween m new from t
           ap₂ (λ (h : Height) (k : ℕ). is_height h && (nat_lt k 8 || is_sink new p)) height_still degree_still
           ∙ ap (λ b. is_ground m p && (nat_lt (degree_of m p) 8 || b)) sink_still
 
-    block_still : (b : Block) → IsBlockOf m c b → IsBlockOf new c b
-    block_still b is = record {
-      side = is.side ∙ sym differ.same_side;
-      heights = record {
-        whole = is.heights.whole ∙ ap (λ n. n * n) (sym differ.same_side);
-        values = λ e small.
-            let below = subst (λ n. e < n * n) differ.same_side small in
-            is.heights.values e below
-            ∙ ap metres (sym (height_still (point_of m.side c e) (held_by_index m.side c e below)))
-            ∙ ap (λ n. metres (height_of new (point_of n c e))) (sym differ.same_side);
-      };
-      sinks = λ e small.
-          let below = subst (λ n. e < n * n) differ.same_side small in
-          is.sinks e below
-          ∙ sym (sink_still (point_of m.side c e) (held_by_index m.side c e below))
-          ∙ ap (λ n. is_sink new (point_of n c e)) (sym differ.same_side);
-    }
+    points_still : (e : ℕ) → e < m.side * m.side → height_of new (point_of m.side c e) ≡ height_of m (point_of m.side c e)
+    points_still e small = height_still (point_of m.side c e) (held_by_index m.side c e small)
 
-    pub flooded_still : (labelled : LabelledGround) → IsFlooded m c labelled → IsFlooded new c labelled
-    flooded_still labelled is = record { side = is.side ∙ sym differ.same_side; valid = (is.valid.0, (block_still is.valid.0 is.valid.1.0, is.valid.1.1)) }
+    sinks_still : (e : ℕ) → e < m.side * m.side → is_sink new (point_of m.side c e) ≡ is_sink m (point_of m.side c e)
+    sinks_still e small = sink_still (point_of m.side c e) (held_by_index m.side c e small)
+
+    block_still : (b : Block) → IsBlockOf m c b → IsBlockOf new c b
+    block_still = same_block m new c differ.same_side points_still sinks_still
+
+    pub labelling_still : (labelling : TileLabelling) → IsTileLabelling m c labelling → IsTileLabelling new c labelling
+    labelling_still = tile_still m new c differ.same_side points_still sinks_still
 
     outlets_still : (b : Summary) → ((e : ℕ) → e < m.side * m.side → IsTrue (is_rim m.side e) → IsTrue (is_ground m (point_of m.side c e)) → (rim_point b (rim_number m.side e)).outlet ≡ is_outlet m (point_of m.side c e))
         → (e : ℕ) → e < m.side * m.side → IsTrue (is_rim m.side e) → IsTrue (is_ground new (point_of m.side c e)) → (rim_point b (rim_number m.side e)).outlet ≡ is_outlet new (point_of m.side c e)

@@ -3,7 +3,7 @@ use Rattle.std.specs.Prelude.{◌≡◌, Option, Some, None}
 use Rattle.lattice.specs.Mosaic.{Mosaic}
 use Rattle.lattice.specs.declared.point.Point.{Point}
 use Rattle.catalogue.specs.declared.samples.Samples.{Ghosts}
-use Rattle.drainage.specs.Forgetting.{IsLeftOf}
+use Rattle.drainage.specs.Forgetting.{IsLeftOf, IsNotedOf}
 use Rattle.drainage.specs.Holding.{IsRight}
 use Rattle.drainage.specs.Reaching.{is_reached}
 use Rattle.drainage.specs.Waters.{known_of}
@@ -26,6 +26,15 @@ are_left from to (Some waters) left =
 
 abbrev pub IsLeftHeld : Point → Point → Held → Held → Type 0
 IsLeftHeld from to held left = are_left from to held.waters left.waters
+
+-- what was found is left, but for the summaries that the point reaches, the labellings of tiles that hold it, and the levels
+abbrev pub are_noted : Point → Option Waters → Option Waters → Type 0
+are_noted p None left = left ≡ None
+are_noted p (Some waters) left =
+    (some : Waters) × (left ≡ Some some) × IsNotedOf (is_reached waters.shores.side waters.shores.corners.items p p) p (known_of waters) (known_of some)
+
+abbrev pub IsNotedHeld : Point → Held → Held → Type 0
+IsNotedHeld p held left = are_noted p held.waters left.waters
 
 -- what is held is right for the mosaic that the samples stand for, where they are honest
 abbrev pub IsHeldFor : {S : Type 0} (g : Ghosts S) → S → Held → Type 0

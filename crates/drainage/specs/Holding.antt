@@ -14,12 +14,12 @@ use Rattle.border_graph.specs.Joining.{Rim}
 use Rattle.border_graph.specs.Links.{IsJoinedLevel}
 use Rattle.border_graph.specs.Linking.{node_number}
 use Rattle.border_graph.specs.Summaries.{Summary}
-use Rattle.derived.specs.Labellings.{IsFlooded}
+use Rattle.derived.specs.TileLabellings.{IsTileLabelling}
+use Rattle.derived.specs.declared.tile_labelling.TileLabelling.{TileLabelling}
 use Rattle.lattice.specs.Corners.{Corner}
 use Rattle.border_graph.specs.Others.{corner_at}
 use Rattle.border_graph.specs.Placed.{IsPlacedLink}
 use Rattle.border_graph.specs.TileGraph.{TileGraph}
-use Rattle.tile_flood.specs.Blocks.{LabelledGround}
 use Rattle.drainage.specs.Shores.{Fits, AreReady, AreKept}
 
 -- the side, the corners of all tiles in order, what is told of the ways of each, the labellings of those that were entered,
@@ -28,12 +28,16 @@ pub record Known : Type 0 where
   pub side : ℕ
   pub corners : List Corner
   pub told : List (Option TileGraph)
-  pub entered : List (Option LabelledGround)
+  pub entered : List (Option TileLabelling)
   pub levels : List (Option ℤ)
 
 -- the labelling that is held of the tile with this place
-abbrev pub entered_at : List (Option LabelledGround) → ℕ → Option LabelledGround
+abbrev pub entered_at : List (Option TileLabelling) → ℕ → Option TileLabelling
 entered_at entered t = slice_index_or entered t None
+
+-- what is held of the tile with this place is a labelling of the corner's tile
+abbrev pub IsEntered : Mosaic → Corner → List (Option TileLabelling) → ℕ → Type 0
+IsEntered m c entered t = (labelling : TileLabelling) → entered_at entered t ≡ Some labelling → IsTileLabelling m c labelling
 
 -- the level that is known of the rim point with this node
 abbrev pub level_of : List (Option ℤ) → ℕ → Option ℤ
@@ -59,7 +63,7 @@ pub record IsGroundNode (m : Mosaic) (corners : List Corner) (t number : ℕ) : 
 -- all of it is right for the mosaic
 pub record IsRight (m : Mosaic) (known : Known) : Type 0 where
   pub ready : AreReady m known.side known.corners known.told
-  pub entered : (t : ℕ) (labelled : LabelledGround) → entered_at known.entered t ≡ Some labelled → IsFlooded m (corner_at known.corners t) labelled
+  pub entered : (t : ℕ) → IsEntered m (corner_at known.corners t) known.entered t
   pub levels : (x : ℕ) (level : ℤ) → level_of known.levels x ≡ Some level → IsRimLevel m known.corners x level
 
 -- summaries of all tiles agree with what is told of them, and with the levels that are known

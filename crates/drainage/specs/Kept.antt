@@ -14,14 +14,14 @@ use Rattle.drainage.specs.Holding.{Known, IsRight, IsGrown, IsCarried, IsRefused
 
 module _ {S : Type 0} (g : Ghosts S) where
   pub kept_itself : (a : S) (side : ℕ) (corners : List Corner) (told : List (Option TileGraph)) → AreKept g a a side corners told side corners told
-  kept_itself a side corners told = record { honest = λ h. h; mosaic = λ _. refl; same_side = refl; same_corners = refl; still = λ t ways is. is; right = λ _ r. r }
+  kept_itself a side corners told = record { honest = λ h. h; mosaic = λ _. refl; same_side = refl; same_corners = refl; still = λ t ways is. is }
 
   module _ (a b : S) (side : ℕ) (corners : List Corner) (told : List (Option TileGraph)) (side' : ℕ) (corners' : List Corner) (told' : List (Option TileGraph)) (kept : AreKept g a b side corners told side' corners' told') where
-    -- what was ready is, of the same mosaic
-    pub ready_later : g.is_honest b → AreReady (g.mosaic a) side corners told → AreReady (g.mosaic a) side' corners' told'
-    ready_later honest ready =
+    -- what is told then is as ready as what was told
+    pub ready_later : AreReady (g.mosaic a) side corners told → AreTold (g.mosaic a) side corners told' → AreReady (g.mosaic a) side' corners' told'
+    ready_later ready tiles =
         subst (λ s. AreReady (g.mosaic a) s corners' told') (sym kept.same_side) (subst (λ (cs : List Corner). AreReady (g.mosaic a) side cs told') (sym kept.same_corners)
-        (record { same_side = ready.same_side; all = ready.all; room = ready.room; tiles = kept.right honest ready.tiles }))
+        (record { same_side = ready.same_side; all = ready.all; room = ready.room; tiles = tiles }))
 
     module _ (c : S) (side'' : ℕ) (corners'' : List Corner) (told'' : List (Option TileGraph)) (then_ : AreKept g b c side' corners' told' side'' corners'' told'') where
       pub kept_on : AreKept g a c side corners told side'' corners'' told''
@@ -31,13 +31,6 @@ module _ {S : Type 0} (g : Ghosts S) where
         same_side = then_.same_side ∙ kept.same_side;
         same_corners = then_.same_corners ∙ kept.same_corners;
         still = λ t ways is. then_.still t ways (kept.still t ways is);
-        right = λ honest r.
-            let mid = then_.honest honest in
-            let was : AreTold (g.mosaic b) side' corners' told' =
-            subst (λ (m : Mosaic). AreTold m side' corners' told') (sym (kept.mosaic mid))
-            (subst (λ s. AreTold (g.mosaic a) s corners' told') (sym kept.same_side) (subst (λ (cs : List Corner). AreTold (g.mosaic a) side cs told') (sym kept.same_corners) (kept.right mid r))) in
-            subst (λ (m : Mosaic). AreTold m side corners told'') (kept.mosaic mid)
-            (subst (λ s. AreTold (g.mosaic b) s corners told'') kept.same_side (subst (λ (cs : List Corner). AreTold (g.mosaic b) side' cs told'') kept.same_corners (then_.right honest was)));
       }
 
   pub grown_itself : (a : S) (known : Known) → IsGrown g a a known known

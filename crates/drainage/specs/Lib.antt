@@ -11,3 +11,5 @@ pub mod Reaching
 pub mod Forgetting
 pub mod Nearby
 pub mod Changed
+pub mod Ring
+pub mod Beyond

@@ -31,3 +31,8 @@ pub record DifferBetween (m new : Mosaic) (from to : Point) : Type 0 where
   pub same_corners : corners_of new ≡ corners_of m
   pub heights : (p : Point) → is_between from to p ≡ false → height_of new p ≡ height_of m p
   pub sinks : (p : Point) → is_between from to p ≡ false → is_sink new p ≡ is_sink m p
+
+-- of the same tiles and sinks, and of the same heights but at this point
+pub record DifferAt (m new : Mosaic) (p : Point) : Type 0 where
+  pub around : DifferBetween m new p p
+  pub all_sinks : (q : Point) → is_sink new q ≡ is_sink m q

@@ -57,12 +57,10 @@ pub record AreReady (m : Mosaic) (side : ℕ) (corners : List Corner) (told : Li
   pub tiles : AreTold m side corners told
 
 module _ {S : Type 0} (g : Ghosts S) (a b : S) (side : ℕ) (corners : List Corner) (told : List (Option TileGraph)) (side' : ℕ) (corners' : List Corner) (told' : List (Option TileGraph)) where
-  -- the samples stand for what they stood for, the places stay, what was told is told still, and what is told then is as
-  -- right as it was
+  -- the samples stand for what they stood for, the places stay, and what was told is told still
   pub record AreKept : Type 0 where
     pub honest : g.is_honest b → g.is_honest a
     pub mosaic : g.is_honest b → g.mosaic b ≡ g.mosaic a
     pub same_side : side' ≡ side
     pub same_corners : corners' ≡ corners
     pub still : (t : ℕ) (ways : TileGraph) → told_at told t ≡ Some ways → told_at told' t ≡ Some ways
-    pub right : g.is_honest b → AreTold (g.mosaic a) side corners told → AreTold (g.mosaic a) side corners told'

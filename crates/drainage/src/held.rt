@@ -4,7 +4,7 @@ ghost use Rattle.lattice.specs.Mosaic.{Mosaic, IsMosaic};
 ghost use Rattle.downstream.specs.Near.{IsNear};
 ghost use Rattle.lattice.specs.declared.refusal.Refusal.TheVariants.{NoMemory};
 ghost use Rattle.drainage.specs.Holding.{IsRight};
-ghost use Rattle.drainage.specs.Reaching.{DifferBetween};
+ghost use Rattle.drainage.specs.Reaching.{DifferAt, DifferBetween};
 
 use crate::nearby::near;
 use crate::waters::Waters;
@@ -22,7 +22,7 @@ pub struct Held {
 }
 
 impl Held {
-    ghost use Rattle.drainage.specs.Between.{IsHeldOf, IsLeftHeld};
+    ghost use Rattle.drainage.specs.Between.{IsHeldOf, IsLeftHeld, IsNotedHeld};
     ghost use Rattle.drainage.specs.Waters.{known_of};
 
     /// Nothing is held. Takes no memory.
@@ -50,6 +50,20 @@ impl Held {
             return;
         };
         waters.forget_between(from, to);
+        self.waters = Some(waters);
+    }
+
+    /// The height of the point may change from then on, but no sink comes or goes: the labellings of the tiles that hold it
+    /// are mended when they are asked for; the ways of tiles that hold it or a point beside it are given up, and all levels
+    /// of rim points. What is held serves on, for the mosaic as it was and as it becomes.
+    pub fn note_changed(&mut self, point: Point)
+        ensures left { IsNotedHeld point self.old self.new }
+        ensures right { (m new : Mosaic) → DifferAt m new point → IsHeldOf m self.old → IsHeldOf new self.new }
+    {
+        let Some(mut waters) = self.waters.take() else {
+            return;
+        };
+        waters.note_changed(point);
         self.waters = Some(waters);
     }
 

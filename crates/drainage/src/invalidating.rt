@@ -1,15 +1,18 @@
 //! Drops what changes of a mosaic may make wrong of what is held of its water.
-ghost use Rattle.std.specs.Prelude.{◌≡◌, ℕ, true, All, IfSome, IfNone};
+ghost use Rattle.std.specs.Prelude.{◌≡◌, ◌≤◌, ℕ, true, All, IfSome, IfNone, length};
 ghost use Rattle.lattice.specs.Mosaic.{Mosaic, IsMosaic};
 ghost use Rattle.lattice.specs.declared.point.Point.{Point};
-ghost use Rattle.edits.specs.Changes.{changed, all_changed};
+ghost use Rattle.lattice.specs.Ground.{is_sink};
+ghost use Rattle.edits.specs.Changes.{IsSet, changed, all_changed};
+ghost use Rattle.edits.specs.Edits.{edit_made, with_heights};
 ghost use Rattle.edits.specs.declared.change.Change.TheVariants.{Sink, Unsink};
-ghost use Rattle.drainage.specs.Between.{IsHeldOf};
-ghost use Rattle.drainage.specs.Reaching.{is_between};
+ghost use Rattle.drainage.specs.Between.{IsHeldOf, IsLeftHeld};
+ghost use Rattle.drainage.specs.Beyond.{IsKeptFrom, IsKeptBeyond, IsKeptBeyondEdit, IsKeptBeyondHeights};
+ghost use Rattle.drainage.specs.Reaching.{is_between, DifferBetween};
 ghost use Rattle.drainage.specs.Changed.{IsWithin, DifferIn, place_of};
 
 use crate::held::Held;
-use edits::Change;
+use edits::{Change, Edit, NewHeight};
 use lattice::{Point, Side, point_at};
 
 /// The points from the one to the other, ends included.
@@ -19,15 +22,62 @@ pub(crate) struct Span {
     to: Point,
 }
 
-/// Gives up what the changes may make wrong of what is held: of the tiles that hold a point whose sample is set, or a sink
-/// that comes or goes, or a point beside it, and the levels of all rim points; everything where a tile comes or goes. Takes
-/// no memory.
+// Where so few samples are set, each is seen by itself: a command names at most 64 points, of which each is in at most four
+// tiles.
+const FEW: usize = 256;
+
+/// What the changes may make wrong of what is held isn't used any more. Where few samples are set, the labellings of the
+/// tiles that hold them are mended when they are asked for; of the tiles that hold a point that changes, or one beside it,
+/// the ways are given up, and the levels of all rim points; everything where a tile comes or goes. What is held then is
+/// right for the mosaic before and after the changes alike.
 pub fn forget_changed(held: &mut Held, side: Side, changes: &[Change])
     requires { All (IsWithin side) changes.now }
     ensures still { (m : Mosaic) → IsMosaic m → m.side ≡ side → IsHeldOf m held.old → IsHeldOf m held.new }
     ensures changed { (m : Mosaic) → IsMosaic m → m.side ≡ side → IsHeldOf m held.old → IsHeldOf (all_changed changes.now m) held.new }
+
+    // Where the changes are few, what is held of a tile that they don't reach is kept.
+    ensures kept { length changes.now ≤ 256 → IsKeptBeyond side changes.now held.old held.new }
 {
-    // Changes of one tile mostly follow one another: they are given up as one box.
+    if changes.len() <= FEW {
+        forget_each(held, side, changes);
+    } else {
+        forget_boxes(held, side, changes);
+    }
+}
+
+// Sees each change by itself.
+fn forget_each(held: &mut Held, side: Side, changes: &[Change])
+    requires { All (IsWithin side) changes.now }
+    ensures still { (m : Mosaic) → IsMosaic m → m.side ≡ side → IsHeldOf m held.old → IsHeldOf m held.new }
+    ensures changed { (m : Mosaic) → IsMosaic m → m.side ≡ side → IsHeldOf m held.old → IsHeldOf (all_changed changes.now m) held.new }
+    ensures kept { IsKeptBeyond side changes.now held.old held.new }
+{
+    for change in changes {
+        let Some(point) = place_of(side, change) else {
+            held.forget();
+            return;
+        };
+        forget_at(held, change, point);
+    }
+}
+
+// Sees the change, which is of this point.
+fn forget_at(held: &mut Held, change: &Change, point: Point)
+    ensures right { (m new : Mosaic) → DifferBetween m new point point → (IsSet change.now → (q : Point) → is_sink new q ≡ is_sink m q) → IsHeldOf m held.old → IsHeldOf new held.new }
+    ensures kept { IsKeptFrom point held.old held.new }
+{
+    match change {
+        Change::Set { .. } => held.note_changed(point),
+        _ => held.forget_between(point, point),
+    }
+}
+
+// Sees changes of one tile that follow one another as one box.
+fn forget_boxes(held: &mut Held, side: Side, changes: &[Change])
+    requires { All (IsWithin side) changes.now }
+    ensures still { (m : Mosaic) → IsMosaic m → m.side ≡ side → IsHeldOf m held.old → IsHeldOf m held.new }
+    ensures changed { (m : Mosaic) → IsMosaic m → m.side ≡ side → IsHeldOf m held.old → IsHeldOf (all_changed changes.now m) held.new }
+{
     let mut last = None;
     let mut span = None;
     for change in changes {
@@ -46,11 +96,44 @@ pub fn forget_changed(held: &mut Held, side: Side, changes: &[Change])
     forget_span(held, span);
 }
 
+/// What the edit may make wrong of what is held isn't used any more: where heights are set, the labellings of the tiles that
+/// hold them are mended when they are asked for; of the tiles that hold a point that changes, or one beside it, the ways are
+/// given up, and the levels of all rim points; everything where a tile comes or goes. What is held then is right for the
+/// mosaic before and after the edit alike.
+pub fn forget_edit(held: &mut Held, edit: &Edit)
+    ensures still { (m : Mosaic) → IsMosaic m → IsHeldOf m held.old → IsHeldOf m held.new }
+    ensures changed { (m : Mosaic) → IsMosaic m → IsHeldOf m held.old → IsHeldOf (edit_made edit.now m) held.new }
+
+    // What is held of a tile that the edit doesn't reach is kept.
+    ensures kept { IsKeptBeyondEdit edit.now held.old held.new }
+{
+    match edit {
+        Edit::Add { .. } => held.forget(),
+        Edit::Drop { .. } => held.forget(),
+        Edit::Heights { heights } => forget_heights(held, heights.as_slice()),
+        Edit::Voids { from, to, .. } => held.forget_between(*from, *to),
+        Edit::Sink { point } => forget_near_sink(held, *point),
+        Edit::Unsink { point } => forget_near_sink(held, *point),
+    }
+}
+
+// Notes that these points get new heights.
+fn forget_heights(held: &mut Held, heights: &[NewHeight])
+    ensures still { (m : Mosaic) → IsMosaic m → IsHeldOf m held.old → IsHeldOf m held.new }
+    ensures changed { (m : Mosaic) → IsMosaic m → IsHeldOf m held.old → IsHeldOf (with_heights heights.now m) held.new }
+    ensures kept { IsKeptBeyondHeights heights.now held.old held.new }
+{
+    for height in heights {
+        held.note_changed(height.point);
+    }
+}
+
 /// Gives up what a sink that comes or goes at the point may make wrong of what is held. Takes no memory.
 pub fn forget_near_sink(held: &mut Held, point: Point)
     ensures still { (m : Mosaic) → IsMosaic m → IsHeldOf m held.old → IsHeldOf m held.new }
     ensures declared { (m : Mosaic) → IsMosaic m → IsHeldOf m held.old → IsHeldOf (changed (Sink point) m) held.new }
     ensures taken_back { (m : Mosaic) → IsMosaic m → IsHeldOf m held.old → IsHeldOf (changed (Unsink point) m) held.new }
+    ensures kept { IsLeftHeld point point held.old held.new }
 {
     held.forget_between(point, point);
 }

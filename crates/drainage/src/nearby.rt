@@ -4,7 +4,8 @@ ghost use Rattle.downstream.specs.Near.{IsNear};
 ghost use Rattle.lattice.specs.Mosaic.{Mosaic, IsMosaic};
 ghost use Rattle.lattice.specs.Steps.{step};
 ghost use Rattle.border_graph.specs.Others.{corner_at};
-ghost use Rattle.drainage.specs.Holding.{IsRight, entered_at};
+ghost use Rattle.derived.specs.Labellings.{IsFlooded};
+ghost use Rattle.drainage.specs.Holding.{IsRight};
 ghost use Rattle.drainage.specs.Nearby.{IsToldOf};
 ghost use Rattle.drainage.specs.Waters.{known_of};
 
@@ -45,7 +46,7 @@ fn level_beside(
 ) -> Option<i16>
     requires place { t < length waters.now.shores.corners.items }
     requires corner { corner_at waters.now.shores.corners.items t ≡ corner }
-    requires held { entered_at waters.now.entered t ≡ Some labelled.now }
+    requires held { (m : Mosaic) → IsRight m (known_of waters.now) → IsFlooded m corner labelled.now }
     ensures { IfSome result (λ level. IsToldOf (known_of waters.now) t (step direction point) (Some level)) }
 {
     let to = neighbour(point, direction)?;
@@ -63,7 +64,7 @@ fn level_in_tile(
 ) -> Option<i16>
     requires place { t < length waters.now.shores.corners.items }
     requires corner { corner_at waters.now.shores.corners.items t ≡ corner }
-    requires held { entered_at waters.now.entered t ≡ Some labelled.now }
+    requires held { (m : Mosaic) → IsRight m (known_of waters.now) → IsFlooded m corner labelled.now }
     ensures { IfSome result (λ level. IsToldOf (known_of waters.now) t point (Some level)) }
 {
     let side = waters.shores.side;

@@ -1,30 +1,35 @@
 //! Which rim points of a tile are outlets of the mosaic, by the tile's labelling and the points around the tile.
-ghost use Rattle.std.specs.Prelude.{◌≡◌, ◌<◌, ◌*◌, IfOk, Contains, false, true};
-ghost use Rattle.lattice.specs.Ground.{is_ground as ground, is_sink as is_declared, is_near, same_point, is_adjacent, degree_of, is_outlet};
-ghost use Rattle.lattice.specs.Lattice.{IsIndexOf};
+ghost use Rattle.std.specs.Prelude.{◌≡◌, ◌<◌, ◌*◌, IfOk, OnOk, IfSome, IfNone, Contains, false, true};
+ghost use Rattle.lattice.specs.Ground.{is_ground as ground, is_sink as is_declared, is_near, same_point, is_adjacent, degree_of, is_outlet, share_tile};
+ghost use Rattle.lattice.specs.Lattice.{IsIndexOf, Holds};
 ghost use Rattle.catalogue.specs.Readers.{OnlyReads};
 ghost use Rattle.derived.specs.Labellings.{IsFlooded};
 ghost use Rattle.drainage.specs.Flooded.{IsGroundOf};
+ghost use Rattle.drainage.specs.Ring.{AreRemembered};
 
-use catalogue::{Samples, height, share_tile};
-use lattice::{Corner, Height, Point, Refusal, index_in, steps};
+use crate::ring::Ring;
+use catalogue::{Samples, height};
+use lattice::{Corner, Height, Point, Refusal, holders, index_in, steps};
 use tile_flood::{Labelled, NO_LABEL};
 
 /// Whether water can leave at the point with this index in the corner's tile: it is ground, and is declared a sink or has
 /// fewer than eight adjacent points. What lies in the tile is ground where its label isn't that of a void, so that only
-/// points around the tile are read.
+/// points around the tile are read, and of those only what isn't remembered.
 pub(crate) fn is_tile_outlet<S: Samples>(
     samples: &mut S,
     corner: Corner,
     labelled: &Labelled,
+    ring: &mut Ring,
     point: Point,
     index: u32,
 ) -> Result<bool, Refusal>
     requires labelled_side { labelled.now.side ≡ S.side_of samples.old }
     requires present { Contains (S.corners samples.old) corner }
+    requires ring { S.is_honest samples.old → AreRemembered (S.mosaic samples.old) ring.old }
     requires index { IsIndexOf (S.side_of samples.old) corner point index }
     requires inside { index < S.side_of samples.old * S.side_of samples.old }
     ensures value { S.is_honest samples.new → IsFlooded (S.mosaic samples.old) corner labelled.now → IfOk result (λ answer. answer ≡ is_outlet (S.mosaic samples.old) point) }
+    ensures ring { S.is_honest samples.new → OnOk result (AreRemembered (S.mosaic samples.new) ring.new) }
     ensures reads { OnlyReads S.Samples samples.old samples.new result }
 {
     if labelled.labels()[index as usize] == NO_LABEL {
@@ -33,7 +38,7 @@ pub(crate) fn is_tile_outlet<S: Samples>(
     if is_sink(samples, point) {
         return Ok(true);
     }
-    let count = degree_in_tile(samples, corner, labelled, point)?;
+    let count = degree_in_tile(samples, corner, labelled, ring, point)?;
     Ok(count < 8)
 }
 
@@ -42,17 +47,20 @@ fn degree_in_tile<S: Samples>(
     samples: &mut S,
     corner: Corner,
     labelled: &Labelled,
+    ring: &mut Ring,
     point: Point,
 ) -> Result<u32, Refusal>
     requires labelled_side { labelled.now.side ≡ S.side_of samples.old }
     requires present { Contains (S.corners samples.old) corner }
+    requires ring { S.is_honest samples.old → AreRemembered (S.mosaic samples.old) ring.old }
     ensures value { S.is_honest samples.new → IsGroundOf (S.mosaic samples.old) corner labelled.now point → IfOk result (λ count. count ≡ degree_of (S.mosaic samples.old) point) }
+    ensures ring { S.is_honest samples.new → OnOk result (AreRemembered (S.mosaic samples.new) ring.new) }
     ensures reads { OnlyReads S.Samples samples.old samples.new result }
 {
     let reach = steps(point);
     let mut count = 0;
     for step in reach.as_slice() {
-        if is_adjacent_to(samples, corner, labelled, point, step.to)? {
+        if is_adjacent_to(samples, corner, labelled, ring, point, step.to)? {
             count += 1;
         }
     }
@@ -64,23 +72,48 @@ fn is_adjacent_to<S: Samples>(
     samples: &mut S,
     corner: Corner,
     labelled: &Labelled,
+    ring: &mut Ring,
     point: Point,
     to: Point,
 ) -> Result<bool, Refusal>
     requires labelled_side { labelled.now.side ≡ S.side_of samples.old }
     requires present { Contains (S.corners samples.old) corner }
+    requires ring { S.is_honest samples.old → AreRemembered (S.mosaic samples.old) ring.old }
     requires near { is_near point to ≡ true }
     requires other { same_point point to ≡ false }
     ensures value { S.is_honest samples.new → IsGroundOf (S.mosaic samples.old) corner labelled.now point → IfOk result (λ answer. answer ≡ is_adjacent (S.mosaic samples.old) point to) }
+    ensures ring { S.is_honest samples.new → OnOk result (AreRemembered (S.mosaic samples.new) ring.new) }
     ensures reads { OnlyReads S.Samples samples.old samples.new result }
 {
     if let Some(index) = index_in(labelled.side(), corner, to) {
         return Ok(labelled.labels()[index as usize] != NO_LABEL);
     }
-    if !share_tile(samples, point, to) {
+    if ring.shows(labelled.side(), point, to) {
+        return Ok(true);
+    }
+    let Some(tile) = tile_of_both(samples, point, to) else {
+        return Ok(false);
+    };
+    if !is_ground(samples, to)? {
         return Ok(false);
     }
-    is_ground(samples, to)
+    ring.remember(to, tile);
+    Ok(true)
+}
+
+// Some present tile that holds both points.
+fn tile_of_both<S: Samples>(samples: &S, p: Point, q: Point) -> Option<Corner>
+    ensures some { IfSome result (λ c. Contains (S.corners samples.now) c × (Holds (S.side_of samples.now) c p × Holds (S.side_of samples.now) c q)) }
+    ensures none { S.is_honest samples.now → IfNone result (share_tile (S.mosaic samples.now) p q ≡ false) }
+{
+    let side = samples.side();
+    let corners = holders(side, p);
+    for corner in corners.as_slice() {
+        if samples.present(*corner) && index_in(side, *corner, q).is_some() {
+            return Some(*corner);
+        }
+    }
+    None
 }
 
 // Whether the point is declared a sink.

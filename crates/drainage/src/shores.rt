@@ -1,26 +1,19 @@
 //! The ways between rim points, of tiles whose labellings are asked once water comes to their rims.
 ghost use Rattle.std.specs.Prelude.{◌≡◌, ◌≢◌, ◌+◌, ◌-◌, ◌*◌, ◌<◌, ◌≤◌, ◌⊎◌, ◌↔◌, ℕ, IfOk, IfErr, OnOk, IfSome, IfNone, IsTrue, Ok, Some, None, false, length, slice_set};
-ghost use Rattle.catalogue.specs.Asked.{Asked};
-ghost use Rattle.catalogue.specs.Endings.{ends_any};
-ghost use Rattle.catalogue.specs.Readers.{OnlyReads};
-ghost use Rattle.derived.specs.Labellings.{IsFlooded};
 ghost use Rattle.border_graph.specs.Joining.{IsSummaryOf};
 ghost use Rattle.lattice.specs.Mosaic.{Mosaic};
 ghost use Rattle.lattice.specs.declared.refusal.Refusal.TheVariants.{NoMemory, Damaged};
 ghost use Rattle.border_graph.specs.TileGraph.{TileGraph as TileGraphOf};
 ghost use Rattle.border_graph.specs.Others.{corner_at, AreTooMany};
 ghost use Rattle.drainage.specs.Reaching.{is_reached};
-ghost use Rattle.drainage.specs.Shores.{told_at, AreTileEdges, AreTold, AreReady, AreKept};
+ghost use Rattle.drainage.specs.Shores.{told_at, AreTileEdges, AreTold, AreReady};
 
 use crate::growth::push;
 use crate::reaching::is_reached;
-use crate::summing::flood_tile;
 use border_graph::{Edge, Summary, TileGraph, edges_to_others, node_at};
 use catalogue::Samples;
-use derived::Labellings;
 use lattice::{Corner, Point, Refusal, Side, VOID, point_at, rim_index};
 use std::alloc::Global;
-use tile_flood::Labelled;
 
 /// The corners of a mosaic's tiles, in order, and the ways of those tiles that water has come to.
 #[derive(Drop)]
@@ -61,41 +54,8 @@ impl Shores {
         Some(*corner)
     }
 
-    /// The labelling of the tile with this place and corner, whose ways it has from then on. Where it had them, the tile
-    /// isn't summed again.
-    ///
-    /// Damaged where there is no such tile, or as its labelling is. Otherwise it is refused for want of memory, or as a read
-    /// is.
-    pub(crate) fn enter<S: Labellings>(
-        &mut self,
-        alloc: Global,
-        samples: &mut S,
-        t: usize,
-        corner: Corner,
-    ) -> Result<Labelled, Refusal>
-        requires place { t < length self.old.corners.items }
-        requires corner { corner_at self.old.corners.items t ≡ corner }
-        ensures flooded { S.is_honest samples.new → IfOk result (λ labelled. IsFlooded (S.mosaic samples.old) corner labelled) }
-        ensures told { OnOk result ((ways : TileGraphOf) × (told_at self.new.told.items t ≡ Some ways)) }
-        ensures only { (u : ℕ) (ways : TileGraphOf) → u ≢ t → told_at self.new.told.items u ≡ Some ways → told_at self.old.told.items u ≡ Some ways }
-        ensures kept { AreKept S.Samples samples.old samples.new self.old.side self.old.corners.items self.old.told.items self.new.side self.new.corners.items self.new.told.items }
-        ensures reads { OnOk result (OnlyReads {T = Unit {0}} S.Samples samples.old samples.new (Ok tt)) }
-        ensures asked { (S.is_honest samples.new → AreReady (S.mosaic samples.old) self.old.side self.old.corners.items self.old.told.items) → Asked S.Samples samples.old samples.new result }
-        ensures causes { IfErr result (λ r. IsTrue (ends_any r)) }
-    {
-        if t >= self.told.len() || !samples.present(corner) {
-            return Err(Refusal::Damaged);
-        }
-        if self.told[t].is_some() {
-            return Ok(samples.labelling(alloc, corner)?);
-        }
-        let (labelled, summary) = flood_tile(alloc, samples, corner)?;
-        self.learn(alloc, t, summary)?;
-        Ok(labelled)
-    }
-
-    // Has the ways of the tile with this place and summary from then on, unless it had them.
-    fn learn(&mut self, alloc: Global, t: usize, summary: Summary) -> Result<(), Refusal>
+    /// Has the ways of the tile with this place and summary from then on, unless it had them.
+    pub(crate) fn learn(&mut self, alloc: Global, t: usize, summary: Summary) -> Result<(), Refusal>
         requires inside { t < length self.old.told.items }
         ensures told { OnOk result ((ways : TileGraphOf) × (told_at self.new.told.items t ≡ Some ways)) }
         ensures only { (u : ℕ) (ways : TileGraphOf) → u ≢ t → told_at self.new.told.items u ≡ Some ways → told_at self.old.told.items u ≡ Some ways }

@@ -1,5 +1,5 @@
-//! One tile flooded by itself, and what the tiles around need to know of it.
-ghost use Rattle.std.specs.Prelude.{◌≡◌, ◌-◌, ◌*◌, ◌<◌, ◌⊎◌, IsTrue, IfOk, IfErr, MatchOption, Contains, length};
+//! What the tiles around need to know of a tile that was flooded by itself.
+ghost use Rattle.std.specs.Prelude.{◌≡◌, ◌-◌, ◌*◌, ◌<◌, ◌⊎◌, IsTrue, IfOk, IfErr, OnOk, MatchOption, Ok, Contains, length};
 ghost use Rattle.lattice.specs.declared.refusal.Refusal.TheVariants.{NoMemory};
 ghost use Rattle.border_graph.specs.Joining.{IsSummaryOf};
 ghost use Rattle.catalogue.specs.Asked.{Asked};
@@ -8,40 +8,42 @@ ghost use Rattle.catalogue.specs.Readers.{OnlyReads, reads_of};
 ghost use Rattle.catalogue.specs.Reading.{MayRefuse};
 ghost use Rattle.derived.specs.Labellings.{IsFlooded};
 ghost use Rattle.drainage.specs.Flooded.{IsRimPointIn, HasOtherRimHeight, AreRimPointsIn};
+ghost use Rattle.drainage.specs.Ring.{AreRemembered};
 
 use crate::growth::push;
 use crate::heights::is_height;
 use crate::outlets::is_tile_outlet;
+use crate::ring::Ring;
 use border_graph::{RimPoint, Summary};
 use catalogue::Samples;
-use derived::Labellings;
 use lattice::{Corner, Refusal, point_at, rim_index};
 use std::alloc::Global;
 use tile_flood::{Labelled, spills};
 
-/// The labelling of the corner's tile, and its summary. Beside what gives the labelling it reads the points of the tile's
-/// rim and those around the tile.
+/// The summary of the corner's tile with this labelling. It reads the points of the tile's rim and those around the tile.
 ///
-/// It is refused for want of memory, as a read is, or with Damaged as a labelling is, or where the level of a rim point
-/// isn't its height.
-pub(crate) fn flood_tile<S: Labellings>(
+/// It is refused for want of memory, as a read is, or with Damaged where the level of a rim point isn't its height.
+pub(crate) fn summarize<S: Samples>(
     alloc: Global,
     samples: &mut S,
     corner: Corner,
-) -> Result<(Labelled, Summary), Refusal>
+    labelled: &Labelled,
+) -> Result<Summary, Refusal>
+    requires labelled_side { labelled.now.side ≡ S.side_of samples.old }
     requires present { Contains (S.corners samples.old) corner }
-    ensures corner { IfOk result (λ r. r.1.corner ≡ corner) }
-    ensures flooded { S.is_honest samples.new → IfOk result (λ r. IsFlooded (S.mosaic samples.old) corner r.0) }
-    ensures border { S.is_honest samples.new → IfOk result (λ r. IsSummaryOf (S.mosaic samples.old) r.1) }
+    ensures corner { IfOk result (λ b. b.corner ≡ corner) }
+    ensures border { S.is_honest samples.new → IsFlooded (S.mosaic samples.old) corner labelled.now → IfOk result (IsSummaryOf (S.mosaic samples.old)) }
     ensures causes { IfErr result (λ r. IsTrue (ends_any r)) }
-    ensures asked { Asked S.Samples samples.old samples.new result }
+    ensures asked { (S.is_honest samples.new → IsFlooded (S.mosaic samples.old) corner labelled.now) → Asked S.Samples samples.old samples.new result }
+    ensures reads { OnOk result (OnlyReads {T = Unit {0}} S.Samples samples.old samples.new (Ok tt)) }
+    ensures honest { S.is_honest samples.new → S.is_honest samples.old }
+    ensures mosaic { S.is_honest samples.new → S.mosaic samples.new ≡ S.mosaic samples.old }
 {
-    let labelled = samples.labelling(alloc, corner)?;
-    let spills = spills(alloc, &labelled)?;
-    let Some(rim) = rim_of(alloc, samples, corner, &labelled)? else {
+    let spills = spills(alloc, labelled)?;
+    let Some(rim) = rim_of(alloc, samples, corner, labelled)? else {
         return Err(Refusal::Damaged);
     };
-    Ok((labelled, Summary::new(corner, rim, spills)))
+    Ok(Summary::new(corner, rim, spills))
 }
 
 // The rim of the corner's tile, by rim number; none where the level of some rim point isn't its height, void for void.
@@ -59,9 +61,10 @@ fn rim_of<S: Samples>(
     ensures reads { OnlyReads S.Samples samples.old samples.new (reads_of result) }
 {
     let count = labelled.side().rim();
+    let mut ring = Ring::new(alloc)?;
     let mut rim = Vec::new(alloc);
     for number in 0..count {
-        let Some(point) = rim_point(samples, corner, labelled, number)? else {
+        let Some(point) = rim_point(samples, corner, labelled, &mut ring, number)? else {
             return Ok(None);
         };
         push(&mut rim, point)?;
@@ -75,13 +78,16 @@ fn rim_point<S: Samples>(
     samples: &mut S,
     corner: Corner,
     labelled: &Labelled,
+    ring: &mut Ring,
     number: u32,
 ) -> Result<Option<RimPoint>, Refusal>
     requires labelled_side { labelled.now.side ≡ S.side_of samples.old }
     requires present { Contains (S.corners samples.old) corner }
+    requires ring { S.is_honest samples.old → AreRemembered (S.mosaic samples.old) ring.old }
     requires number { number < 4 * (S.side_of samples.old - 1) }
     ensures point { S.is_honest samples.new → IsFlooded (S.mosaic samples.old) corner labelled.now → IfOk result (λ found. MatchOption found (HasOtherRimHeight (S.mosaic samples.old) corner labelled.now.levels)
         (λ point. IsRimPointIn (S.mosaic samples.old) corner labelled.now.labels number point)) }
+    ensures ring { S.is_honest samples.new → OnOk result (AreRemembered (S.mosaic samples.new) ring.new) }
     ensures reads { OnlyReads S.Samples samples.old samples.new result }
 {
     let side = labelled.side();
@@ -91,7 +97,7 @@ fn rim_point<S: Samples>(
     if !is_height(samples, point, level)? {
         return Ok(None);
     }
-    let is_outlet = is_tile_outlet(samples, corner, labelled, point, index)?;
+    let is_outlet = is_tile_outlet(samples, corner, labelled, ring, point, index)?;
     Ok(Some(RimPoint {
         height: level,
         label: labelled.labels()[index as usize],

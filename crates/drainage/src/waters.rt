@@ -10,14 +10,16 @@ ghost use Rattle.border_graph.specs.TileGraph.{TileGraph as TileGraphOf};
 ghost use Rattle.border_graph.specs.Others.{corner_at};
 ghost use Rattle.tile_flood.specs.Blocks.{LabelledGround};
 ghost use Rattle.drainage.specs.Shores.{told_at};
-ghost use Rattle.drainage.specs.Forgetting.{IsLeftOf};
+ghost use Rattle.drainage.specs.Forgetting.{IsLeftOf, IsNotedOf};
 ghost use Rattle.drainage.specs.Holding.{IsRight, IsGrown};
-ghost use Rattle.drainage.specs.Reaching.{DifferBetween, is_reached};
+ghost use Rattle.drainage.specs.Reaching.{DifferAt, DifferBetween, is_reached};
 
 use crate::entered::Entered;
 use crate::filling::spot_of;
+use crate::renewing::current_labelling;
 use crate::rims::RimLevels;
 use crate::shores::Shores;
+use crate::summing::summarize;
 use border_graph::{Edge, EdgeSource};
 use catalogue::Samples;
 use derived::Labellings;
@@ -62,6 +64,18 @@ impl Waters {
         self.shores.forget_between(from, to);
     }
 
+    /// The height of the point may change from then on, of ground or of a void, and no sink: this is noted of the labellings
+    /// of the tiles that hold it, to be mended. Else as `forget_between` does.
+    pub(crate) fn note_changed(&mut self, point: Point)
+        ensures left { IsNotedOf (is_reached self.old.shores.side self.old.shores.corners.items point point) point (known_of self.old) (known_of self.new) }
+        ensures right { (m new : Mosaic) → DifferAt m new point → IsRight m (known_of self.old) → IsRight new (known_of self.new) }
+    {
+        self.levels.forget();
+        let side = self.shores.side;
+        self.entered.note_changed(side, &self.shores.corners, point);
+        self.shores.forget_between(point, point);
+    }
+
     // Has the ways of the tile with this place and corner from then on, unless it had them.
     fn tell<S: Labellings>(
         &mut self,
@@ -85,8 +99,10 @@ impl Waters {
         if self.shores.told[t].is_some() {
             return Ok(());
         }
-        let labelled = self.shores.enter(alloc, samples, t, corner)?;
-        self.entered.hold(t, labelled);
+        let labelling = current_labelling(alloc, samples, &mut self.entered, t, corner)?;
+        let summary = summarize(alloc, samples, corner, labelling.labelled())?;
+        self.shores.learn(alloc, t, summary)?;
+        self.entered.hold(t, labelling);
         Ok(())
     }
 
@@ -113,9 +129,9 @@ impl Waters {
         if let Some(spot) = self.entered.spot(t, index) {
             return Ok(spot);
         }
-        let labelled = self.shores.enter(alloc, samples, t, corner)?;
-        let spot = spot_of(&labelled, index);
-        self.entered.hold(t, labelled);
+        let labelling = current_labelling(alloc, samples, &mut self.entered, t, corner)?;
+        let spot = spot_of(labelling.labelled(), index);
+        self.entered.hold(t, labelling);
         match spot {
             Some(spot) => Ok(spot),
             None => Err(Refusal::Damaged),

@@ -4,10 +4,20 @@ use Rattle.std.proofs.lemmas.Int.{to_z-of_z}
 use Rattle.lattice.specs.declared.direction.Dir.TheVariants.{East}
 use Rattle.lattice.specs.Steps.{step, directions, order_of}
 use Rattle.flow_d8.proofs.Compass.{dir_at_place, order_below}
+use Rattle.lattice.specs.Corners.{Corner}
+use Rattle.derived.specs.TileLabellings.{IsTileLabelling}
 use Rattle.drainage.specs.Nearby.{IsToldOf}
 use Rattle.drainage.specs.Waters.{known_of}
 use Rattle.drainage.proofs.Around.{near_is}
 use Rattle.drainage.proofs.nearby.near.Goals as goal
+
+pub level_in_tile-requires-clause-held : goal.level_in_tile-requires-clause-held
+level_in_tile-requires-clause-held c m right =
+    c.in_ok-labelled.ensures m c.in_ok-corner.corner (λ x at. subst (λ (d : Corner). IsTileLabelling m d x) c.in_ok-corner.ensures.some.1 (right.entered c.in_ok-t.t x at))
+
+pub level_beside-requires-clause-held : goal.level_beside-requires-clause-held
+level_beside-requires-clause-held c m right =
+    c.in_ok-labelled.ensures m c.in_ok-corner.corner (λ x at. subst (λ (d : Corner). IsTileLabelling m d x) c.in_ok-corner.ensures.some.1 (right.entered c.in_ok-t.t x at))
 
 pub loop-i-preserved : goal.loop-i-preserved
 loop-i-preserved c =

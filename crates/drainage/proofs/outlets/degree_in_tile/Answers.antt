@@ -51,6 +51,7 @@ loop-step-preserved g c =
     let f : Mosaic → Step → Bool = λ m s. is_adjacent m c.args.point s.to in
     record {
       reads = reads_on g.S.Samples g.met.S.Samples.keeps_on a b d c.loop-step.count (Ok c.if-branch.count) so.reads (reads_as g.S.Samples b d c.in_ok-is_adjacent_to.field-0 c.if-branch.count read);
+      ring = λ honest. c.in_ok-is_adjacent_to.ensures.ring honest;
       few = let few = so.few in elim c.if-branch.branch [ then-branch w ↦ let is = w.count-is in omega arith | else-branch w ↦ let is = w.count-is in omega arith ];
       count = λ honest of.
           let mid = read.honest honest in

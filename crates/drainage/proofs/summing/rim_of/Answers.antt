@@ -18,6 +18,7 @@ loop-number-preserved g c =
     let read = c.in_ok-point.ensures.reads in
     record {
       reads = reads_on g.S.Samples g.met.S.Samples.keeps_on now c.loop-number.samples c.rim_point.new.samples tt (Ok tt) so.reads (reads_as g.S.Samples c.loop-number.samples c.rim_point.new.samples c.in_ok-point.field-0 tt read);
+      ring = λ honest. c.in_ok-point.ensures.ring honest;
       points = λ honest flooded.
           let mid = read.honest honest in
           let here = subst (λ (found : Option RimPoint). MatchOption found (HasOtherRimHeight (g.S.Samples.mosaic c.loop-number.samples) c.args.corner c.args.labelled.now.levels)
@@ -31,8 +32,8 @@ loop-number-preserved g c =
 pub returns-in_err-point-clause-reads : goal.returns-in_err-point-clause-reads
 returns-in_err-point-clause-reads g c =
     let r = c.in_err-point.field-0.0 in
-    let p = err_from_is_err_and c.from_residual.result c.from_residual.ensures.1 in
-    let ended : c.from_residual.result ≡ Err r = p.1 ∙ ap (λ (why : Refusal). Err why) p.2 in
+    let p = err_from_is_err_and c.from_residual-in_err-point.result c.from_residual-in_err-point.ensures.1 in
+    let ended : c.from_residual-in_err-point.result ≡ Err r = p.1 ∙ ap (λ (why : Refusal). Err why) p.2 in
     rw ended (reads_on g.S.Samples g.met.S.Samples.keeps_on c.args.samples.now c.loop-number.samples c.rim_point.new.samples tt (reads_of {T = Option RimPoint} (Err r))
     c.loop-number.invariant.reads (reads_for g.S.Samples c.loop-number.samples c.rim_point.new.samples (Err r) c.in_err-point.ensures.reads))
 

@@ -15,6 +15,7 @@ use Rattle.border_graph.specs.declared.summary.RimPoint.{RimPoint}
 use Rattle.derived.specs.Labellings.{IsFlooded}
 use Rattle.catalogue.specs.Readers.{OnlyReads}
 use Rattle.catalogue.proofs.Reading.{reads_as, reads_on, reads_refused}
+use Rattle.drainage.specs.Ring.{AreRemembered}
 use Rattle.drainage.proofs.summing.rim_point.Goals as goal
 
 -- a level as it was read
@@ -73,3 +74,13 @@ pub returns-clause-reads : goal.returns-clause-reads
 returns-clause-reads g c =
     reads_on g.S.Samples g.met.S.Samples.keeps_on c.args.samples.now c.is_height.new.samples c.is_tile_outlet.new.samples c.in_ok-is_height.field-0 _ c.in_ok-is_height.ensures.reads
     (reads_as g.S.Samples c.is_height.new.samples c.is_tile_outlet.new.samples c.in_ok-is_outlet.is_outlet _ c.in_ok-is_outlet.ensures.reads)
+
+pub returns-then-not-branch-clause-ring : goal.returns-then-not-branch-clause-ring
+returns-then-not-branch-clause-ring g c honest =
+    let reads = c.in_ok-is_height.ensures.reads in
+    subst (λ (m : Mosaic). AreRemembered m c.args.ring.now) (sym (reads.mosaic honest)) (c.requires.ring (reads.honest honest))
+
+pub is_tile_outlet-requires-clause-ring : goal.is_tile_outlet-requires-clause-ring
+is_tile_outlet-requires-clause-ring g c honest =
+    let reads = c.in_ok-is_height.ensures.reads in
+    subst (λ (m : Mosaic). AreRemembered m c.args.ring.now) (sym (reads.mosaic honest)) (c.requires.ring (reads.honest honest))

@@ -1,26 +1,43 @@
-use Rattle.std.proofs.Common.{◌≡◌, ◌⊎◌, List, refl, subst}
-use Rattle.std.specs.Prelude.{Option, Some}
-use Rattle.lattice.specs.Corners.{Corner}
+use Rattle.std.proofs.Common.{◌≡◌, List, refl, sym, subst}
+use Rattle.std.specs.Prelude.{Option}
 use Rattle.catalogue.proofs.Reading.{reads_nothing}
-use Rattle.derived.specs.Labellings.{IsFlooded}
-use Rattle.tile_flood.specs.Blocks.{LabelledGround}
-use Rattle.drainage.specs.Holding.{entered_at}
+use Rattle.derived.specs.declared.tile_labelling.TileLabelling.{TileLabelling}
+use Rattle.drainage.specs.Holding.{IsEntered}
 use Rattle.drainage.specs.Waters.{known_of}
 use Rattle.drainage.proofs.Growing.{grown_by}
 use Rattle.drainage.proofs.Questioned.{answered}
+use Rattle.drainage.proofs.Renewed.{entered_there}
 use Rattle.drainage.proofs.waters.Waters.spot.Goals as goal
 
 pub returns-in-Some-clause-spot : goal.returns-in-Some-clause-spot
 returns-in-Some-clause-spot g c honest right =
-    let held = c.in-Some.ensures.some in
-    (held.0, (subst (λ (d : Corner). IsFlooded (g.S.Samples.mosaic c.args.samples.now) d held.0) c.requires.corner (right.entered c.args.t held.0 held.1.0), held.1.1))
+    c.in-Some.ensures.some (g.S.Samples.mosaic c.args.samples.now) c.args.corner (entered_there g.S.Samples c.args.samples.now (known_of c.args.self.now) c.args.t c.args.corner c.requires.place c.requires.corner right)
 
 pub returns-in-Some-clause-asked : goal.returns-in-Some-clause-asked
 returns-in-Some-clause-asked g c right = answered g.S.Samples c.args.samples.now c.args.samples.now c.in-Some.spot (reads_nothing g.S.Samples g.met.S.Samples.keeps_itself c.args.samples.now (tt {0}))
 
 pub returns-in-Some-spot-clause-grown : goal.returns-in-Some-spot-clause-grown
 returns-in-Some-spot-clause-grown g c =
-    let entered = c.in_ok-labelled.ensures in
-    grown_by g.S.Samples c.args.samples.now c.enter.new.samples (known_of c.args.self.now) (known_of (record { shores = c.enter.new.self; entered = c.hold.new.self; levels = c.args.self.now.levels })) entered.kept refl
-    c.args.t c.args.corner c.in_ok-labelled.labelled c.requires.corner entered.flooded
-    (λ u l is. subst (λ (e : List (Option LabelledGround)). ((u ≡ c.args.t) × (l ≡ c.in_ok-labelled.labelled)) ⊎ (entered_at e u ≡ Some l)) c.spot.ensures.same (c.hold.ensures u l is))
+    let a = c.args.samples.now in
+    let was = known_of c.args.self.now in
+    let made = c.in_ok-labelling.ensures in
+    grown_by g.S.Samples a c.current_labelling.new.samples was (known_of (record { shores = c.args.self.now.shores; entered = c.hold.new.self; levels = c.args.self.now.levels }))
+    (record { honest = made.honest; mosaic = made.mosaic; same_side = refl; same_corners = refl; still = λ t ways is. is }) refl
+    c.args.t c.args.corner c.in_ok-labelling.labelling c.requires.corner
+    (λ honest right. made.valid honest (subst (λ (e : List (Option TileLabelling)). IsEntered (g.S.Samples.mosaic a) c.args.corner e c.args.t) (sym c.spot.ensures.same)
+    (entered_there g.S.Samples a was c.args.t c.args.corner c.requires.place c.requires.corner right)))
+    (λ honest right. right.ready.tiles)
+    (λ m d u here entered. c.hold.ensures m d u here (made.left m d u (subst (λ (e : List (Option TileLabelling)). IsEntered m d e u) (sym c.spot.ensures.same) entered)))
+
+pub returns-in-Some-spot-clause-spot : goal.returns-in-Some-spot-clause-spot
+returns-in-Some-spot-clause-spot g c honest right =
+    let a = c.args.samples.now in
+    let made = c.in_ok-labelling.ensures in (
+      c.labelled.result.now,
+      (
+        c.labelled.ensures.flooded (g.S.Samples.mosaic a) c.args.corner made.current
+            (made.valid honest (subst (λ (e : List (Option TileLabelling)). IsEntered (g.S.Samples.mosaic a) c.args.corner e c.args.t) (sym c.spot.ensures.same)
+            (entered_there g.S.Samples a (known_of c.args.self.now) c.args.t c.args.corner c.requires.place c.requires.corner right))),
+        c.in-Some-spot.ensures.some,
+      ),
+    )

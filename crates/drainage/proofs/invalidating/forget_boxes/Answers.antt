@@ -7,8 +7,8 @@ use Rattle.edits.specs.declared.change.Change.{Change}
 use Rattle.drainage.specs.Changed.{place_of}
 use Rattle.drainage.specs.declared.invalidating.Span.{Span}
 use Rattle.drainage.proofs.LeftHeld.{IsLeftFor, still_right, given_up, one_more}
-use Rattle.drainage.proofs.invalidating.forget_changed.Goals as goal
-use Rattle.drainage.proofs.invalidating.forget_changed.Goals.{then-ne, else-ne}
+use Rattle.drainage.proofs.invalidating.forget_boxes.Goals as goal
+use Rattle.drainage.proofs.invalidating.forget_boxes.Goals.{then-ne, else-ne}
 
 as_left : (m : Mosaic) (changes : List Change) (span span' : Option Span) (held held' : Held) → span ≡ span' → held ≡ held' → IsLeftFor m changes span' held' → IsLeftFor m changes span held
 as_left m changes span span' held held' box one is = subst (λ (o : Option Span). IsLeftFor m changes o held) (sym box) (subst (IsLeftFor m changes span') (sym one) is)

@@ -1,0 +1,99 @@
+-- What is held of a tile that a change doesn't reach is kept, change after change.
+use Rattle.std.proofs.Common.{◌≡◌, ℕ, ◌<◌, true, false, List, length, get_or, refl, sym, ap, ◌∙◌, subst}
+use Rattle.std.specs.Prelude.{◌↔◌, Option, Some, None, All, nat_lt, not}
+use Rattle.std.proofs.lemmas.Bool.{or_parts, false_from_ne_true, both_ways, ltb-true}
+use Rattle.std.proofs.lemmas.List.Elements.{All-get_or}
+use Rattle.lattice.specs.Corners.{Corner}
+use Rattle.lattice.specs.Lattice.{holds}
+use Rattle.lattice.specs.declared.point.Point.{Point}
+use Rattle.border_graph.specs.Others.{corner_at}
+use Rattle.drainage.specs.Between.{are_left, are_noted}
+use Rattle.drainage.specs.Beyond.{IsKeptAt, is_beyond, are_kept_from, are_kept_beyond}
+use Rattle.drainage.specs.Reaching.{is_between, is_reached, reaches}
+use Rattle.drainage.specs.declared.waters.Waters.{Waters}
+use Rattle.drainage.proofs.Reached.{at_itself}
+use Rattle.drainage.proofs.Unreached.{itself_unreached}
+
+none_some : {A : Type 0} (a : A) → ◌≡◌ {A = Option A} None (Some a) → ⊥
+none_some a e = cc
+
+-- the same things are there
+same_there : {A : Type 0} (a b : Option A) → ((x : A) → (b ≡ Some x → a ≡ Some x) × (a ≡ Some x → b ≡ Some x)) → a ≡ b
+same_there None None same = refl
+same_there (Some x) None same = absurd (none_some x ((same x).1 refl))
+same_there None (Some x) same = absurd (none_some x ((same x).0 refl))
+same_there (Some x) (Some y) same = (same y).0 refl
+
+kept_there : {A : Type 0} (a b : Option A) (gone : ℕ → _) (t : ℕ) → ((x : A) → a ≡ Some x ↔ ((b ≡ Some x) × (gone t ≡ false))) → gone t ≡ false → a ≡ b
+kept_there a b gone t left out = same_there a b (λ x. ((λ is. (left x).1 (is, out)), (λ is. ((left x).0 is).0)))
+
+module _ (n : ℕ) (corners : List Corner) (p : Point) (t : ℕ) (out : is_reached n corners p p t ≡ false) where
+  parts : (not (nat_lt t (length corners)) ≡ false) × (reaches n (corner_at corners t) p p ≡ false)
+  parts = or_parts (not (nat_lt t (length corners))) (reaches n (corner_at corners t) p p) out
+
+  place : t < length corners
+  place = ltb-true t (length corners) (not_false (nat_lt t (length corners)) parts.0)
+    where
+      not_false : (b : _) → not b ≡ false → b ≡ true
+      not_false true e = refl
+      not_false false e = cc
+
+  not_held : holds n (corner_at corners t) p ≡ false
+  not_held = false_from_ne_true (holds n (corner_at corners t) p) (λ held.
+      both_ways (is_between p p p) (itself_unreached n (corner_at corners t) p p parts.1 p held) (at_itself p))
+
+pub kept_by_left : (p : Point) (held left : Option Waters) → are_left p p held left → are_kept_from p held left
+kept_by_left p None left is = tt
+kept_by_left p (Some waters) left (some, at, is) = λ t out. (
+  some,
+  at,
+  record {
+    same_side = is.same_side;
+    same_corners = is.same_corners;
+    told = kept_there _ _ (is_reached waters.shores.side waters.shores.corners.items p p) t (is.told t) out;
+    entered = kept_there _ _ (is_reached waters.shores.side waters.shores.corners.items p p) t (is.entered t) out;
+  },
+)
+
+pub kept_by_noted : (p : Point) (held left : Option Waters) → are_noted p held left → are_kept_from p held left
+kept_by_noted p None left is = tt
+kept_by_noted p (Some waters) left (some, at, is) = λ t out. (
+  some,
+  at,
+  record {
+    same_side = is.same_side;
+    same_corners = is.same_corners;
+    told = kept_there _ _ (is_reached waters.shores.side waters.shores.corners.items p p) t (is.told t) out;
+    entered = is.entered t (place waters.shores.side waters.shores.corners.items p t out) (not_held waters.shores.side waters.shores.corners.items p t out);
+  },
+)
+
+pub all_kept : {A : Type 0} (point : A → Option Point) (changes : List A) (held : Option Waters) → are_kept_beyond point changes held held
+all_kept point changes None = tt
+all_kept point changes (Some waters) = λ t beyond. (waters, refl, record { same_side = refl; same_corners = refl; told = refl; entered = refl })
+
+-- one change more
+pub one_kept : {A : Type 0} (point : A → Option Point) (changes : List A) (i : ℕ) (x : A) (p : Point) (first held left : Option Waters) → i < length changes → x ≡ get_or changes i x → point x ≡ Some p
+    → are_kept_from p held left → are_kept_beyond point changes first held → are_kept_beyond point changes first left
+one_kept point changes i x p None held left below is_x at kept before = tt
+one_kept point changes i x p (Some waters) held left below is_x at kept before = λ t beyond.
+    let was = before t beyond in
+    let out : is_reached waters.shores.side waters.shores.corners.items p p t ≡ false =
+    subst (is_beyond waters.shores.side waters.shores.corners.items t) (ap point (sym is_x) ∙ at) (All-get_or (λ change. is_beyond waters.shores.side waters.shores.corners.items t (point change)) changes i x below beyond) in
+    let still = subst (λ (o : Option Waters). are_kept_from p o left) was.1 kept in
+    let now = still t (ap (λ (s : ℕ). is_reached s was.0.shores.corners.items p p t) was.2.same_side ∙ (ap (λ (cs : List Corner). is_reached waters.shores.side cs p p t) was.2.same_corners ∙ out)) in (
+      now.0,
+      now.1,
+      record {
+        same_side = now.2.same_side ∙ was.2.same_side;
+        same_corners = now.2.same_corners ∙ was.2.same_corners;
+        told = now.2.told ∙ was.2.told;
+        entered = now.2.entered ∙ was.2.entered;
+      },
+    )
+
+-- a tile comes or goes: nothing is beyond it
+pub none_beyond : {A : Type 0} (point : A → Option Point) (changes : List A) (i : ℕ) (x : A) (first left : Option Waters) → i < length changes → x ≡ get_or changes i x → point x ≡ None → are_kept_beyond point changes first left
+none_beyond point changes i x None left below is_x at = tt
+none_beyond point changes i x (Some waters) left below is_x at = λ t beyond. absurd
+    (subst (is_beyond waters.shores.side waters.shores.corners.items t) (ap point (sym is_x) ∙ at) (All-get_or (λ change. is_beyond waters.shores.side waters.shores.corners.items t (point change)) changes i x below beyond))

@@ -1,0 +1,17 @@
+use Rattle.std.proofs.Common.{◌≡◌, Ok, Err, true≢false, sym, ◌∙◌, subst}
+use Rattle.std.proofs.lemmas.Result.{err_from_is_err_and}
+use Rattle.std.specs.Prelude.{IfOk}
+use Rattle.lattice.specs.Mosaic.{Mosaic}
+use Rattle.catalogue.proofs.Asking.{asked_by_reads}
+use Rattle.catalogue.proofs.Reading.{reads_nothing}
+use Rattle.drainage.proofs.Questioned.{answered, passed_on, refused_by, stopped}
+use Rattle.drainage.proofs.renewing.current_labelling.Goals as goal
+
+pub returns-then-not-present-clause-asked : goal.returns-then-not-present-clause-asked
+returns-then-not-present-clause-asked g c there =
+    let a = c.args.samples.now in
+    stopped g.S.Samples a a (reads_nothing g.S.Samples g.met.S.Samples.keeps_itself a (tt {0})) (λ honest.
+    absurd (true≢false (sym (c.present.ensures.answer.1 (there honest)) ∙ c.if-not-present.true)))
+
+pub returns-in-Some-clause-asked : goal.returns-in-Some-clause-asked
+returns-in-Some-clause-asked g c there = answered g.S.Samples c.args.samples.now c.renewed.new.samples c.in-Some.renewed c.in_ok-renewed.ensures.reads

@@ -1,0 +1,71 @@
+//! Labellings of tiles as their heights are now.
+ghost use Rattle.std.specs.Prelude.{◌≡◌, ◌⊎◌, ℕ, Ok, IfOk, IfErr, IfSome, OnOk, IsTrue, Contains};
+ghost use Rattle.lattice.specs.Corners.{Corner};
+ghost use Rattle.lattice.specs.Mosaic.{Mosaic};
+ghost use Rattle.lattice.specs.declared.refusal.Refusal.TheVariants.{NoMemory};
+ghost use Rattle.catalogue.specs.Asked.{Asked};
+ghost use Rattle.catalogue.specs.Endings.{ends_any};
+ghost use Rattle.catalogue.specs.Readers.{OnlyReads, reads_of};
+ghost use Rattle.catalogue.specs.Reading.{MayRefuse};
+ghost use Rattle.derived.specs.TileLabellings.{labelled_of, IsCurrent, IsTileLabelling};
+ghost use Rattle.drainage.specs.Holding.{IsEntered};
+
+use crate::entered::Entered;
+use catalogue::Samples;
+use derived::{Labellings, TileLabelling};
+use lattice::{Corner, Refusal};
+use std::alloc::Global;
+
+/// The labelling of the tile with this place and corner as its heights are now: that which is held, mended where they may
+/// have changed, or else another. It isn't held then.
+///
+/// Damaged where there is no such tile, or as a labelling is. Otherwise it is refused for want of memory, or as a read is.
+pub(crate) fn current_labelling<S: Labellings>(
+    alloc: Global,
+    samples: &mut S,
+    entered: &mut Entered,
+    t: usize,
+    corner: Corner,
+) -> Result<TileLabelling, Refusal>
+    ensures valid { S.is_honest samples.new → IsEntered (S.mosaic samples.old) corner entered.old t → IfOk result (IsTileLabelling (S.mosaic samples.old) corner) }
+    ensures current { IfOk result IsCurrent }
+    ensures side { IfOk result (λ labelling. (labelled_of labelling).side ≡ S.side_of samples.old) }
+    ensures present { OnOk result (Contains (S.corners samples.old) corner) }
+    ensures left { (m : Mosaic) (c : Corner) (u : ℕ) → IsEntered m c entered.old u → IsEntered m c entered.new u }
+    ensures honest { S.is_honest samples.new → S.is_honest samples.old }
+    ensures mosaic { S.is_honest samples.new → S.mosaic samples.new ≡ S.mosaic samples.old }
+    ensures asked { (S.is_honest samples.new → Contains (S.corners samples.old) corner) → Asked S.Samples samples.old samples.new result }
+    ensures reads { OnOk result (OnlyReads {T = Unit {0}} S.Samples samples.old samples.new (Ok tt)) }
+    ensures causes { IfErr result (λ r. IsTrue (ends_any r)) }
+{
+    if !samples.present(corner) {
+        return Err(Refusal::Damaged);
+    }
+    if let Some(renewed) = renewed(alloc, samples, entered, t, corner)? {
+        return Ok(renewed);
+    }
+    let labelling = samples.labelling(alloc, corner)?;
+    Ok(labelling)
+}
+
+// The labelling that is held of the tile, mended where heights may have changed; None where none is held, or the tile is to
+// be flooded anew. Nothing is held of the tile then.
+fn renewed<S: Samples>(
+    alloc: Global,
+    samples: &mut S,
+    entered: &mut Entered,
+    t: usize,
+    corner: Corner,
+) -> Result<Option<TileLabelling>, Refusal>
+    ensures valid { S.is_honest samples.new → IsEntered (S.mosaic samples.old) corner entered.old t → IfOk result (λ found. IfSome found (IsTileLabelling (S.mosaic samples.old) corner)) }
+    ensures current { IfOk result (λ found. IfSome found IsCurrent) }
+    ensures side { IfOk result (λ found. IfSome found (λ renewed. (labelled_of renewed).side ≡ S.side_of samples.old)) }
+    ensures left { (m : Mosaic) (c : Corner) (u : ℕ) → IsEntered m c entered.old u → IsEntered m c entered.new u }
+    ensures refusal { IfErr result (λ r. (r ≡ NoMemory) ⊎ MayRefuse (S.failures samples.old) (S.failures samples.new) r) }
+    ensures reads { OnlyReads S.Samples samples.old samples.new (reads_of result) }
+{
+    let Some(held) = entered.take(t) else {
+        return Ok(None);
+    };
+    held.renewed(alloc, samples, corner)
+}
