@@ -23,7 +23,7 @@ refused_as (Err why) r same = ap (λ (x : Refusal). Err x) same
 pub refusal_is : {T : Type 0} (r : Refusal) → ◌≡◌ {A = Result T Refusal} (Err r) (Err Device) → r ≡ Device
 refusal_is r e = cc
 
-always : {T P : Type 0} (result : Result T Refusal) → P → OnOk result P
+pub always : {T P : Type 0} (result : Result T Refusal) → P → OnOk result P
 always (Ok t) p = p
 always (Err e) p = tt
 

@@ -1,15 +1,22 @@
 -- How many writes an edit makes.
-use Rattle.std.proofs.Common.{◌≡◌, ℕ, ◌+◌, ◌*◌, ◌<◌, ◌≤◌, Bool, true, false, if◌then◌else◌, arith}
+use Rattle.std.proofs.Common.{◌≡◌, ℕ, ◌+◌, ◌*◌, ◌≤◌, Bool, true, false, if◌then◌else◌, List, length, sym, ap, ◌∙◌, subst, arith}
 use Rattle.std.specs.Prelude.{Result, Ok, Err, OnOk, OnErr}
+use Rattle.std.proofs.lemmas.List.{length-map}
+use Rattle.disk.specs.declared.disk.Disk.{Ghosts}
+use Rattle.lattice.specs.declared.point.Point.{Point}
 use Rattle.lattice.specs.declared.refusal.Refusal.{Refusal}
 use Rattle.layout.specs.declared.version.Version.{Version}
 use Rattle.layout.specs.declared.version.Version.TheVariants.{One, Two}
-use Rattle.cow_tree.specs.Staged.{index_page_by}
+use Rattle.page_codec.specs.Sizes.{most_writes}
 use Rattle.edits.specs.declared.command.Command.{Command}
 use Rattle.edits.specs.declared.command.Command.TheVariants.{Import, Remove, Patch, Burn, Wall, Sink, Unsink}
-use Rattle.edits.specs.Plans.{IsFew}
-use Rattle.store.specs.Applied.{SetsSamples}
-use Rattle.store.specs.Editing.{WritesFew, index_pages_due}
+use Rattle.edits.specs.declared.edit.Edit.{Edit}
+use Rattle.edits.specs.declared.edit.Edit.TheVariants as edit
+use Rattle.edits.specs.declared.edit.NewHeight.{NewHeight}
+use Rattle.edits.specs.Edits.{IsEditOf, points_of}
+use Rattle.cow_tree.specs.Trees.{disk_of, root_of, has_begun, records_due}
+use Rattle.cow_tree.specs.declared.tree.Tree.{Tree}
+use Rattle.store.specs.Editing.{StagesFew, StagesPages, WritesFew, index_pages_due}
 
 -- one page more, which may begin a commit
 pub page_written : (begun : Bool) (before now : ℕ) → now ≤ before + (if begun then 1 else 2) → now ≤ before + (if begun then 0 else 1) + 1
@@ -26,35 +33,59 @@ begun_written : (begun : Bool) (before : ℕ) → before + (if begun then 0 else
 begun_written true before = omega arith
 begun_written false before = omega arith
 
--- by the number of changes
-few_written : (version : Version) (command : Command) (changes before now : ℕ) → SetsSamples command → IsFew command changes → now ≤ before + (2 * changes + index_pages_due version changes + 3) → WritesFew version command before now
-few_written version (Import c bytes) changes before now sets few most = tt
-few_written version (Remove c) changes before now sets few most = tt
-few_written version (Patch from to h) changes before now sets few most = tt
-few_written One (Burn depth points) changes before now sets few most = omega (arith, few, most)
-few_written Two (Burn depth points) changes before now sets few most = omega (arith, few, most)
-few_written One (Wall h points) changes before now sets few most = omega (arith, few, most)
-few_written Two (Wall h points) changes before now sets few most = omega (arith, few, most)
-few_written version (Sink p) changes before now sets few most = absurd sets
-few_written version (Unsink p) changes before now sets few most = absurd sets
+-- staging new heights, and a commit behind it
+heights_written : {D T : Type 0} (g : Ghosts D) (version : Version) (q : ℕ) (old mid new : Tree D g) (staged : Result T Refusal) → (root_of old).version ≡ version → records_due old ≡ 0
+    → StagesPages g (4 * q) (4 * q) old mid staged → OnOk staged (g.writes (disk_of new) ≤ g.writes (disk_of mid) + records_due mid + (if has_begun mid then 2 else 3))
+    → OnErr staged (g.writes (disk_of new) ≡ g.writes (disk_of mid)) → g.writes (disk_of new) ≤ g.writes (disk_of old) + most_writes version q
+heights_written g version q old mid new (Ok x) is none pages commits unwritten =
+    let first = begun_written (has_begun old) (g.writes (disk_of old)) in
+    let last = commit_written (has_begun mid) (g.writes (disk_of mid)) (g.writes (disk_of new)) (records_due mid) commits in
+    let due : records_due mid ≤ records_due old + (4 * q + index_pages_due version (4 * q)) = subst (λ (v : Version). records_due mid ≤ records_due old + (4 * q + index_pages_due v (4 * q))) is pages.due in
+    by version due first last
+  where
+    by : (v : Version) → records_due mid ≤ records_due old + (4 * q + index_pages_due v (4 * q)) → g.writes (disk_of old) + (if has_begun old then 0 else 1) ≤ g.writes (disk_of old) + 1
+        → g.writes (disk_of new) ≤ g.writes (disk_of mid) + (if has_begun mid then 0 else 1) + records_due mid + 2 → g.writes (disk_of new) ≤ g.writes (disk_of old) + most_writes v q
+    by One due first last = omega (arith, due, first, last, none, pages.begun)
+    by Two due first last = omega (arith, due, first, last, none, pages.begun)
+heights_written g version q old mid new (Err r) is none pages commits unwritten =
+    let first = begun_written (has_begun old) (g.writes (disk_of old)) in
+    by version first
+  where
+    by : (v : Version) → g.writes (disk_of old) + (if has_begun old then 0 else 1) ≤ g.writes (disk_of old) + 1 → g.writes (disk_of new) ≤ g.writes (disk_of old) + most_writes v q
+    by One first = omega (arith, first, unwritten, pages.writes)
+    by Two first = omega (arith, first, unwritten, pages.writes)
 
--- the index pages of one page more, and of all
-pub index_due_on : (version : Version) (start mid end done next : ℕ) → mid ≤ start + index_pages_due version done → end ≤ mid + index_page_by version → done < next → end ≤ start + index_pages_due version next
-index_due_on One start mid end done next so_far more further = omega (arith, so_far, more)
-index_due_on Two start mid end done next so_far more further = omega (arith, so_far, more, further)
+-- a sink stages nothing on the disk
+sink_written : {D T : Type 0} (g : Ghosts D) (old mid new : Tree D g) (staged : Result T Refusal) → records_due old ≡ 0 → disk_of mid ≡ disk_of old → records_due mid ≡ records_due old
+    → OnOk staged (g.writes (disk_of new) ≤ g.writes (disk_of mid) + records_due mid + (if has_begun mid then 2 else 3)) → OnErr staged (g.writes (disk_of new) ≡ g.writes (disk_of mid))
+    → g.writes (disk_of new) ≤ g.writes (disk_of old) + 3
+sink_written g old mid new (Ok x) none disk due commits unwritten =
+    let same = ap g.writes disk in
+    let last = commit_written (has_begun mid) (g.writes (disk_of mid)) (g.writes (disk_of new)) (records_due mid) commits in
+    let first = begun_written (has_begun mid) (g.writes (disk_of mid)) in
+    omega (arith, same, last, first, due, none)
+sink_written g old mid new (Err r) none disk due commits unwritten = let same = ap g.writes disk in omega (arith, same, unwritten)
 
-pub index_due_all : (version : Version) (start end done all : ℕ) → end ≤ start + index_pages_due version done → done ≤ all → end ≤ start + index_pages_due version all
-index_due_all One start end done all so_far within = so_far
-index_due_all Two start end done all so_far within = omega (arith, so_far, within)
+-- as many heights as points
+as_many : (heights : List NewHeight) (points : List Point) → points_of heights ≡ points → length heights ≡ length points
+as_many heights points same = sym (length-map heights (λ h. h.point)) ∙ ap length same
 
 -- so much is written where staging was refused, and where it wasn't
-pub staged_written : {T : Type 0} (version : Version) (staged : Result T Refusal) (command : Command) (changes due before mid now : ℕ) (begun begins : Bool) → SetsSamples command → IsFew command changes
-    → mid ≤ before + (if begun then 0 else 1) + changes → OnOk staged (mid + (if begins then 0 else 1) ≤ before + (if begun then 0 else 1) + changes) → OnOk staged (due ≤ changes + index_pages_due version changes)
-    → OnOk staged (now ≤ mid + due + (if begins then 2 else 3)) → OnErr staged (now ≡ mid) → WritesFew version command before now
-staged_written version (Ok x) command changes due before mid now begun begins sets few most pages records commits none =
-    let first = begun_written begun before in
-    let last = commit_written begins mid now due commits in
-    few_written version command changes before now sets few (omega (arith, first, last, pages, records))
-staged_written version (Err r) command changes due before mid now begun begins sets few most pages records commits none =
-    let first = begun_written begun before in
-    few_written version command changes before now sets few (omega (arith, first, most, none))
+pub staged_written : {D T : Type 0} (g : Ghosts D) (version : Version) (command : Command) (made : Edit) → IsEditOf command made → (old mid new : Tree D g) (staged : Result T Refusal) → (root_of old).version ≡ version → records_due old ≡ 0
+    → StagesFew g made old mid staged → OnOk staged (g.writes (disk_of new) ≤ g.writes (disk_of mid) + records_due mid + (if has_begun mid then 2 else 3))
+    → OnErr staged (g.writes (disk_of new) ≡ g.writes (disk_of mid)) → WritesFew version command (g.writes (disk_of old)) (g.writes (disk_of new))
+staged_written g version (Import c bytes) made form old mid new staged is none few commits unwritten = tt
+staged_written g version (Remove c) made form old mid new staged is none few commits unwritten = tt
+staged_written g version (Patch from to h) made form old mid new staged is none few commits unwritten = tt
+staged_written g version (Burn depth points) (edit.Heights heights) form old mid new staged is none few commits unwritten =
+    subst (λ (q : ℕ). g.writes (disk_of new) ≤ g.writes (disk_of old) + most_writes version q) (as_many heights.items points.items form)
+    (heights_written g version (length heights.items) old mid new staged is none few commits unwritten)
+staged_written g version (Wall h points) (edit.Heights heights) form old mid new staged is none few commits unwritten =
+    subst (λ (q : ℕ). g.writes (disk_of new) ≤ g.writes (disk_of old) + most_writes version q) (as_many heights.items points.items form)
+    (heights_written g version (length heights.items) old mid new staged is none few commits unwritten)
+staged_written g version (Sink p) (edit.Sink q) form old mid new staged is none few commits unwritten = sink_written g old mid new staged none few.0 few.2 commits unwritten
+staged_written g version (Unsink p) (edit.Unsink q) form old mid new staged is none few commits unwritten = sink_written g old mid new staged none few.0 few.2 commits unwritten
+staged_written g version (Burn depth points) _ form old mid new staged is none few commits unwritten = absurd form
+staged_written g version (Wall h points) _ form old mid new staged is none few commits unwritten = absurd form
+staged_written g version (Sink p) _ form old mid new staged is none few commits unwritten = absurd form
+staged_written g version (Unsink p) _ form old mid new staged is none few commits unwritten = absurd form

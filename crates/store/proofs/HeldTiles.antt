@@ -12,18 +12,9 @@ use Rattle.catalogue.specs.Tiles as mosaics
 use Rattle.catalogue.proofs.Mosaics.{corner_of}
 use Rattle.cow_tree.specs.Stored.{IsPage, StoredTile, AreWhole, plane_bytes, pages_of_bytes, samples_of_plane, mosaic_of_tiles, without_tile, with_tile, stale_tile, corners_of_stored}
 use Rattle.cow_tree.proofs.Planes.{plane_read_back, length-pages_of_bytes, whole_pages}
+pub use Rattle.store.specs.Standing.{IsFilled, AreTilesOf}
 use Rattle.store.specs.Standing.{HoldsTile}
 use Rattle.store.proofs.Pages.{bytes_of_plane, length_plane, long_enough}
-
--- the tile has whole pages enough for its heights
-pub record IsFilled (n : ℕ) (t : StoredTile) : Type 0 where
-  pub pages : All IsPage t.heights
-  pub enough : 2 * (n * n) ≤ 4096 * length t.heights
-
--- these stored tiles are the tiles of the mosaic
-pub record AreTilesOf (n : ℕ) (tiles : List StoredTile) (m : Mosaic) : Type 0 where
-  pub mosaic : m ≡ mosaic_of_tiles n m.sinks tiles
-  pub filled : All (IsFilled n) tiles
 
 abbrev pub as_tile : ℕ → StoredTile → Tile
 as_tile n t = record { corner = t.corner; samples = samples_of_plane n t.heights }

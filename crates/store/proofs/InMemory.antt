@@ -29,7 +29,6 @@ use Rattle.store.specs.Staling.{staled}
 use Rattle.store.specs.Standing.{Holds}
 use Rattle.store.specs.States.{IsSound}
 use Rattle.store.specs.TreeStates.{IsInState}
-use Rattle.store.proofs.StoredCommands.{holds_imported, holds_removed}
 use Rattle.store.proofs.HeldTiles.{corners_held}
 use Rattle.store.proofs.Holding.{held}
 
@@ -70,47 +69,3 @@ module _ {D : Type 0} (g : Ghosts D) (tree : Tree D g) (works : has_failed tree 
 
   pub room_at : (root_of tree).number + 1 < 2 ^ 64 → s.contents.number < last_number
   room_at less = let same = at.number in omega (arith, less, same)
-
-  -- a removal
-
-  module _ (c : Corner) where
-    pub remove_refused : (r : Refusal) → IsTrue (is_own (Remove c) r) → effect (root_of tree).capacity s.contents.mosaic (Remove c) ≡ Err r → AppliesNot (root_of tree).capacity s (Remove c) r s
-    remove_refused NoTile own refused = refuses (Remove c) NoTile refused
-    remove_refused _ own refused = absurd (both_ways false refl own)
-
-    pub removed_at : CommandsMakeMosaics → effect (root_of tree).capacity s.contents.mosaic (Remove c) ≡ Ok (without c s.contents.mosaic)
-        → Holds n capacity (next_commit sound_at.stored sound_at.stored.sinks (staled (are_neighbours c) (without_tile c sound_at.stored.tiles)) (s.contents.count + 1)) (made_by s.contents (Remove c) (without c s.contents.mosaic))
-    removed_at valid makes =
-        holds_removed n capacity sound_at.stored s.contents sound_at.holds (without c s.contents.mosaic)
-        (valid capacity s.contents.mosaic (Remove c) (without c s.contents.mosaic) sound_at.holds.valid tt makes) c makes
-
-    -- an import
-
-    module _ (bytes : List ℕ) where
-      pub import_refused : (r : Refusal) → IsTrue (is_own (Import c bytes) r) → effect (root_of tree).capacity s.contents.mosaic (Import c bytes) ≡ Err r → AppliesNot (root_of tree).capacity s (Import c bytes) r s
-      import_refused BadLength own refused = refuses (Import c bytes) BadLength refused
-      import_refused TileThere own refused = refuses (Import c bytes) TileThere refused
-      import_refused Full own refused = refuses (Import c bytes) Full refused
-      import_refused _ own refused = absurd (both_ways false refl own)
-
-      pub imported_at : CommandsMakeMosaics → IsTrue (is_corner c) → All (λ b. b < 256) bytes
-          → effect (root_of tree).capacity s.contents.mosaic (Import c bytes) ≡ Ok (added (record { corner = c; samples = samples_in bytes }) s.contents.mosaic)
-          → Holds n capacity (next_commit sound_at.stored sound_at.stored.sinks (with_tile (stale_tile c (pages_of_bytes (pages_of n) bytes)) (staled (are_neighbours c) sound_at.stored.tiles)) (s.contents.count + 1))
-          (made_by s.contents (Import c bytes) (added (record { corner = c; samples = samples_in bytes }) s.contents.mosaic))
-      imported_at valid corner each makes =
-          let new : Mosaic = added (record { corner = c; samples = samples_in bytes }) s.contents.mosaic in
-          holds_imported n capacity sound_at.stored s.contents sound_at.holds new
-          (valid capacity s.contents.mosaic (Import c bytes) new sound_at.holds.valid (corner, each) makes) c bytes each makes
-
--- a refusal of a command's own tests is of no read
-pub import_unread : (c : Corner) (bytes : List ℕ) (r : Refusal) → IsTrue (is_own (Import c bytes) r) → (r ≢ Device) × (r ≢ Failed)
-import_unread c bytes r own = (
-  λ e. both_ways false refl (subst (λ (x : Refusal). IsTrue (is_own (Import c bytes) x)) e own),
-  λ e. both_ways false refl (subst (λ (x : Refusal). IsTrue (is_own (Import c bytes) x)) e own),
-)
-
-pub remove_unread : (c : Corner) (r : Refusal) → IsTrue (is_own (Remove c) r) → (r ≢ Device) × (r ≢ Failed)
-remove_unread c r own = (
-  λ e. both_ways false refl (subst (λ (x : Refusal). IsTrue (is_own (Remove c) x)) e own),
-  λ e. both_ways false refl (subst (λ (x : Refusal). IsTrue (is_own (Remove c) x)) e own),
-)

@@ -14,11 +14,13 @@ use Rattle.catalogue.specs.Tiles.{corners_of}
 use Rattle.tile_flood.specs.Kept.{levels_in, labels_in}
 use Rattle.tile_flood.specs.Labelling.{IsLabelling}
 use Rattle.edits.specs.declared.command.Command.{Command}
+use Rattle.edits.specs.declared.edit.Edit.{Edit}
 use Rattle.edits.specs.Effect.{effect}
 use Rattle.edits.specs.Touched.{goes_stale, stale_after}
 use Rattle.edits.proofs.FreshSinks.{block_stays}
 use Rattle.cow_tree.specs.Stored.{KeptPlanes, StoredTile, plane_bytes, stale_tile, with_tile, corners_of_stored}
 use Rattle.cow_tree.proofs.Adding.{contains-map}
+use Rattle.store.specs.Editing.{ComesIn, KeepsBut}
 use Rattle.store.specs.Kept.{AreRight, KeepRight, stale_corners}
 use Rattle.store.specs.Staling.{staled_in, staled, KeepFresh, keeper, keepers}
 use Rattle.store.proofs.Finding.{stored_corner, after_contained, rising_stored}
@@ -63,7 +65,7 @@ found_staled test (u ∷ rest) t (suc k, below, here) =
     let later = found_staled test rest t (k, omega (arith, below), here) in
     (later.0, ((suc later.1.0.0, omega (arith, later.1.0.1), later.1.0.2), later.1.1))
 
-found_with : (new : StoredTile) (tiles : List StoredTile) (t : StoredTile) → Contains (with_tile new tiles) t → (new ≡ t) ⊎ Contains tiles t
+pub found_with : (new : StoredTile) (tiles : List StoredTile) (t : StoredTile) → Contains (with_tile new tiles) t → (new ≡ t) ⊎ Contains tiles t
 found_with new [] t (zero, below, here) = inl here
 found_with new [] t (suc k, below, here) = absurd (omega (arith, below))
 found_with new (u ∷ rest) t there = by (is_before new.corner u.corner) (found_with new rest t) there
@@ -78,7 +80,7 @@ found_with new (u ∷ rest) t there = by (is_before new.corner u.corner) (found_
     by false find (zero, below, here) = inr (0, omega arith, here)
     by false find (suc k, below, here) = later (find (k, omega (arith, below), here))
 
-found_keeper : (now others : List StoredTile) (t : StoredTile) → keepers now ≡ keepers others → Contains now t → (u : StoredTile) × (Contains others u × ((u.corner ≡ t.corner) × (u.kept ≡ t.kept)))
+pub found_keeper : (now others : List StoredTile) (t : StoredTile) → keepers now ≡ keepers others → Contains now t → (u : StoredTile) × (Contains others u × ((u.corner ≡ t.corner) × (u.kept ≡ t.kept)))
 found_keeper now others t same (k, below, here) =
     let within : k < length others = omega (arith, below, sym (length-map now keeper) ∙ ap length same ∙ length-map others keeper) in
     let u : StoredTile = get_or others k t in
@@ -105,32 +107,23 @@ module _ (m : Mosaic) (command : Command) (was : List StoredTile) where
       stale u t passes true _ is = sym (ap (λ (x : StoredTile). x.kept) is)
       stale u t passes false passes_not is = absurd (both_ways (test u.corner) passes_not (ap (λ (x : StoredTile). test x.corner) is ∙ passes))
 
-  -- a further tile that goes stale
-  pub keep_with : (new : StoredTile) (tiles : List StoredTile) → test new.corner ≡ true → new.kept ≡ None → KeepFresh m command was tiles → KeepFresh m command was (with_tile new tiles)
-  keep_with new tiles passes none keep = record {
-    fresh = λ t there passes_not. fresh t passes_not (found_with new tiles t there);
-    stale = λ t there passes_too. stale t passes_too (found_with new tiles t there);
+  -- once an edit is staged, by which only a tile that goes stale comes in
+  pub keep_but : (made : Edit) (before now : List StoredTile) → ((c : Corner) → ComesIn made c → test c ≡ true) → KeepFresh m command was before → KeepsBut made before now → KeepFresh m command was now
+  keep_but made before now stale keep kept = record {
+    fresh = λ t there passes_not. fresh t passes_not (kept t there);
+    stale = λ t there passes. gone t passes (kept t there);
   }
     where
-      fresh : (t : StoredTile) → test t.corner ≡ false → (new ≡ t) ⊎ Contains tiles t → (u : StoredTile) × (Contains was u × ((u.corner ≡ t.corner) × (u.kept ≡ t.kept)))
-      fresh t passes_not (inl is) = absurd (both_ways (test t.corner) passes_not (ap (λ (x : StoredTile). test x.corner) (sym is) ∙ passes))
-      fresh t passes_not (inr there) = keep.fresh t there passes_not
+      fresh : (t : StoredTile) → test t.corner ≡ false → (ComesIn made t.corner × (t.kept ≡ None)) ⊎ ((u : StoredTile) × (Contains before u × ((u.corner ≡ t.corner) × (u.kept ≡ t.kept))))
+          → (u : StoredTile) × (Contains was u × ((u.corner ≡ t.corner) × (u.kept ≡ t.kept)))
+      fresh t passes_not (inl comes) = absurd (both_ways (test t.corner) passes_not (stale t.corner comes.0))
+      fresh t passes_not (inr u) =
+          let old = keep.fresh u.0 u.1.0 (ap test u.1.1.0 ∙ passes_not) in
+          (old.0, (old.1.0, (old.1.1.0 ∙ u.1.1.0, old.1.1.1 ∙ u.1.1.1)))
 
-      stale : (t : StoredTile) → test t.corner ≡ true → (new ≡ t) ⊎ Contains tiles t → t.kept ≡ None
-      stale t passes_too (inl is) = ap (λ (x : StoredTile). x.kept) (sym is) ∙ none
-      stale t passes_too (inr there) = keep.stale t there passes_too
-
-  -- tiles that keep the same
-  pub keep_as : (now others : List StoredTile) → keepers now ≡ keepers others → KeepFresh m command was others → KeepFresh m command was now
-  keep_as now others same keep = record {
-    fresh = λ t there passes_not.
-        let u = found_keeper now others t same there in
-        let old = keep.fresh u.0 u.1.0 (ap test u.1.1.0 ∙ passes_not) in
-        (old.0, (old.1.0, (old.1.1.0 ∙ u.1.1.0, old.1.1.1 ∙ u.1.1.1)));
-    stale = λ t there passes.
-        let u = found_keeper now others t same there in
-        sym u.1.1.1 ∙ keep.stale u.0 u.1.0 (ap test u.1.1.0 ∙ passes);
-  }
+      gone : (t : StoredTile) → test t.corner ≡ true → (ComesIn made t.corner × (t.kept ≡ None)) ⊎ ((u : StoredTile) × (Contains before u × ((u.corner ≡ t.corner) × (u.kept ≡ t.kept)))) → t.kept ≡ None
+      gone t passes (inl comes) = comes.1
+      gone t passes (inr u) = sym u.1.1.1 ∙ keep.stale u.0 u.1.0 (ap test u.1.1.0 ∙ passes)
 
 -- ---- the stale corners
 

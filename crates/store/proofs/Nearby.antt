@@ -6,24 +6,13 @@ use Rattle.std.proofs.lemmas.Bool.{and_from, false_from_ne_true}
 use Rattle.std.proofs.lemmas.List.Folds.{list_any_at, list_any_none, list_any_more}
 use Rattle.disk.specs.declared.disk.Disk.{Ghosts}
 use Rattle.lattice.specs.Corners.{Corner, same_corner}
-use Rattle.lattice.specs.declared.point.Point.{Point}
-use Rattle.lattice.specs.Lattice.{holds}
-use Rattle.lattice.specs.Mosaic.{Tile, Mosaic}
 use Rattle.lattice.proofs.CornerOrder.{same_says, same_from}
-use Rattle.catalogue.specs.Tiles.{corners_of as corners_in}
-use Rattle.edits.specs.declared.change.Change.{Change}
-use Rattle.edits.specs.declared.change.Change.TheVariants.{Add, Drop, Set, Sink as SinkPut, Unsink as SinkTaken}
-use Rattle.edits.specs.declared.command.Command.{Command}
-use Rattle.edits.specs.declared.command.Command.TheVariants.{Import, Remove, Patch, Burn, Wall, Sink, Unsink}
-use Rattle.edits.specs.Changes.{CanBeSet}
-use Rattle.edits.specs.LeftStale.{tile_of, is_near, is_beside, left_stale}
-use Rattle.edits.specs.Touched.{are_neighbours, goes_stale, stale_after}
+use Rattle.edits.specs.Touched.{are_neighbours}
 use Rattle.cow_tree.specs.Stored.{StoredTile}
 use Rattle.cow_tree.specs.Trees.{disk_of, corners_of, staged_in}
 use Rattle.cow_tree.specs.declared.tree.Tree.{Tree}
 use Rattle.cow_tree.proofs.Adding.{contains-map}
-use Rattle.store.specs.Applied.{SetsSinks}
-use Rattle.store.specs.Staling.{near_holders, near_sink, Stales}
+use Rattle.store.specs.Staling.{Stales}
 use Rattle.store.proofs.Finding.{stored_corner}
 use Rattle.store.proofs.InMemory.{corners_kept}
 use Rattle.store.proofs.Staled.{stales_on, stales_as}
@@ -88,7 +77,7 @@ module _ {D : Type 0} (g : Ghosts D) (touched : Corner) (corners : List Corner) 
       so
 
 module _ {D : Type 0} (g : Ghosts D) (old new : Tree D g) where
-  there_listed : (corners : List Corner) → corners ≡ corners_of old → (t : StoredTile) → Contains (staged_in g old) t → Contains corners t.corner
+  pub there_listed : (corners : List Corner) → corners ≡ corners_of old → (t : StoredTile) → Contains (staged_in g old) t → Contains corners t.corner
   there_listed corners are t there =
       subst (λ (cs : List Corner). Contains cs t.corner) (sym (are ∙ corners_kept (g.seen (disk_of old)) old.chart.staged)) (contains-map stored_corner (staged_in g old) t there)
 
@@ -97,97 +86,34 @@ module _ {D : Type 0} (g : Ghosts D) (old new : Tree D g) where
       stales_as g (near_first touched corners) (are_neighbours touched) old new (λ t there. near_says touched corners t.corner (there_listed corners are t there))
       (subst (λ (cs : List Corner). Stales g (near_first touched cs) old new) (take_all i corners done) so)
 
--- ---- near the holders of a point
+-- ---- near each of the tiles that pass a test
 
-module _ {D : Type 0} (g : Ghosts D) (n : ℕ) (corners : List Corner) (q : Point) (i : ℕ) (d : Corner) (within : i < length corners) (is : d ≡ get_or corners i d) (old mid : Tree D g)
-    (so : Stales g (near_holders n (take i corners) q) old mid) where
-  more_held : (p : Corner) → near_holders n (take (i + 1) corners) q p ≡ (near_holders n (take i corners) q p || (holds n d q && are_neighbours d p))
-  more_held p =
-      list_any_more (λ c. holds n c q && are_neighbours c p) corners i d within
-      ∙ ap (λ (c : Corner). near_holders n (take i corners) q p || (holds n c q && are_neighbours c p)) (sym is)
+abbrev pub near_tested : (Corner → Bool) → List Corner → Corner → Bool
+near_tested test corners p = list_any (λ c. test c && are_neighbours c p) corners
 
-  pub holder_more : (new : Tree D g) → holds n d q ≡ true → Stales g (are_neighbours d) mid new → Stales g (near_holders n (take (i + 1) corners) q) old new
-  holder_more new held drops =
-      stales_as g (λ p. near_holders n (take i corners) q p || are_neighbours d p) (near_holders n (take (i + 1) corners) q) old new
-      (λ t there. sym (more_held t.corner ∙ ap (λ b. near_holders n (take i corners) q t.corner || (b && are_neighbours d t.corner)) held))
-      (stales_on g (near_holders n (take i corners) q) (are_neighbours d) old mid new so drops)
+module _ {D : Type 0} (g : Ghosts D) (test : Corner → Bool) (corners : List Corner) (i : ℕ) (d : Corner) (within : i < length corners) (is : d ≡ get_or corners i d) (old mid : Tree D g)
+    (so : Stales g (near_tested test (take i corners)) old mid) where
+  more_tested : (p : Corner) → near_tested test (take (i + 1) corners) p ≡ (near_tested test (take i corners) p || (test d && are_neighbours d p))
+  more_tested p =
+      list_any_more (λ c. test c && are_neighbours c p) corners i d within
+      ∙ ap (λ (c : Corner). near_tested test (take i corners) p || (test c && are_neighbours c p)) (sym is)
 
-  pub holder_same : holds n d q ≡ false → Stales g (near_holders n (take (i + 1) corners) q) old mid
-  holder_same out =
-      stales_as g (near_holders n (take i corners) q) (near_holders n (take (i + 1) corners) q) old mid
+  pub tested_more : (new : Tree D g) → test d ≡ true → Stales g (are_neighbours d) mid new → Stales g (near_tested test (take (i + 1) corners)) old new
+  tested_more new passes drops =
+      stales_as g (λ p. near_tested test (take i corners) p || are_neighbours d p) (near_tested test (take (i + 1) corners)) old new
+      (λ t there. sym (more_tested t.corner ∙ ap (λ b. near_tested test (take i corners) t.corner || (b && are_neighbours d t.corner)) passes))
+      (stales_on g (near_tested test (take i corners)) (are_neighbours d) old mid new so drops)
+
+  pub tested_same : test d ≡ false → Stales g (near_tested test (take (i + 1) corners)) old mid
+  tested_same fails =
+      stales_as g (near_tested test (take i corners)) (near_tested test (take (i + 1) corners)) old mid
       (λ t there.
-      sym (more_held t.corner ∙ ap (λ b. near_holders n (take i corners) q t.corner || (b && are_neighbours d t.corner)) out ∙ or_false (near_holders n (take i corners) q t.corner)))
+      sym (more_tested t.corner ∙ ap (λ b. near_tested test (take i corners) t.corner || (b && are_neighbours d t.corner)) fails ∙ or_false (near_tested test (take i corners) t.corner)))
       so
 
--- a command of sinks, by the corners of the present tiles
-any_corner : (f : Corner → Bool) (tiles : List Tile) → list_any f (map (λ t. t.corner) tiles) ≡ list_any (λ t. f t.corner) tiles
-any_corner f [] = refl
-any_corner f (t ∷ rest) = ap (λ b. f t.corner || b) (any_corner f rest)
-
-pub sink_stale : (m : Mosaic) (n : ℕ) (corners : List Corner) (command : Command) → SetsSinks command → m.side ≡ n → corners_in m ≡ corners → (p : Corner) → near_sink n corners command p ≡ goes_stale m command p
-sink_stale m n corners command sinks side are p = ap₂ (λ (k : ℕ) (cs : List Corner). near_sink k cs command p) (sym side) (sym are) ∙ by command sinks
-  where
-    by : (c : Command) → SetsSinks c → near_sink m.side (corners_in m) c p ≡ goes_stale m c p
-    by (Import c bytes) is = absurd is
-    by (Remove c) is = absurd is
-    by (Patch from to h) is = absurd is
-    by (Burn depth points) is = absurd is
-    by (Wall h points) is = absurd is
-    by (Sink q) is = any_corner (λ c. holds m.side c q && are_neighbours c p) m.tiles
-    by (Unsink q) is = any_corner (λ c. holds m.side c q && are_neighbours c p) m.tiles
-
--- ---- near changes of samples
-
-pub same_corner_in : (a b : Corner) → Some a ≡ Some b → a ≡ b
-same_corner_in a b e = cc
-
-near_set : (n : ℕ) (corners : List Corner) (m : Mosaic) (p : Corner) (x : Change) (c : Corner) → CanBeSet n corners x → tile_of x ≡ Some c → is_near m p x ≡ are_neighbours c p
-near_set n corners m p (Set d i s) c can of = ap (λ (e : Corner). are_neighbours e p) (same_corner_in d c of)
-near_set n corners m p (Add d samples) c can of = absurd can
-near_set n corners m p (Drop d) c can of = absurd can
-near_set n corners m p (SinkPut q) c can of = absurd can
-near_set n corners m p (SinkTaken q) c can of = absurd can
-
-module _ {D : Type 0} (g : Ghosts D) (n : ℕ) (corners : List Corner) (changes : List Change) (sets : All (CanBeSet n corners) changes) (i : ℕ) (x : Change) (c : Corner)
-    (within : i < length changes) (is : x ≡ get_or changes i x) (of : tile_of x ≡ Some c) (old mid : Tree D g) where
-  more_beside : (m : Mosaic) (p : Corner) → is_beside m (take (i + 1) changes) p ≡ (is_beside m (take i changes) p || are_neighbours c p)
-  more_beside m p =
-      list_any_more (is_near m p) changes i x within
-      ∙ ap (λ b. is_beside m (take i changes) p || b)
-      (ap (is_near m p) (sym is) ∙ near_set n corners m p x c (subst (CanBeSet n corners) (sym is) (sets i x within)) of)
-
-  pub change_more : (m : Mosaic) (new : Tree D g) → Stales g (is_beside m (take i changes)) old mid → Stales g (are_neighbours c) mid new → Stales g (is_beside m (take (i + 1) changes)) old new
-  change_more m new so drops =
-      stales_as g (λ p. is_beside m (take i changes) p || are_neighbours c p) (is_beside m (take (i + 1) changes)) old new (λ t there. sym (more_beside m t.corner))
-      (stales_on g (is_beside m (take i changes)) (are_neighbours c) old mid new so drops)
-
-  -- the tile of the change before
-  pub change_same : (m : Mosaic) → ((p : Corner) → are_neighbours c p ≡ true → is_beside m (take i changes) p ≡ true) → Stales g (is_beside m (take i changes)) old mid → Stales g (is_beside m (take (i + 1) changes)) old mid
-  change_same m known so = stales_as g (is_beside m (take i changes)) (is_beside m (take (i + 1) changes)) old mid (λ t there. by t.corner (are_neighbours c t.corner) refl ∙ sym (more_beside m t.corner)) so
-    where
-      by : (p : Corner) (b : Bool) → are_neighbours c p ≡ b → is_beside m (take i changes) p ≡ (is_beside m (take i changes) p || are_neighbours c p)
-      by p true near = known p near ∙ sym (ap (λ b. b || are_neighbours c p) (known p near))
-      by p false far = sym (ap (λ b. is_beside m (take i changes) p || b) far ∙ or_false (is_beside m (take i changes) p))
-
-  -- it is known from then on
-  pub change_known : (m : Mosaic) (p : Corner) → are_neighbours c p ≡ true → is_beside m (take (i + 1) changes) p ≡ true
-  change_known m p near = more_beside m p ∙ ap (λ b. is_beside m (take i changes) p || b) near ∙ or_true (is_beside m (take i changes) p)
-    where
-      or_true : (b : Bool) → (b || true) ≡ true
-      or_true true = refl
-      or_true false = refl
-
--- what goes stale by a command is what is beside its changes
-says_same : (a b : Bool) (p : Corner) → cond a (p ∷ []) [] ≡ cond b (p ∷ []) [] → a ≡ b
-says_same true true p e = refl
-says_same false false p e = refl
-says_same true false p e = absurd (let no : 1 ≡ 0 = ap length e in omega (arith, no))
-says_same false true p e = absurd (let no : 0 ≡ 1 = ap length e in omega (arith, no))
-
-pub goes_beside : (m : Mosaic) (changes : List Change) (command : Command) → ((stale : List Corner) (new : Mosaic) → stale_after m command stale new ≡ left_stale m changes stale new)
-    → (p : Corner) → is_beside m changes p ≡ goes_stale m command p
-goes_beside m changes command same p =
-    sym (says_same (goes_stale m command p) (is_beside m changes p) p (same [] (record { side = m.side; sinks = []; tiles = record { corner = p; samples = [] } ∷ [] })))
+-- all of them
+pub tested_all : {D : Type 0} (g : Ghosts D) (test : Corner → Bool) (corners : List Corner) (i : ℕ) (old new : Tree D g) → length corners ≤ i → Stales g (near_tested test (take i corners)) old new → Stales g (near_tested test corners) old new
+tested_all g test corners i old new done so = subst (λ (cs : List Corner). Stales g (near_tested test cs) old new) (take_all i corners done) so
 
 -- ---- whether a corner's tile is stale, by the entries of a root
 

@@ -28,11 +28,6 @@ use Rattle.store.specs.Water.{IsHolding}
 abbrev pub IsLeftBy : ℕ → Mosaic → Command → Result ℕ Refusal → Held → Type 0
 IsLeftBy capacity m command result held = IsHeldOf m held × OnOk result ((made : Mosaic) → effect capacity m command ≡ Ok made → IsHeldOf made held)
 
--- nothing is held
-pub forgotten : (capacity : ℕ) (m : Mosaic) (command : Command) (result : Result ℕ Refusal) (held : Held) → ((m : Mosaic) → IsHeldOf m held) → IsLeftBy capacity m command result held
-forgotten capacity m command (Ok k) held none = (none m, λ made _. none made)
-forgotten capacity m command (Err r) held none = (none m, tt)
-
 pub left_by : (capacity : ℕ) (m : Mosaic) (command : Command) (result : Result ℕ Refusal) (held : Held) → IsHeldOf m held → ((made : Mosaic) → effect capacity m command ≡ Ok made → IsHeldOf made held) → IsLeftBy capacity m command result held
 left_by capacity m command (Ok k) held still made = (still, made)
 left_by capacity m command (Err r) held still made = (still, tt)

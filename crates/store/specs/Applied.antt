@@ -4,27 +4,12 @@ use Rattle.disk.specs.declared.disk.Disk.{Ghosts}
 use Rattle.lattice.specs.declared.refusal.Refusal.{Refusal}
 use Rattle.page_codec.specs.Roots.{RootValue}
 use Rattle.edits.specs.declared.command.Command.{Command}
-use Rattle.edits.specs.declared.command.Command.TheVariants.{Import, Remove, Sink, Unsink}
 use Rattle.calls.specs.Outcomes.{Applies}
 use Rattle.calls.specs.Told.{may_refuse_command}
 use Rattle.cow_tree.specs.Trees.{root_of}
 use Rattle.cow_tree.specs.declared.tree.Tree.{Tree}
 use Rattle.store.specs.Ended.{Ending, HasEnded, HasEndedAt}
 use Rattle.store.specs.declared.store.Store.{Store}
-
--- a patch, a burn or a wall: it sets samples of present tiles
-abbrev pub SetsSamples : Command → Type 0
-SetsSamples (Import c bytes) = ⊥
-SetsSamples (Remove c) = ⊥
-SetsSamples (Sink p) = ⊥
-SetsSamples (Unsink p) = ⊥
-SetsSamples _ = Unit {0}
-
--- it declares a sink, or takes one back
-abbrev pub SetsSinks : Command → Type 0
-SetsSinks (Sink p) = Unit {0}
-SetsSinks (Unsink p) = Unit {0}
-SetsSinks _ = ⊥
 
 -- the root known after a command that was the k-th: one command and one commit more
 pub record AppliesOn (was : RootValue) (k : ℕ) (root : RootValue) : Type 0 where

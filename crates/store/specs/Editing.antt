@@ -1,23 +1,26 @@
 -- What an edit makes of a tree before its commit (this product's own profile).
-use Rattle.std.specs.Prelude.{◌≡◌, ◌≤◌, ◌<◌, ◌+◌, ◌*◌, ℕ, ℤ, List, length, Result, if◌then◌else◌}
-use Rattle.std.specs.List.{AllZip}
+use Rattle.std.specs.Prelude.{◌≡◌, ◌⊎◌, ◌≤◌, ◌<◌, ◌+◌, ◌*◌, ℕ, IsTrue, List, length, All, Contains, Result, OnOk, IfErr, false, None, if◌then◌else◌}
 use Rattle.disk.specs.declared.disk.Disk.{Ghosts}
 use Rattle.layout.specs.declared.version.Version.{Version}
 use Rattle.layout.specs.declared.version.Version.TheVariants.{One, Two}
-use Rattle.lattice.specs.Corners.{Corner}
-use Rattle.lattice.specs.Mosaic.{Mosaic, IsSample, IsMosaic}
+use Rattle.lattice.specs.Corners.{Corner, is_corner}
+use Rattle.lattice.specs.Lattice.{Holds}
+use Rattle.lattice.specs.Mosaic.{Mosaic}
+use Rattle.lattice.specs.declared.point.Point.{Point}
 use Rattle.lattice.specs.declared.refusal.Refusal.{Refusal}
+use Rattle.lattice.specs.declared.refusal.Refusal.TheVariants.{Device, NoMemory}
 use Rattle.page_codec.specs.Sizes.{most_writes}
-use Rattle.edits.specs.declared.change.Change.{Change}
-use Rattle.edits.specs.declared.change.Change.TheVariants.{Set}
 use Rattle.edits.specs.declared.command.Command.{Command}
 use Rattle.edits.specs.declared.command.Command.TheVariants.{Burn, Wall, Sink, Unsink}
+use Rattle.edits.specs.declared.edit.Edit.{Edit}
+use Rattle.edits.specs.declared.edit.Edit.TheVariants as edit
+use Rattle.edits.specs.declared.edit.NewHeight.{NewHeight}
+use Rattle.edits.specs.Edits.{edit_made}
 use Rattle.cow_tree.specs.Stored.{StoredTile}
-use Rattle.cow_tree.specs.Trees.{disk_of, has_begun, corners_of, sinks_of, HasStaged}
+use Rattle.cow_tree.specs.Trees.{disk_of, root_of, has_begun, has_failed, corners_of, sinks_of, records_due, HasStaged, staged_in}
 use Rattle.cow_tree.specs.declared.tree.Tree.{Tree}
 use Rattle.store.specs.Staging.{CommitsNothing}
-use Rattle.store.specs.Staling.{keepers}
-use Rattle.store.specs.Standing.{HoldsTile}
+use Rattle.store.specs.Standing.{AreTilesOf}
 
 -- the writes so far, and the one that begins a commit where none was begun
 abbrev pub writes_begun : {D : Type 0} (g : Ghosts D) → Tree D g → ℕ
@@ -37,22 +40,67 @@ WritesFew version (Sink p) before now = now ≤ before + 3
 WritesFew version (Unsink p) before now = now ≤ before + 3
 WritesFew version _ before now = Unit {0}
 
--- the stored tiles are the tiles of the mosaic, with this side, and keep what those before kept
-pub record HoldsMosaic (side : ℕ) (before tiles : List StoredTile) (m : Mosaic) : Type 0 where
-  pub valid : IsMosaic m
-  pub side_is : m.side ≡ side
-  pub tiles_are : AllZip (HoldsTile side) tiles m.tiles
-  pub kept : keepers tiles ≡ keepers before
-
--- the change sets sample j of page i of the corner's heights
-pub record SetsInPage (c : Corner) (i : ℕ) (change : Change) (j : ℕ) (s : ℤ) : Type 0 where
-  pub sets : change ≡ Set c (2048 * i + j) s
-  pub below : j < 2048
-  pub sample : IsSample s
-
 -- it may have staged pages of tiles that are there, and nothing else
 pub record StagesOnly {D T : Type 0} (g : Ghosts D) (old new : Tree D g) (result : Result T Refusal) : Type 0 where
   pub uncommitted : CommitsNothing g old new result
   pub corners : corners_of new ≡ corners_of old
   pub sinks : sinks_of new ≡ sinks_of old
   pub still_staged : (c : Corner) → HasStaged old c → HasStaged new c
+
+-- it has the memory to stage pages of some tiles, of which so many records at most come due; no call of the disk was made
+pub record Prepares {D T : Type 0} (g : Ghosts D) (records : ℕ) (old new : Tree D g) (result : Result T Refusal) : Type 0 where
+  pub stages : StagesOnly g old new result
+  pub refused : IfErr result (λ r. r ≡ NoMemory)
+  pub works : has_failed new ≡ false
+  pub writes : g.writes (disk_of new) ≡ g.writes (disk_of old)
+  pub begun : has_begun new ≡ has_begun old
+  pub due : records_due new ≤ records_due old + records
+  pub staged : staged_in g new ≡ staged_in g old
+
+-- pages of the tiles that hold the point can be staged without more memory
+abbrev pub IsPreparedAt : {D : Type 0} {g : Ghosts D} → Tree D g → Point → Type 0
+IsPreparedAt tree p = (c : Corner) → Contains (corners_of tree) c → Holds (root_of tree).side c p → HasStaged tree c
+
+abbrev pub ArePrepared : {D : Type 0} {g : Ghosts D} → Tree D g → List NewHeight → Type 0
+ArePrepared tree heights = All (λ h. IsPreparedAt tree h.point) heights
+
+-- it staged so many pages at most, where memory was had, with so many records
+pub record StagesPages {D T : Type 0} (g : Ghosts D) (pages records : ℕ) (old new : Tree D g) (result : Result T Refusal) : Type 0 where
+  pub stages : StagesOnly g old new result
+  pub writes : g.writes (disk_of new) ≤ writes_begun g old + pages
+  pub begun : OnOk result (writes_begun g new ≤ writes_begun g old + pages)
+  pub due : OnOk result (records_due new ≤ records_due old + (records + index_pages_due (root_of old).version pages))
+
+-- it was refused by the disk, or for memory before any write
+abbrev pub IsRefusedEarly : {D T : Type 0} (g : Ghosts D) → Tree D g → Tree D g → Result T Refusal → Type 0
+IsRefusedEarly g old new result = IfErr result (λ r. (r ≡ Device) ⊎ ((r ≡ NoMemory) × (has_failed new ≡ false) × (g.writes (disk_of new) ≡ g.writes (disk_of old))))
+
+-- how much staging an edit writes: new heights at most four pages and four records a point, a removal and a sink nothing
+abbrev pub StagesFew : {D T : Type 0} (g : Ghosts D) → Edit → Tree D g → Tree D g → Result T Refusal → Type 0
+StagesFew g (edit.Add c bytes) old new result = Unit {0}
+StagesFew g (edit.Drop c) old new result = Unit {0}
+StagesFew g (edit.Heights heights) old new result = StagesPages g (4 * length heights.items) (4 * length heights.items) old new result
+StagesFew g (edit.Voids from to h tiles) old new result = Unit {0}
+StagesFew g (edit.Sink p) old new result = (disk_of new ≡ disk_of old) × (has_begun new ≡ has_begun old) × (records_due new ≡ records_due old)
+StagesFew g (edit.Unsink p) old new result = (disk_of new ≡ disk_of old) × (has_begun new ≡ has_begun old) × (records_due new ≡ records_due old)
+
+-- as an edit can be given: a corner is that of a tile, and a byte has eight bits
+abbrev pub IsGiven : Edit → Type 0
+IsGiven (edit.Add c bytes) = IsTrue (is_corner c) × All (λ b. b < 256) bytes.now
+IsGiven _ = Unit {0}
+
+-- the tile at the corner comes in by the edit
+abbrev pub ComesIn : Edit → Corner → Type 0
+ComesIn (edit.Add c bytes) d = c ≡ d
+ComesIn _ d = ⊥
+
+-- each tile keeps what it kept before, but that one that comes in keeps nothing
+abbrev pub KeepsBut : Edit → List StoredTile → List StoredTile → Type 0
+KeepsBut made was now = (t : StoredTile) → Contains now t
+    → (ComesIn made t.corner × (t.kept ≡ None)) ⊎ ((u : StoredTile) × (Contains was u × ((u.corner ≡ t.corner) × (u.kept ≡ t.kept))))
+
+-- the tree has staged what the edit makes of the mosaic
+pub record IsMade {D : Type 0} (g : Ghosts D) (made : Edit) (m : Mosaic) (old new : Tree D g) : Type 0 where
+  pub tiles : AreTilesOf (root_of old).side (staged_in g new) (edit_made made m)
+  pub sinks : sinks_of new ≡ (edit_made made m).sinks
+  pub kept : KeepsBut made (staged_in g old) (staged_in g new)

@@ -18,5 +18,6 @@ pub mod StoreState
 pub mod Stepped
 pub mod Stores
 pub mod TreeStates
+pub mod Underway
 pub mod Upgraded
 pub mod Water

@@ -7,7 +7,6 @@ use Rattle.lattice.specs.declared.point.Point.{Point}
 use Rattle.lattice.specs.Lattice.{holds}
 use Rattle.lattice.specs.Mosaic.{Mosaic}
 use Rattle.edits.specs.declared.command.Command.{Command}
-use Rattle.edits.specs.declared.command.Command.TheVariants.{Sink, Unsink}
 use Rattle.edits.specs.Touched.{are_neighbours, goes_stale}
 use Rattle.cow_tree.specs.Stored.{KeptPlanes, StoredTile, Stored, stale_tile}
 use Rattle.cow_tree.specs.Trees.{disk_of, root_of, has_failed, has_begun, corners_of, sinks_of, records_due, staged_in, IsAt}
@@ -23,12 +22,6 @@ staled test tiles = map (staled_in test) tiles
 -- some of the corners' tiles holds the point and is this corner's, or a neighbour of it
 abbrev pub near_holders : ℕ → List Corner → Point → Corner → Bool
 near_holders n corners q p = list_any (λ c. holds n c q && are_neighbours c p) corners
-
--- the same for the point of a command that declares a sink, or takes one back
-abbrev pub near_sink : ℕ → List Corner → Command → Corner → Bool
-near_sink n corners (Sink q) p = near_holders n corners q p
-near_sink n corners (Unsink q) p = near_holders n corners q p
-near_sink n corners _ p = false
 
 -- the tiles whose corners pass the test will keep nothing, and nothing else has changed
 pub record Stales {D : Type 0} (g : Ghosts D) (test : Corner → Bool) (old new : Tree D g) : Type 0 where

@@ -15,7 +15,7 @@ ghost use Rattle.store.specs.Queried.{IsTileOf};
 use crate::queries::read_plane;
 use catalogue::Samples;
 use cow_tree::{Plane, Tree};
-use derived::{KeptPlanes, Labellings, flooded, labelled_from};
+use derived::{KeptPlanes, Labellings, TileLabelling, flooded, labelled_from};
 use disk::Disk;
 use lattice::{Corner, Point, Refusal, Side};
 use std::alloc::Global;
@@ -102,11 +102,13 @@ impl<'a, D: Disk, P: Premise> Samples for Asked<'a, D, P> {
 }
 
 impl<'a, D: Disk, P: Premise> Labellings for Asked<'a, D, P> {
-    fn labelling(&mut self, alloc: Global, corner: Corner) -> Result<Labelled, Refusal> {
+    fn labelling(&mut self, alloc: Global, corner: Corner) -> Result<TileLabelling, Refusal> {
         if self.tree.keeps(corner) {
-            kept_labelling(alloc, self.tree, corner)
+            let labelled = kept_labelling(alloc, self.tree, corner)?;
+            Ok(TileLabelling::Kept(labelled))
         } else {
-            flooded(alloc, self, corner)
+            let block = flooded(alloc, self, corner)?;
+            Ok(TileLabelling::Flooded(block))
         }
     }
 }

@@ -11,19 +11,21 @@
 mod asking;
 mod commands;
 mod committing;
-mod editing;
+mod heights;
 mod kept_right;
 mod labelling;
 mod laws;
 mod queries;
+mod rims;
 mod running;
 mod sessions;
-mod sinking;
+mod staging;
 mod staling;
 mod stepping;
 mod store;
 mod store_engine;
 mod upgrading;
+mod voids;
 
 pub use calls::{Event, Reply};
 pub use kept_right::planes_stay_right;

@@ -1,21 +1,33 @@
-//! Kept planes that a command gives up: those of the present tiles that it touches, and of their present neighbours.
-ghost use Rattle.std.specs.Prelude.{◌≡◌, All};
+//! Kept planes that an edit gives up: those of the present tiles that it changes, and of their present neighbours.
+ghost use Rattle.std.specs.Prelude.{◌≡◌, ◌&&◌};
+ghost use Rattle.std.specs.List.{list_any};
 ghost use Rattle.lattice.specs.Lattice.{holds};
-ghost use Rattle.lattice.specs.Mosaic.{Mosaic};
-ghost use Rattle.cow_tree.specs.Trees.{root_of, has_failed, corners_of};
-ghost use Rattle.edits.specs.Changes.{CanBeSet};
-ghost use Rattle.edits.specs.LeftStale.{is_beside};
+ghost use Rattle.cow_tree.specs.Trees.{root_of, corners_of};
+ghost use Rattle.edits.specs.Edits.{goes_stale_by, holds_any};
 ghost use Rattle.edits.specs.Touched.{are_neighbours};
-ghost use Rattle.store.specs.Applied.{SetsSinks};
-ghost use Rattle.store.specs.Staling.{Stales, near_holders, near_sink};
+ghost use Rattle.store.specs.Staling.{Stales, near_holders};
 
 use cow_tree::Tree;
 use disk::Disk;
-use edits::{Change, Command, are_neighbours};
+use edits::{Edit, NewHeight, are_neighbours};
 use lattice::{Corner, Point, Side, index_in};
 
-// Drops the kept planes of the present tiles at the corner and beside it.
-pub(crate) fn drop_near<D: Disk>(tree: &mut Tree<D>, touched: Corner)
+/// Drops the kept planes of the tiles that go stale by the edit.
+pub(crate) fn mark_stale<D: Disk>(tree: &mut Tree<D>, edit: &Edit<'_>)
+    ensures { Stales D.Disk (goes_stale_by (root_of tree.old).side (corners_of tree.old) edit.now) tree.old tree.new }
+{
+    match edit {
+        Edit::Add { corner, .. } => drop_near(tree, *corner),
+        Edit::Drop { corner } => drop_near(tree, *corner),
+        Edit::Heights { heights } => drop_near_points(tree, heights.as_slice()),
+        Edit::Voids { tiles, .. } => drop_near_tiles(tree, tiles.as_slice()),
+        Edit::Sink { point } => drop_near_holders(tree, *point),
+        Edit::Unsink { point } => drop_near_holders(tree, *point),
+    }
+}
+
+// Drops those of the tile at the corner and of those beside it.
+fn drop_near<D: Disk>(tree: &mut Tree<D>, touched: Corner)
     ensures { Stales D.Disk (are_neighbours touched) tree.old tree.new }
 {
     let corners = tree.corners();
@@ -27,41 +39,30 @@ pub(crate) fn drop_near<D: Disk>(tree: &mut Tree<D>, touched: Corner)
     }
 }
 
-// Drops those of the tiles that changes of samples are of, and beside them.
-pub(crate) fn drop_near_changes<D: Disk>(tree: &mut Tree<D>, changes: &[Change])
-    requires { All (CanBeSet (root_of tree.old).side (corners_of tree.old)) changes.now }
-    ensures stales { (m : Mosaic) → Stales D.Disk (is_beside m changes.now) tree.old tree.new }
-    ensures root { root_of tree.new ≡ root_of tree.old }
-    ensures corners { corners_of tree.new ≡ corners_of tree.old }
-    ensures failed { has_failed tree.new ≡ has_failed tree.old }
+// Drops those of each of the tiles, and of those beside them.
+fn drop_near_tiles<D: Disk>(tree: &mut Tree<D>, tiles: &[Corner])
+    ensures { Stales D.Disk (λ p. list_any (λ c. are_neighbours c p) tiles.now) tree.old tree.new }
 {
-    // Changes of one tile mostly follow one another.
-    let mut last = None;
-    for change in changes {
-        let Some(corner) = change.corner() else {
-            unreachable!()
-        };
-        let is_other = last != Some(corner);
-        if is_other {
-            drop_near(tree, corner);
-            last = Some(corner);
+    for corner in tiles {
+        drop_near(tree, *corner);
+    }
+}
+
+// Drops those of the tiles that hold one of the points, and of those beside them.
+fn drop_near_points<D: Disk>(tree: &mut Tree<D>, heights: &[NewHeight])
+    ensures { Stales D.Disk (λ p. list_any (λ c. holds_any (root_of tree.old).side heights.now c && are_neighbours c p) (corners_of tree.old)) tree.old tree.new }
+{
+    let side = tree.current().side();
+    let corners = tree.corners();
+    for corner in corners.as_slice() {
+        let is_touched = holds_any(side, *corner, heights);
+        if is_touched {
+            drop_near(tree, *corner);
         }
     }
 }
 
-// Drops those of the tiles that hold the point of a command of sinks, and beside them.
-pub(crate) fn drop_near_sink<D: Disk>(tree: &mut Tree<D>, command: &Command)
-    requires { SetsSinks command.now }
-    ensures { Stales D.Disk (near_sink (root_of tree.old).side (corners_of tree.old) command.now) tree.old tree.new }
-{
-    match command {
-        Command::Sink { point } => drop_near_holders(tree, *point),
-        Command::Unsink { point } => drop_near_holders(tree, *point),
-        _ => unreachable!(),
-    }
-}
-
-// Drops those of the tiles that hold the point, and beside them.
+// Drops those of the tiles that hold the point, and of those beside them.
 fn drop_near_holders<D: Disk>(tree: &mut Tree<D>, point: Point)
     ensures { Stales D.Disk (near_holders (root_of tree.old).side (corners_of tree.old) point) tree.old tree.new }
 {
@@ -73,6 +74,18 @@ fn drop_near_holders<D: Disk>(tree: &mut Tree<D>, point: Point)
             drop_near(tree, *corner);
         }
     }
+}
+
+// Whether the corner's tile holds one of the points.
+fn holds_any(side: Side, corner: Corner, heights: &[NewHeight]) -> bool
+    ensures { result ≡ holds_any side heights.now corner }
+{
+    for height in heights {
+        if holds_point(side, corner, height.point) {
+            return true;
+        }
+    }
+    false
 }
 
 // Whether the corner's tile holds the point.

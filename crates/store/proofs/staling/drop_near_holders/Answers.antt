@@ -5,7 +5,7 @@ use Rattle.cow_tree.specs.Trees.{root_of, corners_of}
 use Rattle.cow_tree.specs.declared.tree.Tree.{Tree}
 use Rattle.page_codec.specs.Roots.{RootValue}
 use Rattle.store.specs.Staling.{near_holders, Stales}
-use Rattle.store.proofs.Nearby.{holder_more, holder_same}
+use Rattle.store.proofs.Nearby.{tested_more, tested_same}
 use Rattle.store.proofs.Staled.{stales_none}
 use Rattle.store.proofs.staling.drop_near_holders.Goals as goal
 use Rattle.store.proofs.staling.drop_near_holders.Goals.{then-is_holder, else-is_holder}
@@ -30,11 +30,11 @@ loop-corner-preserved g c =
       | then-is_holder w ↦
           let held : holds c.side-side.result here c.args.point ≡ true = search rules in
           subst (λ (t : Tree _ d). Stales d (near_holders n (take (i + 1) corners) c.args.point) old t) (sym w.tree-is)
-          (holder_more d n corners c.args.point i here within is old mid c.loop-corner.invariant w.drop_near.new.tree (subst (λ (k : ℕ). holds k here c.args.point ≡ true) side held) w.drop_near.ensures)
+          (tested_more d (λ e. holds n e c.args.point) corners i here within is old mid c.loop-corner.invariant w.drop_near.new.tree (subst (λ (k : ℕ). holds k here c.args.point ≡ true) side held) w.drop_near.ensures)
       | else-is_holder w ↦
           let out : holds c.side-side.result here c.args.point ≡ false = search rules in
           subst (λ (t : Tree _ d). Stales d (near_holders n (take (i + 1) corners) c.args.point) old t) (sym w.tree-is)
-          (holder_same d n corners c.args.point i here within is old mid c.loop-corner.invariant (subst (λ (k : ℕ). holds k here c.args.point ≡ false) side out))
+          (tested_same d (λ e. holds n e c.args.point) corners i here within is old mid c.loop-corner.invariant (subst (λ (k : ℕ). holds k here c.args.point ≡ false) side out))
     ]
 
 pub returns : goal.returns

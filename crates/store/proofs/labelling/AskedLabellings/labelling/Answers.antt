@@ -1,17 +1,23 @@
-use Rattle.std.proofs.Common.{refl, ap}
+use Rattle.std.proofs.Common.{Ok, Err, refl, ap, sym, subst}
+use Rattle.std.proofs.lemmas.Result.{err_from_is_err_and}
+use Rattle.lattice.specs.declared.refusal.Refusal.{Refusal}
+use Rattle.catalogue.specs.Asked.{Asked}
+use Rattle.catalogue.proofs.Asking.{asked, asked_answer, asked_passed}
+use Rattle.tile_flood.specs.Blocks.{LabelledGround}
 use Rattle.page_codec.specs.Roots.{RootValue}
 use Rattle.cow_tree.proofs.TreeReads.{same_mosaic}
 use Rattle.store.proofs.Labelled.{was_sure, may_refuse, not_ready}
 use Rattle.store.proofs.labelling.AskedLabellings.labelling.Goals as goal
 
-pub returns-then-keeps-clause-asked : goal.returns-then-keeps-clause-asked
-returns-then-keeps-clause-asked g c =
+pub returns-in_ok-labelled-clause-asked : goal.returns-in_ok-labelled-clause-asked
+returns-in_ok-labelled-clause-asked g c =
     let d = g.D.Disk in
     let old = c.args.self.now.tree.now in
     let new = c.kept_labelling.new.tree in
-    let h = c.kept_labelling.ensures.reads in
+    let h = c.in_ok-labelled.ensures.reads in
     let reads = h.reads in
     let keeps = reads.keeps in
+    asked_answer _ _ _ c.in_ok-labelled.labelled (Ok _) (
     record {
       read = h.read;
       reads = record {
@@ -31,5 +37,8 @@ returns-then-keeps-clause-asked g c =
       };
       passed = h.passed;
       own = h.own;
-      sound = λ sure _. c.kept_labelling.ensures.sound sure.0;
-    }
+      sound = λ sure _. c.in_ok-labelled.ensures.sound sure.0;
+    }) tt (λ _ _ e. absurd (cc))
+
+pub returns-in_ok-block-clause-asked : goal.returns-in_ok-block-clause-asked
+returns-in_ok-block-clause-asked g c = asked _ _ _ (tt {0}) (Ok _) c.in_ok-block.ensures.reads tt (λ _ _ e. absurd (cc))

@@ -1,16 +1,47 @@
-use Rattle.std.proofs.Common.{◌≡◌, ℕ, List, Err, refl, sym, ap, ◌∙◌, subst}
-use Rattle.lattice.specs.declared.refusal.Refusal.TheVariants.{Failed}
+use Rattle.std.proofs.Common.{◌≡◌, ⊎_elim, inl, inr, ℕ, ◌<◌, ◌≤◌, ◌+◌, false, true, Bool, if◌then◌else◌, List, All, Contains, map, refl, sym, ap, ap₂, ◌∙◌, subst}
+use Rattle.std.specs.Prelude.{Result, Ok, Err, IfErr, IfOk, IsTrue, OnOk}
+use Rattle.std.proofs.lemmas.Result.{IfErr-weaker}
+use Rattle.disk.specs.declared.disk.Disk.{Ghosts}
+use Rattle.lattice.specs.Corners.{Corner, is_corner}
+use Rattle.lattice.specs.Mosaic.{Mosaic, IsMosaic}
+use Rattle.lattice.specs.declared.refusal.Refusal.{Refusal}
+use Rattle.lattice.specs.declared.refusal.Refusal.TheVariants.{Device, Failed, Worn}
+use Rattle.layout.specs.declared.version.Version.{Version}
+use Rattle.page_codec.specs.Roots.{RootValue}
+use Rattle.drainage.specs.Between.{IsHeldOf}
 use Rattle.edits.specs.declared.command.Command.{Command}
-use Rattle.edits.specs.declared.command.Command.TheVariants.{Import}
-use Rattle.store.specs.Applied.{HasApplied}
-use Rattle.store.proofs.Committed.{failed_first}
-use Rattle.store.proofs.WaterHeld.{unchanged_holding}
+use Rattle.edits.specs.declared.command.Command.TheVariants.{Import, Remove, Patch, Burn, Wall, Sink, Unsink}
+use Rattle.edits.specs.declared.edit.Edit.{Edit}
+use Rattle.edits.specs.declared.edit.Edit.TheVariants as edit
+use Rattle.edits.specs.Edits.{IsEditOf, FitsIn, HasRoom, FindsVoids, edit_made, goes_stale_by}
+use Rattle.edits.specs.Effect.{effect}
+use Rattle.edits.specs.EffectLaws.{CommandsMakeMosaics, IsCommand}
+use Rattle.edits.specs.Plans.{is_own}
+use Rattle.edits.specs.Touched.{goes_stale}
+use Rattle.edits.proofs.AllStale.{near_itself}
+use Rattle.cow_tree.specs.Stored.{StoredTile}
+use Rattle.cow_tree.specs.Trees.{disk_of, root_of, has_failed, corners_of, sinks_of, staged_in}
+use Rattle.cow_tree.specs.declared.tree.Tree.{Tree}
+use Rattle.cow_tree.proofs.ReadOnly.{never_refused}
+use Rattle.cow_tree.proofs.Steps.{on_ok}
+use Rattle.store.specs.Applied.{IsApplied}
+use Rattle.store.specs.Editing.{ComesIn, IsGiven, WritesFew}
+use Rattle.store.specs.Staging.{CommitsNothing}
+use Rattle.store.specs.Staling.{staled}
+use Rattle.store.specs.Standing.{AreTilesOf}
+use Rattle.store.proofs.Committed.{fails_before, failed_first, quiet, may_end_it}
+use Rattle.store.proofs.EditingReads.{device_or_not, reading, mosaic_is, readable, refused_so, risen_read, works_read, fails_read, quiet_read}
+use Rattle.store.proofs.EditingSteps.{in_memory, uncommitted_on, refused_as}
+use Rattle.store.proofs.EditingWrites.{staged_written}
+use Rattle.store.proofs.Holding.{held}
+use Rattle.store.proofs.InMemory.{is_working, worn_at}
+use Rattle.store.proofs.Keeping.{staled_held}
+use Rattle.store.proofs.Made.{made_holds}
+use Rattle.store.proofs.Querying.{still_clean, true_where}
+use Rattle.store.proofs.Staged.{none_staged}
+use Rattle.store.proofs.Staled.{staled_as}
+use Rattle.store.proofs.WaterHeld.{done_holding, left_by, unchanged_holding}
 use Rattle.store.proofs.store.Store.apply.Goals as goal
-
-pub returns-in-Import-clause-applied : goal.returns-in-Import-clause-applied
-returns-in-Import-clause-applied g c =
-    let same : Import c.in-Import.corner c.as_slice.result.now ≡ c.args.command.now = ap (λ (bytes : List ℕ). Import c.in-Import.corner bytes) c.as_slice.ensures ∙ sym c.in-Import.is in
-    subst (λ (k : Command). HasApplied g.D.Disk c.args.self.now c.import.new.self k c.import.result) same c.import.ensures
 
 pub returns-then-has_failed-clause-applied : goal.returns-then-has_failed-clause-applied
 returns-then-has_failed-clause-applied g c =
@@ -18,3 +49,222 @@ returns-then-has_failed-clause-applied g c =
     let command = c.args.command.now in
     unchanged_holding g.D.Disk tree tree c.args.self.now.held command (Err Failed) refl
     (failed_first g.D.Disk tree command (sym c.has_failed.ensures ∙ c.if-has_failed.true))
+
+-- ---- a refusal of the command's own tests, or of a read
+
+pub returns-in_err-edit-clause-applied : goal.returns-in_err-edit-clause-applied
+returns-in_err-edit-clause-applied g c =
+    let d = g.D.Disk in
+    let old = c.args.self.now.tree in
+    let new = c.edit_of.new.samples in
+    let command = c.args.command.now in
+    let r : Refusal = c.in_err-edit.field-0.0 in
+    let is = c.in_err-edit.ensures in
+    let reads = is.reads in
+    let keeps = reads.keeps in
+    let works : has_failed old ≡ false = sym c.has_failed.ensures ∙ c.if-has_failed.false in
+    let planned : Result Edit Refusal = Err r in
+    let capacity : c.capacity-capacity.result ≡ (root_of old).capacity = c.capacity-capacity.ensures.value ∙ ap (λ (x : RootValue). x.capacity) c.current.ensures in
+    let read : CommitsNothing d old new planned =
+    reading d old new keeps planned (risen_read planned _ _ reads.refusal) (λ is. true_where (has_failed new) (fails_read planned _ reads.unready is)) (works_read planned _ (reads.ready works)) in
+    let result_is = refused_as c.from_residual.result r c.from_residual.ensures.1 in
+    unchanged_holding d old new c.args.self.now.held command c.from_residual.result result_is
+    (subst (λ (result : Result ℕ Refusal). IsApplied d command result old new) (sym result_is)
+    (⊎_elim
+    (λ device.
+    subst (λ (x : Refusal). IsApplied d command (Err x) old new) (sym device) (fails_before d old new command works planned read (ap (λ (x : Refusal). let e : Result Edit Refusal = Err x in e) device)))
+    (λ other.
+    let goes_on = quiet_read planned _ (reads.only_device works) (reads.ready works) other in
+    quiet d old new command works planned read goes_on.1 (λ honest s at. (keeps.staged honest, keeps.sinks)) r other goes_on.0 goes_on.1 (may_end_it command r is.causes) keeps.writes
+    (λ honest s at.
+    refused_so (root_of old).capacity s command planned (is_working d old works s at) is.causes (reads.only_device works)
+    (subst (λ (n : ℕ). IsTrue (is_own command r) → effect n s.contents.mosaic command ≡ Err r) capacity
+    (subst (λ (m : Mosaic). IsTrue (is_own command r) → effect c.capacity-capacity.result m command ≡ Err r) (mosaic_is d old new keeps works s at)
+    (is.refused (readable d old new keeps works s at honest)))) other))
+    (device_or_not r)))
+
+-- ---- the commit number can't grow
+
+pub returns-then-number-clause-applied : goal.returns-then-number-clause-applied
+returns-then-number-clause-applied g c =
+    let d = g.D.Disk in
+    let old = c.args.self.now.tree in
+    let new = c.edit_of.new.samples in
+    let command = c.args.command.now in
+    let made : Edit = c.in_ok-edit.edit in
+    let is = c.in_ok-edit.ensures in
+    let keeps = is.reads.keeps in
+    let works : has_failed old ≡ false = sym c.has_failed.ensures ∙ c.if-has_failed.false in
+    let now_works : has_failed new ≡ false = is.reads.ready works in
+    let capacity : c.capacity-capacity.result ≡ (root_of old).capacity = c.capacity-capacity.ensures.value ∙ ap (λ (x : RootValue). x.capacity) c.current.ensures in
+    let planned : Result Edit Refusal = Ok made in
+    unchanged_holding d old new c.args.self.now.held command (Err Worn) refl
+    (quiet d old new command works planned (reading d old new keeps planned (λ refused. never_refused made Device refused) (λ refused. absurd (never_refused made Device refused)) now_works) now_works
+    (λ honest s at. (keeps.staged honest, keeps.sinks)) Worn (λ e. cc) (λ e. cc) now_works refl keeps.writes
+    (λ honest s at. worn_at d old works s at command (edit_made made s.contents.mosaic)
+    (subst (λ (n : ℕ). effect n s.contents.mosaic command ≡ Ok (edit_made made s.contents.mosaic)) capacity
+    (subst (λ (m : Mosaic). effect c.capacity-capacity.result m command ≡ Ok (edit_made made m)) (mosaic_is d old new keeps works s at) (is.made (readable d old new keeps works s at honest))))
+    (sym (ap (λ (r : RootValue). r.number) (c.current-2.ensures ∙ keeps.root)) ∙ sym c.number.ensures ∙ c.if-number.true)))
+
+-- ---- what is staged
+
+-- a command is given where its edit is
+given_as : (command : Command) (made : Edit) → IsEditOf command made → IsGiven made → IsCommand command
+given_as (Import c bytes) (edit.Add e own) form given = (subst (λ (x : Corner). IsTrue (is_corner x)) (sym form.0) given.0, subst (λ (l : List ℕ). All (λ b. b < 256) l) (sym form.1) given.1)
+given_as (Import c bytes) _ form given = absurd form
+given_as (Remove c) made form given = tt
+given_as (Patch from to h) made form given = tt
+given_as (Burn depth points) made form given = tt
+given_as (Wall h points) made form given = tt
+given_as (Sink p) made form given = tt
+given_as (Unsink p) made form given = tt
+
+-- a tile that comes in goes stale
+comes_stale : (m : Mosaic) (command : Command) (made : Edit) (c : Corner) → IsEditOf command made → ComesIn made c → goes_stale m command c ≡ true
+comes_stale m (Import c bytes) (edit.Add e own) corner form comes = ap₂ (λ (x y : Corner). goes_stale m (Import x bytes) y) (form.0 ∙ comes) refl ∙ near_itself corner
+comes_stale m (Import c bytes) _ corner form comes = absurd form
+comes_stale m (Remove c) (edit.Drop e) corner form comes = absurd comes
+comes_stale m (Remove c) _ corner form comes = absurd form
+comes_stale m (Patch from to h) (edit.Voids f t k tiles) corner form comes = absurd comes
+comes_stale m (Patch from to h) _ corner form comes = absurd form
+comes_stale m (Burn depth points) (edit.Heights heights) corner form comes = absurd comes
+comes_stale m (Burn depth points) _ corner form comes = absurd form
+comes_stale m (Wall h points) (edit.Heights heights) corner form comes = absurd comes
+comes_stale m (Wall h points) _ corner form comes = absurd form
+comes_stale m (Sink p) (edit.Sink q) corner form comes = absurd comes
+comes_stale m (Sink p) _ corner form comes = absurd form
+comes_stale m (Unsink p) (edit.Unsink q) corner form comes = absurd comes
+comes_stale m (Unsink p) _ corner form comes = absurd form
+
+same_made : (a b : Mosaic) → ◌≡◌ {A = Result Mosaic Refusal} (Ok a) (Ok b) → a ≡ b
+same_made a b e = cc
+
+pub returns-clause-applied : goal.returns-clause-applied
+returns-clause-applied g c =
+    let d = g.D.Disk in
+    let old = c.args.self.now.tree in
+    let planned = c.edit_of.new.samples in
+    let marked = c.mark_stale.new.tree in
+    let mid = c.stage-staged.new.tree in
+    let command = c.args.command.now in
+    let made : Edit = c.in_ok-edit.edit in
+    let is = c.in_ok-edit.ensures in
+    let keeps = is.reads.keeps in
+    let works : has_failed old ≡ false = sym c.has_failed.ensures ∙ c.if-has_failed.false in
+    let now_works : has_failed planned ≡ false = is.reads.ready works in
+    let capacity : c.capacity-capacity.result ≡ (root_of old).capacity = c.capacity-capacity.ensures.value ∙ ap (λ (x : RootValue). x.capacity) c.current.ensures in
+    let marks = c.mark_stale.ensures in
+    let stages = c.stage-staged.ensures in
+    let result : Result ℕ Refusal = c.commit_staged.result in
+    let nothing : Unit {0} = tt in
+    let read : Result Edit Refusal = Ok made in
+    let gives_up : CommitsNothing d old marked (Ok nothing) =
+    uncommitted_on d old planned marked made (Ok nothing) (reading d old planned keeps read (λ refused. never_refused made Device refused) (λ refused. absurd (never_refused made Device refused)) now_works)
+    (in_memory d planned marked (Ok nothing) g.met.D.Disk.only_now marks.disk marks.root (marks.failed ∙ now_works) marks.at (λ refused. never_refused nothing Device refused)) in
+    done_holding d old c.commit_staged.new.tree c.args.self.now.held c.forget_edit.new.held command result
+    (λ honest s at right.
+    let sound = at.sound works in
+    let m : Mosaic = s.contents.mosaic in
+    let planned_honest = subst d.honest marks.disk (stages.uncommitted.honest (c.commit_staged.ensures.honest honest)) in
+    let same_m = mosaic_is d old planned keeps works s at in
+    let makes : effect (root_of old).capacity m command ≡ Ok (edit_made made m) =
+    subst (λ (n : ℕ). effect n m command ≡ Ok (edit_made made m)) capacity
+    (subst (λ (x : Mosaic). effect c.capacity-capacity.result x command ≡ Ok (edit_made made x)) same_m (is.made (readable d old planned keeps works s at planned_honest))) in
+    left_by (root_of old).capacity m command result c.forget_edit.new.held (c.forget_edit.ensures.still m sound.holds.valid right)
+    (λ x is_x. subst (λ (y : Mosaic). IsHeldOf y c.forget_edit.new.held) (same_made (edit_made made m) x (sym makes ∙ is_x)) (c.forget_edit.ensures.changed m sound.holds.valid right)))
+    (c.commit_staged.ensures.command old command (record {
+      working = works;
+      uncommitted = uncommitted_on d old marked mid nothing c.stage-staged.result gives_up stages.uncommitted;
+      refused = IfErr-weaker c.stage-staged.result _ _ (λ r. ⊎_elim (λ device. inl device) (λ no_room. inr (no_room.0, no_room.1, no_room.2 ∙ ap d.writes marks.disk ∙ keeps.writes))) stages.refused;
+      next = λ honest s at.
+          let sound = at.sound works in
+          let m : Mosaic = s.contents.mosaic in
+          let marked_honest = stages.uncommitted.honest honest in
+          let planned_honest = subst d.honest marks.disk marked_honest in
+          let sure = readable d old planned keeps works s at planned_honest in
+          let same_m = mosaic_is d old planned keeps works s at in
+          let root : root_of marked ≡ root_of old = marks.root ∙ keeps.root in
+          let side : (root_of marked).side ≡ (root_of old).side = ap (λ (r : RootValue). r.side) root in
+          let makes : effect (root_of old).capacity m command ≡ Ok (edit_made made m) =
+          subst (λ (n : ℕ). effect n m command ≡ Ok (edit_made made m)) capacity
+          (subst (λ (x : Mosaic). effect c.capacity-capacity.result x command ≡ Ok (edit_made made x)) same_m (is.made sure)) in
+          let finds : FindsVoids m made = subst (λ (x : Mosaic). FindsVoids x made) same_m (is.voids sure) in
+          let test : (p : Corner) → goes_stale_by (root_of planned).side (corners_of planned) made p ≡ goes_stale m command p =
+          λ p. ap₂ (λ (n : ℕ) (cs : List Corner). goes_stale_by n cs made p) (ap (λ (r : RootValue). r.side) keeps.root) keeps.corners
+          ∙ is.stale sure p ∙ ap (λ (x : Mosaic). goes_stale x command p) same_m in
+          let before : List StoredTile = staled (goes_stale m command) sound.stored.tiles in
+          let now : staged_in d marked ≡ before =
+          marks.staged ∙ staled_as (goes_stale_by (root_of planned).side (corners_of planned) made) (goes_stale m command) (staged_in d planned) (λ t there. test t.corner)
+          ∙ ap (staled (goes_stale m command)) (keeps.staged planned_honest ∙ sound.nothing_staged) in
+          let marked_at = marks.at sound.stored (keeps.at planned_honest sound.stored sound.tree now_works) in
+          let tiles : AreTilesOf (root_of marked).side (staged_in d marked) m =
+          subst (λ (n : ℕ). AreTilesOf n (staged_in d marked) m) (sym side)
+          (subst (λ (ts : List StoredTile). AreTilesOf (root_of old).side ts m) (sym now)
+          (staled_held (root_of old).side (goes_stale m command) sound.stored.tiles m (held (root_of old).side (root_of old).capacity sound.stored s.contents sound.holds))) in
+          let sinks = marks.sinks ∙ keeps.sinks ∙ sound.none_declared ∙ sound.holds.sinks in
+          let valid : IsMosaic (edit_made made m) =
+          c.commands_make_mosaics.ensures.mosaic (root_of old).capacity m command (edit_made made m) sound.holds.valid (given_as command made is.form stages.given) makes in
+          on_ok c.stage-staged.result
+          (λ so. made_holds d old marked mid works command s at made makes valid side now (λ corner comes. comes_stale m command made corner is.form comes) so)
+          (stages.made honest sound.stored m marked_at sound.holds.valid tiles sinks finds);
+    }))
+
+pub returns-clause-writes : goal.returns-clause-writes
+returns-clause-writes g c =
+    let d = g.D.Disk in
+    let old = c.args.self.now.tree in
+    let planned = c.edit_of.new.samples in
+    let marked = c.mark_stale.new.tree in
+    let mid = c.stage-staged.new.tree in
+    let new = c.commit_staged.new.tree in
+    let command = c.args.command.now in
+    let is = c.in_ok-edit.ensures in
+    let keeps = is.reads.keeps in
+    let works : has_failed old ≡ false = sym c.has_failed.ensures ∙ c.if-has_failed.false in
+    let clean = still_clean d old planned works keeps c.args.self.now.clean (is.reads.ready works) in
+    let marks = c.mark_stale.ensures in
+    let writes : d.writes (disk_of marked) ≡ d.writes (disk_of old) = ap d.writes marks.disk ∙ keeps.writes in
+    subst (λ (n : ℕ). WritesFew (root_of old).version command n (d.writes (disk_of new))) writes
+    (staged_written d (root_of old).version command c.in_ok-edit.edit is.form marked mid new c.stage-staged.result (ap (λ (r : RootValue). r.version) (marks.root ∙ keeps.root)) (marks.due ∙ clean.none_due)
+    c.stage-staged.ensures.few c.commit_staged.ensures.writes c.commit_staged.ensures.unwritten)
+
+-- ---- what staging asks
+
+pub stage-staged-requires-clause-unstaged : goal.stage-staged-requires-clause-unstaged
+stage-staged-requires-clause-unstaged g c =
+    let d = g.D.Disk in
+    let old = c.args.self.now.tree in
+    let works : has_failed old ≡ false = sym c.has_failed.ensures ∙ c.if-has_failed.false in
+    let clean = still_clean d old c.edit_of.new.samples works c.in_ok-edit.ensures.reads.keeps c.args.self.now.clean (c.in_ok-edit.ensures.reads.ready works) in
+    none_staged d c.mark_stale.new.tree (c.mark_stale.ensures.due ∙ clean.none_due)
+
+pub stage-staged-requires-clause-fits : goal.stage-staged-requires-clause-fits
+stage-staged-requires-clause-fits g c =
+    let marks = c.mark_stale.ensures in
+    let keeps = c.in_ok-edit.ensures.reads.keeps in
+    let old = c.args.self.now.tree in
+    let marked = c.mark_stale.new.tree in
+    let made : Edit = c.in_ok-edit.edit in
+    subst (λ (n : ℕ). FitsIn n (corners_of marked) (sinks_of marked) made) (sym (ap (λ (r : RootValue). r.side) (marks.root ∙ keeps.root)))
+    (subst (λ (cs : List Corner). FitsIn (root_of old).side cs (sinks_of marked) made) (sym (marks.corners ∙ keeps.corners))
+    (subst (λ sinks. FitsIn (root_of old).side (corners_of old) sinks made) (sym (marks.sinks ∙ keeps.sinks)) c.in_ok-edit.ensures.fits))
+
+pub stage-staged-requires-clause-room : goal.stage-staged-requires-clause-room
+stage-staged-requires-clause-room g c =
+    let marks = c.mark_stale.ensures in
+    let keeps = c.in_ok-edit.ensures.reads.keeps in
+    let old = c.args.self.now.tree in
+    let marked = c.mark_stale.new.tree in
+    let made : Edit = c.in_ok-edit.edit in
+    subst (λ (n : ℕ). HasRoom n (corners_of marked) made) (c.capacity-capacity.ensures.value ∙ ap (λ (x : RootValue). x.capacity) (c.current.ensures ∙ sym (marks.root ∙ keeps.root)))
+    (subst (λ (cs : List Corner). HasRoom c.capacity-capacity.result cs made) (sym (marks.corners ∙ keeps.corners)) c.in_ok-edit.ensures.room)
+
+pub invariant_of-self : goal.invariant_of-self
+invariant_of-self g c = record {
+  clean = still_clean g.D.Disk c.args.self.now.tree c.edit_of.new.samples (sym c.has_failed.ensures ∙ c.if-has_failed.false) c.in_err-edit.ensures.reads.keeps c.args.self.now.clean;
+}
+
+pub invariant_of-self-then-number : goal.invariant_of-self-then-number
+invariant_of-self-then-number g c = record {
+  clean = still_clean g.D.Disk c.args.self.now.tree c.edit_of.new.samples (sym c.has_failed.ensures ∙ c.if-has_failed.false) c.in_ok-edit.ensures.reads.keeps c.args.self.now.clean;
+}

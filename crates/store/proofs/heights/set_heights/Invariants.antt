@@ -1,0 +1,7 @@
+use Rattle.std.specs.Prelude.{IsTrue}
+use Rattle.lattice.specs.Corners.{is_corner}
+use Rattle.store.proofs.NewHeights.{IsSetTo}
+use Rattle.store.proofs.heights.set_heights.Given as goal
+
+abbrev pub invariant-loop-k : goal.invariant-loop-k
+invariant-loop-k l = IsTrue (is_corner l.corner) → IsSetTo l.side l.heights l.corner l.page_index l.k l.fn.page l.page

@@ -1,0 +1,15 @@
+use Rattle.std.proofs.Common.{◌≡◌, ◌-◌, ◌*◌, ◌<◌, ℕ, false, vec_len, Ok}
+use Rattle.std.specs.Prelude.{slice_index_or}
+use Rattle.lattice.specs.Lattice.{point_of}
+use Rattle.lattice.specs.RimPoints.{IsRimPoint}
+use Rattle.catalogue.specs.Readers.{OnlyReads}
+use Rattle.edits.specs.Effect.{is_void_at}
+use Rattle.store.proofs.rims.read_rim.Given as goal
+
+abbrev pub invariant-loop-number : goal.invariant-loop-number
+invariant-loop-number g l = record {
+  reads : OnlyReads {T = Unit {0}} g.S.Samples l.fn.samples l.samples (Ok tt);
+  whole : vec_len l.voids ≡ 4 * (g.S.Samples.side_of l.fn.samples - 1);
+  known : g.S.Samples.is_honest l.samples → (e k : ℕ) → k < l.number → IsRimPoint (g.S.Samples.side_of l.fn.samples) k e
+      → slice_index_or l.voids.items k false ≡ is_void_at (g.S.Samples.mosaic l.fn.samples) (point_of (g.S.Samples.side_of l.fn.samples) l.corner e);
+}

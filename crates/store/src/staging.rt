@@ -1,0 +1,84 @@
+//! What an edit stages.
+ghost use Rattle.std.specs.Prelude.{◌≡◌, ◌<◌, false, All, IsTrue, OnOk};
+ghost use Rattle.lattice.specs.Corners.{Corner, is_corner};
+ghost use Rattle.lattice.specs.Mosaic.{Mosaic, IsMosaic};
+ghost use Rattle.edits.specs.Edits.{FitsIn, HasRoom, FindsVoids};
+ghost use Rattle.cow_tree.specs.Stored.{Stored};
+ghost use Rattle.cow_tree.specs.Trees.{disk_of, root_of, has_failed, corners_of, sinks_of, staged_in, HasStaged, IsAt};
+ghost use Rattle.store.specs.Editing.{IsGiven, IsMade, IsRefusedEarly, StagesFew};
+ghost use Rattle.store.specs.Staging.{CommitsNothing};
+ghost use Rattle.store.specs.Standing.{AreTilesOf};
+
+use crate::heights::stage_heights;
+use crate::voids::{Patch, stage_voids};
+use cow_tree::{Plane, Tree};
+use disk::Disk;
+use edits::{Edit, with_point, without_point};
+use lattice::{Corner, Refusal};
+use std::alloc::Global;
+
+// Samples in a page, two bytes each.
+pub(crate) const SAMPLES_IN_PAGE: u32 = 2048;
+
+/// Stages what the edit makes of the tiles and the sinks, and nothing else. Memory for it is had before the first write:
+/// refused with NoMemory, and then nothing was written, or with Device.
+pub(crate) fn stage<D: Disk>(
+    alloc: Global,
+    tree: &mut Tree<D>,
+    edit: &Edit<'_>,
+) -> Result<(), Refusal>
+    requires works { has_failed tree.old ≡ false }
+    requires fits { FitsIn (root_of tree.old).side (corners_of tree.old) (sinks_of tree.old) edit.now }
+    requires room { HasRoom (root_of tree.old).capacity (corners_of tree.old) edit.now }
+    requires unstaged { (c : Corner) → ¬ HasStaged tree.old c }
+    ensures uncommitted { CommitsNothing D.Disk tree.old tree.new result }
+    ensures refused { IsRefusedEarly D.Disk tree.old tree.new result }
+    ensures given { IsGiven edit.now }
+    ensures few { StagesFew D.Disk edit.now tree.old tree.new result }
+    ensures made { D.honest (disk_of tree.new) → (s : Stored) (m : Mosaic) → IsAt D.Disk tree.old s → IsMosaic m
+        → AreTilesOf (root_of tree.old).side (staged_in D.Disk tree.old) m → sinks_of tree.old ≡ m.sinks → FindsVoids m edit.now
+        → OnOk result (IsMade D.Disk edit.now m tree.old tree.new) }
+{
+    match edit {
+        Edit::Add { corner, bytes } => {
+            know_tile(*corner, bytes);
+            tree.stage_plane(*corner, Plane::Heights, bytes)
+        }
+        Edit::Drop { corner } => {
+            tree.drop_plane(*corner, Plane::Heights);
+            Ok(())
+        }
+        Edit::Heights { heights } => stage_heights(tree, heights.as_slice()),
+        Edit::Voids {
+            from,
+            to,
+            height,
+            tiles,
+        } => {
+            let patch = Patch {
+                from: *from,
+                to: *to,
+                height: *height,
+            };
+            stage_voids(alloc, tree, tiles.as_slice(), patch)
+        }
+        Edit::Sink { point } => {
+            let sinks = with_point(tree.sinks(), *point);
+            tree.declare(&sinks);
+            Ok(())
+        }
+        Edit::Unsink { point } => {
+            let sinks = without_point(tree.sinks(), *point);
+            tree.declare(&sinks);
+            Ok(())
+        }
+    }
+}
+
+// That these are a corner and bytes is told by their types.
+fn know_tile(corner: Corner, bytes: &[u8])
+    ensures corner { IsTrue (is_corner corner) }
+    ensures bytes { All (λ b. b < 256) bytes.now }
+{
+    let _lat = corner.lat;
+}
