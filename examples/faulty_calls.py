@@ -53,6 +53,7 @@ int fdatasync(int file) { return fails("fdatasync", 0) ? failed() : syscall(SYS_
 # Stands before the C library's own calls. What a system keeps of one file, of so many sectors at most, is kept in a file of
 # its own, which outlasts the program. A sync that fails says that all of it is written, though nothing was.
 CACHE = r"""
+#define _GNU_SOURCE
 #include <errno.h>
 #include <fcntl.h>
 #include <stdlib.h>
@@ -86,6 +87,7 @@ static int is_due(const char *name, long number) { return getenv(name) && atol(g
 static int synced(int file) {
     static long made = 0;
     int fails = is_due("FAILING_SYNC", ++made);
+    if (is_due("UNMADE_SYNC", made)) _exit(0);
     for (int sector = 0; sector < SECTORS; sector++) {
         if (kept()->state[sector] != DIRTY) continue;
         if (!fails) syscall(SYS_pwrite64, file, kept()->bytes[sector], SECTOR, (off_t)sector * SECTOR);
@@ -114,6 +116,16 @@ ssize_t pwrite(int file, const void *bytes, size_t count, off_t at) {
     kept()->state[sector] = DIRTY;
     return count;
 }
+
+/* The system lets go of what it holds of the file, but for what isn't written yet. */
+static int dropped(int advice) {
+    for (int sector = 0; sector < SECTORS; sector++)
+        if (advice == POSIX_FADV_DONTNEED && !getenv("PAGES_STAY") && kept()->state[sector] == CLEAN) kept()->state[sector] = ABSENT;
+    return 0;
+}
+
+int posix_fadvise(int file, off_t at, off_t count, int advice) { return dropped(advice); }
+int posix_fadvise64(int file, off64_t at, off64_t count, int advice) { return dropped(advice); }
 
 int fdatasync(int file) { return synced(file); }
 
@@ -196,7 +208,8 @@ class CachedCalls(Calls):
 
     def run(self, words, given, **added):
         """Runs the words. FAILING_SYNC is the number of a sync that fails, and leaves what it should have written as written;
-        LAST_SYNC that of one behind which the program ends. With SAME_BYTES_STAY_CLEAN a write of the bytes that are there
+        LAST_SYNC that of one behind which the program ends, UNMADE_SYNC of one before which it does. With PAGES_STAY the system
+        doesn't let go of the file when it is asked. With SAME_BYTES_STAY_CLEAN a write of the bytes that are there
         already is none."""
         return self.run_with(words, given, {"CACHE": self.cache, **added})
 

@@ -5,6 +5,7 @@ ghost use Rattle.disk.specs.FileCalls.{read, written, synced};
 ghost use Rattle.disk.specs.FileMembers.{seen_left, now_left, only_left};
 
 use crate::recorded_file::{RecordedFile, SECTOR_BYTES};
+use crate::system_cache::drop_cached_pages;
 use crate::{Disk, Fault, World};
 use std::fs::{self, File, Metadata, OpenOptions};
 use std::io::{self, ErrorKind};
@@ -55,6 +56,9 @@ impl<W: World> FileDisk<W> {
     /// Opens a regular file, and syncs it. Its sectors are its length divided by 4096, rounded down, at most 4,294,967,295;
     /// the bytes after the last of them are neither read nor written. What is no regular file is refused as
     /// `ErrorKind::InvalidInput`, and a file that is open as a disk already as `ErrorKind::WouldBlock`.
+    ///
+    /// Where its sync fails, some systems call written what the drive never took. Then the system is asked to let go of the
+    /// file, so that the next opening reads what the drive has.
     pub fn open(rt: &HostRuntime, path: &str) -> io::Result<FileDisk<W>>
         ensures calls { IfOk result (λ disk. calls_of disk ≡ []) }
         ensures failures { IfOk result (λ disk. failures_of disk ≡ 0) }
@@ -62,7 +66,13 @@ impl<W: World> FileDisk<W> {
     {
         let file = open_locked(rt, path)?;
         let sectors = whole_sectors(file.metadata()?.len());
-        FileDisk::over(file, sectors)
+        // The lock is held until the system has let go of the file.
+        let _locked = file.try_clone()?;
+        let opened = FileDisk::over(file, sectors);
+        if opened.is_err() {
+            drop_cached_pages(rt, path);
+        }
+        opened
     }
 
     /// Opens a file as [`FileDisk::open`] does, and makes it longer where it has fewer sectors than so many. Where that

@@ -16,6 +16,7 @@ mod memory;
 mod recorded_file;
 mod sector;
 mod settled;
+mod system_cache;
 mod tally;
 mod torn;
 mod transcript;
