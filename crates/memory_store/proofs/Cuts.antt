@@ -1,6 +1,6 @@
 -- What a power cut leaves, and the opening of it.
 use Rattle.std.proofs.Common.{◌≡◌, ◌⊎◌, inl, inr, ℕ, List, [], ◌∷◌, refl, sym, subst}
-use Rattle.std.specs.Prelude.{Option, Some, None, unwrap_or}
+use Rattle.std.specs.Prelude.{Option, Some, None, unwrap_or, Result, Ok, Err, IfOk}
 use Rattle.disk.specs.Disk.{Image}
 use Rattle.disk.specs.declared.disk.Disk.{Ghosts}
 use Rattle.calls.specs.Engines.{Members, AreAt}
@@ -16,6 +16,11 @@ use Rattle.store.specs.States.{StandsForState}
 use Rattle.store.specs.StoreState.{IsStoreAt, members}
 use Rattle.store.specs.Stores.{IsAt, disk_of, side_of, capacity_of}
 use Rattle.store.specs.declared.store.Store.{Store}
+
+-- what holds of a value holds more weakly
+pub if_ok : {T E : Type 0} (result : Result T E) (P Q : T → Type 0) → ((x : T) → P x → Q x) → IfOk result P → IfOk result Q
+if_ok (Ok x) P Q weaker is = weaker x is
+if_ok (Err e) P Q weaker is = tt
 
 -- the last engine is at the last state
 at_last : {E : Type 0} (of : Members E) (old : E) (engines : List E) (s : State) (states : List State) → AreAt of (old ∷ engines) (s ∷ states) → of.is_at (last_of old engines) (last_of s states)

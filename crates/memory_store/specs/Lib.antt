@@ -1,1 +1,2 @@
 pub mod PowerCuts
+pub mod TwoSessions

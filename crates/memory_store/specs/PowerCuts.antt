@@ -7,15 +7,29 @@ use Rattle.calls.specs.State.{Contents, State, working}
 use Rattle.calls.specs.declared.event.Event.{Event}
 use Rattle.calls.specs.declared.event.Reply.{Reply}
 use Rattle.disk.specs.Faulty.{inner_of}
-use Rattle.disk.specs.MemDisk.{state_of}
-use Rattle.disk.specs.Memory.{left_by}
+use Rattle.disk.specs.Disk.{Image, NoneNew, Only}
+use Rattle.disk.specs.MemDisk.{state_of, sectors_of}
+use Rattle.disk.specs.Memory.{MayLeave, left_by}
 use Rattle.disk.specs.declared.faulty.FaultyDisk.{FaultyDisk}
 use Rattle.disk.specs.declared.fuse.Fuse.{Fuse}
 use Rattle.disk.specs.declared.memory.MemDisk.{MemDisk}
 use Rattle.disk.specs.declared.torn.Torn.{Torn}
 use Rattle.store.specs.Calls.{Runs}
+use Rattle.store.specs.Standing.{StandsFor}
 use Rattle.store.specs.Stores.{disk_of, side_of, capacity_of, IsAt}
 use Rattle.store.specs.declared.store.Store.{Store}
+
+-- each image that a stop may leave of the disk stands for one of two contents
+abbrev pub LeavesEither : MemDisk → (side capacity : ℕ) → (a b : Contents) → Type 0
+LeavesEither disk side capacity a b =
+    (image : Image) → MayLeave (state_of disk) image → StandsFor (sectors_of disk) side capacity image a ⊎ StandsFor (sectors_of disk) side capacity image b
+
+-- the power was cut: each unsettled sector was left as said, and all is settled then
+pub record IsCut (torn : Torn) (old new : MemDisk) : Type 0 where
+  pub torn_so : (state_of new).seen ≡ left_by torn (state_of old)
+  pub settled : Only (state_of new).seen (MayLeave (state_of new))
+  pub none_new : NoneNew (MayLeave (state_of old)) (MayLeave (state_of new))
+  pub sectors : sectors_of new ≡ sectors_of old
 
 -- the store is at the contents of the state, or at those of its commit in doubt
 abbrev pub ComesBackTo : {D : Type 0} (g : Ghosts D) → State → Store D g → Type 0

@@ -1,0 +1,69 @@
+-- Two sessions of a store with a power cut after each (this product's own profile).
+use Rattle.std.specs.Prelude.{◌≡◌, ◌≢◌, ℕ, List, [], ◌∷◌, ◌++◌, Result, Ok, Err}
+use Rattle.calls.specs.State.{Contents}
+use Rattle.calls.specs.declared.event.Event.{Event}
+use Rattle.calls.specs.declared.event.Reply.{Reply}
+use Rattle.disk.specs.Disk.{Image, HasRisen}
+use Rattle.disk.specs.Faulty.{inner_of, faults_of}
+use Rattle.disk.specs.MemDisk.{state_of, sectors_of}
+use Rattle.disk.specs.Memory.{MayLeave}
+use Rattle.disk.specs.declared.disk.Disk.{Ghosts}
+use Rattle.disk.specs.declared.faulty.FaultyDisk.{FaultyDisk}
+use Rattle.disk.specs.declared.fuse.Fuse.{Fuse}
+use Rattle.disk.specs.declared.memory.MemDisk.{MemDisk}
+use Rattle.disk.specs.declared.torn.Torn.{Torn}
+use Rattle.lattice.specs.declared.refusal.Refusal.TheVariants.{Device, NoMemory}
+use Rattle.roots.specs.declared.roots.NotOpened.{NotOpened}
+use Rattle.store.specs.Fates.{Fate, known_by}
+use Rattle.store.specs.Sessions.{Made, Asked, Session, Unopened, Ended, Stopped, IsSession, HasAccepted, first_disk, last_disk}
+use Rattle.store.specs.Standing.{StandsFor}
+use Rattle.store.specs.Stores.{disk_of}
+use Rattle.store.specs.declared.store.Store.{Store}
+use Rattle.memory_store.specs.PowerCuts.{IsCut}
+
+-- a disk in memory of which each call fails from some call on
+abbrev pub CutDisk : Type 0
+CutDisk = FaultyDisk MemDisk Fuse
+
+-- each image that a stop may leave of the disk stands for these contents
+abbrev pub HoldsOnly : MemDisk → (side capacity : ℕ) → Contents → Type 0
+HoldsOnly disk side capacity c = (image : Image) → MayLeave (state_of disk) image → StandsFor (sectors_of disk) side capacity image c
+
+-- what is known of the commands of a run by its answers
+abbrev pub fates_told : List Event → List Reply → List Fate
+fates_told (event ∷ events) (answer ∷ answers) = known_by event answer ++ fates_told events answers
+fates_told events answers = []
+
+module _ (g : Ghosts CutDisk) where
+  -- the calls are these events, answered so
+  abbrev pub AreCallsOf : List (Made g) → List Event → List Reply → Type 0
+  AreCallsOf [] [] [] = Unit {0}
+  AreCallsOf (made ∷ more) (event ∷ events) (answer ∷ answers) = (made.call ≡ Asked event answer) × AreCallsOf more events answers
+  AreCallsOf _ events answers = ⊥
+
+  -- the opening was refused, and not for memory: as Device only where a call of the disk failed
+  abbrev pub IsRefusedOpening : CutDisk → Result (Store CutDisk g) (NotOpened CutDisk) → Type 0
+  IsRefusedOpening disk (Ok store) = ⊥
+  IsRefusedOpening disk (Err e) = (e.refusal ≢ NoMemory) × (e.refusal ≡ Device → HasRisen (g.failures disk) (g.failures e.disk))
+
+  -- the session asked the events and had these answers, or its opening was refused, and it had none
+  abbrev pub AsksEvents : Session g → List Event → List Reply → Type 0
+  AsksEvents (Unopened disk opened) events answers = IsRefusedOpening disk opened × (answers ≡ [])
+  AsksEvents (Ended disk store calls) events answers = AreCallsOf calls events answers
+  AsksEvents (Stopped disk store calls last) events answers = ⊥
+
+  -- On the disk, whose calls fail once so many have passed, inside the opening too, a session asked the events; then the
+  -- power was cut, so that each unsettled sector is left as said.
+  pub record WasCutOff (disk : MemDisk) (passes : ℕ) (events : List Event) (torn : Torn) (answers : List Reply) (left : MemDisk) : Type 0 where
+    pub session : Session g
+    pub is : IsSession g session
+    pub began : inner_of (first_disk g session) ≡ disk
+    pub fuse : (faults_of (first_disk g session)).left ≡ passes
+    pub asks : AsksEvents session events answers
+    pub cut : IsCut torn (inner_of (last_disk g session)) left
+
+  -- What was left was opened as this store. It is at the mosaic after the commands that were accepted, if the disk held a
+  -- store at first.
+  pub record FindsAccepted (disk left : MemDisk) (fates : List Fate) (opened : Store CutDisk g) : Type 0 where
+    pub read : (state_of (inner_of (disk_of opened))).seen ≡ (state_of left).seen
+    pub accepted : (side capacity : ℕ) (was : Contents) → HoldsOnly disk side capacity was → HasAccepted g side capacity was fates opened

@@ -1,0 +1,103 @@
+//! Two sessions of a store, each ended by a power cut.
+ghost use Rattle.std.specs.Prelude.{◌≡◌, ◌++◌, ◌⊎◌, ℕ, List, IfOk, IfErr};
+ghost use Rattle.calls.specs.State.{Contents};
+ghost use Rattle.calls.specs.declared.event.Reply.{Reply};
+ghost use Rattle.disk.specs.declared.memory.MemDisk.{MemDisk};
+ghost use Rattle.lattice.specs.declared.refusal.Refusal.TheVariants.{Device, NoMemory};
+ghost use Rattle.memory_store.specs.TwoSessions.{AsksEvents, FindsAccepted, HoldsOnly, WasCutOff, fates_told};
+ghost use Rattle.store.specs.Sessions.{IsSession, Session, first_disk, last_disk};
+
+use crate::power_cut::cut;
+use calls::{Event, Reply};
+use disk::{Disk, FuseDisk, MemDisk, Torn};
+use lattice::Refusal;
+use std::alloc::Global;
+use store::Store;
+
+/// What a session is asked, and how the power is cut at its end.
+#[derive(Clone, Copy)]
+pub struct CutSession<'a> {
+    /// How many calls of the disk pass, those of the opening among them. Each later one fails.
+    pub passes: u64,
+    pub events: &'a [Event],
+    /// What the cut leaves of a sector that was written and not synced since.
+    pub torn: Torn,
+}
+
+/// Runs two sessions on a disk that holds a store, cuts the power after each, also in the middle of a command or of an
+/// opening, and opens what is left. The answers are added behind what `out` holds.
+///
+/// The store is then at the mosaic after the commands that were accepted in the two: every one that was answered Done, and
+/// of those that were answered Device some, in order, each of them whole. A session whose opening meets a fault has no
+/// answers. Refused only for want of memory, or where the last opening meets a fault.
+pub fn run_two_sessions(
+    alloc: Global,
+    disk: MemDisk,
+    first: CutSession<'_>,
+    second: CutSession<'_>,
+    out: &mut Vec<Reply>,
+) -> Result<Store<FuseDisk<MemDisk>>, Refusal>
+    // Each session asked its events, and was cut off as said; then what was left was opened.
+    ensures accepted { IfOk result (λ opened. (early late : List Reply) × (between after : MemDisk) × (out.new.items ≡ out.old.items ++ early ++ late)
+        × WasCutOff ⟦<FuseDisk<MemDisk> as Disk>⟧ disk first.entry.passes first.entry.events.now first.entry.torn early between
+        × WasCutOff ⟦<FuseDisk<MemDisk> as Disk>⟧ between second.entry.passes second.entry.events.now second.entry.torn late after
+        × FindsAccepted ⟦<FuseDisk<MemDisk> as Disk>⟧ disk after (fates_told first.entry.events.now early ++ fates_told second.entry.events.now late) opened) }
+
+    // It is refused only for the disk or for memory.
+    ensures sure { (side capacity : ℕ) (was : Contents) → HoldsOnly disk side capacity was
+        → IfErr result (λ r. (r ≡ Device) ⊎ (r ≡ NoMemory)) }
+{
+    let between = run_cut_session(alloc, disk, first, out)?;
+    let after = run_cut_session(alloc, between, second, out)?;
+    match Store::open(alloc, FuseDisk::new(after, u64::MAX)) {
+        Ok(opened) => Ok(opened),
+        Err(not_opened) => Err(not_opened.refusal),
+    }
+}
+
+// One session, and the power cut at its end.
+fn run_cut_session(
+    alloc: Global,
+    disk: MemDisk,
+    plan: CutSession<'_>,
+    out: &mut Vec<Reply>,
+) -> Result<MemDisk, Refusal>
+    ensures cut_off { IfOk result (λ left. (answers : List Reply) × (out.new.items ≡ out.old.items ++ answers)
+        × WasCutOff ⟦<FuseDisk<MemDisk> as Disk>⟧ disk plan.entry.passes plan.entry.events.now plan.entry.torn answers left) }
+    ensures refused { IfErr result (λ r. r ≡ NoMemory) }
+{
+    let CutSession {
+        passes,
+        events,
+        torn,
+    } = plan;
+    let disk = run_session(alloc, FuseDisk::new(disk, passes), events, out)?;
+    cut(disk.into_inner(), torn)
+}
+
+// One session: the disk is opened, where it can be, and the events are answered. For want of memory it is refused as a
+// whole, so that a session without answers is one whose opening met a fault.
+fn run_session(
+    alloc: Global,
+    disk: FuseDisk<MemDisk>,
+    events: &[Event],
+    out: &mut Vec<Reply>,
+) -> Result<FuseDisk<MemDisk>, Refusal>
+    ensures session { IfOk result (λ left. (answers : List Reply) × (out.new.items ≡ out.old.items ++ answers)
+        × ((session : Session ⟦<FuseDisk<MemDisk> as Disk>⟧) × IsSession ⟦<FuseDisk<MemDisk> as Disk>⟧ session
+        × (first_disk ⟦<FuseDisk<MemDisk> as Disk>⟧ session ≡ disk) × (last_disk ⟦<FuseDisk<MemDisk> as Disk>⟧ session ≡ left)
+        × AsksEvents ⟦<FuseDisk<MemDisk> as Disk>⟧ session events.now answers)) }
+    ensures refused { IfErr result (λ r. r ≡ NoMemory) }
+{
+    match Store::open(alloc, disk) {
+        Ok(opened) => {
+            let mut store = opened;
+            store.run(events, out)?;
+            Ok(store.into_disk())
+        }
+        Err(not_opened) => match not_opened.refusal {
+            Refusal::NoMemory => Err(Refusal::NoMemory),
+            _ => Ok(not_opened.disk),
+        },
+    }
+}
