@@ -4,12 +4,13 @@
 #[cfg(test)]
 mod tests;
 
+use server::CheckedWriter;
 use std::process::ExitCode;
 use std::{env, io};
 
 fn main(rt: HostRuntime) -> ExitCode {
     let mut reader = rt.reader();
-    let mut writer = io::writer(&rt);
+    let mut writer = CheckedWriter::new(io::writer(&rt));
     let status = match words(&rt) {
         Ok(words) => server::program(&rt, &words, &mut reader, &mut writer),
         Err(_) => server::no_room(&mut writer),

@@ -3,7 +3,7 @@ mod lengths;
 mod sessions;
 
 use disk::FileDisk;
-use server::program;
+use server::{CheckedWriter, program};
 use sessions::{tile, written};
 use std::alloc::{AllocError, Global};
 use std::fs;
@@ -32,9 +32,9 @@ fn owned(alloc: Global, words: &[&str]) -> Result<Vec<String>, AllocError> {
 
 fn run_words(rt: &HostRuntime, words: &[String], input: &[u8]) -> (u8, Vec<u8>) {
     let mut reader = input;
-    let mut output = Vec::new(rt.alloc());
-    let status = program(rt, words, &mut reader, &mut output);
-    (status, output)
+    let mut writer = CheckedWriter::new(Vec::new(rt.alloc()));
+    let status = program(rt, words, &mut reader, &mut writer);
+    (status, writer.into_inner())
 }
 
 /// Whether the program ends so with these words.

@@ -1,3 +1,5 @@
+pub mod Longer
 pub mod OnStores
 pub mod ProgramLemmas
+pub mod ServedSessions
 pub mod Sessions

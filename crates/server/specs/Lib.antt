@@ -1,7 +1,11 @@
 pub mod Endings
+pub mod Files
 pub mod Following
 pub mod OnDisks
-pub mod Paths
+pub mod Outputs
+pub mod Places
 pub mod Program
 pub mod Report
+pub mod ServedSessions
 pub mod Sessions
+pub mod Sizes

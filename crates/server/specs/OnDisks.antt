@@ -1,6 +1,6 @@
 -- What a subcommand does on the disk of a store: what it finds there, what it does, and what a stop (a power cut) at any
 -- moment leaves (this product's own profile).
-use Rattle.std.specs.Prelude.{◌≡◌, ◌⊎◌, ◌≤◌, ◌+◌, ◌*◌, ℕ, nat_le, false, List, [], ◌∷◌, map, codes, ◌++◌, take, Option, Some, None, IfSome, Result, Ok, Err, IsErrOf, OnOk, IfOk, IfErr}
+use Rattle.std.specs.Prelude.{◌≡◌, ◌⊎◌, ◌≤◌, ◌+◌, ◌*◌, ℕ, nat_le, false, List, [], ◌∷◌, map, codes, ◌++◌, take, Option, Some, None, IfSome, IsSome, Result, Ok, Err, IsErrOf, OnOk, IfOk, IfErr}
 use Rattle.disk.specs.Disk.{Image, HasRisen}
 use Rattle.disk.specs.Stops.{AddsNothing}
 use Rattle.disk.specs.declared.disk.Disk.{Ghosts}
@@ -22,12 +22,15 @@ use Rattle.serving.specs.Promises.{side_in}
 use Rattle.serving.specs.Served.{Outcome}
 use Rattle.serving.specs.declared.session.ServeFault.{ServeFault}
 use Rattle.store.specs.Formatted.{format_2}
+use Rattle.store.specs.Sessions.{IsOpening}
 use Rattle.store.specs.Standing.{StandsFor}
 use Rattle.store.specs.StoreState.{StandsForOne}
 use Rattle.store.specs.Stores.{disk_of, side_of, has_failed}
 use Rattle.store.specs.declared.store.Store.{Store}
 use Rattle.server.specs.Endings.{EndsAnswering, EndsSession, Tells, TellsRefusal, count_line}
-use Rattle.server.specs.Paths.{IsTaken}
+use Rattle.server.specs.Outputs.{Stream}
+use Rattle.server.specs.Places.{HasGrown, HasNotGrown}
+use Rattle.server.specs.Sizes.{IsTaken}
 use Rattle.server.specs.Report.{IsReportText, Reports}
 use Rattle.server.specs.Sessions.{TellsCall}
 
@@ -69,7 +72,7 @@ module _ {D : Type 0} (g : Ghosts D) where
     pub sure : g.honest new → (side capacity : ℕ) (a b : Contents) → HoldsEither old side capacity a b → (r ≡ Device) ⊎ (r ≡ NoMemory)
 
   -- nothing was done but to tell why
-  abbrev pub TellsClosed : D → D → Option (List ℕ) → Option (List ℕ) → ℕ → Type 0
+  abbrev pub TellsClosed : D → D → Option (List ℕ) → Stream → ℕ → Type 0
   TellsClosed old new written now status = (r : Refusal) × IsClosed old new r × TellsRefusal r written now status
 
   -- The store was found at one of the two contents and went from there through these states, of which the last is what
@@ -108,6 +111,7 @@ module _ {D : Type 0} (g : Ghosts D) where
     pub store : Store D g
     pub stores : List (Store D g)
     pub opened : WasRead old (disk_of store)
+    pub opening : IsOpening g old (Ok store)
     pub works : has_failed store ≡ false
     pub left : disk_of (last_of store stores) ≡ new
     -- .. the calls, and what the replies tell of them, also of whether the store has failed
@@ -118,7 +122,7 @@ module _ {D : Type 0} (g : Ghosts D) where
         → IsSession old new (map (λ (s : Store D g). g.moment (disk_of s)) (store ∷ stores)) n capacity before after written now result a b
 
   -- lines are served on the disk's store, where there is one
-  abbrev pub ServesLines : D → D → (before after written now : Option (List ℕ)) → ℕ → Type 0
+  abbrev pub ServesLines : D → D → (before after written : Option (List ℕ)) → Stream → ℕ → Type 0
   ServesLines old new before after written now status =
       ((after ≡ before) × TellsClosed old new written now status)
       ⊎ ((result : Result (Unit {0}) ServeFault) × (mid : Option (List ℕ)) × HasServed old new before after written mid result × EndsSession result mid now status)
@@ -139,13 +143,13 @@ module _ {D : Type 0} (g : Ghosts D) where
     pub applied : g.honest new → (side capacity : ℕ) (a b : Contents) → HoldsEither old side capacity a b → IsApplied old new side capacity command result a b
 
   -- the tile is imported, where there is a store and the tile's file can be read
-  abbrev pub ImportsTile : Corner → (tile : List ℕ) → (given : Option (List ℕ)) → D → D → (written now : Option (List ℕ)) → ℕ → Type 0
-  ImportsTile corner tile given old new written now status =
+  abbrev pub ImportsTile : {R : Type 0} → (R → Option (List ℕ)) → Corner → (tile : List ℕ) → Option R → D → D → Option (List ℕ) → Stream → ℕ → Type 0
+  ImportsTile remaining corner tile reader old new written now status =
       TellsClosed old new written now status
       ⊎ (WasRead old new × Tells (codes "mosaic: cannot read " ++ tile) written now status)
-      ⊎ (WasRead old new × TellsRefusal NoMemory written now status)
-      ⊎ ((store : Store D g) × (bytes : List ℕ) × (result : Result ℕ Refusal) × WasRead old (disk_of store) × IsTileRead (side_of store) given bytes × HasApplied old new (Import corner bytes) result
-      × EndsAnswering count_line result written now status)
+      ⊎ (IsSome reader × WasRead old new × TellsRefusal NoMemory written now status)
+      ⊎ (IsSome reader × (store : Store D g) × (bytes : List ℕ) × (result : Result ℕ Refusal) × WasRead old (disk_of store) × IsTileRead (side_of store) (given_by remaining reader) bytes
+      × HasApplied old new (Import corner bytes) result × EndsAnswering count_line result written now status)
 
   -- ---- an upgrade
 
@@ -169,10 +173,23 @@ module _ {D : Type 0} (g : Ghosts D) where
     pub upgraded : g.honest new → (side capacity : ℕ) (a b : Contents) → HoldsEither old side capacity a b → IsUpgraded old new side capacity result a b
 
   -- the store is upgraded, where there is one
-  abbrev pub UpgradesStore : D → D → (written now : Option (List ℕ)) → ℕ → Type 0
+  abbrev pub UpgradesStore : D → D → Option (List ℕ) → Stream → ℕ → Type 0
   UpgradesStore old new written now status =
       TellsClosed old new written now status
       ⊎ ((result : Result ℕ Refusal) × HasUpgraded old new result × EndsAnswering count_line result written now status)
+
+  -- the disk is made as long as so many sectors, and the store on it is upgraded; or a call that was to make it longer
+  -- failed
+  abbrev pub RunsGrown : (sectors : ℕ) → (measured left : D) → Option (List ℕ) → Stream → ℕ → Type 0
+  RunsGrown sectors measured left written now status =
+      (HasNotGrown g measured left × TellsRefusal Device written now status)
+      ⊎ ((longer : D) × HasGrown g sectors measured longer × UpgradesStore longer left written now status)
+
+  -- the store on the disk tells how many sectors are asked; the disk is one throughout
+  abbrev pub GrowsAndUpgrades : D → D → Option (List ℕ) → Stream → ℕ → Type 0
+  GrowsAndUpgrades old left written now status =
+      TellsClosed old left written now status
+      ⊎ ((sectors : ℕ) × (measured : D) × HasMeasured old measured sectors × RunsGrown sectors measured left written now status)
 
   -- ---- making a store, and reporting on it
 
@@ -186,7 +203,7 @@ module _ {D : Type 0} (g : Ghosts D) where
     pub sure : IsTaken side capacity → sectors_asked (format_2 side capacity) ≤ g.size old → IfErr result (λ r. r ≡ Device)
 
   -- the disk is made a store without tiles
-  abbrev pub MakesStore : (side capacity : ℕ) → D → D → (written now : Option (List ℕ)) → ℕ → Type 0
+  abbrev pub MakesStore : (side capacity : ℕ) → D → D → Option (List ℕ) → Stream → ℕ → Type 0
   MakesStore side capacity old new written now status =
       (result : Result (Unit {0}) Refusal) × HasFormatted old new side capacity result × EndsAnswering (λ _. count_line 0) result written now status
 
@@ -198,7 +215,7 @@ module _ {D : Type 0} (g : Ghosts D) where
         → (first : Contents) × (((first ≡ a) ⊎ (first ≡ b)) × ((left : State) × Reports (working first) result left))
 
   -- the store is reported on, where there is one
-  abbrev pub ChecksStore : D → D → (written now : Option (List ℕ)) → ℕ → Type 0
+  abbrev pub ChecksStore : D → D → Option (List ℕ) → Stream → ℕ → Type 0
   ChecksStore old new written now status =
       TellsClosed old new written now status
       ⊎ ((result : Result (List ℕ) Refusal) × HasReported old new result × EndsAnswering (λ text. text) result written now status)

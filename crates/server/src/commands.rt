@@ -1,35 +1,37 @@
 //! The program `mosaic`.
-ghost use Rattle.std.specs.Prelude.{◌≡◌, ◌≤◌, ℕ, map};
+ghost use Rattle.std.specs.Prelude.{◌≡◌, ◌≤◌, ℕ, IfErr, IfOk, map};
 ghost use Rattle.disk.specs.Disk.{Image};
-ghost use Rattle.lines.specs.Replies.{refusal_text};
-ghost use Rattle.server.specs.Endings.{Begins};
-ghost use Rattle.server.specs.Paths.{TellsFault};
-ghost use Rattle.server.specs.Program.{CarriesOut, EndsServing, Runs, RunsAs, RunsCheck, RunsFormat, RunsGrown, RunsImport, RunsServe, RunsTable, RunsUpgrade};
+ghost use Rattle.store.specs.Formatted.{format_2};
+ghost use Rattle.server.specs.Endings.{TellsRefusal};
+ghost use Rattle.server.specs.Outputs.{stream_of};
+ghost use Rattle.server.specs.Places.{Accessing};
+ghost use Rattle.server.specs.Program.{CarriesOut, EndsServing, Runs, RunsAs, RunsCheck, RunsFormat, RunsImport, RunsOnFiles, RunsServe, RunsTable, RunsUpgrade, TellsFault};
+ghost use Rattle.server.specs.Sizes.{IsRefusedFor, IsTaken};
 
-use crate::endings::{BAD_WORDS, REFUSED, end_session, end_with, refuse};
-use crate::files::{
-    PathFault, check_in_file, import_to_file, make_in_file, measure_in_file, new_disk, open_disk,
-    serve_on_file, tell_fault, upgrade_in_file,
-};
+use crate::disks::{check_store, grow_and_upgrade, import_tile, make_store, serve_store};
+use crate::endings::{BAD_WORDS, end_session, end_with, refuse, tell};
+use crate::files::FilePlaces;
+use crate::output::Output;
+use crate::places::{MakeFault, Places};
 use command_line::{ArgumentFault, Arguments};
-use disk::FileDisk;
+use disk::{FileDisk, World};
 use hgt::file_name;
 use lattice::{MOST_TILES, Refusal, Side};
+use page_codec::{Format, Version};
 use serving::serve;
 use std::alloc::Global;
 use std::convert::AsStr;
-use std::fs::File;
-use std::io::{Read, Write};
+use std::io::Read;
 use std::marker::Brand;
 use table_engine::TableEngine;
 
 /// What came of the program's words.
 #[derive(Drop)]
-pub struct Ended {
+pub struct Ended<D> {
     /// The exit status.
     pub status: u8,
     /// The disk that was worked on, if one was made or opened and is open still.
-    pub disk: Option<FileDisk<Brand>>,
+    pub disk: Option<D>,
 }
 
 /// Does what the words after the program's own name ask for, and answers the exit status.
@@ -37,39 +39,54 @@ pub struct Ended {
 /// `format PATH SIDE CAPACITY` makes a store's file of the least size; `import PATH FILE` imports one HGT file into it;
 /// `serve PATH` serves lines on it; `check PATH` reports on it; `upgrade PATH` makes it a store of the second version;
 /// `table SIDE CAPACITY` serves lines on an empty mosaic held in memory. Status 1 comes with one line that says what was
-/// refused or which file or stream failed, status 2 with the line `mosaic: bad arguments`.
+/// refused or which file or stream failed, status 2 with the line `mosaic: bad arguments`. It is 0 exactly where all was
+/// done, and no write or flush has failed.
 ///
-/// It calls [`carry_out`], and closes the disk that this hands back. So here it can only be said that there is such a
-/// disk, on which all this was done; there it is said of the very disk.
-pub fn program<S: AsStr, R: Read, W: Write>(
+/// It calls [`carry_out`] on the system's files, and closes the disk that this hands back. So here it can only be said that
+/// there are such files and such a disk, on which all this was done; there it is said of those that were asked for.
+pub fn program<S: AsStr, R: Read, O: Output>(
     rt: &HostRuntime,
     words: &[S],
     reader: &mut R,
-    writer: &mut W,
+    writer: &mut O,
 ) -> u8
     ghost images: { ℕ → Image }
-    ensures { Runs images (map S.text words.now) (R.remaining reader.old) (R.remaining reader.new) (W.contents writer.old) (W.contents writer.new) result }
+    ensures { Runs images (map S.text words.now) (R.remaining reader.old) (R.remaining reader.new) (O.contents writer.old) (stream_of O.contents O.failed writer.new) result }
 {
-    carry_out(rt, words, reader, writer).status
+    on_files::<Brand, S, R, O>(rt, words, reader, writer).status
 }
 
-/// Does what the words after the program's own name ask for, as [`program`] does, and hands back the disk that it worked
-/// on.
-///
-/// What it does on a file is said of that disk, for whatever images the file's reads give: its record was empty when it
-/// was opened, each call on it stands there now, and where each answer is right for these images the promises hold. There
-/// is no disk where the words ask for none, or where a line tells that none could be made or opened.
-pub fn carry_out<S: AsStr, R: Read, W: Write>(
+// Over any world the files are places like any others; the caller at `Brand` picks the images.
+fn on_files<V: World, S: AsStr, R: Read, O: Output>(
     rt: &HostRuntime,
     words: &[S],
     reader: &mut R,
-    writer: &mut W,
-) -> Ended
-    ghost images: { ℕ → Image }
-    ensures { CarriesOut images (map S.text words.now) (R.remaining reader.old) (R.remaining reader.new) (W.contents writer.old) (W.contents writer.new) result.disk result.status }
+    writer: &mut O,
+) -> Ended<FileDisk<V>>
+    ensures { RunsOnFiles V.image (map S.text words.now) (R.remaining reader.old) (R.remaining reader.new) (O.contents writer.old) (stream_of O.contents O.failed writer.new) result.disk result.status }
 {
-    match Arguments::parse(rt.alloc(), words) {
-        Ok(arguments) => run(rt, arguments, reader, writer),
+    let mut places = FilePlaces::<V>::new(rt);
+    carry_out(rt.alloc(), &mut places, words, reader, writer)
+}
+
+/// Does what the words after the program's own name ask for, as [`program`] does, on the files that these places have, and
+/// hands back the disk that it worked on.
+///
+/// It asks for the files that the words name, in this order, each at most once, and for no others. What it does on a
+/// store's file is said of the disk that its path gave, and that disk is handed back; the bytes of a tile are those of the
+/// reader that its path gave. There is no disk where the words ask for none, or where a line tells that none could be made
+/// or opened.
+pub fn carry_out<P: Places, S: AsStr, R: Read, O: Output>(
+    alloc: Global,
+    places: &mut P,
+    words: &[S],
+    reader: &mut R,
+    writer: &mut O,
+) -> Ended<P::File>
+    ensures { Accessing P.accessed places.old places.new (λ accesses. CarriesOut P.File.Disk P.Tile.remaining (map S.text words.now) accesses (R.remaining reader.old) (R.remaining reader.new) (O.contents writer.old) (stream_of O.contents O.failed writer.new) result.disk result.status) }
+{
+    match Arguments::parse(alloc, words) {
+        Ok(arguments) => run(alloc, places, arguments, reader, writer),
         Err(ArgumentFault::Bad) => Ended {
             status: end_with(writer, b"mosaic: bad arguments\n", BAD_WORDS),
             disk: None,
@@ -82,213 +99,191 @@ pub fn carry_out<S: AsStr, R: Read, W: Write>(
 }
 
 /// Does what is asked for.
-fn run<R: Read, W: Write>(
-    rt: &HostRuntime,
+fn run<P: Places, R: Read, O: Output>(
+    alloc: Global,
+    places: &mut P,
     arguments: Arguments<'_>,
     reader: &mut R,
-    writer: &mut W,
-) -> Ended
-    ghost images: { ℕ → Image }
-    ensures { RunsAs images arguments.entry (R.remaining reader.old) (R.remaining reader.new) (W.contents writer.old) (W.contents writer.new) result.disk result.status }
+    writer: &mut O,
+) -> Ended<P::File>
+    ensures { Accessing P.accessed places.old places.new (λ accesses. RunsAs P.File.Disk P.Tile.remaining arguments.entry accesses (R.remaining reader.old) (R.remaining reader.new) (O.contents writer.old) (stream_of O.contents O.failed writer.new) result.disk result.status) }
 {
     match arguments {
         Arguments::Format {
             path,
             side,
             capacity,
-        } => format(rt, Place { path }, side, capacity, writer),
-        Arguments::Import { path, tile } => import(
-            rt,
-            Place { path },
-            Place { path: tile },
-            writer,
-        ),
-        Arguments::Serve { path } => serve_file(rt, Place { path }, reader, writer),
+        } => format(alloc, places, path, side, capacity, writer),
+        Arguments::Import { path, tile } => import(alloc, places, path, tile, writer),
+        Arguments::Serve { path } => serve_file(alloc, places, path, reader, writer),
         Arguments::Table { side, capacity } => Ended {
-            status: table(rt.alloc(), side, capacity, reader, writer),
+            status: table(alloc, side, capacity, reader, writer),
             disk: None,
         },
-        Arguments::Check { path } => check(rt, Place { path }, writer),
-        Arguments::Upgrade { path } => upgrade(rt, Place { path }, writer),
+        Arguments::Check { path } => check(alloc, places, path, writer),
+        Arguments::Upgrade { path } => upgrade(alloc, places, path, writer),
     }
-}
-
-/// Where a file is.
-struct Place<'a> {
-    path: &'a str,
 }
 
 /// Makes the file of a store without tiles.
-fn format<W: Write>(
-    rt: &HostRuntime,
-    place: Place<'_>,
+fn format<P: Places, O: Output>(
+    alloc: Global,
+    places: &mut P,
+    path: &str,
     side: u32,
     capacity: u32,
-    writer: &mut W,
-) -> Ended
-    ghost images: { ℕ → Image }
-    ensures { RunsFormat images place.entry.path.now side capacity (W.contents writer.old) (W.contents writer.new) result.disk result.status }
+    writer: &mut O,
+) -> Ended<P::File>
+    ensures { Accessing P.accessed places.old places.new (λ accesses. RunsFormat P.File.Disk P.Tile.remaining path.now side capacity accesses (O.contents writer.old) (stream_of O.contents O.failed writer.new) result.disk result.status) }
 {
-    let Place { path } = place;
-    match new_disk(rt, path, side, capacity) {
-        Ok(disk) => {
-            let (disk, status) = make_in_file(disk, side, capacity, writer);
-            Ended {
-                status,
-                disk: Some(disk),
-            }
+    let format = match format_of(side, capacity) {
+        Ok(format) => format,
+        Err(refusal) => {
+            return Ended {
+                status: refuse(writer, refusal),
+                disk: None,
+            };
         }
-        Err(fault) => without_disk(rt.alloc(), path, fault, writer),
+    };
+    match places.make(path, format.sectors()) {
+        Ok(disk) => ended_on(make_store(disk, side, capacity, writer)),
+        Err(fault) => Ended {
+            status: tell_fault(alloc, path, fault, writer),
+            disk: None,
+        },
     }
 }
 
-/// Imports a tile's file into the store in a file. The name of the tile's file is tested first.
-fn import<W: Write>(rt: &HostRuntime, place: Place<'_>, tile: Place<'_>, writer: &mut W) -> Ended
-    ghost images: { ℕ → Image }
-    ensures { RunsImport images place.entry.path.now tile.entry.path.now (W.contents writer.old) (W.contents writer.new) result.disk result.status }
+/// The format of a new store.
+fn format_of(side: u32, capacity: u32) -> Result<Format, Refusal>
+    ensures taken { IfOk result (λ format. IsTaken side capacity × (format ≡ format_2 side capacity)) }
+    ensures refused { IfErr result (IsRefusedFor side capacity) }
 {
-    let Place { path } = place;
-    let Place { path: tile } = tile;
+    Format::new(Version::Two, side, capacity)
+}
+
+/// Imports a tile's file into the store in a file. The name of the tile's file is tested first.
+fn import<P: Places, O: Output>(
+    alloc: Global,
+    places: &mut P,
+    path: &str,
+    tile: &str,
+    writer: &mut O,
+) -> Ended<P::File>
+    ensures { Accessing P.accessed places.old places.new (λ accesses. RunsImport P.File.Disk P.Tile.remaining path.now tile.now accesses (O.contents writer.old) (stream_of O.contents O.failed writer.new) result.disk result.status) }
+{
     let Ok(corner) = file_name(tile.as_bytes()) else {
         return Ended {
             status: refuse(writer, Refusal::BadName),
             disk: None,
         };
     };
-    match open_disk(rt, path) {
-        Ok(disk) => {
-            let reader = File::open(rt, tile).ok();
-            let (disk, status) = import_to_file(
-                rt.alloc(),
-                disk,
-                corner,
-                tile.as_bytes(),
-                reader,
-                writer,
-            );
-            Ended {
-                status,
-                disk: Some(disk),
-            }
+    match places.open(path) {
+        Some(disk) => {
+            let reader = places.read(tile);
+            ended_on(import_tile(alloc, disk, corner, tile.as_bytes(), reader, writer))
         }
-        Err(fault) => without_disk(rt.alloc(), path, fault, writer),
+        None => not_opened(alloc, path, writer),
     }
 }
 
 /// Serves lines on the store in a file.
-fn serve_file<R: Read, W: Write>(
-    rt: &HostRuntime,
-    place: Place<'_>,
+fn serve_file<P: Places, R: Read, O: Output>(
+    alloc: Global,
+    places: &mut P,
+    path: &str,
     reader: &mut R,
-    writer: &mut W,
-) -> Ended
-    ghost images: { ℕ → Image }
-    ensures { RunsServe images place.entry.path.now (R.remaining reader.old) (R.remaining reader.new) (W.contents writer.old) (W.contents writer.new) result.disk result.status }
+    writer: &mut O,
+) -> Ended<P::File>
+    ensures { Accessing P.accessed places.old places.new (λ accesses. RunsServe P.File.Disk P.Tile.remaining path.now accesses (R.remaining reader.old) (R.remaining reader.new) (O.contents writer.old) (stream_of O.contents O.failed writer.new) result.disk result.status) }
 {
-    let Place { path } = place;
-    match open_disk(rt, path) {
-        Ok(disk) => {
-            let (disk, status) = serve_on_file(rt.alloc(), disk, reader, writer);
-            Ended {
-                status,
-                disk: Some(disk),
-            }
-        }
-        Err(fault) => without_disk(rt.alloc(), path, fault, writer),
+    match places.open(path) {
+        Some(disk) => ended_on(serve_store(alloc, disk, reader, writer)),
+        None => not_opened(alloc, path, writer),
     }
 }
 
 /// Reports on the store in a file.
-fn check<W: Write>(rt: &HostRuntime, place: Place<'_>, writer: &mut W) -> Ended
-    ghost images: { ℕ → Image }
-    ensures { RunsCheck images place.entry.path.now (W.contents writer.old) (W.contents writer.new) result.disk result.status }
+fn check<P: Places, O: Output>(
+    alloc: Global,
+    places: &mut P,
+    path: &str,
+    writer: &mut O,
+) -> Ended<P::File>
+    ensures { Accessing P.accessed places.old places.new (λ accesses. RunsCheck P.File.Disk P.Tile.remaining path.now accesses (O.contents writer.old) (stream_of O.contents O.failed writer.new) result.disk result.status) }
 {
-    let Place { path } = place;
-    match open_disk(rt, path) {
-        Ok(disk) => {
-            let (disk, status) = check_in_file(rt.alloc(), disk, writer);
-            Ended {
-                status,
-                disk: Some(disk),
-            }
-        }
-        Err(fault) => without_disk(rt.alloc(), path, fault, writer),
+    match places.open(path) {
+        Some(disk) => ended_on(check_store(alloc, disk, writer)),
+        None => not_opened(alloc, path, writer),
     }
 }
 
 /// Makes the store in a file one of the second version. The file is made as long as that version asks, and stays open and
 /// locked from the first call to the last.
-fn upgrade<W: Write>(rt: &HostRuntime, place: Place<'_>, writer: &mut W) -> Ended
-    ghost images: { ℕ → Image }
-    ensures { RunsUpgrade images place.entry.path.now (W.contents writer.old) (W.contents writer.new) result.disk result.status }
-{
-    let Place { path } = place;
-    let disk = match open_disk(rt, path) {
-        Ok(disk) => disk,
-        Err(fault) => return without_disk(rt.alloc(), path, fault, writer),
-    };
-    let (disk, measured) = measure_in_file(rt.alloc(), disk);
-    match measured {
-        Ok(sectors) => {
-            let (disk, status) = upgrade_grown(rt.alloc(), disk, sectors, writer);
-            Ended {
-                status,
-                disk: Some(disk),
-            }
-        }
-        Err(refusal) => Ended {
-            status: refuse(writer, refusal),
-            disk: Some(disk),
-        },
-    }
-}
-
-/// Makes the file of a store as long as so many sectors, and the store in it one of the second version.
-fn upgrade_grown<W: Write>(
+fn upgrade<P: Places, O: Output>(
     alloc: Global,
-    disk: FileDisk<Brand>,
-    sectors: u32,
-    writer: &mut W,
-) -> (FileDisk<Brand>, u8)
-    ghost images: { ℕ → Image }
-    ensures { RunsGrown images sectors disk result.0 (W.contents writer.old) (W.contents writer.new) result.1 }
+    places: &mut P,
+    path: &str,
+    writer: &mut O,
+) -> Ended<P::File>
+    ensures { Accessing P.accessed places.old places.new (λ accesses. RunsUpgrade P.File.Disk P.Tile.remaining path.now accesses (O.contents writer.old) (stream_of O.contents O.failed writer.new) result.disk result.status) }
 {
-    let mut disk = disk;
-    if disk.lengthen(sectors).is_err() {
-        return (disk, refuse(writer, Refusal::Device));
+    match places.open(path) {
+        Some(disk) => ended_on(grow_and_upgrade(alloc, disk, writer)),
+        None => not_opened(alloc, path, writer),
     }
-    upgrade_in_file(alloc, disk, writer)
 }
 
-/// Tells why there is no disk at the path.
-fn without_disk<W: Write>(alloc: Global, path: &str, fault: PathFault, writer: &mut W) -> Ended
+/// What came of work on a disk.
+fn ended_on<D>(work: (D, u8)) -> Ended<D>
+    ensures status { result.status ≡ work.1 }
+    ensures disk { result.disk ≡ Some work.0 }
+{
+    let (disk, status) = work;
+    Ended {
+        status,
+        disk: Some(disk),
+    }
+}
+
+/// Tells that the store's file can't be opened.
+fn not_opened<D, O: Output>(alloc: Global, path: &str, writer: &mut O) -> Ended<D>
     ensures none { result.disk ≡ None }
-    ensures told { TellsFault path.now fault (W.contents writer.old) (W.contents writer.new) result.status }
+    ensures told { TellsFault path.now MakeFault.Closed (O.contents writer.old) (stream_of O.contents O.failed writer.new) result.status }
 {
     Ended {
-        status: tell_fault(alloc, path, fault, writer),
+        status: tell_fault(alloc, path, MakeFault::Closed, writer),
         disk: None,
+    }
+}
+
+/// Tells why there is no file of a store at the path, and answers the exit status.
+fn tell_fault<O: Output>(alloc: Global, path: &str, fault: MakeFault, writer: &mut O) -> u8
+    ensures { TellsFault path.now fault (O.contents writer.old) (stream_of O.contents O.failed writer.new) result }
+{
+    match fault {
+        MakeFault::Exists => tell(alloc, writer, b"mosaic: exists ", path.as_bytes()),
+        MakeFault::Closed => tell(alloc, writer, b"mosaic: cannot open ", path.as_bytes()),
     }
 }
 
 /// Tells that memory was refused, by the line `ERR 21 NoMemory`, and answers the exit status. It is for a program that
 /// has no room for its words.
-pub fn no_room<W: Write>(writer: &mut W) -> u8
-    ensures status { result ≡ REFUSED }
-    ensures line { Begins (W.contents writer.old) (W.contents writer.new) (refusal_text Refusal.NoMemory) }
+pub fn no_room<O: Output>(writer: &mut O) -> u8
+    ensures { TellsRefusal Refusal.NoMemory (O.contents writer.old) (stream_of O.contents O.failed writer.new) result }
 {
     refuse(writer, Refusal::NoMemory)
 }
 
 /// Serves lines on an empty mosaic held in memory, where there is one of this side and capacity.
-fn table<R: Read, W: Write>(
+fn table<R: Read, O: Output>(
     alloc: Global,
     side: u32,
     capacity: u32,
     reader: &mut R,
-    writer: &mut W,
+    writer: &mut O,
 ) -> u8
-    ensures { RunsTable side capacity (R.remaining reader.old) (R.remaining reader.new) (W.contents writer.old) (W.contents writer.new) result }
+    ensures { RunsTable side capacity (R.remaining reader.old) (R.remaining reader.new) (O.contents writer.old) (stream_of O.contents O.failed writer.new) result }
 {
     let Some(side) = Side::new(side) else {
         return refuse(writer, Refusal::BadSide);
@@ -300,15 +295,15 @@ fn table<R: Read, W: Write>(
 }
 
 /// Serves lines on an empty mosaic held in memory.
-fn serve_table<R: Read, W: Write>(
+fn serve_table<R: Read, O: Output>(
     alloc: Global,
     side: Side,
     capacity: u32,
     reader: &mut R,
-    writer: &mut W,
+    writer: &mut O,
 ) -> u8
     requires { capacity ≤ MOST_TILES }
-    ensures { EndsServing side capacity (R.remaining reader.old) (R.remaining reader.new) (W.contents writer.old) (W.contents writer.new) result }
+    ensures { EndsServing side capacity (R.remaining reader.old) (R.remaining reader.new) (O.contents writer.old) (stream_of O.contents O.failed writer.new) result }
 {
     let mut engine = TableEngine::new(alloc, side, capacity);
     let served = serve(alloc, reader, writer, &mut engine);

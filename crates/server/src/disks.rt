@@ -1,10 +1,13 @@
 //! The subcommands on the disk of a store, whatever disk it is.
-ghost use Rattle.std.specs.Prelude.{◌≡◌, IfErr, IfOk};
+ghost use Rattle.std.specs.Prelude.{◌≡◌, IfErr, IfOk, IsSome};
 ghost use Rattle.store.specs.Stores.{root_of};
 ghost use Rattle.store.specs.Upgraded.{HasUpgraded as Upgraded};
-ghost use Rattle.server.specs.OnDisks.{ChecksStore, HasMeasured, ImportsTile, IsClosed, IsTileRead, MakesStore, ServesLines, UpgradesStore, done_of, given_by};
+ghost use Rattle.server.specs.OnDisks.{ChecksStore, GrowsAndUpgrades, HasMeasured, ImportsTile, IsClosed, IsTileRead, MakesStore, RunsGrown, ServesLines, UpgradesStore, done_of, given_by};
+ghost use Rattle.server.specs.Outputs.{stream_of};
 
 use crate::endings::{end_command, end_format, end_report, end_session, refuse, tell};
+use crate::output::Output;
+use crate::places::Lengthen;
 use crate::reporting::report;
 use disk::Disk;
 use edits::{Bytes, Command};
@@ -12,7 +15,7 @@ use engine::Engine;
 use lattice::{Corner, Refusal, Side};
 use serving::serve;
 use std::alloc::Global;
-use std::io::{ErrorKind, Read, Write};
+use std::io::{ErrorKind, Read};
 use store::Store;
 
 /// Why there are no bytes of a tile.
@@ -22,8 +25,8 @@ enum TileFault {
 }
 
 /// Makes a disk a store without tiles. It hands the disk back, with the exit status.
-pub fn make_store<D: Disk, W: Write>(disk: D, side: u32, capacity: u32, writer: &mut W) -> (D, u8)
-    ensures { MakesStore D.Disk side capacity disk result.0 (W.contents writer.old) (W.contents writer.new) result.1 }
+pub fn make_store<D: Disk, O: Output>(disk: D, side: u32, capacity: u32, writer: &mut O) -> (D, u8)
+    ensures { MakesStore D.Disk side capacity disk result.0 (O.contents writer.old) (stream_of O.contents O.failed writer.new) result.1 }
 {
     let mut disk = disk;
     let formatted = Store::format(&mut disk, side, capacity);
@@ -32,15 +35,15 @@ pub fn make_store<D: Disk, W: Write>(disk: D, side: u32, capacity: u32, writer: 
 
 /// Imports the HGT bytes that the reader of the file at `tile` gives, if there is one, into the store on a disk. It hands
 /// the disk back, with the exit status.
-pub fn import_tile<D: Disk, R: Read + Drop, W: Write>(
+pub fn import_tile<D: Disk, R: Read + Drop, O: Output>(
     alloc: Global,
     disk: D,
     corner: Corner,
     tile: &[u8],
     reader: Option<R>,
-    writer: &mut W,
+    writer: &mut O,
 ) -> (D, u8)
-    ensures { ImportsTile D.Disk corner tile.now (given_by R.remaining reader) disk result.0 (W.contents writer.old) (W.contents writer.new) result.1 }
+    ensures { ImportsTile D.Disk R.remaining corner tile.now reader disk result.0 (O.contents writer.old) (stream_of O.contents O.failed writer.new) result.1 }
 {
     let mut store = match Store::open(alloc, disk) {
         Ok(store) => store,
@@ -67,7 +70,8 @@ fn read_tile<R: Read + Drop>(
     reader: Option<R>,
     side: Side,
 ) -> Result<Vec<u8>, TileFault>
-    ensures { IfOk result (λ bytes. IsTileRead side (given_by R.remaining reader) bytes.items) }
+    ensures read { IfOk result (λ bytes. IsSome reader × IsTileRead side (given_by R.remaining reader) bytes.items) }
+    ensures room { result ≡ Err TileFault.NoMemory → IsSome reader }
 {
     let Some(reader) = reader else {
         return Err(TileFault::Unreadable);
@@ -87,13 +91,13 @@ fn read_tile<R: Read + Drop>(
 ///
 /// What was told stays through a stop (a power cut): at any moment since the reply to an item it leaves the contents that
 /// the store had after it or after a later one, or the commit that was then in doubt.
-pub fn serve_store<D: Disk, R: Read, W: Write>(
+pub fn serve_store<D: Disk, R: Read, O: Output>(
     alloc: Global,
     disk: D,
     reader: &mut R,
-    writer: &mut W,
+    writer: &mut O,
 ) -> (D, u8)
-    ensures { ServesLines D.Disk disk result.0 (R.remaining reader.old) (R.remaining reader.new) (W.contents writer.old) (W.contents writer.new) result.1 }
+    ensures { ServesLines D.Disk disk result.0 (R.remaining reader.old) (R.remaining reader.new) (O.contents writer.old) (stream_of O.contents O.failed writer.new) result.1 }
 {
     let mut store = match Store::open(alloc, disk) {
         Ok(store) => store,
@@ -117,9 +121,40 @@ pub fn measure_store<D: Disk>(alloc: Global, disk: D) -> (D, Result<u32, Refusal
     }
 }
 
+/// Makes a disk as long as the second version asks of the store on it, and the store one of that version. It hands the disk
+/// back, with the exit status.
+pub fn grow_and_upgrade<D: Disk + Lengthen, O: Output>(
+    alloc: Global,
+    disk: D,
+    writer: &mut O,
+) -> (D, u8)
+    ensures { GrowsAndUpgrades D.Disk disk result.0 (O.contents writer.old) (stream_of O.contents O.failed writer.new) result.1 }
+{
+    let (disk, measured) = measure_store(alloc, disk);
+    match measured {
+        Ok(sectors) => upgrade_grown(alloc, disk, sectors, writer),
+        Err(refusal) => (disk, refuse(writer, refusal)),
+    }
+}
+
+// Makes the disk of a store as long as so many sectors, and the store on it one of the second version.
+fn upgrade_grown<D: Disk + Lengthen, O: Output>(
+    alloc: Global,
+    mut disk: D,
+    sectors: u32,
+    writer: &mut O,
+) -> (D, u8)
+    ensures { RunsGrown D.Disk sectors disk result.0 (O.contents writer.old) (stream_of O.contents O.failed writer.new) result.1 }
+{
+    if disk.lengthen(sectors).is_err() {
+        return (disk, refuse(writer, Refusal::Device));
+    }
+    upgrade_store(alloc, disk, writer)
+}
+
 /// Makes the store on a disk one of the second version. It hands the disk back, with the exit status.
-pub fn upgrade_store<D: Disk, W: Write>(alloc: Global, disk: D, writer: &mut W) -> (D, u8)
-    ensures { UpgradesStore D.Disk disk result.0 (W.contents writer.old) (W.contents writer.new) result.1 }
+pub fn upgrade_store<D: Disk, O: Output>(alloc: Global, disk: D, writer: &mut O) -> (D, u8)
+    ensures { UpgradesStore D.Disk disk result.0 (O.contents writer.old) (stream_of O.contents O.failed writer.new) result.1 }
 {
     let mut store = match Store::open(alloc, disk) {
         Ok(store) => store,
@@ -140,8 +175,8 @@ fn upgrade_counted<D: Disk>(store: &mut Store<D>) -> Result<u64, Refusal>
 
 /// Reports on the store on a disk: how many commands it accepted and commits it made, its tiles, and how many points of
 /// seams disagree. It hands the disk back, with the exit status.
-pub fn check_store<D: Disk, W: Write>(alloc: Global, disk: D, writer: &mut W) -> (D, u8)
-    ensures { ChecksStore D.Disk disk result.0 (W.contents writer.old) (W.contents writer.new) result.1 }
+pub fn check_store<D: Disk, O: Output>(alloc: Global, disk: D, writer: &mut O) -> (D, u8)
+    ensures { ChecksStore D.Disk disk result.0 (O.contents writer.old) (stream_of O.contents O.failed writer.new) result.1 }
 {
     let mut store = match Store::open(alloc, disk) {
         Ok(store) => store,

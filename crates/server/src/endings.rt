@@ -1,14 +1,15 @@
 //! How the program ends: what it writes, and its exit status.
-ghost use Rattle.std.specs.Prelude.{◌≡◌, ◌++◌, IfOk};
+ghost use Rattle.std.specs.Prelude.{◌≡◌, ◌++◌, IfOk, true};
 ghost use Rattle.calls.specs.Engines.{items_in};
-ghost use Rattle.lines.specs.Replies.{line_of, refusal_text};
-ghost use Rattle.server.specs.Endings.{Begins, EndsAnswering, EndsFlushing, EndsReplying, EndsSession, Tells, count_line, fault_line};
+ghost use Rattle.lines.specs.Replies.{line_of};
+ghost use Rattle.server.specs.Endings.{EndsAnswering, EndsReplying, EndsSession, Tells, TellsRefusal, count_line, fault_line};
+ghost use Rattle.server.specs.Outputs.{Puts, stream_of};
 
+use crate::output::Output;
 use lattice::Refusal;
-use lines::{Text, write_bytes};
+use lines::Text;
 use serving::ServeFault;
 use std::alloc::{AllocError, Global};
-use std::io::Write;
 
 /// The exit statuses: done; refused, or a stream failed; other words than the program takes.
 const DONE: u8 = 0;
@@ -18,18 +19,18 @@ pub const REFUSED: u8 = 1;
 pub const BAD_WORDS: u8 = 2;
 
 /// Ends a session, and answers the exit status.
-pub(crate) fn end_session<W: Write>(writer: &mut W, served: Result<(), ServeFault>) -> u8
-    ensures { EndsSession served (W.contents writer.old) (W.contents writer.new) result }
+pub(crate) fn end_session<O: Output>(writer: &mut O, served: Result<(), ServeFault>) -> u8
+    ensures { EndsSession served (O.contents writer.old) (stream_of O.contents O.failed writer.new) result }
 {
     match served {
-        Ok(()) => flush(writer),
+        Ok(()) => reply_text(writer, b""),
         Err(fault) => end_with(writer, fault_line(fault), REFUSED),
     }
 }
 
 /// Tells that a store was made, or why it wasn't, and answers the exit status.
-pub(crate) fn end_format<W: Write>(writer: &mut W, answer: Result<(), Refusal>) -> u8
-    ensures { EndsAnswering (λ _. count_line 0) answer (W.contents writer.old) (W.contents writer.new) result }
+pub(crate) fn end_format<O: Output>(writer: &mut O, answer: Result<(), Refusal>) -> u8
+    ensures { EndsAnswering (λ _. count_line 0) answer (O.contents writer.old) (stream_of O.contents O.failed writer.new) result }
 {
     match answer {
         Ok(()) => reply(writer, Text::number(0_u64)),
@@ -38,8 +39,8 @@ pub(crate) fn end_format<W: Write>(writer: &mut W, answer: Result<(), Refusal>) 
 }
 
 /// Tells how many commands were accepted, or a refusal, and answers the exit status.
-pub(crate) fn end_command<W: Write>(writer: &mut W, answer: Result<u64, Refusal>) -> u8
-    ensures { EndsAnswering count_line answer (W.contents writer.old) (W.contents writer.new) result }
+pub(crate) fn end_command<O: Output>(writer: &mut O, answer: Result<u64, Refusal>) -> u8
+    ensures { EndsAnswering count_line answer (O.contents writer.old) (stream_of O.contents O.failed writer.new) result }
 {
     match answer {
         Ok(count) => reply(writer, Text::number(count)),
@@ -48,8 +49,8 @@ pub(crate) fn end_command<W: Write>(writer: &mut W, answer: Result<u64, Refusal>
 }
 
 /// Tells a report, or why there is none, and answers the exit status.
-pub(crate) fn end_report<W: Write>(writer: &mut W, answer: Result<Vec<u8>, Refusal>) -> u8
-    ensures { EndsAnswering (λ text. text) (items_in answer) (W.contents writer.old) (W.contents writer.new) result }
+pub(crate) fn end_report<O: Output>(writer: &mut O, answer: Result<Vec<u8>, Refusal>) -> u8
+    ensures { EndsAnswering (λ text. text) (items_in answer) (O.contents writer.old) (stream_of O.contents O.failed writer.new) result }
 {
     match answer {
         Ok(text) => reply_text(writer, text.as_slice()),
@@ -58,33 +59,25 @@ pub(crate) fn end_report<W: Write>(writer: &mut W, answer: Result<Vec<u8>, Refus
 }
 
 /// Writes a reply, and answers the exit status.
-pub(crate) fn reply<W: Write>(writer: &mut W, reply: Text) -> u8
-    ensures { EndsReplying reply (W.contents writer.old) (W.contents writer.new) result }
+pub(crate) fn reply<O: Output>(writer: &mut O, reply: Text) -> u8
+    ensures { EndsReplying reply (O.contents writer.old) (stream_of O.contents O.failed writer.new) result }
 {
-    match reply.write(writer) {
-        Ok(()) => flush(writer),
-        Err(_) => end_with(writer, fault_line(ServeFault::Output), REFUSED),
+    writer.put_reply(&reply);
+    if writer.has_failed() {
+        return end_with(writer, fault_line(ServeFault::Output), REFUSED);
     }
+    DONE
 }
 
-/// Writes a reply of several lines, and answers the exit status.
-pub(crate) fn reply_text<W: Write>(writer: &mut W, text: &[u8]) -> u8
-    ensures { EndsReplying text.now (W.contents writer.old) (W.contents writer.new) result }
+/// Writes a reply of any number of lines, and answers the exit status.
+pub(crate) fn reply_text<O: Output>(writer: &mut O, text: &[u8]) -> u8
+    ensures { EndsReplying text.now (O.contents writer.old) (stream_of O.contents O.failed writer.new) result }
 {
-    match write_bytes(writer, text) {
-        Ok(()) => flush(writer),
-        Err(_) => end_with(writer, fault_line(ServeFault::Output), REFUSED),
+    writer.put(text);
+    if writer.has_failed() {
+        return end_with(writer, fault_line(ServeFault::Output), REFUSED);
     }
-}
-
-/// Whether all has left, as an exit status.
-pub(crate) fn flush<W: Write>(writer: &mut W) -> u8
-    ensures { EndsFlushing (W.contents writer.old) (W.contents writer.new) result }
-{
-    match writer.flush() {
-        Ok(()) => DONE,
-        Err(_) => end_with(writer, fault_line(ServeFault::Output), REFUSED),
-    }
+    DONE
 }
 
 /// The line that tells which stream failed.
@@ -98,29 +91,26 @@ pub(crate) fn fault_line(fault: ServeFault) -> &'static [u8]
 }
 
 /// Tells of a refusal, and answers the exit status.
-pub(crate) fn refuse<W: Write>(writer: &mut W, refusal: Refusal) -> u8
-    ensures status { result ≡ REFUSED }
-    ensures line { Begins (W.contents writer.old) (W.contents writer.new) (refusal_text refusal) }
+pub(crate) fn refuse<O: Output>(writer: &mut O, refusal: Refusal) -> u8
+    ensures { TellsRefusal refusal (O.contents writer.old) (stream_of O.contents O.failed writer.new) result }
 {
-    // The status tells of the refusal where the line doesn't come through.
-    let _ = Text::refused(refusal).write(writer);
-    let _ = writer.flush();
+    writer.put_reply(&Text::refused(refusal));
     REFUSED
 }
 
-/// Ends with a line of the program's own, which is tried once.
-pub(crate) fn end_with<W: Write>(writer: &mut W, line: &[u8], status: u8) -> u8
+/// Ends with a line of the program's own.
+pub(crate) fn end_with<O: Output>(writer: &mut O, line: &[u8], status: u8) -> u8
     ensures status { result ≡ status }
-    ensures line { Begins (W.contents writer.old) (W.contents writer.new) line.now }
+    ensures line { Puts (O.contents writer.old) (stream_of O.contents O.failed writer.new) line.now }
+    ensures stays { O.failed writer.old ≡ true → O.failed writer.new ≡ true }
 {
-    let _ = write_bytes(writer, line);
-    let _ = writer.flush();
+    writer.put(line);
     status
 }
 
 /// Tells in one line what is wrong, and with what, and answers the exit status.
-pub(crate) fn tell<W: Write>(alloc: Global, writer: &mut W, words: &[u8], about: &[u8]) -> u8
-    ensures { Tells (words.now ++ about.now) (W.contents writer.old) (W.contents writer.new) result }
+pub(crate) fn tell<O: Output>(alloc: Global, writer: &mut O, words: &[u8], about: &[u8]) -> u8
+    ensures { Tells (words.now ++ about.now) (O.contents writer.old) (stream_of O.contents O.failed writer.new) result }
 {
     match line_about(alloc, words, about) {
         Ok(line) => end_with(writer, line.as_slice(), REFUSED),

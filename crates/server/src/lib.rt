@@ -8,15 +8,20 @@ mod disks;
 mod endings;
 mod files;
 mod following;
+mod output;
+mod places;
 mod reporting;
 
 pub use commands::{Ended, carry_out, no_room, program};
-pub use disks::{check_store, import_tile, make_store, measure_store, serve_store, upgrade_store};
-pub use engine::Engine;
-pub use files::{
-    check_in_file, import_to_file, make_in_file, measure_in_file, serve_on_file, upgrade_in_file,
+pub use disks::{
+    check_store, grow_and_upgrade, import_tile, make_store, measure_store, serve_store,
+    upgrade_store,
 };
-pub use following::{longer_disks_hold, sessions_follow};
+pub use engine::Engine;
+pub use files::FilePlaces;
+pub use following::{longer_disks_hold, serving_is_a_session, sessions_follow};
+pub use output::{CheckedWriter, Output};
+pub use places::{Lengthen, MakeFault, Places};
 pub use reporting::report;
 pub use serving::{ServeFault, serve};
 pub use table_engine::TableEngine;

@@ -1,4 +1,4 @@
 use Rattle.server.proofs.commands.program.Goals as goal
 
 pub returns : goal.returns
-returns g c = (c.carry_out.result.disk, c.carry_out.ensures)
+returns g c = (c.on_files.result.disk, c.on_files.ensures)

@@ -1,4 +1,4 @@
 use Rattle.server.proofs.commands.program.Given as goal
 
-abbrev pub ghost-carry_out : goal.ghost-carry_out
-ghost-carry_out g a = g.images
+abbrev pub ghosts-on_files : goal.ghosts-on_files
+ghosts-on_files g a = record { image = g.images }

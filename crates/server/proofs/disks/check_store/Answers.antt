@@ -14,7 +14,7 @@ returns-in-Err g c =
         reason = c.in-Err.ensures.refused;
         sure = c.in-Err.ensures.sure;
       },
-      (c.refuse.ensures.line, c.refuse.ensures.status),
+      c.refuse.ensures,
     )
 
 pub returns : goal.returns

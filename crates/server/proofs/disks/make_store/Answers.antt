@@ -1,10 +1,10 @@
-use Rattle.std.proofs.Common.{◌≡◌, ◌⊎◌, inl, inr, ⊎_elim, ℕ, ◌≤◌, Result, Ok, Err, IfErr, arith, ap}
+use Rattle.std.proofs.Common.{◌≡◌, ◌⊎◌, ⊎_elim, ℕ, ◌≤◌, Result, Ok, Err, IfErr, arith, ap}
 use Rattle.std.specs.Prelude.{◌<◌, ◌↔◌}
 use Rattle.lattice.specs.Limits.{largest_side, most_tiles}
 use Rattle.lattice.specs.declared.refusal.Refusal.{Refusal}
 use Rattle.lattice.specs.declared.refusal.Refusal.TheVariants.{Device, BadSide, BadCapacity, TooSmall}
 use Rattle.server.specs.OnDisks.{HasFormatted}
-use Rattle.server.specs.Paths.{IsTaken}
+use Rattle.server.specs.Sizes.{IsTaken}
 use Rattle.server.proofs.disks.make_store.Goals as goal
 
 sure_of : (result : Result (Unit {0}) Refusal) (side capacity asked size : ℕ)

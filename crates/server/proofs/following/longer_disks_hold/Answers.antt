@@ -1,4 +1,4 @@
-use Rattle.std.proofs.Common.{arith, ℕ, ◌≤◌}
+use Rattle.std.proofs.Common.{arith}
 use Rattle.server.proofs.following.longer_disks_hold.Goals as goal
 
 pub returns : goal.returns

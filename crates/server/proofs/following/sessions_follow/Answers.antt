@@ -1,12 +1,11 @@
-use Rattle.std.proofs.Common.{◌≡◌, ◌⊎◌, inl, inr, ⊎_elim, ℕ, List, ◌∷◌, refl, sym, subst}
-use Rattle.std.specs.Prelude.{Contains, Some}
+use Rattle.std.proofs.Common.{◌≡◌, ◌⊎◌, inl, inr, ⊎_elim, ℕ, refl, sym, subst}
+use Rattle.std.specs.Prelude.{Some}
 use Rattle.disk.specs.Disk.{Image, Only}
 use Rattle.disk.specs.declared.disk.Disk.{Ghosts}
-use Rattle.calls.specs.State.{Contents, State, working}
+use Rattle.calls.specs.State.{Contents, State}
 use Rattle.store.specs.Standing.{StandsFor}
 use Rattle.store.specs.States.{StandsForState}
-use Rattle.server.specs.OnDisks.{HoldsEither, GoesFrom}
-use Rattle.server.specs.Following.{MayBeLeft}
+use Rattle.server.specs.OnDisks.{HoldsEither}
 use Rattle.server.proofs.following.sessions_follow.Goals as goal
 
 holds_it : {E : Type 0} (h : Ghosts E) (next : E) (n side capacity : ℕ) (c : Contents) (left : Image) → h.size next ≡ n → Only left (h.may next) → StandsFor n side capacity left c

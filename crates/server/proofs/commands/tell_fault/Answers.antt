@@ -1,0 +1,16 @@
+use Rattle.std.proofs.Common.{ℕ, List, ◌++◌, codes, subst}
+use Rattle.server.specs.Endings.{Tells}
+use Rattle.server.specs.Outputs.{stream_of}
+use Rattle.server.proofs.commands.tell_fault.Goals as goal
+
+pub returns-in-Exists : goal.returns-in-Exists
+returns-in-Exists g c =
+    let told = subst (λ (about : List ℕ). Tells (codes "mosaic: exists " ++ about) (g.O.Write.contents c.args.writer.now) (stream_of g.O.Write.contents g.O.Output.failed c.tell.new.writer) c.tell.result)
+    c.as_bytes.ensures.value c.tell.ensures in
+    rw c.in-Exists.is told
+
+pub returns-in-Closed : goal.returns-in-Closed
+returns-in-Closed g c =
+    let told = subst (λ (about : List ℕ). Tells (codes "mosaic: cannot open " ++ about) (g.O.Write.contents c.args.writer.now) (stream_of g.O.Write.contents g.O.Output.failed c.tell-in-Closed.new.writer) c.tell-in-Closed.result)
+    c.as_bytes-in-Closed.ensures.value c.tell-in-Closed.ensures in
+    rw c.in-Closed.is told

@@ -1,0 +1,13 @@
+use Rattle.std.proofs.Common.{[], ◌∷◌, None, Some, inl, inr, refl}
+use Rattle.server.specs.Places.{Opens}
+use Rattle.server.proofs.commands.upgrade.Goals as goal
+
+pub returns-in-Some : goal.returns-in-Some
+returns-in-Some g c = (
+  Opens c.args.path.now (Some c.in-Some.disk) ∷ [],
+  (c.open.new.self, c.in-Some.ensures, refl),
+  inr (c.in-Some.disk, c.grow_and_upgrade.result.0, refl, c.ended_on.ensures.disk, rw c.ended_on.ensures.status c.grow_and_upgrade.ensures),
+)
+
+pub returns-in-None : goal.returns-in-None
+returns-in-None g c = (Opens c.args.path.now None ∷ [], (c.open.new.self, c.in-None.ensures, refl), inl (refl, c.not_opened.ensures.none, c.not_opened.ensures.told))

@@ -1,0 +1,10 @@
+use Rattle.server.proofs.Longer.{has_grown, has_not_grown}
+use Rattle.server.proofs.files.FileDiskLengthen.lengthen.Goals as goal
+
+pub returns-clause-grown : goal.returns-clause-grown
+returns-clause-grown g c =
+    has_grown g.V.World.image c.args.self.now c.lengthen.new.self c.lengthen.ensures.calls c.lengthen.ensures.writes c.args.sectors c.lengthen.result c.lengthen.ensures.sectors c.lengthen.ensures.failures
+
+pub returns-clause-as_before : goal.returns-clause-as_before
+returns-clause-as_before g c =
+    has_not_grown g.V.World.image c.args.self.now c.lengthen.new.self c.lengthen.ensures.calls c.lengthen.ensures.writes c.lengthen.result c.lengthen.ensures.as_before c.lengthen.ensures.failures

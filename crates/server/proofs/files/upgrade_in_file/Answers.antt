@@ -1,4 +1,0 @@
-use Rattle.server.proofs.files.upgrade_in_file.Goals as goal
-
-pub returns : goal.returns
-returns g c = c.upgrade_in_world.ensures

@@ -1,0 +1,19 @@
+-- What was written to an output (this product's own profile).
+use Rattle.std.specs.Prelude.{◌≡◌, ◌⊎◌, ℕ, List, take, Option, Bool, true}
+use Rattle.std.specs.Io.KnownBytes.{Appends}
+
+-- the bytes, where they are known, and whether a write or a flush has failed
+pub record Stream : Type 0 where
+  pub contents : Option (List ℕ)
+  pub failed : Bool
+
+abbrev pub stream_of : {O : Type 0} → (O → Option (List ℕ)) → (O → Bool) → O → Stream
+stream_of contents failed output = record { contents = contents output; failed = failed output }
+
+-- a beginning of the text was written
+abbrev pub Begins : Option (List ℕ) → Option (List ℕ) → List ℕ → Type 0
+Begins written new text = (n : ℕ) × Appends written new (take n text)
+
+-- the text was written whole; or a write or a flush has failed, and a beginning of it was written
+abbrev pub Puts : Option (List ℕ) → Stream → List ℕ → Type 0
+Puts written new text = Appends written new.contents text ⊎ (Begins written new.contents text × (new.failed ≡ true))

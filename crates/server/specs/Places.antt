@@ -1,0 +1,39 @@
+-- What is asked of places, and what they give (this product's own profile).
+use Rattle.std.specs.Prelude.{◌≡◌, ℕ, max, List, [], ◌∷◌, Option, Result}
+use Rattle.disk.specs.Disk.{counted}
+use Rattle.disk.specs.Stops.{AddsNothing}
+use Rattle.disk.specs.declared.disk.Disk.{Ghosts}
+use Rattle.server.specs.declared.places.MakeFault.{MakeFault}
+
+-- One access, with what it gave: a path was asked for a new file of so many sectors, for a store's file, or for a tile's.
+pub data Access (D T : Type 0) : Type 0 where
+  Makes : (path : List ℕ) → (sectors : ℕ) → Result D MakeFault → Access D T
+  Opens : (path : List ℕ) → Option D → Access D T
+  Reads : (path : List ℕ) → Option T → Access D T
+
+module _ {P D T : Type 0} (accessed : P → Access D T → P → Type 0) where
+  -- these accesses were made in this order, and no others
+  abbrev pub Accesses : P → List (Access D T) → P → Type 0
+  Accesses old [] new = new ≡ old
+  Accesses old (access ∷ more) new = (mid : P) × accessed old access mid × Accesses mid more new
+
+  -- these were made, whichever they are, and with them this was done
+  abbrev pub Accessing : P → P → (List (Access D T) → Type 0) → Type 0
+  Accessing old new Does = (accesses : List (Access D T)) × Accesses old accesses new × Does accesses
+
+module _ {D : Type 0} (g : Ghosts D) where
+  -- a disk was made as long as was wanted, where it was shorter, and holds what it held
+  pub record HasGrown (wanted : ℕ) (old new : D) : Type 0 where
+    pub size : g.size new ≡ max (g.size old) wanted
+    pub failures : g.failures new ≡ g.failures old
+    pub writes : g.writes new ≡ g.writes old
+    pub seen : g.honest new → g.seen new ≡ g.seen old
+    pub nothing : g.honest new → AddsNothing g old new
+
+  -- a call that was to make it longer failed, and it is as long as it was
+  pub record HasNotGrown (old new : D) : Type 0 where
+    pub size : g.size new ≡ g.size old
+    pub failures : g.failures new ≡ counted (g.failures old)
+    pub writes : g.writes new ≡ g.writes old
+    pub seen : g.honest new → g.seen new ≡ g.seen old
+    pub nothing : g.honest new → AddsNothing g old new

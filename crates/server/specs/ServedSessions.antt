@@ -1,0 +1,35 @@
+-- Serving lines as a session of a store (this product's own profile).
+use Rattle.std.specs.Prelude.{◌≡◌, ℕ, List, [], ◌∷◌, ◌++◌, Option, Result}
+use Rattle.disk.specs.declared.disk.Disk.{Ghosts}
+use Rattle.calls.specs.Runs.{last_of}
+use Rattle.calls.specs.declared.event.Event.{Event}
+use Rattle.calls.specs.declared.event.Reply.{Reply}
+use Rattle.serving.specs.Answers.{Replied}
+use Rattle.serving.specs.Served.{Outcome}
+use Rattle.serving.specs.declared.session.ServeFault.{ServeFault}
+use Rattle.store.specs.Sessions.{Asked, Made, Ended, IsSession, last_store}
+use Rattle.store.specs.Stores.{disk_of, side_of}
+use Rattle.store.specs.declared.store.Store.{Store}
+use Rattle.server.specs.OnDisks.{HasServed}
+
+module _ {D : Type 0} (g : Ghosts D) where
+  -- one call more was made: of this event, answered so
+  abbrev pub GoesOnBy : List (Made g) → Event → Reply → List (Made g) → Type 0
+  GoesOnBy calls event answer more = (made : Made g) × (made.call ≡ Asked event answer) × (more ≡ calls ++ made ∷ [])
+
+  -- The disk was opened, calls were made, and the session ended. The replies are those to the items that were read: an item
+  -- that comes to an event is one call more, whose answer its reply tells, and each other item is none.
+  pub record IsServedSession (old new : D) (before after written now : Option (List ℕ)) (result : Result (Unit {0}) ServeFault) : Type 0 where
+    pub store : Store D g
+    pub calls : List (Made g)
+    pub session : IsSession g (Ended old store calls)
+    pub left : disk_of (last_store g store calls) ≡ new
+    -- the calls so far, after each item
+    pub through : List (List (Made g))
+    pub replies : Outcome (Replied GoesOnBy (λ so_far. side_of (last_store g store so_far))) before after written now [] through result
+    pub all : last_of [] through ≡ calls
+
+-- what serving lines does to a disk is a session of a store
+abbrev pub ServingIsASession : {D : Type 0} → Ghosts D → Type 0
+ServingIsASession g = (old new : _) (before after written now : Option (List ℕ)) (result : Result (Unit {0}) ServeFault)
+    → HasServed g old new before after written now result → IsServedSession g old new before after written now result
