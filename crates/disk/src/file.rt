@@ -5,7 +5,7 @@ ghost use Rattle.disk.specs.FileCalls.{read, written, synced};
 ghost use Rattle.disk.specs.FileMembers.{seen_left, now_left, only_left};
 
 use crate::recorded_file::{RecordedFile, SECTOR_BYTES};
-use crate::system_cache::drop_cached_pages;
+use crate::system_cache::SystemCache;
 use crate::{Disk, Fault, World};
 use std::fs::{self, File, Metadata, OpenOptions};
 use std::io::{self, ErrorKind};
@@ -30,7 +30,7 @@ pub struct FileDisk<W> {
 }
 
 impl<W: World> FileDisk<W> {
-    ghost use Rattle.disk.specs.FileDisk.{calls_of, sectors_of, failures_of, writes_of};
+    ghost use Rattle.disk.specs.FileDisk.{calls_of, recorded, sectors_of, failures_of, writes_of};
 
     /// Makes a file of so many sectors of zeros, all of them settled.
     ///
@@ -50,15 +50,17 @@ impl<W: World> FileDisk<W> {
         let file = lock(file)?;
         file.set_len(u64::from(sectors) * SECTOR_BYTES)?;
         sync_folder(rt, path)?;
-        FileDisk::over(file, sectors)
+        let file = RecordedFile::settled(file, SystemCache::at(rt, path))?;
+        Ok(FileDisk::over(file, sectors))
     }
 
     /// Opens a regular file, and syncs it. Its sectors are its length divided by 4096, rounded down, at most 4,294,967,295;
     /// the bytes after the last of them are neither read nor written. What is no regular file is refused as
     /// `ErrorKind::InvalidInput`, and a file that is open as a disk already as `ErrorKind::WouldBlock`.
     ///
-    /// Where its sync fails, some systems call written what the drive never took. Then the system is asked to let go of the
-    /// file, so that the next opening reads what the drive has.
+    /// Where a sync failed before, of whatever process, some systems call written what the drive never took. So the system
+    /// is asked to let go of the file, and what is read first is what the drive has. For that an empty file `PATH-wal` lies
+    /// beside it for a moment.
     pub fn open(rt: &HostRuntime, path: &str) -> io::Result<FileDisk<W>>
         ensures calls { IfOk result (λ disk. calls_of disk ≡ []) }
         ensures failures { IfOk result (λ disk. failures_of disk ≡ 0) }
@@ -66,13 +68,8 @@ impl<W: World> FileDisk<W> {
     {
         let file = open_locked(rt, path)?;
         let sectors = whole_sectors(file.metadata()?.len());
-        // The lock is held until the system has let go of the file.
-        let _locked = file.try_clone()?;
-        let opened = FileDisk::over(file, sectors);
-        if opened.is_err() {
-            drop_cached_pages(rt, path);
-        }
-        opened
+        let file = RecordedFile::reread(file, SystemCache::at(rt, path))?;
+        Ok(FileDisk::over(file, sectors))
     }
 
     /// Opens a file as [`FileDisk::open`] does, and makes it longer where it has fewer sectors than so many. Where that
@@ -110,19 +107,19 @@ impl<W: World> FileDisk<W> {
         Ok(())
     }
 
-    fn over(file: File, sectors: u32) -> io::Result<FileDisk<W>>
-        ensures calls { IfOk result (λ disk. calls_of disk ≡ []) }
-        ensures sectors { IfOk result (λ disk. sectors_of disk ≡ sectors) }
-        ensures failures { IfOk result (λ disk. failures_of disk ≡ 0) }
-        ensures writes { IfOk result (λ disk. writes_of disk ≡ 0) }
+    fn over(file: RecordedFile, sectors: u32) -> FileDisk<W>
+        ensures calls { calls_of result ≡ recorded file }
+        ensures sectors { sectors_of result ≡ sectors }
+        ensures failures { failures_of result ≡ 0 }
+        ensures writes { writes_of result ≡ 0 }
     {
-        Ok(FileDisk {
-            file: RecordedFile::settled(file)?,
+        FileDisk {
+            file,
             count: sectors,
             failures: 0,
             writes: 0,
             world: PhantomData,
-        })
+        }
     }
 
     // Counts a call that failed.

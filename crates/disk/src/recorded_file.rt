@@ -3,9 +3,10 @@ ghost use Rattle.std.specs.Prelude.{◌≡◌, ◌*◌, [], ◌∷◌, IfOk, is_
 ghost use Rattle.disk.specs.FileCalls.{read, written, synced};
 ghost use Rattle.disk.specs.FileDisk.{recorded};
 
+use crate::system_cache::{SystemCache, is_fault};
 use crate::transcript::{FileCall, Transcript};
 use std::fs::File;
-use std::io;
+use std::io::{self, ErrorKind};
 use std::os::unix::fs::FileExt;
 
 pub(crate) const SECTOR_BYTES: u64 = 4096;
@@ -13,8 +14,11 @@ pub(crate) const SECTOR_BYTES: u64 = 4096;
 #[derive(Drop)]
 pub(crate) struct RecordedFile {
     file: File,
+    cache: SystemCache,
     transcript: Transcript,
     unsynced: Unsynced,
+    // A sync has failed, and the system hasn't let go of the file since.
+    doubted: bool,
 }
 
 // Which sectors were written since the last sync that answered Ok.
@@ -36,17 +40,40 @@ impl Unsynced {
 }
 
 impl RecordedFile {
-    // Syncs the file, so that what reads give at first is settled. This sync comes before the record begins: that it does
-    // what it says is trusted.
-    pub(crate) fn settled(file: File) -> io::Result<RecordedFile>
+    // Over a file that was made. It is synced, so that what reads give at first is settled. This sync comes before the record
+    // begins: that it does what it says is trusted.
+    pub(crate) fn settled(file: File, cache: SystemCache) -> io::Result<RecordedFile>
         ensures { IfOk result (λ settled. recorded settled ≡ []) }
     {
         file.sync_all()?;
-        Ok(RecordedFile {
+        Ok(RecordedFile::over(file, cache))
+    }
+
+    // Over a file that was there. It is synced, and then the system lets go of it, whatever came of the sync: an earlier one
+    // may have failed, of this process or another, and have left in memory what the drive never took. Where the system can't
+    // be asked the file is opened all the same, unless the drive failed a call.
+    pub(crate) fn reread(file: File, cache: SystemCache) -> io::Result<RecordedFile>
+        ensures { IfOk result (λ reread. recorded reread ≡ []) }
+    {
+        let synced = file.sync_all();
+        let asked = cache.forget(&file);
+        synced?;
+        match asked {
+            Err(error) if is_fault(&error) => Err(error),
+            _ => Ok(RecordedFile::over(file, cache)),
+        }
+    }
+
+    fn over(file: File, cache: SystemCache) -> RecordedFile
+        ensures { recorded result ≡ [] }
+    {
+        RecordedFile {
             file,
+            cache,
             transcript: Transcript::new(),
             unsynced: Unsynced::None,
-        })
+            doubted: false,
+        }
     }
 
     // Cuts the file to its whole sectors, then makes it longer by sectors of zeros, and syncs it. The record has no entry
@@ -54,7 +81,11 @@ impl RecordedFile {
     pub(crate) fn lengthen(&mut self, from: u32, to: u32) -> io::Result<()>
         ensures { recorded self.new ≡ recorded self.old }
     {
-        set_sectors(&self.file, from, to)
+        let answer = set_sectors(&self.file, from, to);
+        if answer.is_err() {
+            self.doubted = true;
+        }
+        answer
     }
 
     pub(crate) fn read_sector(&mut self, s: u32, into: &mut [u8; 4096]) -> io::Result<()>
@@ -81,20 +112,31 @@ impl RecordedFile {
     pub(crate) fn sync(&mut self) -> io::Result<()>
         ensures { recorded self.new ≡ synced (is_ok result) ∷ recorded self.old }
     {
-        let answer = self.file.sync_data();
+        let answer = self.settle();
         self.transcript = self.transcript.and(&FileCall::Synced(answer.is_ok()));
-        match answer {
-            Ok(()) => self.unsynced = Unsynced::None,
-            Err(_) => self.write_again(),
-        }
         answer
+    }
+
+    // Syncs the file, and where that fails has the system let go of it. Where the system can't be asked, the next sync asks
+    // again, and fails whatever comes of that: reads of what is unsettled may give other bytes from then on.
+    fn settle(&mut self) -> io::Result<()>
+        ensures { recorded self.new ≡ recorded self.old }
+    {
+        let answer = self.file.sync_data();
+        if answer.is_ok() && !self.doubted {
+            self.unsynced = Unsynced::None;
+            return Ok(());
+        }
+        self.write_again();
+        self.doubted = self.cache.forget(&self.file).is_err();
+        answer.and(Err(io::Error::from(ErrorKind::Other)))
     }
 
     // After a sync that failed, some systems call the bytes written that the drive never took, and the next sync answers Ok
     // without a write. So a sector that was written alone since the last good sync, as a gate is, is written once more with
-    // the bytes that the system holds: the next sync, of whatever process, then has to put it on the drive. The sector is
-    // unsettled all the while, so this call adds nothing that a stop may leave, and the record needs no entry. Where it
-    // fails, too, nothing more can be done.
+    // the bytes that the system holds: the next sync, of whatever process, then has to put it on the drive. That helps where
+    // the system can't be asked to let go of the file. The sector is unsettled all the while, so this call adds nothing that
+    // a stop may leave, and the record needs no entry.
     fn write_again(&self) {
         let Unsynced::One(s) = self.unsynced else {
             return;
