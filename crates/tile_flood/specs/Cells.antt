@@ -1,20 +1,35 @@
--- The points of a block in a flood, in one array: of each its label and its level, or its height as long as it has no label.
-use Rattle.std.specs.Prelude.{◌≡◌, ℕ, ◌<◌, ℤ, List, map, length, slice_index_or, nat_eq, if◌then◌else◌}
+-- The points of a block in a flood, in one array: of each its label and its level, or its height as long as it has none.
+use Rattle.std.specs.Prelude.{◌≡◌, ◌≢◌, ℕ, ◌<◌, ℤ, IsTrue, false, List, map, length, slice_index_or, nat_eq, if◌then◌else◌}
 use Rattle.lattice.specs.Mosaic.{void}
 use Rattle.tile_flood.specs.declared.cells.Cell.{Cell}
 use Rattle.tile_flood.specs.Labelling.{NO_LABEL}
+use Rattle.tile_flood.specs.Flooding.{is_marked}
 
--- the level of the point, void where it has no label
+-- the label of a ground point that has none yet
+abbrev pub OPEN : ℕ
+OPEN = 0xFFFD
+
+-- the level and the label of the point, those of a void where it has none yet
 abbrev pub level_of : Cell → ℤ
-level_of cell = if nat_eq cell.label NO_LABEL then void else cell.level
+level_of cell = if nat_eq cell.label OPEN then void else cell.level
+
+abbrev pub label_of : Cell → ℕ
+label_of cell = if nat_eq cell.label OPEN then NO_LABEL else cell.label
 
 abbrev pub levels_of : List Cell → List ℤ
 levels_of cells = map level_of cells
 
 abbrev pub labels_of : List Cell → List ℕ
-labels_of cells = map (λ cell. cell.label) cells
+labels_of cells = map label_of cells
 
--- points of these heights: those without a label have them
+-- points of these heights: open ones have theirs, which isn't void, and where there is no label there is no height
 pub record AreCells (heights : List ℤ) (cells : List Cell) : Type 0 where
   pub whole : length cells ≡ length heights
-  pub height : (e : ℕ) (d : Cell) → e < length cells → (slice_index_or cells e d).label ≡ NO_LABEL → (slice_index_or cells e d).level ≡ slice_index_or heights e void
+  pub ground : (e : ℕ) (d : Cell) → e < length cells → (slice_index_or cells e d).label ≡ OPEN → ((slice_index_or cells e d).level ≡ slice_index_or heights e void) × (slice_index_or heights e void ≢ void)
+  pub gaps : (e : ℕ) (d : Cell) → e < length cells → (slice_index_or cells e d).label ≡ NO_LABEL → slice_index_or heights e void ≡ void
+
+-- the cell of the point e before a flood
+pub record IsFresh (heights : List ℤ) (e : ℕ) (cell : Cell) : Type 0 where
+  pub level : cell.level ≡ slice_index_or heights e void
+  pub ground : IsTrue (is_marked heights e) → cell.label ≡ OPEN
+  pub gap : is_marked heights e ≡ false → cell.label ≡ NO_LABEL

@@ -1,15 +1,19 @@
 //! What a flood knows of the points of a block, in one array: what is read and written of a point lies in one place.
-ghost use Rattle.std.specs.Prelude.{◌≡◌, ◌≢◌, ◌+◌, ◌<◌, ℕ, ℤ, List, IfOk, OnOk, length, slice_set, slice_index};
+ghost use Rattle.std.specs.Prelude.{◌≡◌, ◌≢◌, ◌+◌, ◌<◌, ℕ, ℤ, List, IfOk, OnOk, length, slice_set, slice_index, slice_index_or};
+ghost use Rattle.lattice.specs.Mosaic.{void};
 ghost use Rattle.tile_flood.specs.Labelling.{NO_LABEL as no_label};
 ghost use Rattle.tile_flood.specs.Waiting.{HasBucket, waiting, IsJoined};
-ghost use Rattle.tile_flood.specs.Cells.{levels_of, labels_of, AreCells};
+ghost use Rattle.tile_flood.specs.Cells.{OPEN as open_label, levels_of, labels_of, AreCells};
 
 use crate::labelled::NO_LABEL;
 use crate::queue::Queue;
-use crate::values::at;
+use crate::values::{at, has_level};
 use std::alloc::{AllocError, Global};
 
-/// The label of a point and its level, or its height as long as it has no label.
+// The label of a ground point that has none yet.
+const OPEN: u16 = 0xFFFD;
+
+/// The label of a point and its level. As long as a ground point has no label, it is open, and has its height there.
 #[derive(Clone, Copy)]
 pub(crate) struct Cell {
     pub(crate) level: i16,
@@ -19,7 +23,8 @@ pub(crate) struct Cell {
 // The points of a block of these heights, none with a label yet.
 pub(crate) fn unlabelled(alloc: Global, heights: &[i16]) -> Result<Vec<Cell>, AllocError>
     ensures cells { IfOk result (λ cells. AreCells heights.now cells.items) }
-    ensures unlabelled { IfOk result (λ cells. (e : ℕ) → e < length heights.now → slice_index (labels_of cells.items) e ≡ no_label) }
+    ensures no_level { IfOk result (λ cells. (e : ℕ) → slice_index_or (levels_of cells.items) e void ≡ void) }
+    ensures no_label { IfOk result (λ cells. (e : ℕ) → e < length heights.now → slice_index (labels_of cells.items) e ≡ no_label) }
 {
     let none = Cell {
         level: i16::MIN,
@@ -27,10 +32,7 @@ pub(crate) fn unlabelled(alloc: Global, heights: &[i16]) -> Result<Vec<Cell>, Al
     };
     let mut cells = vec![in alloc; none; heights.len()]?;
     for e in 0..heights.len() {
-        cells[e] = Cell {
-            level: at(heights, e),
-            label: NO_LABEL,
-        };
+        cells[e] = fresh_cell(heights, e);
     }
     Ok(cells)
 }
@@ -52,7 +54,7 @@ pub(crate) fn labels_in(alloc: Global, cells: &[Cell]) -> Result<Vec<u16>, Alloc
 {
     let mut labels = vec![in alloc; NO_LABEL; cells.len()]?;
     for e in 0..cells.len() {
-        labels[e] = cell_at(cells, e).label;
+        labels[e] = label_in(cell_at(cells, e));
     }
     Ok(labels)
 }
@@ -69,7 +71,7 @@ pub(crate) fn mark(
     requires small { e < 4294967296 }
     requires inside { e < length cells.old }
     requires bucket { HasBucket queue.old level }
-    requires labelled { label ≢ no_label }
+    requires labelled { (label ≢ no_label) × (label ≢ open_label) }
     ensures levels { OnOk result (levels_of cells.new ≡ slice_set (levels_of cells.old) e level) }
     ensures labels { OnOk result (labels_of cells.new ≡ slice_set (labels_of cells.old) e label) }
     ensures cells { OnOk result ((heights : List ℤ) → AreCells heights cells.old → AreCells heights cells.new) }
@@ -81,10 +83,9 @@ pub(crate) fn mark(
     Ok(())
 }
 
-ghost use Rattle.std.specs.Prelude.{nat_eq, not, ◌&&◌, slice_index_or};
-ghost use Rattle.std.specs.Ordering.{int_eq};
-ghost use Rattle.lattice.specs.Mosaic.{void};
-ghost use Rattle.tile_flood.specs.Cells.{level_of};
+ghost use Rattle.std.specs.Prelude.{nat_eq, false, IsTrue};
+ghost use Rattle.tile_flood.specs.Flooding.{is_marked};
+ghost use Rattle.tile_flood.specs.Cells.{level_of, label_of};
 
 // The cell of the point e.
 #[inline(always)]
@@ -95,19 +96,48 @@ pub(crate) fn cell_at(cells: &[Cell], e: usize) -> Cell
     cells[e]
 }
 
-// It is one of a ground point without a label.
+// It is one of a ground point that has no label yet.
 #[inline(always)]
 pub(crate) fn is_open(cell: Cell) -> bool
-    ensures { result ≡ (nat_eq cell.label no_label && not (int_eq cell.level void)) }
+    ensures { result ≡ nat_eq cell.label open_label }
 {
-    cell.label == NO_LABEL && cell.level != i16::MIN
+    cell.label == OPEN
+}
+
+// The cell of the point e before a flood.
+fn fresh_cell(heights: &[i16], e: usize) -> Cell
+    requires { e < length heights.now }
+    ensures level { result.level ≡ slice_index_or heights.now e void }
+    ensures ground { IsTrue (is_marked heights.now e) → result.label ≡ open_label }
+    ensures gap { is_marked heights.now e ≡ false → result.label ≡ no_label }
+{
+    let level = at(heights, e);
+    if has_level(heights, e) {
+        Cell { level, label: OPEN }
+    } else {
+        Cell {
+            level,
+            label: NO_LABEL,
+        }
+    }
+}
+
+// The label of the point.
+fn label_in(cell: Cell) -> u16
+    ensures { result ≡ label_of cell }
+{
+    if cell.label == OPEN {
+        NO_LABEL
+    } else {
+        cell.label
+    }
 }
 
 // The level of the point, void where it has no label.
 fn level_in(cell: Cell) -> i16
     ensures { result ≡ level_of cell }
 {
-    if cell.label == NO_LABEL {
+    if cell.label == OPEN {
         i16::MIN
     } else {
         cell.level

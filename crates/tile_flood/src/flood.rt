@@ -1,5 +1,5 @@
 //! Priority-Flood over one block (Barnes, Lehman and Mulla 2014), with labels.
-ghost use Rattle.std.specs.Prelude.{◌≡◌, ◌≢◌, ◌<◌, ℕ, ℤ, ◌*◌, ◌+◌, ◌/◌, ◌≤◌, IfOk, IfErr, OnOk, IsTrue, false, length, slice_set, slice_index, slice_index_or};
+ghost use Rattle.std.specs.Prelude.{◌≡◌, ◌<◌, ℕ, ◌*◌, ◌+◌, ◌/◌, ◌≤◌, IfOk, IfErr, OnOk, IsTrue, false, length, slice_set, slice_index, slice_index_or};
 ghost use Rattle.std.specs.Ordering.{int_eq};
 ghost use Rattle.lattice.specs.Limits.{IsSide};
 ghost use Rattle.lattice.specs.Mosaic.{void};
@@ -8,9 +8,9 @@ ghost use Rattle.lattice.specs.declared.refusal.Refusal.TheVariants.{NoMemory};
 ghost use Rattle.tile_flood.specs.Labelling.{IsLabelling, NO_LABEL as no_label};
 ghost use Rattle.tile_flood.specs.Carried.{AreCarried};
 ghost use Rattle.tile_flood.specs.Blocks.{block_of, bare_block};
-ghost use Rattle.tile_flood.specs.Waiting.{Waits, HasBucket, waiting, IsJoined};
+ghost use Rattle.tile_flood.specs.Waiting.{HasBucket, waiting, IsJoined};
 ghost use Rattle.tile_flood.specs.Cells.{levels_of, labels_of, AreCells};
-ghost use Rattle.tile_flood.specs.Flooding.{is_marked, unmarked, AreMarkedStill, IsRowMarked, IsSeeding, IsFlooding, IsSpreading};
+ghost use Rattle.tile_flood.specs.Flooding.{is_marked, unmarked, AreMarkedStill, IsRowMarked, IsFlooding, IsSpreading};
 
 use crate::block::Block;
 use crate::cells::{Cell, labels_in, levels_in, unlabelled};
@@ -23,7 +23,8 @@ use crate::values::{at, has_level, higher, range_of};
 use lattice::Refusal;
 use std::alloc::{AllocError, Global};
 
-/// A flood of a block: water rises from its outlets inwards, over the lowest points first.
+/// A flood of a block: water rises from its outlets inwards, over the lowest points first. Its state while a labelling
+/// is mended.
 #[derive(Drop)]
 pub struct Flood {
     pub(crate) levels: Vec<i16>,
@@ -205,7 +206,8 @@ fn flood_cells(
     requires small { n * n < 4294967296 }
     requires whole { length heights.now ≡ n * n }
     requires cells { AreCells heights.now cells.old }
-    requires unlabelled { (e : ℕ) → e < n * n → slice_index (labels_of cells.old) e ≡ no_label }
+    requires no_level { (e : ℕ) → slice_index_or (levels_of cells.old) e void ≡ void }
+    requires no_label { (e : ℕ) → e < n * n → slice_index (labels_of cells.old) e ≡ no_label }
     ensures labelling { OnOk result (IsLabelling (block_of n heights.now sinks.now) (levels_of cells.new) (labels_of cells.new)) }
     ensures carried { OnOk result (AreCarried (block_of n heights.now sinks.now) (levels_of cells.new) (labels_of cells.new)) }
 {

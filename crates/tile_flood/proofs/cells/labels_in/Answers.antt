@@ -1,6 +1,6 @@
 use Rattle.std.proofs.Common.{arith, ◌≡◌, ◌<◌, ◌∙◌, length, length-set, ap, sym}
 use Rattle.std.proofs.lemmas.List.{ext_get_or, length-map}
-use Rattle.tile_flood.specs.Cells.{labels_of}
+use Rattle.tile_flood.specs.Cells.{label_of, labels_of}
 use Rattle.tile_flood.proofs.InCells.{none, label_at, one_more}
 use Rattle.tile_flood.proofs.cells.labels_in.Goals as goal
 
@@ -12,13 +12,13 @@ loop-e-preserved c =
     let whole = i.whole in
     let inside : e < length cells = omega arith in
     record {
-      whole = length-set c.loop-e.labels.items e c.cell_at.result.label ∙ i.whole;
-      below = one_more 0 c.loop-e.labels.items (labels_of cells) e c.cell_at.result.label (omega arith) (ap (λ cell. cell.label) (c.cell_at.ensures none) ∙ sym (label_at cells e none inside)) i.below;
+      whole = length-set c.loop-e.labels.items e c.label_in.result ∙ i.whole;
+      below = one_more 0 c.loop-e.labels.items (labels_of cells) e c.label_in.result (omega arith) (c.label_in.ensures ∙ (ap label_of (c.cell_at.ensures none)) ∙ sym (label_at cells e none inside)) i.below;
     }
 
 pub returns : goal.returns
 returns c =
     let cells = c.args.cells.now in
     let whole = c.loop-e.invariant.whole in
-    let long = length-map cells (λ cell. cell.label) in
+    let long = length-map cells label_of in
     ext_get_or 0 c.loop-e.labels.items (labels_of cells) (omega arith) (λ f below. c.loop-e.invariant.below f (omega arith))

@@ -9,10 +9,10 @@ pub returns-clause-levels : goal.returns-clause-levels
 returns-clause-levels c =
     let fits : SFits w16 c.args.level = search rules in
     let cell : Cell = record { level = to_z w16 (of_z w16 c.args.level); label = c.args.label } in
-    set_levels c.args.cells.now c.args.e cell c.requires.labelled ∙ ap (set (levels_of c.args.cells.now) c.args.e) (to_z-of_z w16 c.args.level fits)
+    set_levels c.args.cells.now c.args.e cell c.requires.labelled.0 c.requires.labelled.1 ∙ ap (set (levels_of c.args.cells.now) c.args.e) (to_z-of_z w16 c.args.level fits)
 
 pub returns-clause-labels : goal.returns-clause-labels
-returns-clause-labels c = set_labels c.args.cells.now c.args.e (record { level = to_z w16 (of_z w16 c.args.level); label = c.args.label }) c.requires.labelled
+returns-clause-labels c = set_labels c.args.cells.now c.args.e (record { level = to_z w16 (of_z w16 c.args.level); label = c.args.label }) c.requires.labelled.0 c.requires.labelled.1
 
 pub returns-clause-cells : goal.returns-clause-cells
-returns-clause-cells c = set_cells c.args.cells.now c.args.e (record { level = to_z w16 (of_z w16 c.args.level); label = c.args.label }) c.requires.labelled c.requires.inside
+returns-clause-cells c = set_cells c.args.cells.now c.args.e (record { level = to_z w16 (of_z w16 c.args.level); label = c.args.label }) c.requires.labelled.0 c.requires.labelled.1 c.requires.inside

@@ -1,8 +1,7 @@
 use Rattle.std.proofs.Common.{arith, ◌≡◌, ◌*◌, ◌<◌, ◌∙◌, length, slice_index_or, subst, sym}
 use Rattle.std.proofs.lemmas.List.{length-map}
 use Rattle.lattice.specs.Mosaic.{void}
-use Rattle.tile_flood.specs.Cells.{level_of, levels_of, labels_of}
-use Rattle.tile_flood.proofs.InCells.{none_has}
+use Rattle.tile_flood.specs.Cells.{level_of, label_of, levels_of, labels_of}
 use Rattle.tile_flood.proofs.Spreading.{seeding_start}
 use Rattle.tile_flood.proofs.flood.flood_cells.Goals as goal
 
@@ -12,7 +11,7 @@ seed-requires-clause-state c =
     let heights = c.args.heights.now in
     let cells = c.args.cells.now in
     let whole : length cells ≡ n * n = c.requires.cells.whole ∙ c.requires.whole in
-    seeding_start n heights c.args.sinks.now (levels_of cells) (labels_of cells) c.in_ok-queue.queue (length-map cells level_of ∙ whole) (length-map cells (λ cell. cell.label) ∙ whole)
-    (none_has cells (λ e inside. c.requires.unlabelled e (subst (λ k. e < k) whole inside))) c.requires.unlabelled
+    seeding_start n heights c.args.sinks.now (levels_of cells) (labels_of cells) c.in_ok-queue.queue (length-map cells level_of ∙ whole) (length-map cells label_of ∙ whole)
+    c.requires.no_level c.requires.no_label
     (λ e below on. let both = c.range_of.ensures e below on in c.in_ok-queue.ensures.buckets (slice_index_or heights e void) both.0 both.1)
     c.in_ok-queue.ensures.nobody c.requires.whole

@@ -4,8 +4,8 @@ use Rattle.std.proofs.lemmas.List.{length-map}
 use Rattle.tile_flood.specs.declared.cells.Cell.{Cell}
 use Rattle.tile_flood.specs.Waiting.{Queue, IsTaken}
 use Rattle.tile_flood.specs.Flooding.{IsFlooding, IsSpreading}
-use Rattle.tile_flood.specs.Cells.{levels_of, labels_of}
-use Rattle.tile_flood.proofs.InCells.{none, label_at}
+use Rattle.tile_flood.specs.Cells.{label_of, levels_of, labels_of}
+use Rattle.tile_flood.proofs.InCells.{none, label_in_cell}
 use Rattle.tile_flood.proofs.Spreading.{spread_begin, taken_below, flooding_end, carried_end}
 use Rattle.tile_flood.specs.Blocks.{block_of}
 use Rattle.tile_flood.proofs.settling.settle.Goals as goal
@@ -14,7 +14,7 @@ begun : (n : ℕ) (heights : List ℤ) (sinks : List ℕ) (cells : List Cell) (q
     (point < length cells) × IsSpreading (block_of n heights sinks) (levels_of cells) (labels_of cells) queue' point level (slice_index (labels_of cells) point)
 begun n heights sinks cells queue queue' point level s taken =
     let spreading = spread_begin n heights sinks (levels_of cells) (labels_of cells) queue queue' point level s taken in
-    (subst (λ k. point < k) (length-map cells (λ cell. cell.label)) (taken_below n heights sinks (levels_of cells) (labels_of cells) queue' point level (slice_index (labels_of cells) point) spreading), spreading)
+    (subst (λ k. point < k) (length-map cells label_of) (taken_below n heights sinks (levels_of cells) (labels_of cells) queue' point level (slice_index (labels_of cells) point) spreading), spreading)
 
 pub cell_at-requires : goal.cell_at-requires
 cell_at-requires c = (begun c.args.n c.args.heights.now c.args.sinks.now c.loop-seat.cells c.loop-seat.queue c.pop.new.self c.in-Some.seat.point c.in-Some.seat.level c.loop-seat.invariant.state c.in-Some.ensures.taken).0
@@ -37,4 +37,4 @@ spread-requires-clause-state c =
     let fits : SFits w16 c.in-Some.seat.level = search rules in
     let start = begun c.args.n c.args.heights.now c.args.sinks.now cells c.loop-seat.queue c.pop.new.self point c.in-Some.seat.level c.loop-seat.invariant.state c.in-Some.ensures.taken in
     subst (λ low. IsSpreading block (levels_of cells) (labels_of cells) c.pop.new.self point low c.cell_at.result.label) (sym (to_z-of_z w16 c.in-Some.seat.level fits))
-    (subst (λ l. IsSpreading block (levels_of cells) (labels_of cells) c.pop.new.self point c.in-Some.seat.level l) (label_at cells point none start.0 ∙ sym (ap (λ cell. cell.label) (c.cell_at.ensures none))) start.1)
+    (subst (λ l. IsSpreading block (levels_of cells) (labels_of cells) c.pop.new.self point c.in-Some.seat.level l) (label_in_cell cells point start.0 start.1.taken.0 ∙ sym (ap (λ cell. cell.label) (c.cell_at.ensures none))) start.1)
