@@ -1,9 +1,9 @@
 -- The levels and the labels that stand in cells.
-use Rattle.std.proofs.Common.{◌≡◌, ◌≢◌, ℕ, ◌*◌, ◌+◌, ◌<◌, ◌≤◌, ℤ, pos, false, true, not, IsTrue, List, length, map, get_or, set, slice_index, nat_eq, nat_lt, ◌&&◌, ◌⊎◌, inl, inr, refl, sym, ap, ◌∙◌, subst, arith, true≢false, length-set, get_or-set_other, get_or-set_same}
+use Rattle.std.proofs.Common.{◌≡◌, ◌≢◌, ℕ, ◌*◌, ◌+◌, ◌<◌, ℤ, pos, false, true, not, IsTrue, List, length, get_or, set, slice_index, nat_eq, nat_lt, inl, inr, sym, ap, ◌∙◌, subst, arith, true≢false, length-set, get_or-set_other, get_or-set_same}
 use Rattle.std.specs.Ordering.{int_eq}
-use Rattle.std.proofs.lemmas.Bool.{cases_Bool, cases_eq, cases_lt, cond-true, cond-false, eqb-true, eq-eqb, ne_eqb, and_parts, and_from, lt-ltb}
+use Rattle.std.proofs.lemmas.Bool.{cases_Bool, cases_eq, cases_lt, cond-true, cond-false, eqb-true, eq-eqb, ne_eqb, and_from, lt-ltb}
 use Rattle.std.proofs.lemmas.Bool.Decides.{Decides-int_eq}
-use Rattle.std.proofs.lemmas.List.{get_or-map, length-map, map-set, ext_get_or, get_or_past, get_or_default}
+use Rattle.std.proofs.lemmas.List.{get_or-map, length-map, map-set, get_or_past, get_or_default}
 use Rattle.lattice.specs.Mosaic.{void}
 use Rattle.lattice.specs.Limits.{IsSide}
 use Rattle.lattice.specs.Block.{is_solid}

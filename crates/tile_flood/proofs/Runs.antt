@@ -1,5 +1,5 @@
 -- Three points after one another, in the row of a point or in one beside it: which of them are near the point.
-use Rattle.std.proofs.Common.{◌≡◌, ◌≢◌, ℕ, ◌+◌, ◌-◌, ◌*◌, ◌/◌, ◌%◌, ◌<◌, ◌≤◌, IsTrue, ◌||◌, nat_eq, ◌⊎◌, inl, inr, ap, subst, sym, ◌∙◌, arith, mod-lt}
+use Rattle.std.proofs.Common.{◌≡◌, ℕ, ◌+◌, ◌-◌, ◌*◌, ◌/◌, ◌%◌, ◌<◌, ◌≤◌, IsTrue, ◌||◌, nat_eq, ◌⊎◌, inl, inr, ap, ◌∙◌, arith, mod-lt}
 use Rattle.std.proofs.Math.Nat.{mul-le-mul_right}
 use Rattle.std.proofs.lemmas.Bool.{cases_lt, cases_eq, eq-eqb, or_left, or_right}
 use Rattle.lattice.specs.Block.{is_beside, is_rim}

@@ -1,4 +1,4 @@
-use Rattle.std.proofs.Common.{arith, ◌≡◌, ◌<◌, ◌∙◌, length, length-set, ap, sym}
+use Rattle.std.proofs.Common.{arith, ◌<◌, ◌∙◌, length, length-set, ap, sym}
 use Rattle.std.proofs.lemmas.List.{ext_get_or, length-map}
 use Rattle.tile_flood.specs.Cells.{label_of, labels_of}
 use Rattle.tile_flood.proofs.InCells.{none, label_at, one_more}

@@ -1,4 +1,4 @@
-use Rattle.std.proofs.Common.{arith, rules, ◌≡◌, ◌<◌, ◌∙◌, length, length-set, ap, sym, SFits, w16, to_z, of_z}
+use Rattle.std.proofs.Common.{arith, rules, ◌<◌, ◌∙◌, length, length-set, ap, sym, SFits, w16, to_z, of_z}
 use Rattle.std.proofs.lemmas.Int.{to_z-of_z}
 use Rattle.std.proofs.lemmas.List.{ext_get_or, length-map}
 use Rattle.lattice.specs.Mosaic.{void}

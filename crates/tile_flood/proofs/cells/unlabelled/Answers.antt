@@ -1,4 +1,4 @@
-use Rattle.std.proofs.Common.{arith, ◌≡◌, ◌<◌, ◌∙◌, length, length-set}
+use Rattle.std.proofs.Common.{arith, ◌<◌, ◌∙◌, length, length-set}
 use Rattle.tile_flood.proofs.InCells.{fresh_more, fresh_cells, fresh_level, fresh_label}
 use Rattle.tile_flood.proofs.cells.unlabelled.Goals as goal
 

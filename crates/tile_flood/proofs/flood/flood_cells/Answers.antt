@@ -1,4 +1,4 @@
-use Rattle.std.proofs.Common.{arith, ◌≡◌, ◌*◌, ◌<◌, ◌∙◌, length, slice_index_or, subst, sym}
+use Rattle.std.proofs.Common.{◌≡◌, ◌*◌, ◌∙◌, length, slice_index_or}
 use Rattle.std.proofs.lemmas.List.{length-map}
 use Rattle.lattice.specs.Mosaic.{void}
 use Rattle.tile_flood.specs.Cells.{level_of, label_of, levels_of, labels_of}

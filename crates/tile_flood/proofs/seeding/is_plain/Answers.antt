@@ -1,7 +1,5 @@
-use Rattle.std.proofs.Common.{arith, ◌≡◌, ◌<◌, ◌∙◌, false, IsTrue, [], length, sym, true≢false}
+use Rattle.std.proofs.Common.{arith, ◌≡◌, ◌∙◌, length, sym, true≢false}
 use Rattle.std.proofs.lemmas.Bool.Decides.{nat_tests}
-use Rattle.tile_flood.specs.Blocks.{block_of}
-use Rattle.tile_flood.specs.Flooding.{IsPlainRow}
 use Rattle.tile_flood.proofs.Buckets.{none_left}
 use Rattle.tile_flood.proofs.PlainRows.{plain_if}
 use Rattle.tile_flood.proofs.seeding.is_plain.Goals as goal

@@ -1,4 +1,4 @@
-use Rattle.std.proofs.Common.{◌+◌, ◌*◌}
+use Rattle.std.proofs.Common.{◌*◌}
 use Rattle.tile_flood.specs.Flooding.{IsSeeding}
 use Rattle.tile_flood.specs.Blocks.{block_of}
 use Rattle.tile_flood.specs.Cells.{levels_of, labels_of, AreCells}

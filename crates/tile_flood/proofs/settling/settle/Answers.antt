@@ -1,4 +1,4 @@
-use Rattle.std.proofs.Common.{arith, rules, ◌≡◌, ◌<◌, ◌∙◌, ℕ, ℤ, List, length, get_or, slice_index, sym, subst, ap, SFits, w16}
+use Rattle.std.proofs.Common.{arith, rules, ◌<◌, ◌∙◌, ℕ, ℤ, List, length, slice_index, sym, subst, ap, SFits, w16}
 use Rattle.std.proofs.lemmas.Int.{to_z-of_z}
 use Rattle.std.proofs.lemmas.List.{length-map}
 use Rattle.tile_flood.specs.declared.cells.Cell.{Cell}

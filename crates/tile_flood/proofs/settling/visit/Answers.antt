@@ -1,12 +1,7 @@
-use Rattle.std.proofs.Common.{arith, rules, ◌≡◌, ◌≢◌, ◌<◌, ℤ, ℕ, false, not, nat_eq, ◌&&◌, IsTrue, List, length, get_or, slice_index_or, ap, sym, subst, ◌∙◌, true≢false, SFits, w16, to_z, of_z}
-use Rattle.std.specs.Ordering.{int_eq}
-use Rattle.std.proofs.lemmas.Bool.{cases_Bool, and_parts, eqb-true}
+use Rattle.std.proofs.Common.{arith, rules, slice_index_or, ap, sym, subst, ◌∙◌, SFits, w16, to_z, of_z}
 use Rattle.lattice.specs.Mosaic.{void}
-use Rattle.lattice.specs.Block.{is_solid, is_linked}
 use Rattle.tile_flood.specs.Waiting.{HasBucket}
-use Rattle.tile_flood.specs.Blocks.{bare_block}
 use Rattle.tile_flood.specs.Cells.{levels_of, labels_of}
-use Rattle.tile_flood.specs.Flooding.{is_marked}
 use Rattle.tile_flood.proofs.InCells.{IsOpen, none, open_if, marked_unless_open, front_labelled}
 use Rattle.tile_flood.proofs.Spreading.{IsVisited, visited_as, passed_max, higher_bucket, near_linked}
 use Rattle.tile_flood.proofs.settling.visit.Goals as goal
