@@ -84,16 +84,22 @@ static struct cache *kept(void) {
 
 static int is_due(const char *name, long number) { return getenv(name) && atol(getenv(name)) == number; }
 
+/* Whether this is the file that is kept, and not an empty one beside it, or a folder. */
+static int is_kept(int file) {
+    struct stat is;
+    return !fstat(file, &is) && S_ISREG(is.st_mode) && is.st_size;
+}
+
 static int synced(int file) {
     static long made = 0;
-    int fails = is_due("FAILING_SYNC", ++made);
+    int ends = is_due("ENDING_SYNC", ++made), fails = ends || is_due("FAILING_SYNC", made);
     if (is_due("UNMADE_SYNC", made)) _exit(0);
     for (int sector = 0; sector < SECTORS; sector++) {
         if (kept()->state[sector] != DIRTY) continue;
         if (!fails) syscall(SYS_pwrite64, file, kept()->bytes[sector], SECTOR, (off_t)sector * SECTOR);
         kept()->state[sector] = CLEAN;
     }
-    if (is_due("LAST_SYNC", made)) _exit(0);
+    if (ends || is_due("LAST_SYNC", made)) _exit(0);
     if (fails) errno = EIO;
     return -fails;
 }
@@ -118,21 +124,18 @@ ssize_t pwrite(int file, const void *bytes, size_t count, off_t at) {
 }
 
 /* The system lets go of what it holds of the file, but for what isn't written yet. */
-static int dropped(int advice) {
+static int dropped(int file, int advice) {
+    if (advice != POSIX_FADV_DONTNEED || !is_kept(file) || getenv("PAGES_STAY")) return 0;
     for (int sector = 0; sector < SECTORS; sector++)
-        if (advice == POSIX_FADV_DONTNEED && !getenv("PAGES_STAY") && kept()->state[sector] == CLEAN) kept()->state[sector] = ABSENT;
+        if (kept()->state[sector] == CLEAN) kept()->state[sector] = ABSENT;
     return 0;
 }
 
-int posix_fadvise(int file, off_t at, off_t count, int advice) { return dropped(advice); }
-int posix_fadvise64(int file, off64_t at, off64_t count, int advice) { return dropped(advice); }
+int posix_fadvise(int file, off_t at, off_t count, int advice) { return dropped(file, advice); }
+int posix_fadvise64(int file, off64_t at, off64_t count, int advice) { return dropped(file, advice); }
 
 int fdatasync(int file) { return synced(file); }
-
-int fsync(int file) {
-    struct stat is;
-    return !fstat(file, &is) && S_ISREG(is.st_mode) ? synced(file) : syscall(SYS_fsync, file);
-}
+int fsync(int file) { return is_kept(file) ? synced(file) : syscall(SYS_fsync, file); }
 """
 
 # Stands before the C library's own calls, and tells the name of each during which another program could lock the file, and
@@ -208,9 +211,9 @@ class CachedCalls(Calls):
 
     def run(self, words, given, **added):
         """Runs the words. FAILING_SYNC is the number of a sync that fails, and leaves what it should have written as written;
-        LAST_SYNC that of one behind which the program ends, UNMADE_SYNC of one before which it does. With PAGES_STAY the system
-        doesn't let go of the file when it is asked. With SAME_BYTES_STAY_CLEAN a write of the bytes that are there
-        already is none."""
+        ENDING_SYNC that of one in which the program is killed, once it has failed so; LAST_SYNC of one behind which the program
+        ends, UNMADE_SYNC of one before which it does. With PAGES_STAY the system doesn't let go of the file when it is asked.
+        With SAME_BYTES_STAY_CLEAN a write of the bytes that are there already is none."""
         return self.run_with(words, given, {"CACHE": self.cache, **added})
 
     def cut_power(self):
