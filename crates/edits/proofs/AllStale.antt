@@ -1,4 +1,4 @@
--- After a command each present tile was present before or goes stale; changes keep the side.
+-- After a command each present tile was present before or goes stale.
 use Rattle.std.proofs.Common.{◌≡◌, ℕ, zero, suc, ◌*◌, ◌<◌, ℤ, pos, ◌-ℤ◌, Bool, true, false, cond, ◌||◌, ◌&&◌, List, [], ◌∷◌, length, map, filter, nat_eq, nat_lt, nat_abs, get_or, refl, sym, ◌∙◌, ap, subst, arith, not}
 use Rattle.std.specs.Prelude.{Result, Ok, Err, Option, Some, None, if◌then◌else◌}
 use Rattle.std.specs.Int.{int_max}
@@ -15,13 +15,10 @@ use Rattle.lattice.specs.declared.point.Point.{Point}
 use Rattle.lattice.specs.declared.refusal.Refusal.{Refusal}
 use Rattle.lattice.specs.declared.refusal.Refusal.TheVariants.{BadLength, TileThere, NoTile, Full, NothingVoid, BadHeight, BadDepth, BadBox, Repeated}
 use Rattle.hgt.specs.Bytes.{samples_in}
-use Rattle.catalogue.specs.Tiles.{with_tile, added, without, with_sample, with_sinks, corners_of}
+use Rattle.catalogue.specs.Tiles.{with_tile, added, without, with_sinks, corners_of}
 use Rattle.lattice.proofs.CornerOrder.{same_from}
 use Rattle.edits.specs.declared.command.Command.{Command}
 use Rattle.edits.specs.declared.command.Command.TheVariants.{Import, Remove, Patch, Burn, Wall, Sink, Unsink}
-use Rattle.edits.specs.declared.change.Change.{Change}
-use Rattle.edits.specs.declared.change.Change.TheVariants.{Add, Drop, Set, Sink as SinkPut, Unsink as SinkTaken}
-use Rattle.edits.specs.Changes.{all_changed}
 use Rattle.edits.specs.Effect.{effect, edited, changed_from, is_in_box, is_void_at, is_named, patched, burnt, walled, unless_fault, first_fault, is_height, is_depth, is_box, has_void, is_repeated}
 use Rattle.edits.specs.Sinks.{with_point, without_point}
 use Rattle.edits.specs.Touched.{are_neighbours, goes_stale, stale_after}
@@ -55,15 +52,6 @@ same_corners g (t ∷ ts) = ap (λ (cs : List Corner). t.corner ∷ cs) (same_co
 
 edited_corners : (f : Point → ℤ → ℤ) (m : Mosaic) → corners_of (edited f m) ≡ corners_of m
 edited_corners f m = same_corners (λ t. changed_from (λ e s. f (point_of m.side t.corner e) s) 0 t.samples) m.tiles
-
--- changes keep the side
-pub all_changed_side : (changes : List Change) (m : Mosaic) → (all_changed changes m).side ≡ m.side
-all_changed_side [] m = refl
-all_changed_side (Add c samples ∷ rest) m = all_changed_side rest (added (record { corner = c; samples = samples }) m)
-all_changed_side (Drop c ∷ rest) m = all_changed_side rest (without c m)
-all_changed_side (Set c i s ∷ rest) m = all_changed_side rest (with_sample c i s m)
-all_changed_side (SinkPut p ∷ rest) m = all_changed_side rest (with_sinks (with_point p m.sinks) m)
-all_changed_side (SinkTaken p ∷ rest) m = all_changed_side rest (with_sinks (without_point p m.sinks) m)
 
 -- all tiles are stale, and stay so
 

@@ -1,8 +1,10 @@
 -- The tiles that go stale by an edit are those that go stale by its command.
-use Rattle.std.proofs.Common.{◌≡◌, ℕ, zero, suc, arith, ◌<◌, ◌≤◌, Bool, true, false, ◌&&◌, ◌||◌, IsTrue, List, [], ◌∷◌, map, length, get_or, refl, sym, ◌∙◌, ap, subst}
+use Rattle.std.proofs.Common.{◌≡◌, ℕ, zero, suc, arith, ◌+◌, ◌<◌, ◌≤◌, Bool, true, false, ◌&&◌, ◌||◌, IsTrue, List, [], ◌∷◌, ◌++◌, map, length, take, get_or, refl, sym, ◌∙◌, ap, ap₂, subst}
 use Rattle.std.specs.List.{All, Contains, list_any}
 use Rattle.std.proofs.lemmas.Bool.{and_parts, and_from, false_from_ne_true}
+use Rattle.std.proofs.lemmas.List.{take_more}
 use Rattle.std.proofs.lemmas.List.Elements.{All-contains}
+use Rattle.std.proofs.lemmas.List.Folds.{list_any-append}
 use Rattle.lattice.specs.Corners.{Corner, is_corner, same_corner}
 use Rattle.lattice.specs.declared.point.Point.{Point}
 use Rattle.lattice.specs.Lattice.{Holds, holds}
@@ -14,8 +16,8 @@ use Rattle.edits.specs.declared.edit.NewHeight.{NewHeight}
 use Rattle.edits.specs.Edits.{AreVoidTiles, holds_any, points_of}
 use Rattle.edits.specs.Effect.{has_void_from}
 use Rattle.edits.specs.Touched.{are_neighbours, holds_one}
-use Rattle.edits.specs.LeftStale.{is_near_one}
-use Rattle.edits.proofs.Beside.{same_bools}
+use Rattle.edits.specs.Touched.{is_near_one}
+use Rattle.edits.proofs.TouchedTiles.{same_bools}
 use Rattle.edits.proofs.Voids.{any_says, any_from, tile_at}
 
 any_corner : (test : Corner → Bool) (ts : List Tile) → list_any test (map (λ t. t.corner) ts) ≡ list_any (λ t. test t.corner) ts
@@ -66,6 +68,13 @@ any_near n corners heights p = same_bools _ _
     let height = any_says (λ (k : NewHeight). holds n found.0 k.point) heights both.0 in
     any_from (λ (h : NewHeight). list_any (λ c. holds n c h.point && are_neighbours c p) corners) heights height.0 height.1.0
     (any_from (λ c. holds n c height.0.point && are_neighbours c p) corners found.0 found.1.0 (and_from (holds n found.0 height.0.point) (are_neighbours found.0 p) height.1.1 both.1)))
+
+-- none so far, and not this one
+pub none_more : {X : Type 0} (test : X → Bool) (xs : List X) (i : ℕ) (x : X) → i < length xs → x ≡ get_or xs i x → list_any test (take i xs) ≡ false → test x ≡ false → list_any test (take (i + 1) xs) ≡ false
+none_more {X} test xs i x below is before here =
+    ap (list_any test) (take_more xs i x below ∙ ap (λ (y : X). take i xs ++ y ∷ []) (sym is))
+    ∙ list_any-append test (take i xs) (x ∷ [])
+    ∙ ap₂ (λ (a b : Bool). a || (b || false)) before here
 
 -- the tiles of an edit of heights, and of voids, are those of the command
 

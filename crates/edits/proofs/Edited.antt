@@ -1,13 +1,16 @@
 -- Edits of a mosaic, one after another.
-use Rattle.std.proofs.Common.{◌≡◌, ℕ, ◌+◌, ℤ, Bool, true, false, ◌||◌, List, [], ◌∷◌, map, refl, sym, ◌∙◌, ap, ap₂}
+use Rattle.std.proofs.Common.{◌≡◌, ℕ, ◌+◌, ◌<◌, ℤ, Bool, true, false, ◌||◌, List, [], ◌∷◌, ◌++◌, length, map, take, get_or, refl, sym, ◌∙◌, ap, ap₂}
 use Rattle.std.specs.Prelude.{if◌then◌else◌}
+use Rattle.std.proofs.lemmas.List.{take_more}
 use Rattle.lattice.specs.declared.point.Point.{Point}
 use Rattle.lattice.specs.Lattice.{point_of}
 use Rattle.lattice.specs.Ground.{same_point}
 use Rattle.lattice.specs.Mosaic.{Tile, Mosaic}
+use Rattle.catalogue.specs.Tiles.{corners_of}
 use Rattle.edits.specs.declared.edit.NewHeight.{NewHeight}
 use Rattle.edits.specs.Edits.{with_height, with_heights}
 use Rattle.edits.specs.Effect.{changed_from, edited, is_named}
+use Rattle.edits.proofs.EditedHeights.{edited_corners}
 use Rattle.edits.proofs.SamePoints.{same_point_says}
 
 none_from : (e : ℕ) (l : List ℤ) → changed_from (λ e s. s) e l ≡ l
@@ -59,3 +62,26 @@ named_heights f (q ∷ rest) m =
 
     one : (p : Point) (s : ℤ) → (if is_named rest p then f p else (if same_point p q then f q else s)) ≡ (if is_named (q ∷ rest) p then f p else s)
     one p s = by p s (same_point p q) (is_named rest p) (same_point_says p q)
+
+pub heights_side : (hs : List NewHeight) (m : Mosaic) → (with_heights hs m).side ≡ m.side
+heights_side [] m = refl
+heights_side (h ∷ hs) m = heights_side hs (with_height h.point h.metres m)
+
+pub heights_corners : (hs : List NewHeight) (m : Mosaic) → corners_of (with_heights hs m) ≡ corners_of m
+heights_corners [] m = refl
+heights_corners (h ∷ hs) m = heights_corners hs (with_height h.point h.metres m) ∙ edited_corners (λ q s. if same_point q h.point then h.metres else s) m
+
+one_after : (hs : List NewHeight) (h : NewHeight) (m : Mosaic) → with_heights (hs ++ h ∷ []) m ≡ with_height h.point h.metres (with_heights hs m)
+one_after [] h m = refl
+one_after (k ∷ hs) h m = one_after hs h (with_height k.point k.metres m)
+
+-- one height more
+pub heights_next : (hs : List NewHeight) (i : ℕ) (h : NewHeight) (m : Mosaic) → i < length hs → h ≡ get_or hs i h → with_heights (take (i + 1) hs) m ≡ with_height h.point h.metres (with_heights (take i hs) m)
+heights_next hs i h m below is = ap (λ (l : List NewHeight). with_heights l m) (take_more hs i h below ∙ ap (λ (k : NewHeight). take i hs ++ k ∷ []) (sym is)) ∙ one_after (take i hs) h m
+
+-- they are one edit
+pub heights_edit : (hs : List NewHeight) (m : Mosaic) → (f : Point → ℤ → ℤ) × (with_heights hs m ≡ edited f m)
+heights_edit [] m = (λ p v. v, sym (edited_none m))
+heights_edit (h ∷ hs) m =
+    let rest = heights_edit hs (with_height h.point h.metres m) in
+    (λ p v. rest.0 p (if same_point p h.point then h.metres else v), rest.1 ∙ edited_twice (λ p v. if same_point p h.point then h.metres else v) rest.0 m)

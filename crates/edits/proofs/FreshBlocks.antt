@@ -18,11 +18,11 @@ use Rattle.lattice.proofs.CornerOrder.{same_says}
 use Rattle.edits.specs.declared.command.Command.{Command}
 use Rattle.edits.specs.declared.command.Command.TheVariants.{Import, Remove, Patch, Burn, Wall, Sink, Unsink}
 use Rattle.edits.specs.Effect.{effect, changed_from, edited, is_named, has_void_from, patched, burnt, walled}
-use Rattle.edits.specs.LeftStale.{is_near_one}
+use Rattle.edits.specs.Touched.{is_near_one}
 use Rattle.edits.specs.Sinks.{with_point, without_point}
 use Rattle.edits.specs.Touched.{are_neighbours, goes_stale, holds_one}
 use Rattle.edits.proofs.Accepted.{IsMade, accepted_is}
-use Rattle.edits.proofs.Beside.{HasOne, named_from, void_from}
+use Rattle.edits.proofs.TouchedTiles.{HasOne, named_from, void_from}
 use Rattle.edits.proofs.Untouched.{edit_same}
 use Rattle.edits.proofs.Voids.{any_from, is_void_within}
 

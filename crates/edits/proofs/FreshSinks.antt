@@ -17,7 +17,7 @@ use Rattle.catalogue.proofs.OneTile.{corner_is}
 use Rattle.edits.specs.declared.command.Command.{Command}
 use Rattle.edits.specs.declared.command.Command.TheVariants.{Import, Remove, Patch, Burn, Wall, Sink, Unsink}
 use Rattle.edits.specs.Effect.{effect}
-use Rattle.edits.specs.LeftStale.{is_near_one}
+use Rattle.edits.specs.Touched.{is_near_one}
 use Rattle.edits.specs.Sinks.{with_point, without_point}
 use Rattle.edits.specs.Touched.{are_neighbours, goes_stale}
 use Rattle.edits.proofs.Accepted.{IsMade, accepted_is}

@@ -1,29 +1,27 @@
 mod Accepted
 pub mod AllStale
-mod Beside
-mod CarryingOut
-mod Edited
-pub mod EditedHeights
+mod BoxRows
 pub mod EditStale
+pub mod Edited
+pub mod EditedHeights
+mod Filling
 mod FreshBlocks
 pub mod FreshSinks
-mod NamedCommands
-mod NewMosaics
 mod NewHeights
-mod Once
+mod NewMosaics
 mod Overlapping
-mod PatchLemmas
-mod PatchSteps
+mod PlaceLemmas
+mod Placing
 mod PlanLemmas
-mod PutLemmas
-mod Putting
 mod Repeats
 mod SamePoints
 mod Searching
+mod Setting
 pub mod SinkLists
-pub mod StaleTiles
 mod TilesFound
+mod TouchedTiles
 mod Treating
 mod Untouched
 mod Voids
+mod VoidsPut
 mod WholeTiles

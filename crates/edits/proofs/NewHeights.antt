@@ -15,8 +15,8 @@ use Rattle.catalogue.specs.Readers.{OnlyReads}
 use Rattle.catalogue.proofs.Reading.{reads_on, reads_nothing}
 use Rattle.edits.specs.declared.command.Command.TheVariants.{Burn, Wall}
 use Rattle.edits.specs.declared.edit.NewHeight.{NewHeight}
-use Rattle.edits.specs.declared.named.Treatment.{Treatment}
-use Rattle.edits.specs.declared.named.Treatment.TheVariants.{Lower, Raise}
+use Rattle.edits.specs.declared.treatment.Treatment.{Treatment}
+use Rattle.edits.specs.declared.treatment.Treatment.TheVariants.{Lower, Raise}
 use Rattle.edits.specs.Edits.{points_of, with_heights}
 use Rattle.edits.specs.Effect.{effect, is_depth, is_height, is_repeated, first_fault, fault_at, edited, unless_fault, burnt, walled}
 use Rattle.edits.specs.Treatments.{treated, depth_of, treatment_at, fault_of, refuses, treats}

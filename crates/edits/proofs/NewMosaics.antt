@@ -28,7 +28,7 @@ use Rattle.edits.specs.Effect.{effect, changed_from, edited, is_named, is_height
 use Rattle.edits.specs.EffectLaws.{IsCommand}
 use Rattle.edits.specs.Sinks.{with_point, without_point}
 use Rattle.edits.proofs.Accepted.{IsMade, accepted_is}
-use Rattle.edits.proofs.Putting.{length-changed_from}
+use Rattle.edits.proofs.Placing.{length-changed_from}
 use Rattle.edits.proofs.SamePoints.{same_point_says}
 use Rattle.edits.proofs.SinkLists.{sunk_makes, unsunk_leaves}
 

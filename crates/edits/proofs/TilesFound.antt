@@ -21,7 +21,7 @@ use Rattle.edits.specs.Boxes.{IsSomewhere}
 use Rattle.edits.specs.declared.command.Command.TheVariants.{Patch}
 use Rattle.edits.specs.Edits.{ArePresent, AreVoidTiles}
 use Rattle.edits.specs.Effect.{effect, has_void, has_void_from, is_box, is_height, is_in_box, is_void_at, patched}
-use Rattle.edits.proofs.Beside.{void_says, void_from, some_edge}
+use Rattle.edits.proofs.TouchedTiles.{void_says, void_from, some_edge}
 use Rattle.edits.proofs.Voids.{any_says, any_from, tile_at, is_void_within}
 
 pub if_ok_weaker : {T E : Type 0} {P Q : T → Type 0} (r : Result T E) → ((x : T) → P x → Q x) → IfOk r P → IfOk r Q

@@ -22,7 +22,7 @@ use Rattle.edits.specs.Effect.{effect, changed_from, edited, is_named, has_void_
 use Rattle.edits.specs.Sinks.{with_point, without_point}
 use Rattle.edits.specs.Touched.{holds_one, is_touched, goes_stale, stale_after}
 use Rattle.edits.proofs.Accepted.{IsMade, accepted_is}
-use Rattle.edits.proofs.Beside.{HasOne, named_from, void_from}
+use Rattle.edits.proofs.TouchedTiles.{HasOne, named_from, void_from}
 use Rattle.edits.proofs.Voids.{is_void_within}
 
 kept_with : (new t : Tile) (ts : List Tile) → Contains ts t → Contains (with_tile new ts) t

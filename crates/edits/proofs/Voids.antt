@@ -1,4 +1,4 @@
--- Whether some point of a box is void, and the changes that fill it.
+-- Whether some point of a box is void.
 use Rattle.std.proofs.Common.{◌≡◌, ℕ, zero, suc, ◌+◌, ◌<◌, ℤ, pos, negsuc, ◌+ℤ◌, Bool, true, false, cond, ◌&&◌, ◌⊎◌, inl, inr, List, [], ◌∷◌, length, get_or, refl, sym, ◌∙◌, ap, ap₂, subst, add-zero, zero-add, arith}
 use Rattle.std.specs.Prelude.{Ok, Err, int_le, int_lt, ◌-ℤ◌}
 use Rattle.std.specs.List.{Contains, list_any}
@@ -12,15 +12,9 @@ use Rattle.lattice.specs.Lattice.{point_of}
 use Rattle.lattice.specs.Mosaic.{Tile, Mosaic, IsMosaic, IsTile}
 use Rattle.lattice.specs.declared.refusal.Refusal.TheVariants.{BadBox, NothingVoid}
 use Rattle.catalogue.specs.Tiles.{corners_of}
-use Rattle.edits.specs.declared.change.Change.{Change}
-use Rattle.edits.specs.declared.change.Change.TheVariants.{Set}
 use Rattle.edits.specs.declared.command.Command.TheVariants.{Patch}
-use Rattle.edits.specs.Changes.{all_changed}
 use Rattle.edits.specs.Effect.{effect, is_height, is_box, is_in_box, is_void_at, has_void, has_void_from, edited, patched}
-use Rattle.edits.specs.Puts.{Puts}
-use Rattle.edits.proofs.Putting.{puts_edit}
-use Rattle.edits.proofs.PatchLemmas.{box_is, rows_all}
-use Rattle.edits.specs.Boxes.{is_void_in_rows}
+use Rattle.edits.proofs.BoxRows.{box_is}
 
 pub any_says : {X : Type 0} (f : X → Bool) (xs : List X) → list_any f xs ≡ true → (x : X) × (Contains xs x × (f x ≡ true))
 any_says f [] e = absurd (false≢true e)
@@ -70,44 +64,6 @@ module _ (m : Mosaic) (from to : Point) where
       let next : e + 1 + k ≡ e + suc k = omega arith in
       or_right (is_void_within (point_of m.side c e)) (has_void_from m from to c (e + 1) rest) (at_index c (e + 1) rest k (omega arith) (ap (λ i. is_void_within (point_of m.side c i)) next ∙ h))
 
-  module _ (valid : IsMosaic m) (sample : Point → ℤ) (changes : List Change) (puts : Puts m.side (corners_of m) is_void_within sample changes) where
-    some_void : (x : Change) → Contains changes x → has_void m from to ≡ true
-    some_void x there =
-        let found = puts.each x there in
-        let put = found.1.1 in
-        let tile = tile_at m put.corner put.present in
-        let t = tile.0 in
-        let is_tile : IsTile m.side t = All-contains (IsTile m.side) m.tiles t valid.tiles tile.1.0 in
-        let at : is_void_within (point_of m.side t.corner (0 + put.index)) ≡ true =
-        ap₂ (λ (c : Corner) (i : ℕ). is_void_within (point_of m.side c i)) tile.1.1 (zero-add put.index) ∙ ap is_void_within put.here ∙ found.1.0 in
-        let here : has_void_from m from to t.corner 0 t.samples ≡ true = at_index t.corner 0 t.samples put.index (omega (arith, put.within, is_tile.whole)) at in
-        any_from (λ (u : Tile). has_void_from m from to u.corner 0 u.samples) m.tiles t tile.1.0 here
-
-    some_change : has_void m from to ≡ true → 0 < length changes
-    some_change void =
-        let tile = any_says (λ (u : Tile). has_void_from m from to u.corner 0 u.samples) m.tiles void in
-        let t = tile.0 in
-        let is_tile : IsTile m.side t = All-contains (IsTile m.side) m.tiles t valid.tiles tile.1.0 in
-        let found = some_index t.corner 0 t.samples tile.1.1 in
-        let at : is_void_within (point_of m.side t.corner found.0) ≡ true = ap (λ i. is_void_within (point_of m.side t.corner i)) (sym (zero-add found.0)) ∙ found.1.1 in
-        let k = tile.1.0.0 in
-        let listed : Contains (corners_of m) t.corner =
-        (k, omega (arith, tile.1.0.1, length-map m.tiles (λ (u : Tile). u.corner)), get_or-map (λ (u : Tile). u.corner) m.tiles k t t.corner tile.1.0.1 ∙ ap (λ (u : Tile). u.corner) tile.1.0.2) in
-        let put = puts.complete t.corner found.0 is_tile.corner listed (omega (arith, found.1.0, is_tile.whole)) at in
-        omega (arith, put.1)
-
-    pub patch_accepted : (capacity : ℕ) (h : ℤ) → is_height h ≡ true → is_box m.side from to ≡ true → ((p : Point) → sample p ≡ h) → 0 < length changes → effect capacity m (Patch from to h) ≡ Ok (all_changed changes m)
-    patch_accepted capacity h in_range box each some =
-        let void : has_void m from to ≡ true = some_void (get_or changes 0 (Set (record { lat = h; lon = h }) 0 h)) (Contains-get_or changes 0 (Set (record { lat = h; lon = h }) 0 h) some) in
-        let filled : all_changed changes m ≡ patched from to h m =
-        puts_edit m valid is_void_within sample changes puts ∙ ap (λ (f : Point → ℤ → ℤ). edited f m) (λ i p s. cond (is_void_within p) (each p i) s) in
-        rw (in_range, box, void) (ap (λ (n : Mosaic). Ok n) (sym filled))
-
-    pub patch_nothing : (capacity : ℕ) (h : ℤ) → is_height h ≡ true → is_box m.side from to ≡ true → length changes ≡ 0 → effect capacity m (Patch from to h) ≡ Err NothingVoid
-    patch_nothing capacity h in_range box none =
-        let filled : has_void m from to ≡ false = false_from_ne_true (has_void m from to) (λ void. let some = some_change void in omega arith) in
-        rw (in_range, box, filled) refl
-
 abbrev pub is_span : ℕ → ℤ → ℤ → Bool
 is_span n first last = int_le first last && int_lt (last -ℤ first) (pos n)
 
@@ -133,15 +89,6 @@ span_at n n2 a a2 b b2 v p q r h = ap₂ (is_span n) (sym p) (sym q) ∙ ap (λ 
 
 pub count_at : (a a2 b b2 : ℤ) (k : ℕ) → a2 ≡ a → b2 ≡ b → b2 +ℤ pos 1 ≡ a2 +ℤ pos k → b +ℤ pos 1 ≡ a +ℤ pos k
 count_at a a2 b b2 k p q h = ap (λ z. z +ℤ pos 1) (sym q) ∙ h ∙ ap (λ z. z +ℤ pos k) p
-
--- the rows as the box
-pub puts_within : (m : Mosaic) (n : ℕ) (cs : List Corner) (from to : Point) (rows columns : ℕ) (s : ℤ) (changes : List Change) → n ≡ m.side → cs ≡ corners_of m →
-    to.y +ℤ pos 1 ≡ from.y +ℤ pos rows → to.x +ℤ pos 1 ≡ from.x +ℤ pos columns →
-    Puts n cs (is_void_in_rows m from rows columns) (λ _. s) changes → Puts m.side (corners_of m) (is_void_within m from to) (λ _. s) changes
-puts_within m n cs from to rows columns s changes side same y x puts =
-    subst (λ (test : Point → Bool). Puts m.side (corners_of m) test (λ _. s) changes) (λ i q. rows_all m from to rows columns y x q i)
-    (subst (λ k. Puts k (corners_of m) (is_void_in_rows m from rows columns) (λ _. s) changes) side
-    (subst (λ (l : List Corner). Puts n l (is_void_in_rows m from rows columns) (λ _. s) changes) same puts))
 
 -- from the tests of the code
 pub height_in : (h h2 : ℤ) → h2 ≡ h → int_lt h2 (negsuc 32766) ≡ false → int_lt (pos 32767) h2 ≡ false → is_height h ≡ true

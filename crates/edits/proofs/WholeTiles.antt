@@ -3,19 +3,14 @@ use Rattle.std.proofs.Common.{◌≡◌, ℕ, ◌*◌, ◌<◌, ◌≤◌, ◌�
 use Rattle.std.specs.Prelude.{Ok, Err}
 use Rattle.std.specs.List.{All, Contains}
 use Rattle.std.proofs.lemmas.Bool.{false≢true, false_from_ne_true, eqb-true, eq-eqb, lt-ltb, le-ltb}
-use Rattle.std.proofs.lemmas.List.Elements.{All-nil, All-cons}
 use Rattle.std.proofs.lemmas.List.{length-map}
 use Rattle.lattice.specs.Corners.{Corner}
-use Rattle.lattice.specs.declared.point.Point.{Point}
 use Rattle.lattice.specs.Mosaic.{Mosaic, is_present}
 use Rattle.lattice.specs.declared.refusal.Refusal.TheVariants.{BadLength, TileThere, NoTile, Full}
 use Rattle.hgt.specs.Bytes.{samples_in}
 use Rattle.catalogue.specs.Tiles.{added, corners_of, without}
 use Rattle.catalogue.proofs.Presence.{present_iff}
 use Rattle.edits.specs.declared.command.Command.TheVariants.{Import, Remove}
-use Rattle.edits.specs.declared.change.Change.{Change}
-use Rattle.edits.specs.declared.change.Change.TheVariants.{Add, Drop}
-use Rattle.edits.specs.Changes.{all_changed, CanBeMade}
 use Rattle.edits.specs.Effect.{effect}
 
 module _ (m : Mosaic) (cs : List Corner) (same : corners_of m ≡ cs) (c : Corner) (present : Bool) (says : IsTrue present ↔ Contains cs c) where
@@ -56,19 +51,3 @@ pub import_short : (m : Mosaic) (c : Corner) (capacity : ℕ) (bytes : List ℕ)
 import_short m c capacity bytes other =
     let wrong : nat_eq (length bytes) (2 * (m.side * m.side)) ≡ false = false_from_ne_true (nat_eq (length bytes) (2 * (m.side * m.side))) (λ e. other (eqb-true (length bytes) (2 * (m.side * m.side)) e)) in
     rw wrong refl
-
--- one change, as the effect has it
-pub adds_it : (capacity : ℕ) (m : Mosaic) (c : Corner) (bytes : List ℕ) (samples : List _) (changes : List Change) → samples ≡ samples_in bytes → changes ≡ Add c samples ∷ []
-    → effect capacity m (Import c bytes) ≡ Ok (added (record { corner = c; samples = samples_in bytes }) m) → effect capacity m (Import c bytes) ≡ Ok (all_changed changes m)
-adds_it capacity m c bytes samples changes read only made = rw (only, read) made
-
-pub drops_it : (capacity : ℕ) (m : Mosaic) (c : Corner) (changes : List Change) → changes ≡ Drop c ∷ [] → effect capacity m (Remove c) ≡ Ok (without c m) → effect capacity m (Remove c) ≡ Ok (all_changed changes m)
-drops_it capacity m c changes only made = rw only made
-
-pub added_fits : (n : ℕ) (cs : List Corner) (sinks : List Point) (c : Corner) (samples : List _) (changes : List Change) →
-    ¬ Contains cs c → length samples ≡ n * n → changes ≡ Add c samples ∷ [] → All (CanBeMade n cs sinks) changes
-added_fits n cs sinks c samples changes no_tile whole only =
-    subst (All (CanBeMade n cs sinks)) (sym only) (All-cons (CanBeMade n cs sinks) (Add c samples) [] (no_tile, whole) (All-nil (CanBeMade n cs sinks)))
-
-pub dropped_fits : (n : ℕ) (cs : List Corner) (sinks : List Point) (c : Corner) (changes : List Change) → Contains cs c → changes ≡ Drop c ∷ [] → All (CanBeMade n cs sinks) changes
-dropped_fits n cs sinks c changes there only = subst (All (CanBeMade n cs sinks)) (sym only) (All-cons (CanBeMade n cs sinks) (Drop c) [] there (All-nil (CanBeMade n cs sinks)))

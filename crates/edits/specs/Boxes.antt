@@ -1,9 +1,9 @@
 -- Boxes row by row.
-use Rattle.std.specs.Prelude.{◌≡◌, ℕ, ℤ, pos, ◌+ℤ◌, int_le, int_lt, Bool, true, false, ◌&&◌}
+use Rattle.std.specs.Prelude.{◌≡◌, ℕ, ℤ, pos, ◌+ℤ◌, int_le, int_lt, Bool, true, false, ◌&&◌, if◌then◌else◌}
 use Rattle.std.specs.Ordering.{int_eq}
 use Rattle.lattice.specs.declared.point.Point.{Point}
 use Rattle.lattice.specs.Mosaic.{Mosaic}
-use Rattle.edits.specs.Effect.{is_void_at}
+use Rattle.edits.specs.Effect.{edited, is_void_at}
 
 -- of so many points from this one on eastwards
 abbrev pub is_in_row : Point → ℕ → Point → Bool
@@ -27,3 +27,7 @@ is_overlap first last low high v = (int_le first v && int_le v last) && (int_le 
 abbrev pub IsSomewhere : (Point → Bool) → Bool → Type 0
 IsSomewhere test true = (p : Point) × (test p ≡ true)
 IsSomewhere test false = (p : Point) → test p ≡ false
+
+-- the mosaic with this sample at each point that passes the test, in every present tile that holds it
+abbrev pub filled : (Point → Bool) → ℤ → Mosaic → Mosaic
+filled test s m = edited (λ p v. if test p then s else v) m

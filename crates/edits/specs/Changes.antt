@@ -1,11 +1,12 @@
 -- What a change makes of a mosaic, and where it can be made (this product's own profile).
-use Rattle.std.specs.Prelude.{◌≡◌, ℕ, ◌*◌, ◌<◌, ◌⊎◌, Bool, false, ◌&&◌, IsFalse, nat_eq, List, [], ◌∷◌, length, Contains, All, AllPairs}
-use Rattle.lattice.specs.Corners.{Corner, same_corner}
+use Rattle.std.specs.Prelude.{◌≡◌, ℕ, ◌*◌, ◌<◌, ℤ, Bool, if◌then◌else◌, List, [], ◌∷◌, length, Contains}
+use Rattle.lattice.specs.Corners.{Corner}
 use Rattle.lattice.specs.declared.point.Point.{Point}
-use Rattle.lattice.specs.Mosaic.{Mosaic, AreSinks}
-use Rattle.catalogue.specs.Tiles.{added, without, with_sample, with_sinks}
+use Rattle.lattice.specs.Mosaic.{Mosaic, IsMosaic, AreSinks}
+use Rattle.catalogue.specs.Tiles.{added, corners_of, without, with_sample, with_sinks}
 use Rattle.edits.specs.declared.change.Change.{Change}
 use Rattle.edits.specs.declared.change.Change.TheVariants.{Add, Drop, Set, Sink, Unsink}
+use Rattle.edits.specs.Effect.{edited}
 use Rattle.edits.specs.Sinks.{with_point, without_point}
 
 abbrev pub changed : Change → Mosaic → Mosaic
@@ -34,25 +35,13 @@ abbrev pub IsSet : Change → Type 0
 IsSet (Set c i s) = Unit {0}
 IsSet _ = ⊥
 
--- the change adds no tile
-abbrev pub AddsNone : Change → Type 0
-AddsNone (Add c samples) = ⊥
-AddsNone _ = Unit {0}
-
 -- the change sets a sample of a present tile
 abbrev pub CanBeSet : ℕ → List Corner → Change → Type 0
 CanBeSet n corners (Set c i s) = Contains corners c × (i < n * n)
 CanBeSet n corners _ = ⊥
 
--- a change of a whole tile, or of a sink, is the only one
-abbrev pub StandAlone : List Change → Type 0
-StandAlone changes = (length changes ≡ 1) ⊎ All IsSet changes
-
--- both changes set the same sample
-abbrev pub set_same : Change → Change → Bool
-set_same (Set c i s) (Set d j t) = same_corner c d && nat_eq i j
-set_same _ _ = false
-
--- no sample is set twice
-abbrev pub SetOnce : List Change → Type 0
-SetOnce changes = AllPairs (λ x y. IsFalse (set_same x y)) changes
+-- The new changes are the old and some that set samples: those of the present tiles at the points that pass the test, to this
+-- one.
+abbrev pub Sets : ℕ → List Corner → (Point → Bool) → ℤ → List Change → List Change → Type 0
+Sets n corners test s old new = (m : Mosaic) (f : Point → ℤ → ℤ) → IsMosaic m → m.side ≡ n → corners_of m ≡ corners → all_changed old m ≡ edited f m
+    → all_changed new m ≡ edited (λ p v. if test p then s else f p v) m

@@ -4,8 +4,8 @@ pub mod Edits
 pub mod Effect
 pub mod EffectLaws
 pub mod LeftStale
+pub mod Places
 pub mod Plans
-pub mod Puts
 pub mod Sinks
 pub mod Touched
 pub mod Treatments

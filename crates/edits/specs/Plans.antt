@@ -1,13 +1,12 @@
 -- How planning a command may be refused (this product's own profile).
-use Rattle.std.specs.Prelude.{◌≡◌, ◌≤◌, ◌*◌, ℕ, length, Bool, true, false, ◌||◌, List, All}
-use Rattle.lattice.specs.Corners.{Corner}
+use Rattle.std.specs.Prelude.{◌≡◌, ◌≤◌, ◌*◌, ℕ, length, Bool, true, false, ◌||◌}
 use Rattle.lattice.specs.declared.refusal.Refusal.{Refusal}
 use Rattle.lattice.specs.declared.refusal.Refusal.TheVariants.{BadLength, TileThere, NoTile, Full, Outside, Void, NothingVoid, BadHeight, BadDepth, BadBox, Repeated, TooDeep, NoSink}
 use Rattle.catalogue.specs.Endings.{ends_any}
 use Rattle.edits.specs.declared.command.Command.{Command}
 use Rattle.edits.specs.declared.command.Command.TheVariants.{Import, Remove, Patch, Burn, Wall, Sink, Unsink}
-use Rattle.edits.specs.declared.change.Change.{Change}
-use Rattle.edits.specs.Changes.{CanBeSet}
+use Rattle.edits.specs.declared.edit.Edit.{Edit}
+use Rattle.edits.specs.declared.edit.Edit.TheVariants.{Voids, Heights}
 use Rattle.edits.specs.Sinks.{refuses_sink}
 
 -- the refusals of a command's own tests
@@ -46,12 +45,8 @@ IsFew (Wall h points) changes = changes ≤ 4 * length points.items
 IsFew (Sink p) changes = changes ≡ 1
 IsFew (Unsink p) changes = changes ≡ 1
 
--- a patch, a burn and a wall come to samples set in present tiles
-abbrev pub SetsOnly : ℕ → List Corner → Command → List Change → Type 0
-SetsOnly n corners (Import c bytes) changes = Unit {0}
-SetsOnly n corners (Remove c) changes = Unit {0}
-SetsOnly n corners (Patch from to h) changes = All (CanBeSet n corners) changes
-SetsOnly n corners (Burn depth points) changes = All (CanBeSet n corners) changes
-SetsOnly n corners (Wall h points) changes = All (CanBeSet n corners) changes
-SetsOnly n corners (Sink p) changes = Unit {0}
-SetsOnly n corners (Unsink p) changes = Unit {0}
+-- .. an edit
+abbrev pub AreFewOf : Edit → ℕ → Type 0
+AreFewOf (Voids from to h tiles) changes = Unit {0}
+AreFewOf (Heights heights) changes = changes ≤ 4 * length heights.items
+AreFewOf _ changes = changes ≡ 1

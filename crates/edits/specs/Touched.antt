@@ -29,6 +29,10 @@ is_touched m (Unsink q) t = holds m.side t.corner q
 abbrev pub are_neighbours : Corner → Corner → Bool
 are_neighbours a b = nat_lt (nat_abs (a.lat -ℤ b.lat)) 2 && nat_lt (nat_abs (a.lon -ℤ b.lon)) 2
 
+-- some tile of which the test holds is the corner's or a neighbour
+abbrev pub is_near_one : (Tile → Bool) → Mosaic → Corner → Bool
+is_near_one touched m p = list_any (λ t. touched t && are_neighbours t.corner p) m.tiles
+
 -- The tile at the corner is touched, or a neighbour of one that is. The mosaic is the one that the command finds; the
 -- tile that an import adds is its own.
 abbrev pub goes_stale : Mosaic → Command → Corner → Bool

@@ -10,8 +10,8 @@ use Rattle.lattice.specs.Mosaic.{Mosaic}
 use Rattle.lattice.specs.Height.{height_of}
 use Rattle.lattice.specs.Ground.{metres}
 use Rattle.edits.specs.Effect.{is_named, is_repeated, first_fault, unless_fault, edited}
-use Rattle.edits.specs.declared.named.Treatment.{Treatment}
-use Rattle.edits.specs.declared.named.Treatment.TheVariants.{Lower, Raise}
+use Rattle.edits.specs.declared.treatment.Treatment.{Treatment}
+use Rattle.edits.specs.declared.treatment.Treatment.TheVariants.{Lower, Raise}
 
 abbrev pub treated : Treatment → ℤ → ℤ
 treated (Lower by) h = h -ℤ pos by

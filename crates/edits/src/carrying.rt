@@ -1,64 +1,124 @@
-//! Carrying out the changes of a command in memory.
-ghost use Rattle.std.specs.Prelude.{◌≡◌, All, IsOk, IfErr, OnOk, OnErr};
+//! Carrying out an edit in memory.
+ghost use Rattle.std.specs.Prelude.{◌≡◌, ◌≤ℤ◌, ◌+ℤ◌, ◌^◌, pos, IsTrue, IfErr, OnOk, OnErr};
 ghost use Rattle.lattice.specs.Mosaic.{IsMosaic};
 ghost use Rattle.lattice.specs.declared.refusal.Refusal.TheVariants.{NoMemory};
 ghost use Rattle.catalogue.specs.Tiles.{corners_of};
-ghost use Rattle.edits.specs.Changes.{AddsNone, CanBeMade, StandAlone, changed, all_changed};
+ghost use Rattle.edits.specs.Boxes.{filled, is_void_in_row, is_void_in_rows};
+ghost use Rattle.edits.specs.Edits.{FitsIn, edit_made, with_height, with_heights};
+ghost use Rattle.edits.specs.Effect.{is_box, is_void_at, patched};
 
-use crate::Change;
+use crate::boxes::{east_of, north_of, size_of_box};
+use crate::places::places_of;
 use crate::sinks::{with_point, without_point};
-use catalogue::{Samples, Table};
-use lattice::Refusal;
+use crate::{Edit, NewHeight};
+use catalogue::{Samples, Table, height};
+use lattice::{Corner, Height, Point, Refusal};
+use std::alloc::Global;
 
-/// Makes the changes in the table, one after another: what `plan` answers for the table as it stands. A tile that comes
-/// in may find no memory. That is `NoMemory`, and the table stays as it was. All other changes take none.
-pub fn carry_out(changes: Vec<Change>, table: &mut Table) -> Result<(), Refusal>
-    requires fits { All (CanBeMade table.old.side (corners_of table.old) table.old.sinks) changes.items }
-    requires alone { StandAlone changes.items }
-    ensures made { OnOk result (table.new ≡ all_changed changes.items table.old) }
+/// Carries out the edit in the table: what `edit_of` answers for the table as it stands. A tile that comes in may find no
+/// memory. That is `NoMemory`, and the table stays as it was. All other edits take none.
+pub fn carry_out(alloc: Global, edit: &Edit, table: &mut Table) -> Result<(), Refusal>
+    requires { FitsIn table.old.side (corners_of table.old) table.old.sinks edit.now }
+    ensures made { OnOk result (table.new ≡ edit_made edit.now table.old) }
     ensures refusal { IfErr result (λ r. r ≡ NoMemory) }
     ensures unchanged { OnErr result (table.new ≡ table.old) }
-    ensures sure { All AddsNone changes.items → IsOk result }
-    ensures valid { IsMosaic table.old → IsMosaic table.new }
+    ensures valid { IsMosaic table.new }
 {
-    for change in changes {
-        make(change, table)?;
+    // That a table is a mosaic is told by asking.
+    let _is_present = table.present(Corner::default());
+    match edit {
+        Edit::Add { corner, bytes } => {
+            let samples = hgt::samples(alloc, *bytes, table.side())?;
+            return table.add(*corner, samples);
+        }
+        Edit::Drop { corner } => {
+            let _ = table.remove(*corner);
+        }
+        Edit::Heights { heights } => set_heights(table, heights.as_slice()),
+        Edit::Voids {
+            from,
+            to,
+            height,
+            ..
+        } => fill_voids(table, *from, *to, *height),
+        Edit::Sink { point } => {
+            let sinks = with_point(table.sinks(), *point);
+            table.declare(&sinks);
+        }
+        Edit::Unsink { point } => {
+            let sinks = without_point(table.sinks(), *point);
+            table.declare(&sinks);
+        }
     }
     Ok(())
 }
 
-// Makes one change.
-fn make(change: Change, table: &mut Table) -> Result<(), Refusal>
-    requires { CanBeMade table.old.side (corners_of table.old) table.old.sinks change }
-    ensures made { OnOk result (table.new ≡ changed change table.old) }
-    ensures refusal { IfErr result (λ r. r ≡ NoMemory) }
-    ensures unchanged { OnErr result (table.new ≡ table.old) }
-    ensures sure { AddsNone change → IsOk result }
+// Gives each point its new height, one after another.
+fn set_heights(table: &mut Table, heights: &[NewHeight])
+    requires { IsMosaic table.old }
+    ensures set { table.new ≡ with_heights heights.now table.old }
     ensures valid { IsMosaic table.new }
 {
-    match change {
-        Change::Add { corner, samples } => table.add(corner, samples.into_vec()),
-        Change::Drop { corner } => {
-            let _ = table.remove(corner);
-            Ok(())
-        }
-        Change::Set {
-            corner,
-            index,
-            sample,
-        } => {
-            table.set(corner, index, sample);
-            Ok(())
-        }
-        Change::Sink { point } => {
-            let sinks = with_point(table.sinks(), point);
-            table.declare(&sinks);
-            Ok(())
-        }
-        Change::Unsink { point } => {
-            let sinks = without_point(table.sinks(), point);
-            table.declare(&sinks);
-            Ok(())
+    for height in heights {
+        set_at(table, height.point, height.metres);
+    }
+}
+
+// Puts the sample at the point, in every present tile that holds it.
+fn set_at(table: &mut Table, point: Point, sample: i16)
+    requires { IsMosaic table.old }
+    ensures set { table.new ≡ with_height point sample table.old }
+    ensures valid { IsMosaic table.new }
+{
+    for place in places_of(table, point).as_slice() {
+        table.set(place.corner, place.index, sample);
+    }
+}
+
+// Puts the sample at the void points of the box.
+fn fill_voids(table: &mut Table, from: Point, to: Point, sample: i16)
+    requires valid { IsMosaic table.old }
+    requires size { IsTrue (is_box table.old.side from to) }
+    ensures filled { table.new ≡ patched from to sample table.old }
+    ensures valid { IsMosaic table.new }
+{
+    if let Some(size) = size_of_box(table.side(), from, to) {
+        fill_rows(table, from, size.rows, size.columns, sample);
+    }
+}
+
+// Puts the sample at the void points of so many rows, northwards from this point.
+fn fill_rows(table: &mut Table, from: Point, rows: u32, columns: u32, sample: i16)
+    requires valid { IsMosaic table.old }
+    requires north { (from.y +ℤ pos rows) ≤ℤ pos (2 ^ 31) }
+    requires east { (from.x +ℤ pos columns) ≤ℤ pos (2 ^ 31) }
+    ensures filled { table.new ≡ filled (is_void_in_rows table.old from rows columns) sample table.old }
+    ensures valid { IsMosaic table.new }
+{
+    for row in 0..rows {
+        fill_row(table, north_of(from, row), columns, sample);
+    }
+}
+
+// Puts the sample at the void points of a row. A point that was set isn't read again.
+fn fill_row(table: &mut Table, start: Point, columns: u32, sample: i16)
+    requires valid { IsMosaic table.old }
+    requires east { (start.x +ℤ pos columns) ≤ℤ pos (2 ^ 31) }
+    ensures filled { table.new ≡ filled (is_void_in_row table.old start columns) sample table.old }
+    ensures valid { IsMosaic table.new }
+{
+    for column in 0..columns {
+        let point = east_of(start, column);
+        if is_void(table, point) {
+            set_at(table, point, sample);
         }
     }
+}
+
+fn is_void(table: &mut Table, point: Point) -> bool
+    requires { IsMosaic table.old }
+    ensures void { result ≡ is_void_at table.old point }
+    ensures same { table.new ≡ table.old }
+{
+    matches!(height(table, point), Ok(Height::Void))
 }

@@ -1,19 +1,21 @@
 //! The heights that burns and walls give to the points that they name.
 ghost use Rattle.std.specs.Prelude.{◌≡◌, ◌≢◌, ◌||◌, ℕ, Ok, Err, IsTrue, IfOk, IfErr};
+ghost use Rattle.lattice.specs.Height.{height_of};
+ghost use Rattle.lattice.specs.declared.height.Height.TheVariants as height_is;
 ghost use Rattle.lattice.specs.declared.refusal.Refusal.TheVariants.{NoMemory};
 ghost use Rattle.catalogue.specs.Endings.{ends_any};
 ghost use Rattle.catalogue.specs.Readers.{OnlyReads, reads_of};
 ghost use Rattle.edits.specs.Edits.{points_of, with_heights};
-ghost use Rattle.edits.specs.Effect.{effect};
+ghost use Rattle.edits.specs.Effect.{effect, is_named, is_repeated};
 ghost use Rattle.edits.specs.Plans.{is_own, may_end};
-ghost use Rattle.edits.specs.Treatments.{treats, refuses};
+ghost use Rattle.edits.specs.Treatments.{fault_of, is_groundless, refuses, treats};
 ghost use Rattle.edits.specs.declared.command.Command.TheVariants.{Burn, Wall};
 
 use crate::NewHeight;
-use crate::named::{DEEPEST, HIGHEST, LOWEST, Treatment, ground, is_repeated};
+use crate::treatment::{DEEPEST, HIGHEST, LOWEST, Treatment};
 use arrayvec::ArrayVec;
-use catalogue::Samples;
-use lattice::{Point, Refusal};
+use catalogue::{Samples, height};
+use lattice::{Height, Point, Refusal};
 
 /// The heights that a burn gives to its points.
 pub(crate) fn lowered<S: Samples>(
@@ -80,4 +82,38 @@ fn treat<S: Samples>(
         });
     }
     Ok(heights)
+}
+
+/// The height of the point, which has to have one.
+pub(crate) fn ground<S: Samples>(samples: &mut S, point: Point) -> Result<i16, Refusal>
+    ensures metres { S.is_honest samples.new → IfOk result (λ h. height_of (S.mosaic samples.old) point ≡ height_is.At h) }
+    ensures refused { S.is_honest samples.new → IfErr result (λ r. fault_of (height_of (S.mosaic samples.old) point) r) }
+    ensures causes { IfErr result (λ r. IsTrue (is_groundless r || ends_any r)) }
+    ensures memory { IfErr result (λ r. r ≢ NoMemory) }
+    ensures reads { OnlyReads S.Samples samples.old samples.new (reads_of result) }
+{
+    match height(samples, point)? {
+        Height::Outside => Err(Refusal::Outside),
+        Height::Void => Err(Refusal::Void),
+        Height::At(metres) => Ok(metres),
+    }
+}
+
+// Whether two of the points are equal.
+fn is_repeated(points: &[Point]) -> bool
+    ensures { result ≡ is_repeated points.now }
+{
+    for (i, point) in points.iter().enumerate() {
+        if is_named(&points[i + 1..], *point) {
+            return true;
+        }
+    }
+    false
+}
+
+// Whether the point is one of them.
+fn is_named(points: &[Point], point: Point) -> bool
+    ensures { result ≡ is_named points.now point }
+{
+    points.iter().any(|other| point == *other)
 }

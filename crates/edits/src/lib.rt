@@ -1,9 +1,11 @@
-//! Commands that change a mosaic, and the changes of samples and tiles that they come to.
+//! Commands that change a mosaic, and what they make of it.
 //!
-//! The layer above rests on this: the changes that `plan` answers are the effect of the command, or its refusal, and say
-//! which tiles go stale, tile by tile by `leave_stale`; `carry_out` makes them in a table, all of them or none.
+//! The layer above rests on this: the edit that `edit_of` answers is the effect of the command, or its refusal;
+//! `leaves_stale` says which tiles go stale by it; `carry_out` makes it in a table, whole or not at all. `plan` lists it
+//! change by change.
 #![tactic(auto)]
 
+mod boxes;
 mod carrying;
 mod change;
 mod command;
@@ -11,15 +13,15 @@ mod edit;
 mod growth;
 mod heights;
 mod laws;
-mod named;
+mod listing;
 mod neighbours;
-mod patching;
+mod places;
 mod planning;
 mod room;
-mod sinking;
 mod sinks;
 mod stale;
 mod tiles;
+mod treatment;
 mod void_tiles;
 
 pub use carrying::carry_out;
@@ -33,5 +35,5 @@ pub use laws::{
 pub use neighbours::are_neighbours;
 pub use planning::plan;
 pub use sinks::{with_point, with_sink, without_point, without_sink};
-pub use stale::{leave_stale, leaves_stale};
+pub use stale::leaves_stale;
 pub use tiles::{can_import, can_remove};

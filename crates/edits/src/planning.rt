@@ -1,19 +1,12 @@
-//! What a command comes to.
-ghost use Rattle.std.specs.Prelude.{◌≡◌, List, All, IsTrue, IfOk, IfErr, vec_len};
-ghost use Rattle.lattice.specs.Corners.{Corner};
-ghost use Rattle.lattice.specs.Mosaic.{Mosaic};
+//! What a command comes to, change by change.
+ghost use Rattle.std.specs.Prelude.{◌≡◌, All, IsTrue, Ok, Err, IfOk, IfErr, vec_len};
 ghost use Rattle.catalogue.specs.Readers.{OnlyReads, reads_of};
-ghost use Rattle.edits.specs.Changes.{CanBeMade, StandAlone, SetOnce, all_changed};
+ghost use Rattle.edits.specs.Changes.{CanBeMade, all_changed};
 ghost use Rattle.edits.specs.Effect.{effect};
-ghost use Rattle.edits.specs.LeftStale.{left_stale};
-ghost use Rattle.edits.specs.Plans.{IsFew, SetsOnly, is_own, may_end};
-ghost use Rattle.edits.specs.Touched.{stale_after};
+ghost use Rattle.edits.specs.Plans.{IsFew, is_own, may_end};
 
-use crate::named::{burn, wall};
-use crate::patching::patch;
-use crate::sinking::{sink, unsink};
-use crate::tiles::{import, remove};
-use crate::{Change, Command};
+use crate::listing::changes_of;
+use crate::{Change, Command, edit_of};
 use catalogue::Samples;
 use lattice::Refusal;
 use std::alloc::Global;
@@ -36,24 +29,9 @@ pub fn plan<S: Samples>(
     // Any other is of a read, or for want of memory.
     ensures causes { IfErr result (λ r. IsTrue (may_end command.now r)) }
     ensures fits { IfOk result (λ changes. All (CanBeMade (S.side_of samples.old) (S.corners samples.old) (S.sinks_of samples.old)) changes.items) }
-    ensures sets { IfOk result (λ changes. SetsOnly (S.side_of samples.old) (S.corners samples.old) command.now changes.items) }
-    ensures alone { IfOk result (λ changes. StandAlone changes.items) }
-    ensures once { IfOk result (λ changes. SetOnce changes.items) }
-
-    // The tiles that go stale by the command are those that the changes are of, those that hold a sink that comes or goes,
-    // and the neighbours of either.
-    ensures stale { S.is_honest samples.new → IfOk result (λ changes. (stale : List Corner) (new : Mosaic)
-        → stale_after (S.mosaic samples.old) command.now stale new ≡ left_stale (S.mosaic samples.old) changes.items stale new) }
     ensures few { IfOk result (λ changes. IsFew command.now (vec_len changes)) }
     ensures reads { OnlyReads S.Samples samples.old samples.new (reads_of result) }
 {
-    match command {
-        Command::Import { corner, bytes } => import(alloc, samples, capacity, *corner, bytes),
-        Command::Remove { corner } => remove(alloc, samples, *corner),
-        Command::Patch { from, to, height } => patch(alloc, samples, *from, *to, *height),
-        Command::Burn { depth, points } => burn(alloc, samples, *depth, points),
-        Command::Wall { height, points } => wall(alloc, samples, *height, points),
-        Command::Sink { point } => sink(alloc, samples, *point),
-        Command::Unsink { point } => unsink(alloc, samples, *point),
-    }
+    let edit = edit_of(samples, capacity, command)?;
+    changes_of(alloc, samples, &edit)
 }

@@ -9,7 +9,7 @@ ghost use Rattle.catalogue.specs.Readers.{OnlyReads, reads_of};
 ghost use Rattle.catalogue.specs.Tiles.{with_sinks};
 ghost use Rattle.edits.specs.Sinks.{with_point, without_point, sunk, unsunk, refuses_sink};
 
-use crate::named::ground;
+use crate::heights::ground;
 use arrayvec::ArrayVec;
 use catalogue::Samples;
 use lattice::{MOST_SINKS, Point, Refusal, is_held};

@@ -14,8 +14,8 @@ ghost use Rattle.edits.specs.Effect.{effect, has_void_from, is_box, is_height, i
 ghost use Rattle.edits.specs.Plans.{is_own, may_end};
 ghost use Rattle.edits.specs.declared.command.Command.TheVariants.{Patch};
 
-use crate::named::{HIGHEST, LOWEST};
-use crate::patching::{east_of, north_of, size_of_box, span};
+use crate::boxes::{east_of, north_of, size_of_box, span};
+use crate::treatment::{HIGHEST, LOWEST};
 use arrayvec::ArrayVec;
 use catalogue::{Samples, height};
 use lattice::{Corner, Height, Point, Refusal, Side, holders, point_at};

@@ -11,7 +11,7 @@ use Rattle.edits.specs.declared.command.Command.{Command}
 use Rattle.edits.specs.declared.command.Command.TheVariants.{Remove, Patch, Burn, Wall}
 use Rattle.edits.specs.Edits.{with_heights}
 use Rattle.edits.specs.Effect.{effect, patched}
-use Rattle.edits.specs.LeftStale.{is_near_one}
+use Rattle.edits.specs.Touched.{is_near_one}
 use Rattle.edits.specs.Touched.{goes_stale, holds_one}
 use Rattle.edits.proofs.EditStale.{stale_holders, stale_named, stale_voids}
 use Rattle.edits.proofs.edit.edit_of.Goals as goal

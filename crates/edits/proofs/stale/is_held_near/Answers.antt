@@ -1,25 +1,16 @@
 use Rattle.std.proofs.Common.{◌≡◌, ◌≤◌, inl, inr, true, ap, sym, ◌∙◌, subst, arith, get_or, List}
-use Rattle.std.specs.Prelude.{Contains, ◌&&◌}
-use Rattle.std.specs.List.{list_any}
-use Rattle.lattice.specs.declared.point.Point.{Point}
-use Rattle.catalogue.specs.declared.samples.Samples.{Ghosts}
-use Rattle.catalogue.specs.Tiles.{corners_of}
-use Rattle.edits.specs.LeftStale.{is_near_one}
+use Rattle.std.specs.Prelude.{Contains}
 use Rattle.std.proofs.lemmas.List.{get_or_read}
 use Rattle.std.proofs.lemmas.Bool.{cases_eq, false≢true}
 use Rattle.lattice.specs.Corners.{Corner}
-use Rattle.lattice.specs.Lattice.{Holds, holds}
+use Rattle.lattice.specs.Lattice.{Holds}
 use Rattle.edits.specs.Touched.{are_neighbours}
-use Rattle.edits.proofs.EditStale.{held_near, not_held_near, stale_holders}
+use Rattle.edits.proofs.EditStale.{held_near, not_held_near}
 use Rattle.edits.proofs.stale.is_held_near.Goals as goal
 use Rattle.edits.proofs.stale.is_held_near.Goals.{else-present-via-then-present+else-are_neighbours, else-present-via-else-present}
 
-as_honest : {S : Type 0} (h : Ghosts S) → ((s : S) → h.is_honest s → (h.mosaic s).side ≡ h.side_of s) → ((s : S) → h.is_honest s → corners_of (h.mosaic s) ≡ h.corners s) → (s : S) → h.is_honest s → (q : Point) (p : Corner)
-    → list_any (λ c. holds (h.side_of s) c q && are_neighbours c p) (h.corners s) ≡ is_near_one (λ t. holds (h.mosaic s).side t.corner q) (h.mosaic s) p
-as_honest h same_side same_corners s honest q p = stale_holders (h.mosaic s) (h.side_of s) (h.corners s) (same_side s honest) (same_corners s honest) q p
-
-pub returns-then-are_neighbours-clause-held : goal.returns-then-are_neighbours-clause-held
-returns-then-are_neighbours-clause-held g c =
+pub returns-then-are_neighbours : goal.returns-then-are_neighbours
+returns-then-are_neighbours g c =
     let now = c.args.samples.now in
     let n = g.S.Samples.side_of now in
     let cs = g.S.Samples.corners now in
@@ -28,9 +19,6 @@ returns-then-are_neighbours-clause-held g c =
     let among = subst (λ (l : List Corner). Contains l holder) c.as_slice-holder-items.ensures.value (c.loop-holder.holder-index, c.loop-holder-test.true, sym c.holder-item.is) in
     let held = subst (λ k. Holds k holder c.args.point) c.side-side.ensures ((c.holders-corners.ensures.exactly holder).0 among) in
     sym (held_near n (subst (λ k. 3 ≤ k) c.side.ensures c.edge-edge.ensures.low) cs c.present-is_present.ensures.whole_degrees c.args.point c.args.corner holder there held (sym c.are_neighbours.ensures ∙ c.if-are_neighbours.true))
-
-pub returns-then-are_neighbours-clause-honest : goal.returns-then-are_neighbours-clause-honest
-returns-then-are_neighbours-clause-honest g c = λ honest. returns-then-are_neighbours-clause-held g c ∙ as_honest g.S.Samples g.met.S.Samples.same_side g.met.S.Samples.same_corners c.args.samples.now honest c.args.point c.args.corner
 
 pub loop-holder-preserved : goal.loop-holder-preserved
 loop-holder-preserved g c k d below present close =
@@ -47,8 +35,8 @@ loop-holder-preserved g c k d below present close =
       | inr other ↦ c.loop-holder.invariant k d (omega arith) present close
     ]
 
-pub returns-clause-held : goal.returns-clause-held
-returns-clause-held g c =
+pub returns : goal.returns
+returns g c =
     let now = c.args.samples.now in
     let n = g.S.Samples.side_of now in
     let cs = g.S.Samples.corners now in
@@ -57,6 +45,3 @@ returns-clause-held g c =
     (λ corner held. subst (λ (l : List Corner). Contains l corner) (sym c.as_slice-holder-items.ensures.value)
     ((c.holders-corners.ensures.exactly corner).1 (subst (λ k. Holds k corner c.args.point) (sym c.side-side.ensures) held)))
     (λ k d below. c.loop-holder.invariant k d (omega (arith, below))))
-
-pub returns-clause-honest : goal.returns-clause-honest
-returns-clause-honest g c = λ honest. returns-clause-held g c ∙ as_honest g.S.Samples g.met.S.Samples.same_side g.met.S.Samples.same_corners c.args.samples.now honest c.args.point c.args.corner

@@ -4,9 +4,8 @@ use Rattle.std.proofs.lemmas.List.{take_all}
 use Rattle.lattice.specs.Lattice.{holds}
 use Rattle.edits.specs.declared.edit.NewHeight.{NewHeight}
 use Rattle.edits.specs.Touched.{are_neighbours}
-use Rattle.edits.proofs.EditStale.{any_near, read_within}
+use Rattle.edits.proofs.EditStale.{any_near, none_more, read_within}
 use Rattle.edits.proofs.Voids.{any_from}
-use Rattle.edits.proofs.StaleTiles.{none_more}
 use Rattle.edits.proofs.stale.is_one_near.Goals as goal
 
 pub returns : goal.returns
@@ -29,7 +28,7 @@ returns-then-is_held_near g c =
     let i = c.loop-height.height-index in
     let h = get_or heights i none in
     let near = λ (k : NewHeight). list_any (λ d. holds n d k.point && are_neighbours d c.args.corner) cs in
-    sym (sym (any_near n cs heights c.args.corner) ∙ any_from near heights h (i, c.loop-height-test.true, read_within heights i h none c.loop-height-test.true) (sym c.is_held_near.ensures.held ∙ c.if-is_held_near.true))
+    sym (sym (any_near n cs heights c.args.corner) ∙ any_from near heights h (i, c.loop-height-test.true, read_within heights i h none c.loop-height-test.true) (sym c.is_held_near.ensures ∙ c.if-is_held_near.true))
 
 pub loop-height-preserved : goal.loop-height-preserved
 loop-height-preserved g c =
@@ -40,4 +39,4 @@ loop-height-preserved g c =
     let i = c.loop-height.height-index in
     let h = get_or heights i none in
     let near = λ (k : NewHeight). list_any (λ d. holds n d k.point && are_neighbours d c.args.corner) cs in
-    none_more near heights i h c.loop-height-test.true (read_within heights i none h c.loop-height-test.true) c.loop-height.invariant (sym c.is_held_near.ensures.held ∙ c.if-is_held_near.false)
+    none_more near heights i h c.loop-height-test.true (read_within heights i none h c.loop-height-test.true) c.loop-height.invariant (sym c.is_held_near.ensures ∙ c.if-is_held_near.false)

@@ -1,0 +1,69 @@
+-- Where the samples of a point lie, holder by holder.
+use Rattle.std.proofs.Common.{◌≡◌, ℕ, zero, suc, ◌+◌, ◌*◌, ◌<◌, ◌≤◌, ◌⊎◌, inl, inr, ◌↔◌, IsTrue, List, [], ◌∷◌, ◌++◌, length, sym, ◌∙◌, ap, ap₂, subst, length-append, arith}
+use Rattle.std.specs.List.{All, Contains}
+use Rattle.std.proofs.lemmas.List.Elements.{All-nil, All-push, Contains-append_left, Contains-push, Contains-push_cases}
+use Rattle.lattice.specs.Corners.{Corner, is_corner}
+use Rattle.lattice.specs.declared.point.Point.{Point}
+use Rattle.lattice.specs.Lattice.{Holds, IsIndexOf, point_of, index_of}
+use Rattle.lattice.proofs.Samples.{index_is, index_below, index_of_point_is, point_of_held, point_at_index}
+use Rattle.edits.specs.declared.places.Place.{Place}
+use Rattle.edits.specs.Places.{IsPlace, ArePlaces}
+
+-- those of the corners among these
+pub record PlacesAmong (n : ℕ) (cs among : List Corner) (p : Point) (places : List Place) : Type 0 where
+  pub each : All (IsPlace n cs p) places
+  pub complete : (c : Corner) (e : ℕ) → IsTrue (is_corner c) → Contains cs c → Contains among c → e < n * n → point_of n c e ≡ p → Contains places (record { corner = c; index = e })
+  pub few : length places ≤ length among
+
+some_side : (n e : ℕ) → e < n * n → 0 < n
+some_side zero e within = absurd (omega arith)
+some_side (suc n) e within = omega arith
+
+module _ (n : ℕ) (cs : List Corner) (p : Point) where
+  pub places_none : PlacesAmong n cs [] p []
+  places_none = record {
+    each = All-nil (IsPlace n cs p);
+    complete = λ c e corner present (k, below, here) within at. absurd (omega arith);
+    few = omega arith;
+  }
+
+  -- a tile that isn't present or doesn't hold the point
+  pub places_skip : (hs : List Corner) (c : Corner) (places : List Place) → (Contains cs c → Holds n c p → ⊥) → PlacesAmong n cs hs p places → PlacesAmong n cs (hs ++ c ∷ []) p places
+  places_skip hs c places none so = record {
+    each = so.each;
+    complete = λ d e corner present listed within at. by d e corner present within at (Contains-push_cases hs c d listed);
+    few = let more = length-append hs (c ∷ []) in omega (arith, so.few, more);
+  }
+    where
+      by : (d : Corner) (e : ℕ) → IsTrue (is_corner d) → Contains cs d → e < n * n → point_of n d e ≡ p → Contains hs d ⊎ (c ≡ d) → Contains places (record { corner = d; index = e })
+      by d e corner present within at (inl before) = so.complete d e corner present before within at
+      by d e corner present within at (inr same) =
+          let held : Holds n d p = subst (λ (q : Point). Holds n d q) at (point_of_held n d e (some_side n e within) corner within) in
+          absurd (none (subst (λ (q : Corner). Contains cs q) (sym same) present) (subst (λ (q : Corner). Holds n q p) (sym same) held))
+
+  -- a present tile that holds it
+  pub places_push : (hs : List Corner) (c : Corner) (i : ℕ) (places : List Place) → Contains cs c → IsIndexOf n c p i → PlacesAmong n cs hs p places → PlacesAmong n cs (hs ++ c ∷ []) p (places ++ record { corner = c; index = i } ∷ [])
+  places_push hs c i places there index so = record {
+    each = All-push (IsPlace n cs p) places x so.each (record { present = there; within = index_below n c p i index; here = point_at_index n c p i index });
+    complete = λ d e corner present listed within at. by d e corner present within at (Contains-push_cases hs c d listed);
+    few = let more = length-append hs (c ∷ []) in let pushed = length-append places (x ∷ []) in omega (arith, so.few, more, pushed);
+  }
+    where
+      x : Place
+      x = record { corner = c; index = i }
+
+      by : (d : Corner) (e : ℕ) → IsTrue (is_corner d) → Contains cs d → e < n * n → point_of n d e ≡ p → Contains hs d ⊎ (c ≡ d) → Contains (places ++ x ∷ []) (record { corner = d; index = e })
+      by d e corner present within at (inl before) = Contains-append_left places (x ∷ []) (record { corner = d; index = e }) (so.complete d e corner present before within at)
+      by d e corner present within at (inr same) =
+          let index_e : index_of n d p ≡ e = ap (index_of n d) (sym at) ∙ index_of_point_is n d e (some_side n e within) corner within in
+          let index_i : index_of n c p ≡ i = index_is n c p i index in
+          let equal : i ≡ e = sym index_i ∙ ap (λ (q : Corner). index_of n q p) same ∙ index_e in
+          subst (λ (y : Place). Contains (places ++ x ∷ []) y) (ap₂ (λ (q : Corner) (k : ℕ). record { corner = q; index = k }) same equal) (Contains-push places x)
+
+  pub places_all : (hs : List Corner) (places : List Place) → ((c : Corner) → Contains hs c ↔ Holds n c p) → length hs ≤ 4 → PlacesAmong n cs hs p places → ArePlaces n cs p places
+  places_all hs places exactly four so = record {
+    each = so.each;
+    complete = λ c e corner present within at.
+        so.complete c e corner present ((exactly c).1 (subst (λ (q : Point). Holds n c q) at (point_of_held n c e (some_side n e within) corner within))) within at;
+    few = omega (arith, so.few, four);
+  }
