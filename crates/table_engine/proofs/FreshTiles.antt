@@ -10,13 +10,12 @@ use Rattle.lattice.specs.Corners.{Corner, same_corner}
 use Rattle.lattice.specs.Mosaic.{Mosaic}
 use Rattle.lattice.proofs.CornerOrder.{same_says, same_from}
 use Rattle.catalogue.specs.Tiles.{corners_of, is_listed}
-use Rattle.edits.specs.declared.change.Change.{Change}
 use Rattle.edits.specs.declared.command.Command.{Command}
+use Rattle.edits.specs.declared.edit.Edit.{Edit}
+use Rattle.edits.specs.Edits.{goes_stale_by}
 use Rattle.edits.specs.Effect.{effect}
-use Rattle.edits.specs.LeftStale.{is_beside, left_stale}
 use Rattle.edits.specs.Touched.{goes_stale, stale_after}
 use Rattle.edits.proofs.AllStale.{new_stale}
-use Rattle.edits.proofs.StaleTiles.{stale_alike}
 use Rattle.table_engine.specs.TableState.{stale_among}
 
 -- ---- tests of a list
@@ -96,21 +95,21 @@ agree false true false some = refl
 agree false false true some = refl
 agree false false false some = absurd (cc)
 
-module _ (capacity : ℕ) (m : Mosaic) (c : Command) (new : Mosaic) (changes : List Change) (makes : effect capacity m c ≡ Ok new)
-    (same : (stale : List Corner) (next : Mosaic) → stale_after m c stale next ≡ left_stale m changes stale next) (fresh : List Corner) where
+module _ (capacity : ℕ) (m : Mosaic) (c : Command) (new : Mosaic) (edit : Edit) (makes : effect capacity m c ≡ Ok new)
+    (says : (p : Corner) → goes_stale_by m.side (corners_of m) edit p ≡ goes_stale m c p) (fresh : List Corner) where
   abbrev goes : Corner → Bool
   goes p = goes_stale m c p
 
   abbrev left : List Corner
-  left = filter (λ p. not (is_beside m changes p)) fresh
+  left = filter (λ p. not (goes_stale_by m.side (corners_of m) edit p)) fresh
 
   was_stale : (p : Corner) → list_any (same_corner p) (stale_among (corners_of m) fresh) ≡ (not (is_listed p fresh) && list_any (same_corner p) (corners_of m))
   was_stale p = any-filter_same (same_corner p) (λ q. not (is_listed q fresh)) (not (is_listed p fresh)) (λ q is. ap (λ (d : Corner). not (is_listed d fresh)) (sym (same_says p q is))) (corners_of m)
 
   still_fresh : (p : Corner) → is_listed p left ≡ (not (goes p) && is_listed p fresh)
   still_fresh p =
-      any-filter_same (λ d. same_corner d p) (λ q. not (is_beside m changes q)) (not (goes p))
-      (λ q is. ap (λ (d : Corner). not (is_beside m changes d)) (same_says q p is) ∙ ap not (sym (stale_alike m c changes same p))) fresh
+      any-filter_same (λ d. same_corner d p) (λ q. not (goes_stale_by m.side (corners_of m) edit q)) (not (goes p))
+      (λ q is. ap not (ap (goes_stale_by m.side (corners_of m) edit) (same_says q p is) ∙ says p)) fresh
 
   tests : (p : Corner) → (list_any (same_corner p) (corners_of m) || goes p) ≡ true → (list_any (same_corner p) (stale_among (corners_of m) fresh) || goes p) ≡ not (is_listed p left)
   tests p some = ap (λ (b : Bool). b || goes p) (was_stale p) ∙ agree (is_listed p fresh) (list_any (same_corner p) (corners_of m)) (goes p) some ∙ ap not (sym (still_fresh p))

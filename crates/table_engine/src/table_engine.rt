@@ -1,15 +1,14 @@
 //! A mosaic in memory, as an engine.
 ghost use Rattle.std.specs.Prelude.{◌≡◌, ◌≤◌, [], ◌∷◌, ◌++◌, filter, not, IfErr, IfOk, OnOk, OnErr, MatchOption, Contains};
-ghost use Rattle.lattice.specs.Mosaic.{IsMosaic};
 ghost use Rattle.lattice.specs.declared.refusal.Refusal.TheVariants.{NoMemory};
-ghost use Rattle.catalogue.specs.Tiles.{is_listed};
-ghost use Rattle.edits.specs.LeftStale.{is_beside};
+ghost use Rattle.catalogue.specs.Tiles.{corners_of};
+ghost use Rattle.edits.specs.Edits.{goes_stale_by};
 ghost use Rattle.calls.specs.State.{fresh};
 ghost use Rattle.table_engine.specs.TableState.{stale_among};
 
 use catalogue::{Samples, Table, height};
-use drainage::forget_changed;
-use edits::{Change, Command, carry_out, commands_make_mosaics, leave_stale, plan};
+use drainage::forget_edit;
+use edits::{Command, Edit, carry_out, commands_make_mosaics, edit_of, leaves_stale};
 use engine::Engine;
 use lattice::{Corner, Height, MOST_TILES, Point, Refusal, Side};
 use std::alloc::Global;
@@ -102,13 +101,13 @@ impl Engine for TableEngine {
     }
 
     fn apply(&mut self, command: &Command) -> Result<u64, Refusal> {
-        let changes = plan(self.alloc, &mut self.table, self.capacity, command)?;
+        let edit = edit_of(&mut self.table, self.capacity, command)?;
         if self.number == u64::MAX {
             return Err(Refusal::Worn);
         }
-        let fresh = still_fresh(self.alloc, &self.table, &changes, &self.fresh)?;
-        forget_changed(&mut self.held, self.table.side(), &changes);
-        carry_out(changes, &mut self.table)?;
+        let fresh = still_fresh(self.alloc, &self.table, &edit, &self.fresh)?;
+        forget_edit(&mut self.held, &edit);
+        carry_out(self.alloc, &edit, &mut self.table)?;
         // By this law the capacity is kept.
         commands_make_mosaics();
         self.fresh = fresh;
@@ -175,19 +174,19 @@ impl Engine for TableEngine {
     }
 }
 
-// Those of the corners whose tiles the changes, made in this table, don't leave stale.
+// Those of the corners whose tiles don't go stale by the edit of this table.
 fn still_fresh(
     alloc: Global,
     table: &Table,
-    changes: &[Change],
+    edit: &Edit,
     corners: &[Corner],
 ) -> Result<Vec<Corner>, Refusal>
-    ensures corners { IsMosaic table.now → IfOk result (λ fresh. fresh.items ≡ filter (λ p. not (is_beside table.now changes.now p)) corners.now) }
+    ensures corners { IfOk result (λ fresh. fresh.items ≡ filter (λ p. not (goes_stale_by table.now.side (corners_of table.now) edit.now p)) corners.now) }
     ensures refusal { IfErr result (λ r. r ≡ NoMemory) }
 {
     let mut fresh = Vec::new(alloc);
     for corner in corners {
-        if !leave_stale(table, changes, *corner) {
+        if !leaves_stale(table, edit, *corner) {
             push(&mut fresh, *corner)?;
         }
     }

@@ -4,7 +4,7 @@ ghost use Rattle.catalogue.specs.Tiles.{corners_of};
 
 use arrayvec::ArrayVec;
 use catalogue::{Samples, Table};
-use edits::{Bytes, Command, carry_out, plan};
+use edits::{Bytes, Command, carry_out, edit_of};
 use lattice::{Corner, Height, Point, Refusal, Side};
 use plain::Plain;
 use std::alloc::{AllocError, Global};
@@ -281,8 +281,8 @@ fn check_few(alloc: Global, table: &Table) -> Result<(), Refusal>
 
 impl Mosaic for OnTable {
     fn apply(&mut self, command: &Command) -> Result<(), Refusal> {
-        let changes = plan(self.alloc, &mut self.table, self.capacity, command)?;
-        carry_out(changes, &mut self.table)
+        let edit = edit_of(&mut self.table, self.capacity, command)?;
+        carry_out(self.alloc, &edit, &mut self.table)
     }
 
     fn elevation(&mut self, point: Point) -> Result<Height, Refusal> {
