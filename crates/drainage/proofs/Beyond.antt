@@ -7,7 +7,7 @@ use Rattle.lattice.specs.Corners.{Corner}
 use Rattle.lattice.specs.Lattice.{holds}
 use Rattle.lattice.specs.declared.point.Point.{Point}
 use Rattle.border_graph.specs.Others.{corner_at}
-use Rattle.drainage.specs.Between.{are_left, are_noted}
+use Rattle.drainage.specs.Between.{are_noted}
 use Rattle.drainage.specs.Beyond.{IsKeptAt, is_beyond, are_kept_from, are_kept_beyond}
 use Rattle.drainage.specs.Reaching.{is_between, is_reached, reaches}
 use Rattle.drainage.specs.declared.waters.Waters.{Waters}
@@ -41,19 +41,6 @@ module _ (n : ℕ) (corners : List Corner) (p : Point) (t : ℕ) (out : is_reach
   not_held : holds n (corner_at corners t) p ≡ false
   not_held = false_from_ne_true (holds n (corner_at corners t) p) (λ held.
       both_ways (is_between p p p) (itself_unreached n (corner_at corners t) p p parts.1 p held) (at_itself p))
-
-pub kept_by_left : (p : Point) (held left : Option Waters) → are_left p p held left → are_kept_from p held left
-kept_by_left p None left is = tt
-kept_by_left p (Some waters) left (some, at, is) = λ t out. (
-  some,
-  at,
-  record {
-    same_side = is.same_side;
-    same_corners = is.same_corners;
-    told = kept_there _ _ (is_reached waters.shores.side waters.shores.corners.items p p) t (is.told t) out;
-    entered = kept_there _ _ (is_reached waters.shores.side waters.shores.corners.items p p) t (is.entered t) out;
-  },
-)
 
 pub kept_by_noted : (p : Point) (held left : Option Waters) → are_noted p held left → are_kept_from p held left
 kept_by_noted p None left is = tt
@@ -91,9 +78,3 @@ one_kept point changes i x p (Some waters) held left below is_x at kept before =
         entered = now.2.entered ∙ was.2.entered;
       },
     )
-
--- a tile comes or goes: nothing is beyond it
-pub none_beyond : {A : Type 0} (point : A → Option Point) (changes : List A) (i : ℕ) (x : A) (first left : Option Waters) → i < length changes → x ≡ get_or changes i x → point x ≡ None → are_kept_beyond point changes first left
-none_beyond point changes i x None left below is_x at = tt
-none_beyond point changes i x (Some waters) left below is_x at = λ t beyond. absurd
-    (subst (is_beyond waters.shores.side waters.shores.corners.items t) (ap point (sym is_x) ∙ at) (All-get_or (λ change. is_beyond waters.shores.side waters.shores.corners.items t (point change)) changes i x below beyond))

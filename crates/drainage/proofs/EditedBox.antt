@@ -1,8 +1,7 @@
 -- What an edit of points of a box leaves as it was.
-use Rattle.std.proofs.Common.{◌≡◌, ℕ, ◌+◌, ◌<◌, ◌≤◌, ℤ, false, ◌&&◌, List, [], ◌∷◌, ◌++◌, length, get_or, take, refl, sym, ◌∙◌, ap, subst}
+use Rattle.std.proofs.Common.{◌≡◌, ℕ, ◌+◌, ◌<◌, ◌≤◌, ℤ, false, ◌&&◌, List, length, get_or, take, refl, sym, ap, subst}
 use Rattle.std.specs.Prelude.{if◌then◌else◌}
 use Rattle.std.proofs.lemmas.Bool.{and_left}
-use Rattle.std.proofs.lemmas.List.{take_more}
 use Rattle.lattice.specs.declared.point.Point.{Point}
 use Rattle.lattice.specs.Ground.{same_point}
 use Rattle.lattice.specs.Mosaic.{Mosaic, IsMosaic}
@@ -11,6 +10,7 @@ use Rattle.catalogue.proofs.OneTile.{corners_are}
 use Rattle.edits.specs.declared.edit.NewHeight.{NewHeight}
 use Rattle.edits.specs.Edits.{with_height, with_heights}
 use Rattle.edits.specs.Effect.{edited, is_in_box, is_void_at, patched}
+use Rattle.edits.proofs.Edited.{heights_corners, heights_next, heights_side}
 use Rattle.edits.proofs.EditedHeights.{edited_corners, height_stays}
 use Rattle.drainage.specs.Reaching.{is_between, DifferAt, DifferBetween}
 use Rattle.drainage.proofs.Reached.{apart_points, other_point}
@@ -31,24 +31,11 @@ differ_height : (p : Point) (h : ℤ) (m : Mosaic) → 3 ≤ m.side → AreCorne
 differ_height p h m side are = differ_edited (λ q s. if same_point q p then h else s) m p p side are
     (λ q s out. ap (λ b. if b then h else s) (apart_points q p (λ same. other_point p q out (sym same))))
 
-heights_side : (hs : List NewHeight) (m : Mosaic) → (with_heights hs m).side ≡ m.side
-heights_side [] m = refl
-heights_side (h ∷ hs) m = heights_side hs (with_height h.point h.metres m)
-
-heights_corners : (hs : List NewHeight) (m : Mosaic) → corners_of (with_heights hs m) ≡ corners_of m
-heights_corners [] m = refl
-heights_corners (h ∷ hs) m = heights_corners hs (with_height h.point h.metres m) ∙ edited_corners (λ q s. if same_point q h.point then h.metres else s) m
-
-one_after : (hs : List NewHeight) (h : NewHeight) (m : Mosaic) → with_heights (hs ++ h ∷ []) m ≡ with_height h.point h.metres (with_heights hs m)
-one_after [] h m = refl
-one_after (k ∷ hs) h m = one_after hs h (with_height k.point k.metres m)
-
 -- one height more
 pub differ_more : (hs : List NewHeight) (i : ℕ) (h : NewHeight) (m : Mosaic) → IsMosaic m → i < length hs → h ≡ get_or hs i h → DifferAt (with_heights (take i hs) m) (with_heights (take (i + 1) hs) m) h.point
 differ_more hs i h m valid below is =
     let mid : Mosaic = with_heights (take i hs) m in
-    let next : with_heights (take (i + 1) hs) m ≡ with_height h.point h.metres mid = ap (λ (l : List NewHeight). with_heights l m) (take_more hs i h below ∙ ap (λ (k : NewHeight). take i hs ++ k ∷ []) (sym is)) ∙ one_after (take i hs) h m in
-    subst (λ (y : Mosaic). DifferAt mid y h.point) (sym next) (record {
+    subst (λ (y : Mosaic). DifferAt mid y h.point) (sym (heights_next hs i h m below is)) (record {
       around = differ_height h.point h.metres mid (subst (λ n. 3 ≤ n) (sym (heights_side (take i hs) m)) valid.side_low) (subst AreCorners (sym (heights_corners (take i hs) m)) (corners_are m valid));
       all_sinks = λ q. refl;
     })

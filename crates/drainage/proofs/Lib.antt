@@ -23,7 +23,6 @@ pub mod Entering
 pub mod Unreached
 pub mod Forgotten
 pub mod Reached
-pub mod LeftHeld
 pub mod TileOutlets
 mod Noted
 mod Renewed

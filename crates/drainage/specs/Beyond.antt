@@ -2,12 +2,10 @@
 use Rattle.std.specs.Prelude.{◌≡◌, ℕ, false, List, All, Option, Some, None}
 use Rattle.lattice.specs.Corners.{Corner}
 use Rattle.lattice.specs.declared.point.Point.{Point}
-use Rattle.edits.specs.declared.change.Change.{Change}
 use Rattle.edits.specs.declared.edit.Edit.{Edit}
 use Rattle.edits.specs.declared.edit.Edit.TheVariants.{Heights, Voids, Sink, Unsink}
 use Rattle.edits.specs.declared.edit.NewHeight.{NewHeight}
 use Rattle.drainage.specs.Between.{IsLeftHeld}
-use Rattle.drainage.specs.Changed.{place_of}
 use Rattle.drainage.specs.Holding.{entered_at}
 use Rattle.drainage.specs.Reaching.{is_reached}
 use Rattle.drainage.specs.Shores.{told_at}
@@ -26,23 +24,16 @@ abbrev pub is_beyond : ℕ → List Corner → ℕ → Option Point → Type 0
 is_beyond n corners t None = ⊥
 is_beyond n corners t (Some p) = is_reached n corners p p t ≡ false
 
+-- what is held of tiles that the point doesn't reach is kept
 abbrev pub are_kept_from : Point → Option Waters → Option Waters → Type 0
 are_kept_from p None left = Unit {0}
 are_kept_from p (Some waters) left = (t : ℕ) → is_beyond waters.shores.side waters.shores.corners.items t (Some p) → (some : Waters) × (left ≡ Some some) × IsKeptAt t waters some
-
--- what is held of tiles that the point doesn't reach is kept
-abbrev pub IsKeptFrom : Point → Held → Held → Type 0
-IsKeptFrom p held left = are_kept_from p held.waters left.waters
 
 -- what is held of tiles that none of these reaches, each at its point, is kept
 abbrev pub are_kept_beyond : {A : Type 0} → (A → Option Point) → List A → Option Waters → Option Waters → Type 0
 are_kept_beyond at all None left = Unit {0}
 are_kept_beyond at all (Some waters) left =
     (t : ℕ) → All (λ x. is_beyond waters.shores.side waters.shores.corners.items t (at x)) all → (some : Waters) × (left ≡ Some some) × IsKeptAt t waters some
-
--- .. none of the changes
-abbrev pub IsKeptBeyond : ℕ → List Change → Held → Held → Type 0
-IsKeptBeyond n changes held left = are_kept_beyond (place_of n) changes held.waters left.waters
 
 -- .. none of the points that get new heights
 abbrev pub IsKeptBeyondHeights : List NewHeight → Held → Held → Type 0

@@ -10,6 +10,5 @@ pub mod Between
 pub mod Reaching
 pub mod Forgetting
 pub mod Nearby
-pub mod Changed
 pub mod Ring
 pub mod Beyond

@@ -31,5 +31,5 @@ pub use draining::{watershed, watershed_held};
 pub use filling::{fill, fill_held, level};
 pub use following::{direction, direction_held, trace, trace_held};
 pub use held::Held;
-pub use invalidating::{forget_changed, forget_edit, forget_near_sink};
+pub use invalidating::forget_edit;
 pub use laws::level_functions_exist;

@@ -55,11 +55,6 @@ edited_corners f m = same_corners (λ t. changed_from (λ e s. f (point_of m.sid
 
 -- all tiles are stale, and stay so
 
-filter_same : (p : Corner → Bool) (cs : List Corner) → All (λ c. p c ≡ true) cs → filter p cs ≡ cs
-filter_same p [] each = refl
-filter_same p (c ∷ cs) each =
-    rw (All-head (λ d. p d ≡ true) c cs each, filter_same p cs (All-tail (λ d. p d ≡ true) c cs each)) refl
-
 listed_at : (cs : List Corner) (k : ℕ) (d : Corner) → k < length cs → list_any (same_corner (get_or cs k d)) cs ≡ true
 listed_at [] k d within = absurd (omega arith)
 listed_at (c ∷ cs) zero d within = or_left (same_corner c c) (list_any (same_corner c) cs) (same_from c c refl)
@@ -126,7 +121,3 @@ new_stale capacity m new (Wall h points) e =
     (passes_faults (not (is_height h)) (is_repeated points.items) BadHeight Repeated (first_fault m (pos 0) points.items) (walled h points.items m) new e)
 new_stale capacity m new (Sink p) e = same_stale m (Sink p) (with_sinks (with_point p m.sinks) m) new refl (sym (accepted_is capacity m (Sink p) new e).1)
 new_stale capacity m new (Unsink p) e = same_stale m (Unsink p) (with_sinks (without_point p m.sinks) m) new refl (sym (accepted_is capacity m (Unsink p) new e).1)
-
-pub all_stale : (capacity : ℕ) (m new : Mosaic) (c : Command) → effect capacity m c ≡ Ok new → stale_after m c (corners_of m) new ≡ corners_of new
-all_stale capacity m new c e =
-    filter_same (λ p. list_any (same_corner p) (corners_of m) || goes_stale m c p) (corners_of new) (new_stale capacity m new c e)

@@ -12,7 +12,6 @@ mod NewMosaics
 mod Overlapping
 mod PlaceLemmas
 mod Placing
-mod PlanLemmas
 mod Repeats
 mod SamePoints
 mod Searching

@@ -1,19 +1,10 @@
--- Points that are the same, and points that are named.
-use Rattle.std.proofs.Common.{◌≡◌, ℤ, Bool, true, false, ◌||◌, List, [], ◌∷◌, ◌++◌, refl, ◌∙◌, ap, ap₂}
-use Rattle.std.specs.List.{list_any}
+-- Points that are the same.
+use Rattle.std.proofs.Common.{◌≡◌, ℤ, true, refl, ap₂}
 use Rattle.std.specs.Ordering.{int_eq}
 use Rattle.std.proofs.lemmas.Bool.{and_parts, and_from}
 use Rattle.std.proofs.lemmas.Bool.Decides.{Decides-int_eq}
 use Rattle.lattice.specs.declared.point.Point.{Point}
 use Rattle.lattice.specs.Ground.{same_point}
-use Rattle.edits.specs.Effect.{is_named}
-
-any-append : (f : Point → Bool) (ps qs : List Point) → list_any f (ps ++ qs) ≡ (list_any f ps || list_any f qs)
-any-append f [] qs = refl
-any-append f (p ∷ ps) qs = elim (f p) as (λ b. (b || list_any f (ps ++ qs)) ≡ ((b || list_any f ps) || list_any f qs)) [ true ↦ refl | false ↦ any-append f ps qs ]
-
-pub named_push : (ps : List Point) (p q : Point) → is_named (ps ++ p ∷ []) q ≡ is_named ps q || same_point q p
-named_push ps p q = any-append (same_point q) ps (p ∷ []) ∙ ap (λ b. is_named ps q || b) (elim (same_point q p) as (λ b. (b || false) ≡ b) [ true ↦ refl | false ↦ refl ])
 
 pub same_point_says : (p q : Point) → same_point p q ≡ true → p ≡ q
 same_point_says p q e =

@@ -30,11 +30,6 @@ CanBeMade n corners sinks (Set c i s) = Contains corners c × (i < n * n)
 CanBeMade n corners sinks (Sink p) = AreSinks n (with_point p sinks)
 CanBeMade n corners sinks (Unsink p) = Unit {0}
 
--- the change sets a sample
-abbrev pub IsSet : Change → Type 0
-IsSet (Set c i s) = Unit {0}
-IsSet _ = ⊥
-
 -- the change sets a sample of a present tile
 abbrev pub CanBeSet : ℕ → List Corner → Change → Type 0
 CanBeSet n corners (Set c i s) = Contains corners c × (i < n * n)

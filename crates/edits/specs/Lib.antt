@@ -3,7 +3,6 @@ pub mod Changes
 pub mod Edits
 pub mod Effect
 pub mod EffectLaws
-pub mod LeftStale
 pub mod Places
 pub mod Plans
 pub mod Sinks

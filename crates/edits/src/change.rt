@@ -67,19 +67,3 @@ pub enum Change {
         point: Point,
     },
 }
-
-impl Change {
-    ghost use Rattle.edits.specs.LeftStale.{tile_of};
-
-    /// The corner of the tile that it changes, where it is of a tile and not of a sink.
-    pub fn corner(&self) -> Option<Corner>
-        ensures { result ≡ tile_of self.now }
-    {
-        match self {
-            Change::Add { corner, .. } | Change::Drop { corner } | Change::Set { corner, .. } => {
-                Some(*corner)
-            }
-            Change::Sink { .. } | Change::Unsink { .. } => None,
-        }
-    }
-}

@@ -4,7 +4,7 @@ use Rattle.edits.specs.Edits.{edit_made}
 use Rattle.edits.specs.Effect.{patched}
 use Rattle.drainage.specs.Between.{IsHeldOf}
 use Rattle.drainage.proofs.EditedBox.{differ_patched}
-use Rattle.drainage.proofs.LeftHeld.{unmoved}
+use Rattle.drainage.proofs.Reached.{unmoved}
 use Rattle.drainage.proofs.invalidating.forget_edit.Goals as goal
 
 pub returns-in-Voids-clause-still : goal.returns-in-Voids-clause-still

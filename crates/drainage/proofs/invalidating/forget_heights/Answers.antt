@@ -7,7 +7,7 @@ use Rattle.edits.proofs.EditStale.{read_within}
 use Rattle.drainage.specs.Between.{IsHeldOf}
 use Rattle.drainage.proofs.Beyond.{all_kept, kept_by_noted, one_kept}
 use Rattle.drainage.proofs.EditedBox.{differ_more}
-use Rattle.drainage.proofs.LeftHeld.{unmoved}
+use Rattle.drainage.proofs.Reached.{unmoved}
 use Rattle.drainage.proofs.invalidating.forget_heights.Goals as goal
 
 abbrev none : NewHeight
