@@ -17,6 +17,8 @@ mod joins;
 #[cfg(test)]
 mod plain_programs;
 #[cfg(test)]
+mod plans;
+#[cfg(test)]
 mod points;
 #[cfg(test)]
 mod questions;

@@ -181,7 +181,7 @@ fn gathers<M: Mosaic>(
     Ok(are_runs(&found, runs))
 }
 
-fn command(alloc: Global, asked: Asked) -> Result<Command, Fail> {
+pub(crate) fn command(alloc: Global, asked: Asked) -> Result<Command, Fail> {
     match asked {
         Asked::Import(lat, lon, samples) => import(
             corner(lat, lon)?,
