@@ -21,7 +21,7 @@ use Rattle.edits.specs.declared.command.Command.{Command}
 use Rattle.edits.specs.declared.command.Command.TheVariants.{Import, Remove, Patch, Burn, Wall, Sink, Unsink}
 use Rattle.edits.specs.Effect.{effect, edited, changed_from, is_in_box, is_void_at, is_named, patched, burnt, walled, unless_fault, first_fault, is_height, is_depth, is_box, has_void, is_repeated}
 use Rattle.edits.specs.Sinks.{with_point, without_point}
-use Rattle.edits.specs.Touched.{are_neighbours, goes_stale, stale_after}
+use Rattle.edits.specs.Touched.{are_neighbours, goes_stale}
 use Rattle.edits.proofs.Accepted.{accepted_is}
 
 abbrev corner_of : Tile → Corner

@@ -1,19 +1,19 @@
 -- Whether some point of a box is void.
-use Rattle.std.proofs.Common.{◌≡◌, ℕ, zero, suc, ◌+◌, ◌<◌, ℤ, pos, negsuc, ◌+ℤ◌, Bool, true, false, cond, ◌&&◌, ◌⊎◌, inl, inr, List, [], ◌∷◌, length, get_or, refl, sym, ◌∙◌, ap, ap₂, subst, add-zero, zero-add, arith}
-use Rattle.std.specs.Prelude.{Ok, Err, int_le, int_lt, ◌-ℤ◌}
+use Rattle.std.proofs.Common.{◌≡◌, ℕ, zero, suc, ◌+◌, ◌<◌, ℤ, pos, negsuc, ◌+ℤ◌, Bool, true, false, ◌&&◌, ◌⊎◌, inl, inr, List, [], ◌∷◌, length, get_or, refl, sym, ◌∙◌, ap, ap₂, subst, add-zero, arith}
+use Rattle.std.specs.Prelude.{Err, int_le, int_lt, ◌-ℤ◌}
 use Rattle.std.specs.List.{Contains, list_any}
-use Rattle.std.proofs.lemmas.Bool.{or_left, or_right, or_cases, and_from, and_left, and_right, false_from_ne_true, false≢true}
+use Rattle.std.proofs.lemmas.Bool.{or_left, or_right, or_cases, and_from, and_left, and_right, false≢true}
 use Rattle.std.proofs.lemmas.List.{get_or-map, length-map}
-use Rattle.std.proofs.lemmas.List.Elements.{Contains-get_or, All-contains}
+use Rattle.std.proofs.lemmas.List.Elements.{Contains-get_or}
 use Rattle.std.proofs.lemmas.Int.{ints}
 use Rattle.lattice.specs.Corners.{Corner}
 use Rattle.lattice.specs.declared.point.Point.{Point}
 use Rattle.lattice.specs.Lattice.{point_of}
-use Rattle.lattice.specs.Mosaic.{Tile, Mosaic, IsMosaic, IsTile}
-use Rattle.lattice.specs.declared.refusal.Refusal.TheVariants.{BadBox, NothingVoid}
+use Rattle.lattice.specs.Mosaic.{Tile, Mosaic}
+use Rattle.lattice.specs.declared.refusal.Refusal.TheVariants.{BadBox}
 use Rattle.catalogue.specs.Tiles.{corners_of}
 use Rattle.edits.specs.declared.command.Command.TheVariants.{Patch}
-use Rattle.edits.specs.Effect.{effect, is_height, is_box, is_in_box, is_void_at, has_void, has_void_from, edited, patched}
+use Rattle.edits.specs.Effect.{effect, is_height, is_box, is_in_box, is_void_at, has_void_from}
 use Rattle.edits.proofs.BoxRows.{box_is}
 
 pub any_says : {X : Type 0} (f : X → Bool) (xs : List X) → list_any f xs ≡ true → (x : X) × (Contains xs x × (f x ≡ true))

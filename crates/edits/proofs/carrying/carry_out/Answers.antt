@@ -1,4 +1,4 @@
-use Rattle.std.proofs.Common.{◌≡◌, ◌∙◌, List, length, ap, sym, subst, arith, rules, to_z, of_z}
+use Rattle.std.proofs.Common.{◌∙◌, List, length, ap, sym, subst, arith, rules}
 use Rattle.std.proofs.lemmas.Bool.{false_from_ne_true}
 use Rattle.std.proofs.lemmas.Int.{to_z-of_z}
 use mir.Syntax.{w16}
@@ -8,7 +8,7 @@ use Rattle.lattice.specs.Mosaic.{AreSinks, is_present}
 use Rattle.catalogue.specs.Tiles.{corners_of}
 use Rattle.catalogue.proofs.Presence.{present_iff}
 use Rattle.edits.specs.declared.edit.Edit.{Edit}
-use Rattle.edits.specs.declared.edit.Edit.TheVariants.{Add, Sink}
+use Rattle.edits.specs.declared.edit.Edit.TheVariants.{Add}
 use Rattle.edits.specs.Edits.{FitsIn, edit_made}
 use Rattle.edits.specs.Effect.{patched}
 use Rattle.edits.specs.Sinks.{with_point, without_point}

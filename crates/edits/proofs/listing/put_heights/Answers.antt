@@ -1,4 +1,4 @@
-use Rattle.std.proofs.Common.{get_or, pos, subst, arith, rules, to_z, of_z}
+use Rattle.std.proofs.Common.{get_or, pos, subst, arith, rules}
 use Rattle.std.proofs.lemmas.Int.{to_z-of_z}
 use mir.Syntax.{w16}
 use mir.Val.{SFits}
