@@ -1,5 +1,5 @@
 //! Levels and labels as bytes.
-ghost use Rattle.std.specs.Prelude.{◌≡◌, ◌*◌, ◌<◌, ℕ, All, IfOk, length, vec_len};
+ghost use Rattle.std.specs.Prelude.{◌≡◌, ◌*◌, ◌<◌, ◌∷◌, [], ℕ, All, IfOk, length, vec_len};
 ghost use Rattle.lattice.specs.Mosaic.{IsSample};
 ghost use Rattle.tile_flood.specs.Kept.{labels_in, levels_in};
 
@@ -44,6 +44,24 @@ pub(crate) fn labels_from(alloc: Global, bytes: &[u8]) -> Result<Vec<u16>, Alloc
     let mut labels = vec![in alloc; 0; bytes.len() / 2]?;
     fill_labels(bytes, &mut labels);
     Ok(labels)
+}
+
+/// The level that these two bytes are.
+pub(crate) fn level_from(bytes: &[u8; 2]) -> i16
+    ensures { levels_in bytes.now ≡ result ∷ [] }
+{
+    let mut levels = [0];
+    fill_levels(bytes, &mut levels);
+    levels[0]
+}
+
+/// The label that these two bytes are.
+pub(crate) fn label_from(bytes: &[u8; 2]) -> u16
+    ensures { labels_in bytes.now ≡ result ∷ [] }
+{
+    let mut labels = [0];
+    fill_labels(bytes, &mut labels);
+    labels[0]
 }
 
 fn write_levels(levels: &[i16], bytes: &mut [u8])

@@ -1,5 +1,5 @@
 //! Labellings of tiles, whether they are made or were kept.
-ghost use Rattle.std.specs.Prelude.{◌≡◌, ◌⊎◌, [], IsTrue, IfOk, IfErr, Contains};
+ghost use Rattle.std.specs.Prelude.{◌≡◌, ◌⊎◌, ◌*◌, ◌<◌, [], IsTrue, IfOk, IfErr, IfSome, Contains};
 ghost use Rattle.lattice.specs.Block.{IsBlockOf};
 ghost use Rattle.lattice.specs.declared.refusal.Refusal.TheVariants.{NoMemory};
 ghost use Rattle.catalogue.specs.Asked.{Asked};
@@ -7,6 +7,7 @@ ghost use Rattle.catalogue.specs.Endings.{ends_any};
 ghost use Rattle.catalogue.specs.Readers.{OnlyReads, reads_of};
 ghost use Rattle.catalogue.specs.Reading.{MayRefuse};
 ghost use Rattle.derived.specs.Labellings.{IsBlockBut};
+ghost use Rattle.derived.specs.Spots.{IsLabelledAt};
 ghost use Rattle.derived.specs.TileLabellings.{labelled_of, IsCurrent, IsTileLabelling};
 
 use crate::flooded_block::FloodedBlock;
@@ -27,6 +28,18 @@ pub trait Labellings: Samples {
         ensures valid { Self.is_honest self.new → IfOk result (IsTileLabelling (Self.mosaic self.old) corner) }
         ensures current { IfOk result IsCurrent }
         ensures side { IfOk result (λ labelling. (labelled_of labelling).side ≡ Self.side_of self.old) }
+        ensures causes { IfErr result (λ r. IsTrue (ends_any r)) }
+        ensures asked { Asked Self.Samples self.old self.new result };
+
+    /// The level and the label of the point with this index alone, by a valid labelling of the block of the corner's tile,
+    /// where they were kept so that they can be read by themselves; else None.
+    ///
+    /// Refused as a read is, or with Damaged where no labelling has what was kept of the point. After that the samples can
+    /// be read on.
+    fn kept_at(&mut self, corner: Corner, index: u32) -> Result<Option<(i16, u16)>, Refusal>
+        requires corner { Contains (Self.corners self.old) corner }
+        requires index { index < Self.side_of self.old * Self.side_of self.old }
+        ensures valid { Self.is_honest self.new → IfOk result (λ found. IfSome found (λ spot. IsLabelledAt (Self.mosaic self.old) corner index spot.0 spot.1)) }
         ensures causes { IfErr result (λ r. IsTrue (ends_any r)) }
         ensures asked { Asked Self.Samples self.old self.new result };
 }
@@ -69,5 +82,10 @@ fn block_of<S: Samples>(alloc: Global, samples: &mut S, corner: Corner) -> Resul
 impl Labellings for Table {
     fn labelling(&mut self, alloc: Global, corner: Corner) -> Result<TileLabelling, Refusal> {
         Ok(TileLabelling::Flooded(flooded(alloc, self, corner)?))
+    }
+
+    // A table keeps no labellings.
+    fn kept_at(&mut self, _corner: Corner, _index: u32) -> Result<Option<(i16, u16)>, Refusal> {
+        Ok(None)
     }
 }

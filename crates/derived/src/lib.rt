@@ -14,5 +14,5 @@ mod tile_labelling;
 pub use flooded_block::FloodedBlock;
 pub use labellings::{Labellings, flooded};
 pub use planes::{KeptPlanes, kept_planes};
-pub use reading::labelled_from;
+pub use reading::{labelled_at, labelled_from};
 pub use tile_labelling::TileLabelling;

@@ -1,5 +1,5 @@
 //! Labellings read from what is kept of a tile.
-ghost use Rattle.std.specs.Prelude.{◌≡◌, ◌≢◌, ◌+◌, ◌-◌, ◌*◌, ◌<◌, ◌≤◌, ◌≤ℤ◌, ◌++◌, ◌∷◌, [], ◌⊎◌, ℕ, None, IsTrue, IfOk, IfErr, OnOk, length, slice_index, slice_index_or};
+ghost use Rattle.std.specs.Prelude.{◌≡◌, ◌≢◌, ◌+◌, ◌-◌, ◌*◌, ◌<◌, ◌≤◌, ◌≤ℤ◌, ◌++◌, ◌∷◌, [], ◌⊎◌, ℕ, List, None, IsTrue, IsOk, IfOk, IfErr, OnOk, length, slice_index, slice_index_or};
 ghost use Rattle.lattice.specs.Block.{Block};
 ghost use Rattle.lattice.specs.Limits.{largest_side};
 ghost use Rattle.lattice.specs.Mosaic.{void};
@@ -8,11 +8,12 @@ ghost use Rattle.tile_flood.specs.Kept.{labels_in, levels_in};
 ghost use Rattle.tile_flood.specs.Labelling.{IsLabelling};
 ghost use Rattle.tile_flood.specs.Raising.{raised_level};
 ghost use Rattle.derived.specs.Labellings.{AreLevelsOfRim, DoMarksFit};
+ghost use Rattle.derived.specs.Spots.{DoMarksFitAt, StandsAt};
 
-use crate::bytes::{labels_from, levels_from};
-use lattice::{Refusal, Side, rim_index};
+use crate::bytes::{label_from, labels_from, level_from, levels_from};
+use lattice::{Refusal, Side, VOID, rim_index};
 use std::alloc::{AllocError, Global};
-use tile_flood::{Labelled, raise_at};
+use tile_flood::{Labelled, NO_LABEL, OUT, raise_at};
 
 /// The labelling that the bytes of a tile's kept planes say.
 ///
@@ -44,6 +45,40 @@ pub fn labelled_from(
     } else {
         Err(Refusal::Damaged)
     }
+}
+
+/// The level and the label of one point, by the two bytes of each in a tile's kept planes.
+///
+/// Damaged where no labelling of ground has such marks, which is the only refusal: one of them alone is that of a void, or
+/// the label is neither OUT nor the number of a rim point. Whether that rim point has a level isn't seen.
+pub fn labelled_at(side: Side, level: &[u8; 2], label: &[u8; 2]) -> Result<(i16, u16), Refusal>
+    ensures level { IfOk result (λ spot. (bytes : List ℕ) (e : ℕ) → StandsAt bytes e level.now → slice_index_or (levels_in bytes) e void ≡ spot.0) }
+    ensures label { IfOk result (λ spot. (bytes : List ℕ) (e : ℕ) → StandsAt bytes e label.now → slice_index (labels_in bytes) e ≡ spot.1) }
+    ensures fit { IfOk result (λ spot. DoMarksFitAt side spot.0 spot.1) }
+    ensures sound { (b : Block) (levels labels : List ℕ) (e : ℕ) → b.side ≡ side → IsLabelling b (levels_in levels) (labels_in labels) → ((z : ℕ) → void ≤ℤ slice_index_or b.heights z void)
+        → e < side * side → StandsAt levels e level.now → StandsAt labels e label.now → IsOk result }
+    ensures refusal { IfErr result (λ r. r ≡ Damaged) }
+{
+    let level = level_from(level);
+    let label = label_from(label);
+    if do_marks_fit_at(side, level, label) {
+        Ok((level, label))
+    } else {
+        Err(Refusal::Damaged)
+    }
+}
+
+// Whether a point of a tile of this side may have this level and this label.
+fn do_marks_fit_at(side: Side, level: i16, label: u16) -> bool
+    ensures low { 3 ≤ side }
+    ensures high { side ≤ largest_side }
+    ensures yes { IsTrue result → DoMarksFitAt side level label }
+    ensures no { DoMarksFitAt side level label → IsTrue result }
+{
+    if label == NO_LABEL {
+        return level == VOID;
+    }
+    level != VOID && (label == OUT || u32::from(label) < side.rim())
 }
 
 // The levels of the rim, by rim number.

@@ -1,12 +1,12 @@
 //! The labellings of the tiles that were entered.
-ghost use Rattle.std.specs.Prelude.{◌≡◌, ◌<◌, ◌↔◌, ℕ, Some, None, false, true, IfOk, IfErr, IfSome, IfNone, IsTrue, length, slice_index, slice_index_or, slice_set};
+ghost use Rattle.std.specs.Prelude.{◌≡◌, ◌<◌, ◌↔◌, ℕ, Some, None, false, true, IfOk, IfErr, IfSome, IfNone, IsTrue, length, slice_set};
 ghost use Rattle.lattice.specs.Corners.{Corner};
 ghost use Rattle.lattice.specs.Lattice.{IsIndexOf, holds};
-ghost use Rattle.lattice.specs.Mosaic.{Mosaic, void};
+ghost use Rattle.lattice.specs.Mosaic.{Mosaic};
 ghost use Rattle.lattice.specs.declared.refusal.Refusal.TheVariants.{NoMemory};
 ghost use Rattle.border_graph.specs.Others.{corner_at};
-ghost use Rattle.tile_flood.specs.Blocks.{LabelledGround};
 ghost use Rattle.derived.specs.Labellings.{IsFlooded};
+ghost use Rattle.derived.specs.Spots.{IsLabelledAt};
 ghost use Rattle.derived.specs.TileLabellings.{IsTileLabelling, DifferAt as DifferAtIndex};
 ghost use Rattle.derived.specs.declared.tile_labelling.TileLabelling.{TileLabelling};
 ghost use Rattle.drainage.specs.Holding.{IsEntered, entered_at};
@@ -31,6 +31,10 @@ const MOST_BLOCK_BYTES: usize = 32 << 20;
 
 const FEWEST_BLOCKS: usize = 4;
 
+// So many points of a tile are read by themselves before its labelling is held: together they take as long as to read it
+// whole.
+const MOST_ALONE: u16 = 256;
+
 /// The labellings of tiles, by place. Where there is no room for another, the one that was used the longest ago is given
 /// up.
 #[derive(Drop)]
@@ -41,6 +45,8 @@ pub(crate) struct Entered {
     room: usize,
     // Of so many tiles the blocks are held too.
     blocks: usize,
+    // How many points of each tile were read by themselves since its labelling was to be held.
+    alone: Vec<u16>,
 }
 
 impl Model for Entered {
@@ -67,6 +73,7 @@ impl Entered {
             by_use: Vec::new(alloc),
             room: most_tiles(side),
             blocks: most_blocks(side),
+            alone: vec![in alloc; 0; count]?,
         })
     }
 
@@ -83,12 +90,27 @@ impl Entered {
     /// none of its heights may have changed since.
     pub(crate) fn spot(&mut self, t: usize, index: u32) -> Option<(i16, u16)>
         ensures same { self.new ≡ self.old }
-        ensures some { IfSome result (λ spot. (m : Mosaic) (c : Corner) → IsEntered m c self.old t → (labelled : LabelledGround) × (IsFlooded m c labelled
-            × ((spot.0 ≡ slice_index_or labelled.levels index void) × (spot.1 ≡ slice_index labelled.labels index)))) }
+        ensures some { IfSome result (λ spot. (m : Mosaic) (c : Corner) → IsEntered m c self.old t → IsLabelledAt m c index spot.0 spot.1) }
     {
         self.use_again(t);
         let labelled = self.labelling(t)?;
         spot_of(labelled, index)
+    }
+
+    /// Whether one more point of the tile with this place, of which nothing is held, is read by itself. Where not, its
+    /// labelling is worth to be held.
+    pub(crate) fn reads_alone(&mut self, t: usize) -> bool
+        ensures { self.new ≡ self.old }
+    {
+        if t >= self.alone.len() {
+            return false;
+        }
+        if self.alone[t] >= MOST_ALONE {
+            self.alone[t] = 0;
+            return false;
+        }
+        self.alone[t] += 1;
+        true
     }
 
     /// The labelling of the tile with this place, where it is held and none of its heights may have changed since.

@@ -7,6 +7,7 @@ ghost use Rattle.catalogue.specs.Asked.{Asked};
 ghost use Rattle.catalogue.specs.Endings.{ends_any};
 ghost use Rattle.catalogue.specs.Readers.{OnlyReads, reads_of};
 ghost use Rattle.catalogue.specs.Reading.{MayRefuse};
+ghost use Rattle.derived.specs.Spots.{IsLabelledAt};
 ghost use Rattle.derived.specs.TileLabellings.{labelled_of, IsCurrent, IsTileLabelling};
 ghost use Rattle.drainage.specs.Holding.{IsEntered};
 
@@ -46,6 +47,39 @@ pub(crate) fn current_labelling<S: Labellings>(
     }
     let labelling = samples.labelling(alloc, corner)?;
     Ok(labelling)
+}
+
+/// The level and the label of the point with this index in the tile with this place and corner, where they are kept, and
+/// are read by themselves; None where they aren't, or the tile's labelling is worth to be held.
+///
+/// Damaged where there is no such tile, or where no labelling has what is kept of the point. Otherwise it is refused as a
+/// read is.
+pub(crate) fn kept_spot<S: Labellings>(
+    samples: &mut S,
+    entered: &mut Entered,
+    t: usize,
+    corner: Corner,
+    index: u32,
+) -> Result<Option<(i16, u16)>, Refusal>
+    ensures spot { S.is_honest samples.new → IfOk result (λ found. IfSome found (λ spot. IsLabelledAt (S.mosaic samples.old) corner index spot.0 spot.1)) }
+    ensures same { entered.new ≡ entered.old }
+    ensures asked { (S.is_honest samples.new → Contains (S.corners samples.old) corner) → Asked S.Samples samples.old samples.new result }
+    ensures reads { OnOk result (OnlyReads {T = Unit {0}} S.Samples samples.old samples.new (Ok tt)) }
+    ensures honest { S.is_honest samples.new → S.is_honest samples.old }
+    ensures mosaic { S.is_honest samples.new → S.mosaic samples.new ≡ S.mosaic samples.old }
+    ensures causes { IfErr result (λ r. IsTrue (ends_any r)) }
+{
+    if !entered.reads_alone(t) {
+        return Ok(None);
+    }
+    if !samples.present(corner) {
+        return Err(Refusal::Damaged);
+    }
+    if index >= samples.side().area() {
+        return Ok(None);
+    }
+    let found = samples.kept_at(corner, index)?;
+    Ok(found)
 }
 
 // The labelling that is held of the tile, mended where heights may have changed; None where none is held, or the tile is to

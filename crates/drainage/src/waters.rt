@@ -1,14 +1,13 @@
 //! What is found of a mosaic's water: ways, labellings and levels, tile by tile as they are asked for.
-ghost use Rattle.std.specs.Prelude.{◌≡◌, ◌≢◌, ◌-◌, ◌*◌, ◌<◌, ℕ, IfOk, IfErr, OnOk, IsTrue, Ok, Some, length, slice_index, slice_index_or};
+ghost use Rattle.std.specs.Prelude.{◌≡◌, ◌≢◌, ◌-◌, ◌*◌, ◌<◌, ℕ, IfOk, IfErr, OnOk, IsTrue, Ok, Some, length};
 ghost use Rattle.catalogue.specs.Asked.{Asked};
 ghost use Rattle.catalogue.specs.Endings.{ends_any};
 ghost use Rattle.catalogue.specs.Readers.{OnlyReads};
-ghost use Rattle.derived.specs.Labellings.{IsFlooded};
-ghost use Rattle.lattice.specs.Mosaic.{Mosaic, void};
+ghost use Rattle.derived.specs.Spots.{IsLabelledAt};
+ghost use Rattle.lattice.specs.Mosaic.{Mosaic};
 ghost use Rattle.lattice.specs.declared.refusal.Refusal.TheVariants.{NoMemory};
 ghost use Rattle.border_graph.specs.TileGraph.{TileGraph as TileGraphOf};
 ghost use Rattle.border_graph.specs.Others.{corner_at};
-ghost use Rattle.tile_flood.specs.Blocks.{LabelledGround};
 ghost use Rattle.drainage.specs.Shores.{told_at};
 ghost use Rattle.drainage.specs.Forgetting.{IsLeftOf, IsNotedOf};
 ghost use Rattle.drainage.specs.Holding.{IsRight, IsGrown};
@@ -16,7 +15,7 @@ ghost use Rattle.drainage.specs.Reaching.{DifferAt, DifferBetween, is_reached};
 
 use crate::entered::Entered;
 use crate::filling::spot_of;
-use crate::renewing::current_labelling;
+use crate::renewing::{current_labelling, kept_spot};
 use crate::rims::RimLevels;
 use crate::shores::Shores;
 use crate::summing::summarize;
@@ -106,8 +105,8 @@ impl Waters {
         Ok(())
     }
 
-    /// The level and the label of the point with this index in the tile with this place and corner, by a labelling that is
-    /// held, or is made and held from then on.
+    /// The level and the label of the point with this index in the tile with this place and corner: by a labelling that is
+    /// held; as they are kept, by themselves; or by a labelling that is read or made, and held from then on.
     pub(crate) fn spot<S: Labellings>(
         &mut self,
         alloc: Global,
@@ -119,8 +118,7 @@ impl Waters {
         requires place { t < length self.old.shores.corners.items }
         requires corner { corner_at self.old.shores.corners.items t ≡ corner }
         requires index { index < self.old.shores.side * self.old.shores.side }
-        ensures spot { S.is_honest samples.new → IsRight (S.mosaic samples.old) (known_of self.old) → IfOk result (λ spot. (labelled : LabelledGround) × (IsFlooded (S.mosaic samples.old) corner labelled
-            × ((spot.0 ≡ slice_index_or labelled.levels index void) × (spot.1 ≡ slice_index labelled.labels index)))) }
+        ensures spot { S.is_honest samples.new → IsRight (S.mosaic samples.old) (known_of self.old) → IfOk result (λ spot. IsLabelledAt (S.mosaic samples.old) corner index spot.0 spot.1) }
         ensures grown { IsGrown S.Samples samples.old samples.new (known_of self.old) (known_of self.new) }
         ensures reads { OnOk result (OnlyReads {T = Unit {0}} S.Samples samples.old samples.new (Ok tt)) }
         ensures asked { (S.is_honest samples.new → IsRight (S.mosaic samples.old) (known_of self.old)) → Asked S.Samples samples.old samples.new result }
@@ -129,6 +127,31 @@ impl Waters {
         if let Some(spot) = self.entered.spot(t, index) {
             return Ok(spot);
         }
+        if let Some(spot) = kept_spot(samples, &mut self.entered, t, corner, index)? {
+            return Ok(spot);
+        }
+        self.entered_spot(alloc, samples, t, corner, index)
+    }
+
+    // The level and the label of the point with this index in the tile with this place and corner, by a labelling that is
+    // held from then on.
+    fn entered_spot<S: Labellings>(
+        &mut self,
+        alloc: Global,
+        samples: &mut S,
+        t: usize,
+        corner: Corner,
+        index: u32,
+    ) -> Result<(i16, u16), Refusal>
+        requires place { t < length self.old.shores.corners.items }
+        requires corner { corner_at self.old.shores.corners.items t ≡ corner }
+        requires index { index < self.old.shores.side * self.old.shores.side }
+        ensures spot { S.is_honest samples.new → IsRight (S.mosaic samples.old) (known_of self.old) → IfOk result (λ spot. IsLabelledAt (S.mosaic samples.old) corner index spot.0 spot.1) }
+        ensures grown { IsGrown S.Samples samples.old samples.new (known_of self.old) (known_of self.new) }
+        ensures reads { OnOk result (OnlyReads {T = Unit {0}} S.Samples samples.old samples.new (Ok tt)) }
+        ensures asked { (S.is_honest samples.new → IsRight (S.mosaic samples.old) (known_of self.old)) → Asked S.Samples samples.old samples.new result }
+        ensures causes { IfErr result (λ r. IsTrue (ends_any r)) }
+    {
         let labelling = current_labelling(alloc, samples, &mut self.entered, t, corner)?;
         let spot = spot_of(labelling.labelled(), index);
         self.entered.hold(t, labelling);

@@ -1,6 +1,6 @@
 -- Labellings that are kept are right where the store's tree is sure; and reads of the tree one after another.
 use Rattle.std.proofs.Common.{◌≡◌, ◌≢◌, ◌⊎◌, inl, inr, ℕ, ℤ, ◌≤ℤ◌, false, true, List, Contains, Option, Some, Result, Ok, Err, refl, sym, ap, ◌∙◌, subst, true≢false, arith}
-use Rattle.std.specs.Prelude.{IfOk, IfErr, IfSome, IsErrOf, OnErr, slice_index_or}
+use Rattle.std.specs.Prelude.{IsOk, IfOk, IfErr, IfSome, IsErrOf, OnErr, slice_index, slice_index_or}
 use Rattle.std.proofs.lemmas.List.Elements.{All-contains}
 use Rattle.disk.specs.Disk.{Image, HasRisen}
 use Rattle.disk.specs.declared.disk.Disk.{Ghosts}
@@ -13,6 +13,7 @@ use Rattle.charts.specs.Planes.{HasPlane}
 use Rattle.charts.specs.TileLocations.{TileLocation}
 use Rattle.charts.specs.declared.plane.Plane.TheVariants.{Levels}
 use Rattle.derived.specs.Labellings.{IsFlooded}
+use Rattle.derived.specs.Spots.{IsLabelledAt, StandsAt}
 use Rattle.tile_flood.specs.Blocks.{LabelledGround}
 use Rattle.tile_flood.specs.Kept.{AreKeptOf, labels_in, levels_in}
 use Rattle.tile_flood.specs.Labelling.{IsLabelling}
@@ -117,6 +118,14 @@ module _ (m : Mosaic) (c : Corner) (levels labels : List ℕ) (kept : AreKeptOf 
   flooded_by_bytes (Ok labelled) side are_levels are_labels = flooded_as_kept labelled side are_levels are_labels
   flooded_by_bytes (Err r) side are_levels are_labels = tt
 
+  -- .. and what they say of one point
+  pub labelled_by_bytes : (e : ℕ) (level label : List ℕ) → StandsAt levels e level → StandsAt labels e label → (result : Result (ℤ × ℕ) Refusal)
+      → IfOk result (λ s. (bytes : List ℕ) (z : ℕ) → StandsAt bytes z level → slice_index_or (levels_in bytes) z void ≡ s.0)
+      → IfOk result (λ s. (bytes : List ℕ) (z : ℕ) → StandsAt bytes z label → slice_index (labels_in bytes) z ≡ s.1) → IfOk result (λ s. IsLabelledAt m c e s.0 s.1)
+  labelled_by_bytes e level label at_level at_label (Ok s) is_level is_label =
+      (record { side = m.side; levels = levels_in levels; labels = labels_in labels }, (flooded_as_kept _ refl refl refl, (sym (is_level levels e at_level), sym (is_label labels e at_label))))
+  labelled_by_bytes e level label at_level at_label (Err r) is_level is_label = tt
+
   pub least_height : IsMosaic m → (e : ℕ) → void ≤ℤ slice_index_or kept.block.heights e void
   least_height is = lowest_height m is c kept.block.heights kept.ground.heights
 
@@ -153,6 +162,11 @@ module _ {D : Type 0} (g : Ghosts D) where
     not_failed = second.not_failed;
     failed = second.failed;
   }
+
+-- it is answered: so it isn't found damaged
+pub answered_whole : {T : Type 0} (result : Result T Refusal) → IsOk result → result ≢ Err Damaged
+answered_whole (Ok x) ok e = absurd (cc)
+answered_whole (Err r) ok e = absurd (cc)
 
 -- only memory refuses: so it isn't found damaged
 pub not_damaged : {T : Type 0} (result : Result T Refusal) → IfErr result (λ r. r ≡ NoMemory) → result ≢ Err Damaged

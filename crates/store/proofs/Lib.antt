@@ -25,6 +25,7 @@ pub mod Reopening
 pub mod RightPlanes
 pub mod Runs
 pub mod SessionsInTurn
+pub mod Spotted
 pub mod Staged
 pub mod Staled
 pub mod States

@@ -1,12 +1,18 @@
 -- What a store's tree reads to flood a tile, or to have its labelling from what is kept (this product's own profile).
-use Rattle.std.specs.Prelude.{◌≡◌, Result, Err, IsOk, IfErr}
+use Rattle.std.specs.Prelude.{◌≡◌, ℕ, List, All, Result, Err, IsOk, IfErr}
+use Rattle.charts.specs.declared.plane.Plane.{Plane}
 use Rattle.disk.specs.declared.disk.Disk.{Ghosts}
+use Rattle.lattice.specs.Corners.{Corner}
 use Rattle.lattice.specs.declared.refusal.Refusal.{Refusal}
 use Rattle.catalogue.specs.Asked.{IsOwnRefusal}
+use Rattle.cow_tree.specs.Planes.{HasPages}
 use Rattle.cow_tree.specs.Reading.{mosaic_of, IsReadable, Reads}
+use Rattle.cow_tree.specs.Stored.{IsPage, PlanePages, StoredTile, plane_bytes}
 use Rattle.cow_tree.specs.Trees.{staged_in}
 use Rattle.cow_tree.specs.declared.tree.Tree.{Tree}
+use Rattle.derived.specs.Spots.{StandsAt}
 use Rattle.store.specs.Kept.{KeepRight}
+use Rattle.store.specs.Queried.{IsTileOf}
 
 -- the samples of the tree are those of a mosaic, and what each tile keeps is right in it
 pub record IsSure {D : Type 0} (g : Ghosts D) (tree : Tree D g) : Type 0 where
@@ -21,3 +27,7 @@ pub record Consults {D T : Type 0} (g : Ghosts D) (old new : Tree D g) (result :
   pub reads : Reads g old new read
   pub passed : IfErr read (λ r. result ≡ Err r)
   pub own : IsOk read → IfErr result IsOwnRefusal
+
+-- these two bytes are the value with this index in the plane of the corner's tile, if its pages are whole
+abbrev pub IsKeptValue : ℕ → List StoredTile → Corner → Plane → ℕ → List ℕ → Type 0
+IsKeptValue n tiles c plane e two = (t : StoredTile) (pages : PlanePages) → IsTileOf tiles c t → HasPages plane t pages → All IsPage pages → StandsAt (plane_bytes n pages) e two

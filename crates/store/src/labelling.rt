@@ -1,5 +1,5 @@
 //! A store's tree as samples with labellings: that of a fresh tile is read from what is kept of it, a stale tile is flooded.
-ghost use Rattle.std.specs.Prelude.{◌≡◌, ◌≢◌, ◌*◌, false, Some, Err, IsTrue, IfOk, IfErr, vec_len};
+ghost use Rattle.std.specs.Prelude.{◌≡◌, ◌≢◌, ◌*◌, ◌<◌, false, Some, Err, IsTrue, IfOk, IfErr, OnOk, vec_len};
 ghost use Rattle.std.proofs.Common.{refl, ◌∙◌};
 ghost use Rattle.lattice.specs.declared.refusal.Refusal.TheVariants.{Damaged, NoMemory};
 ghost use Rattle.catalogue.specs.Endings.{ends_any};
@@ -9,18 +9,22 @@ ghost use Rattle.cow_tree.specs.Reading.{mosaic_of, HasOnlyRead, Reads, read_not
 ghost use Rattle.cow_tree.specs.Trees.{disk_of as disk_under, root_of as root_under, chart_of, corners_of, sinks_of, staged_in, has_failed as have_failed, Holds};
 ghost use Rattle.cow_tree.specs.Stored.{StoredTile, KeptPlanes as KeptPages, plane_bytes};
 ghost use Rattle.derived.specs.Labellings.{IsFlooded};
-ghost use Rattle.store.specs.Labelling.{IsSure, Consults};
+ghost use Rattle.derived.specs.Spots.{IsLabelledAt};
+ghost use Rattle.store.specs.Labelling.{IsSure, Consults, IsKeptValue};
 ghost use Rattle.store.specs.Queried.{IsTileOf};
 
 use crate::queries::read_plane;
 use catalogue::Samples;
 use cow_tree::{Plane, Tree};
-use derived::{KeptPlanes, Labellings, TileLabelling, flooded, labelled_from};
+use derived::{KeptPlanes, Labellings, TileLabelling, flooded, labelled_at, labelled_from};
 use disk::Disk;
 use lattice::{Corner, Point, Refusal, Side};
 use std::alloc::Global;
 use std::marker::{Brand, PhantomData};
 use tile_flood::Labelled;
+
+// So many values stand in a page of a plane.
+const VALUES_IN_PAGE: u32 = 2048;
 
 /// What is taken to hold where samples are said to be honest. A caller at `Brand` picks it.
 pub(crate) trait Premise {
@@ -111,6 +115,73 @@ impl<'a, D: Disk, P: Premise> Labellings for Asked<'a, D, P> {
             Ok(TileLabelling::Flooded(block))
         }
     }
+
+    fn kept_at(&mut self, corner: Corner, index: u32) -> Result<Option<(i16, u16)>, Refusal> {
+        if !self.tree.keeps(corner) {
+            return Ok(None);
+        }
+        let spot = kept_spot(self.tree, corner, index)?;
+        Ok(Some(spot))
+    }
+}
+
+// The level and the label that are kept of the point with this index in the corner's tile, read by themselves. Damaged where
+// no labelling has them.
+fn kept_spot<D: Disk>(tree: &mut Tree<D>, corner: Corner, index: u32) -> Result<(i16, u16), Refusal>
+    requires levels { Holds tree.old corner Levels }
+    requires labels { Holds tree.old corner Labels }
+    requires index { index < (root_under tree.old).side * (root_under tree.old).side }
+    ensures spot { IsSure D.Disk tree.new → IfOk result (λ spot. IsLabelledAt (mosaic_of D.Disk tree.old) corner index spot.0 spot.1) }
+    ensures sound { IsSure D.Disk tree.new → result ≢ Err Damaged }
+    ensures causes { IfErr result (λ r. IsTrue (ends_any r)) }
+    ensures reads { Consults D.Disk tree.old tree.new result }
+{
+    if tree.has_failed() {
+        return Err(Refusal::Failed);
+    }
+    let side = tree.current().side();
+    let (level, label) = read_spot(tree, corner, index)?;
+    labelled_at(side, &level, &label)
+}
+
+// The two bytes of the level and those of the label that are kept of the point with this index in the corner's tile.
+fn read_spot<D: Disk>(
+    tree: &mut Tree<D>,
+    corner: Corner,
+    index: u32,
+) -> Result<([u8; 2], [u8; 2]), Refusal>
+    requires works { have_failed tree.old ≡ false }
+    requires levels { Holds tree.old corner Levels }
+    requires labels { Holds tree.old corner Labels }
+    requires index { index < (root_under tree.old).side * (root_under tree.old).side }
+    ensures level { D.honest (disk_under tree.new) → IfOk result (λ two. IsKeptValue (root_under tree.old).side (staged_in D.Disk tree.old) corner Levels index two.0) }
+    ensures label { D.honest (disk_under tree.new) → IfOk result (λ two. IsKeptValue (root_under tree.old).side (staged_in D.Disk tree.old) corner Labels index two.1) }
+    ensures refusal { IfErr result (λ r. IsTrue (ends_any r) × (r ≢ Damaged)) }
+    ensures reads { Reads D.Disk tree.old tree.new (reads_of result) }
+{
+    let mut level = [0; 2];
+    let mut label = [0; 2];
+    read_value(tree, corner, Plane::Levels, index, &mut level)?;
+    read_value(tree, corner, Plane::Labels, index, &mut label)?;
+    Ok((level, label))
+}
+
+// Reads the two bytes of the value with this index in a plane of the corner's tile.
+fn read_value<D: Disk>(
+    tree: &mut Tree<D>,
+    corner: Corner,
+    plane: Plane,
+    index: u32,
+    into: &mut [u8; 2],
+) -> Result<(), Refusal>
+    requires held { Holds tree.old corner plane }
+    requires index { index < (root_under tree.old).side * (root_under tree.old).side }
+    ensures reads { Reads D.Disk tree.old tree.new result }
+    ensures value { D.honest (disk_under tree.new) → OnOk result (IsKeptValue (root_under tree.old).side (staged_in D.Disk tree.old) corner plane index into.new) }
+{
+    let page = index / VALUES_IN_PAGE;
+    let from = 2 * (index % VALUES_IN_PAGE) as usize;
+    tree.read_two(corner, plane, page, from, into)
 }
 
 // The labelling that is kept of the corner's tile. Damaged where it can be none.

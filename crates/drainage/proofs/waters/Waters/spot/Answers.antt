@@ -1,12 +1,19 @@
-use Rattle.std.proofs.Common.{◌≡◌, List, refl, sym, subst}
-use Rattle.std.specs.Prelude.{Option}
-use Rattle.catalogue.proofs.Reading.{reads_nothing}
+use Rattle.std.proofs.Common.{◌≡◌, Result, Ok, Err, List, refl, sym, ap, ◌∙◌, subst}
+use Rattle.std.specs.Prelude.{Option, IfOk, OnOk}
+use Rattle.std.proofs.lemmas.Result.{err_from_is_err_and}
+use Rattle.lattice.specs.Mosaic.{Mosaic}
+use Rattle.lattice.specs.declared.refusal.Refusal.{Refusal}
+use Rattle.catalogue.proofs.Asking.{asked_on}
+use Rattle.catalogue.proofs.Reading.{reads_nothing, reads_on}
+use Rattle.catalogue.specs.declared.samples.Samples.{Ghosts}
+use Rattle.derived.specs.Spots.{IsLabelledAt}
 use Rattle.derived.specs.declared.tile_labelling.TileLabelling.{TileLabelling}
-use Rattle.drainage.specs.Holding.{IsEntered}
+use Rattle.drainage.specs.Holding.{Known, IsEntered, IsGrown, IsRight}
+use Rattle.drainage.specs.Kept.{grown_on, right_still}
 use Rattle.drainage.specs.Waters.{known_of}
-use Rattle.drainage.proofs.Growing.{grown_by}
-use Rattle.drainage.proofs.Questioned.{answered}
-use Rattle.drainage.proofs.Renewed.{entered_there}
+use Rattle.drainage.proofs.Growing.{grown_fewer}
+use Rattle.drainage.proofs.Questioned.{answered, passed_on, refused_by}
+use Rattle.drainage.proofs.Renewed.{entered_there, is_there}
 use Rattle.drainage.proofs.waters.Waters.spot.Goals as goal
 
 pub returns-in-Some-clause-spot : goal.returns-in-Some-clause-spot
@@ -16,28 +23,68 @@ returns-in-Some-clause-spot g c honest right =
 pub returns-in-Some-clause-asked : goal.returns-in-Some-clause-asked
 returns-in-Some-clause-asked g c right = answered g.S.Samples c.args.samples.now c.args.samples.now c.in-Some.spot (reads_nothing g.S.Samples g.met.S.Samples.keeps_itself c.args.samples.now (tt {0}))
 
-pub returns-in-Some-spot-clause-grown : goal.returns-in-Some-spot-clause-grown
-returns-in-Some-spot-clause-grown g c =
-    let a = c.args.samples.now in
-    let was = known_of c.args.self.now in
-    let made = c.in_ok-labelling.ensures in
-    grown_by g.S.Samples a c.current_labelling.new.samples was (known_of (record { shores = c.args.self.now.shores; entered = c.hold.new.self; levels = c.args.self.now.levels }))
-    (record { honest = made.honest; mosaic = made.mosaic; same_side = refl; same_corners = refl; still = λ t ways is. is }) refl
-    c.args.t c.args.corner c.in_ok-labelling.labelling c.requires.corner
-    (λ honest right. made.valid honest (subst (λ (e : List (Option TileLabelling)). IsEntered (g.S.Samples.mosaic a) c.args.corner e c.args.t) (sym c.spot.ensures.same)
-    (entered_there g.S.Samples a was c.args.t c.args.corner c.requires.place c.requires.corner right)))
-    (λ honest right. right.ready.tiles)
-    (λ m d u here entered. c.hold.ensures m d u here (made.left m d u (subst (λ (e : List (Option TileLabelling)). IsEntered m d e u) (sym c.spot.ensures.same) entered)))
+-- reads alone, after which the same is held
+read_alone : {S : Type 0} (g : Ghosts S) (a b : S) (known : Known) (entered mid : List (Option TileLabelling)) → (g.is_honest b → g.is_honest a) → (g.is_honest b → g.mosaic b ≡ g.mosaic a) → mid ≡ known.entered → entered ≡ mid
+    → IsGrown g a b known (record { side = known.side; corners = known.corners; told = known.told; entered = entered; levels = known.levels })
+read_alone g a b known entered mid honest mosaic first second =
+    grown_fewer g a b known entered honest mosaic (λ m d u. subst (λ (e : List (Option TileLabelling)). IsEntered m d e u) (sym (second ∙ first)))
 
-pub returns-in-Some-spot-clause-spot : goal.returns-in-Some-spot-clause-spot
-returns-in-Some-spot-clause-spot g c honest right =
+pub returns-in_err-spot-clause-grown : goal.returns-in_err-spot-clause-grown
+returns-in_err-spot-clause-grown g c =
+    let read = c.in_err-spot.ensures in
+    read_alone g.S.Samples c.args.samples.now c.kept_spot.new.samples (known_of c.args.self.now) c.kept_spot.new.entered c.spot.new.self read.honest read.mosaic c.spot.ensures.same read.same
+
+pub returns-in_err-spot-clause-asked : goal.returns-in_err-spot-clause-asked
+returns-in_err-spot-clause-asked g c right =
     let a = c.args.samples.now in
-    let made = c.in_ok-labelling.ensures in (
-      c.labelled.result.now,
-      (
-        c.labelled.ensures.flooded (g.S.Samples.mosaic a) c.args.corner made.current
-            (made.valid honest (subst (λ (e : List (Option TileLabelling)). IsEntered (g.S.Samples.mosaic a) c.args.corner e c.args.t) (sym c.spot.ensures.same)
-            (entered_there g.S.Samples a (known_of c.args.self.now) c.args.t c.args.corner c.requires.place c.requires.corner right))),
-        c.in-Some-spot.ensures.some,
-      ),
-    )
+    let b = c.kept_spot.new.samples in
+    let read = c.in_err-spot.ensures in
+    let r = c.in_err-spot.field-0.0 in
+    let p = err_from_is_err_and c.from_residual.result c.from_residual.ensures.1 in
+    refused_by g.S.Samples a b c.from_residual.result p.0 r p.1 p.2
+    (passed_on g.S.Samples a b c.kept_spot.result r c.in_err-spot.was (c.kept_spot.ensures.asked (λ honest.
+    is_there g.S.Samples a (known_of c.args.self.now) c.args.t c.args.corner c.requires.place c.requires.corner (right honest) (g.met.S.Samples.same_corners a (read.honest honest)))))
+
+pub returns-in-Some-2-clause-grown : goal.returns-in-Some-2-clause-grown
+returns-in-Some-2-clause-grown g c =
+    let read = c.kept_spot.ensures in
+    read_alone g.S.Samples c.args.samples.now c.kept_spot.new.samples (known_of c.args.self.now) c.kept_spot.new.entered c.spot.new.self read.honest read.mosaic c.spot.ensures.same read.same
+
+pub returns-clause-grown : goal.returns-clause-grown
+returns-clause-grown g c =
+    let read = c.kept_spot.ensures in
+    grown_on g.S.Samples c.args.samples.now c.kept_spot.new.samples c.entered_spot.new.samples (known_of c.args.self.now) _ (known_of c.entered_spot.new.self)
+    (read_alone g.S.Samples c.args.samples.now c.kept_spot.new.samples (known_of c.args.self.now) c.kept_spot.new.entered c.spot.new.self read.honest read.mosaic c.spot.ensures.same read.same)
+    c.entered_spot.ensures.grown
+
+pub returns-clause-spot : goal.returns-clause-spot
+returns-clause-spot g c honest right =
+    let a = c.args.samples.now in
+    let b = c.kept_spot.new.samples in
+    let d = c.entered_spot.new.samples in
+    let read = c.kept_spot.ensures in
+    let mid : g.S.Samples.is_honest b = c.entered_spot.ensures.grown.kept.honest honest in
+    let alone = read_alone g.S.Samples a b (known_of c.args.self.now) c.kept_spot.new.entered c.spot.new.self read.honest read.mosaic c.spot.ensures.same read.same in
+    subst (λ (m : Mosaic). IfOk c.entered_spot.result (λ s. IsLabelledAt m c.args.corner c.args.index s.0 s.1)) (read.mosaic mid)
+    (c.entered_spot.ensures.spot honest (right_still g.S.Samples a b (known_of c.args.self.now) _ alone mid right))
+
+pub returns-in-Some-2-clause-asked : goal.returns-in-Some-2-clause-asked
+returns-in-Some-2-clause-asked g c right = answered g.S.Samples c.args.samples.now c.kept_spot.new.samples _ c.in_ok-spot.ensures.reads
+
+on_ok : {T P Q : Type 0} (result : Result T Refusal) → (P → Q) → OnOk result P → OnOk result Q
+on_ok (Ok x) then_ p = then_ p
+on_ok (Err r) then_ p = p
+
+pub returns-clause-reads : goal.returns-clause-reads
+returns-clause-reads g c =
+    on_ok c.entered_spot.result (reads_on g.S.Samples g.met.S.Samples.keeps_on c.args.samples.now c.kept_spot.new.samples c.entered_spot.new.samples tt (Ok tt) c.in_ok-spot.ensures.reads) c.entered_spot.ensures.reads
+
+pub returns-clause-asked : goal.returns-clause-asked
+returns-clause-asked g c right =
+    let a = c.args.samples.now in
+    let b = c.kept_spot.new.samples in
+    let d = c.entered_spot.new.samples in
+    let read = c.kept_spot.ensures in
+    let alone = read_alone g.S.Samples a b (known_of c.args.self.now) c.kept_spot.new.entered c.spot.new.self read.honest read.mosaic c.spot.ensures.same read.same in
+    asked_on g.S.Samples g.met.S.Samples.keeps_on a b d tt c.entered_spot.result c.in_ok-spot.ensures.reads
+    (c.entered_spot.ensures.asked (λ honest. right_still g.S.Samples a b (known_of c.args.self.now) _ alone (c.entered_spot.ensures.grown.kept.honest honest) (right honest)))

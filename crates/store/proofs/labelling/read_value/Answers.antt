@@ -1,0 +1,18 @@
+use Rattle.std.proofs.Common.{◌≡◌, ◌+◌, ◌*◌, ◌/◌, ◌%◌, List, Result, Ok, Err}
+use Rattle.std.specs.Prelude.{OnOk}
+use Rattle.lattice.specs.declared.refusal.Refusal.{Refusal}
+use Rattle.cow_tree.specs.Trees.{staged_in}
+use Rattle.store.proofs.QueryingPages.{page_of_tile}
+use Rattle.store.proofs.Spotted.{two_stand}
+use Rattle.store.proofs.labelling.read_value.Goals as goal
+
+on_ok : {T P Q : Type 0} (result : Result T Refusal) → (P → Q) → OnOk result P → OnOk result Q
+on_ok (Ok x) then_ p = then_ p
+on_ok (Err r) then_ p = p
+
+pub returns-clause-value : goal.returns-clause-value
+returns-clause-value g c honest =
+    on_ok c.read_two.result
+    (λ held t pages is has all.
+    two_stand c.args.tree.now.root.side pages c.args.index held.0 all (page_of_tile c.args.plane (staged_in g.D.Disk c.args.tree.now) c.args.corner t pages (c.args.index / 2048) held.0 is has held.1.0) c.requires.index c.read_two.new.into held.1.1)
+    (c.read_two.ensures.two honest)
