@@ -56,6 +56,11 @@ module _ (t : Terrain Point) (level : Point → ℤ) where
   some_steps x d [] are = are
   some_steps x d (e ∷ steps) are = are
 
+  -- where there are next steps, they lead along it
+  pub flows_on : (x : Point) (steps : List Dir) → (steps ≡ [] → ⊥) → AreSteps t level x steps → FlowsOn t level x steps
+  flows_on x [] some are = absurd (some refl)
+  flows_on x (d ∷ steps) some are = are
+
   pub are_steps : (x : Point) (steps : List Dir) → (steps ≡ [] → ⊥) → FlowsOn t level x steps → AreSteps t level x steps
   are_steps x [] some flows = absurd (some refl)
   are_steps x (d ∷ steps) some flows = flows

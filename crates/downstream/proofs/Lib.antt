@@ -7,3 +7,4 @@ pub mod Ends
 pub mod Following
 pub mod Finding
 pub mod Measuring
+pub mod Learning

@@ -1,6 +1,7 @@
 pub mod Levels
 pub mod Around
 pub mod Near
+pub mod Way
 pub mod Asking
 pub mod Seen
 pub mod Steepest

@@ -1,11 +1,14 @@
 -- A flow path on its way.
-use Rattle.std.specs.Prelude.{◌≡◌, ℤ, ◌++◌, [], ◌∷◌, IsTrue, List, Option, Some, None, MatchOption}
+use Rattle.std.specs.Prelude.{◌≡◌, ℤ, ◌++◌, [], ◌∷◌, IsTrue, IsFalse, List, Option, Some, None, MatchOption}
 use Rattle.lattice.specs.declared.point.Point.{Point}
 use Rattle.lattice.specs.declared.direction.Dir.{Dir}
 use Rattle.lattice.specs.Steps.{step}
 use Rattle.lattice.specs.Terrain.{Terrain}
+use Rattle.lattice.specs.Mosaic.{Mosaic}
+use Rattle.lattice.specs.Ground.{is_ground, terrain}
 use Rattle.flow_d8.specs.Drainage.{IsDirection}
 use Rattle.flow_d8.specs.FlowPath.{IsFlowPath}
+use Rattle.downstream.specs.Around.{OnLevels}
 
 module _ (t : Terrain Point) (level : Point → ℤ) where
   -- the point that p drains to, or none where it drains off the mosaic
@@ -30,3 +33,8 @@ module _ (t : Terrain Point) (level : Point → ℤ) where
   abbrev pub AreSteps : Point → List Dir → Type 0
   AreSteps x [] = IsDirection t level x None
   AreSteps x (d ∷ steps) = FlowsOn x (d ∷ steps)
+
+-- they are the next steps of its flow path, and none where it isn't ground
+pub record AreNext (m : Mosaic) (p : Point) (steps : List Dir) : Type 0 where
+  pub lead : IsTrue (is_ground m p) → OnLevels m (λ level. AreSteps (terrain m) level p steps)
+  pub elsewhere : IsFalse (is_ground m p) → steps ≡ []

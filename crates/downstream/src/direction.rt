@@ -1,18 +1,16 @@
 //! The direction of one point.
 ghost use Rattle.std.specs.Option.{option_to_list};
-ghost use Rattle.std.specs.Prelude.{◌≡◌, [], None, IsTrue, IsFalse, IfOk, IfErr, OnOk};
-ghost use Rattle.lattice.specs.Ground.{is_ground, terrain};
-ghost use Rattle.flow_d8.specs.Drainage.{IsDirection};
-ghost use Rattle.downstream.specs.Around.{OnLevels};
+ghost use Rattle.std.specs.Prelude.{◌≡◌, ◌<◌, IfOk, IfErr, OnOk, length};
 ghost use Rattle.downstream.specs.Asking.{Asks};
 ghost use Rattle.downstream.specs.Flats.{AreFlatsOf};
-ghost use Rattle.downstream.specs.Path.{AreSteps};
+ghost use Rattle.downstream.specs.Path.{AreNext};
+ghost use Rattle.downstream.specs.Way.{IsWay};
 
 use crate::FilledLevels;
 use crate::across::way_across;
 use crate::flats::{Flats, first_nearer};
 use crate::lie::{Lie, lie_of};
-use lattice::{Dir, Point, Refusal};
+use lattice::{Dir, Point, Refusal, neighbour};
 use std::alloc::{AllocError, Global};
 
 /// Where the point drains on the whole mosaic. None where it drains off the mosaic, and where it isn't ground.
@@ -25,9 +23,7 @@ pub fn direction_at<S, L: FilledLevels<S>>(
     point: Point,
 ) -> Result<Option<Dir>, Refusal>
     requires { L.fits levels.old source.old }
-    ensures direction { L.is_honest levels.new source.new → IfOk result (λ d. IsTrue (is_ground (L.mosaic levels.old source.old) point)
-        → OnLevels (L.mosaic levels.old source.old) (λ level. IsDirection (terrain (L.mosaic levels.old source.old)) level point d)) }
-    ensures elsewhere { L.is_honest levels.new source.new → IfOk result (λ d. IsFalse (is_ground (L.mosaic levels.old source.old) point) → d ≡ None) }
+    ensures way { L.is_honest levels.new source.new → IfOk result (IsWay (L.mosaic levels.old source.old) point) }
     ensures refusal { IfErr result (L.refuses levels.old source.old levels.new source.new) }
     ensures asks { Asks L.FilledLevels levels.old source.old levels.new source.new }
     ensures keeps { OnOk result (L.keeps levels.old source.old levels.new source.new) }
@@ -48,9 +44,32 @@ pub fn direction_over<S, L: FilledLevels<S>>(
 ) -> Result<Option<Dir>, Refusal>
     requires fits { L.fits levels.old source.old }
     requires flats { AreFlatsOf L.FilledLevels levels.old source.old flats.old }
-    ensures direction { L.is_honest levels.new source.new → IfOk result (λ d. IsTrue (is_ground (L.mosaic levels.old source.old) point)
-        → OnLevels (L.mosaic levels.old source.old) (λ level. IsDirection (terrain (L.mosaic levels.old source.old)) level point d)) }
-    ensures elsewhere { L.is_honest levels.new source.new → IfOk result (λ d. IsFalse (is_ground (L.mosaic levels.old source.old) point) → d ≡ None) }
+    ensures way { L.is_honest levels.new source.new → IfOk result (IsWay (L.mosaic levels.old source.old) point) }
+    ensures flats { OnOk result (AreFlatsOf L.FilledLevels levels.new source.new flats.new) }
+    ensures refusal { IfErr result (L.refuses levels.old source.old levels.new source.new) }
+    ensures asks { Asks L.FilledLevels levels.old source.old levels.new source.new }
+    ensures keeps { OnOk result (L.keeps levels.old source.old levels.new source.new) }
+    ensures fits { L.fits levels.new source.new }
+{
+    if let Some(way) = levels.way(source, point) {
+        return Ok(way);
+    }
+    let way = find_direction(alloc, levels, source, flats, point)?;
+    levels.learn(alloc, source, point, way);
+    Ok(way)
+}
+
+// Where the point drains, which wasn't learnt.
+fn find_direction<S, L: FilledLevels<S>>(
+    alloc: Global,
+    levels: &mut L,
+    source: &mut S,
+    flats: &mut Flats,
+    point: Point,
+) -> Result<Option<Dir>, Refusal>
+    requires fits { L.fits levels.old source.old }
+    requires flats { AreFlatsOf L.FilledLevels levels.old source.old flats.old }
+    ensures way { L.is_honest levels.new source.new → IfOk result (IsWay (L.mosaic levels.old source.old) point) }
     ensures flats { OnOk result (AreFlatsOf L.FilledLevels levels.new source.new flats.new) }
     ensures refusal { IfErr result (L.refuses levels.old source.old levels.new source.new) }
     ensures asks { Asks L.FilledLevels levels.old source.old levels.new source.new }
@@ -77,9 +96,29 @@ pub(crate) fn steps_on<S, L: FilledLevels<S>>(
     point: Point,
 ) -> Result<Vec<Dir>, Refusal>
     requires { L.fits levels.old source.old }
-    ensures steps { L.is_honest levels.new source.new → IfOk result (λ steps. IsTrue (is_ground (L.mosaic levels.old source.old) point)
-        → OnLevels (L.mosaic levels.old source.old) (λ level. AreSteps (terrain (L.mosaic levels.old source.old)) level point steps.items)) }
-    ensures elsewhere { L.is_honest levels.new source.new → IfOk result (λ steps. IsFalse (is_ground (L.mosaic levels.old source.old) point) → steps.items ≡ []) }
+    ensures steps { L.is_honest levels.new source.new → IfOk result (λ steps. AreNext (L.mosaic levels.old source.old) point steps.items) }
+    ensures refusal { IfErr result (L.refuses levels.old source.old levels.new source.new) }
+    ensures asks { Asks L.FilledLevels levels.old source.old levels.new source.new }
+    ensures keeps { OnOk result (L.keeps levels.old source.old levels.new source.new) }
+    ensures fits { L.fits levels.new source.new }
+{
+    if let Some(way) = levels.way(source, point) {
+        return Ok(one_or_none(alloc, way)?);
+    }
+    let steps = find_steps(alloc, levels, source, point)?;
+    learn_along(alloc, levels, source, point, &steps);
+    Ok(steps)
+}
+
+// The next steps on the flow path of a point whose direction wasn't learnt.
+fn find_steps<S, L: FilledLevels<S>>(
+    alloc: Global,
+    levels: &mut L,
+    source: &mut S,
+    point: Point,
+) -> Result<Vec<Dir>, Refusal>
+    requires { L.fits levels.old source.old }
+    ensures steps { L.is_honest levels.new source.new → IfOk result (λ steps. AreNext (L.mosaic levels.old source.old) point steps.items) }
     ensures refusal { IfErr result (L.refuses levels.old source.old levels.new source.new) }
     ensures asks { Asks L.FilledLevels levels.old source.old levels.new source.new }
     ensures keeps { OnOk result (L.keeps levels.old source.old levels.new source.new) }
@@ -101,4 +140,34 @@ fn one_or_none(alloc: Global, direction: Option<Dir>) -> Result<Vec<Dir>, AllocE
         steps.push(direction)?;
     }
     Ok(steps)
+}
+
+// Learns where the points drain that the next steps lead over, from this one on.
+fn learn_along<S, L: FilledLevels<S>>(
+    alloc: Global,
+    levels: &mut L,
+    source: &S,
+    point: Point,
+    steps: &[Dir],
+)
+    requires fits { L.fits levels.old source.now }
+    requires steps { L.is_honest levels.old source.now → AreNext (L.mosaic levels.old source.now) point steps.now }
+    ensures asks { Asks L.FilledLevels levels.old source.now levels.new source.now }
+    ensures keeps { L.keeps levels.old source.now levels.new source.now }
+    ensures fits { L.fits levels.new source.now }
+{
+    if steps.is_empty() {
+        levels.learn(alloc, source, point, None);
+        return;
+    }
+    let mut at = point;
+    let mut left = steps.len();
+    'steps: while left > 0 {
+        left -= 1;
+        levels.learn(alloc, source, at, Some(steps[left]));
+        let Some(to) = neighbour(at, steps[left]) else {
+            return;
+        };
+        at = to;
+    }
 }

@@ -6,9 +6,10 @@ ghost use Rattle.lattice.specs.Mosaic.{Mosaic, IsMosaic};
 ghost use Rattle.lattice.specs.Ground.{share_tile as shared, is_sink as is_declared};
 ghost use Rattle.downstream.specs.Levels.{IsLevelAt};
 ghost use Rattle.downstream.specs.Near.{IsNear};
+ghost use Rattle.downstream.specs.Way.{IsWay};
 
 use crate::Near;
-use lattice::{Point, Refusal};
+use lattice::{Dir, Point, Refusal};
 use std::alloc::Global;
 
 /// The filled levels of a mosaic, asked for point by point: held in memory, or found as they are asked for.
@@ -47,6 +48,20 @@ pub trait FilledLevels<S> {
     fn near(&self, source: &S, point: Point) -> Option<Near>
         requires { fits self.now source.now }
         ensures { is_honest self.now source.now → IfSome result (IsNear (mosaic self.now source.now) point) };
+
+    /// Where the point drains, where that was learnt: None where water leaves the mosaic, and where there is no ground.
+    fn way(&self, source: &S, point: Point) -> Option<Option<Dir>>
+        requires { fits self.now source.now }
+        ensures { is_honest self.now source.now → IfSome result (IsWay (mosaic self.now source.now) point) };
+
+    /// Learns where the point drains, for questions to come, if there is memory for it.
+    fn learn(&mut self, alloc: Global, source: &S, point: Point, way: Option<Dir>)
+        requires fits { fits self.old source.now }
+        requires way { is_honest self.old source.now → IsWay (mosaic self.old source.now) point way }
+        ensures fits { fits self.new source.now }
+        ensures honest { is_honest self.new source.now → is_honest self.old source.now }
+        ensures mosaic { is_honest self.new source.now → mosaic self.new source.now ≡ mosaic self.old source.now }
+        ensures keeps { keeps self.old source.now self.new source.now };
 
     /// Whether some one present tile holds both points.
     fn share_tile(&self, source: &S, point: Point, other: Point) -> bool

@@ -28,3 +28,4 @@ mod Noted
 mod Renewed
 mod Beyond
 mod EditedBox
+pub mod Learnt

@@ -3,10 +3,12 @@ use Rattle.std.specs.Prelude.{◌≡◌, Option, Some, None}
 use Rattle.lattice.specs.Mosaic.{Mosaic}
 use Rattle.lattice.specs.declared.point.Point.{Point}
 use Rattle.catalogue.specs.declared.samples.Samples.{Ghosts}
+use Rattle.drainage.specs.Flows.{AreFlows}
 use Rattle.drainage.specs.Forgetting.{IsLeftOf, IsNotedOf}
 use Rattle.drainage.specs.Holding.{IsRight}
 use Rattle.drainage.specs.Reaching.{is_reached}
 use Rattle.drainage.specs.Waters.{known_of}
+use Rattle.drainage.specs.declared.flows.Flows.{Flows}
 use Rattle.drainage.specs.declared.held.Held.{Held}
 use Rattle.drainage.specs.declared.waters.Waters.{Waters}
 
@@ -14,9 +16,14 @@ abbrev pub are_right : Mosaic → Option Waters → Type 0
 are_right m None = Unit {0}
 are_right m (Some waters) = IsRight m (known_of waters)
 
+abbrev pub drain_right : Mosaic → Option Flows → Type 0
+drain_right m None = Unit {0}
+drain_right m (Some flows) = AreFlows m flows
+
 -- what is held is right for the mosaic, or nothing is
-abbrev pub IsHeldOf : Mosaic → Held → Type 0
-IsHeldOf m held = are_right m held.waters
+pub record IsHeldOf (m : Mosaic) (held : Held) : Type 0 where
+  pub waters : are_right m held.waters
+  pub flows : drain_right m held.flows
 
 -- what was found is left, but for the tiles that the box reaches, and for the levels
 abbrev pub are_left : Point → Point → Option Waters → Option Waters → Type 0

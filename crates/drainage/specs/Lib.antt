@@ -12,3 +12,4 @@ pub mod Forgetting
 pub mod Nearby
 pub mod Ring
 pub mod Beyond
+pub mod Flows

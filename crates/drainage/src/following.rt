@@ -137,6 +137,14 @@ impl<S: Labellings> FilledLevels<S> for Held {
         self.levels_near(point)
     }
 
+    fn way(&self, _source: &S, point: Point) -> Option<Option<Dir>> {
+        self.way_of(point)
+    }
+
+    fn learn(&mut self, alloc: Global, source: &S, point: Point, way: Option<Dir>) {
+        self.learn_way(alloc, source, point, way);
+    }
+
     fn share_tile(&self, source: &S, point: Point, other: Point) -> bool {
         share_tile(source, point, other)
     }

@@ -1,35 +1,42 @@
 //! What is found of a mosaic's water, held between two questions.
-ghost use Rattle.std.specs.Prelude.{◌≡◌, IfOk, IfErr, IfSome};
+ghost use Rattle.std.specs.Prelude.{◌≡◌, None, IfOk, IfErr, IfSome};
 ghost use Rattle.lattice.specs.Mosaic.{Mosaic, IsMosaic};
 ghost use Rattle.downstream.specs.Near.{IsNear};
+ghost use Rattle.downstream.specs.Way.{IsWay};
 ghost use Rattle.lattice.specs.declared.refusal.Refusal.TheVariants.{NoMemory};
 ghost use Rattle.drainage.specs.Holding.{IsRight};
 ghost use Rattle.drainage.specs.Reaching.{DifferAt, DifferBetween};
 
+use crate::flows::Flows;
 use crate::nearby::near;
 use crate::waters::Waters;
 use catalogue::Samples;
 use downstream::Near;
-use lattice::{Point, Refusal};
+use lattice::{Dir, Point, Refusal, Side};
 use std::alloc::Global;
 
 /// What questions about the water of one mosaic found, so that a later question doesn't find it again: the ways of the
-/// tiles that water came to, the labellings of those that were entered, as many as there is room for, and the levels of
-/// rim points.
+/// tiles that water came to, the labellings of those that were entered, as many as there is room for, the levels of rim
+/// points, and where points drain.
 #[derive(Drop)]
 pub struct Held {
     waters: Option<Waters>,
+    flows: Option<Flows>,
 }
 
 impl Held {
     ghost use Rattle.drainage.specs.Between.{IsHeldOf, IsLeftHeld, IsNotedHeld};
+    ghost use Rattle.drainage.specs.Flows.{AreFlows};
     ghost use Rattle.drainage.specs.Waters.{known_of};
 
     /// Nothing is held. Takes no memory.
     pub fn new() -> Held
         ensures { (m : Mosaic) → IsHeldOf m result }
     {
-        Held { waters: None }
+        Held {
+            waters: None,
+            flows: None,
+        }
     }
 
     /// Nothing is held from then on, as has to be where tiles come or go.
@@ -37,15 +44,17 @@ impl Held {
         ensures { (m : Mosaic) → IsHeldOf m self.new }
     {
         self.waters = None;
+        self.forget_ways();
     }
 
     /// Gives up what changes of points from the one to the other, ends included, may make wrong: the ways and the labellings
-    /// of the tiles that hold such a point or one beside it, and all levels of rim points. What else is held serves on, for
-    /// the mosaic as it was and as it becomes. Takes no memory.
+    /// of the tiles that hold such a point or one beside it, all levels of rim points, and where points drain. What else is
+    /// held serves on, for the mosaic as it was and as it becomes. Takes no memory.
     pub fn forget_between(&mut self, from: Point, to: Point)
         ensures left { IsLeftHeld from to self.old self.new }
         ensures right { (m new : Mosaic) → DifferBetween m new from to → IsHeldOf m self.old → IsHeldOf new self.new }
     {
+        self.forget_ways();
         let Some(mut waters) = self.waters.take() else {
             return;
         };
@@ -54,17 +63,26 @@ impl Held {
     }
 
     /// The height of the point may change from then on, but no sink comes or goes: the labellings of the tiles that hold it
-    /// are mended when they are asked for; the ways of tiles that hold it or a point beside it are given up, and all levels
-    /// of rim points. What is held serves on, for the mosaic as it was and as it becomes.
+    /// are mended when they are asked for; the ways of tiles that hold it or a point beside it are given up, all levels of rim
+    /// points, and where points drain. What is held serves on, for the mosaic as it was and as it becomes.
     pub fn note_changed(&mut self, point: Point)
         ensures left { IsNotedHeld point self.old self.new }
         ensures right { (m new : Mosaic) → DifferAt m new point → IsHeldOf m self.old → IsHeldOf new self.new }
     {
+        self.forget_ways();
         let Some(mut waters) = self.waters.take() else {
             return;
         };
         waters.note_changed(point);
         self.waters = Some(waters);
+    }
+
+    // Nothing is known of where points drain from then on: that depends on levels all over the mosaic.
+    fn forget_ways(&mut self)
+        ensures waters { self.new.waters ≡ self.old.waters }
+        ensures flows { self.new.flows ≡ None }
+    {
+        self.flows = None;
     }
 
     // The levels at the point and around it, where what is held tells them.
@@ -75,10 +93,44 @@ impl Held {
         near(waters, point)
     }
 
-    // Hands out what is held, or that nothing is found yet. Nothing is held then. NoMemory is the only refusal.
+    // Where the point drains, where that was learnt.
+    pub(crate) fn way_of(&self, point: Point) -> Option<Option<Dir>>
+        ensures { (m : Mosaic) → IsHeldOf m self.now → IfSome result (IsWay m point) }
+    {
+        let flows = self.flows.as_ref()?;
+        flows.way(point)
+    }
+
+    // Hands out what is known of where points drain. Nothing is then.
+    fn take_flows(&mut self, alloc: Global, side: Side) -> Flows
+        ensures flows { (m : Mosaic) → IsHeldOf m self.old → AreFlows m result }
+        ensures left { (m : Mosaic) → IsHeldOf m self.old → IsHeldOf m self.new }
+    {
+        match self.flows.take() {
+            Some(flows) => flows,
+            None => Flows::new(alloc, side),
+        }
+    }
+
+    // Learns where the point drains, if there is memory for it.
+    pub(crate) fn learn_way<S: Samples>(
+        &mut self,
+        alloc: Global,
+        samples: &S,
+        point: Point,
+        way: Option<Dir>,
+    )
+        ensures { (m : Mosaic) → IsWay m point way → IsHeldOf m self.old → IsHeldOf m self.new }
+    {
+        let mut flows = self.take_flows(alloc, samples.side());
+        flows.learn(alloc, samples, point, way);
+        self.flows = Some(flows);
+    }
+
+    // Hands out what is held of levels, or that nothing is found yet. None is held then. NoMemory is the only refusal.
     pub(crate) fn take<S: Samples>(&mut self, alloc: Global, samples: &S) -> Result<Waters, Refusal>
         ensures right { S.is_honest samples.now → IsHeldOf (S.mosaic samples.now) self.old → IfOk result (λ w. IsRight (S.mosaic samples.now) (known_of w)) }
-        ensures nothing { (m : Mosaic) → IsHeldOf m self.new }
+        ensures left { (m : Mosaic) → IsHeldOf m self.old → IsHeldOf m self.new }
         ensures refusal { IfErr result (λ r. r ≡ NoMemory) }
     {
         match self.waters.take() {
@@ -87,9 +139,9 @@ impl Held {
         }
     }
 
-    // Holds this.
+    // Holds this of levels.
     pub(crate) fn put(&mut self, waters: Waters)
-        ensures { (m : Mosaic) → IsRight m (known_of waters) → IsHeldOf m self.new }
+        ensures { (m : Mosaic) → IsRight m (known_of waters) → IsHeldOf m self.old → IsHeldOf m self.new }
     {
         self.waters = Some(waters);
     }

@@ -11,6 +11,7 @@ mod asking;
 mod draining;
 mod entered;
 mod filling;
+mod flows;
 mod following;
 mod growth;
 mod heights;

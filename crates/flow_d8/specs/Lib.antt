@@ -11,3 +11,4 @@ pub mod Filled
 pub mod Surface
 pub mod Crossing
 pub mod Directions
+pub mod Flow

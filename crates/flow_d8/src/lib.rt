@@ -10,6 +10,7 @@ mod directions;
 mod filled;
 mod finding;
 mod flats;
+mod flow;
 mod flows;
 mod laws;
 mod local_flow;
@@ -21,6 +22,7 @@ mod slopes;
 
 pub use directions::Directions;
 pub use filled::Filled;
+pub use flow::Flow;
 pub use laws::{
     certified_distances_are_flat_distances, directions_are_unique, flat_distances_are_unique,
     flow_paths_are_unique, measured_distances_are_flat_distances, watersheds_follow_flow_paths,

@@ -10,11 +10,8 @@ ghost use Rattle.watershed.specs.Search.{IsFeeder, AreFeeders, AreUpstream};
 ghost use Rattle.downstream.specs.Around.{OnLevels};
 ghost use Rattle.downstream.specs.Asking.{Asks};
 ghost use Rattle.downstream.specs.Flats.{AreFlatsOf};
-ghost use Rattle.flow_d8.specs.Drainage.{IsDirection};
 ghost use Rattle.upstream.specs.Feeding.{IsFeederAdded};
-ghost use Rattle.upstream.specs.Ways.{AreWaysOf};
 
-use crate::ways::Ways;
 use downstream::{FilledLevels, Flats, direction_over};
 use lattice::{DIRECTIONS, Dir, Point, Refusal, neighbour};
 use std::alloc::{AllocError, Global};
@@ -57,13 +54,12 @@ fn upstream<S, L: FilledLevels<S>>(
     ensures fits { L.fits levels.new source.new }
 {
     let mut flats = Flats::new(alloc);
-    let mut ways = Ways::new(alloc);
     let mut found = Vec::new(alloc);
     start(alloc, levels, source, point, &mut found)?;
     let mut done = 0;
     'search: while done < found.len() {
         let at = found[done];
-        add_feeders(alloc, levels, source, &mut flats, &mut ways, at, &mut found)?;
+        add_feeders(alloc, levels, source, &mut flats, at, &mut found)?;
         done += 1;
     }
     Ok(found)
@@ -104,32 +100,20 @@ fn add_feeders<S, L: FilledLevels<S>>(
     levels: &mut L,
     source: &mut S,
     flats: &mut Flats,
-    ways: &mut Ways,
     point: Point,
     found: &mut Vec<Point>,
 ) -> Result<(), Refusal>
     requires fits { L.fits levels.old source.old }
     requires flats { AreFlatsOf L.FilledLevels levels.old source.old flats.old }
-    requires ways { AreWaysOf L.FilledLevels levels.old source.old ways.old }
     ensures feeders { L.is_honest levels.new source.new → OnOk result (OnLevels (L.mosaic levels.old source.old) (λ level. AreFeeders (IsFeeder (terrain (L.mosaic levels.old source.old)) level) point found.old.items found.new.items)) }
     ensures flats { OnOk result (AreFlatsOf L.FilledLevels levels.new source.new flats.new) }
-    ensures ways { OnOk result (AreWaysOf L.FilledLevels levels.new source.new ways.new) }
     ensures refusal { IfErr result (L.refuses levels.old source.old levels.new source.new) }
     ensures asks { Asks L.FilledLevels levels.old source.old levels.new source.new }
     ensures keeps { OnOk result (L.keeps levels.old source.old levels.new source.new) }
     ensures fits { L.fits levels.new source.new }
 {
     for i in 0..8 {
-        add_feeder(
-            alloc,
-            levels,
-            source,
-            flats,
-            ways,
-            point,
-            DIRECTIONS[i],
-            found,
-        )?;
+        add_feeder(alloc, levels, source, flats, point, DIRECTIONS[i], found)?;
     }
     Ok(())
 }
@@ -140,17 +124,14 @@ fn add_feeder<S, L: FilledLevels<S>>(
     levels: &mut L,
     source: &mut S,
     flats: &mut Flats,
-    ways: &mut Ways,
     point: Point,
     direction: Dir,
     found: &mut Vec<Point>,
 ) -> Result<(), Refusal>
     requires fits { L.fits levels.old source.old }
     requires flats { AreFlatsOf L.FilledLevels levels.old source.old flats.old }
-    requires ways { AreWaysOf L.FilledLevels levels.old source.old ways.old }
     ensures feeder { L.is_honest levels.new source.new → OnOk result (OnLevels (L.mosaic levels.old source.old) (λ level. IsFeederAdded (IsFeeder (terrain (L.mosaic levels.old source.old)) level) point direction found.old.items found.new.items)) }
     ensures flats { OnOk result (AreFlatsOf L.FilledLevels levels.new source.new flats.new) }
-    ensures ways { OnOk result (AreWaysOf L.FilledLevels levels.new source.new ways.new) }
     ensures refusal { IfErr result (L.refuses levels.old source.old levels.new source.new) }
     ensures asks { Asks L.FilledLevels levels.old source.old levels.new source.new }
     ensures keeps { OnOk result (L.keeps levels.old source.old levels.new source.new) }
@@ -159,41 +140,11 @@ fn add_feeder<S, L: FilledLevels<S>>(
     let Some(from) = neighbour(point, direction) else {
         return Ok(());
     };
-    let way = way_from(alloc, levels, source, flats, ways, from)?;
+    let way = direction_over(alloc, levels, source, flats, from)?;
     if leads_to(from, way, point) {
         find(found, from)?;
     }
     Ok(())
-}
-
-// Where the point drains, found once.
-fn way_from<S, L: FilledLevels<S>>(
-    alloc: Global,
-    levels: &mut L,
-    source: &mut S,
-    flats: &mut Flats,
-    ways: &mut Ways,
-    point: Point,
-) -> Result<Option<Dir>, Refusal>
-    requires fits { L.fits levels.old source.old }
-    requires flats { AreFlatsOf L.FilledLevels levels.old source.old flats.old }
-    requires ways { AreWaysOf L.FilledLevels levels.old source.old ways.old }
-    ensures direction { L.is_honest levels.new source.new → IfOk result (λ d. IsTrue (is_ground (L.mosaic levels.old source.old) point)
-        → OnLevels (L.mosaic levels.old source.old) (λ level. IsDirection (terrain (L.mosaic levels.old source.old)) level point d)) }
-    ensures elsewhere { L.is_honest levels.new source.new → IfOk result (λ d. IsFalse (is_ground (L.mosaic levels.old source.old) point) → d ≡ None) }
-    ensures flats { OnOk result (AreFlatsOf L.FilledLevels levels.new source.new flats.new) }
-    ensures ways { OnOk result (AreWaysOf L.FilledLevels levels.new source.new ways.new) }
-    ensures refusal { IfErr result (L.refuses levels.old source.old levels.new source.new) }
-    ensures asks { Asks L.FilledLevels levels.old source.old levels.new source.new }
-    ensures keeps { OnOk result (L.keeps levels.old source.old levels.new source.new) }
-    ensures fits { L.fits levels.new source.new }
-{
-    if let Some(direction) = ways.direction(point) {
-        return Ok(direction);
-    }
-    let direction = direction_over(alloc, levels, source, flats, point)?;
-    ways.find(point, direction)?;
-    Ok(direction)
 }
 
 // Whether the step from the one point leads to the other.

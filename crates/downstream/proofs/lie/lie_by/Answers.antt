@@ -10,22 +10,24 @@ pub returns-in-Some : goal.returns-in-Some
 returns-in-Some g c honest near =
     let m = g.L.FilledLevels.mosaic c.args.levels.now c.args.source.now in
     let is = g.met.L.FilledLevels.is_mosaic c.args.levels.now c.args.source.now honest in
-    let back = sym (to_z-of_z w16 c.args.near.now.height (search rules)) in (
-      λ _ level filled. inl (c.in-Some.ensures (terrain m) level c.args.point (mosaic_is_grid m is) (never_void m is level filled) (near.around_it level filled) (near.here level filled ∙ back)),
-      λ none. absurd (true≢false (sym near.solid ∙ none)),
-    )
+    let back = sym (to_z-of_z w16 c.args.near.now.height (search rules)) in
+    record {
+      drains = λ _ level filled. inl (c.in-Some.ensures (terrain m) level c.args.point (mosaic_is_grid m is) (never_void m is level filled) (near.around_it level filled) (near.here level filled ∙ back));
+      elsewhere = λ none. absurd (true≢false (sym near.solid ∙ none));
+    }
 
 pub returns-then-leads_off : goal.returns-then-leads_off
 returns-then-leads_off g c honest near =
     let m = g.L.FilledLevels.mosaic c.args.levels.now c.args.source.now in
     let is = g.met.L.FilledLevels.is_mosaic c.args.levels.now c.args.source.now honest in
-    let back = sym (to_z-of_z w16 c.args.near.now.height (search rules)) in (
-      λ _ level filled. (
+    let back = sym (to_z-of_z w16 c.args.near.now.height (search rules)) in
+    record {
+      drains = λ _ level filled. (
         c.in_default.ensures (terrain m) level c.args.point (mosaic_is_grid m is) (never_void m is level filled) (near.around_it level filled) (near.here level filled ∙ back),
         sym (c.leads_off.ensures honest near.solid level filled (near.around_it level filled)) ∙ c.if-leads_off.true,
-      ),
-      λ none. refl,
-    )
+      );
+      elsewhere = λ none. refl;
+    }
 
 pub returns : goal.returns
 returns g c honest near =

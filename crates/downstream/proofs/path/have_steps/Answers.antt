@@ -13,4 +13,4 @@ returns-then-not-is_empty-clause-steps g c honest solid level filled flows =
     false≢true (sym c.if-not-is_empty.true ∙ c.is_empty.ensures ∙ ap (λ k. k == 0) zero)) flows
 
 pub returns-clause-steps : goal.returns-clause-steps
-returns-clause-steps g c honest solid level filled flows = c.in_ok-steps.ensures.steps honest solid level filled
+returns-clause-steps g c honest solid level filled flows = (c.in_ok-steps.ensures.steps honest).lead solid level filled

@@ -2,13 +2,22 @@ use Rattle.std.proofs.Common.{ℤ, Err, sym, subst}
 use Rattle.std.specs.Prelude.{Option}
 use Rattle.std.proofs.lemmas.Result.{err_from_is_err_and}
 use Rattle.lattice.specs.declared.refusal.Refusal.{Refusal}
+use Rattle.lattice.specs.Mosaic.{Mosaic}
+use Rattle.drainage.specs.Between.{IsHeldOf}
 use Rattle.catalogue.specs.Asked.{Asked}
 use Rattle.catalogue.proofs.Reading.{reads_nothing}
 use Rattle.drainage.proofs.Questioned.{wanting}
 use Rattle.drainage.proofs.filling.level.Goals as goal
 
 pub returns-in_err-waters-clause-held : goal.returns-in_err-waters-clause-held
-returns-in_err-waters-clause-held g c honest = c.take.ensures.nothing (g.S.Samples.mosaic c.args.samples.now)
+returns-in_err-waters-clause-held g c honest = c.take.ensures.left (g.S.Samples.mosaic c.args.samples.now) (c.requires.held honest)
+
+pub returns-clause-held : goal.returns-clause-held
+returns-clause-held g c honest =
+    let read = c.level_in-found.ensures.asked.reads in
+    let m = g.S.Samples.mosaic c.level_in-found.new.samples in
+    let left = c.in_ok-waters.ensures.left (g.S.Samples.mosaic c.args.samples.now) (c.requires.held (read.honest honest)) in
+    c.put.ensures m (c.level_in-found.ensures.right honest) (subst (λ (n : Mosaic). IsHeldOf n c.take.new.self) (sym (read.mosaic honest)) left)
 
 pub returns-in_err-waters-clause-asked : goal.returns-in_err-waters-clause-asked
 returns-in_err-waters-clause-asked g c =

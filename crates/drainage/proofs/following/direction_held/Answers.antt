@@ -1,9 +1,7 @@
-use Rattle.std.proofs.Common.{IsTrue, Err, refl, subst}
+use Rattle.std.proofs.Common.{Err, refl, subst}
 use Rattle.std.proofs.lemmas.Result.{err_from_is_err_and}
 use Rattle.lattice.specs.Mosaic.{Mosaic}
-use Rattle.lattice.specs.Ground.{is_ground, terrain}
-use Rattle.flow_d8.specs.Drainage.{IsDirection}
-use Rattle.downstream.specs.Around.{OnLevels}
+use Rattle.downstream.specs.Way.{IsWay}
 use Rattle.catalogue.proofs.Asking.{asked_passed}
 use Rattle.drainage.proofs.Questioned.{answered, asked_then, refused_by}
 use Rattle.drainage.proofs.Followed.{held_still}
@@ -34,9 +32,8 @@ returns-clause-direction g c honest level filled =
     let checked = c.in_ok-check_ground.ensures in
     let found = c.in_ok-direction.direction in
     let mid = c.in_ok-direction.ensures.asks.honest honest in
-    let told = subst (λ (m : Mosaic). IsTrue (is_ground m c.args.point) → OnLevels m (λ level. IsDirection (terrain m) level c.args.point found)) (checked.asked.reads.mosaic mid)
-    (c.in_ok-direction.ensures.direction honest) in
-    (found, (told (checked.on_ground mid refl) level filled, c.code.ensures))
+    let told = subst (λ (m : Mosaic). IsWay m c.args.point found) (checked.asked.reads.mosaic mid) (c.in_ok-direction.ensures.way honest) in
+    (found, (told.drains (checked.on_ground mid refl) level filled, c.code.ensures))
 
 pub returns-clause-asked : goal.returns-clause-asked
 returns-clause-asked g c =

@@ -22,7 +22,7 @@ returns-in_ok-find-clause-feeder g c honest level filled =
     let p = c.args.point in
     let from = c.in-Some.from in
     let there : from ≡ step c.args.direction p = c.in-Some.ensures.1 in
-    let feeds = leads_feeds (terrain m) (mosaic_is_grid m is) level (ground_fits m is) from p c.in_ok-way.way (λ solid. told.direction honest solid level filled) (told.elsewhere honest) (c.leads_to.ensures.0 c.if-leads_to.true) in
+    let feeds = leads_feeds (terrain m) (mosaic_is_grid m is) level (ground_fits m is) from p c.in_ok-way.way (λ solid. (told.way honest).drains solid level filled) (told.way honest).elsewhere (c.leads_to.ensures.0 c.if-leads_to.true) in
     inl (c.in_ok-find.ensures ∙ ap (λ (q : Point). c.args.found.now.items ++ q ∷ []) there, subst (λ q. IsFeeder (terrain m) level q p) there feeds)
 
 pub returns-else-leads_to-clause-feeder : goal.returns-else-leads_to-clause-feeder
@@ -35,6 +35,6 @@ returns-else-leads_to-clause-feeder g c honest level filled =
     let there : from ≡ step c.args.direction p = c.in-Some.ensures.1 in
     inr (
       refl,
-      λ feeds. true≢false (sym (c.leads_to.ensures.1 (feeds_leads (terrain m) (mosaic_is_grid m is) level (ground_fits m is) from p c.in_ok-way.way (λ solid. told.direction honest solid level filled) (told.elsewhere honest)
+      λ feeds. true≢false (sym (c.leads_to.ensures.1 (feeds_leads (terrain m) (mosaic_is_grid m is) level (ground_fits m is) from p c.in_ok-way.way (λ solid. (told.way honest).drains solid level filled) (told.way honest).elsewhere
           (subst (λ q. IsFeeder (terrain m) level q p) (sym there) feeds))) ∙ c.if-leads_to.false),
     )

@@ -18,7 +18,6 @@ loop-i-init g c = record {
   keeps = g.met.L.FilledLevels.keeps_itself c.args.levels.now c.args.source.now;
   fits = c.requires.fits;
   flats = c.requires.flats;
-  ways = c.requires.ways;
   feeders = λ honest level filled. none_yet (IsFeeder (terrain (g.L.FilledLevels.mosaic c.args.levels.now c.args.source.now)) level) c.args.point c.args.found.now.items;
 }
 
@@ -36,7 +35,6 @@ loop-i-preserved g c =
       keeps = g.met.L.FilledLevels.keeps_on now c.loop-i.levels c.add_feeder.new.levels at c.loop-i.source c.add_feeder.new.source inv.keeps told.keeps;
       fits = told.fits;
       flats = told.flats;
-      ways = told.ways;
       feeders = λ honest level filled.
           let before = told.asks.honest honest in
           let t = terrain (g.L.FilledLevels.mosaic now at) in

@@ -3,7 +3,6 @@ use Rattle.watershed.specs.Search.{IsFeeder}
 use Rattle.downstream.specs.Around.{OnLevels}
 use Rattle.downstream.specs.Asking.{Asks}
 use Rattle.downstream.specs.Flats.{AreFlatsOf}
-use Rattle.upstream.specs.Ways.{AreWaysOf}
 use Rattle.upstream.proofs.Feeding.{AreFeedersBy}
 use Rattle.upstream.proofs.search.add_feeders.Given as goal
 
@@ -13,6 +12,5 @@ invariant-loop-i g l = record {
   keeps : g.L.FilledLevels.keeps l.fn.levels l.fn.source l.levels l.source;
   fits : g.L.FilledLevels.fits l.levels l.source;
   flats : AreFlatsOf g.L.FilledLevels l.levels l.source l.flats;
-  ways : AreWaysOf g.L.FilledLevels l.levels l.source l.ways;
   feeders : g.L.FilledLevels.is_honest l.levels l.source → OnLevels (g.L.FilledLevels.mosaic l.fn.levels l.fn.source) (λ level. AreFeedersBy (IsFeeder (terrain (g.L.FilledLevels.mosaic l.fn.levels l.fn.source)) level) l.point l.fn.found.items l.found.items l.i);
 }

@@ -8,7 +8,6 @@ use Rattle.watershed.proofs.Upstream.{search_on, search_done}
 use Rattle.downstream.specs.Around.{OnLevels}
 use Rattle.downstream.proofs.Asked.{asks_on}
 use Rattle.upstream.proofs.Feeding.{begun}
-use Rattle.upstream.proofs.Found.{none_found}
 use Rattle.upstream.proofs.search.upstream.Goals as goal
 
 pub search-init : goal.search-init
@@ -20,7 +19,6 @@ search-init g c =
       keeps = told.keeps;
       fits = told.fits;
       flats = λ honest level filled. c.new-flats.ensures (terrain (g.L.FilledLevels.mosaic c.start.new.levels c.start.new.source)) level;
-      ways = λ honest. none_found (g.L.FilledLevels.mosaic c.start.new.levels c.start.new.source) c.new-ways.result c.new-ways.ensures;
       searching = λ honest level filled. begun (IsFeeder (terrain m) level) (is_ground m c.args.point) c.args.point c.start.new.found.items (told.found honest);
     }
 
@@ -42,7 +40,6 @@ search-preserved g c =
       keeps = g.met.L.FilledLevels.keeps_on now c.search.levels c.add_feeders.new.levels from c.search.source c.add_feeders.new.source inv.keeps told.keeps;
       fits = told.fits;
       flats = told.flats;
-      ways = told.ways;
       searching = λ honest level filled.
           let before = told.asks.honest honest in
           let m = g.L.FilledLevels.mosaic now from in

@@ -5,7 +5,6 @@ use Rattle.watershed.proofs.Upstream.{IsSearching}
 use Rattle.downstream.specs.Around.{OnLevels}
 use Rattle.downstream.specs.Asking.{Asks}
 use Rattle.downstream.specs.Flats.{AreFlatsOf}
-use Rattle.upstream.specs.Ways.{AreWaysOf}
 use Rattle.upstream.proofs.search.upstream.Given as goal
 
 abbrev pub invariant-search : goal.invariant-search
@@ -14,7 +13,6 @@ invariant-search g l = record {
   keeps : g.L.FilledLevels.keeps l.fn.levels l.fn.source l.levels l.source;
   fits : g.L.FilledLevels.fits l.levels l.source;
   flats : AreFlatsOf g.L.FilledLevels l.levels l.source l.flats;
-  ways : AreWaysOf g.L.FilledLevels l.levels l.source l.ways;
   searching : g.L.FilledLevels.is_honest l.levels l.source → OnLevels (g.L.FilledLevels.mosaic l.fn.levels l.fn.source) (λ level. IsSearching (IsFeeder (terrain (g.L.FilledLevels.mosaic l.fn.levels l.fn.source)) level)
       (is_ground (g.L.FilledLevels.mosaic l.fn.levels l.fn.source) l.fn.point) l.fn.point l.found.items l.done);
 }

@@ -1,0 +1,19 @@
+-- What a byte tells of where a point drains.
+use Rattle.std.specs.Prelude.{Option, Some, None}
+use Rattle.lattice.specs.declared.direction.Dir.{Dir}
+use Rattle.lattice.specs.declared.direction.Dir.TheVariants as to
+use Rattle.flow_d8.specs.declared.flow.Flow.{Flow}
+use Rattle.flow_d8.specs.declared.flow.Flow.TheVariants.{Unknown, Off, East, SouthEast, South, SouthWest, West, NorthWest, North, NorthEast}
+
+-- the direction, or none where water leaves the mosaic and where there is no ground; nothing where it isn't known
+abbrev pub way_of : Flow → Option (Option Dir)
+way_of Unknown = None
+way_of Off = Some None
+way_of East = Some (Some to.East)
+way_of SouthEast = Some (Some to.SouthEast)
+way_of South = Some (Some to.South)
+way_of SouthWest = Some (Some to.SouthWest)
+way_of West = Some (Some to.West)
+way_of NorthWest = Some (Some to.NorthWest)
+way_of North = Some (Some to.North)
+way_of NorthEast = Some (Some to.NorthEast)
