@@ -14,7 +14,7 @@ pub mod AtSlot
 pub mod SlotInserts
 pub mod Ending
 pub mod Listing
-pub mod FreshIndex
+pub mod DueListings
 pub mod Loading
 pub mod Preparing
 pub mod KeptChanging

@@ -1,6 +1,6 @@
 -- What is listed of the slots, one after another.
 use Rattle.std.proofs.Common.{◌≡◌, ℕ, zero, suc, ◌+◌, ◌<◌, ◌≤◌, Bool, true, false, cond, not, inl, inr, List, [], ◌∷◌, ◌++◌, length, take, drop, get_or, refl, sym, ap, subst, ◌∙◌, arith}
-use Rattle.std.specs.Prelude.{Option, Some, None, IsSome, IfSome, is_some, Contains, option_map, filter, ◌==◌}
+use Rattle.std.specs.Prelude.{Option, Some, None, IsSome, IfSome, is_some, Contains, ◌==◌}
 use Rattle.std.specs.List.{cons_option, list_any}
 use Rattle.std.proofs.lemmas.List.{take_more, length-append, map-append, length-map, append-nil}
 use Rattle.std.proofs.lemmas.List.Elements.{filter_map-append, filter-append}
@@ -16,7 +16,7 @@ use Rattle.charts.specs.declared.staged.HeightsStaged.TheVariants as of_heights
 use Rattle.charts.specs.declared.staged.Staged.TheVariants.{Tile, Removed}
 use Rattle.charts.specs.Locations.{times}
 use Rattle.charts.specs.TileLocations.{TileLocation, reached}
-use Rattle.charts.specs.Charts.{is_changed, corners_of_locations, tile_at}
+use Rattle.charts.specs.Charts.{corners_of_locations}
 use Rattle.charts.specs.Slots.{committed_tile, committed_tiles, staged_as, staged_tile, staged_tiles, fresh_as, fresh_pages, pages_of_location, stages_heights, stages_heights_as, IsKept, AreCounted}
 use Rattle.charts.specs.StagedPlanes.{kept_as}
 use Rattle.charts.proofs.Times.{one-self, member_of_times}
@@ -62,7 +62,7 @@ module _ (slots : List Slot) (i : ℕ) (s : Slot) (below : i < length slots) (is
   pub located_room : IsSome (staged_tile s) → length (staged_tiles slots) ≤ most_tiles → length corners < most_tiles
   located_room some few = omega (arith, staged_below slots i s below is some, ap length so_far, length-map (staged_tiles (take i slots)) (λ (t : TileLocation). t.corner), few)
 
--- ---- changed tiles
+-- ---- a page among those of a list, as a test
 pub any_none : (xs : List ℕ) (r : ℕ) → (Contains xs r → ⊥) → list_any (λ p. p == r) xs ≡ false
 any_none [] r none = refl
 any_none (x ∷ xs) r none =
@@ -75,71 +75,3 @@ any_some (x ∷ xs) r (suc k, below, here) = elim (cases_eq x r) [
   | inl same ↦ rw (eq-eqb x r same) refl
   | inr other ↦ rw (ne_eqb x r other) (any_some xs r (k, omega arith, here))
 ]
-
-module _ (format : Format) (slots : List Slot) (free : FreePages) (kept : IsKept format slots free) (i : ℕ) (s : Slot) (below : i < length slots) (is : s ≡ get_or slots i s) where
-  abbrev changed : TileLocation → Bool
-  changed = is_changed (committed_tiles slots)
-
-  split : slots ≡ take i slots ++ s ∷ drop (suc i) slots
-  split = split_of slots i s below is
-
-  unreached : (r : ℕ) → 1 ≤ times r (fresh_pages s) → Contains (reached (committed_tiles slots)) r → ⊥
-  unreached r some =
-      subst (λ (l : List Slot). Contains (reached (committed_tiles l)) r → ⊥) (sym split)
-      (slot_fresh format (take i slots) s (drop (suc i) slots) free (subst (λ (l : List Slot). AreCounted l free) split kept.counted) r some).unreached
-
-  reached_own : (t : TileLocation) → committed_tile s ≡ Some t → Contains (reached (committed_tiles slots)) t.heights.record_page
-  reached_own t here =
-      member_of_times (reached (committed_tiles slots)) t.heights.record_page (
-      let whole = ap (λ (l : List Slot). times t.heights.record_page (reached (committed_tiles l))) split ∙ ap (times t.heights.record_page) (reached_all committed_tile (take i slots ++ s ∷ drop (suc i) slots)) in
-      let own = ap (λ (o : Option TileLocation). times t.heights.record_page (pages_of_location o)) here in
-      omega (arith, whole, own, times-split (λ (x : Slot). pages_of_location (committed_tile x)) t.heights.record_page (take i slots) s (drop (suc i) slots), one-self t.heights.record_page))
-
-  changed_here : corners_of_locations (filter changed (cons_option (staged_tile s) [])) ≡ cond (stages_heights s) (s.corner ∷ []) []
-  changed_here = by s.corner s.committed s.staged unreached_as reached_as
-    where
-      unreached_as : (r : ℕ) → 1 ≤ times r (fresh_as s.committed s.staged) → Contains (reached (committed_tiles slots)) r → ⊥
-      unreached_as = unreached
-
-      reached_as : (t : TileLocation) → option_map (tile_at s.corner) s.committed ≡ Some t → Contains (reached (committed_tiles slots)) t.heights.record_page
-      reached_as = reached_own
-
-      by : (c : Corner) (o : Option TilePlanes) (g : Staged) → ((r : ℕ) → 1 ≤ times r (fresh_as o g) → Contains (reached (committed_tiles slots)) r → ⊥)
-          → ((t : TileLocation) → option_map (tile_at c) o ≡ Some t → Contains (reached (committed_tiles slots)) t.heights.record_page)
-          → corners_of_locations (filter changed (cons_option (staged_as c o g) [])) ≡ cond (stages_heights_as g) (c ∷ []) []
-      by c None (Tile of_heights.AsCommitted k) un re = refl
-      by c (Some planes) (Tile of_heights.AsCommitted k) un re =
-          ap (λ b. corners_of_locations (cond (not b) (record { corner = c; heights = planes.heights; kept = kept_as (Some planes) k } ∷ []) [])) (any_some (reached (committed_tiles slots)) planes.heights.record_page (re (tile_at c planes) refl))
-      by c o (Tile (of_heights.Fresh location) k) un re =
-          ap (λ b. corners_of_locations (cond (not b) (record { corner = c; heights = location; kept = kept_as o k } ∷ []) []))
-          (any_none (reached (committed_tiles slots)) location.record_page (un location.record_page (omega (arith, one-self location.record_page))))
-      by c o Removed un re = refl
-
-  module _ (corners : List Corner) (so_far : corners ≡ corners_of_locations (filter changed (staged_tiles (take i slots)))) where
-    pub corners_step : corners ++ cond (stages_heights s) (s.corner ∷ []) [] ≡ corners_of_locations (filter changed (staged_tiles (take (i + 1) slots)))
-    corners_step =
-        ap (λ l. l ++ cond (stages_heights s) (s.corner ∷ []) []) so_far
-        ∙ (ap (λ l. corners_of_locations (filter changed (staged_tiles (take i slots))) ++ l) (sym changed_here)
-        ∙ (sym (map-append (λ (t : TileLocation). t.corner) (filter changed (staged_tiles (take i slots))) (filter changed (cons_option (staged_tile s) [])))
-        ∙ (ap corners_of_locations (sym (filter-append changed (staged_tiles (take i slots)) (cons_option (staged_tile s) [])))
-        ∙ sym (ap (λ l. corners_of_locations (filter changed l)) (staged_more slots i s below is)))))
-
-    filter_le : (l : List TileLocation) → length (filter changed l) ≤ length l
-    filter_le [] = omega arith
-    filter_le (t ∷ rest) = let later = filter_le rest in elim (changed t) as (λ b. length (cond b (t ∷ filter changed rest) (filter changed rest)) ≤ suc (length rest)) [ true ↦ omega arith | false ↦ omega arith ]
-
-    pub corners_room : stages_heights s ≡ true → length corners < most_tiles
-    corners_room heights =
-        let fewer = staged_below slots i s below is (some s.corner s.committed s.staged heights) in
-        omega (arith, ap length so_far, length-map (filter changed (staged_tiles (take i slots))) (λ (t : TileLocation). t.corner), filter_le (staged_tiles (take i slots)), kept.staged_room, kept.few)
-      where
-        some : (c : Corner) (o : Option TilePlanes) (g : Staged) → stages_heights_as g ≡ true → IsSome (staged_as c o g)
-        some c o (Tile of_heights.AsCommitted k) h = absurd (false≢true h)
-        some c o (Tile (of_heights.Fresh location) k) h = refl
-        some c o Removed h = absurd (false≢true h)
-
-pub corners_few : (committed tiles : List TileLocation) → length (corners_of_locations (filter (is_changed committed) tiles)) ≤ length tiles
-corners_few committed [] = omega arith
-corners_few committed (t ∷ rest) =
-    let later = corners_few committed rest in
-    elim (is_changed committed t) as (λ b. length (corners_of_locations (cond b (t ∷ filter (is_changed committed) rest) (filter (is_changed committed) rest))) ≤ suc (length rest)) [ true ↦ omega arith | false ↦ omega arith ]

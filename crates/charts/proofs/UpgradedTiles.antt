@@ -14,12 +14,12 @@ use Rattle.layout.specs.Formats.{Format}
 use Rattle.charts.specs.declared.locations.KeptLocations.{KeptLocations}
 use Rattle.charts.specs.declared.locations.TilePlanes.{TilePlanes}
 use Rattle.charts.specs.declared.slot.Slot.{Slot}
-use Rattle.charts.specs.Locations.{PlaneLocation, times, pages_of_plane}
+use Rattle.charts.specs.Locations.{PlaneLocation, times, listing_of, pages_of_plane}
 use Rattle.charts.specs.FreePages.{AreTaken}
 use Rattle.charts.specs.TileLocations.{TileLocation, KeepsPageRule, reached, pages_of_tile, pages_of_kept}
 use Rattle.charts.specs.Charts.{IsFresh, IsWholeTile, AreWholeKept, tile_at}
 use Rattle.charts.specs.Slots.{committed_tile, committed_tiles, staged_tiles, fresh_pages, IsSound, IsKept, chart_of}
-use Rattle.charts.specs.Upgraded.{KeptData, TileData, HaveAllPages, KeptHaveAllPages, data_of, data_of_kept, listing_of, listing_of_kept, listing_of_tile, listings}
+use Rattle.charts.specs.Upgraded.{KeptData, TileData, HaveAllPages, KeptHaveAllPages, data_of, data_of_kept, listing_of_kept, listing_of_tile, listings}
 use Rattle.charts.proofs.Times.{times-append, all_numbers, times_of_member}
 use Rattle.charts.proofs.FreeTimes.{page_at, page_le}
 use Rattle.charts.proofs.SlotLists.{corner_of, rising_before}

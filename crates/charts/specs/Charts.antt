@@ -1,5 +1,5 @@
 -- Which pages hold which planes: as committed, and as the next commit will have it (this product's own profile).
-use Rattle.std.specs.Prelude.{◌≡◌, ◌⊎◌, ℕ, ◌≤◌, ◌<◌, ◌/◌, ◌==◌, Bool, IsTrue, List, [], ◌∷◌, All, Contains, length, map, filter, not, Some, None, IsSome, IfSome, if◌then◌else◌}
+use Rattle.std.specs.Prelude.{◌≡◌, ◌⊎◌, ℕ, ◌≤◌, ◌<◌, ◌/◌, ◌==◌, Bool, IsTrue, List, [], ◌∷◌, All, Contains, length, map, filter, not, Option, Some, None, IsSome, IfSome, if◌then◌else◌}
 use Rattle.std.specs.List.{AllAdjacentBelow, list_any}
 use Rattle.lattice.specs.Corners.{Corner, same_corner, is_before, is_corner}
 use Rattle.lattice.specs.Lattice.{IsBefore}
@@ -87,13 +87,9 @@ HasFreshHeights c chart = (t : TileLocation) × (Contains chart.staged t × (t.c
 abbrev pub is_unreached : List TileLocation → ℕ → Bool
 is_unreached committed page = not (list_any (λ p. p == page) (reached committed))
 
--- the same as a test of a staged tile
-abbrev pub is_changed : List TileLocation → TileLocation → Bool
-is_changed committed t = is_unreached committed t.heights.record_page
-
--- the corners of the tiles whose heights are staged, in order
-abbrev pub fresh_corners : ChartValue → List Corner
-fresh_corners chart = corners_of_locations (filter (is_changed chart.committed) chart.staged)
+-- the page, where a test of it holds
+abbrev pub page_if : Bool → ℕ → Option ℕ
+page_if holds page = if holds then Some page else None
 
 abbrev pub is_at : Corner → TileLocation → Bool
 is_at c t = same_corner t.corner c

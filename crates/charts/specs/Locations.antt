@@ -13,6 +13,10 @@ pub record PlaneLocation : Type 0 where
 abbrev pub pages_behind : PlaneLocation → List ℕ
 pages_behind p = p.index_pages ++ p.pages
 
+-- what lists its pages: the record, and behind it the index pages
+abbrev pub listing_of : PlaneLocation → List ℕ
+listing_of p = p.record_page ∷ p.index_pages
+
 -- all its pages
 abbrev pub pages_of_plane : PlaneLocation → List ℕ
 pages_of_plane p = p.record_page ∷ pages_behind p

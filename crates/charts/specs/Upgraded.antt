@@ -1,5 +1,5 @@
 -- The same planes by the second version: their pages stay, and what lists them lies elsewhere (this product's own profile).
-use Rattle.std.specs.Prelude.{◌≡◌, ℕ, List, [], ◌∷◌, ◌++◌, All, length, map, Option, Some, None, IfSome}
+use Rattle.std.specs.Prelude.{◌≡◌, ℕ, List, [], ◌++◌, All, length, map, Option, Some, None, IfSome}
 use Rattle.std.specs.List.{flat_map}
 use Rattle.lattice.specs.Corners.{Corner}
 use Rattle.layout.specs.Formats.{upgraded}
@@ -7,7 +7,7 @@ use Rattle.layout.specs.Sizes.{pages_of}
 use Rattle.charts.specs.declared.locations.KeptLocations.{KeptLocations}
 use Rattle.charts.specs.declared.locations.TilePlanes.{TilePlanes}
 use Rattle.charts.specs.Charts.{ChartValue, IsClean, IsFresh}
-use Rattle.charts.specs.Locations.{PlaneLocation}
+use Rattle.charts.specs.Locations.{PlaneLocation, listing_of}
 use Rattle.charts.specs.TileLocations.{TileLocation}
 
 -- the pages of levels and of labels, and the pages of a tile's planes, without what lists them
@@ -27,10 +27,7 @@ data_of_kept (Some k) = Some (record { levels = k.levels.pages; labels = k.label
 abbrev pub data_of : TileLocation → TileData
 data_of t = record { corner = t.corner; heights = t.heights.pages; kept = data_of_kept t.kept }
 
--- what lists the pages of a plane, of kept planes, of a tile, of tiles: records and index pages
-abbrev pub listing_of : PlaneLocation → List ℕ
-listing_of p = p.record_page ∷ p.index_pages
-
+-- what lists the pages of kept planes, of a tile, of tiles: records and index pages
 abbrev pub listing_of_kept : Option KeptLocations → List ℕ
 listing_of_kept None = []
 listing_of_kept (Some k) = listing_of k.levels ++ listing_of k.labels

@@ -2,7 +2,7 @@
 ghost use Rattle.std.specs.Prelude.{◌≡◌, slice_index, ◌⊎◌, ◌≤◌, ◌<◌, [], ◌∷◌, ◌++◌, All, length, Some, None, Contains, IsOk, IfOk, OnOk, OnErr, IfSome, IfNone, IsSome, IsTrue, ◌↔◌, IfErr};
 ghost use Rattle.lattice.specs.declared.refusal.Refusal.TheVariants.{Damaged, NoMemory};
 ghost use Rattle.layout.specs.Formats.{upgraded};
-ghost use Rattle.layout.specs.Sizes.{pages_of, index_pages_of, sectors_asked};
+ghost use Rattle.layout.specs.Sizes.{pages_of, sectors_asked};
 ghost use Rattle.layout.specs.declared.version.Version.TheVariants.{One};
 ghost use Rattle.std.specs.List.{AllAdjacentBelow};
 ghost use Rattle.lattice.specs.Corners.{is_before, is_corner};
@@ -51,9 +51,9 @@ impl Model for Chart {
 }
 
 impl Chart {
-    ghost use Rattle.charts.specs.Locations.{PlaneLocation};
+    ghost use Rattle.charts.specs.Locations.{PlaneLocation, listing_of};
     ghost use Rattle.charts.specs.TileLocations.{TileLocation, KeepsPageRule};
-    ghost use Rattle.charts.specs.Charts.{no_tiles_charted, IsChart, IsClean, IsLocated, HasHeights, HasKept, HasFreshHeights, is_unreached, IsRewritten, IsPrepared, IsAdded, AreKept, IsWholeTile, tile_at, without_location, without_kept, corners_of_locations, fresh_corners};
+    ghost use Rattle.charts.specs.Charts.{no_tiles_charted, IsChart, IsClean, IsLocated, HasHeights, HasKept, HasFreshHeights, is_unreached, page_if, IsRewritten, IsPrepared, IsAdded, AreKept, IsWholeTile, tile_at, without_location, without_kept, corners_of_locations};
     ghost use Rattle.charts.specs.Slots.{ended_chart};
     ghost use Rattle.charts.specs.Planes.{HasPlane, HasPlaneAt};
     ghost use Rattle.charts.specs.Upgraded.{IsUpgraded};
@@ -235,16 +235,15 @@ impl Chart {
         }
     }
 
-    /// Whether index page `t` of the heights of the corner's staged tile is still to be written: no committed tile reaches it.
-    pub fn has_fresh_index(&self, c: Corner, t: usize) -> bool
-        requires present { IsLocated c self.now.staged }
-        requires index { t < index_pages_of self.now.format }
-        ensures { (location : PlaneLocation) → HasHeights c location self.now.staged
-            → result ≡ is_unreached self.now.committed (slice_index location.index_pages t) }
+    /// A page of what lists a plane of the corner's staged tile, by its number, where it is still to be written: no
+    /// committed tile reaches it.
+    pub fn page_due(&self, c: Corner, plane: Plane, i: usize) -> Option<u32>
+        ensures { (location : PlaneLocation) → HasPlaneAt self.now.staged c plane location → i < length (listing_of location)
+            → result ≡ page_if (is_unreached self.now.committed (slice_index (listing_of location) i)) (slice_index (listing_of location) i) }
     {
         match find(&self.slots, c) {
-            Ok(at) => self.slots[at].has_fresh_index(t),
-            Err(_) => unreachable!(),
+            Ok(at) => self.slots[at].page_due(plane, i),
+            Err(_) => None,
         }
     }
 
@@ -348,20 +347,6 @@ impl Chart {
         let mut corners = ArrayVec::new();
         for slot in &self.slots {
             if slot.heights().is_some() {
-                corners.push(slot.corner);
-            }
-        }
-        corners
-    }
-
-    /// The corners of the staged tiles whose heights aren't as committed, in order: their records are still to be written.
-    pub fn fresh(&self) -> ArrayVec<Corner, TILES>
-        ensures value { result.items ≡ fresh_corners self.now }
-        ensures room { length result.items ≤ self.now.format.capacity }
-    {
-        let mut corners = ArrayVec::new();
-        for slot in &self.slots {
-            if slot.stages_heights() {
                 corners.push(slot.corner);
             }
         }

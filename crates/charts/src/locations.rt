@@ -1,8 +1,12 @@
 //! Where the planes of a tile lie.
-ghost use Rattle.std.specs.Prelude.{◌≡◌, ◌<◌, ◌≤◌, ◌^◌, ◌++◌, length, take, drop, IfOk, IfErr};
+ghost use Rattle.std.specs.Prelude.{◌≡◌, ◌<◌, ◌≤◌, ◌^◌, ◌++◌, length, take, drop, IfOk, IfErr, option_copied, slice_get};
 ghost use Rattle.lattice.specs.declared.refusal.Refusal.TheVariants.{NoMemory};
-ghost use Rattle.charts.specs.Locations.{pages_behind, IsMovedBehind};
+ghost use Rattle.charts.specs.Locations.{listing_of, pages_behind, IsMovedBehind};
+ghost use Rattle.charts.specs.Charts.{tile_at};
+ghost use Rattle.charts.specs.Planes.{plane_of};
+ghost use Rattle.lattice.specs.Corners.{Corner};
 
+use crate::plane::Plane;
 use lattice::Refusal;
 use std::marker::Model;
 
@@ -39,6 +43,25 @@ pub struct KeptLocations {
 pub struct TilePlanes {
     pub heights: PagedPlane,
     pub kept: Option<KeptLocations>,
+}
+
+impl TilePlanes {
+    /// Where a plane lies, if the tile has it.
+    pub(crate) fn plane(&self, plane: Plane) -> Option<&PagedPlane>
+        ensures { (c : Corner) → option_copied result ≡ plane_of plane (tile_at c self.now) }
+    {
+        match plane {
+            Plane::Heights => Some(&self.heights),
+            Plane::Levels => match &self.kept {
+                Some(kept) => Some(&kept.levels),
+                None => None,
+            },
+            Plane::Labels => match &self.kept {
+                Some(kept) => Some(&kept.labels),
+                None => None,
+            },
+        }
+    }
 }
 
 impl PagedPlane {
@@ -84,6 +107,23 @@ impl PagedPlane {
         ensures { result.now ≡ self.now.index_pages }
     {
         &self.behind[..self.index_count]
+    }
+
+    /// How many pages list the plane's pages: its record and its index pages.
+    pub fn listing_len(&self) -> usize
+        ensures { result ≡ length (listing_of self.now) }
+    {
+        1 + self.index_count
+    }
+
+    /// A page of those that list the plane's pages, by its number among them: the record is the first.
+    pub fn listing_page(&self, i: usize) -> Option<u32>
+        ensures { result ≡ slice_get (listing_of self.now) i }
+    {
+        if i == 0 {
+            return Some(self.record_page);
+        }
+        self.index_pages().get(i - 1).copied()
     }
 
     /// The plane's pages in order.

@@ -1,10 +1,11 @@
 //! One tile of a chart.
-ghost use Rattle.std.specs.Prelude.{◌≡◌, ◌+◌, ◌*◌, ◌<◌, ◌≤◌, ◌↔◌, ℕ, [], ◌∷◌, length, take, true, IsSome, IsOk, IfOk, IfErr, IfSome, OnOk, OnErr, IsTrue, option_map, option_copied, option_and_then, slice_index};
+ghost use Rattle.std.specs.Prelude.{◌≡◌, ◌≢◌, ◌+◌, ◌*◌, ◌<◌, ◌≤◌, ℕ, [], ◌∷◌, length, take, true, IsSome, IsOk, IfOk, IfErr, IfSome, OnOk, OnErr, None, option_map, option_copied, option_and_then, slice_get};
 ghost use Rattle.std.specs.FinSet as set;
 ghost use Rattle.layout.specs.Sizes.{plane_pages_of};
 ghost use Rattle.charts.specs.declared.staged.Staged.TheVariants.{Removed};
 ghost use Rattle.lattice.specs.declared.refusal.Refusal.TheVariants.{NoMemory};
-ghost use Rattle.charts.specs.Locations.{times, pages_behind, IsMovedBehind};
+ghost use Rattle.charts.specs.Locations.{times, listing_of, pages_behind, IsMovedBehind};
+ghost use Rattle.charts.specs.Planes.{listed_at, plane_of};
 ghost use Rattle.charts.specs.FreePages.{free_times, page_times, all_pages, differing, heights_pages, AreTaken, AreGiven, AreInUse, IsOwned, IsOwnedPage};
 ghost use Rattle.charts.specs.StagedPlanes.{with_heights, with_kept, fresh_heights_as, fresh_kept_as, replaced_heights, replaced_kept};
 ghost use Rattle.charts.specs.TileLocations.{pages_of_kept};
@@ -12,6 +13,7 @@ ghost use Rattle.charts.specs.TileLocations.{pages_of_kept};
 use crate::free_pages::FreePages;
 use crate::locations::{KeptLocations, PagedPlane, TilePlanes};
 use crate::pages::{fresh_kept, give_differing, give_kept, give_plane, stands_at};
+use crate::plane::Plane;
 use crate::staged::{HeightsStaged, KeptStaged, Staged};
 use lattice::{Corner, Refusal};
 use layout::{Format, RECORD_PAGES};
@@ -51,19 +53,6 @@ impl Slot {
                 HeightsStaged::Fresh(location) => Some(location),
             },
             Staged::Removed => None,
-        }
-    }
-
-    /// Whether its heights are staged.
-    pub(crate) fn stages_heights(&self) -> bool
-        ensures { result ≡ stages_heights self.now }
-    {
-        match &self.staged {
-            Staged::Tile { heights, .. } => match heights {
-                HeightsStaged::AsCommitted => false,
-                HeightsStaged::Fresh(_) => true,
-            },
-            Staged::Removed => false,
         }
     }
 
@@ -148,16 +137,42 @@ impl Slot {
         }
     }
 
-    /// Whether index page `t` of the heights isn't the committed one.
-    pub(crate) fn has_fresh_index(&self, t: usize) -> bool
-        requires present { IsSome (staged_tile self.now) }
-        requires index { IfSome (staged_tile self.now) (λ tile. t < length tile.heights.index_pages) }
-        ensures { IfSome (staged_tile self.now) (λ tile. IsTrue result
-            ↔ ¬ ((t < length (heights_pages self.now.committed)) × (slice_index (heights_pages self.now.committed) t ≡ slice_index tile.heights.index_pages t))) }
+    /// A page of what lists a plane of its staged tile, by its number, unless it is the committed one.
+    pub(crate) fn page_due(&self, plane: Plane, i: usize) -> Option<u32>
+        requires { is_filled_as self.now.committed self.now.staged ≡ true }
+        ensures same { listed_at plane i (committed_tile self.now) ≡ listed_at plane i (staged_tile self.now) → result ≡ None }
+        ensures other { listed_at plane i (committed_tile self.now) ≢ listed_at plane i (staged_tile self.now) → result ≡ listed_at plane i (staged_tile self.now) }
     {
-        match self.heights() {
-            Some(plane) => !stands_at(plane.index_pages()[t], t, heights_in(&self.committed)),
-            None => unreachable!(),
+        let page = listing_page(self.plane(plane), i);
+        let committed = listing_page(self.committed_plane(plane), i);
+        if page == committed { None } else { page }
+    }
+
+    /// Where a plane of its staged tile lies.
+    fn plane(&self, plane: Plane) -> Option<&PagedPlane>
+        requires { is_filled_as self.now.committed self.now.staged ≡ true }
+        ensures { option_copied result ≡ option_and_then (plane_of plane) (staged_tile self.now) }
+    {
+        match plane {
+            Plane::Heights => self.heights(),
+            Plane::Levels => match self.kept() {
+                Some(kept) => Some(&kept.levels),
+                None => None,
+            },
+            Plane::Labels => match self.kept() {
+                Some(kept) => Some(&kept.labels),
+                None => None,
+            },
+        }
+    }
+
+    /// Where a plane of its committed tile lies.
+    fn committed_plane(&self, plane: Plane) -> Option<&PagedPlane>
+        ensures { option_copied result ≡ option_and_then (plane_of plane) (committed_tile self.now) }
+    {
+        match &self.committed {
+            Some(planes) => planes.plane(plane),
+            None => None,
         }
     }
 
@@ -256,6 +271,16 @@ impl Slot {
             }
             Staged::Removed => (),
         }
+    }
+}
+
+/// A page of what lists a plane, by its number.
+fn listing_page(plane: Option<&PagedPlane>, i: usize) -> Option<u32>
+    ensures { result ≡ option_and_then (λ p. slice_get (listing_of p) i) (option_copied plane.entry) }
+{
+    match plane {
+        Some(plane) => plane.listing_page(i),
+        None => None,
     }
 }
 

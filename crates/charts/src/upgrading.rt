@@ -6,8 +6,8 @@ ghost use Rattle.lattice.specs.declared.refusal.Refusal.TheVariants.{NoMemory};
 ghost use Rattle.layout.specs.Sizes.{index_pages_of};
 ghost use Rattle.charts.specs.Charts.{AreWholeKept, IsWholeTile, tile_at};
 ghost use Rattle.charts.specs.FreePages.{AreTaken};
-ghost use Rattle.charts.specs.Locations.{IsWholePlane};
-ghost use Rattle.charts.specs.Upgraded.{HasAllPages, HaveAllPages, KeptHaveAllPages, data_of, data_of_kept, listing_of, listing_of_kept};
+ghost use Rattle.charts.specs.Locations.{IsWholePlane, listing_of};
+ghost use Rattle.charts.specs.Upgraded.{HasAllPages, HaveAllPages, KeptHaveAllPages, data_of, data_of_kept, listing_of_kept};
 
 use crate::free_pages::FreePages;
 use crate::locations::{KeptLocations, PagedPlane, TilePlanes};

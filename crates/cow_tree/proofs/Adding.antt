@@ -1,22 +1,21 @@
 -- A tile added, all of whose pages are written.
-use Rattle.std.proofs.Common.{◌≡◌, ℕ, zero, suc, ◌+◌, ◌<◌, ◌≤◌, ◌==◌, Bool, true, false, not, if◌then◌else◌, List, [], ◌∷◌, ◌++◌, All, Contains, length, get_or, map, None, IfSome, refl, sym, ap, ap₂, ◌∙◌, subst, arith}
-use Rattle.std.specs.List.{list_any}
+use Rattle.std.proofs.Common.{◌≡◌, ℕ, zero, suc, ◌+◌, ◌<◌, ◌≤◌, Bool, true, false, not, if◌then◌else◌, List, [], ◌∷◌, ◌++◌, All, Contains, length, get_or, map, None, IfSome, refl, sym, ap, ap₂, ◌∙◌, subst, arith}
 use Rattle.std.proofs.lemmas.List.Elements.{All-nil, All-cons, All-head, All-tail}
 use Rattle.disk.specs.Disk.{Image}
 use Rattle.lattice.specs.Corners.{Corner, is_before}
 use Rattle.page_codec.specs.Formats.{Format}
 use Rattle.charts.specs.Locations.{PlaneLocation, pages_behind, pages_of_plane, times}
 use Rattle.charts.specs.TileLocations.{TileLocation, pages_of_kept, pages_of_tile, reached}
-use Rattle.cow_tree.specs.Layout.{tile_in, HasRecord, HaveKeptRecords}
-use Rattle.charts.specs.Charts.{ChartValue, IsChart, IsAdded, IsFresh, IsLocated, HasHeights, with_tile_location, is_changed}
+use Rattle.cow_tree.specs.Layout.{tile_in}
+use Rattle.charts.specs.Charts.{ChartValue, IsChart, IsAdded, IsFresh, IsLocated, HasHeights, with_tile_location, is_unreached}
 use Rattle.cow_tree.specs.Stored.{StoredTile, with_tile, stale_tile, pages_of_bytes}
-use Rattle.cow_tree.specs.Staged.{AreStaged, SharesIndex}
-use Rattle.cow_tree.proofs.Standing.{SameOn, All-front, All-back, tile_same, tiles_same, record_same, kept_records_same}
-use Rattle.charts.proofs.Occurrences.{times-append, stands_there}
-use Rattle.cow_tree.proofs.Staging.{shared_same, unreached_test}
+use Rattle.cow_tree.specs.Staged.{AreStaged, IsListedBy, IsTileListed}
+use Rattle.cow_tree.proofs.Standing.{SameOn, All-front, All-back, tile_same, tiles_same}
+use Rattle.charts.proofs.Occurrences.{times-append}
+use Rattle.cow_tree.proofs.Staging.{tile_listed_same, unreached_test}
 use Rattle.cow_tree.proofs.Tiles.{one_at_corner}
 use Rattle.page_codec.specs.Sizes.{pages_of}
-use Rattle.cow_tree.proofs.Recording.{all_at_times, at_times}
+use Rattle.cow_tree.proofs.Counting.{all_at_times, at_times}
 
 -- it is among them
 pub added_there : (t : TileLocation) (tiles : List TileLocation) → Contains (with_tile_location t tiles) t
@@ -67,37 +66,20 @@ added_tiles t new a b (u ∷ rest) is_new same =
 
 -- the others' pages were not written
 pub others_same : (t : TileLocation) (tiles : List TileLocation) (a b : Image) → All (λ q. 4 ≤ q) (reached (with_tile_location t tiles)) → ((p : ℕ) → times p (reached (with_tile_location t tiles)) ≤ 1)
-    → ((p : ℕ) → 4 ≤ p → ¬ Contains t.heights.pages p → a p ≡ b p) → SameOn (reached tiles) a b
+    → ((p : ℕ) → 4 ≤ p → times p t.heights.pages ≡ 0 → a p ≡ b p) → SameOn (reached tiles) a b
 others_same t tiles a b low once unwritten =
     all_at_times (λ q. a q ≡ b q) (reached tiles)
     (λ q some. let split = times_added q t tiles in let one = once q in
     unwritten q (at_times (λ p. 4 ≤ p) q (reached (with_tile_location t tiles)) low (omega (arith, split, some)))
-    (λ has. let there = stands_there q t.heights.pages has in let whole = times-append q (pages_of_plane t.heights) (pages_of_kept t.kept) in let front = times-append q (t.heights.record_page ∷ []) (pages_behind t.heights) in let behind = times-append q t.heights.index_pages t.heights.pages in absurd (omega (arith, split, one, some, there, whole, front, behind))))
+    (let whole = times-append q (pages_of_plane t.heights) (pages_of_kept t.kept) in let front = times-append q (t.heights.record_page ∷ []) (pages_behind t.heights) in let behind = times-append q t.heights.index_pages t.heights.pages in omega (arith, split, one, some, whole, front, behind)))
 
 -- what was on the disk of the staged tiles is there still
 pub still_records : (format : Format) (committed tiles : List TileLocation) (a b : Image) → SameOn (reached tiles) a b → AreStaged format committed tiles a → AreStaged format committed tiles b
-still_records format committed [] a b same had = record { heights = All-nil (λ t. is_changed committed t ≡ false → HasRecord format b t.heights); shared = All-nil (λ t. SharesIndex committed b t.heights); kept = All-nil (λ t. IfSome t.kept (HaveKeptRecords format b)) }
+still_records format committed [] a b same had = All-nil (IsTileListed format committed b)
 still_records format committed (t ∷ rest) a b same had =
-    let here = All-front (λ q. a q ≡ b q) (pages_of_tile t) (reached rest) same in
-    let later = still_records format committed rest a b (All-back (λ q. a q ≡ b q) (pages_of_tile t) (reached rest) same)
-    (record { heights = All-tail (λ t. is_changed committed t ≡ false → HasRecord format a t.heights) t rest had.heights; shared = All-tail (λ t. SharesIndex committed a t.heights) t rest had.shared; kept = All-tail (λ t. IfSome t.kept (HaveKeptRecords format a)) t rest had.kept }) in
-    record {
-      heights = All-cons (λ t. is_changed committed t ≡ false → HasRecord format b t.heights) t rest
-          (λ unchanged. record_same format t.heights a b (All-front (λ q. a q ≡ b q) (pages_of_plane t.heights) (pages_of_kept t.kept) here) (All-head (λ t. is_changed committed t ≡ false → HasRecord format a t.heights) t rest had.heights unchanged)) later.heights;
-      shared = All-cons (λ t. SharesIndex committed b t.heights) t rest (shared_same committed t.heights a b (All-front (λ q. a q ≡ b q) (pages_of_plane t.heights) (pages_of_kept t.kept) here) (All-head (λ t. SharesIndex committed a t.heights) t rest had.shared)) later.shared;
-      kept = All-cons (λ t. IfSome t.kept (HaveKeptRecords format b)) t rest (kept_records_same format t.kept a b (All-back (λ q. a q ≡ b q) (pages_of_plane t.heights) (pages_of_kept t.kept) here) (All-head (λ t. IfSome t.kept (HaveKeptRecords format a)) t rest had.kept)) later.kept;
-    }
-
-pub staged_with : (format : Format) (committed tiles : List TileLocation) (c : Corner) (location : PlaneLocation) (a b : Image) → list_any (λ q. q == location.record_page) (reached committed) ≡ false → SharesIndex committed b location → SameOn (reached tiles) a b → AreStaged format committed tiles a
-    → AreStaged format committed (with_tile_location (record { corner = c; heights = location; kept = None }) tiles) b
-staged_with format committed tiles c location a b fresh shares same had =
-    let t : TileLocation = record { corner = c; heights = location; kept = None } in
-    let still = still_records format committed tiles a b same had in
-    record {
-      heights = all_added (λ t. is_changed committed t ≡ false → HasRecord format b t.heights) t tiles (λ unchanged. absurd (let no : true ≡ false = sym (ap not fresh) ∙ unchanged in cc)) still.heights;
-      shared = all_added (λ t. SharesIndex committed b t.heights) t tiles shares still.shared;
-      kept = all_added (λ t. IfSome t.kept (HaveKeptRecords format b)) t tiles tt still.kept;
-    }
+    All-cons (IsTileListed format committed b) t rest
+    (tile_listed_same format committed t a b (All-front (λ q. a q ≡ b q) (pages_of_tile t) (reached rest) same) (All-head (IsTileListed format committed a) t rest had))
+    (still_records format committed rest a b (All-back (λ q. a q ≡ b q) (pages_of_tile t) (reached rest) same) (All-tail (IsTileListed format committed a) t rest had))
 
 pub contains-map : {X Y : Type 0} (f : X → Y) (xs : List X) (x : X) → Contains xs x → Contains (map f xs) (f x)
 contains-map f [] x (k, lt, here) = absurd (omega (arith, lt))
@@ -150,9 +132,9 @@ module _ (old new : ChartValue) (c : Corner) (rules : IsChart new) (added : IsAd
       let behind = times-append p added.location.index_pages added.location.pages in
       subst (λ (q : PlaneLocation). times p q.pages ≤ 1) (location_is plane had) (omega (arith, one, split, whole, front, behind))
 
-  module _ (plane : PlaneLocation) (had : HasHeights c plane new.staged) (a b : Image) (bytes : List ℕ) (others : (p : ℕ) → 4 ≤ p → ¬ Contains plane.pages p → a p ≡ b p) where
-    unwritten : (p : ℕ) → 4 ≤ p → ¬ Contains added.location.pages p → a p ≡ b p
-    unwritten p low none = others p low (subst (λ (q : PlaneLocation). ¬ Contains q.pages p) (location_is plane had) none)
+  module _ (plane : PlaneLocation) (had : HasHeights c plane new.staged) (a b : Image) (bytes : List ℕ) (others : (p : ℕ) → 4 ≤ p → times p plane.pages ≡ 0 → a p ≡ b p) where
+    unwritten : (p : ℕ) → 4 ≤ p → times p added.location.pages ≡ 0 → a p ≡ b p
+    unwritten p low none = others p low (subst (λ (q : PlaneLocation). times p q.pages ≡ 0) (location_is plane had) none)
 
     kept_pages : SameOn (reached old.staged) a b
     kept_pages = others_same (record { corner = c; heights = added.location; kept = None }) old.staged a b (subst (λ (tiles : List TileLocation). All (λ q. 4 ≤ q) (reached tiles)) staged_is rules.staged.page_rule.low) once_there unwritten
@@ -167,9 +149,17 @@ module _ (old new : ChartValue) (c : Corner) (rules : IsChart new) (added : IsAd
 
     pub plane_stays : (format : Format) → AreStaged format old.committed old.staged a → AreStaged format new.committed new.staged b
     plane_stays format was =
+        let t : TileLocation = record { corner = c; heights = added.location; kept = None } in
+        let fresh : IsListedBy format old.committed b added.location = record {
+          listed = λ shared. absurd (fresh_page added.location.record_page record_unreached shared);
+          indexed = λ k lt shared. absurd (fresh_page (get_or added.location.index_pages k 0) (index_unreached k lt) shared);
+        } in
         subst (λ (tiles : List TileLocation). AreStaged format tiles new.staged b) (sym committed_is)
         (subst (λ (tiles : List TileLocation). AreStaged format old.committed tiles b) (sym staged_is)
-        (staged_with format old.committed old.staged c added.location a b
-        (unreached_test added.location.record_page (reached old.committed) (subst (λ (tiles : List TileLocation). ¬ Contains (reached tiles) added.location.record_page) committed_is (All-head (IsFresh new) added.location.record_page (pages_behind added.location) added.fresh).unreached))
-        (λ k lt shared. absurd (let no : true ≡ false = sym (ap not (unreached_test (get_or added.location.index_pages k 0) (reached old.committed) (index_unreached k lt))) ∙ shared in cc))
-        kept_pages was))
+        (all_added (IsTileListed format old.committed b) t old.staged (record { heights = fresh; kept = tt }) (still_records format old.committed old.staged a b kept_pages was)))
+      where
+        fresh_page : (q : ℕ) → ¬ Contains (reached old.committed) q → is_unreached old.committed q ≡ false → ⊥
+        fresh_page q none shared = let no : true ≡ false = sym (ap not (unreached_test q (reached old.committed) none)) ∙ shared in cc
+
+        record_unreached : ¬ Contains (reached old.committed) added.location.record_page
+        record_unreached = subst (λ (tiles : List TileLocation). ¬ Contains (reached tiles) added.location.record_page) committed_is (All-head (IsFresh new) added.location.record_page (pages_behind added.location) added.fresh).unreached

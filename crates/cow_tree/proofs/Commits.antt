@@ -1,82 +1,218 @@
 -- What a commit lands on: all staged tiles behind the new root.
-use Rattle.std.proofs.Common.{◌≡◌, ◌⊎◌, inl, inr, ⊎_elim, ℕ, ◌+◌, ◌<◌, ◌≤◌, ◌^◌, true, false, List, All, get_or, map, IfSome, refl, sym, ap, ◌∙◌, subst, arith}
-use Rattle.std.proofs.lemmas.List.Elements.{All-head, All-tail, All-weaker}
+use Rattle.std.proofs.Common.{◌≡◌, ◌⊎◌, inl, inr, ⊎_elim, ℕ, zero, suc, ◌+◌, ◌<◌, ◌≤◌, ◌^◌, Bool, true, false, if◌then◌else◌, List, [], ◌∷◌, All, length, get_or, map, refl, sym, ap, ap₂, ◌∙◌, subst, arith}
+use Rattle.std.specs.Prelude.{Option, Some, None, IfSome}
+use Rattle.std.proofs.lemmas.Bool.{cases_Bool}
+use Rattle.std.proofs.lemmas.List.Elements.{All-nil, All-cons, All-append, All-head, All-tail, All-weaker, All-contains_itself}
 use Rattle.disk.specs.Disk.{Image}
 use Rattle.disk.specs.Stops.{LeavesOnly, weaker, in_turn}
 use Rattle.disk.specs.declared.disk.Disk.{Ghosts}
 use Rattle.lattice.specs.declared.point.Point.{Point}
 use Rattle.page_codec.specs.Entries.{EntryValue}
 use Rattle.page_codec.specs.Formats.{Format}
+use Rattle.page_codec.specs.Records.{record_bytes}
 use Rattle.page_codec.specs.Roots.{RootValue, format_of}
 use Rattle.page_codec.specs.Sizes.{sectors_asked}
 use Rattle.roots.specs.Slots.{SamePages, KeepsAll, HasMoved}
-use Rattle.charts.specs.TileLocations.{TileLocation, pages_of_kept, pages_of_tile, KeepsPageRule}
+use Rattle.charts.specs.declared.locations.KeptLocations.{KeptLocations}
+use Rattle.charts.specs.TileLocations.{TileLocation, pages_of_kept, pages_of_tile, reached, KeepsPageRule}
+use Rattle.charts.specs.Upgraded.{KeptData, TileData, data_of, data_of_kept, listings}
+use Rattle.charts.proofs.UpgradedTiles.{kept_data, data_pages, all_data, tiles_split}
 use Rattle.cow_tree.specs.Entries.{entry_of}
-use Rattle.cow_tree.specs.Layout.{tile_in, stored_in, HasRecord, HasRecords, HaveKeptRecords, StoresAt, Stands}
-use Rattle.charts.specs.Locations.{IsWholePlane, pages_behind, pages_of_plane, times}
-use Rattle.charts.specs.Charts.{ChartValue, IsChart, is_changed}
-use Rattle.cow_tree.specs.Staged.{AreStaged, SharesIndex, IsRecorded, pages_due}
-use Rattle.cow_tree.specs.Stored.{Stored, StoredTile, next_commit}
-use Rattle.cow_tree.proofs.Standing.{All-front, stores_kept}
-use Rattle.cow_tree.proofs.Recording.{CanBeSpelt, unwritten_same, recorded_tiles, recorded}
+use Rattle.cow_tree.specs.Layout.{tile_in, kept_in, stored_in, listed_by, HasRecord, HasRecords, HaveKeptRecords, IsIndexed, StoresAt, Stands}
+use Rattle.cow_tree.specs.Listings.{ListingPage, IsOn, due_among, kept_listing, index_listing, listing_bytes, numbers_of, plane_listing, tile_listing, tiles_listing}
+use Rattle.charts.specs.Locations.{PlaneLocation, IsWholePlane, listing_of, pages_behind, pages_of_plane, times}
+use Rattle.charts.specs.Charts.{AreWholeKept, ChartValue, IsChart, IsWholeTile, is_unreached}
+use Rattle.cow_tree.specs.Staged.{AreListedBy, AreStaged, IsListedBy, IsTileListed}
+use Rattle.cow_tree.specs.Stored.{KeptPlanes, PlanePages, Stored, StoredTile}
+use Rattle.cow_tree.proofs.Counting.{all_at_times, at_times, times_failing}
+use Rattle.cow_tree.proofs.ListingPages.{all_within, due_numbers, few_due, number_there, plane_at, plane_length, tiles_numbers}
+use Rattle.cow_tree.proofs.Standing.{SameOn, All-front, All-back, map_same, stores_kept}
 use Rattle.cow_tree.proofs.Steps.{stands}
-use Rattle.cow_tree.proofs.Tiles.{each_tile}
+use Rattle.cow_tree.proofs.Tiles.{each_tile, unfiltered}
+
+-- ---- what stands on the pages of tiles, without what lists them
+abbrev kept_over : Image → Option KeptData → Option KeptPlanes
+kept_over image None = None
+kept_over image (Some k) = Some (record { levels = map image k.levels; labels = map image k.labels })
+
+abbrev tile_over : Image → TileData → StoredTile
+tile_over image d = record { corner = d.corner; heights = map image d.heights; kept = kept_over image d.kept }
+
+over_kept : (image : Image) (kept : Option KeptLocations) → kept_in image kept ≡ kept_over image (data_of_kept kept)
+over_kept image None = refl
+over_kept image (Some k) = refl
+
+over : (image : Image) (tiles : List TileLocation) → map (tile_in image) tiles ≡ map (tile_over image) (map data_of tiles)
+over image [] = refl
+over image (t ∷ rest) =
+    ap₂ (λ (k : Option KeptPlanes) (ts : List StoredTile). let u : StoredTile = record { corner = t.corner; heights = map image t.heights.pages; kept = k } in u ∷ ts) (over_kept image t.kept) (over image rest)
+
+kept_alike : (a b : Image) (kept : Option KeptData) → SameOn (kept_data kept) a b → kept_over a kept ≡ kept_over b kept
+kept_alike a b None same = refl
+kept_alike a b (Some k) same =
+    ap₂ (λ (x y : PlanePages). Some (record { levels = x; labels = y })) (map_same k.levels a b (All-front (λ q. a q ≡ b q) k.levels k.labels same)) (map_same k.labels a b (All-back (λ q. a q ≡ b q) k.levels k.labels same))
+
+alike : (a b : Image) (tiles : List TileData) → SameOn (all_data tiles) a b → map (tile_over a) tiles ≡ map (tile_over b) tiles
+alike a b [] same = refl
+alike a b (d ∷ rest) same =
+    let here : SameOn (data_pages d) a b = All-front (λ q. a q ≡ b q) (data_pages d) (all_data rest) same in
+    let tile : tile_over a d ≡ tile_over b d =
+    ap₂ (λ (x : PlanePages) (y : Option KeptPlanes). let u : StoredTile = record { corner = d.corner; heights = x; kept = y } in u)
+    (map_same d.heights a b (All-front (λ q. a q ≡ b q) d.heights (kept_data d.kept) here)) (kept_alike a b d.kept (All-back (λ q. a q ≡ b q) d.heights (kept_data d.kept) here)) in
+    ap₂ (λ (t : StoredTile) (ts : List StoredTile). t ∷ ts) tile (alike a b rest (All-back (λ q. a q ≡ b q) (data_pages d) (all_data rest) same))
+
+-- ---- what lists the pages, of a plane and of tiles
+indexed_by : (format : Format) (p : PlaneLocation) (image : Image) → All (IsOn image) (plane_listing format p) → (t : ℕ) → t < length p.index_pages → IsIndexed image p t
+indexed_by format p image all t lt =
+    let d : ListingPage = record { page = 0; bytes = [] } in
+    subst (IsOn image) (plane_at format p (suc t) d (omega (arith, lt))) (all (suc t) d (omega (arith, lt, plane_length format p)))
+
+plane_listed : (format : Format) (tiles : List TileLocation) (p : PlaneLocation) (image : Image) → IsListedBy format tiles image p → All (λ l. is_unreached tiles l.page ≡ false → IsOn image l) (plane_listing format p)
+plane_listed format tiles p image had i d lt =
+    let below : i < length (listing_of p) = omega (arith, lt, plane_length format p) in
+    subst (λ (l : ListingPage). is_unreached tiles l.page ≡ false → IsOn image l) (sym (plane_at format p i d below)) (by i below)
+  where
+    by : (k : ℕ) → k < length (listing_of p) → is_unreached tiles (get_or (listing_of p) k 0) ≡ false → image (get_or (listing_of p) k 0) ≡ listing_bytes format p k
+    by zero below shared = had.listed shared
+    by (suc k) below shared = had.indexed k (omega (arith, below)) shared
+
+kept_listed : (format : Format) (tiles : List TileLocation) (kept : Option KeptLocations) (image : Image) → IfSome kept (AreListedBy format tiles image) → All (λ l. is_unreached tiles l.page ≡ false → IsOn image l) (kept_listing format kept)
+kept_listed format tiles None image had = All-nil (λ l. is_unreached tiles l.page ≡ false → IsOn image l)
+kept_listed format tiles (Some k) image had =
+    All-append (λ l. is_unreached tiles l.page ≡ false → IsOn image l) (plane_listing format k.levels) (plane_listing format k.labels) (plane_listed format tiles k.levels image had.levels) (plane_listed format tiles k.labels image had.labels)
+
+tiles_listed : (format : Format) (committed tiles : List TileLocation) (image : Image) → AreStaged format committed tiles image → All (λ l. is_unreached committed l.page ≡ false → IsOn image l) (tiles_listing format tiles)
+tiles_listed format committed [] image had = All-nil (λ l. is_unreached committed l.page ≡ false → IsOn image l)
+tiles_listed format committed (t ∷ rest) image had =
+    let here = All-head (IsTileListed format committed image) t rest had in
+    All-append (λ l. is_unreached committed l.page ≡ false → IsOn image l) (tile_listing format t) (tiles_listing format rest)
+    (All-append (λ l. is_unreached committed l.page ≡ false → IsOn image l) (plane_listing format t.heights) (kept_listing format t.kept) (plane_listed format committed t.heights image here.heights) (kept_listed format committed t.kept image here.kept))
+    (tiles_listed format committed rest image (All-tail (IsTileListed format committed image) t rest had))
+
+each_listing : (format : Format) (image : Image) (tiles : List TileLocation) → All (IsOn image) (tiles_listing format tiles) → All (λ t. All (IsOn image) (tile_listing format t)) tiles
+each_listing format image [] all = All-nil (λ t. All (IsOn image) (tile_listing format t))
+each_listing format image (t ∷ rest) all =
+    All-cons (λ u. All (IsOn image) (tile_listing format u)) t rest (All-front (IsOn image) (tile_listing format t) (tiles_listing format rest) all)
+    (each_listing format image rest (All-back (IsOn image) (tile_listing format t) (tiles_listing format rest) all))
+
+-- ---- where a chart's listings are written, those that these tiles don't reach
+module _ (chart : ChartValue) (rules : IsChart chart) (before : List TileLocation) (a b : Image) (had : AreStaged chart.format before chart.staged a)
+    (wrote : All (IsOn b) (due_among before (tiles_listing chart.format chart.staged)))
+    (others : (p : ℕ) → 4 ≤ p → times p (numbers_of (due_among before (tiles_listing chart.format chart.staged))) ≡ 0 → a p ≡ b p) where
+  abbrev all_pages : List ListingPage
+  all_pages = tiles_listing chart.format chart.staged
+
+  low : (q : ℕ) → 1 ≤ times q (numbers_of all_pages) → 4 ≤ q
+  low q some = at_times (λ p. 4 ≤ p) q (reached chart.staged) rules.staged.page_rule.low (omega (arith, some, all_within chart.format chart.staged q))
+
+  on_b : All (IsOn b) all_pages
+  on_b k d lt =
+      let l : ListingPage = get_or all_pages k d in
+      elim (cases_Bool (is_unreached before l.page)) [
+        | inl due ↦ unfiltered (λ (x : ListingPage). is_unreached before x.page) (IsOn b) all_pages wrote k d lt due
+        | inr shared ↦
+            let none : times l.page (numbers_of (due_among before all_pages)) ≡ 0 = ap (times l.page) (due_numbers before all_pages) ∙ times_failing l.page (is_unreached before) shared (numbers_of all_pages) in
+            sym (others l.page (low l.page (number_there all_pages k d lt)) none) ∙ tiles_listed chart.format before chart.staged a had k d lt shared
+      ]
+
+  module _ (image : Image) (pages : (q : ℕ) → 4 ≤ q → b q ≡ image q) where
+    on_image : All (IsOn image) all_pages
+    on_image k d lt = sym (pages (get_or all_pages k d).page (low (get_or all_pages k d).page (number_there all_pages k d lt))) ∙ on_b k d lt
+
+    data_same : SameOn (all_data (map data_of chart.staged)) a image
+    data_same =
+        all_at_times (λ q. a q ≡ image q) (all_data (map data_of chart.staged)) (λ q some.
+        let split = tiles_split q chart.staged in
+        let few = few_due before all_pages q in
+        let all = all_listings q in
+        let four : 4 ≤ q = at_times (λ p. 4 ≤ p) q (reached chart.staged) rules.staged.page_rule.low (omega (arith, split, some)) in
+        others q four (omega (arith, split, some, few, all, rules.staged.page_rule.once q)) ∙ pages q four)
+      where
+        all_listings : (q : ℕ) → times q (numbers_of all_pages) ≡ times q (listings chart.staged)
+        all_listings q = ap (times q) (tiles_numbers chart.format chart.staged)
+
+    -- the tiles are the same there
+    pub same_tiles : (tiles : List TileLocation) → map data_of chart.staged ≡ map data_of tiles → map (tile_in a) tiles ≡ map (tile_in image) chart.staged
+    same_tiles tiles stays = over a tiles ∙ ap (map (tile_over a)) (sym stays) ∙ alike a image (map data_of chart.staged) data_same ∙ sym (over image chart.staged)
+
+    -- .. and all their records
+    module _ (fits : chart.sectors < 2 ^ 32) where
+      has_record : (p : PlaneLocation) → IsWholePlane chart.format p → All (λ q. q < chart.sectors) (pages_of_plane p) → All (IsOn image) (plane_listing chart.format p) → HasRecord chart.format image p
+      has_record p whole high all = record {
+        whole = whole;
+        each = All-weaker (λ q. q < chart.sectors) (λ q. q < 2 ^ 32) (λ q h. omega (arith, h, fits)) (pages_behind p) (All-tail (λ q. q < chart.sectors) p.record_page (pages_behind p) high);
+        listed = All-head (IsOn image) (record { page = p.record_page; bytes = record_bytes (listed_by chart.format.version p) }) (index_listing 0 p.index_pages p.pages) all;
+        indexed = indexed_by chart.format p image all;
+      }
+
+      have_kept : (kept : Option KeptLocations) → IfSome kept (AreWholeKept chart.format) → All (λ q. q < chart.sectors) (pages_of_kept kept) → All (IsOn image) (kept_listing chart.format kept) → IfSome kept (HaveKeptRecords chart.format image)
+      have_kept None whole high all = tt
+      have_kept (Some k) whole high all = record {
+        levels = has_record k.levels whole.levels (All-front (λ q. q < chart.sectors) (pages_of_plane k.levels) (pages_of_plane k.labels) high) (All-front (IsOn image) (plane_listing chart.format k.levels) (plane_listing chart.format k.labels) all);
+        labels = has_record k.labels whole.labels (All-back (λ q. q < chart.sectors) (pages_of_plane k.levels) (pages_of_plane k.labels) high) (All-back (IsOn image) (plane_listing chart.format k.levels) (plane_listing chart.format k.labels) all);
+      }
+
+      have_records : All (HasRecords chart.format image) chart.staged
+      have_records k d lt =
+          let t : TileLocation = get_or chart.staged k d in
+          let high : All (λ q. q < chart.sectors) (pages_of_tile t) = each_tile (λ q. q < chart.sectors) chart.staged rules.staged.page_rule.high k d lt in
+          let whole : IsWholeTile chart.format t = rules.staged.whole k d lt in
+          let all : All (IsOn image) (tile_listing chart.format t) = each_listing chart.format image chart.staged on_image k d lt in
+          record {
+            heights = has_record t.heights whole.heights (All-front (λ q. q < chart.sectors) (pages_of_plane t.heights) (pages_of_kept t.kept) high) (All-front (IsOn image) (plane_listing chart.format t.heights) (kept_listing chart.format t.kept) all);
+            kept = have_kept t.kept whole.kept (All-back (λ q. q < chart.sectors) (pages_of_plane t.heights) (pages_of_kept t.kept) high) (All-back (IsOn image) (plane_listing chart.format t.heights) (kept_listing chart.format t.kept) all);
+          }
+
+  -- behind this root, whose entries name them
+  pub lands : (sectors : ℕ) (root : RootValue) (was : List TileLocation) (t : Stored) → chart.sectors ≡ sectors → chart.sectors < 2 ^ 32 → chart.format ≡ format_of root → map entry_of chart.staged ≡ root.entries
+      → map data_of chart.staged ≡ map data_of was → t ≡ record (stored_in a root chart.staged) { tiles = map (tile_in a) was } → (image : Image) → HasMoved root b image → StoresAt sectors root chart.staged t image
+  lands sectors root was t size fits format entries stays is image moved = record {
+    laid_out = record {
+      store = (moved.0, subst (λ (n : ℕ). sectors_asked (format_of root) ≤ n) size (subst (λ (f : Format). sectors_asked f ≤ chart.sectors) format rules.size));
+      entries = entries;
+      records = subst (λ (f : Format). All (HasRecords f image) chart.staged) format (have_records image moved.1 fits);
+      page_rule = subst (λ (n : ℕ). KeepsPageRule n chart.staged) size rules.staged.page_rule;
+    };
+    stands = is ∙ ap (λ (ts : List StoredTile). let u : Stored = record (stored_in a root chart.staged) { tiles = ts } in u) (same_tiles image moved.1 was stays);
+  }
+
+-- what is staged once it is committed: nothing else than it
+pub nothing_staged : (sectors : ℕ) (root : RootValue) (tiles : List TileLocation) (s : Stored) (image : Image) → StoresAt sectors root tiles s image → AreStaged (format_of root) tiles tiles image
+nothing_staged sectors root tiles s image stores =
+    All-weaker (HasRecords (format_of root) image) (IsTileListed (format_of root) tiles image) (λ t has. record { heights = by t.heights has.heights; kept = by_kept t.kept has.kept }) tiles stores.laid_out.records
+  where
+    by : (p : PlaneLocation) → HasRecord (format_of root) image p → IsListedBy (format_of root) tiles image p
+    by p has = record { listed = λ _. has.listed; indexed = λ k lt _. has.indexed k lt }
+
+    by_kept : (kept : Option KeptLocations) → IfSome kept (HaveKeptRecords (format_of root) image) → IfSome kept (AreListedBy (format_of root) tiles image)
+    by_kept None has = tt
+    by_kept (Some k) has = record { levels = by k.levels has.levels; labels = by k.labels has.labels }
+
+-- no tile reaches a page where there is none
+pub none_before : (format : Format) (tiles : List TileLocation) (image : Image) → AreStaged format [] tiles image
+none_before format tiles image k d lt = record { heights = by (get_or tiles k d).heights; kept = by_kept (get_or tiles k d).kept }
+  where
+    by : (p : PlaneLocation) → IsListedBy format [] image p
+    by p = record { listed = λ shared. absurd (let no : true ≡ false = shared in cc); indexed = λ t lt shared. absurd (let no : true ≡ false = shared in cc) }
+
+    by_kept : (kept : Option KeptLocations) → IfSome kept (AreListedBy format [] image)
+    by_kept None = tt
+    by_kept (Some k) = record { levels = by k.levels; labels = by k.labels }
+
+-- how much it writes
+pub few_in_part : (began : Bool) (before now pages : ℕ) {due : ℕ} → now ≤ before + pages + (if began then 0 else 1) → pages ≡ due → now ≤ before + due + (if began then 2 else 3)
+few_in_part true before now pages few same = omega (arith, few, same)
+few_in_part false before now pages few same = omega (arith, few, same)
+
+pub few_in_all : (began begins : Bool) (before mid now pages : ℕ) {due : ℕ} → mid + (if begins then 0 else 1) ≤ before + pages + (if began then 0 else 1) → now ≤ mid + (if begins then 2 else 3) → pages ≡ due → now ≤ before + due + (if began then 2 else 3)
+few_in_all true true before mid now pages first second same = omega (arith, first, second, same)
+few_in_all true false before mid now pages first second same = omega (arith, first, second, same)
+few_in_all false true before mid now pages first second same = omega (arith, first, second, same)
+few_in_all false false before mid now pages first second same = omega (arith, first, second, same)
 
 -- the root of the next commit
 abbrev pub next_root : RootValue → ℕ → List Point → List EntryValue → RootValue
 next_root root count sinks entries = record root { number = root.number + 1; count = count; sinks = sinks; entries = entries }
-
-module _ (chart : ChartValue) (rules : IsChart chart) (root : RootValue) (sectors count : ℕ) (sinks : List Point) (s : Stored) (was : Image) (stored : s ≡ stored_in was root chart.committed)
-    (size : chart.sectors ≡ sectors) (fits : chart.sectors < 2 ^ 32) (format : chart.format ≡ format_of root) (a b : Image) (had : AreStaged (format_of root) chart.committed chart.staged a)
-    (wrote : All (λ t. is_changed chart.committed t ≡ true → IsRecorded (format_of root) chart.committed b t.heights) chart.staged)
-    (others : (p : ℕ) → 4 ≤ p → times p (pages_due chart) ≡ 0 → a p ≡ b p) where
-  -- each list of pages can be spelt
-  spells : All (λ t. CanBeSpelt (format_of root) t.heights) chart.staged
-  spells k d lt =
-      let t : TileLocation = get_or chart.staged k d in
-      let high : All (λ p. p < chart.sectors) (pages_of_tile t) = each_tile (λ p. p < chart.sectors) chart.staged rules.staged.page_rule.high k d lt in
-      let behind : All (λ p. p < chart.sectors) (pages_behind t.heights) = All-tail (λ p. p < chart.sectors) t.heights.record_page (pages_behind t.heights) (All-front (λ p. p < chart.sectors) (pages_of_plane t.heights) (pages_of_kept t.kept) high) in
-      let whole : IsWholePlane (format_of root) t.heights = subst (λ (f : Format). IsWholePlane f t.heights) format (rules.staged.whole k d lt).heights in
-      record {
-        whole = whole;
-        each = All-weaker (λ p. p < chart.sectors) (λ p. p < 2 ^ 32) (λ p h. omega (arith, h, fits)) (pages_behind t.heights) behind;
-      }
-
-  pub lands : (image : Image) → HasMoved (next_root root count sinks (map entry_of chart.staged)) b image
-      → StoresAt sectors (next_root root count sinks (map entry_of chart.staged)) chart.staged (next_commit s sinks (map (tile_in a) chart.staged) count) image
-  lands image moved =
-      let same = unwritten_same chart.committed chart.staged a image rules.staged.page_rule.low rules.staged.page_rule.once (λ q low none. others q low none ∙ moved.1 q low) in
-      let written : All (λ t. is_changed chart.committed t ≡ true → IsRecorded (format_of root) chart.committed image t.heights) chart.staged = λ k d lt changed.
-      let t : TileLocation = get_or chart.staged k d in
-      let was = wrote k d lt changed in
-      let low : All (λ p. 4 ≤ p) (pages_of_plane t.heights) = All-front (λ p. 4 ≤ p) (pages_of_plane t.heights) (pages_of_kept t.kept) (each_tile (λ p. 4 ≤ p) chart.staged rules.staged.page_rule.low k d lt) in
-      let low_index : All (λ p. 4 ≤ p) t.heights.index_pages = All-front (λ p. 4 ≤ p) t.heights.index_pages t.heights.pages (All-tail (λ p. 4 ≤ p) t.heights.record_page (pages_behind t.heights) low) in
-      record {
-        listed = sym (moved.1 _ (All-head (λ p. 4 ≤ p) t.heights.record_page (pages_behind t.heights) low)) ∙ was.listed;
-        indexed = λ j below fresh. sym (moved.1 _ (low_index j 0 below)) ∙ was.indexed j below fresh;
-      } in
-      record {
-        laid_out = record {
-          store = (moved.0, subst (λ (n : ℕ). sectors_asked (format_of root) ≤ n) size (subst (λ (f : Format). sectors_asked f ≤ chart.sectors) format rules.size));
-          entries = refl;
-          records = recorded (format_of root) chart.committed chart.staged a image same had.heights had.shared had.kept written spells;
-          page_rule = subst (λ (n : ℕ). KeepsPageRule n chart.staged) size rules.staged.page_rule;
-        };
-        stands = ap (λ (x : Stored). next_commit x sinks (map (tile_in a) chart.staged) count) stored
-            ∙ ap (λ (ts : List StoredTile). record { version = root.version; side = root.side; capacity = root.capacity; number = root.number + 1; count = count; sinks = sinks; tiles = ts }) (recorded_tiles chart.committed chart.staged a image same);
-      }
-
-  -- the tiles are the same there
-  pub same_tiles : (image : Image) → SamePages b image → map (tile_in a) chart.staged ≡ map (tile_in image) chart.staged
-  same_tiles image pages = recorded_tiles chart.committed chart.staged a image (unwritten_same chart.committed chart.staged a image rules.staged.page_rule.low rules.staged.page_rule.once (λ q low none. others q low none ∙ pages q low))
-
--- what is staged once it is committed: nothing else than it
-pub nothing_staged : (sectors : ℕ) (root : RootValue) (tiles : List TileLocation) (s : Stored) (image : Image) → StoresAt sectors root tiles s image → AreStaged (format_of root) tiles tiles image
-nothing_staged sectors root tiles s image stores = record {
-  heights = All-weaker (HasRecords (format_of root) image) (λ t. is_changed tiles t ≡ false → HasRecord (format_of root) image t.heights) (λ t has _. has.heights) tiles stores.laid_out.records;
-  shared = All-weaker (HasRecords (format_of root) image) (λ t. SharesIndex tiles image t.heights) (λ t has k lt _. has.heights.indexed k lt) tiles stores.laid_out.records;
-  kept = All-weaker (HasRecords (format_of root) image) (λ t. IfSome t.kept (HaveKeptRecords (format_of root) image)) (λ t has. has.kept) tiles stores.laid_out.records;
-}
 
 -- the run of a commit
 pub committing : {D : Type 0} (g : Ghosts D) (old mid new : D) (sectors : ℕ) (root next : RootValue) (committed staged : List TileLocation) (s t : Stored) → LeavesOnly g old mid (StoresAt sectors root committed s)

@@ -9,9 +9,8 @@ use Rattle.page_codec.specs.Entries.{EntryValue}
 use Rattle.charts.specs.Locations.{pages_behind}
 use Rattle.charts.specs.TileLocations.{TileLocation, reached, pages_of_kept, pages_of_tile}
 use Rattle.cow_tree.specs.Entries.{entry_of}
-use Rattle.cow_tree.specs.Layout.{HasRecord, HaveKeptRecords}
-use Rattle.charts.specs.Charts.{ChartValue, HasFreshHeights, is_at, is_changed, corners_of_locations, without_location}
-use Rattle.cow_tree.specs.Staged.{AreStaged, SharesIndex}
+use Rattle.charts.specs.Charts.{ChartValue, HasFreshHeights, is_at, corners_of_locations, without_location}
+use Rattle.cow_tree.specs.Staged.{AreStaged, IsTileListed}
 use Rattle.cow_tree.proofs.Tiles.{each_tile}
 
 pub filter-map : {X Y : Type 0} (test : Y → Bool) (f : X → Y) (xs : List X) → map f (filter (λ x. test (f x)) xs) ≡ filter test (map f xs)
@@ -33,8 +32,4 @@ clean_is_committed chart clean c (t, (staged, corner, fresh)) =
     fresh.unreached (All-head (Contains (reached chart.committed)) t.heights.record_page (pages_behind t.heights ++ pages_of_kept t.kept) all)
 
 pub staged_without : (format : Format) (committed tiles : List TileLocation) (c : Corner) (image : Image) → AreStaged format committed tiles image → AreStaged format committed (without_location c tiles) image
-staged_without format committed tiles c image had = record {
-  heights = All-filter (λ t. not (is_at c t)) (λ t. is_changed committed t ≡ false → HasRecord format image t.heights) tiles had.heights;
-  shared = All-filter (λ t. not (is_at c t)) (λ t. SharesIndex committed image t.heights) tiles had.shared;
-  kept = All-filter (λ t. not (is_at c t)) (λ t. IfSome t.kept (HaveKeptRecords format image)) tiles had.kept;
-}
+staged_without format committed tiles c image had = All-filter (λ t. not (is_at c t)) (IsTileListed format committed image) tiles had

@@ -1,17 +1,16 @@
 -- A tile staged without its levels and labels, or with others.
-use Rattle.std.proofs.Common.{◌≡◌, Bool, true, false, cond, if◌then◌else◌, ℕ, List, [], ◌∷◌, ◌++◌, map, refl, sym, ap, ap₂, ◌∙◌, subst}
+use Rattle.std.proofs.Common.{◌≡◌, Bool, true, false, if◌then◌else◌, ℕ, List, [], ◌∷◌, map, refl, sym, ap, ap₂, ◌∙◌, subst}
 use Rattle.std.specs.Prelude.{Option, None, IfSome}
-use Rattle.std.specs.List.{filter, flat_map}
 use Rattle.std.proofs.lemmas.List.Elements.{All-map, All-weaker}
 use Rattle.disk.specs.Disk.{Image}
 use Rattle.lattice.specs.Corners.{Corner}
 use Rattle.page_codec.specs.Formats.{Format}
 use Rattle.charts.specs.TileLocations.{TileLocation}
-use Rattle.charts.specs.Charts.{ChartValue, HasFreshHeights, IsFresh, is_at, is_changed, corners_of_locations, without_kept}
+use Rattle.charts.specs.Charts.{ChartValue, HasFreshHeights, IsFresh, is_at, corners_of_locations, without_kept}
 use Rattle.charts.specs.declared.locations.KeptLocations.{KeptLocations}
 use Rattle.charts.proofs.KeptChanging.{other_kept_in, other_kept}
-use Rattle.cow_tree.specs.Layout.{tile_in, HasRecord, HaveKeptRecords}
-use Rattle.cow_tree.specs.Staged.{AreStaged, SharesIndex, due_of}
+use Rattle.cow_tree.specs.Layout.{tile_in}
+use Rattle.cow_tree.specs.Staged.{AreListedBy, AreStaged, IsTileListed}
 use Rattle.cow_tree.specs.Stored.{StoredTile, stale_tile, made_stale}
 use Rattle.cow_tree.proofs.Adding.{contains-map}
 
@@ -34,28 +33,6 @@ pub other_corners : (c : Corner) (kept : Option KeptLocations) (tiles : List Til
 other_corners c kept [] = refl
 other_corners c kept (t ∷ rest) = ap₂ (λ (x : Corner) (xs : List Corner). x ∷ xs) (same_corner_other c kept t) (other_corners c kept rest)
 
--- the same pages are due
-pub other_due : (committed : List TileLocation) (c : Corner) (kept : Option KeptLocations) (tiles : List TileLocation) → flat_map (due_of committed) (filter (is_changed committed) (other_kept c kept tiles)) ≡ flat_map (due_of committed) (filter (is_changed committed) tiles)
-other_due committed c kept [] = refl
-other_due committed c kept (t ∷ rest) = by_test (is_at c t) (other_due committed c kept rest)
-  where
-    others : List TileLocation
-    others = filter (is_changed committed) (other_kept c kept rest)
-
-    were : List TileLocation
-    were = filter (is_changed committed) rest
-
-    by_test : (v : Bool) → flat_map (due_of committed) others ≡ flat_map (due_of committed) were
-        → flat_map (due_of committed) (filter (is_changed committed) ((if v then record t { kept = kept } else t) ∷ other_kept c kept rest)) ≡ flat_map (due_of committed) (filter (is_changed committed) (t ∷ rest))
-    by_test true later = elim (is_changed committed t) as (λ (w : Bool). flat_map (due_of committed) (cond w (record t { kept = kept } ∷ others) others) ≡ flat_map (due_of committed) (cond w (t ∷ were) were)) [
-      | true ↦ ap (λ (pages : List ℕ). due_of committed t ++ pages) later
-      | false ↦ later
-    ]
-    by_test false later = elim (is_changed committed t) as (λ (w : Bool). flat_map (due_of committed) (cond w (t ∷ others) others) ≡ flat_map (due_of committed) (cond w (t ∷ were) were)) [
-      | true ↦ ap (λ (pages : List ℕ). due_of committed t ++ pages) later
-      | false ↦ later
-    ]
-
 pub other_still : (old new : ChartValue) (c : Corner) (kept : Option KeptLocations) (other : Corner) → new ≡ record old { staged = other_kept c kept old.staged } → HasFreshHeights other old → HasFreshHeights other new
 other_still old new c kept other changed (t, (staged, corner, fresh)) =
     subst (HasFreshHeights other) (sym changed)
@@ -65,34 +42,14 @@ other_still old new c kept other changed (t, (staged, corner, fresh)) =
     by_test true = record { low = fresh.low; high = fresh.high; unreached = fresh.unreached }
     by_test false = record { low = fresh.low; high = fresh.high; unreached = fresh.unreached }
 
-module _ (format : Format) (committed : List TileLocation) (c : Corner) (kept : Option KeptLocations) (image : Image) (here : IfSome kept (HaveKeptRecords format image)) where
-  heights_stay : (t : TileLocation) → (is_changed committed t ≡ false → HasRecord format image t.heights) → is_changed committed (other_kept_in c kept t) ≡ false → HasRecord format image (other_kept_in c kept t).heights
-  heights_stay t had = by_test (is_at c t)
+module _ (format : Format) (committed : List TileLocation) (c : Corner) (kept : Option KeptLocations) (image : Image) (here : IfSome kept (AreListedBy format committed image)) where
+  tile_stays : (t : TileLocation) → IsTileListed format committed image t → IsTileListed format committed image (other_kept_in c kept t)
+  tile_stays t had = by_test (is_at c t)
     where
-      by_test : (v : Bool) → is_changed committed (if v then record t { kept = kept } else t) ≡ false → HasRecord format image (if v then record t { kept = kept } else t).heights
-      by_test true = had
-      by_test false = had
-
-  kept_stay : (t : TileLocation) → IfSome t.kept (HaveKeptRecords format image) → IfSome (other_kept_in c kept t).kept (HaveKeptRecords format image)
-  kept_stay t had = by_test (is_at c t)
-    where
-      by_test : (v : Bool) → IfSome (if v then record t { kept = kept } else t).kept (HaveKeptRecords format image)
-      by_test true = here
-      by_test false = had
-
-  shared_stay : (t : TileLocation) → SharesIndex committed image t.heights → SharesIndex committed image (other_kept_in c kept t).heights
-  shared_stay t had = by_test (is_at c t)
-    where
-      by_test : (v : Bool) → SharesIndex committed image (if v then record t { kept = kept } else t).heights
-      by_test true = had
+      by_test : (v : Bool) → IsTileListed format committed image (if v then record t { kept = kept } else t)
+      by_test true = record { heights = had.heights; kept = here }
       by_test false = had
 
   pub other_stays : (tiles : List TileLocation) → AreStaged format committed tiles image → AreStaged format committed (other_kept c kept tiles) image
-  other_stays tiles had = record {
-    heights = All-map (λ t. is_changed committed t ≡ false → HasRecord format image t.heights) (other_kept_in c kept) tiles
-        (All-weaker (λ t. is_changed committed t ≡ false → HasRecord format image t.heights) (λ t. is_changed committed (other_kept_in c kept t) ≡ false → HasRecord format image (other_kept_in c kept t).heights) heights_stay tiles had.heights);
-    shared = All-map (λ t. SharesIndex committed image t.heights) (other_kept_in c kept) tiles
-        (All-weaker (λ t. SharesIndex committed image t.heights) (λ t. SharesIndex committed image (other_kept_in c kept t).heights) shared_stay tiles had.shared);
-    kept = All-map (λ t. IfSome t.kept (HaveKeptRecords format image)) (other_kept_in c kept) tiles
-        (All-weaker (λ t. IfSome t.kept (HaveKeptRecords format image)) (λ t. IfSome (other_kept_in c kept t).kept (HaveKeptRecords format image)) kept_stay tiles had.kept);
-  }
+  other_stays tiles had =
+      All-map (IsTileListed format committed image) (other_kept_in c kept) tiles (All-weaker (IsTileListed format committed image) (λ t. IsTileListed format committed image (other_kept_in c kept t)) tile_stays tiles had)

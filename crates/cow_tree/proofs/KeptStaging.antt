@@ -1,25 +1,26 @@
 -- Levels and labels of a tile that were written whole are staged.
-use Rattle.std.proofs.Common.{◌≡◌, ℕ, zero, suc, ◌≤◌, Bool, true, false, inl, inr, if◌then◌else◌, List, [], ◌∷◌, All, Contains, map, refl, sym, ap, ap₂, ◌∙◌, subst, arith}
+use Rattle.std.proofs.Common.{◌≡◌, ℕ, zero, suc, ◌<◌, ◌≤◌, Bool, true, false, not, inl, inr, if◌then◌else◌, List, [], ◌∷◌, ◌++◌, All, Contains, get_or, map, refl, sym, ap, ap₂, ◌∙◌, subst, arith}
 use Rattle.std.specs.Prelude.{Option, Some, None}
 use Rattle.std.proofs.lemmas.Bool.{cases_eq}
+use Rattle.std.proofs.lemmas.List.Elements.{Contains-get_or}
 use Rattle.disk.specs.Disk.{Image}
 use Rattle.lattice.specs.Corners.{Corner}
 use Rattle.lattice.proofs.CornerOrder.{same_from}
 use Rattle.page_codec.specs.Formats.{Format}
 use Rattle.charts.specs.declared.locations.KeptLocations.{KeptLocations}
-use Rattle.charts.specs.Charts.{ChartValue, IsChart, IsClean, IsFresh, IsLocated, HasKept, AreKept, AreWholeKept, is_at, with_kept_locations}
-use Rattle.charts.specs.Locations.{pages_of_plane, times}
+use Rattle.charts.specs.Charts.{ChartValue, IsChart, IsClean, IsFresh, IsLocated, HasKept, AreKept, AreWholeKept, is_at, is_unreached, with_kept_locations}
+use Rattle.charts.specs.Locations.{PlaneLocation, listing_of, pages_behind, pages_of_plane, times}
 use Rattle.charts.specs.TileLocations.{TileLocation, pages_of_kept, pages_of_tile, reached}
-use Rattle.charts.proofs.Occurrences.{times-append}
+use Rattle.charts.proofs.Occurrences.{times-append, times_here, stands_there}
 use Rattle.charts.proofs.Times.{member_of_times}
-use Rattle.cow_tree.specs.Kept.{AreFreshKept, with_kept}
-use Rattle.cow_tree.specs.Layout.{HaveKeptRecords, kept_in, tile_in}
-use Rattle.cow_tree.specs.Staged.{AreStaged}
+use Rattle.cow_tree.specs.Kept.{with_kept}
+use Rattle.cow_tree.specs.Layout.{kept_in, tile_in}
+use Rattle.cow_tree.specs.Staged.{AreListedBy, AreStaged, IsListedBy}
 use Rattle.cow_tree.specs.Stored.{KeptPlanes, PlanePages, StoredTile}
 use Rattle.cow_tree.proofs.Adding.{still_records}
-use Rattle.cow_tree.proofs.DuePages.{times_among}
+use Rattle.cow_tree.proofs.Counting.{all_at_times, all_of_fewer, at_times, times_among}
 use Rattle.cow_tree.proofs.KeptDrops.{other_stays}
-use Rattle.cow_tree.proofs.Recording.{all_at_times, at_times}
+use Rattle.cow_tree.proofs.Staging.{unreached_test}
 use Rattle.cow_tree.proofs.Standing.{SameOn, All-front, All-back, tile_same, plane_same}
 use Rattle.cow_tree.proofs.Tiles.{one_at_corner}
 
@@ -71,38 +72,67 @@ module _ (old new : ChartValue) (c : Corner) (rules : IsChart new) (was : IsChar
       let both : Some anew.locations ≡ Some k = sym has_kept.1.2 ∙ ap (λ (t : TileLocation). t.kept) same ∙ had.1.2 in
       cc
 
-  fresh_there : AreFreshKept new anew.locations
-  fresh_there = record {
-    whole = subst (λ (f : Format). AreWholeKept f anew.locations) (sym (ap (λ (x : ChartValue). x.format) anew.changed)) anew.whole;
-    fresh = anew.fresh;
-    once = λ q.
-        (let t : TileLocation = has_kept.0 in
-        let among = times_among pages_of_tile q new.staged t has_kept.1.0 in
-        let split = times-append q (pages_of_plane t.heights) (pages_of_kept t.kept) in
-        let own = ap (λ (o : Option KeptLocations). times q (pages_of_kept o)) has_kept.1.2 in
-        omega (arith, among, split, own, rules.staged.page_rule.once q));
-  }
+  -- its planes are whole, on pages that no committed tile reaches
+  pub whole_planes : (k : KeptLocations) → HasKept c k new.staged → AreWholeKept old.format k
+  whole_planes k had = subst (AreWholeKept old.format) (locations_are k had) anew.whole
 
-  pub fresh_kept : (k : KeptLocations) → HasKept c k new.staged → AreFreshKept new k
-  fresh_kept k had = subst (AreFreshKept new) (locations_are k had) fresh_there
+  kept_within : (k : KeptLocations) → HasKept c k new.staged → (q : ℕ) → times q (pages_of_kept (Some k)) ≤ times q (reached new.staged)
+  kept_within k had q =
+      let t : TileLocation = had.0 in
+      let among = times_among pages_of_tile q new.staged t had.1.0 in
+      let split = times-append q (pages_of_plane t.heights) (pages_of_kept t.kept) in
+      let own = ap (λ (o : Option KeptLocations). times q (pages_of_kept o)) had.1.2 in
+      omega (arith, among, split, own)
+
+  pages_within : (k : KeptLocations) → HasKept c k new.staged → (q : ℕ) → times q (k.levels.pages ++ k.labels.pages) ≤ times q (pages_of_kept (Some k))
+  pages_within k had q =
+      omega (arith, times-append q k.levels.pages k.labels.pages, times-append q (pages_of_plane k.levels) (pages_of_plane k.labels), times-append q (listing_of k.levels) k.levels.pages, times-append q (listing_of k.labels) k.labels.pages)
+
+  pub pages_low : (k : KeptLocations) → HasKept c k new.staged → All (λ q. 4 ≤ q) (k.levels.pages ++ k.labels.pages)
+  pages_low k had = all_of_fewer (λ q. 4 ≤ q) (k.levels.pages ++ k.labels.pages) (reached new.staged) (λ q. omega (arith, pages_within k had q, kept_within k had q)) rules.staged.page_rule.low
+
+  pub pages_high : (k : KeptLocations) → HasKept c k new.staged → All (λ q. q < new.sectors) (k.levels.pages ++ k.labels.pages)
+  pages_high k had = all_of_fewer (λ q. q < new.sectors) (k.levels.pages ++ k.labels.pages) (reached new.staged) (λ q. omega (arith, pages_within k had q, kept_within k had q)) rules.staged.page_rule.high
+
+  pub pages_once : (k : KeptLocations) → HasKept c k new.staged → (q : ℕ) → times q (k.levels.pages ++ k.labels.pages) ≤ 1
+  pages_once k had q = omega (arith, pages_within k had q, kept_within k had q, rules.staged.page_rule.once q)
+
+  all_fresh : (k : KeptLocations) → HasKept c k new.staged → All (IsFresh new) (pages_of_kept (Some k))
+  all_fresh k had = subst (λ (l : KeptLocations). All (IsFresh new) (pages_of_kept (Some l))) (locations_are k had) anew.fresh
+
+  unreached : (k : KeptLocations) → HasKept c k new.staged → (q : ℕ) → 1 ≤ times q (pages_of_kept (Some k)) → ¬ Contains (reached old.committed) q
+  unreached k had q some = subst (λ (tiles : List TileLocation). ¬ Contains (reached tiles) q) committed_is (at_times (IsFresh new) q (pages_of_kept (Some k)) (all_fresh k had) some).unreached
+
+  pub pages_unreached : (k : KeptLocations) → HasKept c k new.staged → All (λ q. ¬ Contains (reached old.committed) q) (k.levels.pages ++ k.labels.pages)
+  pages_unreached k had = all_at_times (λ q. ¬ Contains (reached old.committed) q) (k.levels.pages ++ k.labels.pages) (λ q some. unreached k had q (omega (arith, some, pages_within k had q)))
+
+  -- what lists them isn't written before the commit
+  listed : (k : KeptLocations) → HasKept c k new.staged → (format : Format) (image : Image) → AreListedBy format old.committed image k
+  listed k had format image = record { levels = by k.levels (λ q some. omega (arith, some, times-append q (pages_of_plane k.levels) (pages_of_plane k.labels))); labels = by k.labels (λ q some. omega (arith, some, times-append q (pages_of_plane k.levels) (pages_of_plane k.labels))) }
+    where
+      shared_not : (q : ℕ) → 1 ≤ times q (pages_of_kept (Some k)) → is_unreached old.committed q ≡ false → ⊥
+      shared_not q some shared = let no : true ≡ false = sym (ap not (unreached_test q (reached old.committed) (unreached k had q some))) ∙ shared in cc
+
+      by : (p : PlaneLocation) → ((q : ℕ) → 1 ≤ times q (pages_of_plane p) → 1 ≤ times q (pages_of_kept (Some k))) → IsListedBy format old.committed image p
+      by p among = record {
+        listed = λ shared. absurd (shared_not p.record_page (among p.record_page (omega (arith, times_here p.record_page p.record_page (pages_behind p) refl))) shared);
+        indexed = λ t lt shared. absurd (shared_not (get_or p.index_pages t 0) (among (get_or p.index_pages t 0)
+            (omega (arith, stands_there (get_or p.index_pages t 0) p.index_pages (Contains-get_or p.index_pages t 0 lt), times-append (get_or p.index_pages t 0) (p.record_page ∷ []) (pages_behind p), times-append (get_or p.index_pages t 0) p.index_pages p.pages))) shared);
+      }
 
   -- what was staged wasn't written
-  module _ (k : KeptLocations) (had : HasKept c k new.staged) (a b : Image) (others : (q : ℕ) → 4 ≤ q → times q (pages_of_kept (Some k)) ≡ 0 → a q ≡ b q) where
-    low : All (λ q. 4 ≤ q) (reached old.staged)
-    low = was.staged.page_rule.low
-
+  module _ (k : KeptLocations) (had : HasKept c k new.staged) (a b : Image) (others : (q : ℕ) → 4 ≤ q → times q (k.levels.pages ++ k.labels.pages) ≡ 0 → a q ≡ b q) where
     same : SameOn (reached old.staged) a b
     same =
         all_at_times (λ q. a q ≡ b q) (reached old.staged)
-        (λ q some. others q (at_times (λ p. 4 ≤ p) q (reached old.staged) low some) (none q some))
+        (λ q some. others q (at_times (λ p. 4 ≤ p) q (reached old.staged) was.staged.page_rule.low some) (none q some))
       where
-        none : (q : ℕ) → 1 ≤ times q (reached old.staged) → times q (pages_of_kept (Some k)) ≡ 0
-        none q some = elim (cases_eq (times q (pages_of_kept (Some k))) 0) [
+        none : (q : ℕ) → 1 ≤ times q (reached old.staged) → times q (k.levels.pages ++ k.labels.pages) ≡ 0
+        none q some = elim (cases_eq (times q (k.levels.pages ++ k.labels.pages)) 0) [
           | inl zero_times ↦ zero_times
           | inr more ↦
-              let fresh = at_times (IsFresh new) q (pages_of_kept (Some k)) (fresh_kept k had).fresh (omega (arith, more)) in
-              let committed = ap (λ (tiles : List TileLocation). times q (reached tiles)) (committed_is ∙ sym clean) in
-              absurd (fresh.unreached (member_of_times (reached new.committed) q (omega (arith, some, committed))))
+              let committed = ap (λ (tiles : List TileLocation). times q (reached tiles)) (sym clean) in
+              absurd (unreached k had q (omega (arith, more, pages_within k had q)) (member_of_times (reached old.committed) q (omega (arith, some, committed))))
         ]
 
     pub kept_staged : (planes : KeptPlanes) → kept_in b (Some k) ≡ Some planes → map (tile_in b) new.staged ≡ with_kept c planes (map (tile_in a) old.staged)
@@ -110,9 +140,9 @@ module _ (old new : ChartValue) (c : Corner) (rules : IsChart new) (was : IsChar
         ap (map (tile_in b)) staged_is
         ∙ kept_tiles c anew.locations planes a b old.staged (ap (λ (l : KeptLocations). kept_in b (Some l)) (locations_are k had) ∙ wrote) same
 
-    pub kept_stays : (format : Format) → HaveKeptRecords format b k → AreStaged format old.committed old.staged a → AreStaged format new.committed new.staged b
-    kept_stays format records staged =
+    pub kept_stays : (format : Format) → AreStaged format old.committed old.staged a → AreStaged format new.committed new.staged b
+    kept_stays format staged =
         subst (λ (tiles : List TileLocation). AreStaged format tiles new.staged b) (sym committed_is)
         (subst (λ (tiles : List TileLocation). AreStaged format old.committed tiles b) (sym staged_is)
-        (other_stays format old.committed c (Some anew.locations) b (subst (HaveKeptRecords format b) (sym (locations_are k had)) records) old.staged
+        (other_stays format old.committed c (Some anew.locations) b (subst (λ (l : KeptLocations). AreListedBy format old.committed b l) (sym (locations_are k had)) (listed k had format b)) old.staged
         (still_records format old.committed old.staged a b same staged)))

@@ -5,11 +5,12 @@ pub mod Cached
 pub mod Staging
 pub mod WrittenPages
 pub mod Tiles
-pub mod Recording
 pub mod Steps
 pub mod PageWrites
-pub mod DuePages
-pub mod KeptWriting
+pub mod Counting
+pub mod ListingPages
+pub mod PlaneWrites
+pub mod TileWrites
 pub mod Commits
 pub mod Dropping
 pub mod EntryTiles
@@ -26,6 +27,5 @@ pub mod KeptStaging
 pub mod PageReads
 pub mod SampleReads
 pub mod TreeReads
-pub mod ListingWrites
 pub mod LongerDisks
 pub mod UpgradeLands

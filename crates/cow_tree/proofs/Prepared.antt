@@ -1,17 +1,15 @@
 -- Heights staged as they are: what the tiles store stays.
-use Rattle.std.proofs.Common.{◌≡◌, ℕ, Bool, true, false, if◌then◌else◌, List, [], ◌∷◌, Contains, map, refl, sym, ap, ap₂, subst, ◌∙◌}
-use Rattle.std.specs.Prelude.{IfSome}
-use Rattle.std.proofs.lemmas.Bool.{false≢true}
+use Rattle.std.proofs.Common.{◌≡◌, ℕ, Bool, true, false, not, if◌then◌else◌, List, [], ◌∷◌, Contains, map, refl, sym, ap, ap₂, subst, ◌∙◌}
 use Rattle.std.proofs.lemmas.List.Elements.{All-map, All-weaker}
 use Rattle.disk.specs.Disk.{Image}
 use Rattle.lattice.specs.Corners.{Corner}
 use Rattle.page_codec.specs.Formats.{Format}
 use Rattle.charts.specs.TileLocations.{TileLocation, reached}
-use Rattle.cow_tree.specs.Layout.{tile_in, HasRecord, HaveKeptRecords}
-use Rattle.charts.specs.Charts.{ChartValue, IsPrepared, is_at, is_changed, corners_of_locations, with_record_in, with_record}
-use Rattle.cow_tree.specs.Staged.{AreStaged, SharesIndex}
+use Rattle.cow_tree.specs.Layout.{tile_in}
+use Rattle.charts.specs.Charts.{ChartValue, IsPrepared, is_at, corners_of_locations, with_record_in, with_record}
+use Rattle.cow_tree.specs.Staged.{AreStaged, IsTileListed}
 use Rattle.cow_tree.specs.Stored.{StoredTile}
-use Rattle.cow_tree.proofs.Due.{changed_from}
+use Rattle.cow_tree.proofs.Staging.{unreached_test}
 
 pub prepared_tiles : (c : Corner) (r : ℕ) (image : Image) (tiles : List TileLocation) → map (tile_in image) (with_record c r tiles) ≡ map (tile_in image) tiles
 prepared_tiles c r image [] = refl
@@ -30,37 +28,19 @@ prepared_corners c r (t ∷ rest) = ap₂ (λ (x : Corner) (xs : List Corner). x
     by_test false = refl
 
 module _ (format : Format) (committed : List TileLocation) (c : Corner) (r : ℕ) (image : Image) (unreached : ¬ Contains (reached committed) r) where
-  heights_stay : (t : TileLocation) → (is_changed committed t ≡ false → HasRecord format image t.heights) → is_changed committed (with_record_in c r t) ≡ false → HasRecord format image (with_record_in c r t).heights
-  heights_stay t had = by_test (is_at c t)
+  tile_stays : (t : TileLocation) → IsTileListed format committed image t → IsTileListed format committed image (with_record_in c r t)
+  tile_stays t had = by_test (is_at c t)
     where
-      by_test : (v : Bool) → is_changed committed (if v then record t { heights = record (t.heights) { record_page = r } } else t) ≡ false
-          → HasRecord format image (if v then record t { heights = record (t.heights) { record_page = r } } else t).heights
-      by_test true unchanged = absurd (false≢true (sym unchanged ∙ changed_from committed (record t { heights = record (t.heights) { record_page = r } }) unreached))
-      by_test false unchanged = had unchanged
-
-  shared_stay : (t : TileLocation) → SharesIndex committed image t.heights → SharesIndex committed image (with_record_in c r t).heights
-  shared_stay t had = by_test (is_at c t)
-    where
-      by_test : (v : Bool) → SharesIndex committed image (if v then record t { heights = record (t.heights) { record_page = r } } else t).heights
-      by_test true = had
-      by_test false = had
-
-  kept_stay : (t : TileLocation) → IfSome t.kept (HaveKeptRecords format image) → IfSome (with_record_in c r t).kept (HaveKeptRecords format image)
-  kept_stay t had = by_test (is_at c t)
-    where
-      by_test : (v : Bool) → IfSome (if v then record t { heights = record (t.heights) { record_page = r } } else t).kept (HaveKeptRecords format image)
-      by_test true = had
+      by_test : (v : Bool) → IsTileListed format committed image (if v then record t { heights = record (t.heights) { record_page = r } } else t)
+      by_test true = record {
+        heights = record { listed = λ shared. absurd (let no : true ≡ false = sym (ap not (unreached_test r (reached committed) unreached)) ∙ shared in cc); indexed = had.heights.indexed };
+        kept = had.kept;
+      }
       by_test false = had
 
   prepared_stays : (tiles : List TileLocation) → AreStaged format committed tiles image → AreStaged format committed (with_record c r tiles) image
-  prepared_stays tiles had = record {
-    heights = All-map (λ t. is_changed committed t ≡ false → HasRecord format image t.heights) (with_record_in c r) tiles
-        (All-weaker (λ t. is_changed committed t ≡ false → HasRecord format image t.heights) (λ t. is_changed committed (with_record_in c r t) ≡ false → HasRecord format image (with_record_in c r t).heights) heights_stay tiles had.heights);
-    shared = All-map (λ t. SharesIndex committed image t.heights) (with_record_in c r) tiles
-        (All-weaker (λ t. SharesIndex committed image t.heights) (λ t. SharesIndex committed image (with_record_in c r t).heights) shared_stay tiles had.shared);
-    kept = All-map (λ t. IfSome t.kept (HaveKeptRecords format image)) (with_record_in c r) tiles
-        (All-weaker (λ t. IfSome t.kept (HaveKeptRecords format image)) (λ t. IfSome (with_record_in c r t).kept (HaveKeptRecords format image)) kept_stay tiles had.kept);
-  }
+  prepared_stays tiles had =
+      All-map (IsTileListed format committed image) (with_record_in c r) tiles (All-weaker (IsTileListed format committed image) (λ t. IsTileListed format committed image (with_record_in c r t)) tile_stays tiles had)
 
 pub still_prepared : (format : Format) (old new : ChartValue) (c : Corner) (image : Image) → IsPrepared c old new → AreStaged format old.committed old.staged image → AreStaged format new.committed new.staged image
 still_prepared format old new c image prepared had =

@@ -1,5 +1,6 @@
 -- What one written page makes of the staged tiles: the page stands once among all that they reach.
 use Rattle.std.proofs.Common.{◌≡◌, ◌≢◌, ◌==◌, not, Option, IfSome, ℕ, zero, suc, ◌+◌, ◌-◌, ◌*◌, ◌/◌, ◌<◌, inl, inr, length, take, drop, get_or, ◌≤◌, Bool, true, false, if◌then◌else◌, ◌||◌, List, [], ◌∷◌, ◌++◌, All, Contains, map, refl, sym, ap, ap₂, ◌∙◌, subst, arith}
+use Rattle.std.specs.Prelude.{Some, None}
 use Rattle.std.specs.List.{slice_set, list_any}
 use Rattle.std.proofs.lemmas.Bool.{cases_eq, cases_lt}
 use Rattle.std.proofs.lemmas.Bool.Decides.{nat_tests}
@@ -13,11 +14,12 @@ use Rattle.roots.specs.Slots.{SamePagesBut}
 use Rattle.page_codec.specs.Records.{part_of, record_bytes}
 use Rattle.charts.specs.Locations.{PlaneLocation, moved_plane, pages_behind, pages_of_plane, times}
 use Rattle.charts.specs.TileLocations.{TileLocation, pages_of_kept, pages_of_tile, reached}
-use Rattle.cow_tree.specs.Layout.{HasRecord, HaveKeptRecords, tile_in}
-use Rattle.charts.specs.Charts.{is_at, is_changed, is_unreached}
-use Rattle.cow_tree.specs.Staged.{AreStaged, SharesIndex}
+use Rattle.charts.specs.declared.locations.KeptLocations.{KeptLocations}
+use Rattle.cow_tree.specs.Layout.{IsIndexed, tile_in}
+use Rattle.charts.specs.Charts.{is_at, is_unreached}
+use Rattle.cow_tree.specs.Staged.{AreListedBy, AreStaged, IsListedBy, IsTileListed}
 use Rattle.cow_tree.specs.Stored.{PlanePages, KeptPlanes, StoredTile, with_page_in, with_page}
-use Rattle.cow_tree.proofs.Standing.{SameOn, All-front, All-back, map_same, kept_same, tile_same, record_same, kept_records_same}
+use Rattle.cow_tree.proofs.Standing.{SameOn, All-front, All-back, map_same, kept_same, tile_same}
 use Rattle.charts.proofs.Occurrences.{times-append, times_here, apart_head, absent, set_there}
 
 -- the tile with page i of its heights, its index page and their record elsewhere, if it is the corner's
@@ -157,8 +159,24 @@ staged_pages c i p x r page a b (t ∷ rest) written =
     (staged_pages c i p x r page a b rest (All-tail (IsWrittenAt c i p x page a b) t rest written))
 
 -- ---- the index pages of the plane with the page
-pub shared_same : (committed : List TileLocation) (p : PlaneLocation) (a b : Image) → SameOn (pages_of_plane p) a b → SharesIndex committed a p → SharesIndex committed b p
-shared_same committed p a b same had k lt shared = sym (All-front (λ q. a q ≡ b q) p.index_pages p.pages (All-tail (λ q. a q ≡ b q) p.record_page (pages_behind p) same) k 0 lt) ∙ had k lt shared
+pub listed_same : (format : Format) (committed : List TileLocation) (p : PlaneLocation) (a b : Image) → SameOn (pages_of_plane p) a b → IsListedBy format committed a p → IsListedBy format committed b p
+listed_same format committed p a b same had = record {
+  listed = λ shared. sym (All-head (λ q. a q ≡ b q) p.record_page (pages_behind p) same) ∙ had.listed shared;
+  indexed = λ k lt shared. sym (All-front (λ q. a q ≡ b q) p.index_pages p.pages (All-tail (λ q. a q ≡ b q) p.record_page (pages_behind p) same) k 0 lt) ∙ had.indexed k lt shared;
+}
+
+pub kept_listed_same : (format : Format) (committed : List TileLocation) (kept : Option KeptLocations) (a b : Image) → SameOn (pages_of_kept kept) a b → IfSome kept (AreListedBy format committed a) → IfSome kept (AreListedBy format committed b)
+kept_listed_same format committed None a b same had = tt
+kept_listed_same format committed (Some k) a b same had = record {
+  levels = listed_same format committed k.levels a b (All-front (λ q. a q ≡ b q) (pages_of_plane k.levels) (pages_of_plane k.labels) same) had.levels;
+  labels = listed_same format committed k.labels a b (All-back (λ q. a q ≡ b q) (pages_of_plane k.levels) (pages_of_plane k.labels) same) had.labels;
+}
+
+pub tile_listed_same : (format : Format) (committed : List TileLocation) (t : TileLocation) (a b : Image) → SameOn (pages_of_tile t) a b → IsTileListed format committed a t → IsTileListed format committed b t
+tile_listed_same format committed t a b same had = record {
+  heights = listed_same format committed t.heights a b (All-front (λ q. a q ≡ b q) (pages_of_plane t.heights) (pages_of_kept t.kept) same) had.heights;
+  kept = kept_listed_same format committed t.kept a b (All-back (λ q. a q ≡ b q) (pages_of_plane t.heights) (pages_of_kept t.kept) same) had.kept;
+}
 
 -- an index page that doesn't list page i lists what it did
 part_stays : (pages : List ℕ) (i p k : ℕ) → k ≢ i / 1024 → part_of k (slice_set pages i p) ≡ part_of k pages
@@ -172,7 +190,7 @@ part_stays pages i p k apart = elim (cases_lt i (1024 * k)) [
 ]
 
 moved_part : (committed : List TileLocation) (h : PlaneLocation) (i p x : ℕ) (a b : Image) → (i / 1024 < length h.index_pages → list_any (λ q. q == x) (reached committed) ≡ false)
-    → SameOn (slice_set h.index_pages (i / 1024) x) a b → SharesIndex committed a h
+    → SameOn (slice_set h.index_pages (i / 1024) x) a b → ((k : ℕ) → k < length h.index_pages → is_unreached committed (get_or h.index_pages k 0) ≡ false → IsIndexed a h k)
     → (k : ℕ) → k < length (slice_set h.index_pages (i / 1024) x) → is_unreached committed (get_or (slice_set h.index_pages (i / 1024) x) k 0) ≡ false
     → b (get_or (slice_set h.index_pages (i / 1024) x) k 0) ≡ record_bytes (part_of k (slice_set h.pages i p))
 moved_part committed h i p x a b fresh same had k lt shared = elim (cases_eq k (i / 1024)) [
@@ -187,54 +205,28 @@ moved_part committed h i p x a b fresh same had k lt shared = elim (cases_eq k (
 ]
 
 module _ (format : Format) (committed : List TileLocation) (c : Corner) (i p x r : ℕ) (page : List ℕ) (a b : Image) (fresh : list_any (λ q. q == r) (reached committed) ≡ false) where
-  heights_one : (t : TileLocation) → IsWrittenAt c i p x page a b t → (is_changed committed t ≡ false → HasRecord format a t.heights) → is_changed committed (rewritten c i p x r t) ≡ false → HasRecord format b (rewritten c i p x r t).heights
-  heights_one t written had =
-      elim (is_at c t) as (λ (v : Bool). is_at c t ≡ v
-      → is_changed committed (if v then record t { heights = moved_plane i p x r t.heights } else t) ≡ false
-      → HasRecord format b (if v then record t { heights = moved_plane i p x r t.heights } else t).heights) [
-        | true ↦ λ here unchanged. absurd (let no : true ≡ false = sym (ap not fresh) ∙ unchanged in cc)
-        | false ↦ λ other unchanged. record_same format t.heights a b (All-front (λ q. a q ≡ b q) (pages_of_plane t.heights) (pages_of_kept t.kept) (written.others other)) (had unchanged)
+  abbrev HasFreshIndex : TileLocation → Type 0
+  HasFreshIndex t = i / 1024 < length t.heights.index_pages → list_any (λ q. q == x) (reached committed) ≡ false
+
+  tile_one : (t : TileLocation) → HasFreshIndex t → IsWrittenAt c i p x page a b t → IsTileListed format committed a t → IsTileListed format committed b (rewritten c i p x r t)
+  tile_one t fresh_index written had =
+      elim (is_at c t) as (λ (v : Bool). is_at c t ≡ v → IsTileListed format committed b (if v then record t { heights = moved_plane i p x r t.heights } else t)) [
+        | true ↦ λ here. record {
+          heights = record {
+            listed = λ shared. absurd (let no : true ≡ false = sym (ap not fresh) ∙ shared in cc);
+            indexed = moved_part committed t.heights i p x a b fresh_index (written.index here) had.heights.indexed;
+          };
+          kept = kept_listed_same format committed t.kept a b (written.kept here) had.kept;
+        }
+        | false ↦ λ other. tile_listed_same format committed t a b (written.others other) had
       ] refl
 
-  shared_one : (t : TileLocation) → (i / 1024 < length t.heights.index_pages → list_any (λ q. q == x) (reached committed) ≡ false) → IsWrittenAt c i p x page a b t → SharesIndex committed a t.heights
-      → SharesIndex committed b (rewritten c i p x r t).heights
-  shared_one t fresh_index written had =
-      elim (is_at c t) as (λ (v : Bool). is_at c t ≡ v → SharesIndex committed b (if v then record t { heights = moved_plane i p x r t.heights } else t).heights) [
-        | true ↦ λ here k lt shared. moved_part committed t.heights i p x a b fresh_index (written.index here) had k lt shared
-        | false ↦ λ other. shared_same committed t.heights a b (All-front (λ q. a q ≡ b q) (pages_of_plane t.heights) (pages_of_kept t.kept) (written.others other)) had
-      ] refl
-
-  shared_staged : (tiles : List TileLocation) → All (λ t. i / 1024 < length t.heights.index_pages → list_any (λ q. q == x) (reached committed) ≡ false) tiles → All (IsWrittenAt c i p x page a b) tiles
-      → All (λ t. SharesIndex committed a t.heights) tiles → All (λ t. SharesIndex committed b t.heights) (map (rewritten c i p x r) tiles)
-  shared_staged [] fresh_index written had = All-nil (λ t. SharesIndex committed b t.heights)
-  shared_staged (t ∷ rest) fresh_index written had =
-      All-cons (λ t. SharesIndex committed b t.heights) (rewritten c i p x r t) (map (rewritten c i p x r) rest)
-      (shared_one t (All-head (λ t. i / 1024 < length t.heights.index_pages → list_any (λ q. q == x) (reached committed) ≡ false) t rest fresh_index) (All-head (IsWrittenAt c i p x page a b) t rest written) (All-head (λ t. SharesIndex committed a t.heights) t rest had))
-      (shared_staged rest (All-tail (λ t. i / 1024 < length t.heights.index_pages → list_any (λ q. q == x) (reached committed) ≡ false) t rest fresh_index) (All-tail (IsWrittenAt c i p x page a b) t rest written) (All-tail (λ t. SharesIndex committed a t.heights) t rest had))
-
-  kept_one : (t : TileLocation) → IsWrittenAt c i p x page a b t → IfSome t.kept (HaveKeptRecords format a) → IfSome (rewritten c i p x r t).kept (HaveKeptRecords format b)
-  kept_one t written had =
-      elim (is_at c t) as (λ (v : Bool). is_at c t ≡ v → IfSome (if v then record t { heights = moved_plane i p x r t.heights } else t).kept (HaveKeptRecords format b)) [
-        | true ↦ λ here. kept_records_same format t.kept a b (written.kept here) had
-        | false ↦ λ other. kept_records_same format t.kept a b (All-back (λ q. a q ≡ b q) (pages_of_plane t.heights) (pages_of_kept t.kept) (written.others other)) had
-      ] refl
-
-  heights_staged : (tiles : List TileLocation) → All (IsWrittenAt c i p x page a b) tiles → All (λ t. is_changed committed t ≡ false → HasRecord format a t.heights) tiles → All (λ t. is_changed committed t ≡ false → HasRecord format b t.heights) (map (rewritten c i p x r) tiles)
-  heights_staged [] written had = All-nil (λ t. is_changed committed t ≡ false → HasRecord format b t.heights)
-  heights_staged (t ∷ rest) written had =
-      All-cons (λ t. is_changed committed t ≡ false → HasRecord format b t.heights) (rewritten c i p x r t) (map (rewritten c i p x r) rest)
-      (heights_one t (All-head (IsWrittenAt c i p x page a b) t rest written) (All-head (λ t. is_changed committed t ≡ false → HasRecord format a t.heights) t rest had))
-      (heights_staged rest (All-tail (IsWrittenAt c i p x page a b) t rest written) (All-tail (λ t. is_changed committed t ≡ false → HasRecord format a t.heights) t rest had))
-
-  kept_staged : (tiles : List TileLocation) → All (IsWrittenAt c i p x page a b) tiles → All (λ t. IfSome t.kept (HaveKeptRecords format a)) tiles → All (λ t. IfSome t.kept (HaveKeptRecords format b)) (map (rewritten c i p x r) tiles)
-  kept_staged [] written had = All-nil (λ t. IfSome t.kept (HaveKeptRecords format b))
-  kept_staged (t ∷ rest) written had =
-      All-cons (λ t. IfSome t.kept (HaveKeptRecords format b)) (rewritten c i p x r t) (map (rewritten c i p x r) rest)
-      (kept_one t (All-head (IsWrittenAt c i p x page a b) t rest written) (All-head (λ t. IfSome t.kept (HaveKeptRecords format a)) t rest had))
-      (kept_staged rest (All-tail (IsWrittenAt c i p x page a b) t rest written) (All-tail (λ t. IfSome t.kept (HaveKeptRecords format a)) t rest had))
-
-  pub still_staged : (tiles : List TileLocation) → All (λ t. i / 1024 < length t.heights.index_pages → list_any (λ q. q == x) (reached committed) ≡ false) tiles → All (IsWrittenAt c i p x page a b) tiles → AreStaged format committed tiles a → AreStaged format committed (map (rewritten c i p x r) tiles) b
-  still_staged tiles fresh_index written had = record { heights = heights_staged tiles written had.heights; shared = shared_staged tiles fresh_index written had.shared; kept = kept_staged tiles written had.kept }
+  pub still_staged : (tiles : List TileLocation) → All HasFreshIndex tiles → All (IsWrittenAt c i p x page a b) tiles → AreStaged format committed tiles a → AreStaged format committed (map (rewritten c i p x r) tiles) b
+  still_staged [] fresh_index written had = All-nil (IsTileListed format committed b)
+  still_staged (t ∷ rest) fresh_index written had =
+      All-cons (IsTileListed format committed b) (rewritten c i p x r t) (map (rewritten c i p x r) rest)
+      (tile_one t (All-head HasFreshIndex t rest fresh_index) (All-head (IsWrittenAt c i p x page a b) t rest written) (All-head (IsTileListed format committed a) t rest had))
+      (still_staged rest (All-tail HasFreshIndex t rest fresh_index) (All-tail (IsWrittenAt c i p x page a b) t rest written) (All-tail (IsTileListed format committed a) t rest had))
 
 -- a page that no committed tile reaches isn't among theirs, as a test
 pub unreached_test : (p : ℕ) (pages : List ℕ) → ¬ Contains pages p → list_any (λ q. q == p) pages ≡ false

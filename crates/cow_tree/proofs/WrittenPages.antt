@@ -1,26 +1,11 @@
--- One more page written where no stored tile reaches it, and the pages of a plane as they are written.
-use Rattle.std.proofs.Common.{◌≡◌, Bool, true, false, if◌then◌else◌, ℕ, zero, suc, ◌+◌, ◌*◌, ◌<◌, ◌≤◌, List, [], ◌∷◌, Contains, length, get_or, map, take, drop, refl, sym, ap, ◌∙◌, subst, arith}
+-- The pages of a plane as they are written.
+use Rattle.std.proofs.Common.{◌≡◌, ℕ, zero, suc, ◌+◌, ◌*◌, ◌<◌, ◌≤◌, List, [], ◌∷◌, length, get_or, map, take, drop, refl, sym, ap, ◌∙◌, subst, arith}
 use Rattle.std.proofs.lemmas.List.{drop-drop, length-map, same_lists}
 use Rattle.disk.specs.Disk.{Image}
-use Rattle.disk.specs.Stops.{LeavesOnly, in_turn, weaker}
-use Rattle.disk.specs.declared.disk.Disk.{Ghosts}
 use Rattle.page_codec.specs.Numbers.{padded}
-use Rattle.page_codec.specs.Roots.{RootValue}
-use Rattle.roots.specs.Slots.{KeepsBut}
-use Rattle.charts.specs.TileLocations.{TileLocation, reached}
-use Rattle.cow_tree.specs.Layout.{StoresAt}
 use Rattle.cow_tree.specs.Staged.{page_of_bytes}
-use Rattle.cow_tree.specs.Stored.{Stored, pages_of_bytes}
-use Rattle.cow_tree.proofs.Standing.{stores_kept_but}
+use Rattle.cow_tree.specs.Stored.{pages_of_bytes}
 use Rattle.cow_tree.proofs.Planes.{length-pages_of_bytes}
-
-module _ {D : Type 0} (g : Ghosts D) (old mid new : D) where
-  pub one_page_more : (p sectors : ℕ) (root now : RootValue) (tiles : List TileLocation) (s : Stored) → now ≡ root → ¬ Contains (reached tiles) p
-      → LeavesOnly g old mid (StoresAt sectors root tiles s) → LeavesOnly g mid new (KeepsBut p now (g.may mid)) → LeavesOnly g old new (StoresAt sectors root tiles s)
-  one_page_more p sectors root now tiles s same none first second =
-      let run : LeavesOnly g mid new (KeepsBut p root (g.may mid)) = subst (λ (r : RootValue). LeavesOnly g mid new (KeepsBut p r (g.may mid))) same second in
-      in_turn g old mid new (StoresAt sectors root tiles s) first
-      (weaker g mid new (KeepsBut p root (g.may mid)) (StoresAt sectors root tiles s) (stores_kept_but p sectors root tiles s (g.may mid) first.now none) run)
 
 -- page i of the pages of a plane's bytes
 pub page_at : (count : ℕ) (bytes : List ℕ) (i : ℕ) (d : List ℕ) → i < count → get_or (pages_of_bytes count bytes) i d ≡ page_of_bytes bytes i
@@ -41,8 +26,3 @@ all_written image pages bytes each =
     same_lists (map image pages) (pages_of_bytes (length pages) bytes) (length-map pages image ∙ sym (length-pages_of_bytes (length pages) bytes))
     (λ k d lt. let within : k < length pages = omega (arith, lt, length-map pages image) in
     get_or-map image pages k d within ∙ each k within ∙ sym (page_at (length pages) bytes k d within))
-
--- the count of writes, where the first begins a commit
-pub one_write_more : (was now : Bool) (start mid end done first : ℕ) → end ≤ mid + (if was then 1 else 2) → mid + (if was then 0 else 1) ≤ start + done + first → now ≡ true → end + (if now then 0 else 1) ≤ start + (done + 1) + first
-one_write_more true now start mid end done first one before begun = subst (λ (b : Bool). end + (if b then 0 else 1) ≤ start + (done + 1) + first) (sym begun) (omega (arith, one, before))
-one_write_more false now start mid end done first one before begun = subst (λ (b : Bool). end + (if b then 0 else 1) ≤ start + (done + 1) + first) (sym begun) (omega (arith, one, before))

@@ -1,24 +1,8 @@
 -- Levels and labels that are staged whole (this product's own profile).
-use Rattle.std.specs.Prelude.{ℕ, ◌≤◌, List, All, map, Some, if◌then◌else◌}
+use Rattle.std.specs.Prelude.{ℕ, List, map, Some, if◌then◌else◌}
 use Rattle.lattice.specs.Corners.{Corner, same_corner}
 use Rattle.page_codec.specs.Sizes.{pages_of}
-use Rattle.charts.specs.declared.locations.KeptLocations.{KeptLocations}
-use Rattle.charts.specs.Charts.{ChartValue, IsFresh, AreWholeKept}
-use Rattle.charts.specs.Locations.{PlaneLocation, IsWholePlane, pages_of_plane, times}
-use Rattle.charts.specs.TileLocations.{pages_of_kept}
 use Rattle.cow_tree.specs.Stored.{KeptPlanes, StoredTile, pages_of_bytes}
-
--- a whole plane on distinct pages that no committed tile reaches
-pub record IsFreshPlane (chart : ChartValue) (p : PlaneLocation) : Type 0 where
-  pub whole : IsWholePlane chart.format p
-  pub fresh : All (IsFresh chart) (pages_of_plane p)
-  pub once : (q : ℕ) → times q (pages_of_plane p) ≤ 1
-
--- the same of levels and labels
-pub record AreFreshKept (chart : ChartValue) (k : KeptLocations) : Type 0 where
-  pub whole : AreWholeKept chart.format k
-  pub fresh : All (IsFresh chart) (pages_of_kept (Some k))
-  pub once : (q : ℕ) → times q (pages_of_kept (Some k)) ≤ 1
 
 -- these bytes of levels and of labels as pages of planes of this side
 abbrev pub planes_of_bytes : ℕ → (levels labels : List ℕ) → KeptPlanes

@@ -1,37 +1,78 @@
--- What lists the pages of planes, written to pages of its own (this product's own profile).
-use Rattle.std.specs.Prelude.{◌≡◌, ℕ, ◌≤◌, ◌<◌, All, Some, IfSome, length}
+-- What lists the pages of planes, page by page (this product's own profile).
+use Rattle.std.specs.Prelude.{◌≡◌, ℕ, zero, suc, Bool, List, [], ◌∷◌, ◌++◌, All, Option, Some, None, Result, OnOk, length, map, filter, slice_index}
+use Rattle.std.specs.List.{flat_map}
 use Rattle.disk.specs.Disk.{Image}
+use Rattle.disk.specs.declared.disk.Disk.{Ghosts}
+use Rattle.lattice.specs.declared.refusal.Refusal.{Refusal}
 use Rattle.page_codec.specs.Formats.{Format}
-use Rattle.page_codec.specs.Records.{record_bytes}
+use Rattle.page_codec.specs.Records.{part_of, record_bytes}
+use Rattle.roots.specs.Roots.{disk_of}
+use Rattle.roots.specs.declared.roots.Roots.{Roots}
 use Rattle.charts.specs.declared.locations.KeptLocations.{KeptLocations}
-use Rattle.charts.specs.Charts.{ChartValue, IsFresh, AreWholeKept}
-use Rattle.charts.specs.Locations.{PlaneLocation, IsWholePlane, times}
+use Rattle.charts.specs.declared.plane.Plane.{Plane}
+use Rattle.charts.specs.Charts.{ChartValue, is_unreached}
+use Rattle.charts.specs.Locations.{PlaneLocation}
+use Rattle.charts.specs.Planes.{plane_of}
 use Rattle.charts.specs.TileLocations.{TileLocation}
-use Rattle.charts.specs.Upgraded.{listing_of, listing_of_kept}
-use Rattle.cow_tree.specs.Layout.{IsIndexed, listed_by}
+use Rattle.cow_tree.specs.Layout.{listed_by}
+use Rattle.cow_tree.specs.OverRoots.{WritesPages}
+use Rattle.cow_tree.specs.declared.listings.Listings.{Listings}
+use Rattle.cow_tree.specs.declared.listings.Listings.TheVariants as listings
 
--- a whole plane whose record and index pages are distinct pages that no committed tile reaches
-pub record IsFreshListing (format : Format) (chart : ChartValue) (p : PlaneLocation) : Type 0 where
-  pub whole : IsWholePlane format p
-  pub fresh : All (IsFresh chart) (listing_of p)
-  pub once : (q : ℕ) → times q (listing_of p) ≤ 1
+-- a page and its bytes
+pub record ListingPage : Type 0 where
+  pub page : ℕ
+  pub bytes : List ℕ
 
--- the same of levels and labels
-pub record AreFreshListings (format : Format) (chart : ChartValue) (k : KeptLocations) : Type 0 where
-  pub whole : AreWholeKept format k
-  pub fresh : All (IsFresh chart) (listing_of_kept (Some k))
-  pub once : (q : ℕ) → times q (listing_of_kept (Some k)) ≤ 1
+-- the index pages, from the one of this number on, of a plane that has these pages
+abbrev pub index_listing : ℕ → (index_pages pages : List ℕ) → List ListingPage
+index_listing t [] pages = []
+index_listing t (q ∷ rest) pages = record { page = q; bytes = record_bytes (part_of t pages) } ∷ index_listing (suc t) rest pages
 
--- on this image the record and the index pages of the plane list its pages
-pub record IsListed (format : Format) (image : Image) (p : PlaneLocation) : Type 0 where
-  pub listed : image p.record_page ≡ record_bytes (listed_by format.version p)
-  pub indexed : (t : ℕ) → t < length p.index_pages → IsIndexed image p t
+-- what lists the pages of a plane, of kept planes, of a tile, of tiles: of each plane the record, and then the index pages
+abbrev pub plane_listing : Format → PlaneLocation → List ListingPage
+plane_listing format p = record { page = p.record_page; bytes = record_bytes (listed_by format.version p) } ∷ index_listing 0 p.index_pages p.pages
 
-pub record KeptAreListed (format : Format) (image : Image) (k : KeptLocations) : Type 0 where
-  pub levels : IsListed format image k.levels
-  pub labels : IsListed format image k.labels
+abbrev pub kept_listing : Format → Option KeptLocations → List ListingPage
+kept_listing format None = []
+kept_listing format (Some k) = plane_listing format k.levels ++ plane_listing format k.labels
 
--- so do those of all planes of a tile
-pub record AreListed (format : Format) (image : Image) (t : TileLocation) : Type 0 where
-  pub heights : IsListed format image t.heights
-  pub kept : IfSome t.kept (KeptAreListed format image)
+abbrev pub tile_listing : Format → TileLocation → List ListingPage
+tile_listing format t = plane_listing format t.heights ++ kept_listing format t.kept
+
+abbrev pub tiles_listing : Format → List TileLocation → List ListingPage
+tiles_listing format tiles = flat_map (tile_listing format) tiles
+
+-- the same of one plane of the tile, if it has it
+abbrev pub listing_if : Format → Option PlaneLocation → List ListingPage
+listing_if format None = []
+listing_if format (Some p) = plane_listing format p
+
+abbrev pub named_listing : Format → Plane → TileLocation → List ListingPage
+named_listing format plane t = listing_if format (plane_of plane t)
+
+-- the bytes of one of a plane's, by its number
+abbrev pub listing_bytes : Format → PlaneLocation → ℕ → List ℕ
+listing_bytes format p zero = record_bytes (listed_by format.version p)
+listing_bytes format p (suc t) = record_bytes (part_of t p.pages)
+
+abbrev pub numbers_of : List ListingPage → List ℕ
+numbers_of listing = map (λ l. l.page) listing
+
+-- on this image the page has its bytes
+abbrev pub IsOn : Image → ListingPage → Type 0
+IsOn image l = image l.page ≡ l.bytes
+
+-- those that these tiles don't reach
+abbrev pub due_among : List TileLocation → List ListingPage → List ListingPage
+due_among tiles listing = filter (λ l. is_unreached tiles l.page) listing
+
+-- of which tiles the pages are written already: the committed ones, or none
+abbrev pub written_before : Listings → ChartValue → List TileLocation
+written_before listings.Due chart = chart.committed
+written_before listings.All chart = []
+
+-- these pages were written, each with its bytes, and no others; or the disk refused it
+pub record WritesListing {D T : Type 0} (g : Ghosts D) (listing : List ListingPage) (old new : Roots D g) (result : Result T Refusal) : Type 0 where
+  pub pages : WritesPages g (numbers_of listing) old new result
+  pub written : g.honest (disk_of new) → OnOk result (All (IsOn (g.seen (disk_of new))) listing)

@@ -1,11 +1,11 @@
 -- What a tree says of its roots.
-use Rattle.std.specs.Prelude.{◌≡◌, ◌⊎◌, ℕ, ◌+◌, ◌≤◌, true, false, List, length, Result, OnOk, OnErr, IfErr, IsErrOf, if◌then◌else◌}
+use Rattle.std.specs.Prelude.{◌≡◌, ◌⊎◌, ℕ, ◌+◌, ◌≤◌, true, false, List, All, Contains, length, Result, OnOk, OnErr, IfErr, IsErrOf, if◌then◌else◌}
 use Rattle.disk.specs.declared.disk.Disk.{Ghosts}
 use Rattle.roots.specs.Opening.{IsRefusalOfOpening}
 use Rattle.roots.specs.Roots.{IsReady, disk_of, root_of, has_begun, has_failed}
 use Rattle.roots.specs.declared.roots.Roots.{Roots}
 use Rattle.charts.specs.Locations.{times}
-use Rattle.charts.specs.TileLocations.{TileLocation}
+use Rattle.charts.specs.TileLocations.{TileLocation, reached}
 use Rattle.cow_tree.specs.Layout.{StoresAt}
 use Rattle.cow_tree.specs.Stored.{Stored}
 use Rattle.disk.specs.Disk.{Image, HasRisen}
@@ -32,8 +32,8 @@ pub record OnlyReads {D T : Type 0} (g : Ghosts D) (old new : Roots D g) (result
   pub ready : g.honest (disk_of new) → IsReady g old → has_failed new ≡ false → IsReady g new
 
 -- A call that wrote these pages and no others, or was refused by the disk. A stop at any moment leaves what each image
--- stood for with these tiles.
-pub record WritesPages {D T : Type 0} (g : Ghosts D) (tiles : List TileLocation) (pages : List ℕ) (old new : Roots D g) (result : Result T Refusal) : Type 0 where
+-- stood for with tiles that reach none of them.
+pub record WritesPages {D T : Type 0} (g : Ghosts D) (pages : List ℕ) (old new : Roots D g) (result : Result T Refusal) : Type 0 where
   pub size : g.size (disk_of new) ≡ g.size (disk_of old)
   pub cause : HasCause (g.failures (disk_of old)) (g.failures (disk_of new)) result
   pub refused : IfErr result (λ why. why ≡ Device)
@@ -45,7 +45,7 @@ pub record WritesPages {D T : Type 0} (g : Ghosts D) (tiles : List TileLocation)
   pub failed : OnErr result (has_failed new ≡ true)
   pub ready : g.honest (disk_of new) → IsReady g old → OnOk result (IsReady g new)
   pub others : g.honest (disk_of new) → OnOk result ((p : ℕ) → 4 ≤ p → times p pages ≡ 0 → g.seen (disk_of old) p ≡ g.seen (disk_of new) p)
-  pub any_moment : g.honest (disk_of new) → IsReady g old → (s : Stored) → EachStores g old tiles s
+  pub any_moment : g.honest (disk_of new) → IsReady g old → (tiles : List TileLocation) (s : Stored) → All (λ p. ¬ Contains (reached tiles) p) pages → EachStores g old tiles s
       → LeavesOnly g (disk_of old) (disk_of new) (StoresAt (g.size (disk_of old)) (root_of old) tiles s)
 
 -- refused for the disk, for memory, or as Damaged for this reason

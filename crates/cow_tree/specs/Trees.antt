@@ -60,8 +60,7 @@ module _ {D : Type 0} {g : Ghosts D} where
   abbrev pub IsUnstaged : Tree D g → Type 0
   IsUnstaged tree = IsClean tree.chart
 
-  -- how many records and index pages the next commit writes: of each tile whose heights were staged the record, and the index
-  -- pages that no committed tile reaches
+  -- how many records and index pages the next commit writes: those of staged tiles that no committed tile reaches
   abbrev pub records_due : Tree D g → ℕ
   records_due tree = length (pages_due tree.chart)
 

@@ -9,7 +9,6 @@
 
 mod cache;
 mod entries;
-mod keeping;
 mod laws;
 mod listings;
 mod longer;

@@ -1,141 +1,176 @@
-//! What lists the pages of planes, written to pages that no committed tile reaches.
-ghost use Rattle.std.specs.Prelude.{◌≡◌, ◌<◌, [], ◌∷◌, ℕ, false, All, Contains, Some, OnOk, length};
-ghost use Rattle.layout.specs.Formats.{upgraded};
-ghost use Rattle.charts.specs.Charts.{IsFresh, IsLocated};
+//! What lists the pages of planes: records, and index pages.
+ghost use Rattle.std.specs.Prelude.{◌≡◌, ◌≤◌, ◌<◌, ◌*◌, false, Contains, length, slice_index};
+ghost use Rattle.page_codec.specs.Records.{part_of, record_bytes};
+ghost use Rattle.charts.specs.Charts.{IsLocated, is_unreached, page_if};
+ghost use Rattle.charts.specs.Locations.{IsWholePlane, listing_of};
+ghost use Rattle.charts.specs.Planes.{HasPlaneAt};
 ghost use Rattle.charts.specs.TileLocations.{TileLocation};
-ghost use Rattle.charts.specs.Upgraded.{IsUpgraded, listing_of, listing_of_kept, listing_of_tile, listings};
-ghost use Rattle.cow_tree.specs.Layout.{IsIndexed};
-ghost use Rattle.cow_tree.specs.Listings.{AreFreshListings, AreListed, IsFreshListing, IsListed, KeptAreListed};
-ghost use Rattle.cow_tree.specs.OverRoots.{WritesPages};
+ghost use Rattle.cow_tree.specs.Layout.{listed_by};
+ghost use Rattle.cow_tree.specs.Listings.{WritesListing, due_among, listing_bytes, named_listing, tile_listing, tiles_listing, written_before};
 ghost use Rattle.roots.specs.Roots.{disk_of, has_failed};
 
-use crate::writing::{index_page_of, record_of};
-use charts::{Chart, KeptLocations, PagedPlane};
+use arrayvec::ArrayVec;
+use charts::{Chart, PagedPlane, Plane};
 use disk::Disk;
 use lattice::{Corner, Refusal};
-use page_codec::Format;
+use page_codec::{Format, IndexPage, RECORD_PAGES, Record, Version};
 use roots::Roots;
 
-// Writes a page that no committed tile reaches.
-fn write_fresh<D: Disk>(
-    roots: &mut Roots<D>,
-    before: &Chart,
-    page: u32,
-    from: &[u8; 4096],
-) -> Result<(), Refusal>
-    requires not_failed { has_failed roots.old ≡ false }
-    requires sectors { before.now.sectors ≡ D.size (disk_of roots.old) }
-    requires fresh { IsFresh before.now page }
-    ensures writes { WritesPages D.Disk before.now.committed (page ∷ []) roots.old roots.new result }
-    ensures written { D.honest (disk_of roots.new) → OnOk result (D.seen (disk_of roots.new) page ≡ from.now) }
-{
-    roots.write(page, from)
+/// Which of the pages that list planes are written.
+#[derive(Clone, Copy)]
+pub(crate) enum Listings {
+    /// Those that no committed tile reaches.
+    Due,
+    /// All, as where the chart is of another version than what is committed.
+    All,
 }
 
-// Writes all index pages of a plane.
-fn write_index_pages<D: Disk>(
-    roots: &mut Roots<D>,
-    before: &Chart,
-    format: Format,
+// These numbers, as a record or an index page lists them.
+fn listing(numbers: &[u32]) -> ArrayVec<u32, RECORD_PAGES>
+    requires { length numbers.now ≤ RECORD_PAGES }
+    ensures { result.items ≡ numbers.now }
+{
+    let mut pages = ArrayVec::new();
+    if pages.try_extend_from_slice(numbers).is_err() {
+        unreachable!();
+    }
+    pages
+}
+
+// What the record of a plane lists.
+fn listed(format: Format, plane: &PagedPlane) -> &[u32]
+    requires { IsWholePlane format plane.now }
+    ensures value { result.now ≡ listed_by format.version plane.now }
+    ensures room { length result.now ≤ RECORD_PAGES }
+{
+    let count = format.listed() as usize;
+    let numbers = match format.version() {
+        Version::One => plane.pages(),
+        Version::Two => plane.index_pages(),
+    };
+    prove!(numbers.len() == count);
+    numbers
+}
+
+// The record of a plane.
+fn record_of(format: Format, plane: &PagedPlane) -> [u8; 4096]
+    requires { IsWholePlane format plane.now }
+    ensures { result ≡ record_bytes (listed_by format.version plane.now) }
+{
+    let pages = listing(listed(format, plane));
+    Record { pages }.write()
+}
+
+// The pages of a plane that its index page `t` lists.
+fn part(plane: &PagedPlane, t: usize) -> &[u32]
+    requires { 1024 * t < length plane.now.pages }
+    ensures value { result.now ≡ part_of t plane.now.pages }
+    ensures room { length result.now ≤ RECORD_PAGES }
+{
+    let (_, behind) = plane.pages().split_at(RECORD_PAGES * t);
+    let (front, _) = behind.split_at(behind.len().min(RECORD_PAGES));
+    front
+}
+
+// Index page `t` of a plane.
+fn index_page_of(plane: &PagedPlane, t: usize) -> [u8; 4096]
+    requires { 1024 * t < length plane.now.pages }
+    ensures { result ≡ record_bytes (part_of t plane.now.pages) }
+{
+    let pages = listing(part(plane, t));
+    IndexPage { pages }.write()
+}
+
+// A page of those that list a plane's pages, by its number: the record, and then the index pages.
+fn listing_page(format: Format, plane: &PagedPlane, i: usize) -> [u8; 4096]
+    requires whole { IsWholePlane format plane.now }
+    requires index { i < length (listing_of plane.now) }
+    ensures { result ≡ listing_bytes format plane.now i }
+{
+    if i == 0 {
+        record_of(format, plane)
+    } else {
+        index_page_of(plane, i - 1)
+    }
+}
+
+// The number of such a page, where it is written; the plane is this one of the corner's staged tile.
+fn page_due(
+    chart: &Chart,
+    which: Listings,
+    corner: Corner,
+    name: Plane,
     plane: &PagedPlane,
+    i: usize,
+) -> Option<u32>
+    requires here { HasPlaneAt chart.now.staged corner name plane.now }
+    requires index { i < length (listing_of plane.now) }
+    ensures { result ≡ page_if (is_unreached (written_before which chart.now) (slice_index (listing_of plane.now) i)) (slice_index (listing_of plane.now) i) }
+{
+    match which {
+        Listings::Due => chart.page_due(corner, name, i),
+        Listings::All => plane.listing_page(i),
+    }
+}
+
+// Writes what lists the pages of one plane of the corner's staged tile, if it has it.
+fn write_listing<D: Disk>(
+    roots: &mut Roots<D>,
+    chart: &Chart,
+    which: Listings,
+    corner: Corner,
+    name: Plane,
 ) -> Result<(), Refusal>
     requires not_failed { has_failed roots.old ≡ false }
-    requires sectors { before.now.sectors ≡ D.size (disk_of roots.old) }
-    requires plane { IsFreshListing format before.now plane.now }
-    ensures writes { WritesPages D.Disk before.now.committed plane.now.index_pages roots.old roots.new result }
-    ensures indexed { D.honest (disk_of roots.new)
-        → OnOk result ((t : ℕ) → t < length plane.now.index_pages → IsIndexed (D.seen (disk_of roots.new)) plane.now t) }
+    requires sectors { chart.now.sectors ≡ D.size (disk_of roots.old) }
+    ensures { (t : TileLocation) → Contains chart.now.staged t → t.corner ≡ corner
+        → WritesListing D.Disk (due_among (written_before which chart.now) (named_listing chart.now.format name t)) roots.old roots.new result }
 {
-    for (t, page) in plane.index_pages().iter().enumerate() {
-        write_fresh(roots, before, *page, &index_page_of(plane, t))?;
+    chart.rules();
+    let Some(plane) = chart.plane(corner, name) else {
+        return Ok(());
+    };
+    for i in 0..plane.listing_len() {
+        if let Some(page) = page_due(chart, which, corner, name, plane, i) {
+            roots.write(page, &listing_page(chart.format(), plane, i))?;
+        }
     }
     Ok(())
 }
 
-/// Writes what lists the pages of a plane: its record and all its index pages.
-pub(crate) fn write_listing<D: Disk>(
+// Writes what lists the pages of the corner's staged tile.
+fn write_tile<D: Disk>(
     roots: &mut Roots<D>,
-    before: &Chart,
-    format: Format,
-    plane: &PagedPlane,
-) -> Result<(), Refusal>
-    requires not_failed { has_failed roots.old ≡ false }
-    requires sectors { before.now.sectors ≡ D.size (disk_of roots.old) }
-    requires plane { IsFreshListing format before.now plane.now }
-    ensures writes { WritesPages D.Disk before.now.committed (listing_of plane.now) roots.old roots.new result }
-    ensures listed { D.honest (disk_of roots.new) → OnOk result (IsListed format (D.seen (disk_of roots.new)) plane.now) }
-{
-    write_fresh(
-        roots,
-        before,
-        plane.record_page(),
-        &record_of(format, plane),
-    )?;
-    write_index_pages(roots, before, format, plane)
-}
-
-// Writes what lists the pages of levels and labels.
-fn write_kept_listings<D: Disk>(
-    roots: &mut Roots<D>,
-    before: &Chart,
-    format: Format,
-    kept: &KeptLocations,
-) -> Result<(), Refusal>
-    requires not_failed { has_failed roots.old ≡ false }
-    requires sectors { before.now.sectors ≡ D.size (disk_of roots.old) }
-    requires planes { AreFreshListings format before.now kept.now }
-    ensures writes { WritesPages D.Disk before.now.committed (listing_of_kept (Some kept.now)) roots.old roots.new result }
-    ensures listed { D.honest (disk_of roots.new) → OnOk result (KeptAreListed format (D.seen (disk_of roots.new)) kept.now) }
-{
-    write_listing(roots, before, format, &kept.levels)?;
-    write_listing(roots, before, format, &kept.labels)
-}
-
-// Writes what lists the pages of the corner's tile.
-fn write_tile_listings<D: Disk>(
-    roots: &mut Roots<D>,
-    before: &Chart,
     chart: &Chart,
+    which: Listings,
     corner: Corner,
 ) -> Result<(), Refusal>
     requires not_failed { has_failed roots.old ≡ false }
-    requires sectors { before.now.sectors ≡ D.size (disk_of roots.old) }
-    requires upgraded { IsUpgraded before.now chart.now }
+    requires sectors { chart.now.sectors ≡ D.size (disk_of roots.old) }
     requires present { IsLocated corner chart.now.staged }
-    ensures writes { (t : TileLocation) → Contains chart.now.staged t → t.corner ≡ corner
-        → WritesPages D.Disk before.now.committed (listing_of_tile t) roots.old roots.new result }
-    ensures listed { D.honest (disk_of roots.new) → (t : TileLocation) → Contains chart.now.staged t → t.corner ≡ corner
-        → OnOk result (AreListed chart.now.format (D.seen (disk_of roots.new)) t) }
+    ensures { (t : TileLocation) → Contains chart.now.staged t → t.corner ≡ corner
+        → WritesListing D.Disk (due_among (written_before which chart.now) (tile_listing chart.now.format t)) roots.old roots.new result }
 {
     chart.rules();
-    let format = chart.format();
-    match chart.heights(corner) {
-        Some(heights) => write_listing(roots, before, format, heights)?,
-        None => unreachable!(),
-    }
-    match chart.kept(corner) {
-        Some(kept) => write_kept_listings(roots, before, format, kept),
-        None => Ok(()),
-    }
+    write_listing(roots, chart, which, corner, Plane::Heights)?;
+    write_listing(roots, chart, which, corner, Plane::Levels)?;
+    write_listing(roots, chart, which, corner, Plane::Labels)
 }
 
-/// Writes what lists the pages of all tiles of a chart, of which no committed tile reaches any page.
+/// Writes what lists the pages of the staged tiles: records, and index pages.
 pub(crate) fn write_listings<D: Disk>(
     roots: &mut Roots<D>,
-    before: &Chart,
     chart: &Chart,
+    which: Listings,
 ) -> Result<(), Refusal>
     requires not_failed { has_failed roots.old ≡ false }
-    requires sectors { before.now.sectors ≡ D.size (disk_of roots.old) }
-    requires upgraded { IsUpgraded before.now chart.now }
-    ensures writes { WritesPages D.Disk before.now.committed (listings chart.now.committed) roots.old roots.new result }
-    ensures listed { D.honest (disk_of roots.new)
-        → OnOk result (All (AreListed chart.now.format (D.seen (disk_of roots.new))) chart.now.committed) }
+    requires sectors { chart.now.sectors ≡ D.size (disk_of roots.old) }
+    ensures { WritesListing D.Disk (due_among (written_before which chart.now) (tiles_listing chart.now.format chart.now.staged)) roots.old roots.new result }
 {
     chart.rules();
     let corners = chart.corners();
     for corner in corners.as_slice() {
-        write_tile_listings(roots, before, chart, *corner)?;
+        write_tile(roots, chart, which, *corner)?;
     }
     Ok(())
 }

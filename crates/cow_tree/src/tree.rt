@@ -8,7 +8,6 @@ ghost use Rattle.lattice.specs.Mosaic.{AreSinks};
 ghost use Rattle.std.specs.List.{AllAdjacentBelow};
 ghost use Rattle.lattice.specs.declared.refusal.Refusal.TheVariants.{Device, NoMemory, Failed};
 ghost use Rattle.page_codec.specs.Roots.{format_of};
-ghost use Rattle.layout.specs.Sizes.{plane_pages_of};
 ghost use Rattle.page_codec.specs.Formats.{IsKnown};
 ghost use Rattle.page_codec.specs.Sizes.{pages_of, index_pages_of, sectors_asked};
 ghost use Rattle.charts.specs.declared.plane.Plane.TheVariants.{Heights, Levels, Labels};
@@ -26,11 +25,10 @@ ghost use Rattle.cow_tree.specs.Stored.{Stored, made_stale, no_tiles, next_commi
 
 use crate::cache::PageCache;
 use crate::entries::staged_entries;
-use crate::keeping::write_kept;
-use crate::listings::write_listings;
+use crate::listings::{Listings, write_listings};
 use crate::opening::read_chart;
 use crate::sinks::Sinks;
-use crate::writing::{write_plane, write_records};
+use crate::writing::{write_kept, write_plane};
 use arrayvec::ArrayVec;
 use charts::{Chart, Plane};
 use disk::Disk;
@@ -486,8 +484,8 @@ impl<D: Disk> Tree<D> {
         }
     }
 
-    /// Stages these levels and labels of the corner's tile, two bytes a point, where nothing is staged. They are written whole
-    /// at once, and the next commit makes them current. Refused with NoMemory, and then nothing was done, or with Device.
+    /// Stages these levels and labels of the corner's tile, two bytes a point, where nothing is staged. The next commit makes
+    /// them current. Refused with NoMemory, and then nothing was done, or with Device.
     pub fn stage_kept(&mut self, c: Corner, levels: &[u8], labels: &[u8]) -> Result<(), Refusal>
         requires not_failed { has_failed self.old ≡ false }
         requires present { Contains (corners_of self.old) c }
@@ -498,9 +496,9 @@ impl<D: Disk> Tree<D> {
         ensures cause { IsErrOf result Device → HasRisen (D.failures (disk_of self.old)) (D.failures (disk_of self.new)) }
         ensures later { D.failures (disk_of self.old) ≤ D.failures (disk_of self.new) }
         ensures refused { IfErr result (λ refusal. (refusal ≡ Device) ⊎ (refusal ≡ NoMemory)) }
-        ensures writes { D.writes (disk_of self.new) ≤ D.writes (disk_of self.old) + 2 * plane_pages_of (format_of (root_of self.old)) + (if has_begun self.old then 0 else 1) }
+        ensures writes { D.writes (disk_of self.new) ≤ D.writes (disk_of self.old) + 2 * pages_of (root_of self.old).side + (if has_begun self.old then 0 else 1) }
         ensures begun { OnOk result (D.writes (disk_of self.new) + (if has_begun self.new then 0 else 1)
-            ≤ D.writes (disk_of self.old) + 2 * plane_pages_of (format_of (root_of self.old)) + (if has_begun self.old then 0 else 1)) }
+            ≤ D.writes (disk_of self.old) + 2 * pages_of (root_of self.old).side + (if has_begun self.old then 0 else 1)) }
         ensures honest { D.honest (disk_of self.new) → D.honest (disk_of self.old) }
         ensures root { root_of self.new ≡ root_of self.old }
         ensures corners { corners_of self.new ≡ corners_of self.old }
@@ -510,7 +508,7 @@ impl<D: Disk> Tree<D> {
         ensures unchanged { IsErrOf result NoMemory → disk_of self.new ≡ disk_of self.old }
         ensures same { IsErrOf result NoMemory → chart_of self.new ≡ chart_of self.old }
         ensures device { IsErrOf result Device → has_failed self.new ≡ true }
-        ensures due { records_due self.new ≡ records_due self.old }
+        ensures due { records_due self.new ≤ records_due self.old + 2 * (1 + index_pages_of (format_of (root_of self.old))) }
 
         // The levels and labels are staged, and nothing else.
         ensures staged { D.honest (disk_of self.new) → (s : Stored) → IsAt D.Disk self.old s
@@ -526,7 +524,7 @@ impl<D: Disk> Tree<D> {
         self.chart.keep(c)?;
         self.cache.clear();
         match self.chart.kept(c) {
-            Some(kept) => write_kept(&mut self.roots, &self.chart, kept, levels, labels),
+            Some(kept) => write_kept(&mut self.roots, kept, levels, labels),
             None => unreachable!(),
         }
     }
@@ -577,7 +575,7 @@ impl<D: Disk> Tree<D> {
             .root
             .next(count, entries)
             .with_sinks(self.sinks.points());
-        write_records(&mut self.roots, &self.chart)?;
+        write_listings(&mut self.roots, &self.chart, Listings::Due)?;
         self.roots.commit(&root)?;
         self.root = root;
         self.chart.settle();
@@ -633,7 +631,7 @@ impl<D: Disk> Tree<D> {
         self.cache.clear();
         let entries = staged_entries(&chart);
         let root = self.root.upgraded(entries);
-        write_listings(&mut self.roots, &self.chart, &chart)?;
+        write_listings(&mut self.roots, &chart, Listings::All)?;
         self.roots.commit(&root)?;
         self.root = root;
         self.chart = chart;
@@ -711,11 +709,12 @@ impl<D: Disk> Tree<D> {
         ensures begun { has_begun self.new ≡ has_begun self.old }
         ensures corners { corners_of self.new ≡ corners_of self.old }
         ensures sinks { sinks_of self.new ≡ sinks_of self.old }
-        ensures due { records_due self.new ≡ records_due self.old }
+        ensures due { records_due self.new ≤ records_due self.old }
         ensures still_staged { (other : Corner) → HasStaged self.old other → HasStaged self.new other }
         ensures staged { staged_in D.Disk self.new ≡ made_stale c (staged_in D.Disk self.old) }
         ensures at { (s : Stored) → IsAt D.Disk self.old s → IsAt D.Disk self.new s }
     {
+        self.chart.rules();
         self.chart.drop_kept(c);
     }
 }

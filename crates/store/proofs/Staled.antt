@@ -36,7 +36,7 @@ module _ {D : Type 0} (g : Ghosts D) where
     begun = refl;
     corners = refl;
     sinks = refl;
-    due = refl;
+    due = omega arith;
     staged = none_staled (staged_in g tree);
     at = λ s at. at;
   }
@@ -50,7 +50,7 @@ module _ {D : Type 0} (g : Ghosts D) where
     begun = second.begun ∙ first.begun;
     corners = second.corners ∙ first.corners;
     sinks = second.sinks ∙ first.sinks;
-    due = second.due ∙ first.due;
+    due = omega (arith, second.due, first.due);
     staged = second.staged ∙ ap (staled h) first.staged ∙ staled_twice f h (staged_in g a);
     at = λ s at. second.at s (first.at s at);
   }

@@ -1,5 +1,5 @@
 -- Kept planes that are given up in memory, before a commit (this product's own profile).
-use Rattle.std.specs.Prelude.{◌≡◌, ℕ, Bool, ◌&&◌, true, false, if◌then◌else◌, List, map, Contains, Option, None}
+use Rattle.std.specs.Prelude.{◌≡◌, ◌≤◌, ℕ, Bool, ◌&&◌, true, false, if◌then◌else◌, List, map, Contains, Option, None}
 use Rattle.std.specs.List.{list_any}
 use Rattle.disk.specs.declared.disk.Disk.{Ghosts}
 use Rattle.lattice.specs.Corners.{Corner}
@@ -31,7 +31,7 @@ pub record Stales {D : Type 0} (g : Ghosts D) (test : Corner → Bool) (old new 
   pub begun : has_begun new ≡ has_begun old
   pub corners : corners_of new ≡ corners_of old
   pub sinks : sinks_of new ≡ sinks_of old
-  pub due : records_due new ≡ records_due old
+  pub due : records_due new ≤ records_due old
   pub staged : staged_in g new ≡ staled test (staged_in g old)
   pub at : (s : Stored) → IsAt g old s → IsAt g new s
 

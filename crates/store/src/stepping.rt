@@ -1,7 +1,7 @@
 //! Steps: the planes of one stale tile more are kept.
 ghost use Rattle.std.specs.Prelude.{◌≡◌, ◌≢◌, ◌≤◌, ◌<◌, ◌+◌, ◌*◌, ◌^◌, ◌⊎◌, false, true, [], Some, Err, All, Contains, IsTrue, IfOk, IfErr, OnOk, OnErr, MatchOption, length, vec_len, map, if◌then◌else◌};
 ghost use Rattle.lattice.specs.declared.refusal.Refusal.TheVariants.{Device, NoMemory, Failed};
-ghost use Rattle.layout.specs.Sizes.{plane_pages_of};
+ghost use Rattle.layout.specs.Sizes.{index_pages_of, pages_of, plane_pages_of};
 ghost use Rattle.page_codec.specs.Formats.{number_of};
 ghost use Rattle.page_codec.specs.Roots.{format_of};
 ghost use Rattle.catalogue.specs.Endings.{ends_any};
@@ -122,9 +122,9 @@ fn stage_planes<D: Disk>(
     ensures staged { D.honest (disk_of tree.new) → (s : Stored) → IsTreeAt D.Disk tree.old s
         → OnOk result (staged_in D.Disk tree.new ≡ with_kept corner (planes_of_bytes (root_of tree.old).side levels.now labels.now) s.tiles) }
     ensures sinks { D.honest (disk_of tree.new) → (s : Stored) → IsTreeAt D.Disk tree.old s → sinks_of tree.new ≡ s.sinks }
-    ensures due { records_due tree.new ≡ 0 }
-    ensures writes { D.writes (disk_of tree.new) ≤ D.writes (disk_of tree.old) + 2 * plane_pages_of (format_of (root_of tree.old)) + 1 }
-    ensures begun { OnOk result (D.writes (disk_of tree.new) + (if has_begun tree.new then 0 else 1) ≤ D.writes (disk_of tree.old) + 2 * plane_pages_of (format_of (root_of tree.old)) + 1) }
+    ensures due { records_due tree.new ≤ 2 * (1 + index_pages_of (format_of (root_of tree.old))) }
+    ensures writes { D.writes (disk_of tree.new) ≤ D.writes (disk_of tree.old) + 2 * pages_of (root_of tree.old).side + 1 }
+    ensures begun { OnOk result (D.writes (disk_of tree.new) + (if has_begun tree.new then 0 else 1) ≤ D.writes (disk_of tree.old) + 2 * pages_of (root_of tree.old).side + 1) }
 {
     are_bytes(levels);
     are_bytes(labels);

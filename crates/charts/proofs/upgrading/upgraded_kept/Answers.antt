@@ -1,4 +1,4 @@
-use Rattle.charts.specs.Upgraded.{listing_of}
+use Rattle.charts.specs.Locations.{listing_of}
 use Rattle.charts.proofs.FreeTimes.{taken-append}
 use Rattle.charts.proofs.upgrading.upgraded_kept.Goals as goal
 

@@ -1,4 +1,5 @@
-use Rattle.charts.specs.Upgraded.{listing_of, listing_of_kept}
+use Rattle.charts.specs.Locations.{listing_of}
+use Rattle.charts.specs.Upgraded.{listing_of_kept}
 use Rattle.charts.proofs.FreeTimes.{taken-append}
 use Rattle.charts.proofs.upgrading.upgraded_planes.Goals as goal
 

@@ -1,13 +1,6 @@
-use Rattle.std.proofs.Common.{All, take}
-use Rattle.std.specs.List.{flat_map}
-use Rattle.roots.specs.Roots.{disk_of}
-use Rattle.charts.specs.Upgraded.{listing_of_tile}
-use Rattle.cow_tree.specs.Listings.{AreListed}
-use Rattle.cow_tree.proofs.PageWrites.{HasWritten}
+use Rattle.std.proofs.Common.{Ok, take}
+use Rattle.cow_tree.specs.Listings.{WritesListing, due_among, tiles_listing, written_before}
 use Rattle.cow_tree.proofs.listings.write_listings.Given as goal
 
 abbrev pub invariant-loop-corner : goal.invariant-loop-corner
-invariant-loop-corner g l = record {
-  wrote : HasWritten g.D.Disk l.fn.before.committed (flat_map listing_of_tile (take l.corner-index l.fn.chart.staged)) l.fn.roots l.roots;
-  listed : g.D.Disk.honest (disk_of l.roots) → All (AreListed l.fn.chart.format (g.D.Disk.seen (disk_of l.roots))) (take l.corner-index l.fn.chart.staged);
-}
+invariant-loop-corner g l = WritesListing {T = Unit {0}} g.D.Disk (due_among (written_before l.fn.which l.fn.chart) (tiles_listing l.fn.chart.format (take l.corner-index l.fn.chart.staged))) l.fn.roots l.roots (Ok tt)

@@ -1,4 +1,4 @@
-use Rattle.std.proofs.Common.{◌≡◌, ◌⊎◌, inl, ℕ, true, All, List, map, sym, ap, ap₂, ◌∙◌, subst}
+use Rattle.std.proofs.Common.{◌≡◌, ◌⊎◌, inl, ℕ, List, length, map, refl, sym, ap, ap₂, ◌∙◌, subst}
 use Rattle.disk.specs.Disk.{Image}
 use Rattle.disk.specs.Stops.{LeavesOnly, weaker}
 use Rattle.lattice.specs.declared.point.Point.{Point}
@@ -8,34 +8,57 @@ use Rattle.page_codec.specs.Roots.{RootValue, format_of}
 use Rattle.roots.specs.Roots.{IsReady, ready_current}
 use Rattle.roots.specs.Slots.{KeepsAll, HasMoved, SamePages, IsCurrent}
 use Rattle.page_codec.specs.Entries.{EntryValue}
-use Rattle.charts.specs.Charts.{ChartValue, corners_of_locations, is_changed}
+use Rattle.charts.specs.Charts.{ChartValue, corners_of_locations}
 use Rattle.cow_tree.specs.Entries.{entry_of}
 use Rattle.cow_tree.specs.Layout.{stored_in, tile_in, StoresAt, Stands}
-use Rattle.cow_tree.specs.Staged.{AreStaged, IsRecorded}
+use Rattle.cow_tree.specs.Listings.{due_among, numbers_of, tiles_listing}
+use Rattle.cow_tree.specs.Staged.{AreStaged, pages_due}
 use Rattle.cow_tree.specs.Stored.{Stored, next_commit}
 use Rattle.cow_tree.specs.Trees.{IsAt}
-use Rattle.cow_tree.proofs.Commits.{next_root, lands, same_tiles, nothing_staged, committing}
+use Rattle.cow_tree.proofs.Commits.{next_root, few_in_all, few_in_part, lands, same_tiles, nothing_staged, committing}
 use Rattle.cow_tree.proofs.Dropping.{corners_of_entries, clean_is_committed}
 use Rattle.cow_tree.proofs.Due.{none_due}
+use Rattle.cow_tree.proofs.ListingPages.{due_are, due_unreached}
 use Rattle.cow_tree.proofs.Steps.{stands, stores_along}
 use Rattle.cow_tree.proofs.tree.Tree.commit.Goals as goal
-use Rattle.cow_tree.proofs.tree.Tree.commit.Goals.{After-commit}
+use Rattle.cow_tree.proofs.tree.Tree.commit.Goals.{After-write_listings, After-commit}
 
 pub with_sinks-root-requires : goal.with_sinks-root-requires
 with_sinks-root-requires g c =
     subst (λ (r : RootValue). AreSinks r.side c.points.result.now) (sym c.next.ensures)
     (subst (AreSinks c.args.self.now.root.side) (sym c.points.ensures.value) (subst (λ (n : ℕ). AreSinks n c.args.self.now.sinks.points) c.args.self.now.declared c.points.ensures.valid))
 
-pub returns-in_err-write_records-clause-any_moment : goal.returns-in_err-write_records-clause-any_moment
-returns-in_err-write_records-clause-any_moment g c honest s is =
+-- what a commit writes besides its root
+module _ (g : _) (c : After-write_listings g) where
+  abbrev old : ChartValue
+  old = c.args.self.now.chart
+
+  count : length (numbers_of (due_among old.committed (tiles_listing old.format old.staged))) ≡ length (pages_due old)
+  count = ap (λ (l : List ℕ). length l) (due_are old.committed old.format old.staged)
+
+pub returns-in_err-write_listings-clause-writes : goal.returns-in_err-write_listings-clause-writes
+returns-in_err-write_listings-clause-writes g c =
+    few_in_part _ _ _ _ c.write_listings.ensures.pages.few (count g (goal.at.returns-in_err-write_listings-clause-writes g c).After-write_listings)
+
+pub returns-in_err-commit-clause-writes : goal.returns-in_err-commit-clause-writes
+returns-in_err-commit-clause-writes g c =
+    few_in_all _ _ _ _ _ _ c.in_ok-write_listings.ensures.pages.writes c.commit.ensures.writes (count g (goal.at.returns-in_err-commit-clause-writes g c).After-write_listings)
+
+pub returns-clause-writes : goal.returns-clause-writes
+returns-clause-writes g c =
+    few_in_all _ _ _ _ _ _ c.in_ok-write_listings.ensures.pages.writes c.commit.ensures.writes (count g (goal.at.returns-clause-writes g c).After-write_listings)
+
+pub returns-in_err-write_listings-clause-any_moment : goal.returns-in_err-write_listings-clause-any_moment
+returns-in_err-write_listings-clause-any_moment g c honest s is =
     let d = g.D.Disk in
     let old = c.args.self.now in
     let size = d.size old.roots.disk in
     let target : Stored = next_commit s old.sinks.points (map (tile_in (d.seen old.roots.disk)) old.chart.staged) c.args.count in
-    weaker d old.roots.disk c.write_records.new.roots.disk (StoresAt size old.roots.root old.chart.committed s) (λ image. Stands size image s ⊎ Stands size image target)
-    (λ image stores. inl (stands size old.roots.root old.chart.committed s image stores)) (c.write_records.ensures.writes.any_moment honest is.ready s is.each)
+    weaker d old.roots.disk c.write_listings.new.roots.disk (StoresAt size old.roots.root old.chart.committed s) (λ image. Stands size image s ⊎ Stands size image target)
+    (λ image stores. inl (stands size old.roots.root old.chart.committed s image stores))
+    (c.write_listings.ensures.pages.any_moment honest is.ready old.chart.committed s (due_unreached old.chart.committed (tiles_listing old.chart.format old.chart.staged)) is.each)
 
--- the records are written
+-- what lists the planes is written
 module _ (g : _) (c : After-commit g) (honest : g.D.Disk.honest c.commit.new.self.disk) (s : Stored) (is : IsAt g.D.Disk c.args.self.now s) where
   abbrev size : ℕ
   size = g.D.Disk.size c.args.self.now.roots.disk
@@ -43,47 +66,48 @@ module _ (g : _) (c : After-commit g) (honest : g.D.Disk.honest c.commit.new.sel
   abbrev seen : Image
   seen = g.D.Disk.seen c.args.self.now.roots.disk
 
-  mid_honest : g.D.Disk.honest c.write_records.new.roots.disk
+  abbrev chart : ChartValue
+  chart = c.args.self.now.chart
+
+  mid_honest : g.D.Disk.honest c.write_listings.new.roots.disk
   mid_honest = c.commit.ensures.honest honest
 
-  stored : s ≡ stored_in seen c.args.self.now.root c.args.self.now.chart.committed
+  stored : s ≡ stored_in seen c.args.self.now.root chart.committed
   stored =
-      (is.each seen (g.met.D.Disk.seen_may c.args.self.now.roots.disk (c.write_records.ensures.writes.honest mid_honest))).stands
-      ∙ ap (λ (r : RootValue). stored_in seen r c.args.self.now.chart.committed) (c.args.self.now.known c.requires.not_failed)
+      (is.each seen (g.met.D.Disk.seen_may c.args.self.now.roots.disk (c.write_listings.ensures.pages.honest mid_honest))).stands
+      ∙ ap (λ (r : RootValue). stored_in seen r chart.committed) (c.args.self.now.known c.requires.not_failed)
 
   abbrev target : Stored
-  target = next_commit s c.args.self.now.sinks.points (map (tile_in seen) c.args.self.now.chart.staged) c.args.count
+  target = next_commit s c.args.self.now.sinks.points (map (tile_in seen) chart.staged) c.args.count
 
-  is_next : c.with_sinks-root.result ≡ next_root c.args.self.now.root c.args.count c.args.self.now.sinks.points (map entry_of c.args.self.now.chart.staged)
+  is_next : c.with_sinks-root.result ≡ next_root c.args.self.now.root c.args.count c.args.self.now.sinks.points (map entry_of chart.staged)
   is_next =
       c.with_sinks-root.ensures
       ∙ ap₂ (λ (r : RootValue) (sinks : List Point). record r { sinks = sinks }) c.next.ensures c.points.ensures.value
       ∙ ap (next_root c.args.self.now.root c.args.count c.args.self.now.sinks.points) c.staged_entries-entries.ensures.value
 
-  recorded : All (λ t. is_changed c.args.self.now.chart.committed t ≡ true → IsRecorded (format_of c.args.self.now.root) c.args.self.now.chart.committed (g.D.Disk.seen c.write_records.new.roots.disk) t.heights) c.args.self.now.chart.staged
-  recorded =
-      let chart = c.args.self.now.chart in
-      subst (λ (f : Format). All (λ t. is_changed chart.committed t ≡ true → IsRecorded f chart.committed (g.D.Disk.seen c.write_records.new.roots.disk) t.heights) chart.staged) c.args.self.now.format (c.in_ok-write_records.ensures.recorded mid_honest)
+  staged : AreStaged chart.format chart.committed chart.staged seen
+  staged = subst (λ (f : Format). AreStaged f chart.committed chart.staged seen) (sym c.args.self.now.format) is.staged
 
-  land : (image : Image) → HasMoved c.with_sinks-root.result (g.D.Disk.seen c.write_records.new.roots.disk) image → StoresAt size c.with_sinks-root.result c.args.self.now.chart.staged target image
+  land : (image : Image) → HasMoved c.with_sinks-root.result (g.D.Disk.seen c.write_listings.new.roots.disk) image → StoresAt size c.with_sinks-root.result chart.staged target image
   land =
-      let old = c.args.self.now in
-      subst (λ (r : RootValue). (image : Image) → HasMoved r (g.D.Disk.seen c.write_records.new.roots.disk) image → StoresAt size r old.chart.staged target image) (sym is_next)
-      (lands old.chart c.rules.ensures old.root size c.args.count old.sinks.points s seen stored old.sectors old.fits old.format seen (g.D.Disk.seen c.write_records.new.roots.disk) is.staged
-      recorded (c.in_ok-write_records.ensures.writes.others mid_honest))
+      subst (λ (r : RootValue). (image : Image) → HasMoved r (g.D.Disk.seen c.write_listings.new.roots.disk) image → StoresAt size r chart.staged target image) (sym is_next)
+      (lands chart c.rules.ensures chart.committed seen (g.D.Disk.seen c.write_listings.new.roots.disk) staged (c.in_ok-write_listings.ensures.written mid_honest) (c.in_ok-write_listings.ensures.pages.others mid_honest)
+      size (next_root c.args.self.now.root c.args.count c.args.self.now.sinks.points (map entry_of chart.staged)) chart.staged target c.args.self.now.sectors c.args.self.now.fits c.args.self.now.format refl refl
+      (ap (λ (x : Stored). next_commit x c.args.self.now.sinks.points (map (tile_in seen) chart.staged) c.args.count) stored))
 
-  ready : IsReady g.D.Disk c.write_records.new.roots
-  ready = c.in_ok-write_records.ensures.writes.ready mid_honest is.ready
+  ready : IsReady g.D.Disk c.write_listings.new.roots
+  ready = c.in_ok-write_listings.ensures.pages.ready mid_honest is.ready
 
   leaves : LeavesOnly g.D.Disk c.args.self.now.roots.disk c.commit.new.self.disk (λ image. Stands size image s ⊎ Stands size image target)
   leaves =
       let d = g.D.Disk in
       let old = c.args.self.now in
-      let mid = c.write_records.new.roots in
-      committing d old.roots.disk mid.disk c.commit.new.self.disk size old.roots.root c.with_sinks-root.result old.chart.committed old.chart.staged s target
-      (c.write_records.ensures.writes.any_moment mid_honest is.ready s is.each) land
+      let mid = c.write_listings.new.roots in
+      committing d old.roots.disk mid.disk c.commit.new.self.disk size old.roots.root c.with_sinks-root.result chart.committed chart.staged s target
+      (c.write_listings.ensures.pages.any_moment mid_honest is.ready chart.committed s (due_unreached chart.committed (tiles_listing chart.format chart.staged)) is.each) land
       (subst (λ (r : RootValue). LeavesOnly d mid.disk c.commit.new.self.disk (λ image. KeepsAll r (d.may mid.disk) image ⊎ HasMoved c.with_sinks-root.result (d.seen mid.disk) image))
-      c.write_records.ensures.writes.root (c.commit.ensures.any_moment honest ready))
+      c.write_listings.ensures.pages.root (c.commit.ensures.any_moment honest ready))
 
 pub returns-in_err-commit-clause-any_moment : goal.returns-in_err-commit-clause-any_moment
 returns-in_err-commit-clause-any_moment g c honest s is = leaves g (goal.at.returns-in_err-commit-clause-any_moment g c).After-commit honest s is
@@ -96,7 +120,7 @@ returns-clause-at g c honest s is =
     let d = g.D.Disk in
     let after = (goal.at.returns-clause-at g c).After-commit in
     let chart = c.args.self.now.chart in
-    let mid = c.write_records.new.roots in
+    let mid = c.write_listings.new.roots in
     let new = c.commit.new.self in
     let n = d.size c.args.self.now.roots.disk in
     let ready_now = c.in_ok-commit.ensures.ready honest (ready g after honest s is) in
@@ -108,7 +132,7 @@ returns-clause-at g c honest s is =
     record {
       ready = ready_now;
       each = λ image may. stores_along n (d.size new.disk) c.with_sinks-root.result new.root chart.staged c.settle.new.self.committed (target g after honest s is) image
-          (c.commit.ensures.size ∙ c.write_records.ensures.writes.size) c.in_ok-commit.ensures.root (ap (λ (x : ChartValue). x.committed) settled) (each image may);
+          (c.commit.ensures.size ∙ c.write_listings.ensures.pages.size) c.in_ok-commit.ensures.root (ap (λ (x : ChartValue). x.committed) settled) (each image may);
       staged = subst (λ (x : ChartValue). AreStaged (format_of c.with_sinks-root.result) x.committed x.staged (d.seen new.disk)) (sym settled)
           (nothing_staged n c.with_sinks-root.result chart.staged (target g after honest s is) (d.seen new.disk) (each (d.seen new.disk) (g.met.D.Disk.seen_may new.disk honest)));
     }
@@ -119,8 +143,8 @@ returns-clause-staged g c honest s is =
     let after = (goal.at.returns-clause-staged g c).After-commit in
     let old = c.args.self.now in
     ap (λ (x : ChartValue). map (tile_in (d.seen c.commit.new.self.disk)) x.staged) c.settle.ensures.settled
-    ∙ sym (same_tiles old.chart c.rules.ensures old.root (d.size old.roots.disk) c.args.count old.sinks.points s (d.seen old.roots.disk) (stored g after honest s is) old.sectors old.fits old.format (d.seen old.roots.disk) (d.seen c.write_records.new.roots.disk) is.staged
-    (recorded g after honest s is) (c.in_ok-write_records.ensures.writes.others (mid_honest g after honest s is)) (d.seen c.commit.new.self.disk) (c.in_ok-commit.ensures.pages honest))
+    ∙ sym (same_tiles old.chart c.rules.ensures old.chart.committed (d.seen old.roots.disk) (d.seen c.write_listings.new.roots.disk) (staged g after honest s is)
+    (c.in_ok-write_listings.ensures.written (mid_honest g after honest s is)) (c.in_ok-write_listings.ensures.pages.others (mid_honest g after honest s is)) (d.seen c.commit.new.self.disk) (c.in_ok-commit.ensures.pages honest) old.chart.staged refl)
 
 pub returns-clause-none_staged : goal.returns-clause-none_staged
 returns-clause-none_staged g c =

@@ -1,10 +1,11 @@
-use Rattle.std.proofs.Common.{ℕ, List, None, length, map, sym, ap, ◌∙◌, subst}
+use Rattle.std.proofs.Common.{List, None, map, sym, ap, ◌∙◌, subst, arith}
 use Rattle.page_codec.specs.Roots.{format_of}
 use Rattle.charts.specs.Charts.{ChartValue, corners_of_locations}
 use Rattle.charts.specs.TileLocations.{TileLocation}
 use Rattle.cow_tree.specs.Layout.{tile_in, StoresAt}
-use Rattle.cow_tree.specs.Staged.{AreStaged, pages_due}
-use Rattle.cow_tree.proofs.KeptDrops.{bared_tiles, other_corners, other_due, other_still, other_stays}
+use Rattle.cow_tree.specs.Staged.{AreStaged}
+use Rattle.cow_tree.proofs.Due.{other_due}
+use Rattle.cow_tree.proofs.KeptDrops.{bared_tiles, other_corners, other_still, other_stays}
 use Rattle.cow_tree.proofs.tree.Tree.drop_kept.Goals as goal
 
 pub returns-clause-corners : goal.returns-clause-corners
@@ -16,9 +17,7 @@ returns-clause-staged g c =
     ap (λ (x : ChartValue). map (tile_in seen) x.staged) c.drop_kept.ensures.dropped ∙ bared_tiles c.args.c seen c.args.self.now.chart.staged
 
 pub returns-clause-due : goal.returns-clause-due
-returns-clause-due g c =
-    let old = c.args.self.now.chart in
-    ap (λ (x : ChartValue). length (pages_due x)) c.drop_kept.ensures.dropped ∙ ap (λ (pages : List ℕ). length pages) (other_due old.committed c.args.c None old.staged)
+returns-clause-due g c = let few = other_due c.args.self.now.chart c.drop_kept.new.self c.args.c None c.drop_kept.ensures.dropped c.rules.ensures in omega (arith, few)
 
 pub returns-clause-still_staged : goal.returns-clause-still_staged
 returns-clause-still_staged g c other = other_still c.args.self.now.chart c.drop_kept.new.self c.args.c None other c.drop_kept.ensures.dropped

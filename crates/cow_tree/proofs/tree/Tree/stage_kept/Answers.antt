@@ -1,16 +1,17 @@
-use Rattle.std.proofs.Common.{◌≡◌, ℕ, ◌≤◌, ◌*◌, List, length, Some, refl, sym, ap, ◌∙◌, subst, arith}
+use Rattle.std.proofs.Common.{◌≡◌, ℕ, ◌+◌, ◌<◌, ◌≤◌, ◌*◌, ◌++◌, List, length, Some, refl, sym, ap, ◌∙◌, subst, arith}
+use Rattle.std.proofs.lemmas.List.{length-append}
 use Rattle.disk.specs.Stops.{weaker}
 use Rattle.page_codec.specs.Formats.{Format}
 use Rattle.page_codec.specs.Roots.{format_of}
-use Rattle.layout.specs.Sizes.{plane_pages_of}
-use Rattle.charts.specs.Charts.{ChartValue, AreKept, corners_of_locations}
-use Rattle.charts.specs.TileLocations.{TileLocation, pages_of_kept}
-use Rattle.charts.proofs.Room.{kept_few}
-use Rattle.cow_tree.specs.Kept.{AreFreshKept, planes_of_bytes}
-use Rattle.cow_tree.specs.Layout.{HaveKeptRecords, StoresAt, Stands}
+use Rattle.page_codec.specs.Sizes.{index_pages_of, pages_of}
+use Rattle.charts.specs.Charts.{ChartValue, AreKept, AreWholeKept, corners_of_locations}
+use Rattle.charts.specs.TileLocations.{TileLocation}
+use Rattle.cow_tree.specs.Kept.{planes_of_bytes}
+use Rattle.cow_tree.specs.Layout.{StoresAt, Stands}
 use Rattle.cow_tree.specs.Staged.{pages_due}
-use Rattle.cow_tree.proofs.KeptDrops.{other_corners, other_due}
-use Rattle.cow_tree.proofs.KeptStaging.{some_kept, fresh_kept, kept_staged, kept_stays}
+use Rattle.cow_tree.proofs.Due.{kept_more}
+use Rattle.cow_tree.proofs.KeptDrops.{other_corners}
+use Rattle.cow_tree.proofs.KeptStaging.{some_kept, whole_planes, pages_low, pages_high, pages_once, pages_unreached, kept_staged, kept_stays}
 use Rattle.cow_tree.proofs.Steps.{stands, stores_along, ok_where_works, on_ok, on_ok_both}
 use Rattle.cow_tree.proofs.tree.Tree.stage_kept.Goals as goal
 use Rattle.cow_tree.proofs.tree.Tree.stage_kept.Goals.{In-Some}
@@ -26,23 +27,25 @@ module _ (g : _) (c : In-Some g) where
   anew : AreKept c.args.c old new
   anew = c.in_ok-keep.ensures.kept
 
-  planes : AreFreshKept new c.in-Some.kept.now
-  planes = fresh_kept old new c.args.c c.in_ok-keep.ensures.rules c.rules.ensures anew c.requires.unstaged c.requires.present c.in-Some.kept.now c.in-Some.ensures.found
+  whole : AreWholeKept (format_of c.args.self.now.root) c.in-Some.kept.now
+  whole = subst (λ (f : Format). AreWholeKept f c.in-Some.kept.now) c.args.self.now.format (whole_planes old new c.args.c c.in_ok-keep.ensures.rules c.rules.ensures anew c.requires.unstaged c.requires.present c.in-Some.kept.now c.in-Some.ensures.found)
 
-  same_format : new.format ≡ format_of c.args.self.now.root
-  same_format = ap (λ (x : ChartValue). x.format) anew.changed ∙ c.args.self.now.format
+  few : length (c.in-Some.kept.now.levels.pages ++ c.in-Some.kept.now.labels.pages) ≡ 2 * pages_of c.args.self.now.root.side
+  few = omega (arith, length-append c.in-Some.kept.now.levels.pages c.in-Some.kept.now.labels.pages, whole.levels.pages, whole.labels.pages)
 
-  few : length (pages_of_kept (Some c.in-Some.kept.now)) ≤ 2 * plane_pages_of (format_of c.args.self.now.root)
-  few = subst (λ (f : Format). length (pages_of_kept (Some c.in-Some.kept.now)) ≤ 2 * plane_pages_of f) same_format (kept_few new.format (Some c.in-Some.kept.now) planes.whole)
+pub write_kept-requires-clause-low : goal.write_kept-requires-clause-low
+write_kept-requires-clause-low g c =
+    pages_low c.args.self.now.chart c.keep.new.self c.args.c c.in_ok-keep.ensures.rules c.rules.ensures c.in_ok-keep.ensures.kept c.requires.unstaged c.requires.present c.in-Some.kept.now c.in-Some.ensures.found
 
-pub write_kept-requires-clause-sectors : goal.write_kept-requires-clause-sectors
-write_kept-requires-clause-sectors g c = ap (λ (x : ChartValue). x.sectors) c.in_ok-keep.ensures.kept.changed ∙ c.args.self.now.sectors
+pub write_kept-requires-clause-high : goal.write_kept-requires-clause-high
+write_kept-requires-clause-high g c k d lt =
+    let high = pages_high c.args.self.now.chart c.keep.new.self c.args.c c.in_ok-keep.ensures.rules c.rules.ensures c.in_ok-keep.ensures.kept c.requires.unstaged c.requires.present c.in-Some.kept.now c.in-Some.ensures.found k d lt in
+    let same = ap (λ (x : ChartValue). x.sectors) c.in_ok-keep.ensures.kept.changed in
+    omega (arith, high, same, c.args.self.now.sectors)
 
-pub write_kept-requires-clause-fits : goal.write_kept-requires-clause-fits
-write_kept-requires-clause-fits g c = let same = ap (λ (x : ChartValue). x.sectors) c.in_ok-keep.ensures.kept.changed in omega (arith, same, c.args.self.now.fits)
-
-pub write_kept-requires-clause-planes : goal.write_kept-requires-clause-planes
-write_kept-requires-clause-planes g c = planes g (goal.at.write_kept-requires-clause-planes g c).In-Some
+pub write_kept-requires-clause-distinct : goal.write_kept-requires-clause-distinct
+write_kept-requires-clause-distinct g c =
+    pages_once c.args.self.now.chart c.keep.new.self c.args.c c.in_ok-keep.ensures.rules c.rules.ensures c.in_ok-keep.ensures.kept c.requires.unstaged c.requires.present c.in-Some.kept.now c.in-Some.ensures.found
 
 pub unreachable-requires : goal.unreachable-requires
 unreachable-requires g c =
@@ -63,9 +66,13 @@ returns-clause-corners g c =
 
 pub returns-clause-due : goal.returns-clause-due
 returns-clause-due g c =
-    let kept = c.in_ok-keep.ensures.kept in
-    let old_chart = c.args.self.now.chart in
-    ap (λ (x : ChartValue). length (pages_due x)) kept.changed ∙ ap (λ (pages : List ℕ). length pages) (other_due old_chart.committed c.args.c (Some kept.locations) old_chart.staged)
+    let new = c.keep.new.self in
+    let old = c.args.self.now in
+    subst (λ (f : Format). length (pages_due new) ≤ length (pages_due old.chart) + 2 * (1 + index_pages_of f)) old.format
+    (kept_more old.chart new c.args.c c.in_ok-keep.ensures.kept c.rules.ensures)
+
+pub returns-in_err-keep-clause-due : goal.returns-in_err-keep-clause-due
+returns-in_err-keep-clause-due g c = let due = ap (λ (x : ChartValue). length (pages_due x)) c.in_err-keep.ensures.unchanged in omega (arith, due)
 
 pub returns-clause-staged : goal.returns-clause-staged
 returns-clause-staged g c honest s is =
@@ -73,11 +80,10 @@ returns-clause-staged g c honest s is =
     let before = c.args.self.now in
     let a = g.D.Disk.seen before.roots.disk in
     let b = g.D.Disk.seen c.write_kept.new.roots.disk in
-    let side = ap (λ (f : Format). f.side) (same_format g here) in
     on_ok_both c.write_kept.result
     (λ others wrote. kept_staged (old g here) (new g here) c.args.c c.in_ok-keep.ensures.rules c.rules.ensures (anew g here) c.requires.unstaged c.requires.present c.in-Some.kept.now c.in-Some.ensures.found a b others
-    (planes_of_bytes before.root.side c.args.levels.now c.args.labels.now) (wrote ∙ ap (λ (n : ℕ). Some (planes_of_bytes n c.args.levels.now c.args.labels.now)) side))
-    (c.write_kept.ensures.writes.others honest) (c.write_kept.ensures.written honest)
+    (planes_of_bytes before.root.side c.args.levels.now c.args.labels.now) wrote)
+    (c.write_kept.ensures.writes.others honest) (c.write_kept.ensures.written honest before.root.side (whole g here).levels.pages (whole g here).labels.pages)
 
 pub returns-clause-at : goal.returns-clause-at
 returns-clause-at g c honest s is works =
@@ -86,29 +92,26 @@ returns-clause-at g c honest s is works =
     let before = c.args.self.now in
     let roots = c.write_kept.new.roots in
     let written = c.write_kept.ensures.writes in
-    let same = ap (λ (x : ChartValue). x.committed) (anew g here).changed in
-    let each : (image : _) → d.may before.roots.disk image → StoresAt (d.size before.roots.disk) before.roots.root (new g here).committed s image =
-    λ image may. subst (λ (tiles : List TileLocation). StoresAt (d.size before.roots.disk) before.roots.root tiles s image) (sym same) (is.each image may) in
+    let none = pages_unreached (old g here) (new g here) c.args.c c.in_ok-keep.ensures.rules c.rules.ensures (anew g here) c.requires.unstaged c.requires.present c.in-Some.kept.now c.in-Some.ensures.found in
     record {
       ready = ok_where_works c.write_kept.result roots.failed written.failed works (written.ready honest is.ready);
-      each = λ image may. stores_along (d.size before.roots.disk) (d.size roots.disk) before.roots.root roots.root (new g here).committed (new g here).committed s image
-          written.size written.root refl
-          ((written.any_moment honest is.ready s each).now image may);
+      each = λ image may. stores_along (d.size before.roots.disk) (d.size roots.disk) before.roots.root roots.root before.chart.committed (new g here).committed s image
+          written.size written.root (ap (λ (x : ChartValue). x.committed) (anew g here).changed)
+          ((written.any_moment honest is.ready before.chart.committed s none is.each).now image may);
       staged = ok_where_works c.write_kept.result roots.failed written.failed works
-          (on_ok_both c.write_kept.result
-          (λ others records. kept_stays (old g here) (new g here) c.args.c c.in_ok-keep.ensures.rules c.rules.ensures (anew g here) c.requires.unstaged c.requires.present c.in-Some.kept.now c.in-Some.ensures.found
-          (d.seen before.roots.disk) (d.seen roots.disk) others (format_of before.root) (subst (λ (f : Format). HaveKeptRecords f (d.seen roots.disk) c.in-Some.kept.now) (same_format g here) records) is.staged)
-          (written.others honest) (c.write_kept.ensures.records honest));
+          (on_ok c.write_kept.result
+          (λ others. kept_stays (old g here) (new g here) c.args.c c.in_ok-keep.ensures.rules c.rules.ensures (anew g here) c.requires.unstaged c.requires.present c.in-Some.kept.now c.in-Some.ensures.found
+          (d.seen before.roots.disk) (d.seen roots.disk) others (format_of before.root) is.staged)
+          (written.others honest));
     }
 
 pub returns-clause-any_moment : goal.returns-clause-any_moment
 returns-clause-any_moment g c honest s is =
+    let here = (goal.at.returns-clause-any_moment g c).In-Some in
     let d = g.D.Disk in
     let before = c.args.self.now in
     let size = d.size before.roots.disk in
-    let committed = c.keep.new.self.committed in
-    let same = ap (λ (x : ChartValue). x.committed) c.in_ok-keep.ensures.kept.changed in
-    weaker d before.roots.disk c.write_kept.new.roots.disk (StoresAt size before.roots.root committed s) (λ image. Stands size image s)
-    (λ image stores. stands size before.roots.root committed s image stores)
-    (c.write_kept.ensures.writes.any_moment honest is.ready s
-    (λ image may. subst (λ (tiles : List TileLocation). StoresAt size before.roots.root tiles s image) (sym same) (is.each image may)))
+    weaker d before.roots.disk c.write_kept.new.roots.disk (StoresAt size before.roots.root before.chart.committed s) (λ image. Stands size image s)
+    (λ image stores. stands size before.roots.root before.chart.committed s image stores)
+    (c.write_kept.ensures.writes.any_moment honest is.ready before.chart.committed s
+    (pages_unreached (old g here) (new g here) c.args.c c.in_ok-keep.ensures.rules c.rules.ensures (anew g here) c.requires.unstaged c.requires.present c.in-Some.kept.now c.in-Some.ensures.found) is.each)

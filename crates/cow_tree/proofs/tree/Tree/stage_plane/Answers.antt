@@ -57,7 +57,7 @@ unreachable-requires g c =
 
 -- what the disk holds once they are written
 abbrev SameElsewhere : List ℕ → Image → Image → Type 0
-SameElsewhere pages a b = (p : ℕ) → 4 ≤ p → ¬ Contains pages p → a p ≡ b p
+SameElsewhere pages a b = (p : ℕ) → 4 ≤ p → times p pages ≡ 0 → a p ≡ b p
 
 pub returns-clause-staged : goal.returns-clause-staged
 returns-clause-staged g c honest s is =
@@ -69,7 +69,7 @@ returns-clause-staged g c honest s is =
     (λ wrote others. plane_staged (old g here) (new g here) c.args.c c.in_ok-tile_for_writing.ensures.rules (added g here) c.in-Some.plane.now c.in-Some.ensures.found a b c.args.bytes.now
     (subst (λ (pages : List ℕ). SameElsewhere pages a b) c.pages.ensures others) before.root.side (ap (λ (f : Format). f.side) before.format)
     (subst (λ (pages : List ℕ). map b pages ≡ pages_of_bytes (length pages) c.args.bytes.now) c.pages.ensures wrote))
-    (c.write_plane.ensures.written honest) (c.write_plane.ensures.others honest)
+    (c.write_plane.ensures.written honest) (c.write_plane.ensures.writes.others honest)
 
 pub returns-clause-at : goal.returns-clause-at
 returns-clause-at g c honest s is works =
@@ -77,12 +77,12 @@ returns-clause-at g c honest s is works =
     let d = g.D.Disk in
     let before = c.args.self.now in
     let roots = c.write_plane.new.roots in
-    let written = c.write_plane.ensures in
+    let written = c.write_plane.ensures.writes in
     record {
       ready = ok_where_works c.write_plane.result roots.failed written.failed works (written.ready honest is.ready);
       each = λ image may. stores_along (d.size before.roots.disk) (d.size roots.disk) before.roots.root roots.root before.chart.committed (new g here).committed s image
           written.size written.root (ap (λ (x : ChartValue). x.committed) (added g here).changed)
-          ((written.any_moment honest is.ready before.chart.committed s is.each (unreached g here)).now image may);
+          ((written.any_moment honest is.ready before.chart.committed s (unreached g here) is.each).now image may);
       staged = ok_where_works c.write_plane.result roots.failed written.failed works
           (on_ok c.write_plane.result
           (λ others. plane_stays (old g here) (new g here) c.args.c c.in_ok-tile_for_writing.ensures.rules (added g here) c.in-Some.plane.now c.in-Some.ensures.found (d.seen before.roots.disk) (d.seen roots.disk) c.args.bytes.now
@@ -97,10 +97,10 @@ returns-clause-any_moment g c honest s is =
     let size = d.size before.roots.disk in
     weaker d before.roots.disk c.write_plane.new.roots.disk (StoresAt size before.roots.root before.chart.committed s) (λ image. Stands size image s)
     (λ image stores. stands size before.roots.root before.chart.committed s image stores)
-    (c.write_plane.ensures.any_moment honest is.ready before.chart.committed s is.each (unreached g (goal.at.returns-clause-any_moment g c).After-pages))
+    (c.write_plane.ensures.writes.any_moment honest is.ready before.chart.committed s (unreached g (goal.at.returns-clause-any_moment g c).After-pages) is.each)
 
 pub returns-clause-device : goal.returns-clause-device
-returns-clause-device g c = failed_where c.write_plane.result _ c.write_plane.ensures.failed
+returns-clause-device g c = failed_where c.write_plane.result _ c.write_plane.ensures.writes.failed
 
 pub returns-clause-corners : goal.returns-clause-corners
 returns-clause-corners g c = ok_where c.write_plane.result (added_corners c.args.self.now.chart c.tile_for_writing.new.self c.args.c c.in_ok-tile_for_writing.ensures.added)

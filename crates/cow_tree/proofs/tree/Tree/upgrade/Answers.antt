@@ -1,4 +1,4 @@
-use Rattle.std.proofs.Common.{◌≡◌, ◌≤◌, ◌<◌, ◌+◌, ◌*◌, ◌^◌, ◌⊎◌, inl, ℕ, List, length, map, refl, sym, ap, ◌∙◌, subst}
+use Rattle.std.proofs.Common.{◌≡◌, ◌≤◌, ◌<◌, ◌+◌, ◌*◌, ◌^◌, ◌⊎◌, inl, ℕ, List, [], All, Contains, length, map, refl, sym, ap, ◌∙◌, subst, arith}
 use Rattle.disk.specs.Disk.{Image}
 use Rattle.disk.specs.Stops.{LeavesOnly, weaker}
 use Rattle.layout.specs.Formats.{upgraded}
@@ -7,32 +7,50 @@ use Rattle.page_codec.specs.Roots.{RootValue, format_of}
 use Rattle.page_codec.specs.Sizes.{index_pages_of}
 use Rattle.roots.specs.Roots.{IsReady, ready_current}
 use Rattle.roots.specs.Slots.{KeepsAll, HasMoved, SamePages, IsCurrent}
-use Rattle.charts.specs.TileLocations.{TileLocation}
-use Rattle.charts.specs.Upgraded.{listings}
+use Rattle.charts.specs.Charts.{ChartValue, is_unreached}
+use Rattle.charts.specs.Locations.{times}
+use Rattle.charts.specs.TileLocations.{TileLocation, reached}
+use Rattle.charts.specs.Upgraded.{data_of, listings}
 use Rattle.cow_tree.specs.Entries.{entry_of}
 use Rattle.cow_tree.specs.Layout.{stored_in, tile_in, StoresAt, Stands}
+use Rattle.cow_tree.specs.Listings.{due_among, numbers_of, tiles_listing}
 use Rattle.cow_tree.specs.Staged.{AreStaged}
 use Rattle.cow_tree.specs.Stored.{Stored}
 use Rattle.cow_tree.specs.Trees.{IsAt}
 use Rattle.cow_tree.specs.Upgrades.{upgraded_store}
-use Rattle.cow_tree.proofs.Commits.{nothing_staged, committing}
+use Rattle.cow_tree.proofs.Commits.{lands, same_tiles, none_before, nothing_staged, committing}
 use Rattle.cow_tree.proofs.Dropping.{corners_of_entries, clean_is_committed}
-use Rattle.cow_tree.proofs.Due.{none_due}
+use Rattle.cow_tree.proofs.Counting.{all_of_fewer}
+use Rattle.cow_tree.proofs.Due.{filter_few, none_due}
+use Rattle.cow_tree.proofs.ListingPages.{due_are, few_due, tiles_numbers}
 use Rattle.cow_tree.proofs.Steps.{stands, stores_along}
-use Rattle.cow_tree.proofs.UpgradeLands.{corners_stay, few_in_all, few_in_part, few_listed, tiles_are, upgrade_lands, upgraded_root}
+use Rattle.cow_tree.proofs.UpgradeLands.{corners_stay, few_in_all, few_in_part, few_listed, upgraded_root}
 use Rattle.cow_tree.proofs.tree.Tree.upgrade.Goals as goal
 use Rattle.cow_tree.proofs.tree.Tree.upgrade.Goals.{After-write_listings, After-commit}
 
 -- what lists the planes is not too much
 module _ (g : _) (c : After-write_listings g) where
-  few : length (listings c.in_ok-chart.chart.committed) ≤ 3 * (1 + index_pages_of (upgraded (format_of c.args.self.now.root))) * length c.args.self.now.root.entries
+  abbrev new : ChartValue
+  new = c.in_ok-chart.chart
+
+  few : length (numbers_of (due_among [] (tiles_listing new.format new.staged))) ≤ 3 * (1 + index_pages_of (upgraded (format_of c.args.self.now.root))) * length c.args.self.now.root.entries
   few =
-      few_listed c.args.self.now.chart c.in_ok-chart.chart c.in_ok-chart.ensures.rules c.in_ok-chart.ensures.upgraded c.args.self.now.root
-      (c.in_ok-chart.ensures.upgraded.format ∙ ap upgraded c.args.self.now.format) c.args.self.now.entries
+      let most = few_listed c.args.self.now.chart new c.in_ok-chart.ensures.rules c.in_ok-chart.ensures.upgraded c.args.self.now.root
+      (c.in_ok-chart.ensures.upgraded.format ∙ ap upgraded c.args.self.now.format) c.args.self.now.entries in
+      let same = ap (λ (l : List ℕ). length l) (due_are [] new.format new.staged) in
+      omega (arith, most, same, filter_few (is_unreached []) (listings new.staged))
+
+  -- where no committed tile was
+  fresh : All (λ q. ¬ Contains (reached c.args.self.now.chart.committed) q) (numbers_of (due_among [] (tiles_listing new.format new.staged)))
+  fresh =
+      let up = c.in_ok-chart.ensures.upgraded in
+      all_of_fewer (λ q. ¬ Contains (reached c.args.self.now.chart.committed) q) (numbers_of (due_among [] (tiles_listing new.format new.staged))) (listings new.committed)
+      (λ q. (let same = ap (times q) (tiles_numbers new.format new.staged) in let clean = ap (λ (tiles : List TileLocation). times q (listings tiles)) up.clean in omega (arith, few_due [] (tiles_listing new.format new.staged) q, same, clean)))
+      (λ k d lt. (up.fresh k d lt).unreached)
 
 pub returns-in_err-write_listings-clause-writes : goal.returns-in_err-write_listings-clause-writes
 returns-in_err-write_listings-clause-writes g c =
-    few_in_part _ _ _ _ _ c.write_listings.ensures.writes.few (few g (goal.at.returns-in_err-write_listings-clause-writes g c).After-write_listings)
+    few_in_part _ _ _ _ _ c.write_listings.ensures.pages.few (few g (goal.at.returns-in_err-write_listings-clause-writes g c).After-write_listings)
 
 pub returns-in_err-write_listings-clause-any_moment : goal.returns-in_err-write_listings-clause-any_moment
 returns-in_err-write_listings-clause-any_moment g c honest s is =
@@ -40,7 +58,7 @@ returns-in_err-write_listings-clause-any_moment g c honest s is =
     let old = c.args.self.now in
     let size = d.size old.roots.disk in
     weaker d old.roots.disk c.write_listings.new.roots.disk (StoresAt size old.roots.root old.chart.committed s) (λ image. Stands size image s ⊎ Stands size image (upgraded_store s))
-    (λ image stores. inl (stands size old.roots.root old.chart.committed s image stores)) (c.write_listings.ensures.writes.any_moment honest is.ready s is.each)
+    (λ image stores. inl (stands size old.roots.root old.chart.committed s image stores)) (c.write_listings.ensures.pages.any_moment honest is.ready old.chart.committed s (fresh g (goal.at.returns-in_err-write_listings-clause-any_moment g c).After-write_listings) is.each)
 
 -- what lists the planes is written
 module _ (g : _) (c : After-commit g) (honest : g.D.Disk.honest c.commit.new.self.disk) (s : Stored) (is : IsAt g.D.Disk c.args.self.now s) where
@@ -53,19 +71,25 @@ module _ (g : _) (c : After-commit g) (honest : g.D.Disk.honest c.commit.new.sel
   abbrev between : Image
   between = g.D.Disk.seen c.write_listings.new.roots.disk
 
+  abbrev chart : ChartValue
+  chart = c.in_ok-chart.chart
+
   abbrev tiles : List TileLocation
-  tiles = c.in_ok-chart.chart.committed
+  tiles = chart.staged
 
   mid_honest : g.D.Disk.honest c.write_listings.new.roots.disk
   mid_honest = c.commit.ensures.honest honest
 
   stored : s ≡ stored_in seen c.args.self.now.root c.args.self.now.chart.committed
   stored =
-      (is.each seen (g.met.D.Disk.seen_may c.args.self.now.roots.disk (c.write_listings.ensures.writes.honest mid_honest))).stands
+      (is.each seen (g.met.D.Disk.seen_may c.args.self.now.roots.disk (c.write_listings.ensures.pages.honest mid_honest))).stands
       ∙ ap (λ (r : RootValue). stored_in seen r c.args.self.now.chart.committed) (c.args.self.now.known c.requires.not_failed)
 
   is_next : c.upgraded-root.result ≡ upgraded_root c.args.self.now.root (map entry_of tiles)
-  is_next = c.upgraded-root.ensures ∙ ap (upgraded_root c.args.self.now.root) (c.staged_entries-entries.ensures.value ∙ ap (map entry_of) c.in_ok-chart.ensures.upgraded.clean)
+  is_next = c.upgraded-root.ensures ∙ ap (upgraded_root c.args.self.now.root) c.staged_entries-entries.ensures.value
+
+  stays : map data_of chart.staged ≡ map data_of c.args.self.now.chart.committed
+  stays = ap (map data_of) c.in_ok-chart.ensures.upgraded.clean ∙ c.in_ok-chart.ensures.upgraded.stays
 
   on_disk : c.in_ok-chart.chart.sectors ≡ size
   on_disk = c.in_ok-chart.ensures.upgraded.sectors ∙ c.args.self.now.sectors
@@ -80,35 +104,35 @@ module _ (g : _) (c : After-commit g) (honest : g.D.Disk.honest c.commit.new.sel
   land =
       let old = c.args.self.now in
       subst (λ (r : RootValue). (image : Image) → HasMoved r between image → StoresAt size r tiles (upgraded_store s) image) (sym is_next)
-      (upgrade_lands old.chart c.in_ok-chart.chart c.in_ok-chart.ensures.rules c.in_ok-chart.ensures.upgraded old.root size on_disk small by_two s seen stored between
-      (c.in_ok-write_listings.ensures.writes.others mid_honest) (c.in_ok-write_listings.ensures.listed mid_honest))
+      (lands chart c.in_ok-chart.ensures.rules [] seen between (none_before chart.format chart.staged seen) (c.in_ok-write_listings.ensures.written mid_honest) (c.in_ok-write_listings.ensures.pages.others mid_honest)
+      size (upgraded_root old.root (map entry_of tiles)) old.chart.committed (upgraded_store s) on_disk small by_two refl stays (ap upgraded_store stored))
 
   ready : IsReady g.D.Disk c.write_listings.new.roots
-  ready = c.in_ok-write_listings.ensures.writes.ready mid_honest is.ready
+  ready = c.in_ok-write_listings.ensures.pages.ready mid_honest is.ready
 
-  leaves : LeavesOnly g.D.Disk c.args.self.now.roots.disk c.commit.new.self.disk (λ image. Stands size image s ⊎ Stands size image (upgraded_store s))
-  leaves =
+  leaves : All (λ q. ¬ Contains (reached c.args.self.now.chart.committed) q) (numbers_of (due_among [] (tiles_listing chart.format chart.staged))) → LeavesOnly g.D.Disk c.args.self.now.roots.disk c.commit.new.self.disk (λ image. Stands size image s ⊎ Stands size image (upgraded_store s))
+  leaves none =
       let d = g.D.Disk in
       let old = c.args.self.now in
       let mid = c.write_listings.new.roots in
       committing d old.roots.disk mid.disk c.commit.new.self.disk size old.roots.root c.upgraded-root.result old.chart.committed tiles s (upgraded_store s)
-      (c.write_listings.ensures.writes.any_moment mid_honest is.ready s is.each) land
+      (c.write_listings.ensures.pages.any_moment mid_honest is.ready old.chart.committed s none is.each) land
       (subst (λ (r : RootValue). LeavesOnly d mid.disk c.commit.new.self.disk (λ image. KeepsAll r (d.may mid.disk) image ⊎ HasMoved c.upgraded-root.result between image))
-      c.write_listings.ensures.writes.root (c.commit.ensures.any_moment honest ready))
+      c.write_listings.ensures.pages.root (c.commit.ensures.any_moment honest ready))
 
 pub returns-in_err-commit-clause-writes : goal.returns-in_err-commit-clause-writes
 returns-in_err-commit-clause-writes g c =
-    few_in_all _ _ _ _ _ _ _ c.in_ok-write_listings.ensures.writes.writes c.commit.ensures.writes (few g (goal.at.returns-in_err-commit-clause-writes g c).After-write_listings)
+    few_in_all _ _ _ _ _ _ _ c.in_ok-write_listings.ensures.pages.writes c.commit.ensures.writes (few g (goal.at.returns-in_err-commit-clause-writes g c).After-write_listings)
 
 pub returns-in_err-commit-clause-any_moment : goal.returns-in_err-commit-clause-any_moment
-returns-in_err-commit-clause-any_moment g c honest s is = leaves g (goal.at.returns-in_err-commit-clause-any_moment g c).After-commit honest s is
+returns-in_err-commit-clause-any_moment g c honest s is = leaves g (goal.at.returns-in_err-commit-clause-any_moment g c).After-commit honest s is (fresh g (goal.at.returns-in_err-commit-clause-any_moment g c).After-write_listings)
 
 pub returns-clause-writes : goal.returns-clause-writes
 returns-clause-writes g c =
-    few_in_all _ _ _ _ _ _ _ c.in_ok-write_listings.ensures.writes.writes c.commit.ensures.writes (few g (goal.at.returns-clause-writes g c).After-write_listings)
+    few_in_all _ _ _ _ _ _ _ c.in_ok-write_listings.ensures.pages.writes c.commit.ensures.writes (few g (goal.at.returns-clause-writes g c).After-write_listings)
 
 pub returns-clause-any_moment : goal.returns-clause-any_moment
-returns-clause-any_moment g c honest s is = leaves g (goal.at.returns-clause-any_moment g c).After-commit honest s is
+returns-clause-any_moment g c honest s is = leaves g (goal.at.returns-clause-any_moment g c).After-commit honest s is (fresh g (goal.at.returns-clause-any_moment g c).After-write_listings)
 
 pub returns-clause-corners : goal.returns-clause-corners
 returns-clause-corners g c = corners_stay c.args.self.now.chart c.in_ok-chart.chart c.in_ok-chart.ensures.rules c.in_ok-chart.ensures.upgraded c.requires.unstaged
@@ -134,15 +158,15 @@ returns-clause-at g c honest s is =
     let root = c.upgraded-root.result in
     let n = d.size c.args.self.now.roots.disk in
     let ready_now = c.in_ok-commit.ensures.ready honest (ready g after honest s is) in
-    let each : (image : Image) → d.may new.disk image → StoresAt n root chart.committed (upgraded_store s) image = λ image may.
+    let each : (image : Image) → d.may new.disk image → StoresAt n root chart.staged (upgraded_store s) image = λ image may.
     let current : IsCurrent root image = subst (λ (r : RootValue). IsCurrent r image) c.in_ok-commit.ensures.root (ready_current d new image ready_now may) in
     let pages : SamePages (d.seen mid.disk) image = subst (λ (i : Image). SamePages (d.seen mid.disk) i) (sym (c.in_ok-commit.ensures.durable honest image may)) (c.in_ok-commit.ensures.pages honest) in
     land g after honest s is image (current, pages) in
     record {
       ready = ready_now;
-      each = λ image may. stores_along n (d.size new.disk) root new.root chart.committed chart.committed (upgraded_store s) image (c.commit.ensures.size ∙ c.write_listings.ensures.writes.size) c.in_ok-commit.ensures.root refl (each image may);
-      staged = subst (λ (ts : List TileLocation). AreStaged (format_of root) chart.committed ts (d.seen new.disk)) (sym c.in_ok-chart.ensures.upgraded.clean)
-          (nothing_staged n root chart.committed (upgraded_store s) (d.seen new.disk) (each (d.seen new.disk) (g.met.D.Disk.seen_may new.disk honest)));
+      each = λ image may. stores_along n (d.size new.disk) root new.root chart.staged chart.committed (upgraded_store s) image (c.commit.ensures.size ∙ c.write_listings.ensures.pages.size) c.in_ok-commit.ensures.root (sym c.in_ok-chart.ensures.upgraded.clean) (each image may);
+      staged = subst (λ (ts : List TileLocation). AreStaged (format_of root) ts chart.staged (d.seen new.disk)) c.in_ok-chart.ensures.upgraded.clean
+          (nothing_staged n root chart.staged (upgraded_store s) (d.seen new.disk) (each (d.seen new.disk) (g.met.D.Disk.seen_may new.disk honest)));
     }
 
 pub returns-clause-staged : goal.returns-clause-staged
@@ -150,7 +174,8 @@ returns-clause-staged g c honest s is =
     let d = g.D.Disk in
     let after = (goal.at.returns-clause-staged g c).After-commit in
     let old = c.args.self.now in
-    ap (map (tile_in (d.seen c.commit.new.self.disk))) c.in_ok-chart.ensures.upgraded.clean
-    ∙ sym (tiles_are old.chart c.in_ok-chart.chart c.in_ok-chart.ensures.rules c.in_ok-chart.ensures.upgraded old.root (d.size old.roots.disk) (on_disk g after honest s is) (small g after honest s is) (by_two g after honest s is)
-    s (d.seen old.roots.disk) (stored g after honest s is) (d.seen c.write_listings.new.roots.disk) (c.in_ok-write_listings.ensures.writes.others (mid_honest g after honest s is))
-    (d.seen c.commit.new.self.disk) (c.in_ok-commit.ensures.pages honest))
+    let chart = c.in_ok-chart.chart in
+    let a = d.seen old.roots.disk in
+    sym (ap (λ (x : Stored). x.tiles) (stored g after honest s is)
+    ∙ same_tiles chart c.in_ok-chart.ensures.rules [] a (d.seen c.write_listings.new.roots.disk) (none_before chart.format chart.staged a)
+    (c.in_ok-write_listings.ensures.written (mid_honest g after honest s is)) (c.in_ok-write_listings.ensures.pages.others (mid_honest g after honest s is)) (d.seen c.commit.new.self.disk) (c.in_ok-commit.ensures.pages honest) old.chart.committed (stays g after honest s is))

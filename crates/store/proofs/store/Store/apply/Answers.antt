@@ -1,4 +1,4 @@
-use Rattle.std.proofs.Common.{◌≡◌, ⊎_elim, inl, inr, ℕ, ◌<◌, ◌≤◌, ◌+◌, false, true, Bool, if◌then◌else◌, List, All, Contains, map, refl, sym, ap, ap₂, ◌∙◌, subst}
+use Rattle.std.proofs.Common.{◌≡◌, ⊎_elim, inl, inr, ℕ, ◌<◌, ◌≤◌, ◌+◌, false, true, Bool, if◌then◌else◌, List, All, Contains, map, refl, sym, ap, ap₂, ◌∙◌, subst, arith}
 use Rattle.std.specs.Prelude.{Result, Ok, Err, IfErr, IfOk, IsTrue, OnOk}
 use Rattle.std.proofs.lemmas.Result.{IfErr-weaker}
 use Rattle.disk.specs.declared.disk.Disk.{Ghosts}
@@ -225,7 +225,7 @@ returns-clause-writes g c =
     let marks = c.mark_stale.ensures in
     let writes : d.writes (disk_of marked) ≡ d.writes (disk_of old) = ap d.writes marks.disk ∙ keeps.writes in
     subst (λ (n : ℕ). WritesFew (root_of old).version command n (d.writes (disk_of new))) writes
-    (staged_written d (root_of old).version command c.in_ok-edit.edit is.form marked mid new c.stage-staged.result (ap (λ (r : RootValue). r.version) (marks.root ∙ keeps.root)) (marks.due ∙ clean.none_due)
+    (staged_written d (root_of old).version command c.in_ok-edit.edit is.form marked mid new c.stage-staged.result (ap (λ (r : RootValue). r.version) (marks.root ∙ keeps.root)) (let due = marks.due in omega (arith, due, clean.none_due))
     c.stage-staged.ensures.few c.commit_staged.ensures.writes c.commit_staged.ensures.unwritten)
 
 -- ---- what staging asks
@@ -236,7 +236,7 @@ stage-staged-requires-clause-unstaged g c =
     let old = c.args.self.now.tree in
     let works : has_failed old ≡ false = sym c.has_failed.ensures ∙ c.if-has_failed.false in
     let clean = still_clean d old c.edit_of.new.samples works c.in_ok-edit.ensures.reads.keeps c.args.self.now.clean (c.in_ok-edit.ensures.reads.ready works) in
-    none_staged d c.mark_stale.new.tree (c.mark_stale.ensures.due ∙ clean.none_due)
+    none_staged d c.mark_stale.new.tree (let due = c.mark_stale.ensures.due in omega (arith, due, clean.none_due))
 
 pub stage-staged-requires-clause-fits : goal.stage-staged-requires-clause-fits
 stage-staged-requires-clause-fits g c =

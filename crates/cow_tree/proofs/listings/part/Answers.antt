@@ -1,6 +1,6 @@
 use Rattle.std.proofs.Common.{◌≡◌, ◌*◌, ℕ, min, take, drop, length, List, ap, ◌∙◌, arith}
 use Rattle.std.proofs.lemmas.List.{take_min}
-use Rattle.cow_tree.proofs.writing.part.Goals as goal
+use Rattle.cow_tree.proofs.listings.part.Goals as goal
 
 pub returns-clause-value : goal.returns-clause-value
 returns-clause-value c =

@@ -1,0 +1,60 @@
+-- Pages by how often they stand in lists.
+use Rattle.std.proofs.Common.{◌≡◌, ◌≢◌, ⊎_elim, ℕ, zero, suc, ◌+◌, ◌<◌, ◌≤◌, Bool, true, false, cond, List, [], ◌∷◌, ◌++◌, All, Contains, length, get_or, take, drop, refl, sym, ap, ◌∙◌, subst, arith}
+use Rattle.std.specs.List.{filter, flat_map}
+use Rattle.std.proofs.lemmas.Bool.{cases_eq}
+use Rattle.std.proofs.lemmas.Grind.{flat_map-append}
+use Rattle.std.proofs.lemmas.List.{append-nil, length-append, take_more, take-append-drop}
+use Rattle.std.proofs.lemmas.List.Elements.{All-head, All-tail, All-contains_itself}
+use Rattle.charts.specs.Locations.{times}
+use Rattle.charts.proofs.Occurrences.{times-append, times_other, stands_there}
+
+-- what holds of a number that stands there
+pub at_times : (P : ℕ → Type 0) (q : ℕ) (xs : List ℕ) → All P xs → 1 ≤ times q xs → P q
+at_times P q [] all some = absurd (omega (arith, some))
+at_times P q (x ∷ xs) all some =
+    ⊎_elim (λ (same : q ≡ x). subst P (sym same) (All-head P x xs all))
+    (λ (other : q ≢ x). at_times P q xs (All-tail P x xs all) (omega (arith, times_other q x xs other, some)))
+    (cases_eq q x)
+
+pub all_at_times : (P : ℕ → Type 0) (xs : List ℕ) → ((q : ℕ) → 1 ≤ times q xs → P q) → All P xs
+all_at_times P xs each k d lt = each _ (stands_there _ xs (All-contains_itself xs k d lt))
+
+-- what holds of all holds of fewer
+pub all_of_fewer : (P : ℕ → Type 0) (xs ys : List ℕ) → ((q : ℕ) → times q xs ≤ times q ys) → All P ys → All P xs
+all_of_fewer P xs ys fewer all = all_at_times P xs (λ q some. at_times P q ys all (omega (arith, some, fewer q)))
+
+pub times_among : {X : Type 0} (f : X → List ℕ) (p : ℕ) (xs : List X) (x : X) → Contains xs x → times p (f x) ≤ times p (flat_map f xs)
+times_among f p [] x (k, lt, here) = absurd (omega (arith, lt))
+times_among f p (y ∷ ys) x (zero, lt, here) = let split = times-append p (f y) (flat_map f ys) in subst (λ z. times p (f z) ≤ times p (flat_map f (y ∷ ys))) here (omega (arith, split))
+times_among f p (y ∷ ys) x (suc k, lt, here) = let split = times-append p (f y) (flat_map f ys) in let later = times_among f p ys x (k, omega arith, here) in omega (arith, split, later)
+
+pub flat_more : {X Y : Type 0} (f : X → List Y) (xs : List X) (k : ℕ) (x : X) → k < length xs → get_or xs k x ≡ x → flat_map f (take (k + 1) xs) ≡ flat_map f (take k xs) ++ f x
+flat_more f xs k x lt here =
+    ap (flat_map f) (take_more xs k x lt) ∙ flat_map-append f (take k xs) (get_or xs k x ∷ [])
+    ∙ ap (λ ys. flat_map f (take k xs) ++ ys) (append-nil (f (get_or xs k x)) ∙ ap f here)
+
+-- the first of them
+pub take_few : (k : ℕ) (xs : List ℕ) → length (take k xs) ≤ length xs
+take_few k xs = let whole = ap (λ (l : List ℕ). length l) (take-append-drop k xs) in omega (arith, whole, length-append (take k xs) (drop k xs))
+
+pub times_first : (k : ℕ) (xs : List ℕ) (q : ℕ) → times q (take k xs) ≤ times q xs
+times_first k xs q = let whole = ap (times q) (take-append-drop k xs) in omega (arith, whole, times-append q (take k xs) (drop k xs))
+
+-- those that pass a test
+pub times_passing : (q : ℕ) (test : ℕ → Bool) (xs : List ℕ) → times q (filter test xs) ≤ times q xs
+times_passing q test [] = omega arith
+times_passing q test (x ∷ xs) =
+    let later = times_passing q test xs in
+    let all = times-append q (x ∷ []) xs in
+    elim (test x) as (λ (v : Bool). times q (cond v (x ∷ filter test xs) (filter test xs)) ≤ times q (x ∷ xs)) [
+      | true ↦ (let here = times-append q (x ∷ []) (filter test xs) in omega (arith, later, here, all))
+      | false ↦ omega (arith, later, all)
+    ]
+
+pub times_failing : (q : ℕ) (test : ℕ → Bool) → test q ≡ false → (xs : List ℕ) → times q (filter test xs) ≡ 0
+times_failing q test fails [] = refl
+times_failing q test fails (x ∷ xs) =
+    elim (test x) as (λ (v : Bool). test x ≡ v → times q (cond v (x ∷ filter test xs) (filter test xs)) ≡ 0) [
+      | true ↦ λ passes. times_other q x (filter test xs) (λ same. let no : true ≡ false = sym passes ∙ sym (ap test same) ∙ fails in cc) ∙ times_failing q test fails xs
+      | false ↦ λ _. times_failing q test fails xs
+    ] refl

@@ -1,0 +1,159 @@
+-- What lists the pages of one plane of a tile, written page by page.
+use Rattle.std.proofs.Common.{◌≡◌, ◌+◌, ◌*◌, ◌<◌, ◌≤◌, ◌++◌, ◌∷◌, [], ℕ, zero, suc, Bool, true, false, cond, List, Contains, All, get_or, length, take, drop, Result, Ok, Err, OnOk, refl, sym, ap, ◌∙◌, subst, arith}
+use Rattle.std.specs.Prelude.{Option, Some, None, IfSome, option_map}
+use Rattle.std.specs.List.{filter}
+use Rattle.std.proofs.lemmas.Option.{same_Some}
+use Rattle.std.proofs.lemmas.List.{append-nil, length-append, take-append-drop, take_all, take_more}
+use Rattle.std.proofs.lemmas.List.Elements.{All-contains, Contains-get_or, filter-append}
+use Rattle.disk.specs.declared.disk.Disk.{Ghosts}
+use Rattle.lattice.specs.Corners.{Corner}
+use Rattle.lattice.specs.declared.refusal.Refusal.{Refusal}
+use Rattle.page_codec.specs.Formats.{Format}
+use Rattle.roots.specs.Roots.{disk_of}
+use Rattle.roots.specs.declared.roots.Roots.{Roots}
+use Rattle.charts.specs.declared.locations.KeptLocations.{KeptLocations}
+use Rattle.charts.specs.declared.plane.Plane.{Plane}
+use Rattle.charts.specs.declared.plane.Plane.TheVariants.{Heights, Levels, Labels}
+use Rattle.charts.specs.Charts.{AreWholeKept, ChartValue, IsChart, IsWholeTile, is_unreached, page_if}
+use Rattle.charts.specs.Locations.{PlaneLocation, IsWholePlane, listing_of, times}
+use Rattle.charts.specs.Planes.{HasPlane, HasPlaneAt, LiesAt, plane_of}
+use Rattle.charts.specs.TileLocations.{TileLocation, reached}
+use Rattle.charts.proofs.DueListings.{lies}
+use Rattle.charts.proofs.Occurrences.{stands_there, times-append}
+use Rattle.cow_tree.specs.Listings.{ListingPage, WritesListing, due_among, listing_bytes, listing_if, named_listing, numbers_of, plane_listing}
+use Rattle.cow_tree.specs.OverRoots.{WritesPages}
+use Rattle.cow_tree.proofs.Counting.{at_times}
+use Rattle.cow_tree.proofs.ListingPages.{AreWithin, few_due, few_first, listing_refused, numbers-append, one_listed, plane_at, plane_length, plane_numbers, plane_within, then_listed}
+use Rattle.cow_tree.proofs.Steps.{on_ok}
+use Rattle.cow_tree.proofs.Tiles.{one_at_corner}
+
+-- a plane of a staged tile: whole, and on pages that the staged tiles reach
+pub record IsPlaneAt (chart : ChartValue) (p : PlaneLocation) : Type 0 where
+  pub whole : IsWholePlane chart.format p
+  pub within : AreWithin (plane_listing chart.format p) chart.staged
+
+whole_plane : (format : Format) (name : Plane) (t : TileLocation) (p : PlaneLocation) → IsWholeTile format t → LiesAt name t p → IsWholePlane format p
+whole_plane format Heights t p whole at = subst (IsWholePlane format) at whole.heights
+whole_plane format Levels t p whole (k, (some, at)) = let kept : IfSome (Some k) (AreWholeKept format) = subst (λ (o : Option KeptLocations). IfSome o (AreWholeKept format)) some whole.kept in subst (IsWholePlane format) at kept.levels
+whole_plane format Labels t p whole (k, (some, at)) = let kept : IfSome (Some k) (AreWholeKept format) = subst (λ (o : Option KeptLocations). IfSome o (AreWholeKept format)) some whole.kept in subst (IsWholePlane format) at kept.labels
+
+module _ (chart : ChartValue) (rules : IsChart chart) (c : Corner) (name : Plane) where
+  pub plane_there : (p : PlaneLocation) → HasPlaneAt chart.staged c name p → IsPlaneAt chart p
+  plane_there p (t, (among, (here, at))) = record {
+    whole = whole_plane chart.format name t p (All-contains (IsWholeTile chart.format) chart.staged t rules.staged.whole among) at;
+    within = plane_within chart.format chart.staged t name p among (lies name t p at);
+  }
+
+  -- it is the one of the corner's tile
+  pub plane_is : (p : PlaneLocation) → HasPlaneAt chart.staged c name p → (t : TileLocation) → Contains chart.staged t → t.corner ≡ c → named_listing chart.format name t ≡ plane_listing chart.format p
+  plane_is p (u, (there, (here, at))) t among corner =
+      let same : u ≡ t = one_at_corner chart.staged u t rules.staged.in_order there among (here ∙ sym corner) in
+      ap (listing_if chart.format) (ap (plane_of name) (sym same) ∙ lies name u p at)
+
+  pub no_plane : ¬ HasPlane chart.staged c name → (t : TileLocation) → Contains chart.staged t → t.corner ≡ c → named_listing chart.format name t ≡ []
+  no_plane none t among corner = by (plane_of name t) refl
+    where
+      has : (n : Plane) (p : PlaneLocation) → plane_of n t ≡ Some p → LiesAt n t p
+      has Heights p is = same_Some t.heights p is
+      has Levels p is = by_kept t.kept refl
+        where
+          by_kept : (o : Option KeptLocations) → t.kept ≡ o → LiesAt Levels t p
+          by_kept None no_kept = absurd (let no_levels : None ≡ Some p = sym (ap (option_map (λ (k : KeptLocations). k.levels)) no_kept) ∙ is in cc)
+          by_kept (Some k) some = (k, (some, same_Some k.levels p (sym (ap (option_map (λ (l : KeptLocations). l.levels)) some) ∙ is)))
+      has Labels p is = by_kept t.kept refl
+        where
+          by_kept : (o : Option KeptLocations) → t.kept ≡ o → LiesAt Labels t p
+          by_kept None no_kept = absurd (let no_labels : None ≡ Some p = sym (ap (option_map (λ (k : KeptLocations). k.labels)) no_kept) ∙ is in cc)
+          by_kept (Some k) some = (k, (some, same_Some k.labels p (sym (ap (option_map (λ (l : KeptLocations). l.labels)) some) ∙ is)))
+
+      by : (o : Option PlaneLocation) → plane_of name t ≡ o → listing_if chart.format o ≡ []
+      by None is = refl
+      by (Some p) is = absurd (none (t, (among, (corner, (p, has name p is)))))
+
+-- ---- its pages, one after another
+module _ (chart : ChartValue) (rules : IsChart chart) (p : PlaneLocation) (is : IsPlaneAt chart p) (before : List TileLocation) where
+  abbrev pages : List ListingPage
+  pages = plane_listing chart.format p
+
+  abbrev due_to : ℕ → List ListingPage
+  due_to i = due_among before (take i pages)
+
+  pub all_due : (i : ℕ) → length (listing_of p) ≤ i → due_to i ≡ due_among before pages
+  all_due i le = ap (due_among before) (take_all i pages (omega (arith, le, plane_length chart.format p)))
+
+  pub few_to : (i : ℕ) → length (due_to i) ≤ length (due_among before pages)
+  few_to i =
+      let whole = ap (λ (l : List ListingPage). length l) (filter-append (λ (l : ListingPage). is_unreached before l.page) (take i pages) (drop i pages)) in
+      let same = ap (λ (l : List ListingPage). length (due_among before l)) (take-append-drop i pages) in
+      omega (arith, whole, same, length-append (due_to i) (due_among before (drop i pages)))
+
+  pub numbers_to : (i : ℕ) (q : ℕ) → times q (numbers_of (due_to i)) ≤ times q (numbers_of (due_among before pages))
+  numbers_to i q =
+      let whole = ap (λ (l : List ListingPage). times q (numbers_of l)) (filter-append (λ (l : ListingPage). is_unreached before l.page) (take i pages) (drop i pages)) in
+      let same = ap (λ (l : List ListingPage). times q (numbers_of (due_among before l))) (take-append-drop i pages) in
+      let parts = ap (times q) (numbers-append (due_to i) (due_among before (drop i pages))) in
+      omega (arith, whole, same, parts, times-append q (numbers_of (due_to i)) (numbers_of (due_among before (drop i pages))))
+
+  pub first_within : (i : ℕ) → AreWithin (due_to i) chart.staged
+  first_within i q = omega (arith, few_due before (take i pages) q, few_first i pages q, is.within q)
+
+  module _ (i : ℕ) (lt : i < length (listing_of p)) where
+    abbrev page : ℕ
+    page = get_or (listing_of p) i 0
+
+    abbrev this : ListingPage
+    this = record { page = page; bytes = listing_bytes chart.format p i }
+
+    more : due_to (i + 1) ≡ due_to i ++ due_among before (this ∷ [])
+    more =
+        ap (due_among before) (take_more pages i this (omega (arith, lt, plane_length chart.format p)) ∙ ap (λ (l : ListingPage). take i pages ++ l ∷ []) (plane_at chart.format p i this lt))
+        ∙ filter-append (λ (l : ListingPage). is_unreached before l.page) (take i pages) (this ∷ [])
+
+    pub due_more : is_unreached before page ≡ true → due_to (i + 1) ≡ due_to i ++ this ∷ []
+    due_more fresh = more ∙ ap (λ (v : Bool). due_to i ++ cond v (this ∷ []) []) fresh
+
+    pub due_same : is_unreached before page ≡ false → due_to (i + 1) ≡ due_to i
+    due_same shared = more ∙ ap (λ (v : Bool). due_to i ++ cond v (this ∷ []) []) shared ∙ append-nil (due_to i)
+
+    there : 1 ≤ times page (reached chart.staged)
+    there =
+        let here = stands_there page (listing_of p) (Contains-get_or (listing_of p) i 0 lt) in
+        let same = ap (times page) (plane_numbers chart.format p) in
+        omega (arith, here, same, is.within page)
+
+    pub page_low : 4 ≤ page
+    page_low = at_times (λ q. 4 ≤ q) page (reached chart.staged) rules.staged.page_rule.low there
+
+    pub page_high : page < chart.sectors
+    page_high = at_times (λ q. q < chart.sectors) page (reached chart.staged) rules.staged.page_rule.high there
+
+    -- the page that is to be written, if it is
+    page_is : (v : Bool) (q n : ℕ) → page_if v q ≡ Some n → (v ≡ true) × (q ≡ n)
+    page_is true q n is = (refl, same_Some q n is)
+    page_is false q n is = cc
+
+    no_page : (v : Bool) (q : ℕ) → page_if v q ≡ None → v ≡ false
+    no_page true q is = cc
+    no_page false q is = refl
+
+    pub number_is : (n : ℕ) → page_if (is_unreached before page) page ≡ Some n → page ≡ n
+    number_is n here = (page_is (is_unreached before page) page n here).1
+
+    pub page_more : {D : Type 0} (g : Ghosts D) (old mid new : Roots D g) (n : ℕ) (r : Result (Unit {0}) Refusal) → page_if (is_unreached before page) page ≡ Some n → WritesListing {T = Unit {0}} g (due_to i) old mid (Ok tt)
+        → WritesPages g (n ∷ []) mid new r → (g.honest (disk_of new) → OnOk r (g.seen (disk_of new) n ≡ listing_bytes chart.format p i)) → WritesListing g (due_to (i + 1)) old new r
+    page_more g old mid new n r here so_far wrote bytes =
+        let due = page_is (is_unreached before page) page n here in
+        subst (λ (l : List ListingPage). WritesListing g l old new r) (sym (due_more due.0))
+        (then_listed g chart.staged chart.sectors rules.staged.page_rule old mid new (due_to i) (this ∷ []) r
+        (λ q. let same = ap (λ (l : List ListingPage). times q (numbers_of l)) (due_more due.0) in omega (arith, same, first_within (i + 1) q)) so_far
+        (one_listed g mid new this r (subst (λ (m : ℕ). WritesPages g (m ∷ []) mid new r) (sym due.1) wrote)
+        (λ honest. on_ok r (λ has. ap (g.seen (disk_of new)) due.1 ∙ has) (bytes honest))))
+
+    pub page_refused : {D : Type 0} (g : Ghosts D) (old mid new : Roots D g) (n : ℕ) (why : Refusal) → page_if (is_unreached before page) page ≡ Some n → WritesListing {T = Unit {0}} g (due_to i) old mid (Ok tt)
+        → WritesPages {T = Unit {0}} g (n ∷ []) mid new (Err why) → WritesListing {T = Unit {0}} g (due_among before pages) old new (Err why)
+    page_refused g old mid new n why here so_far wrote =
+        listing_refused g (due_to (i + 1)) (due_among before pages) old new why (few_to (i + 1)) (numbers_to (i + 1)) (page_more g old mid new n (Err why) here so_far wrote (λ _. tt))
+
+    pub page_passed : {D : Type 0} (g : Ghosts D) (old mid : Roots D g) → page_if (is_unreached before page) page ≡ None → WritesListing {T = Unit {0}} g (due_to i) old mid (Ok tt) → WritesListing {T = Unit {0}} g (due_to (i + 1)) old mid (Ok tt)
+    page_passed g old mid none so_far =
+        subst (λ (l : List ListingPage). WritesListing {T = Unit {0}} g l old mid (Ok tt)) (sym (due_same (no_page (is_unreached before page) page none))) so_far

@@ -1,5 +1,0 @@
-use Rattle.cow_tree.proofs.DuePages.{IsWrittenTo}
-use Rattle.cow_tree.proofs.writing.write_index_pages.Given as goal
-
-abbrev pub invariant-loop-t : goal.invariant-loop-t
-invariant-loop-t g l = IsWrittenTo g.D.Disk l.fn.chart l.fn.plane l.t l.fn.roots l.roots
