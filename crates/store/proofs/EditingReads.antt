@@ -2,7 +2,6 @@
 use Rattle.std.proofs.Common.{◌≡◌, ◌≢◌, ◌⊎◌, inl, inr, ℕ, false, true, Result, Ok, Err, OnOk, OnErr, IfErr, IsErrOf, List, [], ◌∷◌, Contains, zero, suc, refl, sym, ap, ap₂, ◌∙◌, subst, arith}
 use Rattle.std.specs.Prelude.{IsTrue}
 use Rattle.disk.specs.Disk.{HasRisen}
-use Rattle.disk.specs.Stops.{weaker}
 use Rattle.disk.specs.declared.disk.Disk.{Ghosts}
 use Rattle.lattice.specs.Corners.{Corner}
 use Rattle.lattice.specs.declared.point.Point.{Point}
@@ -20,7 +19,6 @@ use Rattle.calls.specs.State.{State}
 use Rattle.calls.proofs.Applying.{plan_refused}
 use Rattle.charts.specs.Charts.{ChartValue, HasFreshHeights, corners_of_locations}
 use Rattle.charts.specs.TileLocations.{TileLocation}
-use Rattle.cow_tree.specs.Layout.{Stands}
 use Rattle.charts.specs.Planes.{HasPlane}
 use Rattle.charts.specs.declared.plane.Plane.TheVariants.{Heights}
 use Rattle.cow_tree.specs.Reading.{mosaic_of, IsReadable, HasOnlyRead, Reads}
@@ -28,9 +26,8 @@ use Rattle.cow_tree.specs.Stored.{StoredTile, AreWhole, mosaic_of_tiles}
 use Rattle.cow_tree.specs.Trees.{disk_of, root_of, has_failed, sinks_of, staged_in, HasStaged}
 use Rattle.cow_tree.specs.declared.tree.Tree.{Tree}
 use Rattle.store.specs.Editing.{StagesOnly}
-use Rattle.store.specs.Staging.{CommitsNothing}
 use Rattle.store.specs.TreeStates.{IsInState}
-use Rattle.store.proofs.EditingSteps.{each_stands}
+pub use Rattle.kept_labellings.proofs.Uncommitted.{reading}
 use Rattle.store.proofs.HeldTiles.{AreTilesOf, whole_filled}
 use Rattle.store.proofs.Holding.{held}
 
@@ -104,22 +101,6 @@ quiet_read (Err Damaged) P only ready = λ other. absurd (let e : Damaged ≡ De
 quiet_read (Err r) P only ready = λ other. ((λ e. cc), ready)
 
 module _ {D : Type 0} (g : Ghosts D) (old new : Tree D g) (keeps : HasOnlyRead g old new) where
-  -- reading commits nothing
-  pub reading : {T : Type 0} (result : Result T Refusal) → (IsErrOf result Device → HasRisen (g.failures (disk_of old)) (g.failures (disk_of new))) → (IsErrOf result Device → has_failed new ≡ true)
-      → OnOk result (has_failed new ≡ false) → CommitsNothing g old new result
-  reading result device failed works = record {
-    size = keeps.size;
-    later = keeps.later;
-    device = device;
-    failed = failed;
-    works = works;
-    honest = keeps.honest;
-    root = keeps.root;
-    at = keeps.at;
-    run = λ honest s at.
-        weaker g (disk_of old) (disk_of new) (g.may (disk_of old)) (λ image. Stands (g.size (disk_of old)) image s) (each_stands g old s at) (keeps.nothing honest).run;
-  }
-
   still_staged_by : (c : Corner) → HasStaged old c → HasStaged new c
   still_staged_by c staged = subst (λ (chart : ChartValue). HasFreshHeights c chart) (sym keeps.chart) staged
 

@@ -26,7 +26,7 @@ use Rattle.cow_tree.specs.Trees.{disk_of, root_of, sinks_of, has_failed, staged_
 use Rattle.cow_tree.specs.declared.tree.Tree.{Tree}
 use Rattle.cow_tree.proofs.Adding.{contains-map}
 use Rattle.cow_tree.proofs.TreeReads.{same_mosaic, was_readable}
-use Rattle.store.specs.Kept.{AreRight, KeepRight}
+use Rattle.kept_labellings.specs.Kept.{AreRight, KeepRight}
 use Rattle.store.specs.Labelling.{IsSure}
 use Rattle.store.specs.Queried.{IsTileOf}
 use Rattle.store.specs.TreeStates.{IsInState}

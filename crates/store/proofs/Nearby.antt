@@ -1,6 +1,5 @@
 -- Kept planes given up near touched tiles, corner by corner and change by change.
-use Rattle.std.proofs.Common.{◌≡◌, ℕ, ◌+◌, ◌<◌, ◌≤◌, Bool, true, false, cond, ◌||◌, ◌&&◌, List, [], ◌∷◌, length, map, take, get_or, take_all, Contains, All, refl, sym, ap, ap₂, ◌∙◌, subst, arith}
-use Rattle.std.specs.Prelude.{Some, filter}
+use Rattle.std.proofs.Common.{◌≡◌, ℕ, ◌+◌, ◌<◌, ◌≤◌, Bool, true, false, ◌||◌, ◌&&◌, List, length, take, get_or, take_all, Contains, refl, sym, ap, ◌∙◌, subst}
 use Rattle.std.specs.List.{list_any}
 use Rattle.std.proofs.lemmas.Bool.{and_from, false_from_ne_true}
 use Rattle.std.proofs.lemmas.List.Folds.{list_any_at, list_any_none, list_any_more}
@@ -114,16 +113,3 @@ module _ {D : Type 0} (g : Ghosts D) (test : Corner → Bool) (corners : List Co
 -- all of them
 pub tested_all : {D : Type 0} (g : Ghosts D) (test : Corner → Bool) (corners : List Corner) (i : ℕ) (old new : Tree D g) → length corners ≤ i → Stales g (near_tested test (take i corners)) old new → Stales g (near_tested test corners) old new
 tested_all g test corners i old new done so = subst (λ (cs : List Corner). Stales g (near_tested test cs) old new) (take_all i corners done) so
-
--- ---- whether a corner's tile is stale, by the entries of a root
-
-pub entry_listed : {E : Type 0} (corner : E → Corner) (none : E → Bool) (c : Corner) (entries : List E)
-    → list_any (λ e. same_corner (corner e) c && none e) entries ≡ list_any (λ d. same_corner d c) (map corner (filter none entries))
-entry_listed corner none c [] = refl
-entry_listed corner none c (e ∷ rest) = by (none e) (entry_listed corner none c rest)
-  where
-    by : (b : Bool) → list_any (λ e. same_corner (corner e) c && none e) rest ≡ list_any (λ d. same_corner d c) (map corner (filter none rest))
-        → ((same_corner (corner e) c && b) || list_any (λ e. same_corner (corner e) c && none e) rest)
-        ≡ list_any (λ d. same_corner d c) (map corner (cond b (e ∷ filter none rest) (filter none rest)))
-    by true later = ap₂ (λ (x y : Bool). x || y) (and_true (same_corner (corner e) c)) later
-    by false later = ap₂ (λ (x y : Bool). x || y) (and_false (same_corner (corner e) c)) later

@@ -13,7 +13,8 @@ use Rattle.store.specs.Standing.{Holds}
 use Rattle.store.specs.States.{StandsForState}
 use Rattle.store.specs.TreeStates.{IsInState}
 use Rattle.store.proofs.Openings.{found_holds}
-use Rattle.store.proofs.States.{root_side, root_capacity, held_by_root, at_contents}
+use Rattle.kept_labellings.proofs.RootStored.{root_side, root_capacity}
+use Rattle.store.proofs.States.{held_by_root, at_contents}
 
 -- a tree that hasn't failed, with nothing staged, at what holds contents
 module _ {D : Type 0} (g : Ghosts D) (tree : Tree D g) (stored : Stored) (at : IsTreeAt g tree stored) (clean : staged_in g tree ≡ stored.tiles) (seen : g.may (disk_of tree) (g.seen (disk_of tree))) where

@@ -1,70 +1,27 @@
 -- The states of a store, by what is seen of its tree.
-use Rattle.std.proofs.Common.{◌≡◌, inl, inr, ℕ, Bool, true, false, List, [], ◌∷◌, map, refl, sym, ap, ◌∙◌, subst, true≢false}
-use Rattle.std.specs.Prelude.{Option, Some, None, filter}
-use Rattle.std.specs.Option.{is_none}
+use Rattle.std.proofs.Common.{◌≡◌, inl, inr, ℕ, Bool, true, false, List, refl, sym, ap, ◌∙◌, subst, true≢false}
+use Rattle.std.specs.Prelude.{Option, None}
 use Rattle.std.proofs.lemmas.Option.{none-some}
 use Rattle.disk.specs.Disk.{Image}
 use Rattle.disk.specs.declared.disk.Disk.{Ghosts}
 use Rattle.lattice.specs.declared.point.Point.{Point}
-use Rattle.lattice.specs.Corners.{Corner}
-use Rattle.page_codec.specs.Entries.{EntryValue}
 use Rattle.layout.specs.Formats.{number_of}
 use Rattle.page_codec.specs.Roots.{RootValue}
 use Rattle.calls.specs.State.{Contents, State, failing, working}
 use Rattle.cow_tree.specs.Stored.{StoredTile, Stored}
 use Rattle.charts.specs.TileLocations.{TileLocation}
-use Rattle.charts.specs.declared.locations.KeptLocations.{KeptLocations}
-use Rattle.cow_tree.specs.Entries.{entry_of}
-use Rattle.cow_tree.specs.Layout.{StoresAt, tile_in}
-use Rattle.store.specs.Kept.{stale_in, stale_corners}
+use Rattle.cow_tree.specs.Layout.{StoresAt}
+use Rattle.kept_labellings.specs.Kept.{stale_in}
+use Rattle.kept_labellings.proofs.RootStored.{root_side, root_version, root_capacity, root_count, root_number, root_sinks, root_stale}
 use Rattle.store.specs.Standing.{Holds, StandsFor}
 use Rattle.store.specs.States.{StandsForState, EachStandsFor, IsStateOf}
 
-abbrev entry_corner : EntryValue → Corner
-entry_corner e = e.corner
-
-abbrev keeps_none : EntryValue → Bool
-keeps_none e = is_none e.kept
-
--- the known root's numbers are those of what is stored
-module _ (sectors : ℕ) (root : RootValue) (tiles : List TileLocation) (stored : Stored) (image : Image) (stores : StoresAt sectors root tiles stored image) where
-  pub root_side : stored.side ≡ root.side
-  root_side = ap (λ (s : Stored). s.side) stores.stands
-
-  pub root_version : stored.version ≡ root.version
-  root_version = ap (λ (s : Stored). s.version) stores.stands
-
-  pub root_capacity : stored.capacity ≡ root.capacity
-  root_capacity = ap (λ (s : Stored). s.capacity) stores.stands
-
-  pub root_count : stored.count ≡ root.count
-  root_count = ap (λ (s : Stored). s.count) stores.stands
-
-  pub root_number : stored.number ≡ root.number
-  root_number = ap (λ (s : Stored). s.number) stores.stands
-
-  pub root_sinks : stored.sinks ≡ root.sinks
-  root_sinks = ap (λ (s : Stored). s.sinks) stores.stands
-
-  -- so what is held is held with the root's side and capacity
-  pub held_by_root : (side capacity : ℕ) (c : Contents) → Holds side capacity stored c → Holds root.side root.capacity stored c
-  held_by_root side capacity c holds =
-      subst (λ (n : ℕ). Holds n root.capacity stored c) (sym holds.stored_side ∙ root_side)
-      (subst (λ (n : ℕ). Holds side n stored c) (sym holds.stored_capacity ∙ root_capacity) holds)
-
--- the stale tiles by the entries are those by what is stored
-stale_entries : (image : Image) (tiles : List TileLocation) → map entry_corner (filter keeps_none (map entry_of tiles)) ≡ stale_corners (map (tile_in image) tiles)
-stale_entries image [] = refl
-stale_entries image (t ∷ rest) = by t.kept (stale_entries image rest)
-  where
-    by : (kept : Option KeptLocations) → map entry_corner (filter keeps_none (map entry_of rest)) ≡ stale_corners (map (tile_in image) rest)
-        → map entry_corner (filter keeps_none (map entry_of (record t { kept = kept } ∷ rest))) ≡ stale_corners (map (tile_in image) (record t { kept = kept } ∷ rest))
-    by None later = ap (λ (cs : List Corner). t.corner ∷ cs) later
-    by (Some k) later = later
-
-pub root_stale : (sectors : ℕ) (root : RootValue) (tiles : List TileLocation) (stored : Stored) (image : Image) → StoresAt sectors root tiles stored image → stale_in root ≡ stale_corners stored.tiles
-root_stale sectors root tiles stored image stores =
-    ap (λ (entries : List EntryValue). map entry_corner (filter keeps_none entries)) (sym stores.laid_out.entries) ∙ stale_entries image tiles ∙ ap (λ (s : Stored). stale_corners s.tiles) (sym stores.stands)
+-- what is held is held with the root's side and capacity
+pub held_by_root : (sectors : ℕ) (root : RootValue) (tiles : List TileLocation) (stored : Stored) (image : Image) → StoresAt sectors root tiles stored image
+    → (side capacity : ℕ) (c : Contents) → Holds side capacity stored c → Holds root.side root.capacity stored c
+held_by_root sectors root tiles stored image stores side capacity c holds =
+    subst (λ (n : ℕ). Holds n root.capacity stored c) (sym holds.stored_side ∙ root_side sectors root tiles stored image stores)
+    (subst (λ (n : ℕ). Holds side n stored c) (sym holds.stored_capacity ∙ root_capacity sectors root tiles stored image stores) holds)
 
 module _ {D : Type 0} (g : Ghosts D) (disk : D) (root : RootValue) (failed : Bool) (IsTreeAt : Stored → Type 0) (staged : List StoredTile) (sinks : List Point) where
   -- a tree that hasn't failed and has nothing staged, at what holds the contents

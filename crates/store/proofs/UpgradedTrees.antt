@@ -22,9 +22,10 @@ use Rattle.cow_tree.specs.Stored.{Stored}
 use Rattle.cow_tree.specs.Trees.{disk_of, root_of, has_failed, corners_of, sinks_of, records_due, HasStaged, staged_in, IsAt as IsTreeAt}
 use Rattle.cow_tree.specs.Upgrades.{MayUpgrade, UpgradesNot, upgraded_store}
 use Rattle.cow_tree.specs.declared.tree.Tree.{Tree}
-use Rattle.store.specs.Staging.{CommitsNothing}
+use Rattle.kept_labellings.specs.Uncommitted.{CommitsNothing}
 use Rattle.store.specs.Standing.{Holds}
-use Rattle.store.specs.TreeStates.{IsInState, IsClean}
+use Rattle.kept_labellings.specs.Clean.{IsClean}
+use Rattle.store.specs.TreeStates.{IsInState}
 use Rattle.store.specs.Upgraded.{IsUpgraded, has_room, may_refuse_upgrade, upgrade_ending}
 use Rattle.store.proofs.EditingSteps.{given_up, in_memory}
 use Rattle.store.proofs.EditingReads.{device_or_not}

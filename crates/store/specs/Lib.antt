@@ -4,7 +4,7 @@ pub mod Editing
 pub mod Ended
 pub mod Fates
 pub mod Formatted
-pub mod Kept
+pub mod Fresh
 pub mod KeptRight
 pub mod Labelling
 pub mod Queried

@@ -1,31 +1,29 @@
 //! The store.
-ghost use Rattle.std.specs.Prelude.{◌≡◌, ◌≢◌, ◌≤◌, ◌<◌, ◌⊎◌, ◌↔◌, ◌&&◌, ℕ, true, false, Some, Ok, Err, OnOk, IfOk, IfErr, IsErrOf};
-ghost use Rattle.std.specs.List.{list_any};
-ghost use Rattle.std.specs.Option.{is_none};
+ghost use Rattle.std.specs.Prelude.{◌≡◌, ◌≢◌, ◌≤◌, ◌<◌, ◌⊎◌, ◌↔◌, ℕ, true, false, Some, Ok, Err, OnOk, IfOk, IfErr, IsErrOf, Contains};
 ghost use Rattle.disk.specs.Disk.{Image, HasRisen};
 ghost use Rattle.disk.specs.Stops.{AddsNothing};
-ghost use Rattle.lattice.specs.Corners.{same_corner};
 ghost use Rattle.lattice.specs.Limits.{largest_side, most_tiles};
 ghost use Rattle.lattice.specs.declared.refusal.Refusal.TheVariants.{Device, NoMemory, BadSide, BadCapacity, TooSmall};
 ghost use Rattle.layout.specs.Formats.{IsKnown, largest_side_of, number_of};
 ghost use Rattle.layout.specs.declared.version.Version.TheVariants.{One};
 ghost use Rattle.page_codec.specs.Sizes.{sectors_asked, sectors_of};
-ghost use Rattle.catalogue.specs.Tiles.{is_listed};
+ghost use Rattle.catalogue.specs.Tiles.{corners_of, is_listed};
 ghost use Rattle.calls.specs.State.{Contents, State, fresh, fresh_1, working};
 ghost use Rattle.cow_tree.specs.Layout.{Stands};
 ghost use Rattle.cow_tree.specs.OverRoots.{IsRefusalOfTree};
 ghost use Rattle.cow_tree.specs.Stored.{no_tiles};
 ghost use Rattle.cow_tree.specs.Trees.{MayRefuse, has_failed as have_failed};
 ghost use Rattle.store.specs.Formatted.{format_2, format_by};
-ghost use Rattle.store.specs.Kept.{stale_in};
+ghost use Rattle.kept_labellings.specs.Kept.{stale_in};
+ghost use Rattle.store.specs.Fresh.{KeepsFresh};
 ghost use Rattle.store.specs.Standing.{StandsFor};
-ghost use Rattle.store.specs.TreeStates.{IsClean};
+ghost use Rattle.kept_labellings.specs.Clean.{IsClean};
 
 use cow_tree::{NotOpened, Tree};
 use disk::Disk;
 use drainage::Held;
 use lattice::{Corner, Refusal, Side};
-use page_codec::{Entry, Format, Version};
+use page_codec::{Format, Version};
 use std::alloc::Global;
 
 /// A store of elevation tiles on a disk.
@@ -175,8 +173,12 @@ impl<D: Disk> Store<D> {
     pub fn stale(&self, corner: Corner) -> bool
         ensures value { result ≡ is_listed corner (stale_in (root_of self.now)) }
         ensures state { (s : State) → IsAt D.Disk self.now s → result ≡ is_listed corner s.contents.stale }
+
+        // Of a present tile that isn't stale a valid labelling of its block is kept.
+        ensures fresh { D.honest (disk_of self.now) → has_failed self.now ≡ false → (s : State) → IsAt D.Disk self.now s
+            → Contains (corners_of s.contents.mosaic) corner → result ≡ false → KeepsFresh D.Disk self.now.tree s.contents.mosaic corner }
     {
-        is_stale(self.tree.current().entries(), corner)
+        kept_labellings::stale(&self.tree, corner)
     }
 
     /// The version of its format, as last known.
@@ -214,15 +216,6 @@ impl<D: Disk> Store<D> {
     {
         self.tree.current().capacity()
     }
-}
-
-// Whether some entry is the corner's and keeps nothing.
-fn is_stale(entries: &[Entry], corner: Corner) -> bool
-    ensures { result ≡ list_any (λ e. same_corner e.corner corner && is_none e.kept) entries.now }
-{
-    entries
-        .iter()
-        .any(|entry| entry.corner == corner && entry.kept.is_none())
 }
 
 // Makes an empty store by this version on a disk, where there is room for it.

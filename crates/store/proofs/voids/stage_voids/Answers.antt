@@ -1,7 +1,7 @@
-use Rattle.std.proofs.Common.{◌≡◌, ◌⊎◌, ⊎_elim, ◌+◌, ◌-◌, ◌*◌, ◌<◌, inl, inr, ℕ, false, All, Contains, List, length, map, get_or, Result, Ok, Err, IfErr, OnOk, vec_len, refl, sym, ap, ap₂, ◌∙◌, subst}
+use Rattle.std.proofs.Common.{◌≡◌, ◌⊎◌, ⊎_elim, ◌-◌, ◌*◌, ◌<◌, inl, inr, ℕ, All, Contains, List, length, map, get_or, Result, Ok, Err, IfErr, OnOk, vec_len, refl, sym, ap, ap₂, ◌∙◌, subst}
 use Rattle.std.specs.Prelude.{IsTrue}
 use Rattle.std.proofs.lemmas.List.{length-map, get_or-map}
-use Rattle.std.proofs.lemmas.List.Elements.{All-map, All-weaker}
+use Rattle.std.proofs.lemmas.List.Elements.{All-map}
 use Rattle.std.proofs.lemmas.Result.{IfErr-weaker}
 use Rattle.disk.specs.declared.disk.Disk.{Ghosts}
 use Rattle.lattice.specs.Corners.{Corner}
@@ -14,18 +14,17 @@ use Rattle.catalogue.specs.Readers.{reads_of}
 use Rattle.charts.specs.Charts.{ChartValue, HasFreshHeights}
 use Rattle.cow_tree.specs.Reading.{HasOnlyRead, IsReadable, mosaic_of}
 use Rattle.cow_tree.specs.Stored.{StoredTile, AreWhole, mosaic_of_tiles}
-use Rattle.cow_tree.specs.Trees.{disk_of, root_of, has_failed, corners_of, sinks_of, staged_in, HasStaged}
+use Rattle.cow_tree.specs.Trees.{root_of, has_failed, corners_of, sinks_of, staged_in, HasStaged}
 use Rattle.cow_tree.specs.declared.tree.Tree.{Tree}
 use Rattle.cow_tree.proofs.ReadOnly.{never_refused}
 use Rattle.cow_tree.proofs.Steps.{on_ok}
 use Rattle.store.specs.Editing.{StagesOnly, IsRefusedEarly}
-use Rattle.store.specs.Staging.{CommitsNothing}
+use Rattle.kept_labellings.specs.Uncommitted.{CommitsNothing}
 use Rattle.store.specs.Underway.{filled, AreRimVoids, IsSettled, IsUnderway, Advances}
 use Rattle.store.specs.declared.rims.RimVoids.{RimVoids}
 use Rattle.store.proofs.EditingReads.{reading, risen_read, fails_read, works_read}
 use Rattle.store.proofs.EditingSteps.{refused_as, stages_on}
 use Rattle.store.proofs.Querying.{true_where}
-use Rattle.store.proofs.StagingSteps.{prepared_early}
 use Rattle.store.proofs.Underway.{whole_pages}
 use Rattle.store.proofs.voids.stage_voids.Goals as goal
 

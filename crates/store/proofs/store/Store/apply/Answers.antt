@@ -1,12 +1,10 @@
 use Rattle.std.proofs.Common.{◌≡◌, ⊎_elim, inl, inr, ℕ, ◌<◌, ◌≤◌, ◌+◌, false, true, Bool, if◌then◌else◌, List, All, Contains, map, refl, sym, ap, ap₂, ◌∙◌, subst, arith}
 use Rattle.std.specs.Prelude.{Result, Ok, Err, IfErr, IfOk, IsTrue, OnOk}
 use Rattle.std.proofs.lemmas.Result.{IfErr-weaker}
-use Rattle.disk.specs.declared.disk.Disk.{Ghosts}
 use Rattle.lattice.specs.Corners.{Corner, is_corner}
 use Rattle.lattice.specs.Mosaic.{Mosaic, IsMosaic}
 use Rattle.lattice.specs.declared.refusal.Refusal.{Refusal}
 use Rattle.lattice.specs.declared.refusal.Refusal.TheVariants.{Device, Failed, Worn}
-use Rattle.layout.specs.declared.version.Version.{Version}
 use Rattle.page_codec.specs.Roots.{RootValue}
 use Rattle.drainage.specs.Between.{IsHeldOf}
 use Rattle.edits.specs.declared.command.Command.{Command}
@@ -15,18 +13,17 @@ use Rattle.edits.specs.declared.edit.Edit.{Edit}
 use Rattle.edits.specs.declared.edit.Edit.TheVariants as edit
 use Rattle.edits.specs.Edits.{IsEditOf, FitsIn, HasRoom, FindsVoids, edit_made, goes_stale_by}
 use Rattle.edits.specs.Effect.{effect}
-use Rattle.edits.specs.EffectLaws.{CommandsMakeMosaics, IsCommand}
+use Rattle.edits.specs.EffectLaws.{IsCommand}
 use Rattle.edits.specs.Plans.{is_own}
 use Rattle.edits.specs.Touched.{goes_stale}
 use Rattle.edits.proofs.AllStale.{near_itself}
 use Rattle.cow_tree.specs.Stored.{StoredTile}
 use Rattle.cow_tree.specs.Trees.{disk_of, root_of, has_failed, corners_of, sinks_of, staged_in}
-use Rattle.cow_tree.specs.declared.tree.Tree.{Tree}
 use Rattle.cow_tree.proofs.ReadOnly.{never_refused}
 use Rattle.cow_tree.proofs.Steps.{on_ok}
 use Rattle.store.specs.Applied.{IsApplied}
 use Rattle.store.specs.Editing.{ComesIn, IsGiven, WritesFew}
-use Rattle.store.specs.Staging.{CommitsNothing}
+use Rattle.kept_labellings.specs.Uncommitted.{CommitsNothing}
 use Rattle.store.specs.Staling.{staled}
 use Rattle.store.specs.Standing.{AreTilesOf}
 use Rattle.store.proofs.Committed.{fails_before, failed_first, quiet, may_end_it}

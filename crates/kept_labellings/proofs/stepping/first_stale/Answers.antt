@@ -2,9 +2,9 @@ use Rattle.std.proofs.Common.{not, ap, sym, subst, ◌∙◌}
 use Rattle.std.specs.Prelude.{Contains}
 use Rattle.std.specs.Option.{is_none}
 use Rattle.page_codec.specs.Entries.{EntryValue}
-use Rattle.store.specs.Stepped.{stale_among}
-use Rattle.store.proofs.SteppedTiles.{stale_found, none_more}
-use Rattle.store.proofs.stepping.first_stale.Goals as goal
+use Rattle.kept_labellings.specs.Kept.{stale_among}
+use Rattle.kept_labellings.proofs.KeptTiles.{stale_found, none_more}
+use Rattle.kept_labellings.proofs.stepping.first_stale.Goals as goal
 
 pub returns-then-is_none : goal.returns-then-is_none
 returns-then-is_none c =

@@ -1,6 +1,6 @@
 use Rattle.std.proofs.Common.{◌≡◌, [], take}
-use Rattle.store.specs.Stepped.{stale_among}
-use Rattle.store.proofs.stepping.first_stale.Given as goal
+use Rattle.kept_labellings.specs.Kept.{stale_among}
+use Rattle.kept_labellings.proofs.stepping.first_stale.Given as goal
 
 abbrev pub invariant-loop-entry : goal.invariant-loop-entry
 invariant-loop-entry l = stale_among (take l.entry-index l.entries) ≡ []

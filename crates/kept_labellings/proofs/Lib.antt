@@ -1,0 +1,5 @@
+pub mod KeptTiles
+pub mod RootStored
+pub mod Settled
+pub mod StepEnds
+pub mod Uncommitted

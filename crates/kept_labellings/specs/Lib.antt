@@ -1,0 +1,4 @@
+pub mod Clean
+pub mod Kept
+pub mod Steps
+pub mod Uncommitted
