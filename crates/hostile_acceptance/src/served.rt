@@ -1,7 +1,7 @@
 //! Sessions of lines, each served in a function that promises nothing, as those of `stores`.
 use disk::Disk;
 use lattice::Side;
-use serving::serve;
+use serving::{CheckedWriter, serve};
 use std::alloc::Global;
 use std::io::{self, Read};
 use std::test::Fail;
@@ -29,9 +29,9 @@ pub(crate) fn served_by_table(alloc: Global, bytes: &[u8], size: usize) -> Resul
     let side = Side::new(3).ok_or("no side")?;
     let mut table = TableEngine::new(alloc, side, 4);
     let mut reader = Pieces { bytes, size };
-    let mut output = Vec::new(alloc);
+    let mut output = CheckedWriter::new(Vec::new(alloc));
     serve(alloc, &mut reader, &mut output, &mut table)?;
-    Ok(output)
+    Ok(output.into_inner())
 }
 
 /// What the store replies.
@@ -42,7 +42,7 @@ pub(crate) fn served_by_store<D: Disk>(
     size: usize,
 ) -> Result<Vec<u8>, Fail> {
     let mut reader = Pieces { bytes, size };
-    let mut output = Vec::new(alloc);
+    let mut output = CheckedWriter::new(Vec::new(alloc));
     serve(alloc, &mut reader, &mut output, store)?;
-    Ok(output)
+    Ok(output.into_inner())
 }

@@ -1,28 +1,21 @@
 -- How the program ends.
-use Rattle.std.proofs.Common.{◌≡◌, inl, inr, ⊎_elim, ℕ, List, Bool, true, Option, Result, Ok, Err, OnOk, OnErr, refl, take, length, arith, sym, subst}
-use Rattle.std.specs.Prelude.{IsErr}
-use Rattle.std.specs.Io.KnownBytes.{Appends, Keeps}
-use Rattle.std.proofs.KnownBytes.{Appends-kept}
-use Rattle.std.proofs.lemmas.List.{take_all}
-use Rattle.server.specs.Outputs.{Begins, Puts, Stream}
+use Rattle.std.proofs.Common.{◌≡◌, ℕ, List, Bool, true, Option, Result, Err, refl, subst}
+use Rattle.serving.specs.Outputs.{Begins, Puts, Stream}
+use Rattle.serving.specs.declared.session.ServeFault.{ServeFault}
+use Rattle.serving.specs.declared.session.ServeFault.TheVariants.{Input, Output}
+use Rattle.serving.proofs.OutputLemmas.{begun}
+use Rattle.server.specs.Endings.{EndsSession, fault_line}
 
--- what was written whole was begun
-whole : (a b : Option (List ℕ)) (text : List ℕ) → Appends a b text → Begins a b text
-whole a b text appends =
-    let all : take (length text) text ≡ text = take_all (length text) text (omega arith) in
-    (length text, subst (Appends a b) (sym all) appends)
-
--- what was put was begun
-pub begun : (a : Option (List ℕ)) (b : Stream) (text : List ℕ) → Puts a b text → Begins a b.contents text
-begun a b text puts = ⊎_elim (whole a b.contents text) (λ part. part.0) puts
-
--- a text that was tried, and then a flush
-pub put : {E : Type 0} (r : Result (Unit {0}) E) (a b c : Option (List ℕ)) (failed : Bool) (text : List ℕ) → OnOk r (Appends a b text)
-    → OnErr r ((n : ℕ) × Appends a b (take n text)) → Keeps b c → (IsErr r → failed ≡ true) → Puts a (record { contents = c; failed = failed }) text
-put (Ok u) a b c failed text ok err kept noted = inl (Appends-kept a b c text ok kept)
-put (Err e) a b c failed text ok (n, begun) kept noted = inr ((n, Appends-kept a b c (take n text) begun kept), noted refl)
+abbrev failure : ServeFault → Result (Unit {0}) ServeFault
+failure fault = Err fault
 
 -- a call has failed, and a line was put that tells of it
 pub tells_fault : (a b : Option (List ℕ)) (new : Stream) (text line told : List ℕ) (status : ℕ) → status ≡ 1 → line ≡ told → Begins a b text → Puts b new line → new.failed ≡ true
     → (mid : Option (List ℕ)) × Begins a mid text × Begins mid new.contents told × (new.failed ≡ true) × (status ≡ 1)
 tells_fault a b new text line told status is same begins puts failed = (b, begins, begun b new told (subst (Puts b new) same puts), failed, is)
+
+-- a stream has failed, and a line was put that tells which
+pub ends_failed : (fault : ServeFault) (a : Option (List ℕ)) (failed_before : Bool) (new : Stream) (line : List ℕ) (status : ℕ) → status ≡ 1 → line ≡ fault_line fault → Puts a new line
+    → (failed_before ≡ true → new.failed ≡ true) → (failure fault ≡ failure Output → failed_before ≡ true) → EndsSession (Err fault) a new status
+ends_failed Input a before new line status is same puts stays caused = (subst (Puts a new) same puts, is)
+ends_failed Output a before new line status is same puts stays caused = (subst (Puts a new) same puts, stays (caused refl), is)

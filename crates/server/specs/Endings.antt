@@ -6,7 +6,7 @@ use Rattle.lattice.specs.declared.refusal.Refusal.TheVariants.{NoMemory}
 use Rattle.lines.specs.Replies.{line_of, ok_line, refusal_text}
 use Rattle.serving.specs.declared.session.ServeFault.{ServeFault}
 use Rattle.serving.specs.declared.session.ServeFault.TheVariants.{Input, Output}
-use Rattle.server.specs.Outputs.{Begins, Puts, Stream}
+use Rattle.serving.specs.Outputs.{Begins, Puts, Stream}
 
 abbrev pub bad_words : List ℕ
 bad_words = line_of (codes "mosaic: bad arguments")
@@ -29,10 +29,12 @@ EndsReplying text written new status =
     (Appends written new.contents text × (new.failed ≡ false) × (status ≡ 0))
     ⊎ ((mid : Option (List ℕ)) × Begins written mid text × Begins mid new.contents (fault_line Output) × (new.failed ≡ true) × (status ≡ 1))
 
--- a session is over: all that was written has left, or a line tells which stream failed
+-- A session is over: all that was written has left, or a line tells which stream failed. The output is told so only where
+-- a write or a flush of it has failed.
 abbrev pub EndsSession : Result (Unit {0}) ServeFault → Option (List ℕ) → Stream → ℕ → Type 0
 EndsSession (Ok done) written new status = EndsReplying [] written new status
-EndsSession (Err fault) written new status = Puts written new (fault_line fault) × (status ≡ 1)
+EndsSession (Err Input) written new status = Puts written new (fault_line Input) × (status ≡ 1)
+EndsSession (Err Output) written new status = Puts written new (fault_line Output) × (new.failed ≡ true) × (status ≡ 1)
 
 -- a number of commands is told
 abbrev pub count_line : ℕ → List ℕ

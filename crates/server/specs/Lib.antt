@@ -2,7 +2,6 @@ pub mod Endings
 pub mod Files
 pub mod Following
 pub mod OnDisks
-pub mod Outputs
 pub mod Places
 pub mod Program
 pub mod Report

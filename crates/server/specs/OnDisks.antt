@@ -28,7 +28,7 @@ use Rattle.store.specs.StoreState.{StandsForOne}
 use Rattle.store.specs.Stores.{disk_of, side_of, has_failed}
 use Rattle.store.specs.declared.store.Store.{Store}
 use Rattle.server.specs.Endings.{EndsAnswering, EndsSession, Tells, TellsRefusal, count_line}
-use Rattle.server.specs.Outputs.{Stream}
+use Rattle.serving.specs.Outputs.{Stream}
 use Rattle.server.specs.Places.{HasGrown, HasNotGrown}
 use Rattle.server.specs.Sizes.{IsTaken}
 use Rattle.server.specs.Report.{IsReportText, Reports}

@@ -24,7 +24,7 @@ use Rattle.command_line.specs.CommandLine.{AskedBy, AskNothing}
 use Rattle.server.specs.Endings.{EndsSession, Tells, TellsRefusal, bad_words}
 use Rattle.server.specs.Files.{GivesUntouched}
 use Rattle.server.specs.OnDisks.{ServesLines, ImportsTile, MakesStore, ChecksStore, GrowsAndUpgrades}
-use Rattle.server.specs.Outputs.{Puts, Stream}
+use Rattle.serving.specs.Outputs.{Puts, Stream}
 use Rattle.server.specs.Places.{Access, Makes, Opens, Reads}
 use Rattle.server.specs.Sizes.{IsTaken, IsRefusedFor}
 use Rattle.command_line.specs.declared.arguments.Arguments.{Arguments}

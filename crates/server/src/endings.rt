@@ -1,14 +1,13 @@
 //! How the program ends: what it writes, and its exit status.
-ghost use Rattle.std.specs.Prelude.{◌≡◌, ◌++◌, IfOk, true};
+ghost use Rattle.std.specs.Prelude.{◌≡◌, ◌++◌, Err, IfOk, true};
 ghost use Rattle.calls.specs.Engines.{items_in};
 ghost use Rattle.lines.specs.Replies.{line_of};
 ghost use Rattle.server.specs.Endings.{EndsAnswering, EndsReplying, EndsSession, Tells, TellsRefusal, count_line, fault_line};
-ghost use Rattle.server.specs.Outputs.{Puts, stream_of};
+ghost use Rattle.serving.specs.Outputs.{Puts, stream_of};
 
-use crate::output::Output;
 use lattice::Refusal;
 use lines::Text;
-use serving::ServeFault;
+use serving::{Output, ServeFault};
 use std::alloc::{AllocError, Global};
 
 /// The exit statuses: done; refused, or a stream failed; other words than the program takes.
@@ -20,7 +19,8 @@ pub const BAD_WORDS: u8 = 2;
 
 /// Ends a session, and answers the exit status.
 pub(crate) fn end_session<O: Output>(writer: &mut O, served: Result<(), ServeFault>) -> u8
-    ensures { EndsSession served (O.contents writer.old) (stream_of O.contents O.failed writer.new) result }
+    ensures { (served ≡ Err ServeFault.Output → O.failed writer.old ≡ true)
+        → EndsSession served (O.contents writer.old) (stream_of O.contents O.failed writer.new) result }
 {
     match served {
         Ok(()) => reply_text(writer, b""),

@@ -8,7 +8,6 @@ mod disks;
 mod endings;
 mod files;
 mod following;
-mod output;
 mod places;
 mod reporting;
 
@@ -20,8 +19,7 @@ pub use disks::{
 pub use engine::Engine;
 pub use files::FilePlaces;
 pub use following::{longer_disks_hold, serving_is_a_session, sessions_follow};
-pub use output::{CheckedWriter, Output};
 pub use places::{Lengthen, MakeFault, Places};
 pub use reporting::report;
-pub use serving::{ServeFault, serve};
+pub use serving::{CheckedWriter, Output, ServeFault, serve};
 pub use table_engine::TableEngine;

@@ -1,3 +1,4 @@
+pub mod OutputLemmas
 pub mod Runs
 pub mod SessionLemmas
 pub mod Texts

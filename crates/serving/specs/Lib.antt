@@ -1,5 +1,6 @@
 pub mod Answers
 pub mod Items
+pub mod Outputs
 pub mod Promises
 pub mod Served
 pub mod Session

@@ -2,15 +2,17 @@
 ghost use Rattle.std.specs.Prelude.{◌≡◌, ◌<◌, List, [], Ok, Err};
 ghost use Rattle.calls.specs.Runs.{last_of};
 ghost use Rattle.lines.specs.Ahead.{to_come, weight};
+ghost use Rattle.serving.specs.Outputs.{TellsFailure};
 ghost use Rattle.serving.specs.Promises.{Answers, Serves};
 ghost use Rattle.serving.specs.Session.{Steps};
 
 use crate::answering::answer;
 use crate::hearing::{hear, is_last, is_over};
+use crate::output::Output;
 use engine::Engine;
 use lines::{Ahead, Line, read_line};
 use std::alloc::Global;
-use std::io::{Read, Write};
+use std::io::Read;
 use thiserror::Error;
 
 /// Which side of the session failed.
@@ -19,7 +21,7 @@ pub enum ServeFault {
     /// A read failed, or 2^64 - 1 reads were made.
     #[error("input fault")]
     Input,
-    /// A write failed, or took no byte.
+    /// A write failed or took no byte, or a flush failed.
     #[error("output fault")]
     Output,
 }
@@ -32,17 +34,18 @@ enum Next {
 }
 
 /// Hears an item, answers it and writes the reply.
-fn step<R: Read, W: Write, E: Engine>(
+fn step<R: Read, O: Output, E: Engine>(
     alloc: Global,
     ahead: &mut Ahead,
     line: &mut Line,
     reader: &mut R,
-    writer: &mut W,
+    writer: &mut O,
     engine: &mut E,
 ) -> Result<Next, ServeFault>
     ensures calls { (engines : List E) × ((last_of engine.old engines ≡ engine.new)
         × Steps (Answers E.Engine) (to_come ahead.old (R.remaining reader.old)) (to_come ahead.new (R.remaining reader.new))
-        (W.contents writer.old) (W.contents writer.new) engine.old engines result) }
+        (O.contents writer.old) (O.contents writer.new) engine.old engines result) }
+    ensures output { TellsFailure (O.failed writer.old) (O.failed writer.new) result }
     ensures spent { result ≡ Ok Next.More → weight ahead.new < weight ahead.old }
     ensures none_ahead { result ≡ Err ServeFault.Input → ahead.new.bytes ≡ [] }
 {
@@ -61,10 +64,12 @@ fn step<R: Read, W: Write, E: Engine>(
     } else {
         Next::More
     };
-    match answer(alloc, engine, item).write(writer) {
-        Ok(()) => Ok(next),
-        Err(_) => Err(ServeFault::Output),
+    let reply = answer(alloc, engine, item);
+    writer.put_reply(&reply);
+    if writer.has_failed() {
+        return Err(ServeFault::Output);
     }
+    Ok(next)
 }
 
 /// Answers the items that the reader gives, one after another, to the end of its bytes or to `quit`.
@@ -79,14 +84,17 @@ fn step<R: Read, W: Write, E: Engine>(
 /// On any disk, honest or not, `OK` and a number is written for a command only where the engine had answered so, and a
 /// fault of the disk is told as `ERR 20 Device`. From then on what asks the engine for more is answered with
 /// `ERR 22 Failed`.
-pub fn serve<R: Read, W: Write, E: Engine>(
+///
+/// `Output` is answered exactly where a write or a flush of the output has failed.
+pub fn serve<R: Read, O: Output, E: Engine>(
     alloc: Global,
     reader: &mut R,
-    writer: &mut W,
+    writer: &mut O,
     engine: &mut E,
 ) -> Result<(), ServeFault>
-    ensures { (engines : List E) × ((last_of engine.old engines ≡ engine.new)
-        × Serves E.Engine (R.remaining reader.old) (R.remaining reader.new) (W.contents writer.old) (W.contents writer.new) engine.old engines result) }
+    ensures calls { (engines : List E) × ((last_of engine.old engines ≡ engine.new)
+        × Serves E.Engine (R.remaining reader.old) (R.remaining reader.new) (O.contents writer.old) (O.contents writer.new) engine.old engines result) }
+    ensures output { TellsFailure (O.failed writer.old) (O.failed writer.new) result }
 {
     let mut ahead = Ahead::new(alloc);
     let mut line = Line::new();

@@ -4,7 +4,7 @@ use disk::{Disk, MemDisk};
 use engine::Engine;
 use lattice::Side;
 use memory_store::store_in_memory;
-use serving::serve;
+use serving::{CheckedWriter, serve};
 use std::alloc::Global;
 use std::process::Abort;
 use std::test::Fail;
@@ -93,9 +93,9 @@ pub(crate) fn replies<E: Engine>(
     input: &[u8],
 ) -> Result<Vec<u8>, Fail> {
     let mut reader = input;
-    let mut output = Vec::new(alloc);
+    let mut output = CheckedWriter::new(Vec::new(alloc));
     serve(alloc, &mut reader, &mut output, engine)?;
-    Ok(output)
+    Ok(output.into_inner())
 }
 
 /// A mosaic in memory of tiles of this side, so many at most.

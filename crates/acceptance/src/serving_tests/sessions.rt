@@ -2,7 +2,7 @@
 use super::script::{Row, bytes_of, check_rows, table};
 use crate::asserting::assert_row;
 use crate::counting::Counting;
-use serving::{ServeFault, serve};
+use serving::{CheckedWriter, ServeFault, serve};
 use std::alloc::Global;
 use std::io::{self, Read};
 use std::test::Fail;
@@ -52,9 +52,9 @@ fn served<R: Read>(
     alloc: Global,
     reader: &mut R,
 ) -> Result<(Result<(), ServeFault>, Vec<u8>), Fail> {
-    let mut output = Vec::new(alloc);
+    let mut output = CheckedWriter::new(Vec::new(alloc));
     let served = serve(alloc, reader, &mut output, &mut table(alloc, 3, 4)?);
-    Ok((served, output))
+    Ok((served, output.into_inner()))
 }
 
 const IMPORTS_AND_ENDS: [Row; 8] = [
@@ -146,7 +146,7 @@ fn a_reader_that_fails(rt: HostRuntime) -> Result<(), Fail> {
 fn fails_after(alloc: Global, input: &[u8], room: usize) -> Result<bool, Fail> {
     let mut reader = input;
     let mut bytes = vec![in alloc; 0; room]?;
-    let mut writer = bytes.as_mut_slice();
+    let mut writer = CheckedWriter::new(bytes.as_mut_slice());
     let served = serve(alloc, &mut reader, &mut writer, &mut table(alloc, 3, 4)?);
     Ok(served == Err(ServeFault::Output) && REPLIES.starts_with(&bytes))
 }
@@ -167,9 +167,9 @@ fn a_write_for_each_reply(rt: HostRuntime) -> Result<(), Fail> {
     let lines = b"import N00E000 18\n$Aexport N00E000\ntiles\ntrace 0 0\nwatershed 0 2\nelev 9 9\n";
     let input = bytes_of(alloc, lines)?;
     let mut reader = input.as_slice();
-    let mut writer = Counting::new();
+    let mut writer = CheckedWriter::new(Counting::new());
     serve(alloc, &mut reader, &mut writer, &mut table(alloc, 3, 4)?)?;
     // The bytes of the tile leave by one of their own.
-    assert!(rt; writer.writes == 7);
+    assert!(rt; writer.into_inner().writes == 7);
     Ok(())
 }

@@ -1,7 +1,7 @@
 use Rattle.std.proofs.Common.{rules, ℕ, List, [], ◌∷◌, None, Some, inl, inr, refl, subst}
 use Rattle.hgt.specs.Names.{IsFileName}
 use Rattle.server.specs.OnDisks.{ImportsTile}
-use Rattle.server.specs.Outputs.{stream_of}
+use Rattle.serving.specs.Outputs.{stream_of}
 use Rattle.server.specs.Places.{Opens, Reads}
 use Rattle.server.proofs.commands.import.Goals as goal
 

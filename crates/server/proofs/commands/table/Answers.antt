@@ -1,6 +1,6 @@
 use Rattle.std.proofs.Common.{rules, ◌≡◌, ◌≤◌, ℕ, inr, subst}
 use Rattle.lattice.specs.Limits.{largest_side, most_tiles}
-use Rattle.server.specs.Outputs.{stream_of}
+use Rattle.serving.specs.Outputs.{stream_of}
 use Rattle.server.specs.Program.{EndsServing}
 use Rattle.server.proofs.commands.table.Goals as goal
 

@@ -1,6 +1,6 @@
 use Rattle.std.proofs.Common.{ℕ, List, ◌++◌, codes, subst}
 use Rattle.server.specs.Endings.{Tells}
-use Rattle.server.specs.Outputs.{stream_of}
+use Rattle.serving.specs.Outputs.{stream_of}
 use Rattle.server.proofs.commands.tell_fault.Goals as goal
 
 pub returns-in-Exists : goal.returns-in-Exists

@@ -32,7 +32,7 @@ returns g c =
       works = c.in-Ok.ensures.works;
       at = c.in-Ok.ensures.at;
     } in
-    let (stores, (last, serves)) = c.serve-served.ensures in
+    let (stores, (last, serves)) = c.serve-served.ensures.calls in
     let answers = outcome _ (TellsCall g.D.Disk) (g.R.Read.remaining c.args.reader.now) (g.R.Read.remaining c.serve-served.new.reader) (g.O.Write.contents c.args.writer.now) (g.O.Write.contents c.serve-served.new.writer)
     c.in-Ok.store stores c.serve-served.result serves.answers (λ s i text t told. record { replied = told.replied; done = told.done; fault = told.fault; blamed = told.blamed }) in
     let served = has_served g.D.Disk c.args.disk c.in-Ok.store stores (g.R.Read.remaining c.args.reader.now) (g.R.Read.remaining c.serve-served.new.reader) (g.O.Write.contents c.args.writer.now)
@@ -43,5 +43,5 @@ returns g c =
       g.O.Write.contents c.serve-served.new.writer,
       subst (λ d. HasServed g.D.Disk c.args.disk d (g.R.Read.remaining c.args.reader.now) (g.R.Read.remaining c.serve-served.new.reader) (g.O.Write.contents c.args.writer.now) (g.O.Write.contents c.serve-served.new.writer) c.serve-served.result)
           (ap disk_of last ∙ sym c.into_disk.ensures) served,
-      c.end_session.ensures,
+      c.end_session.ensures c.serve-served.ensures.output.caused,
     )

@@ -1,6 +1,7 @@
 use Rattle.std.proofs.Common.{inr, sym, ◌∙◌}
-use Rattle.server.specs.Outputs.{stream_of}
-use Rattle.server.proofs.ProgramLemmas.{begun, tells_fault}
+use Rattle.serving.specs.Outputs.{stream_of}
+use Rattle.serving.proofs.OutputLemmas.{begun}
+use Rattle.server.proofs.ProgramLemmas.{tells_fault}
 use Rattle.server.proofs.endings.reply.Goals as goal
 
 pub returns-then-has_failed : goal.returns-then-has_failed

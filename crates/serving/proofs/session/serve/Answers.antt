@@ -1,4 +1,4 @@
-use Rattle.std.proofs.Common.{rules, refl, ap, ◌∙◌, ◌≡◌, [], ◌++◌}
+use Rattle.std.proofs.Common.{rules, refl, ap, ◌∙◌, ◌≡◌, [], ◌++◌, ⊎_elim, inl, inr}
 use Rattle.std.specs.Prelude.{Ok, Err}
 use Rattle.calls.specs.Runs.{last_of}
 use Rattle.lines.specs.Ahead.{to_come}
@@ -9,23 +9,26 @@ use Rattle.serving.proofs.SessionLemmas.{so_far_none, so_far_more, so_far_end, s
 use Rattle.serving.proofs.session.serve.Goals as goal
 
 pub loop-ahead-init : goal.loop-ahead-init
-loop-ahead-init g c = ([], (refl, so_far_none (Answers g.E.Engine) c.new-ahead.result.bytes _ _ c.args.engine.now c.new-ahead.ensures.bytes))
+loop-ahead-init g c = (λ failed. failed, ([], (refl, so_far_none (Answers g.E.Engine) c.new-ahead.result.bytes _ _ c.args.engine.now c.new-ahead.ensures.bytes)))
 
 pub loop-ahead-preserved : goal.loop-ahead-preserved
 loop-ahead-preserved g c =
-    let before = c.loop-ahead.invariant in
+    let before = c.loop-ahead.invariant.1 in
     let next = c.in-Ok-More.ensures.calls in
     let more : c.in-Ok-More.field-0 ≡ More = search rules in (
-      before.0 ++ next.0,
+      λ failed. ⊎_elim c.loop-ahead.invariant.0 (λ told. absurd (cc)) (c.in-Ok-More.ensures.output.told failed),
       (
-        last_of-append _ before.0 next.0 ∙ ap (λ e. last_of e next.0) before.1.0 ∙ next.1.0,
-        so_far_more (Answers g.E.Engine) _ _ _ _ _ _ c.args.engine.now _ before.0 next.0 before.1.0 before.1.1 (rw more at next.1.1),
+        before.0 ++ next.0,
+        (
+          last_of-append _ before.0 next.0 ∙ ap (λ e. last_of e next.0) before.1.0 ∙ next.1.0,
+          so_far_more (Answers g.E.Engine) _ _ _ _ _ _ c.args.engine.now _ before.0 next.0 before.1.0 before.1.1 (rw more at next.1.1),
+        ),
       ),
     )
 
-pub returns-in-Ok-End : goal.returns-in-Ok-End
-returns-in-Ok-End g c =
-    let before = c.loop-ahead.invariant in
+pub returns-in-Ok-End-clause-calls : goal.returns-in-Ok-End-clause-calls
+returns-in-Ok-End-clause-calls g c =
+    let before = c.loop-ahead.invariant.1 in
     let next = c.in-Ok-End.ensures.calls in
     let end : c.in-Ok-End.field-0 ≡ End = search rules in
     let outcome = so_far_end (Answers g.E.Engine) _ _ (to_come c.step.new.ahead (g.R.Read.remaining c.step.new.reader)) (g.R.Read.remaining c.step.new.reader) _ _ _ c.args.engine.now _ before.0 next.0 before.1.0 before.1.1 (rw end at next.1.1) in (
@@ -41,9 +44,9 @@ returns-in-Ok-End g c =
       ),
     )
 
-pub returns-in-Err : goal.returns-in-Err
-returns-in-Err g c =
-    let before = c.loop-ahead.invariant in
+pub returns-in-Err-clause-calls : goal.returns-in-Err-clause-calls
+returns-in-Err-clause-calls g c =
+    let before = c.loop-ahead.invariant.1 in
     let next = c.in-Err.ensures in
     let calls = next.calls in
     let outcome = so_far_fault (Answers g.E.Engine) _ _ _ _ _ c.step.new.ahead.bytes (g.R.Read.remaining c.step.new.reader) c.args.engine.now _ before.0 calls.0 c.in-Err.fault before.1.0 before.1.1 next.none_ahead calls.1.1 in (
@@ -58,3 +61,19 @@ returns-in-Err g c =
             _ _ _ _ c.args.engine.now (before.0 ++ calls.0) (Err c.in-Err.fault) outcome,
       ),
     )
+
+pub returns-in-Ok-End-clause-output : goal.returns-in-Ok-End-clause-output
+returns-in-Ok-End-clause-output g c =
+    let step = c.in-Ok-End.ensures.output in
+    record {
+      told = λ failed. ⊎_elim (λ before. inl (c.loop-ahead.invariant.0 before)) (λ told. absurd (cc)) (step.told failed);
+      caused = λ told. absurd (cc);
+    }
+
+pub returns-in-Err-clause-output : goal.returns-in-Err-clause-output
+returns-in-Err-clause-output g c =
+    let step = c.in-Err.ensures.output in
+    record {
+      told = λ failed. ⊎_elim (λ before. inl (c.loop-ahead.invariant.0 before)) (λ told. inr (cc)) (step.told failed);
+      caused = λ told. step.caused (cc);
+    }

@@ -1,9 +1,11 @@
-use Rattle.std.proofs.Common.{rules, ◌≡◌, ◌≢◌, ℕ, [], ◌∷◌, ◌++◌, take, inr, refl}
-use Rattle.std.specs.Io.KnownBytes.{Appends, IsAtEnd}
+use Rattle.std.proofs.Common.{rules, ◌≡◌, ◌≢◌, [], ◌∷◌, ◌++◌, ◌∙◌, inr, refl, sym}
+use Rattle.std.specs.Io.KnownBytes.{IsAtEnd}
 use Rattle.std.proofs.KnownBytes.{Appends-nil}
 use Rattle.std.proofs.lemmas.Bool.{both_ways}
 use Rattle.lines.specs.declared.source.Extent.TheVariants.{Cut}
+use Rattle.serving.specs.Outputs.{stream_of}
 use Rattle.serving.specs.Promises.{Answers}
+use Rattle.serving.proofs.OutputLemmas.{begun, put_whole}
 use Rattle.serving.proofs.SessionLemmas.{item_taken, begun_taken, ends_none, ends_last, goes_on, one_reply}
 use Rattle.serving.proofs.Turns.{answers}
 use Rattle.serving.proofs.session.step.Goals as goal
@@ -24,37 +26,30 @@ returns-in_default-hear-clause-calls g c =
     let begun = fault.1 line.0 line.2 in
     ([], (refl, (line.0 ++ (10 ∷ begun.0), inr (line.0, begun.0, begun.1, line.1, begun.2, begun.3, refl), begun_taken _ _ _ line.0 begun.0 (rw fault.0 at line.3) begun.4, Appends-nil _, refl)))
 
-pub answer-requires : goal.answer-requires
-answer-requires g c =
+pub answer-reply-requires : goal.answer-reply-requires
+answer-reply-requires g c =
     let line = c.in-Ok.ensures.ok in
     let some : c.in-Ok.fed ≡ Cut → line.0 ≢ [] = λ cut empty. both_ways c.is_over.result c.if-is_over.false ((c.is_over.ensures line.0 line.2).1 (cut, empty)) in
     let found = c.in-Ok-hear.ensures.ok line.0 line.2 line.1 some in
     (found.0, found.1)
 
-pub returns-in-Ok-write-clause-calls : goal.returns-in-Ok-write-clause-calls
-returns-in-Ok-write-clause-calls g c =
+pub returns-then-has_failed-clause-calls : goal.returns-then-has_failed-clause-calls
+returns-then-has_failed-clause-calls g c =
     let line = c.in-Ok.ensures.ok in
     let some : c.in-Ok.fed ≡ Cut → line.0 ≢ [] = λ cut empty. both_ways c.is_over.result c.if-is_over.false ((c.is_over.ensures line.0 line.2).1 (cut, empty)) in
     let found = c.in-Ok-hear.ensures.ok line.0 line.2 line.1 some in
     let i = found.0 in
     let taken = item_taken _ _ _ i line.0 c.in-Ok.fed found.2 found.3 line.3 found.4 in
-    let engine = c.answer.new.engine in
+    let engine = c.answer-reply.new.engine in
     let answered = answers g.E.Engine
     (record {
       laws = record { is_call = g.met.E.Engine.is_call; stays = g.met.E.Engine.stays; in_turn = g.met.E.Engine.in_turn; weaker = g.met.E.Engine.weaker };
       same_side = g.met.E.Engine.same_side;
     })
-    c.args.engine.now engine i c.answer.result found.1.item.asked (c.answer.ensures i found.1) in
-    let replied = one_reply (Answers g.E.Engine) c.args.engine.now i c.answer.result engine answered in
-    let wrote : Appends (g.W.Write.contents c.args.writer.now) (g.W.Write.contents c.write-2.new.writer) c.answer.result = search rules in (
+    c.args.engine.now engine i c.answer-reply.result found.1.item.asked (c.answer-reply.ensures i found.1) in
+    let wrote = begun (g.O.Write.contents c.args.writer.now) (stream_of g.O.Write.contents g.O.Output.failed c.put_reply.new.self) c.answer-reply.result c.put_reply.ensures.written in (
       engine ∷ [],
-      (
-        refl,
-        elim c.if-is_last.branch [
-          | then-is_last w ↦ rw w.next-is (i ∷ [], c.answer.result, ends_last _ _ _ i _ _ taken found.1.asked found.1.item c.in-Ok-hear.ensures.cut (c.is_last.ensures.0 w.if-is_last.true), wrote, replied)
-          | else-is_last w ↦ rw w.next-is (i, c.answer.result, goes_on i _ _ found.1.asked found.1.item (λ last. both_ways c.is_last.result w.if-is_last.false (c.is_last.ensures.1 last)), taken, wrote, replied)
-        ],
-      ),
+      (refl, (i, c.in-Ok-hear.item.extent, c.answer-reply.result, wrote.0, found.1.item, taken, wrote.1, one_reply (Answers g.E.Engine) c.args.engine.now i c.answer-reply.result engine answered)),
     )
 
 pub returns-clause-calls : goal.returns-clause-calls
@@ -64,14 +59,21 @@ returns-clause-calls g c =
     let found = c.in-Ok-hear.ensures.ok line.0 line.2 line.1 some in
     let i = found.0 in
     let taken = item_taken _ _ _ i line.0 c.in-Ok.fed found.2 found.3 line.3 found.4 in
-    let engine = c.answer.new.engine in
+    let engine = c.answer-reply.new.engine in
     let answered = answers g.E.Engine
     (record {
       laws = record { is_call = g.met.E.Engine.is_call; stays = g.met.E.Engine.stays; in_turn = g.met.E.Engine.in_turn; weaker = g.met.E.Engine.weaker };
       same_side = g.met.E.Engine.same_side;
     })
-    c.args.engine.now engine i c.answer.result found.1.item.asked (c.answer.ensures i found.1) in
-    let wrote : (k : ℕ) × Appends (g.W.Write.contents c.args.writer.now) (g.W.Write.contents c.write-2.new.writer) (take k c.answer.result) = search rules in (
+    c.args.engine.now engine i c.answer-reply.result found.1.item.asked (c.answer-reply.ensures i found.1) in
+    let replied = one_reply (Answers g.E.Engine) c.args.engine.now i c.answer-reply.result engine answered in
+    let wrote = put_whole (g.O.Write.contents c.args.writer.now) (stream_of g.O.Write.contents g.O.Output.failed c.put_reply.new.self) c.answer-reply.result c.put_reply.ensures.written (sym c.has_failed.ensures ∙ c.if-has_failed.false) in (
       engine ∷ [],
-      (refl, (i, c.in-Ok-hear.item.extent, c.answer.result, wrote.0, found.1.item, taken, wrote.1, one_reply (Answers g.E.Engine) c.args.engine.now i c.answer.result engine answered)),
+      (
+        refl,
+        elim c.if-is_last.branch [
+          | then-is_last w ↦ rw w.next-is (i ∷ [], c.answer-reply.result, ends_last _ _ _ i _ _ taken found.1.asked found.1.item c.in-Ok-hear.ensures.cut (c.is_last.ensures.0 w.if-is_last.true), wrote, replied)
+          | else-is_last w ↦ rw w.next-is (i, c.answer-reply.result, goes_on i _ _ found.1.asked found.1.item (λ last. both_ways c.is_last.result w.if-is_last.false (c.is_last.ensures.1 last)), taken, wrote, replied)
+        ],
+      ),
     )

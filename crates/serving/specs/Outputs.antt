@@ -1,6 +1,8 @@
 -- What was written to an output (this product's own profile).
-use Rattle.std.specs.Prelude.{◌≡◌, ◌⊎◌, ℕ, List, take, Option, Bool, true}
+use Rattle.std.specs.Prelude.{◌≡◌, ◌⊎◌, ℕ, List, take, Option, Bool, true, Result, Err}
 use Rattle.std.specs.Io.KnownBytes.{Appends}
+use Rattle.serving.specs.declared.session.ServeFault.{ServeFault}
+use Rattle.serving.specs.declared.session.ServeFault.TheVariants.{Output}
 
 -- the bytes, where they are known, and whether a write or a flush has failed
 pub record Stream : Type 0 where
@@ -17,3 +19,8 @@ Begins written new text = (n : ℕ) × Appends written new (take n text)
 -- the text was written whole; or a write or a flush has failed, and a beginning of it was written
 abbrev pub Puts : Option (List ℕ) → Stream → List ℕ → Type 0
 Puts written new text = Appends written new.contents text ⊎ (Begins written new.contents text × (new.failed ≡ true))
+
+-- A fault of the output is answered where a write or a flush has failed, and nowhere else.
+pub record TellsFailure {T : Type 0} (failed_before failed : Bool) (result : Result T ServeFault) : Type 0 where
+  pub told : failed ≡ true → (failed_before ≡ true) ⊎ (result ≡ Err Output)
+  pub caused : result ≡ Err Output → failed ≡ true

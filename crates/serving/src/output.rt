@@ -1,14 +1,14 @@
-//! Where the program writes.
+//! Where replies are written.
 ghost use Rattle.std.specs.Prelude.{◌≡◌, Bool, IsErr, false, true};
 ghost use Rattle.std.specs.Io.KnownBytes.{Keeps};
-ghost use Rattle.server.specs.Outputs.{Puts, stream_of};
+ghost use Rattle.serving.specs.Outputs.{Puts, stream_of};
 
 use lines::{Text, WriteFault, write_bytes};
 use std::io::{self, Write};
 
 /// A writer that remembers whether a call of it has failed.
 ///
-/// Code over any output can't set what it remembers. So where a contract asks that a call has failed, one has.
+/// Code over any output can't set what it remembers. So where a contract says that a call has failed, one has.
 pub trait Output: Write {
     /// Whether a write or a flush has failed, of all so far.
     ghost failed: { Self → Bool };
