@@ -20,7 +20,7 @@ use Rattle.lattice.proofs.Samples.{index_of_point, holds_is, point_of_index, ind
 use Rattle.lattice.proofs.FilledLevels.{filled_level_exists}
 use Rattle.tile_flood.specs.declared.passing.Spill.{Spill}
 use Rattle.tile_flood.specs.Labelling.{OUT}
-use Rattle.tile_flood.specs.Spills.{Meets}
+use Rattle.tile_flood.specs.Spills.{Meets, IsSpill}
 use Rattle.tile_flood.proofs.Parts.{IsPart, path_onto, crest_onto, end_onto, end-le_crest, way_in_part}
 use Rattle.tile_flood.proofs.InMosaic.{block_is_part, ground_is, inner_outlet_is_outlet, adjacent_in_tile}
 use Rattle.tile_flood.proofs.Raised.{rim_number_below}
@@ -29,7 +29,9 @@ use Rattle.tile_flood.proofs.Squares.{solid_below, solid_height, solid_if, linke
 use Rattle.border_graph.specs.Summaries.{Summary}
 use Rattle.border_graph.specs.Sharing.{AreInOrder}
 use Rattle.border_graph.specs.Links.{IsLinkBelow, IsWayBelow, IsJoinedLevel}
-use Rattle.border_graph.specs.Joining.{AreSummaries, IsSummaryOf, IsRimNumberOf, Node, Outlet, Rim, rim_point, summary_at, IsThere, IsLabelLink, IsOutletLink, IsSpillLink, IsSharedLink, IsInnerLink, IsLink}
+use Rattle.border_graph.specs.Reduced.{IsCrossing, IsLabelOf}
+use Rattle.border_graph.proofs.Surge.{way_up}
+use Rattle.border_graph.specs.Joining.{AreSummaries, IsSummaryOf, Summarizes, IsRimNumberOf, Node, Outlet, Rim, rim_point, summary_at, IsThere, IsLabelLink, IsOutletLink, IsSpillLink, IsSharedLink, IsInnerLink, IsLink}
 use Rattle.lattice.proofs.RimNumbers.{one_rim_point, rim_point_of}
 use Rattle.border_graph.proofs.Ways.{WayOut, along, back, way_of_level, level_of_ways}
 use Rattle.std.proofs.Math.ListN.{get_or-map}
@@ -91,8 +93,14 @@ module _ (m : Mosaic) (is : IsMosaic m) (summaries : List Summary) (all : AreSum
       record { tile = there.0; small = subst (λ k. there.0 < k) (sym as_many) there.1.0; first = parts.0; second = parts.1 }
 
   module _ (t : ℕ) (small : t < length summaries) where
-    pub of : IsSummaryOf m (summary_at summaries t)
-    of = all.each t (record { corner = record { lat = pos 0; lon = pos 0 }; rim = []; spills = [] }) small
+    pub summarizes : Summarizes m (summary_at summaries t)
+    summarizes = all.each t (record { corner = record { lat = pos 0; lon = pos 0 }; rim = []; spills = [] }) small
+
+    pub of : IsSummaryOf m (record (summary_at summaries t) { spills = summarizes.all })
+    of = summarizes.of
+
+    pub spill_of : (a b : ℕ) (v : ℤ) → IsSpillLink m.side summaries t a b v → IsSpill m.side of.heights of.levels of.labels (record { a = a; b = b; level = v })
+    spill_of a b v has = of.spills.each (record { a = a; b = b; level = v }) (summarizes.kept.only (record { a = a; b = b; level = v }) has)
 
     part : IsPart (block_terrain (block_of m.side of.heights of.sinks)) (terrain m) (λ e. point_of m.side (summary_at summaries t).corner e) (is_rim m.side)
     part = block_is_part m is (summary_at summaries t).corner (present t small) of.heights of.sinks of.block
@@ -259,7 +267,7 @@ module _ (m : Mosaic) (is : IsMosaic m) (summaries : List Summary) (all : AreSum
       level_of_node k a v at low = subst (λ w. w ≤ℤ level) (sym (rim_level a.e a.solid a.rim ∙ (sym a.height ∙ at))) low
 
       spill_pass : (a b : ℕ) (v : ℤ) → IsSpillLink m.side summaries t a b v → v ≤ℤ level → Meets m.side of.heights of.levels of.labels a b v
-      spill_pass a b v has low = (of.spills.each (record { a = a; b = b; level = v }) has).meets
+      spill_pass a b v has low = (spill_of a b v has).meets
 
       -- a link to the outlet node
       to_outlet : (k : ℕ) (a : At k) (v : ℤ) → IsOutletLink m.side summaries t k v ⊎ (IsLabelLink m.side summaries t k OUT v ⊎ IsSpillLink m.side summaries t k OUT v) → v ≤ℤ level →
@@ -406,63 +414,110 @@ module _ (m : Mosaic) (is : IsMosaic m) (summaries : List Summary) (all : AreSum
           ]
         ]
 
-    -- over two adjacent points
-    spill_to : (a b : ℕ) (v : ℤ) → a < b → Meets m.side (of t small).heights (of t small).levels (of t small).labels a b v → v ≤ℤ level → (w : ℤ) × (IsSpillLink m.side summaries t a b w × (w ≤ℤ level))
+    -- a label of a spill is that of a rim point that is there, or OUT
+    label_there : (a b : ℕ) (v : ℤ) → Meets m.side (of t small).heights (of t small).levels (of t small).labels a b v → a ≢ OUT → IsThere m.side summaries t a
+    label_there a b v meets some =
+        let e = meets.points.0 in
+        let solid = (linked_parts m.side (of t small).heights e meets.points.1 meets.points.2.0).from in
+        let label : slice_index (of t small).labels e ≡ a = meets.points.2.1.0 in
+        subst (IsThere m.side summaries t) label (there_named t small e (named t small e solid (λ out. some (sym label ∙ out))))
+
+    -- what drains to a label, drains out
+    abbrev Drains : ℕ → Type 0
+    Drains label = (label ≡ OUT) ⊎ WayBelow level (Rim t label)
+
+    -- over a crossing
+    cross : (x z : ℕ) → IsLinkBelow (IsCrossing (summary_at summaries t).spills) OUT level x z → Drains z → Drains x
+    cross x z (v, ((some, inl has), low)) drains =
+        let spill = spill_of t small x z v has in
+        let here = label_there x z v spill.meets some in
+        inr (elim (cases_eq z OUT) [
+          | inl out ↦ step_to level (Rim t x) Outlet (v, ((here, inr (inr (subst (λ y. IsSpillLink m.side summaries t x y v) out has))), low)) (at_outlet level)
+          | inr on ↦ elim drains [
+            | inl out ↦ absurd (on out)
+            | inr way ↦ step_to level (Rim t x) (Rim t z) (v, ((here, (label_there z x v (turned t small level x z v spill.meets) on, inl (refl, inr (inr (inl has))))), low)) way
+          ]
+        ])
+    cross x z (v, ((some, inr has), low)) drains =
+        let spill = spill_of t small z x v has in
+        let here = label_there x z v (turned t small level z x v spill.meets) some in
+        let on : z ≢ OUT = λ out. after_out (subst (λ y. y < x) out spill.in_order) here.number in
+        elim drains [
+          | inl out ↦ absurd (on out)
+          | inr way ↦ inr (step_to level (Rim t x) (Rim t z) (v, ((here, (label_there z x v spill.meets on, inl (refl, inr (inr (inr has))))), low)) way)
+        ]
+      where
+        after_out : OUT < x → x < 4 * (m.side - 1) → ⊥
+        after_out more number = let high = is.side_high in absurd (omega arith)
+
+    -- along crossings
+    walk : (y x : ℕ) (rest : List ℕ) → IsWayBelow (IsCrossing (summary_at summaries t).spills) y level x rest → Drains y → Drains x
+    walk y x [] way drains = subst Drains (sym way) drains
+    walk y x (z ∷ rest) way drains = cross x z way.0 (walk y z rest way.1 drains)
+
+    size_is : length (summary_at summaries t).rim ≡ 4 * (m.side - 1)
+    size_is = (of t small).rim.whole
+
+    -- over a spill, be it kept or not
+    spilled_to : (x y : ℕ) (v : ℤ) → IsThere m.side summaries t x → (y ≡ OUT) ⊎ IsThere m.side summaries t y → v ≤ℤ level → IsCrossing (summarizes t small).all x y v → Drains y → Drains x
+    spilled_to x y v here there low crossing drains = elim ((summarizes t small).kept.crossed x y v (label here) (named_by there) crossing) [
+      | inl on ↦ walk y x on.0 (way_up (IsCrossing (summary_at summaries t).spills) y v level low x on.0 on.1) drains
+      | inr gone ↦ walk OUT x gone.0 (way_up (IsCrossing (summary_at summaries t).spills) OUT v level low x gone.0 gone.1) (inl refl)
+    ]
+      where
+        label : {k : ℕ} → IsThere m.side summaries t k → IsLabelOf (length (summary_at summaries t).rim) k
+        label {k} at = inl (subst (λ n. k < n) (sym size_is) at.number)
+
+        named_by : (y ≡ OUT) ⊎ IsThere m.side summaries t y → IsLabelOf (length (summary_at summaries t).rim) y
+        named_by (inl out) = inr out
+        named_by (inr at) = label at
+
+    -- labels that meet have a spill
+    spill_to : (a b : ℕ) (v : ℤ) → a < b → Meets m.side (of t small).heights (of t small).levels (of t small).labels a b v → v ≤ℤ level
+        → (w : ℤ) × (Contains (summarizes t small).all (record { a = a; b = b; level = w }) × (w ≤ℤ level))
     spill_to a b v less meets low =
         let found = (of t small).spills.all a b v less meets in
         let spill = (of t small).spills.each found.0 found.1.0 in
         let same : ◌≡◌ {A = Spill} found.0 (record { a = a; b = b; level = found.0.level }) = ap₂ (λ (x y : ℕ). record { a = x; b = y; level = found.0.level }) found.1.1.0 found.1.1.1 in (
           found.0.level,
           (
-            subst (λ (p : Spill). Contains (summary_at summaries t).spills p) same found.1.0,
+            subst (λ (p : Spill). Contains (summarizes t small).all p) same found.1.0,
             ≤ℤ_trans found.0.level v level (spill.least v (subst (λ x. Meets m.side (of t small).heights (of t small).levels (of t small).labels x found.0.b v) (sym found.1.1.0)
                 (subst (λ y. Meets m.side (of t small).heights (of t small).levels (of t small).labels a y v) (sym found.1.1.1) meets))) low,
           ),
         )
 
+    -- over two adjacent points
     over_drains : (e f : ℕ) → IsTrue (is_linked (bare_block m.side (of t small).heights) e f) → slice_index_or (of t small).levels e void ≤ℤ level → slice_index_or (of t small).levels f void ≤ℤ level →
-        (slice_index (of t small).labels f ≡ OUT) ⊎ WayBelow level (Rim t (slice_index (of t small).labels f)) → (slice_index (of t small).labels e ≡ OUT) ⊎ WayBelow level (Rim t (slice_index (of t small).labels e))
+        Drains (slice_index (of t small).labels f) → Drains (slice_index (of t small).labels e)
     over_drains e f link low_e low_f drains =
         let labels = (of t small).labels in
-        let both = linked_parts m.side (of t small).heights e f link in
         let v = int_max (slice_index_or (of t small).levels e void) (slice_index_or (of t small).levels f void) in
         let low : int_max (slice_index_or (of t small).levels e void) (slice_index_or (of t small).levels f void) ≤ℤ level = max-le (slice_index_or (of t small).levels e void) (slice_index_or (of t small).levels f void) level low_e low_f in
         let meets : Meets m.side (of t small).heights (of t small).levels (of t small).labels (slice_index (of t small).labels e) (slice_index (of t small).labels f) (int_max (slice_index_or (of t small).levels e void) (slice_index_or (of t small).levels f void)) =
         record { points = (e, f, (link, (refl, (refl, refl)))) } in
+        let back = turned t small level (slice_index (of t small).labels e) (slice_index (of t small).labels f) v meets in
         elim (cases_eq (slice_index (of t small).labels e) (slice_index (of t small).labels f)) [
-          | inl same ↦ subst (λ l. (l ≡ OUT) ⊎ WayBelow level (Rim t l)) (sym same) drains
+          | inl same ↦ subst Drains (sym same) drains
           | inr other ↦ elim (cases_eq (slice_index (of t small).labels e) OUT) [
             | inl out ↦ inl out
             | inr some ↦
-                let n = named t small e both.from some in
-                let there = there_named t small e n in
-                elim (cases_eq (slice_index (of t small).labels f) OUT) [
-                  | inl out ↦
-                      let less : slice_index (of t small).labels e < OUT = below_out (slice_index (of t small).labels e) there.number in
-                      let spill = spill_to (slice_index (of t small).labels e) OUT v less (subst (λ l. Meets m.side (of t small).heights (of t small).levels (of t small).labels (slice_index (of t small).labels e) l v) out meets) low in
-                      inr (step_to level (Rim t (slice_index (of t small).labels e)) Outlet (spill.0, ((there, inr (inr spill.1.0)), spill.1.1)) (at_outlet level))
-                  | inr some_f ↦
-                      let n_f = named t small f both.to some_f in
-                      let there_f = there_named t small f n_f in
-                      elim drains [
-                        | inl out ↦ absurd (some_f out)
-                        | inr way ↦ elim (cases_lt (slice_index (of t small).labels e) (slice_index (of t small).labels f)) [
-                          | inl less ↦
-                              let spill = spill_to (slice_index (of t small).labels e) (slice_index (of t small).labels f) v less meets low in
-                              inr (step_to level (Rim t (slice_index (of t small).labels e)) (Rim t (slice_index (of t small).labels f)) (spill.0, ((there, (there_f, inl (refl, inr (inr (inl spill.1.0))))), spill.1.1)) way)
-                          | inr more ↦
-                              let spill = spill_to (slice_index (of t small).labels f) (slice_index (of t small).labels e) v (other_way (slice_index (of t small).labels e) (slice_index (of t small).labels f) other more)
-                              (turned t small level (slice_index (of t small).labels e) (slice_index (of t small).labels f) v meets) low in
-                              inr (step_to level (Rim t (slice_index (of t small).labels e)) (Rim t (slice_index (of t small).labels f)) (spill.0, ((there, (there_f, inl (refl, inr (inr (inr spill.1.0))))), spill.1.1)) way)
-                        ]
-                      ]
+                let here = label_there (slice_index (of t small).labels e) (slice_index (of t small).labels f) v meets some in
+                let there : (slice_index (of t small).labels f ≡ OUT) ⊎ IsThere m.side summaries t (slice_index (of t small).labels f) = elim (cases_eq (slice_index (of t small).labels f) OUT) [
+                  | inl out ↦ inl out
+                  | inr on ↦ inr (label_there (slice_index (of t small).labels f) (slice_index (of t small).labels e) v back on)
+                ] in
+                elim (cases_lt (slice_index (of t small).labels e) (slice_index (of t small).labels f)) [
+                  | inl less ↦
+                      let spill = spill_to (slice_index (of t small).labels e) (slice_index (of t small).labels f) v less meets low in
+                      spilled_to (slice_index (of t small).labels e) (slice_index (of t small).labels f) spill.0 here there spill.1.1 (some, inl spill.1.0) drains
+                  | inr more ↦
+                      let spill = spill_to (slice_index (of t small).labels f) (slice_index (of t small).labels e) v (other_way (slice_index (of t small).labels e) (slice_index (of t small).labels f) other more) back low in
+                      spilled_to (slice_index (of t small).labels e) (slice_index (of t small).labels f) spill.0 here there spill.1.1 (some, inr spill.1.0) drains
                 ]
           ]
         ]
       where
-        below_out : (k : ℕ) → k < 4 * (m.side - 1) → k < OUT
-        below_out k less = let high = is.side_high in omega arith
-
         other_way : (a b : ℕ) → a ≢ b → b ≤ a → b < a
         other_way a b other more = omega arith
 

@@ -21,3 +21,7 @@ pub mod Listing
 pub mod Told
 pub mod Others
 pub mod RowsTogether
+pub mod Connected
+pub mod Roots
+pub mod Kruskal
+pub mod Sufficing

@@ -20,7 +20,7 @@ use Rattle.border_graph.specs.Links.{IsWayBelow, IsJoinedLevel}
 use Rattle.border_graph.specs.Joining.{AreSummaries, IsRimNumberOf, Node, Outlet, Rim, summary_at, IsThere, IsLink, IsInnerLink, IsSpillLink}
 use Rattle.border_graph.specs.Rising.{IsListed}
 use Rattle.border_graph.specs.Linking.{node_number, AreLinked}
-use Rattle.border_graph.proofs.Joined.{of, there_at, ground_at, solid_at, joined_is_filled, is_joined, height-le_level_at}
+use Rattle.border_graph.proofs.Joined.{of, there_at, ground_at, solid_at, joined_is_filled, is_joined, height-le_level_at, spill_of}
 use Rattle.border_graph.proofs.Listed.{joined_over_links, no_way_over_links, one_tile, one_number}
 use Rattle.border_graph.proofs.Surge.{max_not_void}
 
@@ -35,7 +35,7 @@ module _ (m : Mosaic) (is : IsMosaic m) (summaries : List Summary) (all : AreSum
   spill_is_full : (t : ℕ) (small : t < length summaries) (a b : ℕ) (level : ℤ) → IsSpillLink m.side summaries t a b level → level ≢ void
   spill_is_full t small a b level has =
       let o = of m is summaries all t small in
-      let meets = (o.spills.each (record { a = a; b = b; level = level }) has).meets in
+      let meets = (spill_of m is summaries all t small a b level has).meets in
       let e = meets.points.0 in
       let f = meets.points.1 in
       let both = linked_parts m.side o.heights e f meets.points.2.0 in

@@ -12,6 +12,8 @@ use Rattle.tile_flood.specs.Labelling.{IsLabelling, OUT, NO_LABEL}
 use Rattle.tile_flood.specs.Spills.{AreSpills}
 use Rattle.border_graph.specs.declared.summary.RimPoint.{RimPoint}
 use Rattle.border_graph.specs.Summaries.{Summary}
+use Rattle.border_graph.specs.Reduced.{Suffice}
+use Rattle.tile_flood.specs.declared.passing.Spill.{Spill}
 
 -- a rim number that isn't there
 abbrev pub nowhere : RimPoint
@@ -41,10 +43,16 @@ pub record IsSummaryOf (m : Mosaic) (b : Summary) : Type 0 where
   pub spills : AreSpills m.side heights levels labels b.spills
   pub rim : IsRimOf m b.corner heights labels b
 
+-- .. or such a summary with fewer spills, over which water gets as low
+pub record Summarizes (m : Mosaic) (b : Summary) : Type 0 where
+  pub all : List Spill
+  pub of : IsSummaryOf m (record b { spills = all })
+  pub kept : Suffice (length b.rim) all b.spills
+
 -- of each present tile, in the order of tiles
 pub record AreSummaries (m : Mosaic) (summaries : List Summary) : Type 0 where
   pub corners : map (λ b. b.corner) summaries ≡ map (λ t. t.corner) m.tiles
-  pub each : All (IsSummaryOf m) summaries
+  pub each : All (Summarizes m) summaries
 
 -- the outlet node, and each rim point of each tile: by the tile's index in the list and the rim number
 pub data Node : Type 0 where

@@ -14,3 +14,7 @@ pub mod Placed
 pub mod TileGraph
 pub mod Others
 pub mod LinkRows
+pub mod Passes
+pub mod UnionFind
+pub mod Forest
+pub mod Reduced

@@ -3,20 +3,25 @@
 //! The layers above rest on this: from a summary of each tile's labelling, `join` gives the filled level of each ground
 //! point on the rim of a tile. `lowest_pass` gives that of one rim point, from a source of edges (`EdgeSource`) that is
 //! asked node by node: it asks only for tiles with a rim point that the point's water reaches at no more than that level.
-//! `TileGraph` and `edges_to_others` list the edges for such a source.
+//! `TileGraph` and `edges_to_others` list the edges for such a source. `reduced` leaves of a summary's spills those that
+//! decide.
 #![tactic(auto)]
 
 mod bottleneck;
 mod edge_source;
+mod forest;
 mod frontier;
 mod joining;
 mod link_rows;
 mod linking;
+mod pass;
+mod reducing;
 mod rising;
 mod seams;
 mod sharing;
 mod summary;
 mod tile_graph;
+mod union_find;
 mod visited;
 mod waiting;
 
@@ -24,6 +29,7 @@ pub use bottleneck::lowest_pass;
 pub use edge_source::{Edge, EdgeSource};
 pub use joining::join;
 pub use linking::links_between;
+pub use reducing::reduced;
 pub use seams::{edges_to_others, node_at};
 pub use summary::{RimPoint, Summary};
 pub use tile_graph::TileGraph;

@@ -41,6 +41,17 @@ impl Summary {
         }
     }
 
+    // The same with these spills.
+    pub(crate) fn with_spills(self, spills: Vec<Spill>) -> Summary
+        ensures { result ≡ record self { spills = spills.items } }
+    {
+        Summary {
+            corner: self.corner,
+            rim: self.rim,
+            spills,
+        }
+    }
+
     /// The corner of its tile.
     pub fn corner(&self) -> Corner
         ensures { result ≡ self.now.corner }

@@ -13,7 +13,7 @@ use Rattle.drainage.specs.Forgetting.{IsLeftOf, IsNotedOf}
 use Rattle.drainage.specs.Holding.{Known, IsEntered, IsRight, IsRimLevel, level_of}
 use Rattle.drainage.specs.Reaching.{is_reached, reaches, DifferAt, DifferBetween}
 use Rattle.drainage.specs.Shores.{AreReady, told_at}
-use Rattle.drainage.proofs.Unreached.{labelling_still, summary_still}
+use Rattle.drainage.proofs.Unreached.{labelling_still, summarizes_still}
 
 -- ---- what is left is right
 
@@ -42,7 +42,7 @@ module _ (m new : Mosaic) (from to : Point) (known known' : Known) (differ : Dif
       summaries = λ t ways is.
           let was = (told t ways).0 is in
           let out : reaches m.side ways.summary.corner from to ≡ false = ap (λ (c : Corner). reaches m.side c from to) (right.ready.tiles.places t ways was.0) ∙ unreached t was.1 in
-          summary_still m new from to differ ways.summary out (right.ready.tiles.summaries t ways was.0);
+          summarizes_still m new from to differ ways.summary out (right.ready.tiles.summaries t ways was.0);
     };
   }
 

@@ -7,7 +7,7 @@ use Rattle.tile_flood.proofs.Raised.{lowest_height}
 use Rattle.tile_flood.proofs.Squares.{linked_parts}
 use Rattle.border_graph.specs.Summaries.{Summary}
 use Rattle.border_graph.specs.Joining.{Node, Outlet, Rim, summary_at, rim_point, AreSummaries, IsThere, IsLink, IsInnerLink, IsSpillLink}
-use Rattle.border_graph.proofs.Joined.{of, at_node, height-le_level_at}
+use Rattle.border_graph.proofs.Joined.{of, at_node, height-le_level_at, spill_of}
 
 module _ (m : Mosaic) (is : IsMosaic m) (summaries : List Summary) (all : AreSummaries m summaries) where
   low_height : (t k : ℕ) → IsThere m.side summaries t k → void ≤ℤ (rim_point (summary_at summaries t) k).height
@@ -19,7 +19,7 @@ module _ (m : Mosaic) (is : IsMosaic m) (summaries : List Summary) (all : AreSum
   low_spill : (t : ℕ) → t < length summaries → (a b : ℕ) (level : ℤ) → IsSpillLink m.side summaries t a b level → void ≤ℤ level
   low_spill t small a b level has =
       let o = of m is summaries all t small in
-      let meets = (o.spills.each (record { a = a; b = b; level = level }) has).meets in
+      let meets = (spill_of m is summaries all t small a b level has).meets in
       let e = meets.points.0 in
       let f = meets.points.1 in
       let both = linked_parts m.side o.heights e f meets.points.2.0 in

@@ -9,7 +9,7 @@ use Rattle.lattice.specs.Corners.{Corner}
 use Rattle.lattice.specs.Mosaic.{Mosaic, void}
 use Rattle.catalogue.specs.declared.samples.Samples.{Ghosts}
 use Rattle.border_graph.specs.Summaries.{Summary}
-use Rattle.border_graph.specs.Joining.{IsSummaryOf}
+use Rattle.border_graph.specs.Joining.{Summarizes}
 use Rattle.border_graph.specs.Others.{corner_at}
 use Rattle.border_graph.specs.TileGraph.{TileGraph}
 use Rattle.drainage.specs.Shores.{told_at, Fits, AreTold, AreKept}
@@ -68,7 +68,7 @@ module _ (side : ℕ) (corners : List Corner) (told : List (Option TileGraph)) (
   pub still_told : (u : ℕ) (w : TileGraph) → told_at told u ≡ Some w → told_at (slice_set told t (Some ways)) u ≡ Some w
   still_told u w is = get_or-set_other told t u (Some ways) None (other_still u w is) ∙ is
 
-  pub told_more : (m : Mosaic) → corner_at corners t ≡ c → ways.side ≡ side → ways.summary.corner ≡ c → IsSummaryOf m ways.summary → AreTold m side corners told → AreTold m side corners (slice_set told t (Some ways))
+  pub told_more : (m : Mosaic) → corner_at corners t ≡ c → ways.side ≡ side → ways.summary.corner ≡ c → Summarizes m ways.summary → AreTold m side corners told → AreTold m side corners (slice_set told t (Some ways))
   told_more m place same corner summary r = record {
     whole = length-set told t (Some ways) ∙ r.whole;
     sides = λ u w is. elim (cases_eq u t) [
@@ -80,7 +80,7 @@ module _ (side : ℕ) (corners : List Corner) (told : List (Option TileGraph)) (
       | inr other ↦ r.places u w (sym (get_or-set_other told t u (Some ways) None other) ∙ is)
     ];
     summaries = λ u w is. elim (cases_eq u t) [
-      | inl here ↦ subst (λ (x : TileGraph). IsSummaryOf m x.summary) (this u w here is) summary
+      | inl here ↦ subst (λ (x : TileGraph). Summarizes m x.summary) (this u w here is) summary
       | inr other ↦ r.summaries u w (sym (get_or-set_other told t u (Some ways) None other) ∙ is)
     ];
   }

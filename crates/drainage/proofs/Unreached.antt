@@ -18,7 +18,7 @@ use Rattle.lattice.specs.Steps.{step, directions}
 use Rattle.lattice.proofs.Along.{parts}
 use Rattle.lattice.proofs.IntTests.{le_true, le_from}
 use Rattle.lattice.proofs.Samples.{along_of_sample, row_below}
-use Rattle.border_graph.specs.Joining.{IsSummaryOf, rim_point}
+use Rattle.border_graph.specs.Joining.{IsSummaryOf, Summarizes, rim_point}
 use Rattle.border_graph.specs.Summaries.{Summary}
 use Rattle.derived.specs.TileLabellings.{IsTileLabelling}
 use Rattle.derived.specs.declared.tile_labelling.TileLabelling.{TileLabelling}
@@ -165,7 +165,7 @@ module _ (m new : Mosaic) (from to : Point) (differ : DifferBetween m new from t
         let held = held_by_index m.side c e small in
         outlet e small rim (ap is_height (sym (height_still p held)) ∙ ground) ∙ sym (outlet_still p held)
 
-  pub summary_still : (b : Summary) → reaches m.side b.corner from to ≡ false → IsSummaryOf m b → IsSummaryOf new b
+  summary_still : (b : Summary) → reaches m.side b.corner from to ≡ false → IsSummaryOf m b → IsSummaryOf new b
   summary_still b out is =
       let back : m.side ≡ new.side = sym differ.same_side in
       record {
@@ -184,3 +184,7 @@ module _ (m new : Mosaic) (from to : Point) (differ : DifferBetween m new from t
               (outlets_still b.corner out b is.rim.outlet);
         };
       }
+
+  -- .. and with fewer spills
+  pub summarizes_still : (b : Summary) → reaches m.side b.corner from to ≡ false → Summarizes m b → Summarizes new b
+  summarizes_still b out is = record { all = is.all; of = summary_still (record b { spills = is.all }) out is.of; kept = is.kept }

@@ -8,7 +8,8 @@ use Rattle.lattice.specs.Corners.{Corner, is_corner}
 use Rattle.lattice.specs.Mosaic.{Mosaic, Tile, IsMosaic}
 use Rattle.catalogue.specs.Tiles.{corners_of}
 use Rattle.border_graph.specs.Summaries.{Summary}
-use Rattle.border_graph.specs.Joining.{Rim, summary_at, IsSummaryOf, AreSummaries}
+use Rattle.border_graph.specs.Joining.{Rim, summary_at, Summarizes, AreSummaries}
+use Rattle.border_graph.proofs.Sufficing.{summarizes_all}
 use Rattle.border_graph.proofs.Tabulated.{tabulated, length-tabulated, at_number}
 use Rattle.border_graph.proofs.SummariesExist.{summary_exists}
 use Rattle.border_graph.specs.Others.{corner_at}
@@ -39,7 +40,7 @@ module _ (m : Mosaic) (is : IsMosaic m) (side : ℕ) (corners : List Corner) (to
       subst (λ c. IsTrue (is_corner c)) (sym at) (is.tiles t (record { corner = record { lat = pos 0; lon = pos 0 }; samples = [] }) (subst (λ k. t < k) many small)).corner
 
   record IsPicked (t : ℕ) (b : Summary) : Type 0 where
-    of : IsSummaryOf m b
+    of : Summarizes m b
     place : b.corner ≡ corner_at corners t
     tells : (ways : TileGraph) → told_at told t ≡ Some ways → b ≡ ways.summary
 
@@ -54,7 +55,7 @@ module _ (m : Mosaic) (is : IsMosaic m) (side : ℕ) (corners : List Corner) (to
   )
   picked_by t small None at =
       let found = summary_exists m is (corner_at corners t) (corner_valid t small) in
-      (found.0, record { of = found.1.0; place = found.1.1; tells = λ w also. absurd (not_both w (sym at ∙ also)) })
+      (found.0, record { of = summarizes_all m found.0 found.1.0; place = found.1.1; tells = λ w also. absurd (not_both w (sym at ∙ also)) })
 
   picked : (t : ℕ) → (b : Summary) × (t < length corners → IsPicked t b)
   picked t = elim (cases_lt t (length corners)) [
@@ -90,7 +91,7 @@ module _ (m : Mosaic) (is : IsMosaic m) (side : ℕ) (corners : List Corner) (to
     corners = same_corners ∙ corners_are;
     each = λ t d small.
         let below : t < length corners = subst (λ k. t < k) many small in
-        subst (IsSummaryOf m) (sym (at_place t d below)) (pick_is t below).of;
+        subst (Summarizes m) (sym (at_place t d below)) (pick_is t below).of;
   }
 
   told_below : (t : ℕ) (ways : TileGraph) → told_at told t ≡ Some ways → t < length corners

@@ -8,7 +8,7 @@ use Rattle.lattice.specs.RimPoints.{IsRimPoint}
 use Rattle.catalogue.specs.Tiles.{corners_of}
 use Rattle.catalogue.specs.declared.samples.Samples.{Ghosts}
 use Rattle.border_graph.specs.Summaries.{Summary}
-use Rattle.border_graph.specs.Joining.{summary_at, rim_point, IsSummaryOf, AreSummaries}
+use Rattle.border_graph.specs.Joining.{summary_at, rim_point, Summarizes, AreSummaries}
 use Rattle.border_graph.specs.Placed.{IsPlacedLink}
 use Rattle.border_graph.specs.TileGraph.{TileGraph, AreEdgesOut, AreEdgesAcross}
 use Rattle.border_graph.specs.Others.{corner_at, AreOthersTold}
@@ -47,7 +47,7 @@ pub record AreTold (m : Mosaic) (side : ℕ) (corners : List Corner) (told : Lis
   pub whole : length told ≡ length corners
   pub sides : (t : ℕ) (ways : TileGraph) → told_at told t ≡ Some ways → ways.side ≡ side
   pub places : (t : ℕ) (ways : TileGraph) → told_at told t ≡ Some ways → ways.summary.corner ≡ corner_at corners t
-  pub summaries : (t : ℕ) (ways : TileGraph) → told_at told t ≡ Some ways → IsSummaryOf m ways.summary
+  pub summaries : (t : ℕ) (ways : TileGraph) → told_at told t ≡ Some ways → Summarizes m ways.summary
 
 -- all tiles of the mosaic have their places, and each rim point its number
 pub record AreReady (m : Mosaic) (side : ℕ) (corners : List Corner) (told : List (Option TileGraph)) : Type 0 where

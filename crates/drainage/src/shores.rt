@@ -10,7 +10,7 @@ ghost use Rattle.drainage.specs.Shores.{told_at, AreTileEdges, AreTold, AreReady
 
 use crate::growth::push;
 use crate::reaching::is_reached;
-use border_graph::{Edge, Summary, TileGraph, edges_to_others, node_at};
+use border_graph::{Edge, Summary, TileGraph, edges_to_others, node_at, reduced};
 use catalogue::Samples;
 use lattice::{Corner, Point, Refusal, Side, VOID, point_at, rim_index};
 use std::alloc::Global;
@@ -54,7 +54,8 @@ impl Shores {
         Some(*corner)
     }
 
-    /// Has the ways of the tile with this place and summary from then on, unless it had them.
+    /// Has the ways of the tile with this place and summary from then on, unless it had them: those that decide how low water
+    /// gets out.
     pub(crate) fn learn(&mut self, alloc: Global, t: usize, summary: Summary) -> Result<(), Refusal>
         requires inside { t < length self.old.told.items }
         ensures told { OnOk result ((ways : TileGraphOf) × (told_at self.new.told.items t ≡ Some ways)) }
@@ -69,7 +70,8 @@ impl Shores {
         if self.told[t].is_some() {
             return Ok(());
         }
-        let ways = TileGraph::new(alloc, self.side, summary)?;
+        let less = reduced(alloc, summary)?;
+        let ways = TileGraph::new(alloc, self.side, less)?;
         self.told[t] = Some(ways);
         Ok(())
     }

@@ -1,5 +1,5 @@
 use Rattle.std.proofs.Common.{◌∙◌, sym, ap, subst}
-use Rattle.border_graph.specs.Joining.{IsSummaryOf}
+use Rattle.border_graph.specs.Joining.{Summarizes}
 use Rattle.border_graph.specs.TileGraph.{TileGraph}
 use Rattle.drainage.proofs.Telling.{some_there, none_there, still_told, only_told, told_more}
 use Rattle.drainage.proofs.shores.Shores.learn.Goals as goal
@@ -20,4 +20,4 @@ returns-clause-right c m place summary told =
     let none = none_there c.args.self.now.told.items c.args.t c.index.result.now c.requires.inside c.index.ensures (sym c.is_some.ensures ∙ c.if-is_some.false) in
     let value = c.in_ok-ways.ensures.value in
     told_more c.args.self.now.side c.args.self.now.corners.items c.args.self.now.told.items c.args.t c.args.summary.corner c.in_ok-ways.ways c.requires.inside none m place
-    (ap (λ (w : TileGraph). w.side) value) (ap (λ (w : TileGraph). w.summary.corner) value) (subst (λ (w : TileGraph). IsSummaryOf m w.summary) (sym value) summary) told
+    (ap (λ (w : TileGraph). w.side) value) (ap (λ (w : TileGraph). w.summary.corner) value ∙ c.in_ok-less.ensures.corner) (subst (λ (w : TileGraph). Summarizes m w.summary) (sym value) (c.in_ok-less.ensures.right m summary)) told

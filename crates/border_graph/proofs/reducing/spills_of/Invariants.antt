@@ -1,0 +1,6 @@
+use Rattle.std.proofs.Common.{◌≡◌, map, take}
+use Rattle.border_graph.specs.Reduced.{spill_of}
+use Rattle.border_graph.proofs.reducing.spills_of.Given as goal
+
+abbrev pub invariant-loop-pass : goal.invariant-loop-pass
+invariant-loop-pass l = l.spills.items ≡ map (spill_of l.size) (take l.pass-index l.passes)

@@ -1,0 +1,17 @@
+use Rattle.std.proofs.Common.{◌<◌, ◌≤◌, ℤ, List, length}
+use Rattle.border_graph.specs.declared.pass.Pass.{Pass}
+use Rattle.border_graph.specs.Passes.{AreJoined}
+use Rattle.border_graph.specs.UnionFind.{AreOver}
+use Rattle.border_graph.proofs.Roots.{IsHigher}
+use Rattle.border_graph.proofs.union_find.find.Given as goal
+
+abbrev pub invariant-up : goal.invariant-up
+invariant-up l = record {
+  higher : IsHigher l.fn.parent l.parent;
+  inside : l.x < length l.parent;
+  below : l.x ≤ l.from;
+  joined : (passes : List Pass) (level : ℤ) → AreOver passes level l.fn.parent → AreJoined passes level l.from l.x;
+}
+
+abbrev pub decreases-up : goal.decreases-up
+decreases-up l = l.x

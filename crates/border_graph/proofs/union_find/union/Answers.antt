@@ -1,0 +1,41 @@
+use Rattle.std.proofs.Common.{◌≡◌, ◌<◌, sym, ◌∙◌, subst, arith}
+use Rattle.border_graph.specs.Passes.{AreJoined}
+use Rattle.border_graph.specs.UnionFind.{roots}
+use Rattle.border_graph.proofs.Connected.{joined_turn, joined_on}
+use Rattle.border_graph.proofs.union_find.union.Goals as goal
+
+pub returns-then-one-other-clause-no_more : goal.returns-then-one-other-clause-no_more
+returns-then-one-other-clause-no_more c =
+    let one = c.find-one.ensures.as_many in
+    let other = subst (λ n. roots n c.find-other.new.parent ≡ roots n c.find-one.new.parent) c.find-one.ensures.whole c.find-other.ensures.as_many in
+    omega arith
+
+pub returns-then-one-other-clause-over : goal.returns-then-one-other-clause-over
+returns-then-one-other-clause-over c passes level joined over = c.find-other.ensures.over passes level (c.find-one.ensures.over passes level over)
+
+pub returns-then-one-other-clause-together : goal.returns-then-one-other-clause-together
+returns-then-one-other-clause-together c false_ passes level over =
+    joined_on passes level c.args.a c.find-one.result c.args.b (c.find-one.ensures.joined passes level over)
+    (subst (λ v. AreJoined passes level v c.args.b) (sym c.if-one-other.true) (joined_turn passes level c.args.b c.find-other.result (c.find-other.ensures.joined passes level (c.find-one.ensures.over passes level over))))
+
+pub returns-clause-fewer : goal.returns-clause-fewer
+returns-clause-fewer c true_ =
+    let one = c.find-one.ensures.as_many in
+    let other = subst (λ n. roots n c.find-other.new.parent ≡ roots n c.find-one.new.parent) c.find-one.ensures.whole c.find-other.ensures.as_many in
+    let less = subst (λ n. roots n c.link_roots.new.parent < roots n c.find-other.new.parent) (c.find-other.ensures.whole ∙ c.find-one.ensures.whole) c.link_roots.ensures.fewer in
+    omega arith
+
+pub returns-clause-no_more : goal.returns-clause-no_more
+returns-clause-no_more c =
+    let one = c.find-one.ensures.as_many in
+    let other = subst (λ n. roots n c.find-other.new.parent ≡ roots n c.find-one.new.parent) c.find-one.ensures.whole c.find-other.ensures.as_many in
+    let less = subst (λ n. roots n c.link_roots.new.parent < roots n c.find-other.new.parent) (c.find-other.ensures.whole ∙ c.find-one.ensures.whole) c.link_roots.ensures.fewer in
+    omega arith
+
+pub returns-clause-over : goal.returns-clause-over
+returns-clause-over c passes level joined over =
+    let first = c.find-one.ensures.over passes level over in
+    c.link_roots.ensures.over passes level
+    (joined_on passes level c.find-one.result c.args.a c.find-other.result (joined_turn passes level c.args.a c.find-one.result (c.find-one.ensures.joined passes level over))
+    (joined_on passes level c.args.a c.args.b c.find-other.result joined (c.find-other.ensures.joined passes level first)))
+    (c.find-other.ensures.over passes level first)
