@@ -5,6 +5,10 @@
 //! asked node by node: it asks only for tiles with a rim point that the point's water reaches at no more than that level.
 //! `TileGraph` and `edges_to_others` list the edges for such a source. `reduced` leaves of a summary's spills those that
 //! decide.
+//!
+//! ```
+//! let levels = join(alloc, &summaries)?;                 // tile by tile, each by rim numbers
+//! ```
 #![tactic(auto)]
 
 mod bottleneck;

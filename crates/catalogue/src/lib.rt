@@ -2,6 +2,12 @@
 //!
 //! The layers above rest on this: over any lawful `Samples` the height of a point, adjacency, degree, the list of tiles
 //! and the count of seams are those of the mosaic that it stands for, and reading changes none of its tiles.
+//!
+//! ```
+//! let mut table = Table::new(alloc, side);
+//! table.add(corner, samples)?;
+//! let height = height(&mut table, point)?;               // Outside, Void, or At so many metres
+//! ```
 #![tactic(auto)]
 
 mod adjacency;

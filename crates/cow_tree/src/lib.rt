@@ -5,6 +5,11 @@
 //! leaves what was committed or, inside a commit, all that was staged, whole; after an Ok of a commit a stop leaves
 //! nothing else; an upgrade to the second version is one commit more, of the same tiles; and an image stands for at most
 //! one list of tiles. `specs/Stored.antt` says what a disk stores, `specs/Layout.antt` when an image stands for it.
+//!
+//! ```
+//! tree.stage_plane(corner, Plane::Heights, &bytes)?;     // read from now on, but not committed
+//! tree.commit(count)?;                                   // or `abandon`
+//! ```
 #![tactic(auto)]
 
 mod cache;

@@ -4,6 +4,12 @@
 //! a stop now may leave, and which a stop at any moment since an earlier one might have left; of every disk, how many
 //! calls failed and how many writes were asked for. `specs/Stops.antt` has the words for whole runs of calls, and
 //! `specs/FileCalls.antt` says what an honest file answers.
+//!
+//! ```
+//! let mut disk = MemDisk::new(alloc, 16)?;
+//! disk.write(4, &[7; 4096])?;                            // a stop now may leave any bytes in sector 4
+//! disk.sync()?;                                          // from here on it leaves these
+//! ```
 #![tactic(auto)]
 
 mod disk;

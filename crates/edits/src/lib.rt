@@ -3,6 +3,12 @@
 //! The layer above rests on this: the edit that `edit_of` answers is the effect of the command, or its refusal;
 //! `leaves_stale` says which tiles go stale by it; `carry_out` makes it in a table, whole or not at all. `plan` lists it
 //! change by change.
+//!
+//! ```
+//! let command = Command::Remove { corner };
+//! let edit = edit_of(&mut table, 240, &command)?;        // NoTile where there is none
+//! carry_out(alloc, &edit, &mut table)?;
+//! ```
 #![tactic(auto)]
 
 mod boxes;

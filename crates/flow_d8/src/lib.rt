@@ -3,6 +3,12 @@
 //!
 //! The layer above rests on this: each ground point of a mosaic has exactly one direction and one flow path, and from
 //! the mosaic's filled levels `Filled::directions` finds them.
+//!
+//! ```
+//! let filled = Filled::new(side, corners, levels, sinks)?;
+//! let directions = filled.directions()?;                 // Damaged where these are no mosaic's levels
+//! let path = directions.trace(point)?;                   // from the point to where its water leaves
+//! ```
 #![tactic(auto)]
 
 mod crossing;

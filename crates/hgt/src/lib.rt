@@ -2,6 +2,12 @@
 //!
 //! The layers above rest on this: samples and bytes say the same, both ways, and a name is read exactly where there is
 //! such a corner.
+//!
+//! ```
+//! let corner = name_of(b"n37w105")?;                     // latitude 37, longitude -105; else BadName
+//! let name = name_text(corner);                          // "N37W105"
+//! let samples = samples(alloc, &bytes, side)?;           // BadLength unless there are two bytes a sample
+//! ```
 #![tactic(auto)]
 
 mod bytes;

@@ -4,6 +4,13 @@
 //!
 //! The layers above rest on this: the holders of a point are exactly the corners whose tile has a sample there, in the
 //! order of tiles, and a point's index in a tile is known exactly where that tile holds it.
+//!
+//! ```
+//! let side = Side::new(3)?;
+//! let point = Point { y: 1, x: 2 };                      // on the edge between N00E000 and N00E001
+//! let corners = holders(side, point);                    // these two, in this order
+//! let index = index_in(side, corners[1], point);         // Some(3): the first sample of the second row
+//! ```
 #![tactic(auto)]
 
 mod corner;

@@ -1,7 +1,14 @@
-//! The line language: what is read as a line, the event that it asks for, and the text of an answer.
+//! The line language: what is read as a line, the event that it asks for, and the text of an answer. It speaks of bytes,
+//! texts and lines alone: what an event does is said by the crate `calls`.
 //!
-//! It speaks of bytes, texts and lines alone. What an event does is said by the crate `calls`, and what of by the crates
-//! above.
+//! The layer above rests on this: a line is read up to its LF however the reader cuts the bytes, and asks for an event
+//! exactly where the grammar (`specs/Grammar.antt`) has it.
+//!
+//! ```
+//! let request = request_of(b"fill 1 1");                 // Some: the event to fill y = 1, x = 1
+//! let text = tell(alloc, reply);                         // "OK 5" and an LF
+//! text.write(&mut writer)?;
+//! ```
 #![tactic(auto)]
 
 mod bytes;

@@ -3,6 +3,13 @@
 //!
 //! The layer above rests on this: a page that is taken was free and is free no longer, no other page changes, and no
 //! page comes only where none is free.
+//!
+//! ```
+//! let mut pages = Pages::new(alloc, 16)?;                // pages 4 to 15
+//! let was_free = pages.mark(4);                          // true
+//! let page = pages.take()?;                              // one of 5 to 15
+//! pages.give(page);
+//! ```
 #![tactic(auto)]
 
 mod allocator;

@@ -2,6 +2,12 @@
 //! that the definitions can be met, and say what the product should answer.
 //!
 //! The layer above rests on this: each call answers exactly what the definition says, whatever the mosaic.
+//!
+//! ```
+//! let mosaic = effect(alloc, 4, &Plain::new(alloc, side), &command)?;
+//! let levels = filled_levels(alloc, &mosaic)?;           // over all paths, point by point
+//! let level = levels.get(point);
+//! ```
 #![tactic(auto)]
 
 mod adjacency;

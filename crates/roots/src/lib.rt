@@ -4,6 +4,13 @@
 //! pages that the current root doesn't reach, and then commits a new root. A stop at any moment leaves the current root
 //! or, inside a commit, the new one with all pages written since `begin`; pages that weren't written stay.
 //! `specs/Slots.antt` says which root of an image is current, `specs/Opening.antt` what opening answers on it.
+//!
+//! ```
+//! let mut roots = Roots::open(disk)?;                    // the refusal has the disk, too
+//! roots.begin()?;                                        // the slot that isn't current is closed
+//! roots.write(page, &bytes)?;
+//! roots.commit(&root)?;                                  // a stop from here on leaves this root, with the page
+//! ```
 #![tactic(auto)]
 
 mod faults;

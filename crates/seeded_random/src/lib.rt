@@ -1,4 +1,9 @@
 //! Numbers that look random, and are the same in each run: for random tests, which draw their commands and bytes from it.
+//!
+//! ```
+//! let mut random = Random::new(1);
+//! let height = random.next_below(100);                   // 0 to 99
+//! ```
 #![tactic(auto)]
 
 ghost use Rattle.std.specs.Prelude.{◌<◌, Contains, length};

@@ -1,6 +1,13 @@
 //! The program on files: its words, what each subcommand does, and how it ends.
 //!
-//! It hands out what serves any engine too: `serve`, `Engine` and `TableEngine`.
+//! The layer above rests on this: `carry_out` opens, reads and makes what the words ask for and nothing else, does it to
+//! the store on the disk, and writes and answers what goes with it (`specs/Program.antt`).
+//!
+//! It hands out what serves any engine, too: `serve`, `Engine` and `TableEngine`.
+//!
+//! ```
+//! let status = program(&rt, &words, &mut reader, &mut writer);
+//! ```
 #![tactic(auto)]
 
 mod commands;

@@ -1,13 +1,16 @@
 //! Serves lines from any reader to any writer over any engine.
 //!
-//! The bytes that `serve` writes are the replies to the items that it reads: each item is a line, or an import line with
-//! its payload, and how the reader cuts the bytes makes no difference. They go to an `Output`, a writer that remembers
-//! whether it has failed: a fault of it is answered where it has, and nowhere else.
+//! The layer above rests on this: the bytes that `serve` writes are the replies to the items that it reads, each a line,
+//! or an import line with its payload, and how the reader cuts the bytes makes no difference. They go to an `Output`, a
+//! writer that remembers whether it has failed: a fault of it is answered where it has, and nowhere else. Each command or
+//! question is one call of the engine, and its reply tells what that call answered. A power cut at any moment since a
+//! reply leaves the contents of the state after it, of a later one, or of its commit in doubt, whole.
+//! `specs/Promises.antt` says all that is known of a session, `specs/Answers.antt` what an item comes to.
 //!
-//! Each item that comes to an event is one call of the engine, whose answer the reply tells. The store goes through a run of
-//! states, one after each item, and a power cut at any moment since a reply leaves the contents of the state after it or of
-//! a later one, or of its commit in doubt, whole. `specs/Promises.antt` says all that is known of a session,
-//! `specs/Answers.antt` what an item comes to.
+//! ```
+//! let mut output = CheckedWriter::new(writer);
+//! serve(alloc, &mut reader, &mut output, &mut engine)?;  // Ok: end of input or `quit`, and all replies written
+//! ```
 #![tactic(auto)]
 
 mod answering;

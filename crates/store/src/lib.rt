@@ -6,6 +6,13 @@
 //! most one contents. `specs/Standing.antt` says when an image stands for contents, `specs/Kept.antt` when the planes
 //! that it keeps are right, `specs/States.antt` when a store is in a state, and the crate calls has the states and
 //! answers.
+//!
+//! ```
+//! Store::format(&mut disk, 3, 4)?;                       // tiles of 3 x 3 samples, at most four
+//! let mut store = Store::open(alloc, disk)?;             // the refusal has the disk, too
+//! let count = store.apply(&command)?;                    // acknowledged: a power cut leaves it done
+//! let level = store.fill(Point { y: 1, x: 1 })?;         // in metres
+//! ```
 #![tactic(auto)]
 
 mod asking;

@@ -49,7 +49,8 @@ impl<D: Disk> Store<D> {
     }
 
     /// The filled level of a point, in metres: the least, over all paths to an outlet, of the greatest height on the path.
-    /// Refused with Failed, Outside, Void, NoMemory or Device.
+    /// Refused with Failed, Outside, Void, NoMemory or Device, or with Damaged where what is kept of a tile is seen to be no
+    /// labelling of it; the store works on then.
     pub fn fill(&mut self, point: Point) -> Result<i16, Refusal>
         ensures reads { Queries D.Disk self.old self.new result }
         ensures causes { IfErr result (λ r. IsTrue (may_refuse (ask.Fill point) r)) }
@@ -61,7 +62,7 @@ impl<D: Disk> Store<D> {
     }
 
     /// The code of the direction in which water leaves a point: east is 1, and each next one clockwise twice as much; 0
-    /// where it leaves the mosaic. Refused as `fill` is.
+    /// where it leaves the mosaic. Refused as `fill` is, Damaged included.
     pub fn direction(&mut self, point: Point) -> Result<u8, Refusal>
         ensures reads { Queries D.Disk self.old self.new result }
         ensures causes { IfErr result (λ r. IsTrue (may_refuse (ask.Direction point) r)) }
@@ -73,7 +74,7 @@ impl<D: Disk> Store<D> {
     }
 
     /// The flow path of a point: the point, then the one that its direction leads to, and so on, to one where water leaves
-    /// the mosaic. Refused as `fill` is.
+    /// the mosaic. Refused as `fill` is, Damaged included.
     pub fn trace(&mut self, point: Point) -> Result<Vec<Point>, Refusal>
         ensures reads { Queries D.Disk self.old self.new result }
         ensures causes { IfErr result (λ r. IsTrue (may_refuse (ask.Trace point) r)) }
@@ -85,7 +86,7 @@ impl<D: Disk> Store<D> {
     }
 
     /// The watershed of a point: the ground points whose flow path contains it, as maximal runs, north first, west first.
-    /// Refused as `fill` is.
+    /// Refused as `fill` is, Damaged included.
     pub fn watershed(&mut self, point: Point) -> Result<Vec<Run>, Refusal>
         ensures reads { Queries D.Disk self.old self.new result }
         ensures causes { IfErr result (λ r. IsTrue (may_refuse (ask.Watershed point) r)) }

@@ -1,4 +1,11 @@
 //! A mosaic in memory, as an engine.
+//!
+//! The layer above rests on this: it answers as a store does, and is never refused by a device.
+//!
+//! ```
+//! let mut engine = TableEngine::new(alloc, side, 4);     // for at most four tiles
+//! let count = engine.apply(&command)?;
+//! ```
 #![tactic(auto)]
 
 mod table_engine;

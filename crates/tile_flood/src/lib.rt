@@ -5,6 +5,12 @@
 //! that is reached at it. It is carried too: from point to adjacent point, each level the greater of its height and the
 //! next level, each label that of the next, down to that outlet. So `mend` can give the labelling of the block with
 //! other heights of some points, in the time that the levels and labels need which may change.
+//!
+//! ```
+//! let block = Block::new(side, heights, sinks)?;         // None unless there is a height for each point
+//! let labelled = Flood::run(alloc, &block)?;
+//! let spills = spills(alloc, &labelled)?;                // the least pass between each two labels that meet
+//! ```
 #![tactic(auto)]
 
 mod affected;

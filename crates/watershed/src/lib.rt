@@ -2,6 +2,10 @@
 //!
 //! The layer above rests on this: a set has one list of runs, `runs_of_points` gives that of a list of points, and
 //! `watershed` that of a point's watershed.
+//!
+//! ```
+//! let runs = watershed(alloc, &directions, point)?;      // (y, first x, last x), from the north down
+//! ```
 #![tactic(auto)]
 
 mod laws;
