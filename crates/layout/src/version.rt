@@ -14,24 +14,17 @@ pub enum Version {
 }
 
 impl Version {
-    /// The newest version that stores are of.
-    pub const NEWEST: Version = Version::Two;
-
     /// The version that this number stands for, where it is known.
     pub fn of(number: u32) -> Option<Version>
         ensures known { IfSome result IsKnown }
         ensures found { IfSome result (λ version. number ≡ number_of version) }
         ensures none { IfNone result ((version : Version) → IsKnown version → number ≢ number_of version) }
     {
-        let version = match number {
-            1 => Version::One,
-            2 => Version::Two,
-            _ => return None,
-        };
-        if Version::NEWEST.number() < number {
-            return None;
+        match number {
+            1 => Some(Version::One),
+            2 => Some(Version::Two),
+            _ => None,
         }
-        Some(version)
     }
 
     pub fn number(self) -> u32
