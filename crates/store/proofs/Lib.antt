@@ -16,6 +16,7 @@ pub mod Nearby
 pub mod NewHeights
 pub mod Opened
 pub mod Openings
+pub mod PageRows
 pub mod Pages
 pub mod Patched
 pub mod Querying

@@ -291,6 +291,13 @@ module _ (n : ℕ) (edit : Point → ℤ → ℤ) (m : Mosaic) (tiles : List Sto
         ∙ sym sample;
   }
 
+  -- so is one of whose points the edit changes none
+  pub page_passed : (c : Corner) (i : ℕ) → ((e : ℕ) → e < n * n → e / 2048 ≡ i → (s : ℤ) → edit (point_of n c e) s ≡ s) → Settles n edit m tiles tiles c i
+  page_passed c i leaves = record {
+    advances = record { underway = is; kept = refl; settled = λ d k so. so };
+    here = λ t there corner e inside at. leaves e inside at (stored_sample n t e);
+  }
+
   -- nothing more was staged
   pub advances_none : Advances n edit m tiles tiles
   advances_none = record { underway = is; kept = refl; settled = λ c i so. so }

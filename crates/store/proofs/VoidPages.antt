@@ -56,11 +56,15 @@ and_false : (b : Bool) → (b && false) ≡ false
 and_false true = refl
 and_false false = refl
 
+and_twice : (a b : Bool) → (a && (a && b)) ≡ (a && b)
+and_twice true b = refl
+and_twice false b = refl
+
 either_way : (x : Bool) (h s : ℤ) → s ≡ h → cond x h s ≡ h
 either_way true h s is = refl
 either_way false h s is = is
 
-module _ (n : ℕ) (m : Mosaic) (patch : Patch) (rim : RimVoids) (valid : IsMosaic m) (side : m.side ≡ n) (known : AreRimVoids m rim)
+module _ (n : ℕ) (m : Mosaic) (patch : Patch) (rim : RimVoids) (valid : IsMosaic m) (side : m.side ≡ n) (known : AreRimVoids m patch rim)
     (t : Tile) (there : Contains m.tiles t) (corner : t.corner ≡ rim.corner) (e : ℕ) (inside : e < n * n) where
   abbrev p : Point
   p = point_of n rim.corner e
@@ -80,15 +84,18 @@ module _ (n : ℕ) (m : Mosaic) (patch : Patch) (rim : RimVoids) (valid : IsMosa
   point_is : point_of m.side t.corner e ≡ p
   point_is = ap₂ (λ (k : ℕ) (c : Corner). point_of k c e) side corner
 
-  rim_is : (b : Bool) → is_rim n e ≡ b → own ≡ void → is_void_by_rim n rim e ≡ is_void_at m p
-  rim_is true on is =
-      ap (λ b. not b || get_or rim.voids.items (rim_number n e) false) on
+  in_box_is : (b : Bool) → is_rim n e ≡ b → own ≡ void → (in_box && is_void_by_rim n rim e) ≡ (in_box && is_void_at m p)
+  in_box_is true on is =
+      ap (λ b. in_box && b)
+      (ap (λ b. not b || get_or rim.voids.items (rim_number n e) false) on
       ∙ ap (λ (k : ℕ). get_or rim.voids.items (rim_number k e) false) (sym side)
       ∙ known.each e within (ap (λ (k : ℕ). is_rim k e) side ∙ on)
-      ∙ ap (λ (k : ℕ). is_void_at m (point_of k rim.corner e)) side
-  rim_is false off is =
-      ap (λ b. not b || get_or rim.voids.items (rim_number n e) false) off
-      ∙ sym (ap (is_void_at m) (sym point_is) ∙ inner_void m valid t there e within (ap (λ (k : ℕ). is_rim k e) side ∙ off) (own_is ∙ is))
+      ∙ ap (λ (k : ℕ). is_in_box patch.from patch.to (point_of k rim.corner e) && is_void_at m (point_of k rim.corner e)) side)
+      ∙ and_twice in_box (is_void_at m p)
+  in_box_is false off is =
+      ap (λ b. in_box && b)
+      (ap (λ b. not b || get_or rim.voids.items (rim_number n e) false) off
+      ∙ sym (ap (is_void_at m) (sym point_is) ∙ inner_void m valid t there e within (ap (λ (k : ℕ). is_rim k e) side ∙ off) (own_is ∙ is)))
 
   abbrev made : ℤ → ℤ
   made s = cond (is_due n rim patch e s) patch.height s
@@ -100,7 +107,7 @@ module _ (n : ℕ) (m : Mosaic) (patch : Patch) (rim : RimVoids) (valid : IsMosa
   own_made s true is same =
       let s_void : s ≡ void = (Decides-int_eq s void).0 is in
       ap₂ (λ (v l : Bool). cond ((v && l) && (in_box && is_void_by_rim n rim e)) patch.height s) is less
-      ∙ ap (λ b. cond (in_box && b) patch.height s) (rim_is (is_rim n e) refl (same ∙ s_void))
+      ∙ ap (λ b. cond b patch.height s) (in_box_is (is_rim n e) refl (same ∙ s_void))
   own_made s false is same =
       let ground : is_void_at m p ≡ false =
       ap (is_void_at m) (sym point_is) ∙ own_ground m valid t there e within (λ v. let e : true ≡ false = sym ((Decides-int_eq s void).1 (sym same ∙ sym own_is ∙ v)) ∙ is in cc) in
@@ -166,7 +173,7 @@ module _ (n : ℕ) (rim : RimVoids) (patch : Patch) (i : ℕ) (was : List ℕ) w
     filled_same due =
         one_more now (λ is. is) (own_sample ∙ sym (ap (λ b. cond b patch.height (page_sample was at)) (ap (is_due n rim patch (2048 * i + at)) (sym own_sample) ∙ due))) (λ j apart. refl)
 
-  pub page_filled : (now : List ℕ) (m : Mosaic) → IsMosaic m → m.side ≡ n → AreRimVoids m rim → IsPageOf n (filled m patch) m rim.corner i was → IsFilledTo n rim patch i 2048 was now
+  pub page_filled : (now : List ℕ) (m : Mosaic) → IsMosaic m → m.side ≡ n → AreRimVoids m patch rim → IsPageOf n (filled m patch) m rim.corner i was → IsFilledTo n rim patch i 2048 was now
       → IsEdited n (filled m patch) rim.corner i was now
   page_filled now m valid side known of so = record {
     page = so.page;

@@ -75,11 +75,12 @@ IsPointSettled n edit tiles p = (c : Corner) (e : ℕ) → IsIndexOf n c p e →
 abbrev pub filled : Mosaic → Patch → Point → ℤ → ℤ
 filled m patch p s = if is_in_box patch.from patch.to p && is_void_at m p then patch.height else s
 
--- these are the points of the rim of the corner's tile that are void, by rim number
-pub record AreRimVoids (m : Mosaic) (rim : RimVoids) : Type 0 where
-  pub each : (e : ℕ) → e < m.side * m.side → IsTrue (is_rim m.side e) → slice_index_or rim.voids.items (rim_number m.side e) false ≡ is_void_at m (point_of m.side rim.corner e)
+-- these are the points of the box on the rim of the corner's tile that are void, by rim number
+pub record AreRimVoids (m : Mosaic) (patch : Patch) (rim : RimVoids) : Type 0 where
+  pub each : (e : ℕ) → e < m.side * m.side → IsTrue (is_rim m.side e) → slice_index_or rim.voids.items (rim_number m.side e) false
+      ≡ (is_in_box patch.from patch.to (point_of m.side rim.corner e) && is_void_at m (point_of m.side rim.corner e))
 
--- whether the point of a void sample is void by the seam rule, by what is known of the rim
+-- whether the point of a void sample of the box is void by the seam rule, by what is known of the rim
 abbrev pub is_void_by_rim : ℕ → RimVoids → ℕ → Bool
 is_void_by_rim n rim e = not (is_rim n e) || slice_index_or rim.voids.items (rim_number n e) false
 

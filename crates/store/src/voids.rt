@@ -1,5 +1,6 @@
 //! Heights staged where a patch fills voids.
-ghost use Rattle.std.specs.Prelude.{◌≡◌, ◌<◌, ◌+◌, ◌*◌, ◌-◌, ◌^◌, ◌&&◌, int_le, ℕ, false, All, Contains, IfErr, OnOk, length, vec_len};
+ghost use Rattle.std.specs.Prelude.{◌≡◌, ◌<◌, ◌≤◌, ◌+◌, ◌*◌, ◌-◌, ◌/◌, ◌^◌, ◌&&◌, int_le, ℕ, false, All, Contains, IfErr, OnOk, length, vec_len};
+ghost use Rattle.lattice.specs.Lattice.{point_of};
 ghost use Rattle.lattice.specs.Mosaic.{Mosaic, IsMosaic, IsSample, is_void};
 ghost use Rattle.lattice.specs.declared.refusal.Refusal.TheVariants.{Device};
 ghost use Rattle.page_codec.specs.Sizes.{pages_of};
@@ -45,7 +46,7 @@ pub(crate) fn stage_voids<D: Disk>(
         → OnOk result (Advances (root_of tree.old).side (filled m patch) m (staged_in D.Disk tree.old) (staged_in D.Disk tree.new)
         × All (λ c. (i : ℕ) → IsSettled (root_of tree.old).side (filled m patch) (staged_in D.Disk tree.new) c i) tiles.now) }
 {
-    let rims = read_rims(alloc, tree, tiles)?;
+    let rims = read_rims(alloc, tree, tiles, patch)?;
     prepare_tiles(tree, tiles)?;
     fill_tiles(tree, &rims, patch)
 }
@@ -71,7 +72,7 @@ fn fill_tiles<D: Disk>(tree: &mut Tree<D>, rims: &[RimVoids], patch: Patch) -> R
     requires whole { All (λ rim. vec_len rim.voids ≡ 4 * ((root_of tree.old).side - 1)) rims.now }
     ensures stages { StagesOnly D.Disk tree.old tree.new result }
     ensures refused { IfErr result (λ r. r ≡ Device) }
-    ensures set { D.honest (disk_of tree.new) → (s : Stored) (m : Mosaic) → IsAt D.Disk tree.old s → All (AreRimVoids m) rims.now
+    ensures set { D.honest (disk_of tree.new) → (s : Stored) (m : Mosaic) → IsAt D.Disk tree.old s → All (AreRimVoids m patch) rims.now
         → IsUnderway (root_of tree.old).side (filled m patch) m (staged_in D.Disk tree.old)
         → OnOk result (Advances (root_of tree.old).side (filled m patch) m (staged_in D.Disk tree.old) (staged_in D.Disk tree.new)
         × All (λ rim. (i : ℕ) → IsSettled (root_of tree.old).side (filled m patch) (staged_in D.Disk tree.new) rim.corner i) rims.now) }
@@ -90,7 +91,7 @@ fn fill_tile<D: Disk>(tree: &mut Tree<D>, rim: &RimVoids, patch: Patch) -> Resul
     requires whole { vec_len rim.now.voids ≡ 4 * ((root_of tree.old).side - 1) }
     ensures stages { StagesOnly D.Disk tree.old tree.new result }
     ensures refused { IfErr result (λ r. r ≡ Device) }
-    ensures set { D.honest (disk_of tree.new) → (s : Stored) (m : Mosaic) → IsAt D.Disk tree.old s → AreRimVoids m rim.now
+    ensures set { D.honest (disk_of tree.new) → (s : Stored) (m : Mosaic) → IsAt D.Disk tree.old s → AreRimVoids m patch rim.now
         → IsUnderway (root_of tree.old).side (filled m patch) m (staged_in D.Disk tree.old)
         → OnOk result (Advances (root_of tree.old).side (filled m patch) m (staged_in D.Disk tree.old) (staged_in D.Disk tree.new)
         × ((i : ℕ) → IsSettled (root_of tree.old).side (filled m patch) (staged_in D.Disk tree.new) rim.now.corner i)) }
@@ -115,11 +116,14 @@ fn fill_page<D: Disk>(
     requires index { index < pages_of (root_of tree.old).side }
     ensures stages { StagesOnly D.Disk tree.old tree.new result }
     ensures refused { IfErr result (λ r. r ≡ Device) }
-    ensures set { D.honest (disk_of tree.new) → (s : Stored) (m : Mosaic) → IsAt D.Disk tree.old s → AreRimVoids m rim.now
+    ensures set { D.honest (disk_of tree.new) → (s : Stored) (m : Mosaic) → IsAt D.Disk tree.old s → AreRimVoids m patch rim.now
         → IsUnderway (root_of tree.old).side (filled m patch) m (staged_in D.Disk tree.old)
         → OnOk result (Settles (root_of tree.old).side (filled m patch) m (staged_in D.Disk tree.old) (staged_in D.Disk tree.new) rim.now.corner index) }
 {
     let side = tree.current().side();
+    if !meets(side, rim.corner, patch, index) {
+        return Ok(());
+    }
     let mut page = [0; 4096];
     tree.scan_page(rim.corner, Plane::Heights, index, &mut page)?;
     if !fill_samples(side, rim, patch, index, &mut page) {
@@ -128,11 +132,43 @@ fn fill_page<D: Disk>(
     tree.stage(rim.corner, Plane::Heights, index, &page)
 }
 
+// Whether the page of the corner's heights has a sample in a row of the box.
+fn meets(side: Side, corner: Corner, patch: Patch, index: u32) -> bool
+    requires { index < pages_of side }
+    ensures { result ≡ false → (e : ℕ) → e < side * side → e / 2048 ≡ index → is_in_box patch.from patch.to (point_of side corner e) ≡ false }
+{
+    let first = SAMPLES_IN_PAGE * index;
+    let last = last_of_page(side, first);
+    let north = point_at(side, corner, first);
+    let south = point_at(side, corner, last);
+    meets_rows(patch, north, south)
+}
+
+// The index of the last sample in the page that begins with this one.
+fn last_of_page(side: Side, first: u32) -> u32
+    requires { first < side * side }
+    ensures within { result < side * side }
+    ensures last { (e : ℕ) → e < side * side → e < first + 2048 → e ≤ result }
+{
+    let next = first + SAMPLES_IN_PAGE;
+    if next < side.area() {
+        return next - 1;
+    }
+    side.area() - 1
+}
+
+// Whether some row from the one point southwards to the other is one of the box.
+fn meets_rows(patch: Patch, north: Point, south: Point) -> bool
+    ensures { result ≡ (int_le patch.from.y north.y && int_le south.y patch.to.y) }
+{
+    patch.from.y <= north.y && south.y <= patch.to.y
+}
+
 // Fills the voids of the box in a page of the tile's heights. Answers whether there was one.
 fn fill_samples(side: Side, rim: &RimVoids, patch: Patch, index: u32, page: &mut [u8; 4096]) -> bool
     requires whole { vec_len rim.now.voids ≡ 4 * (side - 1) }
     requires index { index < pages_of side }
-    ensures edited { (m : Mosaic) → IsMosaic m → m.side ≡ side → AreRimVoids m rim.now → IsPageOf side (filled m patch) m rim.now.corner index page.old
+    ensures edited { (m : Mosaic) → IsMosaic m → m.side ≡ side → AreRimVoids m patch rim.now → IsPageOf side (filled m patch) m rim.now.corner index page.old
         → IsEdited side (filled m patch) rim.now.corner index page.old page.new }
     ensures left { result ≡ false → page.new ≡ page.old }
 {
@@ -182,7 +218,7 @@ fn holds_void(page: &[u8; 4096], at: u32) -> bool
 }
 
 // Whether the point lies in the box of the patch.
-fn is_in_box(patch: Patch, point: Point) -> bool
+pub(crate) fn is_in_box(patch: Patch, point: Point) -> bool
     ensures { result ≡ is_in_box patch.from patch.to point }
 {
     is_in_rows(patch, point) && is_in_columns(patch, point)

@@ -1,9 +1,9 @@
 use Rattle.std.proofs.Common.{◌≡◌, ◌-◌, ◌*◌, ◌<◌, ℕ, false, vec_len, Ok}
-use Rattle.std.specs.Prelude.{slice_index_or}
+use Rattle.std.specs.Prelude.{◌&&◌, slice_index_or}
 use Rattle.lattice.specs.Lattice.{point_of}
 use Rattle.lattice.specs.RimPoints.{IsRimPoint}
 use Rattle.catalogue.specs.Readers.{OnlyReads}
-use Rattle.edits.specs.Effect.{is_void_at}
+use Rattle.edits.specs.Effect.{is_in_box, is_void_at}
 use Rattle.store.proofs.rims.read_rim.Given as goal
 
 abbrev pub invariant-loop-number : goal.invariant-loop-number
@@ -11,5 +11,5 @@ invariant-loop-number g l = record {
   reads : OnlyReads {T = Unit {0}} g.S.Samples l.fn.samples l.samples (Ok tt);
   whole : vec_len l.voids ≡ 4 * (g.S.Samples.side_of l.fn.samples - 1);
   known : g.S.Samples.is_honest l.samples → (e k : ℕ) → k < l.number → IsRimPoint (g.S.Samples.side_of l.fn.samples) k e
-      → slice_index_or l.voids.items k false ≡ is_void_at (g.S.Samples.mosaic l.fn.samples) (point_of (g.S.Samples.side_of l.fn.samples) l.corner e);
+      → slice_index_or l.voids.items k false ≡ (is_in_box l.patch.from l.patch.to (point_of (g.S.Samples.side_of l.fn.samples) l.corner e) && is_void_at (g.S.Samples.mosaic l.fn.samples) (point_of (g.S.Samples.side_of l.fn.samples) l.corner e));
 }

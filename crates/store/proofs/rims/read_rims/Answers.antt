@@ -26,8 +26,8 @@ loop-corner-preserved g c =
       reads = reads_on g.S.Samples laws.keeps_on now mid c.read_rim.new.samples tt (Ok tt) so.reads read.reads;
       voids = λ honest.
           let honest_mid = read.reads.honest honest in
-          subst (λ (l : List RimVoids). All (AreRimVoids (g.S.Samples.mosaic now)) l) (sym pushed)
-          (All-push (AreRimVoids (g.S.Samples.mosaic now)) rims rim (so.voids honest_mid) (subst (λ (m : Mosaic). AreRimVoids m rim) (so.reads.mosaic honest_mid) (read.voids honest)));
+          subst (λ (l : List RimVoids). All (AreRimVoids (g.S.Samples.mosaic now) c.args.patch) l) (sym pushed)
+          (All-push (AreRimVoids (g.S.Samples.mosaic now) c.args.patch) rims rim (so.voids honest_mid) (subst (λ (m : Mosaic). AreRimVoids m c.args.patch rim) (so.reads.mosaic honest_mid) (read.voids honest)));
       whole =
           subst (λ (l : List RimVoids). All (λ r. vec_len r.voids ≡ 4 * (g.S.Samples.side_of now - 1)) l) (sym pushed)
           (All-push (λ r. vec_len r.voids ≡ 4 * (g.S.Samples.side_of now - 1)) rims rim so.whole (read.whole ∙ ap (λ k. 4 * (k - 1)) so.reads.side));

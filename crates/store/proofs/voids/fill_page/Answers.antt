@@ -1,8 +1,11 @@
-use Rattle.std.proofs.Common.{◌≡◌, ◌≤◌, ◌+◌, ℕ, Bool, if◌then◌else◌, ⊎_elim, Result, Ok, Err, IfErr, OnOk, List, length, sym, ap, ◌∙◌, subst}
+use Rattle.std.proofs.Common.{◌≡◌, ◌≤◌, ◌<◌, ◌+◌, ◌*◌, ◌/◌, ℕ, Bool, false, if◌then◌else◌, ⊎_elim, Result, Ok, Err, IfErr, OnOk, List, length, sym, ap, ◌∙◌, subst}
+use Rattle.std.proofs.lemmas.Bool.{and_left}
 use Rattle.lattice.specs.Corners.{Corner}
+use Rattle.lattice.specs.Lattice.{point_of}
 use Rattle.lattice.specs.Mosaic.{Mosaic}
 use Rattle.lattice.specs.declared.refusal.Refusal.{Refusal}
 use Rattle.lattice.specs.declared.refusal.Refusal.TheVariants.{Device}
+use Rattle.edits.specs.Effect.{is_in_box, is_void_at}
 use Rattle.page_codec.specs.Roots.{RootValue}
 use Rattle.charts.specs.declared.plane.Plane.TheVariants.{Heights}
 use Rattle.cow_tree.specs.Planes.{HasPage}
@@ -14,7 +17,7 @@ use Rattle.store.proofs.EditingReads.{page_read, heights_held}
 use Rattle.cow_tree.proofs.Steps.{on_ok}
 use Rattle.store.proofs.EditingSteps.{refused_as, stages_on}
 use Rattle.store.proofs.StagingSteps.{only_device}
-use Rattle.store.proofs.Underway.{page_left, page_of, page_staged}
+use Rattle.store.proofs.Underway.{page_left, page_of, page_passed, page_staged}
 use Rattle.store.proofs.VoidPages.{filled_once}
 use Rattle.store.proofs.voids.fill_page.Goals as goal
 
@@ -28,6 +31,20 @@ returns-in_err-scan_page-clause-stages g c =
     let err : Result (Unit {0}) Refusal = Err r in
     subst (λ (result : Result (Unit {0}) Refusal). StagesOnly g.D.Disk c.args.tree.now mid result) (sym (refused_as c.from_residual.result r c.from_residual.ensures.1))
     (page_read g.D.Disk c.args.tree.now mid err c.in_err-scan_page.ensures.reads)
+
+pub returns-then-not-meets-clause-set : goal.returns-then-not-meets-clause-set
+returns-then-not-meets-clause-set g c honest s m at known under =
+    let old = c.args.tree.now in
+    let n : ℕ = (root_of old).side in
+    let corner : Corner = c.args.rim.now.corner in
+    let i : ℕ = c.args.index in
+    let from = c.args.patch.from in
+    let to = c.args.patch.to in
+    let side : c.side-side.result ≡ n = c.side-side.ensures.value ∙ ap (λ (r : RootValue). r.side) c.current.ensures in
+    let out : (e : ℕ) → e < n * n → e / 2048 ≡ i → is_in_box from to (point_of n corner e) ≡ false =
+    subst (λ (k : ℕ). (e : ℕ) → e < k * k → e / 2048 ≡ i → is_in_box from to (point_of k corner e) ≡ false) side (c.meets.ensures c.if-not-meets.true) in
+    page_passed n (filled m c.args.patch) m (staged_in g.D.Disk old) under corner i
+    (λ e inside here v. ap (λ b. if b then c.args.patch.height else v) (and_left (is_in_box from to (point_of n corner e)) (is_void_at m (point_of n corner e)) (out e inside here)))
 
 pub returns-clause-stages : goal.returns-clause-stages
 returns-clause-stages g c =

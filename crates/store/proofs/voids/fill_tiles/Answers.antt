@@ -60,7 +60,7 @@ loop-rim-preserved g c =
           let mid_at = so.stages.uncommitted.at mid_honest s at so.stages.uncommitted.works in
           let was = so.set mid_honest s m at known under in
           let edit = filled m c.args.patch in
-          let here : AreRimVoids m rim = subst (AreRimVoids m) (sym c.rim-item.is) (known k rim c.loop-rim-test.true) in
+          let here : AreRimVoids m c.args.patch rim = subst (AreRimVoids m c.args.patch) (sym c.rim-item.is) (known k rim c.loop-rim-test.true) in
           let more : Advances n edit m (staged_in d mid) (staged_in d new) × ((i : ℕ) → IsSettled n edit (staged_in d new) rim.corner i) =
           subst (λ (j : ℕ). Advances j edit m (staged_in d mid) (staged_in d new) × ((i : ℕ) → IsSettled j edit (staged_in d new) rim.corner i)) side
           (is.set honest s m mid_at here (subst (λ (j : ℕ). IsUnderway j edit m (staged_in d mid)) (sym side) was.0.underway)) in (

@@ -9,7 +9,7 @@ use Rattle.store.proofs.voids.fill_tiles.Given as goal
 abbrev pub invariant-loop-rim : goal.invariant-loop-rim
 invariant-loop-rim g l = record {
   stages : StagesOnly {T = Unit {0}} g.D.Disk l.fn.tree l.tree (Ok tt);
-  set : g.D.Disk.honest (disk_of l.tree) → (s : Stored) (m : Mosaic) → IsAt g.D.Disk l.fn.tree s → All (AreRimVoids m) l.rims
+  set : g.D.Disk.honest (disk_of l.tree) → (s : Stored) (m : Mosaic) → IsAt g.D.Disk l.fn.tree s → All (AreRimVoids m l.patch) l.rims
       → IsUnderway (root_of l.fn.tree).side (filled m l.patch) m (staged_in g.D.Disk l.fn.tree)
       → Advances (root_of l.fn.tree).side (filled m l.patch) m (staged_in g.D.Disk l.fn.tree) (staged_in g.D.Disk l.tree)
       × All (λ rim. (i : ℕ) → IsSettled (root_of l.fn.tree).side (filled m l.patch) (staged_in g.D.Disk l.tree) rim.corner i) (take l.rim-index l.rims);

@@ -159,7 +159,7 @@ returns-clause-set g c honest s m at same under =
       pages = subst AreWhole (sym (keeps.staged read_honest)) (whole_pages n edit m (staged_in d old) under);
       valid = subst IsMosaic (sym same_read) under.valid;
     } in
-    let known : All (AreRimVoids m) c.in_ok-rims.rims.items = subst (λ (x : Mosaic). All (AreRimVoids x) c.in_ok-rims.rims.items) same (c.in_ok-rims.ensures.voids sure) in
+    let known : All (AreRimVoids m c.args.patch) c.in_ok-rims.rims.items = subst (λ (x : Mosaic). All (AreRimVoids x c.args.patch) c.in_ok-rims.rims.items) same (c.in_ok-rims.ensures.voids sure) in
     let corners = c.in_ok-rims.ensures.corners in
     on_ok c.fill_tiles.result
     (λ so.
@@ -169,5 +169,5 @@ returns-clause-set g c honest s m at same under =
     subst (λ (rims : List RimVoids). All (λ r. (i : ℕ) → IsSettled n edit (staged_in d new) r.corner i) rims) c.deref.ensures.value
     (subst (λ (k : ℕ). All (λ r. (i : ℕ) → IsSettled k edit (staged_in d new) r.corner i) c.deref.result.now) side so.1) in
     (moved, subst (λ (cs : List Corner). All (λ e. (i : ℕ) → IsSettled n edit (staged_in d new) e i) cs) corners (All-map (λ e. (i : ℕ) → IsSettled n edit (staged_in d new) e i) (λ r. r.corner) c.in_ok-rims.rims.items each)))
-    (c.fill_tiles.ensures.set honest s m mid_at (subst (λ (rims : List RimVoids). All (AreRimVoids m) rims) (sym c.deref.ensures.value) known)
+    (c.fill_tiles.ensures.set honest s m mid_at (subst (λ (rims : List RimVoids). All (AreRimVoids m c.args.patch) rims) (sym c.deref.ensures.value) known)
     (subst (λ (k : ℕ). IsUnderway k edit m (staged_in d mid)) (sym side) (subst (λ (ts : List StoredTile). IsUnderway n edit m ts) (sym staged) under)))
