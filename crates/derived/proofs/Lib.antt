@@ -1,4 +1,5 @@
-mod LittleBytes
-mod Spotted
-mod Fitting
-mod Mended
+pub mod KeptTiles
+pub mod RootStored
+pub mod Settled
+pub mod StepEnds
+pub mod Uncommitted

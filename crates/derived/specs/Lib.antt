@@ -1,4 +1,4 @@
-pub mod Labellings
-pub mod Spots
-pub mod TileLabellings
-pub mod Updating
+pub mod Clean
+pub mod Kept
+pub mod Steps
+pub mod Uncommitted

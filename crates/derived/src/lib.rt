@@ -1,18 +1,11 @@
-//! What a store keeps of the flood of one tile: the planes of its levels and labels; and labellings, made or kept.
+//! The levels and labels that a tree keeps of its tiles: of which tiles it keeps none, and steps that keep those of one more.
 //!
-//! The layers above rest on this: the bytes that `kept_planes` answers are, as they stand on the disk, a valid labelling of
-//! the tile's block in the mosaic; and `labelled_from` reads such bytes back, and refuses what can be no labelling.
+//! The layer above rests on this: where all that a tree keeps is a valid labelling of each tile's block in its mosaic, it
+//! is so after a step, whatever the step answers and whenever it is stopped; and a present tile that isn't stale keeps one.
 #![tactic(auto)]
 
-mod bytes;
-mod flooded_block;
-mod labellings;
-mod planes;
-mod reading;
-mod tile_labelling;
+mod staleness;
+mod stepping;
 
-pub use flooded_block::FloodedBlock;
-pub use labellings::{Labellings, flooded};
-pub use planes::{KeptPlanes, kept_planes};
-pub use reading::{labelled_at, labelled_from};
-pub use tile_labelling::TileLabelling;
+pub use staleness::stale;
+pub use stepping::step;

@@ -15,7 +15,7 @@ use Rattle.catalogue.specs.Tiles.{corners_of}
 use Rattle.catalogue.proofs.Sharing.{shared_from}
 use Rattle.downstream.specs.Near.{IsNear}
 use Rattle.downstream.proofs.Nearby.{all_around, level_ground, told}
-use Rattle.derived.specs.Labellings.{IsFlooded}
+use Rattle.tile_labellings.specs.Labellings.{IsFlooded}
 use Rattle.border_graph.specs.Others.{corner_at}
 use Rattle.tile_flood.specs.Blocks.{LabelledGround}
 use Rattle.tile_flood.specs.Labelling.{OUT, NO_LABEL}

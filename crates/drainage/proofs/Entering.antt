@@ -8,8 +8,8 @@ use Rattle.lattice.specs.Lattice.{holds}
 use Rattle.lattice.specs.Mosaic.{Mosaic}
 use Rattle.lattice.specs.declared.point.Point.{Point}
 use Rattle.border_graph.specs.Others.{corner_at}
-use Rattle.derived.specs.TileLabellings.{IsTileLabelling}
-use Rattle.derived.specs.declared.tile_labelling.TileLabelling.{TileLabelling}
+use Rattle.tile_labellings.specs.TileLabellings.{IsTileLabelling}
+use Rattle.tile_labellings.specs.declared.tile_labelling.TileLabelling.{TileLabelling}
 use Rattle.drainage.specs.Holding.{IsEntered, entered_at}
 use Rattle.drainage.specs.Reaching.{DifferAt}
 

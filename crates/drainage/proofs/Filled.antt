@@ -17,7 +17,7 @@ use Rattle.tile_flood.specs.Labelling.{OUT, NO_LABEL}
 use Rattle.border_graph.specs.Joining.{Rim}
 use Rattle.border_graph.specs.Linking.{node_number}
 use Rattle.border_graph.specs.Others.{corner_at}
-use Rattle.derived.specs.Labellings.{IsFlooded}
+use Rattle.tile_labellings.specs.Labellings.{IsFlooded}
 use Rattle.drainage.specs.Holding.{Known, IsRimLevel, IsGroundNode, IsRight}
 use Rattle.drainage.proofs.Agreeing.{joined_at}
 use Rattle.drainage.proofs.Asked.{IsAt, is_at}

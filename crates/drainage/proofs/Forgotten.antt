@@ -6,7 +6,7 @@ use Rattle.std.proofs.lemmas.List.{get_or-set_other, get_or-set_same, length-set
 use Rattle.lattice.specs.Corners.{Corner}
 use Rattle.lattice.specs.declared.point.Point.{Point}
 use Rattle.lattice.specs.Mosaic.{Mosaic}
-use Rattle.derived.specs.TileLabellings.{IsTileLabelling}
+use Rattle.tile_labellings.specs.TileLabellings.{IsTileLabelling}
 use Rattle.border_graph.specs.Others.{corner_at}
 use Rattle.border_graph.specs.TileGraph.{TileGraph}
 use Rattle.drainage.specs.Forgetting.{IsLeftOf, IsNotedOf}

@@ -3,8 +3,8 @@ use Rattle.std.proofs.Common.{◌≡◌, ℕ, ℤ, List, refl, sym, ap, ◌∙�
 use Rattle.std.specs.Prelude.{Option, Some}
 use Rattle.lattice.specs.Corners.{Corner}
 use Rattle.catalogue.specs.declared.samples.Samples.{Ghosts}
-use Rattle.derived.specs.TileLabellings.{IsTileLabelling}
-use Rattle.derived.specs.declared.tile_labelling.TileLabelling.{TileLabelling}
+use Rattle.tile_labellings.specs.TileLabellings.{IsTileLabelling}
+use Rattle.tile_labellings.specs.declared.tile_labelling.TileLabelling.{TileLabelling}
 use Rattle.lattice.specs.Mosaic.{Mosaic}
 use Rattle.border_graph.specs.Others.{corner_at}
 use Rattle.drainage.specs.Shores.{AreTold, AreKept}

@@ -10,10 +10,10 @@ use Rattle.lattice.specs.Height.{height_of}
 use Rattle.lattice.specs.Lattice.{Holds, IsIndexOf, holds, index_of, point_of}
 use Rattle.lattice.specs.Mosaic.{Mosaic}
 use Rattle.lattice.proofs.Samples.{index_of_point_is, holds_is}
-use Rattle.derived.specs.Labellings.{IsFlooded, IsBlockBut}
-use Rattle.derived.specs.TileLabellings.{IsTileLabelling, DifferAt as DifferAtIndex}
-use Rattle.derived.specs.declared.tile_labelling.TileLabelling.{TileLabelling}
-use Rattle.derived.specs.declared.tile_labelling.TileLabelling.TheVariants.{Kept, Flooded}
+use Rattle.tile_labellings.specs.Labellings.{IsFlooded, IsBlockBut}
+use Rattle.tile_labellings.specs.TileLabellings.{IsTileLabelling, DifferAt as DifferAtIndex}
+use Rattle.tile_labellings.specs.declared.tile_labelling.TileLabelling.{TileLabelling}
+use Rattle.tile_labellings.specs.declared.tile_labelling.TileLabelling.TheVariants.{Kept, Flooded}
 use Rattle.tile_flood.specs.Blocks.{LabelledGround}
 use Rattle.drainage.specs.Reaching.{is_between, DifferAt}
 use Rattle.drainage.proofs.Asked.{is_at}

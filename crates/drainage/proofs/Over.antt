@@ -24,7 +24,7 @@ use Rattle.border_graph.specs.Linking.{node_number}
 use Rattle.border_graph.specs.Placed.{IsPlacedLink}
 use Rattle.border_graph.specs.Others.{corner_at}
 use Rattle.border_graph.specs.TileGraph.{TileGraph}
-use Rattle.derived.specs.Labellings.{IsFlooded}
+use Rattle.tile_labellings.specs.Labellings.{IsFlooded}
 use Rattle.drainage.specs.Shores.{AreReady}
 use Rattle.drainage.specs.Holding.{IsGroundNode}
 use Rattle.drainage.proofs.RimNodes.{filled_by_joined}

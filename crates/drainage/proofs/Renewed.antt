@@ -6,7 +6,7 @@ use Rattle.lattice.specs.Corners.{Corner}
 use Rattle.catalogue.specs.Tiles.{corners_of}
 use Rattle.catalogue.specs.declared.samples.Samples.{Ghosts}
 use Rattle.border_graph.specs.Others.{corner_at}
-use Rattle.derived.specs.TileLabellings.{IsTileLabelling}
+use Rattle.tile_labellings.specs.TileLabellings.{IsTileLabelling}
 use Rattle.drainage.specs.Holding.{Known, IsEntered, IsRight}
 
 module _ {S : Type 0} (g : Ghosts S) (a : S) (known : Known) (t : ℕ) (c : Corner) (place : t < length known.corners) (at : corner_at known.corners t ≡ c) (right : IsRight (g.mosaic a) known) where

@@ -24,7 +24,7 @@ use Rattle.tile_flood.proofs.Squares.{rim_is_exit, solid_if}
 use Rattle.border_graph.specs.declared.summary.RimPoint.{RimPoint}
 use Rattle.border_graph.specs.Joining.{nowhere, IsRimOf, IsSummaryOf}
 use Rattle.lattice.proofs.RimNumbers.{one_rim_point}
-use Rattle.derived.specs.Labellings.{IsFlooded}
+use Rattle.tile_labellings.specs.Labellings.{IsFlooded}
 use Rattle.drainage.specs.Flooded.{IsRimPointIn, HasOtherRimHeight, AreRimPointsIn}
 
 module _ (m : Mosaic) (is : IsMosaic m) (c : Corner) (block : Block) (given : IsBlockOf m c block) where

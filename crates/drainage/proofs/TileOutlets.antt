@@ -16,7 +16,7 @@ use Rattle.catalogue.proofs.Presence.{present_iff}
 use Rattle.catalogue.proofs.Sharing.{shared_from}
 use Rattle.tile_flood.specs.Blocks.{LabelledGround, block_of}
 use Rattle.tile_flood.specs.Labelling.{IsLabelling, NO_LABEL}
-use Rattle.derived.specs.Labellings.{IsFlooded}
+use Rattle.tile_labellings.specs.Labellings.{IsFlooded}
 use Rattle.drainage.proofs.Asked.{IsAt, is_at}
 use Rattle.drainage.proofs.Over.{ground_labelled, never_unlabelled}
 

@@ -20,9 +20,9 @@ use Rattle.lattice.proofs.IntTests.{le_true, le_from}
 use Rattle.lattice.proofs.Samples.{along_of_sample, row_below}
 use Rattle.border_graph.specs.Joining.{IsSummaryOf, Summarizes, rim_point}
 use Rattle.border_graph.specs.Summaries.{Summary}
-use Rattle.derived.specs.TileLabellings.{IsTileLabelling}
-use Rattle.derived.specs.declared.tile_labelling.TileLabelling.{TileLabelling}
-use Rattle.derived.specs.declared.tile_labelling.TileLabelling.TheVariants.{Kept, Flooded}
+use Rattle.tile_labellings.specs.TileLabellings.{IsTileLabelling}
+use Rattle.tile_labellings.specs.declared.tile_labelling.TileLabelling.{TileLabelling}
+use Rattle.tile_labellings.specs.declared.tile_labelling.TileLabelling.TheVariants.{Kept, Flooded}
 use Rattle.tile_flood.specs.Blocks.{block_of}
 use Rattle.tile_flood.specs.Labelling.{IsLabelling}
 use Rattle.tile_flood.specs.Spills.{AreSpills}

@@ -4,7 +4,7 @@ use Rattle.lattice.specs.Lattice.{holds}
 use Rattle.lattice.specs.declared.point.Point.{Point}
 use Rattle.border_graph.specs.Others.{corner_at}
 use Rattle.border_graph.specs.TileGraph.{TileGraph}
-use Rattle.derived.specs.declared.tile_labelling.TileLabelling.{TileLabelling}
+use Rattle.tile_labellings.specs.declared.tile_labelling.TileLabelling.{TileLabelling}
 use Rattle.drainage.specs.Holding.{Known, entered_at, level_of}
 use Rattle.drainage.specs.Shores.{told_at}
 

@@ -14,8 +14,8 @@ use Rattle.border_graph.specs.Joining.{Rim}
 use Rattle.border_graph.specs.Links.{IsJoinedLevel}
 use Rattle.border_graph.specs.Linking.{node_number}
 use Rattle.border_graph.specs.Summaries.{Summary}
-use Rattle.derived.specs.TileLabellings.{IsTileLabelling}
-use Rattle.derived.specs.declared.tile_labelling.TileLabelling.{TileLabelling}
+use Rattle.tile_labellings.specs.TileLabellings.{IsTileLabelling}
+use Rattle.tile_labellings.specs.declared.tile_labelling.TileLabelling.{TileLabelling}
 use Rattle.lattice.specs.Corners.{Corner}
 use Rattle.border_graph.specs.Others.{corner_at}
 use Rattle.border_graph.specs.Placed.{IsPlacedLink}

@@ -15,9 +15,9 @@ ghost use Rattle.drainage.specs.Between.{IsHeldFor};
 
 use crate::asking::check_ground;
 use crate::held::Held;
-use derived::Labellings;
 use lattice::{Point, Refusal};
 use std::alloc::Global;
+use tile_labellings::Labellings;
 use watershed::Run;
 
 /// The watershed of the point: the ground points whose flow path contains it, as maximal runs, north first, west first.

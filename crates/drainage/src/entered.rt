@@ -5,21 +5,21 @@ ghost use Rattle.lattice.specs.Lattice.{IsIndexOf, holds};
 ghost use Rattle.lattice.specs.Mosaic.{Mosaic};
 ghost use Rattle.lattice.specs.declared.refusal.Refusal.TheVariants.{NoMemory};
 ghost use Rattle.border_graph.specs.Others.{corner_at};
-ghost use Rattle.derived.specs.Labellings.{IsFlooded};
-ghost use Rattle.derived.specs.Spots.{IsLabelledAt};
-ghost use Rattle.derived.specs.TileLabellings.{IsTileLabelling, DifferAt as DifferAtIndex};
-ghost use Rattle.derived.specs.declared.tile_labelling.TileLabelling.{TileLabelling};
+ghost use Rattle.tile_labellings.specs.Labellings.{IsFlooded};
+ghost use Rattle.tile_labellings.specs.Spots.{IsLabelledAt};
+ghost use Rattle.tile_labellings.specs.TileLabellings.{IsTileLabelling, DifferAt as DifferAtIndex};
+ghost use Rattle.tile_labellings.specs.declared.tile_labelling.TileLabelling.{TileLabelling};
 ghost use Rattle.drainage.specs.Holding.{IsEntered, entered_at};
 ghost use Rattle.drainage.specs.Reaching.{DifferAt, is_reached};
 
 use crate::filling::spot_of;
 use crate::growth::push;
 use crate::reaching::is_reached;
-use derived::TileLabelling;
 use lattice::{Corner, Point, Refusal, Side, index_in};
 use std::alloc::Global;
 use std::marker::Model;
 use tile_flood::Labelled;
+use tile_labellings::TileLabelling;
 
 // As many bytes of labellings are held, four a point, but those of a few tiles at any side.
 const MOST_BYTES: usize = 256 << 20;
@@ -51,7 +51,7 @@ pub(crate) struct Entered {
 
 impl Model for Entered {
     ghost use Rattle.std.specs.Prelude.{List, Option};
-    ghost use Rattle.derived.specs.declared.tile_labelling.TileLabelling.{TileLabelling};
+    ghost use Rattle.tile_labellings.specs.declared.tile_labelling.TileLabelling.{TileLabelling};
 
     ghost Value = { List (Option TileLabelling) };
 

@@ -22,10 +22,10 @@ use crate::heights::is_height;
 use crate::held::Held;
 use crate::waters::Waters;
 use border_graph::{lowest_pass, node_at};
-use derived::Labellings;
 use lattice::{Corner, Point, Refusal, Side, VOID, index_in};
 use std::alloc::Global;
 use tile_flood::{Labelled, NO_LABEL, OUT};
+use tile_labellings::Labellings;
 
 /// The filled level of the point, in metres: the least, over all paths to an outlet, of the greatest height on the path.
 /// Only the tiles on the water's way out are read.

@@ -17,10 +17,10 @@ use crate::asking::check_ground;
 use crate::filling::level;
 use crate::held::Held;
 use catalogue::share_tile;
-use derived::Labellings;
 use downstream::{FilledLevels, Near, direction_at};
 use lattice::{Dir, Point, Refusal};
 use std::alloc::Global;
+use tile_labellings::Labellings;
 
 /// The code of the direction in which water leaves the point: east is 1, and each next one clockwise twice as much; 0
 /// where it leaves the mosaic. Only the tiles on the water's ways out from the points around it, and around those of its

@@ -4,7 +4,7 @@ ghost use Rattle.downstream.specs.Near.{IsNear};
 ghost use Rattle.lattice.specs.Mosaic.{Mosaic, IsMosaic};
 ghost use Rattle.lattice.specs.Steps.{step};
 ghost use Rattle.border_graph.specs.Others.{corner_at};
-ghost use Rattle.derived.specs.Labellings.{IsFlooded};
+ghost use Rattle.tile_labellings.specs.Labellings.{IsFlooded};
 ghost use Rattle.drainage.specs.Holding.{IsRight};
 ghost use Rattle.drainage.specs.Nearby.{IsToldOf};
 ghost use Rattle.drainage.specs.Waters.{known_of};

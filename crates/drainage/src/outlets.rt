@@ -3,7 +3,7 @@ ghost use Rattle.std.specs.Prelude.{◌≡◌, ◌<◌, ◌*◌, IfOk, OnOk, IfS
 ghost use Rattle.lattice.specs.Ground.{is_ground as ground, is_sink as is_declared, is_near, same_point, is_adjacent, degree_of, is_outlet, share_tile};
 ghost use Rattle.lattice.specs.Lattice.{IsIndexOf, Holds};
 ghost use Rattle.catalogue.specs.Readers.{OnlyReads};
-ghost use Rattle.derived.specs.Labellings.{IsFlooded};
+ghost use Rattle.tile_labellings.specs.Labellings.{IsFlooded};
 ghost use Rattle.drainage.specs.Flooded.{IsGroundOf};
 ghost use Rattle.drainage.specs.Ring.{AreRemembered};
 

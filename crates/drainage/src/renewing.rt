@@ -7,15 +7,15 @@ ghost use Rattle.catalogue.specs.Asked.{Asked};
 ghost use Rattle.catalogue.specs.Endings.{ends_any};
 ghost use Rattle.catalogue.specs.Readers.{OnlyReads, reads_of};
 ghost use Rattle.catalogue.specs.Reading.{MayRefuse};
-ghost use Rattle.derived.specs.Spots.{IsLabelledAt};
-ghost use Rattle.derived.specs.TileLabellings.{labelled_of, IsCurrent, IsTileLabelling};
+ghost use Rattle.tile_labellings.specs.Spots.{IsLabelledAt};
+ghost use Rattle.tile_labellings.specs.TileLabellings.{labelled_of, IsCurrent, IsTileLabelling};
 ghost use Rattle.drainage.specs.Holding.{IsEntered};
 
 use crate::entered::Entered;
 use catalogue::Samples;
-use derived::{Labellings, TileLabelling};
 use lattice::{Corner, Refusal};
 use std::alloc::Global;
+use tile_labellings::{Labellings, TileLabelling};
 
 /// The labelling of the tile with this place and corner as its heights are now: that which is held, mended where they may
 /// have changed, or else another. It isn't held then.

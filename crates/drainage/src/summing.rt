@@ -6,7 +6,7 @@ ghost use Rattle.catalogue.specs.Asked.{Asked};
 ghost use Rattle.catalogue.specs.Endings.{ends_any};
 ghost use Rattle.catalogue.specs.Readers.{OnlyReads, reads_of};
 ghost use Rattle.catalogue.specs.Reading.{MayRefuse};
-ghost use Rattle.derived.specs.Labellings.{IsFlooded};
+ghost use Rattle.tile_labellings.specs.Labellings.{IsFlooded};
 ghost use Rattle.drainage.specs.Flooded.{IsRimPointIn, HasOtherRimHeight, AreRimPointsIn};
 ghost use Rattle.drainage.specs.Ring.{AreRemembered};
 

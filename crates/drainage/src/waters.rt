@@ -3,7 +3,7 @@ ghost use Rattle.std.specs.Prelude.{◌≡◌, ◌≢◌, ◌-◌, ◌*◌, ◌<
 ghost use Rattle.catalogue.specs.Asked.{Asked};
 ghost use Rattle.catalogue.specs.Endings.{ends_any};
 ghost use Rattle.catalogue.specs.Readers.{OnlyReads};
-ghost use Rattle.derived.specs.Spots.{IsLabelledAt};
+ghost use Rattle.tile_labellings.specs.Spots.{IsLabelledAt};
 ghost use Rattle.lattice.specs.Mosaic.{Mosaic};
 ghost use Rattle.lattice.specs.declared.refusal.Refusal.TheVariants.{NoMemory};
 ghost use Rattle.border_graph.specs.TileGraph.{TileGraph as TileGraphOf};
@@ -21,9 +21,9 @@ use crate::shores::Shores;
 use crate::summing::summarize;
 use border_graph::{Edge, EdgeSource};
 use catalogue::Samples;
-use derived::Labellings;
 use lattice::{Corner, Point, Refusal};
 use std::alloc::Global;
+use tile_labellings::Labellings;
 
 /// The ways of the tiles that water has come to, their labellings, and the levels of rim points that were found.
 #[derive(Drop)]

@@ -16,7 +16,7 @@ use Rattle.cow_tree.specs.Trees.{disk_of, root_of, has_failed, sinks_of, staged_
 use Rattle.cow_tree.specs.declared.tree.Tree.{Tree}
 use Rattle.cow_tree.proofs.ReadOnly.{never_refused}
 use Rattle.store.specs.Ended.{LeavesOr, Ending, HasEnded}
-use Rattle.kept_labellings.specs.Uncommitted.{CommitsNothing}
+use Rattle.derived.specs.Uncommitted.{CommitsNothing}
 use Rattle.store.specs.Standing.{Holds, StandsFor}
 use Rattle.store.specs.States.{StandsForState, IsStateOf}
 use Rattle.store.specs.TreeStates.{IsInState}

@@ -12,7 +12,7 @@ use Rattle.calls.specs.State.{Contents, made_by}
 use Rattle.edits.specs.Touched.{stale_after}
 use Rattle.cow_tree.specs.Stored.{StoredTile, Stored, next_commit, mosaic_of_tiles}
 use Rattle.cow_tree.proofs.OneStored.{one_stored}
-use Rattle.kept_labellings.specs.Kept.{KeepRight, stale_corners}
+use Rattle.derived.specs.Kept.{KeepRight, stale_corners}
 use Rattle.store.specs.Staling.{KeepFresh}
 use Rattle.store.specs.Standing.{HoldsTile, Holds, AreSame, StandsForOneContents}
 use Rattle.store.proofs.HeldTiles.{AreTilesOf, tiles_held, tiles_filled, filled_hold}

@@ -21,7 +21,7 @@ use Rattle.edits.proofs.FreshSinks.{block_stays}
 use Rattle.cow_tree.specs.Stored.{KeptPlanes, StoredTile, plane_bytes, stale_tile, with_tile, corners_of_stored}
 use Rattle.cow_tree.proofs.Adding.{contains-map}
 use Rattle.store.specs.Editing.{ComesIn, KeepsBut}
-use Rattle.kept_labellings.specs.Kept.{AreRight, KeepRight, stale_corners}
+use Rattle.derived.specs.Kept.{AreRight, KeepRight, stale_corners}
 use Rattle.store.specs.Staling.{staled_in, staled, KeepFresh, keeper, keepers}
 use Rattle.store.proofs.Finding.{stored_corner, after_contained, rising_stored}
 use Rattle.store.proofs.HeldTiles.{IsFilled, AreTilesOf, as_tile, corners_held}

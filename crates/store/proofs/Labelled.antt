@@ -12,8 +12,8 @@ use Rattle.catalogue.specs.Reading.{MayRefuse}
 use Rattle.charts.specs.Planes.{HasPlane}
 use Rattle.charts.specs.TileLocations.{TileLocation}
 use Rattle.charts.specs.declared.plane.Plane.TheVariants.{Levels}
-use Rattle.derived.specs.Labellings.{IsFlooded}
-use Rattle.derived.specs.Spots.{IsLabelledAt, StandsAt}
+use Rattle.tile_labellings.specs.Labellings.{IsFlooded}
+use Rattle.tile_labellings.specs.Spots.{IsLabelledAt, StandsAt}
 use Rattle.tile_flood.specs.Blocks.{LabelledGround}
 use Rattle.tile_flood.specs.Kept.{AreKeptOf, labels_in, levels_in}
 use Rattle.tile_flood.specs.Labelling.{IsLabelling}
@@ -26,7 +26,7 @@ use Rattle.cow_tree.specs.Trees.{disk_of, root_of, sinks_of, has_failed, staged_
 use Rattle.cow_tree.specs.declared.tree.Tree.{Tree}
 use Rattle.cow_tree.proofs.Adding.{contains-map}
 use Rattle.cow_tree.proofs.TreeReads.{same_mosaic, was_readable}
-use Rattle.kept_labellings.specs.Kept.{AreRight, KeepRight}
+use Rattle.derived.specs.Kept.{AreRight, KeepRight}
 use Rattle.store.specs.Labelling.{IsSure}
 use Rattle.store.specs.Queried.{IsTileOf}
 use Rattle.store.specs.TreeStates.{IsInState}

@@ -13,7 +13,7 @@ use Rattle.store.specs.Standing.{Holds}
 use Rattle.store.specs.States.{StandsForState}
 use Rattle.store.specs.TreeStates.{IsInState}
 use Rattle.store.proofs.Openings.{found_holds}
-use Rattle.kept_labellings.proofs.RootStored.{root_side, root_capacity}
+use Rattle.derived.proofs.RootStored.{root_side, root_capacity}
 use Rattle.store.proofs.States.{held_by_root, at_contents}
 
 -- a tree that hasn't failed, with nothing staged, at what holds contents

@@ -19,7 +19,7 @@ use Rattle.cow_tree.specs.declared.tree.Tree.{Tree}
 use Rattle.drainage.specs.Between.{IsHeldOf}
 use Rattle.drainage.specs.declared.held.Held.{Held}
 use Rattle.store.specs.Queried.{IsQueried}
-use Rattle.kept_labellings.specs.Clean.{IsClean}
+use Rattle.derived.specs.Clean.{IsClean}
 use Rattle.store.specs.TreeStates.{IsInState}
 use Rattle.store.specs.Water.{IsHolding}
 use Rattle.store.proofs.HeldTiles.{AreTilesOf, whole_filled}

@@ -6,7 +6,7 @@ use Rattle.std.proofs.lemmas.Grind.{same_number_lists}
 use Rattle.std.proofs.lemmas.List.{length-take, length-drop, get_or-take, get_or-drop}
 use Rattle.std.proofs.lemmas.Option.{get_or_from_slice_get, slice_get_within}
 use Rattle.cow_tree.specs.Stored.{IsPage, PlanePages, plane_bytes}
-use Rattle.derived.specs.Spots.{StandsAt}
+use Rattle.tile_labellings.specs.Spots.{StandsAt}
 use Rattle.store.proofs.Pages.{length_joined, byte_joined}
 
 module _ (n : ℕ) (pages : PlanePages) (e : ℕ) (page : List ℕ) (all : All IsPage pages) (at : slice_get pages (e / 2048) ≡ Some page) (small : e < n * n) where

@@ -11,8 +11,8 @@ use Rattle.calls.specs.State.{Contents, State, failing, working}
 use Rattle.cow_tree.specs.Stored.{StoredTile, Stored}
 use Rattle.charts.specs.TileLocations.{TileLocation}
 use Rattle.cow_tree.specs.Layout.{StoresAt}
-use Rattle.kept_labellings.specs.Kept.{stale_in}
-use Rattle.kept_labellings.proofs.RootStored.{root_side, root_version, root_capacity, root_count, root_number, root_sinks, root_stale}
+use Rattle.derived.specs.Kept.{stale_in}
+use Rattle.derived.proofs.RootStored.{root_side, root_version, root_capacity, root_count, root_number, root_sinks, root_stale}
 use Rattle.store.specs.Standing.{Holds, StandsFor}
 use Rattle.store.specs.States.{StandsForState, EachStandsFor, IsStateOf}
 

@@ -9,9 +9,9 @@ use Rattle.calls.specs.State.{Contents}
 use Rattle.calls.specs.Steps.{stepped}
 use Rattle.cow_tree.specs.Kept.{with_kept_in, with_kept}
 use Rattle.cow_tree.specs.Stored.{KeptPlanes, StoredTile, Stored, next_commit, mosaic_of_tiles}
-use Rattle.kept_labellings.specs.Kept.{AreRight, KeepRight, KeepsRight, mosaic_stored}
-use Rattle.kept_labellings.specs.Steps.{IsStepped}
-use Rattle.kept_labellings.proofs.KeptTiles.{still_right, stale_less}
+use Rattle.derived.specs.Kept.{AreRight, KeepRight, KeepsRight, mosaic_stored}
+use Rattle.derived.specs.Steps.{IsStepped}
+use Rattle.derived.proofs.KeptTiles.{still_right, stale_less}
 use Rattle.store.specs.Standing.{HoldsTile, Holds}
 use Rattle.store.proofs.HeldTiles.{whole_filled}
 use Rattle.store.proofs.Holding.{held}

@@ -15,10 +15,10 @@ use Rattle.cow_tree.specs.Layout.{Stands}
 use Rattle.cow_tree.specs.Stored.{Stored}
 use Rattle.cow_tree.specs.Trees.{disk_of, root_of, has_failed, sinks_of, staged_in, IsAt as IsTreeAt}
 use Rattle.cow_tree.specs.declared.tree.Tree.{Tree}
-use Rattle.kept_labellings.specs.Clean.{IsSettled}
-use Rattle.kept_labellings.specs.Kept.{KeepsRight, stale_corners}
-use Rattle.kept_labellings.specs.Steps.{StandsStepped, Stays, MaySteps, Makes, HasStepped}
-use Rattle.kept_labellings.proofs.RootStored.{sinks_at}
+use Rattle.derived.specs.Clean.{IsSettled}
+use Rattle.derived.specs.Kept.{KeepsRight, stale_corners}
+use Rattle.derived.specs.Steps.{StandsStepped, Stays, MaySteps, Makes, HasStepped}
+use Rattle.derived.proofs.RootStored.{sinks_at}
 use Rattle.store.specs.Ended.{LeavesOr}
 use Rattle.store.specs.Standing.{Holds, StandsFor}
 use Rattle.store.specs.States.{StandsForState, IsStateOf}

@@ -29,7 +29,7 @@ use Rattle.store.specs.Applied.{AppliesOn, HasApplied}
 use Rattle.store.specs.Editing.{WritesFew}
 use Rattle.store.specs.Queried.{Queries}
 use Rattle.store.specs.Ended.{LeavesOr}
-use Rattle.kept_labellings.specs.Steps.{StepsOn}
+use Rattle.derived.specs.Steps.{StepsOn}
 use Rattle.store.specs.Stepped.{HasStepped}
 use Rattle.store.specs.Stores.{IsAt, disk_of, root_of, side_of, capacity_of, has_failed}
 use Rattle.store.specs.declared.store.Store.{Store}

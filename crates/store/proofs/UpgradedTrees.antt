@@ -22,9 +22,9 @@ use Rattle.cow_tree.specs.Stored.{Stored}
 use Rattle.cow_tree.specs.Trees.{disk_of, root_of, has_failed, corners_of, sinks_of, records_due, HasStaged, staged_in, IsAt as IsTreeAt}
 use Rattle.cow_tree.specs.Upgrades.{MayUpgrade, UpgradesNot, upgraded_store}
 use Rattle.cow_tree.specs.declared.tree.Tree.{Tree}
-use Rattle.kept_labellings.specs.Uncommitted.{CommitsNothing}
+use Rattle.derived.specs.Uncommitted.{CommitsNothing}
 use Rattle.store.specs.Standing.{Holds}
-use Rattle.kept_labellings.specs.Clean.{IsClean}
+use Rattle.derived.specs.Clean.{IsClean}
 use Rattle.store.specs.TreeStates.{IsInState}
 use Rattle.store.specs.Upgraded.{IsUpgraded, has_room, may_refuse_upgrade, upgrade_ending}
 use Rattle.store.proofs.EditingSteps.{given_up, in_memory}

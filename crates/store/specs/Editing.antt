@@ -19,7 +19,7 @@ use Rattle.edits.specs.Edits.{edit_made}
 use Rattle.cow_tree.specs.Stored.{StoredTile}
 use Rattle.cow_tree.specs.Trees.{disk_of, root_of, has_begun, has_failed, corners_of, sinks_of, records_due, HasStaged, staged_in}
 use Rattle.cow_tree.specs.declared.tree.Tree.{Tree}
-use Rattle.kept_labellings.specs.Uncommitted.{CommitsNothing}
+use Rattle.derived.specs.Uncommitted.{CommitsNothing}
 use Rattle.store.specs.Standing.{AreTilesOf}
 
 -- the writes so far, and the one that begins a commit where none was begun

@@ -6,7 +6,7 @@ use Rattle.lattice.specs.Mosaic.{Mosaic}
 use Rattle.cow_tree.specs.Stored.{Stored}
 use Rattle.cow_tree.specs.Trees.{IsAt as IsTreeAt}
 use Rattle.cow_tree.specs.declared.tree.Tree.{Tree}
-use Rattle.kept_labellings.specs.Kept.{IsFresh, mosaic_stored}
+use Rattle.derived.specs.Kept.{IsFresh, mosaic_stored}
 
 -- the tree is at what holds this mosaic, and the corner's tile keeps a valid labelling of its block there
 pub record KeepsFresh {D : Type 0} (g : Ghosts D) (tree : Tree D g) (m : Mosaic) (c : Corner) : Type 0 where

@@ -11,7 +11,7 @@ use Rattle.calls.specs.declared.event.Reply.{Reply}
 use Rattle.cow_tree.specs.Layout.{Stands}
 use Rattle.cow_tree.specs.Stored.{Stored, corners_of_stored}
 use Rattle.store.specs.Calls.{Runs}
-use Rattle.kept_labellings.specs.Kept.{KeepRight, stale_corners}
+use Rattle.derived.specs.Kept.{KeepRight, stale_corners}
 use Rattle.store.specs.Stores.{disk_of, capacity_of, IsAt}
 use Rattle.store.specs.declared.store.Store.{Store}
 

@@ -10,8 +10,8 @@ use Rattle.cow_tree.specs.Reading.{mosaic_of, IsReadable, Reads}
 use Rattle.cow_tree.specs.Stored.{IsPage, PlanePages, StoredTile, plane_bytes}
 use Rattle.cow_tree.specs.Trees.{staged_in}
 use Rattle.cow_tree.specs.declared.tree.Tree.{Tree}
-use Rattle.derived.specs.Spots.{StandsAt}
-use Rattle.kept_labellings.specs.Kept.{KeepRight}
+use Rattle.tile_labellings.specs.Spots.{StandsAt}
+use Rattle.derived.specs.Kept.{KeepRight}
 use Rattle.store.specs.Queried.{IsTileOf}
 
 -- the samples of the tree are those of a mosaic, and what each tile keeps is right in it

@@ -8,7 +8,7 @@ use Rattle.hgt.specs.Bytes.{AreHgtBytes}
 use Rattle.calls.specs.State.{Contents}
 use Rattle.cow_tree.specs.Stored.{IsPage, plane_bytes, mosaic_of_tiles, StoredTile, Stored}
 use Rattle.cow_tree.specs.Layout.{Stands}
-use Rattle.kept_labellings.specs.Kept.{KeepRight, stale_corners}
+use Rattle.derived.specs.Kept.{KeepRight, stale_corners}
 
 -- this stored tile is the tile: its heights are whole pages, which joined and cut are the HGT bytes of the samples
 pub record HoldsTile (n : ℕ) (stored : StoredTile) (t : Tile) : Type 0 where

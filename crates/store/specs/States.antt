@@ -8,7 +8,7 @@ use Rattle.layout.specs.Formats.{number_of}
 use Rattle.page_codec.specs.Roots.{RootValue}
 use Rattle.calls.specs.State.{Contents, State}
 use Rattle.cow_tree.specs.Stored.{StoredTile, Stored}
-use Rattle.kept_labellings.specs.Kept.{stale_in}
+use Rattle.derived.specs.Kept.{stale_in}
 use Rattle.store.specs.Standing.{Holds, StandsFor}
 
 -- the image stands for the contents known last, or for those of the commit in doubt

@@ -7,7 +7,7 @@ use Rattle.lattice.specs.declared.refusal.Refusal.{Refusal}
 use Rattle.calls.specs.Steps.{Steps}
 use Rattle.calls.specs.Told.{may_refuse_step}
 use Rattle.cow_tree.specs.declared.tree.Tree.{Tree}
-use Rattle.kept_labellings.specs.Steps.{StepsOn}
+use Rattle.derived.specs.Steps.{StepsOn}
 use Rattle.store.specs.Ended.{Ending, HasEnded, HasEndedAt}
 use Rattle.store.specs.declared.store.Store.{Store}
 

@@ -12,7 +12,7 @@ ghost use Rattle.cow_tree.specs.Reading.{mosaic_of};
 ghost use Rattle.cow_tree.specs.Trees.{disk_of, has_failed, corners_of};
 ghost use Rattle.drainage.specs.Between.{IsHeldOf};
 ghost use Rattle.store.specs.Queried.{IsQueried};
-ghost use Rattle.kept_labellings.specs.Clean.{IsClean};
+ghost use Rattle.derived.specs.Clean.{IsClean};
 ghost use Rattle.store.specs.Water.{IsHolding};
 
 use crate::labelling::{Asked, Premise};

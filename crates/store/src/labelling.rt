@@ -8,20 +8,20 @@ ghost use Rattle.charts.specs.declared.plane.Plane.TheVariants.{Levels, Labels};
 ghost use Rattle.cow_tree.specs.Reading.{mosaic_of, HasOnlyRead, Reads, read_nothing, read_again, corners_in_mosaic};
 ghost use Rattle.cow_tree.specs.Trees.{disk_of as disk_under, root_of as root_under, chart_of, corners_of, sinks_of, staged_in, has_failed as have_failed, Holds};
 ghost use Rattle.cow_tree.specs.Stored.{StoredTile, KeptPlanes as KeptPages, plane_bytes};
-ghost use Rattle.derived.specs.Labellings.{IsFlooded};
-ghost use Rattle.derived.specs.Spots.{IsLabelledAt};
+ghost use Rattle.tile_labellings.specs.Labellings.{IsFlooded};
+ghost use Rattle.tile_labellings.specs.Spots.{IsLabelledAt};
 ghost use Rattle.store.specs.Labelling.{IsSure, Consults, IsKeptValue};
 ghost use Rattle.store.specs.Queried.{IsTileOf};
 
 use crate::queries::read_plane;
 use catalogue::Samples;
 use cow_tree::{Plane, Tree};
-use derived::{KeptPlanes, Labellings, TileLabelling, flooded, labelled_at, labelled_from};
 use disk::Disk;
 use lattice::{Corner, Point, Refusal, Side};
 use std::alloc::Global;
 use std::marker::{Brand, PhantomData};
 use tile_flood::Labelled;
+use tile_labellings::{KeptPlanes, Labellings, TileLabelling, flooded, labelled_at, labelled_from};
 
 // So many values stand in a page of a plane.
 const VALUES_IN_PAGE: u32 = 2048;

@@ -24,6 +24,6 @@ impl<D: Disk> Store<D> {
         ensures failed { has_failed self.old.tree ≡ true → (result ≡ Err Failed) × (disk_of self.new.tree ≡ disk_of self.old.tree) }
         ensures still_failed { has_failed self.old.tree ≡ true → has_failed self.new.tree ≡ true }
     {
-        kept_labellings::step(self.alloc, &mut self.tree)
+        derived::step(self.alloc, &mut self.tree)
     }
 }

@@ -14,10 +14,10 @@ ghost use Rattle.cow_tree.specs.OverRoots.{IsRefusalOfTree};
 ghost use Rattle.cow_tree.specs.Stored.{no_tiles};
 ghost use Rattle.cow_tree.specs.Trees.{MayRefuse, has_failed as have_failed};
 ghost use Rattle.store.specs.Formatted.{format_2, format_by};
-ghost use Rattle.kept_labellings.specs.Kept.{stale_in};
+ghost use Rattle.derived.specs.Kept.{stale_in};
 ghost use Rattle.store.specs.Fresh.{KeepsFresh};
 ghost use Rattle.store.specs.Standing.{StandsFor};
-ghost use Rattle.kept_labellings.specs.Clean.{IsClean};
+ghost use Rattle.derived.specs.Clean.{IsClean};
 
 use cow_tree::{NotOpened, Tree};
 use disk::Disk;
@@ -178,7 +178,7 @@ impl<D: Disk> Store<D> {
         ensures fresh { D.honest (disk_of self.now) → has_failed self.now ≡ false → (s : State) → IsAt D.Disk self.now s
             → Contains (corners_of s.contents.mosaic) corner → result ≡ false → KeepsFresh D.Disk self.now.tree s.contents.mosaic corner }
     {
-        kept_labellings::stale(&self.tree, corner)
+        derived::stale(&self.tree, corner)
     }
 
     /// The version of its format, as last known.

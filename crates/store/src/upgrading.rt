@@ -4,7 +4,7 @@ ghost use Rattle.lattice.specs.declared.refusal.Refusal.TheVariants.{Failed};
 ghost use Rattle.cow_tree.specs.Trees.{disk_of as disk_under, root_of as root_under, has_failed as have_failed};
 ghost use Rattle.cow_tree.specs.Upgrades.{most_upgrade_writes};
 ghost use Rattle.store.specs.Stores.{disk_of, root_of, has_failed};
-ghost use Rattle.kept_labellings.specs.Clean.{IsClean};
+ghost use Rattle.derived.specs.Clean.{IsClean};
 ghost use Rattle.store.specs.Upgraded.{HasUpgraded, IsUpgraded};
 
 use crate::Store;

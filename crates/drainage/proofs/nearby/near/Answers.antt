@@ -5,7 +5,7 @@ use Rattle.lattice.specs.declared.direction.Dir.TheVariants.{East}
 use Rattle.lattice.specs.Steps.{step, directions, order_of}
 use Rattle.flow_d8.proofs.Compass.{dir_at_place, order_below}
 use Rattle.lattice.specs.Corners.{Corner}
-use Rattle.derived.specs.TileLabellings.{IsTileLabelling}
+use Rattle.tile_labellings.specs.TileLabellings.{IsTileLabelling}
 use Rattle.drainage.specs.Nearby.{IsToldOf}
 use Rattle.drainage.specs.Waters.{known_of}
 use Rattle.drainage.proofs.Around.{near_is}

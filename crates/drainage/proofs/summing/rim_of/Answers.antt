@@ -6,7 +6,7 @@ use Rattle.border_graph.specs.declared.summary.RimPoint.{RimPoint}
 use Rattle.lattice.specs.declared.refusal.Refusal.{Refusal}
 use Rattle.catalogue.specs.Readers.{reads_of}
 use Rattle.catalogue.proofs.Reading.{reads_on, reads_as, reads_for}
-use Rattle.derived.specs.Labellings.{IsFlooded}
+use Rattle.tile_labellings.specs.Labellings.{IsFlooded}
 use Rattle.drainage.specs.Flooded.{IsRimPointIn, HasOtherRimHeight, AreRimPointsIn}
 use Rattle.drainage.proofs.Summed.{one_more_point}
 use Rattle.drainage.proofs.summing.rim_of.Goals as goal

@@ -1,6 +1,6 @@
 use Rattle.std.specs.Prelude.{Ok}
 use Rattle.catalogue.specs.Readers.{OnlyReads}
-use Rattle.derived.specs.Labellings.{IsFlooded}
+use Rattle.tile_labellings.specs.Labellings.{IsFlooded}
 use Rattle.drainage.specs.Flooded.{AreRimPointsIn}
 use Rattle.drainage.specs.Ring.{AreRemembered}
 use Rattle.drainage.proofs.summing.rim_of.Given as goal

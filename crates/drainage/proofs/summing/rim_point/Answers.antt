@@ -12,7 +12,7 @@ use Rattle.lattice.specs.Lattice.{point_of}
 use Rattle.lattice.specs.Mosaic.{Mosaic, void}
 use Rattle.lattice.specs.RimPoints.{IsRimPoint}
 use Rattle.border_graph.specs.declared.summary.RimPoint.{RimPoint}
-use Rattle.derived.specs.Labellings.{IsFlooded}
+use Rattle.tile_labellings.specs.Labellings.{IsFlooded}
 use Rattle.catalogue.specs.Readers.{OnlyReads}
 use Rattle.catalogue.proofs.Reading.{reads_as, reads_on, reads_refused}
 use Rattle.drainage.specs.Ring.{AreRemembered}

@@ -1,6 +1,6 @@
 use Rattle.std.proofs.Common.{◌≡◌, ◌++◌, take}
 use Rattle.std.specs.Prelude.{flat_map}
-use Rattle.kept_labellings.specs.Kept.{stale_in}
+use Rattle.derived.specs.Kept.{stale_in}
 use Rattle.store.specs.Stores.{root_of}
 use Rattle.server.specs.Report.{tile_line}
 use Rattle.server.proofs.reporting.extend_tiles.Given as goal

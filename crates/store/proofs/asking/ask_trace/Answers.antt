@@ -13,7 +13,7 @@ use Rattle.calls.specs.Engines.{items_in}
 use Rattle.cow_tree.specs.Trees.{disk_of, has_failed}
 use Rattle.store.specs.Labelling.{IsSure}
 use Rattle.store.specs.Queried.{IsQueried}
-use Rattle.kept_labellings.specs.Clean.{IsClean}
+use Rattle.derived.specs.Clean.{IsClean}
 use Rattle.store.specs.Water.{IsHolding}
 use Rattle.store.proofs.Labelled.{still_sure}
 use Rattle.store.proofs.Querying.{stays_at, still_clean, queried, fails_so}

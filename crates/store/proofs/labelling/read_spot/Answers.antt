@@ -5,7 +5,7 @@ use Rattle.lattice.specs.declared.refusal.Refusal.TheVariants.{Device}
 use Rattle.cow_tree.specs.Reading.{Reads}
 use Rattle.cow_tree.specs.Stored.{StoredTile, plane_bytes}
 use Rattle.page_codec.specs.Roots.{RootValue}
-use Rattle.derived.specs.Spots.{StandsAt}
+use Rattle.tile_labellings.specs.Spots.{StandsAt}
 use Rattle.store.specs.Queried.{IsTileOf}
 use Rattle.store.proofs.Labelled.{reads_then}
 use Rattle.store.proofs.labelling.read_spot.Goals as goal

@@ -1,7 +1,7 @@
 use Rattle.std.proofs.Common.{◌≡◌, ◌<◌, ℕ, List, length, sym, ap, ◌∙◌, subst}
 use Rattle.std.specs.Prelude.{Option, Some, None, slice_set}
 use Rattle.std.proofs.lemmas.List.{get_or_default, length-set}
-use Rattle.derived.specs.declared.tile_labelling.TileLabelling.{TileLabelling}
+use Rattle.tile_labellings.specs.declared.tile_labelling.TileLabelling.{TileLabelling}
 use Rattle.drainage.specs.Holding.{IsEntered, entered_at}
 use Rattle.drainage.proofs.Entering.{set_there, none_there, set_any}
 use Rattle.drainage.proofs.entered.Entered.give_up_block.Goals as goal

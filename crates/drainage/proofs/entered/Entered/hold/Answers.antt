@@ -1,6 +1,6 @@
 use Rattle.std.proofs.Common.{rules, ◌≡◌, ◌<◌, ℕ, List, length, sym, subst}
 use Rattle.std.specs.Prelude.{Option, Some}
-use Rattle.derived.specs.declared.tile_labelling.TileLabelling.{TileLabelling}
+use Rattle.tile_labellings.specs.declared.tile_labelling.TileLabelling.{TileLabelling}
 use Rattle.drainage.specs.Holding.{IsEntered}
 use Rattle.drainage.proofs.Entering.{set_there, set_any}
 use Rattle.drainage.proofs.entered.Entered.hold.Goals as goal

@@ -1,7 +1,7 @@
 use Rattle.std.proofs.Common.{◌≡◌, ◌<◌, List, length, sym, ap, ◌∙◌, subst}
 use Rattle.std.specs.Prelude.{Option, None}
 use Rattle.std.proofs.lemmas.List.{get_or_default}
-use Rattle.derived.specs.declared.tile_labelling.TileLabelling.{TileLabelling}
+use Rattle.tile_labellings.specs.declared.tile_labelling.TileLabelling.{TileLabelling}
 use Rattle.drainage.specs.Holding.{entered_at}
 use Rattle.drainage.proofs.Entering.{set_there}
 use Rattle.drainage.proofs.entered.Entered.note_at.Goals as goal

@@ -6,8 +6,8 @@ use Rattle.lattice.specs.declared.refusal.Refusal.{Refusal}
 use Rattle.catalogue.proofs.Asking.{asked_on}
 use Rattle.catalogue.proofs.Reading.{reads_nothing, reads_on}
 use Rattle.catalogue.specs.declared.samples.Samples.{Ghosts}
-use Rattle.derived.specs.Spots.{IsLabelledAt}
-use Rattle.derived.specs.declared.tile_labelling.TileLabelling.{TileLabelling}
+use Rattle.tile_labellings.specs.Spots.{IsLabelledAt}
+use Rattle.tile_labellings.specs.declared.tile_labelling.TileLabelling.{TileLabelling}
 use Rattle.drainage.specs.Holding.{Known, IsEntered, IsGrown, IsRight}
 use Rattle.drainage.specs.Kept.{grown_on, right_still}
 use Rattle.drainage.specs.Waters.{known_of}

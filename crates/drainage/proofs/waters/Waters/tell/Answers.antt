@@ -5,7 +5,7 @@ use Rattle.lattice.specs.declared.refusal.Refusal.TheVariants.{NoMemory}
 use Rattle.catalogue.proofs.Asking.{asked_on}
 use Rattle.catalogue.proofs.Reading.{reads_nothing, reads_on}
 use Rattle.border_graph.specs.Joining.{IsSummaryOf}
-use Rattle.derived.specs.TileLabellings.{IsTileLabelling}
+use Rattle.tile_labellings.specs.TileLabellings.{IsTileLabelling}
 use Rattle.drainage.specs.Holding.{IsRight}
 use Rattle.drainage.specs.Waters.{known_of}
 use Rattle.drainage.proofs.Growing.{grown_by, grown_fewer}

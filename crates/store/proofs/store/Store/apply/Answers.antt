@@ -23,7 +23,7 @@ use Rattle.cow_tree.proofs.ReadOnly.{never_refused}
 use Rattle.cow_tree.proofs.Steps.{on_ok}
 use Rattle.store.specs.Applied.{IsApplied}
 use Rattle.store.specs.Editing.{ComesIn, IsGiven, WritesFew}
-use Rattle.kept_labellings.specs.Uncommitted.{CommitsNothing}
+use Rattle.derived.specs.Uncommitted.{CommitsNothing}
 use Rattle.store.specs.Staling.{staled}
 use Rattle.store.specs.Standing.{AreTilesOf}
 use Rattle.store.proofs.Committed.{fails_before, failed_first, quiet, may_end_it}

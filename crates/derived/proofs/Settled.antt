@@ -1,0 +1,57 @@
+-- Trees in which nothing is staged, and the mosaic that they are at.
+use Rattle.std.proofs.Common.{◌≡◌, List, length, map, sym, ap, ap₂, ◌∙◌, subst}
+use Rattle.disk.specs.declared.disk.Disk.{Ghosts}
+use Rattle.lattice.specs.Mosaic.{IsMosaic}
+use Rattle.lattice.specs.declared.point.Point.{Point}
+use Rattle.page_codec.specs.Roots.{RootValue}
+use Rattle.charts.specs.Charts.{ChartValue, HasFreshHeights}
+use Rattle.charts.specs.TileLocations.{TileLocation}
+use Rattle.cow_tree.specs.Layout.{tile_in}
+use Rattle.cow_tree.specs.Reading.{mosaic_of, IsReadable, HasOnlyRead}
+use Rattle.cow_tree.specs.Staged.{pages_due}
+use Rattle.cow_tree.specs.Stored.{StoredTile, Stored, AreWhole, mosaic_of_tiles}
+use Rattle.cow_tree.specs.Trees.{disk_of, root_of, chart_of, corners_of, sinks_of, staged_in, IsUnstaged, IsAt}
+use Rattle.cow_tree.specs.declared.tree.Tree.{Tree}
+use Rattle.derived.specs.Clean.{IsClean, IsSettled}
+use Rattle.derived.specs.Kept.{KeepsRight, mosaic_stored}
+use Rattle.derived.proofs.RootStored.{seen_stores, side_at, sinks_at}
+
+module _ {D : Type 0} (g : Ghosts D) where
+  -- nothing was staged, and nothing is
+  pub still_clean : (old new : Tree D g) → chart_of new ≡ chart_of old → root_of new ≡ root_of old → corners_of new ≡ corners_of old → IsClean old → IsClean new
+  still_clean old new chart root corners was = record {
+    none_staged = λ c staged. was.none_staged c (subst (λ (x : ChartValue). HasFreshHeights c x) chart staged);
+    none_due = ap (λ (x : ChartValue). length (pages_due x)) chart ∙ was.none_due;
+    corners = corners ∙ was.corners ∙ ap (λ (r : RootValue). map (λ e. e.corner) r.entries) (sym root);
+  }
+
+  -- on the same disk the same tiles are staged
+  pub staged_same : (old new : Tree D g) → disk_of new ≡ disk_of old → chart_of new ≡ chart_of old → staged_in g new ≡ staged_in g old
+  staged_same old new disk chart = ap₂ (λ (x : D) (y : ChartValue). map (tile_in (g.seen x)) y.staged) disk chart
+
+  -- where nothing is staged, the tiles and the sinks are those of what the tree is at
+  pub settled_at : (tree : Tree D g) (s : Stored) → IsUnstaged tree → sinks_of tree ≡ (root_of tree).sinks → IsAt g tree s → g.may (disk_of tree) (g.seen (disk_of tree)) → IsSettled g tree s
+  settled_at tree s unstaged declared at seen = record {
+    at = at;
+    tiles = ap (λ (tiles : List TileLocation). map (tile_in (g.seen (disk_of tree))) tiles) unstaged ∙ sym (ap (λ (x : Stored). x.tiles) (seen_stores g tree s at seen).stands);
+    sinks = declared ∙ sym (sinks_at g tree s at seen);
+  }
+
+  module _ (tree : Tree D g) (s : Stored) (settled : IsSettled g tree s) (seen : g.may (disk_of tree) (g.seen (disk_of tree))) where
+    pub mosaic_settled : mosaic_of g tree ≡ mosaic_stored s
+    mosaic_settled =
+        ap₂ (λ (sinks : List Point) (tiles : List StoredTile). mosaic_of_tiles (root_of tree).side sinks tiles) settled.sinks settled.tiles
+        ∙ ap (λ n. mosaic_of_tiles n s.sinks s.tiles) (sym (side_at g tree s settled.at seen))
+
+    pub readable_settled : g.honest (disk_of tree) → KeepsRight s → IsReadable g tree
+    readable_settled honest keeps = record {
+      honest = honest;
+      pages = subst AreWhole (sym settled.tiles) keeps.pages;
+      valid = subst IsMosaic (sym mosaic_settled) keeps.valid;
+    }
+
+  -- what is read is the same mosaic
+  pub mosaic_read : (old new : Tree D g) → HasOnlyRead g old new → g.honest (disk_of new) → mosaic_of g new ≡ mosaic_of g old
+  mosaic_read old new keeps honest =
+      ap₂ (λ (r : RootValue) (sinks : List Point). mosaic_of_tiles r.side sinks (staged_in g new)) keeps.root keeps.sinks
+      ∙ ap (mosaic_of_tiles (root_of old).side (sinks_of old)) (keeps.staged honest)

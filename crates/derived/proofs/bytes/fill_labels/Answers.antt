@@ -1,6 +1,0 @@
-use Rattle.std.proofs.Common.{arith}
-use Rattle.derived.proofs.LittleBytes.{labels_read}
-use Rattle.derived.proofs.bytes.fill_labels.Goals as goal
-
-pub returns : goal.returns
-returns c = labels_read c.args.bytes.now c.read_u16_into.new.dst (omega arith) (λ k below. c.read_u16_into.ensures k below)

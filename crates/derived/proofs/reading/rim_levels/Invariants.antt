@@ -1,5 +1,0 @@
-use Rattle.derived.proofs.Fitting.{AreFirstOfRim}
-use Rattle.derived.proofs.reading.rim_levels.Given as goal
-
-abbrev pub invariant-loop-number : goal.invariant-loop-number
-invariant-loop-number l = AreFirstOfRim l.labelled.side l.labelled.levels l.rim.items l.number

@@ -1,0 +1,34 @@
+//! Which tiles are stale: of those that are present, the ones of which no levels and labels are kept.
+ghost use Rattle.std.specs.Prelude.{◌≡◌, ◌&&◌, false, Contains};
+ghost use Rattle.std.specs.List.{list_any};
+ghost use Rattle.std.specs.Option.{is_none};
+ghost use Rattle.lattice.specs.Corners.{same_corner};
+ghost use Rattle.catalogue.specs.Tiles.{is_listed};
+ghost use Rattle.cow_tree.specs.Stored.{Stored, corners_of_stored};
+ghost use Rattle.cow_tree.specs.Trees.{disk_of, root_of, IsAt};
+ghost use Rattle.derived.specs.Kept.{stale_in, KeepsRight, IsFresh};
+
+use cow_tree::Tree;
+use disk::Disk;
+use lattice::Corner;
+use page_codec::Entry;
+
+/// Whether the corner has a tile of which no levels and labels are kept, as last known.
+pub fn stale<D: Disk>(tree: &Tree<D>, corner: Corner) -> bool
+    ensures value { result ≡ is_listed corner (stale_in (root_of tree.now)) }
+
+    // Of a present tile that isn't stale a valid labelling is kept.
+    ensures kept { D.honest (disk_of tree.now) → (s : Stored) → IsAt D.Disk tree.now s → KeepsRight s
+        → Contains (corners_of_stored s.tiles) corner → result ≡ false → IsFresh s corner }
+{
+    is_stale(tree.current().entries(), corner)
+}
+
+// Whether some entry is the corner's and keeps nothing.
+fn is_stale(entries: &[Entry], corner: Corner) -> bool
+    ensures { result ≡ list_any (λ e. same_corner e.corner corner && is_none e.kept) entries.now }
+{
+    entries
+        .iter()
+        .any(|entry| entry.corner == corner && entry.kept.is_none())
+}

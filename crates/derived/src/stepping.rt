@@ -1,0 +1,134 @@
+//! Steps: the levels and labels of one stale tile more are kept.
+ghost use Rattle.std.specs.Prelude.{◌≡◌, ◌≤◌, ◌<◌, ◌+◌, ◌*◌, ◌^◌, ◌⊎◌, false, true, [], Err, All, Contains, IfOk, IfErr, OnOk, IsErrOf, MatchOption, length, vec_len};
+ghost use Rattle.disk.specs.Disk.{HasRisen};
+ghost use Rattle.lattice.specs.declared.refusal.Refusal.TheVariants.{Device, NoMemory, Failed};
+ghost use Rattle.layout.specs.Sizes.{plane_pages_of};
+ghost use Rattle.page_codec.specs.Roots.{format_of};
+ghost use Rattle.tile_flood.specs.Kept.{AreKeptOf};
+ghost use Rattle.cow_tree.specs.Reading.{mosaic_of, HasOnlyRead, IsReadable};
+ghost use Rattle.cow_tree.specs.Stored.{Stored};
+ghost use Rattle.cow_tree.specs.Trees.{disk_of, root_of, has_failed, corners_of, sinks_of, IsUnstaged, IsAt};
+ghost use Rattle.derived.specs.Kept.{stale_among, stale_in, mosaic_stored, KeepsRight};
+ghost use Rattle.derived.specs.Clean.{IsClean};
+ghost use Rattle.derived.specs.Steps.{HasStepped};
+
+use cow_tree::Tree;
+use disk::Disk;
+use lattice::{Corner, Refusal};
+use page_codec::Entry;
+use std::alloc::Global;
+use tile_labellings::{KeptPlanes, kept_planes};
+
+/// Floods the first stale tile, keeps its levels and labels and names it, or answers none where no tile is stale. A step is
+/// a commit at the same count of commands. What was staged before is given up.
+///
+/// Refused with Failed, with Worn where the commit number can't grow, or for the disk or for memory, which is had before
+/// the first write.
+pub fn step<D: Disk>(alloc: Global, tree: &mut Tree<D>) -> Result<Option<Corner>, Refusal>
+    ensures stepped { has_failed tree.old ≡ false → HasStepped D.Disk tree.old tree.new result }
+
+    ensures clean { has_failed tree.new ≡ false → IsClean tree.new }
+
+    // It writes two planes with what lists their pages, a root and two gates at most, on any disk.
+    ensures writes { D.writes (disk_of tree.new) ≤ D.writes (disk_of tree.old) + (2 * plane_pages_of (format_of (root_of tree.old)) + 3) }
+
+    // A tree that failed makes no call of the disk, and stays failed.
+    ensures failed { has_failed tree.old ≡ true → (result ≡ Err Failed) × (tree.new ≡ tree.old) }
+{
+    if tree.has_failed() {
+        return Err(Refusal::Failed);
+    }
+    tree.abandon();
+    let root = tree.current();
+    let Some(corner) = first_stale(root.entries()) else {
+        return Ok(None);
+    };
+    if root.number() == u64::MAX {
+        return Err(Refusal::Worn);
+    }
+    keep(alloc, tree, corner)
+}
+
+// The first of the tiles that keeps nothing.
+fn first_stale(entries: &[Entry]) -> Option<Corner>
+    ensures { MatchOption result (stale_among entries.now ≡ []) (Contains (stale_among entries.now)) }
+{
+    for entry in entries {
+        if entry.kept.is_none() {
+            return Some(entry.corner);
+        }
+    }
+    None
+}
+
+// Keeps the levels and labels of this stale tile, where nothing is staged.
+fn keep<D: Disk>(
+    alloc: Global,
+    tree: &mut Tree<D>,
+    corner: Corner,
+) -> Result<Option<Corner>, Refusal>
+    requires works { has_failed tree.old ≡ false }
+    requires clean { IsClean tree.old }
+    requires unstaged { IsUnstaged tree.old }
+    requires declared { sinks_of tree.old ≡ (root_of tree.old).sinks }
+    requires stale { Contains (stale_in (root_of tree.old)) corner }
+    requires number { (root_of tree.old).number + 1 < 2 ^ 64 }
+    ensures stepped { HasStepped D.Disk tree.old tree.new result }
+    ensures writes { D.writes (disk_of tree.new) ≤ D.writes (disk_of tree.old) + (2 * plane_pages_of (format_of (root_of tree.old)) + 3) }
+{
+    let planes = read_planes(alloc, tree, corner)?;
+    commit_planes(tree, corner, &planes.levels, &planes.labels)
+}
+
+// The levels and labels of the corner's tile, flooded. Samples are read, and nothing is staged.
+fn read_planes<D: Disk>(
+    alloc: Global,
+    tree: &mut Tree<D>,
+    corner: Corner,
+) -> Result<KeptPlanes, Refusal>
+    requires works { has_failed tree.old ≡ false }
+    requires present { Contains (corners_of tree.old) corner }
+    ensures reads { HasOnlyRead D.Disk tree.old tree.new }
+    ensures device { IsErrOf result Device → HasRisen (D.failures (disk_of tree.old)) (D.failures (disk_of tree.new)) }
+    ensures failed { IsErrOf result Device → has_failed tree.new ≡ true }
+    ensures works { OnOk result (has_failed tree.new ≡ false) }
+    ensures refusal { IfErr result (λ r. (r ≡ Device) ⊎ ((r ≡ NoMemory) × (has_failed tree.new ≡ false))) }
+    ensures levels { IfOk result (λ planes. vec_len planes.levels ≡ 2 * ((root_of tree.old).side * (root_of tree.old).side)) }
+    ensures labels { IfOk result (λ planes. vec_len planes.labels ≡ 2 * ((root_of tree.old).side * (root_of tree.old).side)) }
+    ensures right { IsReadable D.Disk tree.new
+        → IfOk result (λ planes. AreKeptOf (mosaic_of D.Disk tree.old) corner planes.levels.items planes.labels.items) }
+{
+    kept_planes(alloc, tree, corner)
+}
+
+// Stages these levels and labels of the stale tile, and commits them at the same count of commands.
+fn commit_planes<D: Disk>(
+    tree: &mut Tree<D>,
+    corner: Corner,
+    levels: &[u8],
+    labels: &[u8],
+) -> Result<Option<Corner>, Refusal>
+    requires works { has_failed tree.old ≡ false }
+    requires clean { IsClean tree.old }
+    requires unstaged { IsUnstaged tree.old }
+    requires declared { sinks_of tree.old ≡ (root_of tree.old).sinks }
+    requires stale { Contains (stale_in (root_of tree.old)) corner }
+    requires number { (root_of tree.old).number + 1 < 2 ^ 64 }
+    requires levels { length levels.now ≡ 2 * ((root_of tree.old).side * (root_of tree.old).side) }
+    requires labels { length labels.now ≡ 2 * ((root_of tree.old).side * (root_of tree.old).side) }
+    requires right { D.honest (disk_of tree.old) → (s : Stored) → IsAt D.Disk tree.old s → KeepsRight s → AreKeptOf (mosaic_stored s) corner levels.now labels.now }
+    ensures stepped { HasStepped D.Disk tree.old tree.new result }
+    ensures writes { D.writes (disk_of tree.new) ≤ D.writes (disk_of tree.old) + (2 * plane_pages_of (format_of (root_of tree.old)) + 3) }
+{
+    are_bytes(levels);
+    are_bytes(labels);
+    tree.stage_kept(corner, levels, labels)?;
+    let count = tree.current().count();
+    tree.commit(count)?;
+    Ok(Some(corner))
+}
+
+// That each is a byte is told by its type.
+fn are_bytes(bytes: &[u8])
+    ensures { All (λ b. b < 256) bytes.now }
+{}

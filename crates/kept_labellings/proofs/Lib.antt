@@ -1,5 +1,0 @@
-pub mod KeptTiles
-pub mod RootStored
-pub mod Settled
-pub mod StepEnds
-pub mod Uncommitted

@@ -1,6 +1,0 @@
-use Rattle.std.proofs.Common.{◌≡◌, [], take}
-use Rattle.kept_labellings.specs.Kept.{stale_among}
-use Rattle.kept_labellings.proofs.stepping.first_stale.Given as goal
-
-abbrev pub invariant-loop-entry : goal.invariant-loop-entry
-invariant-loop-entry l = stale_among (take l.entry-index l.entries) ≡ []

@@ -1,0 +1,4 @@
+mod LittleBytes
+mod Spotted
+mod Fitting
+mod Mended

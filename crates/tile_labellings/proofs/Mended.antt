@@ -1,0 +1,137 @@
+-- A block whose labelling is mended: its heights are read anew one by one, and then it is that of its tile.
+use Rattle.std.proofs.Common.{◌≡◌, ◌≢◌, ℕ, ◌+◌, ◌*◌, ◌<◌, ◌≤◌, ◌⊎◌, inl, inr, ℤ, not, ◌&&◌, IsTrue, List, [], ◌∷◌, length, get_or, set, refl, sym, ap, ◌∙◌, subst, arith, nat_lt, lt-ltb, get_or-set_same, get_or-set_other}
+use Rattle.std.specs.Prelude.{Contains}
+use Rattle.std.proofs.lemmas.Bool.{cases_eq, and_from}
+use Rattle.std.proofs.lemmas.List.{length-set, get_or_default}
+use Rattle.lattice.specs.Block.{Block, IsBlockOf, is_solid, is_sink_at}
+use Rattle.lattice.specs.Corners.{Corner}
+use Rattle.lattice.specs.Ground.{metres, is_sink}
+use Rattle.lattice.specs.Height.{height_of}
+use Rattle.lattice.specs.Lattice.{point_of}
+use Rattle.lattice.specs.Mosaic.{Mosaic, void, is_void}
+use Rattle.tile_flood.specs.Blocks.{LabelledGround, block_of}
+use Rattle.tile_flood.specs.Flooding.{is_marked}
+use Rattle.tile_flood.specs.Mending.{IsLabelledBefore}
+use Rattle.tile_flood.proofs.Squares.{solid_below, test_if}
+use Rattle.tile_labellings.specs.Labellings.{IsFlooded, IsFloodOf, IsBlockBut}
+use Rattle.tile_labellings.specs.Updating.{IsUpdated}
+
+-- ---- what was flooded is labelled before any changes
+
+pub labelled_now : (b : Block) (labelled : LabelledGround) (changed : List ℕ) → IsFloodOf b labelled → IsLabelledBefore b changed labelled.levels labelled.labels
+labelled_now b labelled changed is = record { heights = b.heights; labelling = is.labelling; carried = is.carried; ground = λ e. refl; others = λ e solid. inl refl }
+
+module _ (n : ℕ) (heights : List ℤ) (sinks : List ℕ) (e : ℕ) (h : ℤ) (inside : e < length heights) (ground : IsTrue (is_solid (block_of n heights sinks) e)) (full : h ≢ void) where
+  height_now : get_or (set heights e h) e void ≡ h
+  height_now = get_or-set_same heights e h void inside
+
+  still_ground : IsTrue (is_solid (block_of n (set heights e h) sinks) e)
+  still_ground = and_from (nat_lt e (n * n)) (is_marked (set heights e h) e) (lt-ltb e (n * n) (solid_below n heights e ground)) (test_if (get_or (set heights e h) e void) (subst (λ v. v ≢ void) (sym height_now) full))
+
+  same_ground : (z : ℕ) → is_solid (block_of n heights sinks) z ≡ is_solid (block_of n (set heights e h) sinks) z
+  same_ground z = elim (cases_eq z e) [
+    | inl same ↦ subst (λ x. is_solid (block_of n heights sinks) x ≡ is_solid (block_of n (set heights e h) sinks) x) (sym same) (ground ∙ sym still_ground)
+    | inr other ↦ ap (λ v. nat_lt z (n * n) && not (is_void v)) (sym (get_or-set_other heights e z h void other))
+  ]
+
+  -- one of the points has another height
+  pub labelled_still : (points : List ℕ) (levels : List ℤ) (labels : List ℕ) → Contains points e → IsLabelledBefore (block_of n heights sinks) points levels labels → IsLabelledBefore (block_of n (set heights e h) sinks) points levels labels
+  labelled_still points levels labels has before = record {
+    heights = before.heights;
+    labelling = before.labelling;
+    carried = before.carried;
+    ground = λ z. before.ground z ∙ same_ground z;
+    others = λ z solid. elim (cases_eq z e) [
+      | inl same ↦ inr (subst (Contains points) (sym same) has)
+      | inr other ↦ elim (before.others z (same_ground z ∙ solid)) [
+        | inl alike ↦ inl (alike ∙ sym (get_or-set_other heights e z h void other))
+        | inr among ↦ inr among
+      ]
+    ];
+  }
+
+pub updated_before : (b new : Block) (e : ℕ) (h : ℤ) (points : List ℕ) (levels : List ℤ) (labels : List ℕ) → IsUpdated b e h new → Contains points e → IsLabelledBefore b points levels labels → IsLabelledBefore new points levels labels
+updated_before b new e h points levels labels is has before =
+    subst (λ (x : Block). IsLabelledBefore x points levels labels) (sym is.is) (labelled_still b.side b.heights b.sinks e h is.inside is.ground is.full points levels labels has before)
+
+-- ---- heights that are read anew
+
+-- the point is among the changed ones, from number k on
+abbrev pub IsUnread : List ℕ → ℕ → ℕ → Type 0
+IsUnread changed k e = (j : ℕ) × (k ≤ j) × (j < length changed) × (get_or changed j e ≡ e)
+
+-- of the changed points the first k have their heights
+pub record AreRead (m : Mosaic) (c : Corner) (changed : List ℕ) (k : ℕ) (b : Block) : Type 0 where
+  pub side : b.side ≡ m.side
+  pub whole : length b.heights ≡ m.side * m.side
+  pub heights : (e : ℕ) → e < m.side * m.side → (get_or b.heights e void ≡ metres (height_of m (point_of m.side c e))) ⊎ IsUnread changed k e
+  pub sinks : (e : ℕ) → e < m.side * m.side → is_sink_at b e ≡ is_sink m (point_of m.side c e)
+
+pub none_read : (m : Mosaic) (c : Corner) (changed : List ℕ) (b : Block) → IsBlockBut m c changed b → AreRead m c changed 0 b
+none_read m c changed b is = record {
+  side = is.side;
+  whole = is.whole;
+  heights = λ e small. elim (is.heights e small) [
+    | inl right ↦ inl right
+    | inr has ↦ inr (has.0, omega arith, has.1, has.2)
+  ];
+  sinks = is.sinks;
+}
+
+pub one_read : (m : Mosaic) (c : Corner) (changed : List ℕ) (k : ℕ) (b new : Block) (e : ℕ) (h : ℤ) → (d : ℕ) → k < length changed → get_or changed k d ≡ e → IsUpdated b e h new
+    → h ≡ metres (height_of m (point_of b.side c e)) → AreRead m c changed k b → AreRead m c changed (k + 1) new
+one_read m c changed k b new e h d below at is value so =
+    subst (AreRead m c changed (k + 1)) (sym is.is) (record {
+      side = so.side;
+      whole = length-set b.heights e h ∙ so.whole;
+      heights = λ z small. elim (cases_eq z e) [
+        | inl same ↦ inl (ap (λ x. get_or (set b.heights e h) x void) same ∙ (get_or-set_same b.heights e h void is.inside
+            ∙ (value ∙ (ap (λ n. metres (height_of m (point_of n c e))) so.side ∙ ap (λ x. metres (height_of m (point_of m.side c x))) (sym same)))))
+        | inr other ↦ elim (so.heights z small) [
+          | inl right ↦ inl (get_or-set_other b.heights e z h void other ∙ right)
+          | inr left ↦ inr (later z other left)
+        ]
+      ];
+      sinks = so.sinks;
+    })
+  where
+    later : (z : ℕ) → z ≢ e → IsUnread changed k z → IsUnread changed (k + 1) z
+    later z other left = elim (cases_eq left.0 k) [
+      | inl here ↦ absurd (other (sym left.3 ∙ (ap (λ j. get_or changed j z) here ∙ (get_or_default changed k z d below ∙ at))))
+      | inr further ↦ (left.0, (let from = left.1 in omega arith), left.2, left.3)
+    ]
+
+pub all_read : (m : Mosaic) (c : Corner) (changed : List ℕ) (k : ℕ) (b : Block) → length changed ≤ k → AreRead m c changed k b → IsBlockBut m c [] b
+all_read m c changed k b end so = record {
+  side = so.side;
+  whole = so.whole;
+  heights = λ e small. elim (so.heights e small) [
+    | inl right ↦ inl right
+    | inr left ↦ (let from = left.1 in let below = left.2 in absurd (omega arith))
+  ];
+  sinks = so.sinks;
+}
+
+-- ---- a block none of whose heights may have changed
+
+pub block_now : (m : Mosaic) (c : Corner) (b : Block) → IsBlockBut m c [] b → IsBlockOf m c b
+block_now m c b is = record {
+  side = is.side;
+  heights = record {
+    whole = is.whole;
+    values = λ e small. elim (is.heights e small) [
+      | inl right ↦ right
+      | inr has ↦ (let below = has.1 in absurd (omega arith))
+    ];
+  };
+  sinks = is.sinks;
+}
+
+pub block_but : (m : Mosaic) (c : Corner) (changed : List ℕ) (b : Block) → IsBlockOf m c b → IsBlockBut m c changed b
+block_but m c changed b is = record { side = is.side; whole = is.heights.whole; heights = λ e small. inl (is.heights.values e small); sinks = is.sinks }
+
+pub flooded_now : (m : Mosaic) (c : Corner) (b : Block) (labelled : LabelledGround) (changed : List ℕ) → IsFloodOf b labelled → changed ≡ [] → IsBlockBut m c changed b → IsFlooded m c labelled
+flooded_now m c b labelled changed flood none is = record {
+  side = flood.side ∙ is.side;
+  valid = (b, (block_now m c b (subst (λ (xs : List ℕ). IsBlockBut m c xs b) none is), flood.labelling));
+}

@@ -1,0 +1,7 @@
+use Rattle.std.proofs.Common.{◌≢◌, ℕ, ◌<◌, None, slice_index, slice_index_or}
+use Rattle.lattice.specs.Mosaic.{void}
+use Rattle.tile_flood.specs.Raising.{raised_level}
+use Rattle.tile_labellings.proofs.reading.do_marks_fit.Given as goal
+
+abbrev pub invariant-loop-index : goal.invariant-loop-index
+invariant-loop-index l = (e : ℕ) → e < l.index → raised_level l.rim (slice_index_or l.labelled.levels e void) (slice_index l.labelled.labels e) ≢ None

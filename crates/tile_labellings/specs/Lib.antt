@@ -1,0 +1,4 @@
+pub mod Labellings
+pub mod Spots
+pub mod TileLabellings
+pub mod Updating

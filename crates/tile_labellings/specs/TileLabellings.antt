@@ -1,0 +1,31 @@
+-- What is held of a tile's labelling.
+use Rattle.std.specs.Prelude.{◌≡◌, ◌≢◌, ℕ, ◌*◌, ◌<◌, []}
+use Rattle.lattice.specs.Corners.{Corner}
+use Rattle.lattice.specs.Ground.{is_sink}
+use Rattle.lattice.specs.Height.{height_of}
+use Rattle.lattice.specs.Lattice.{point_of}
+use Rattle.lattice.specs.Mosaic.{Mosaic}
+use Rattle.tile_flood.specs.Blocks.{LabelledGround}
+use Rattle.tile_labellings.specs.Labellings.{IsFlooded, IsBlockBut}
+use Rattle.tile_labellings.specs.declared.tile_labelling.TileLabelling.{TileLabelling}
+use Rattle.tile_labellings.specs.declared.tile_labelling.TileLabelling.TheVariants.{Kept, Flooded}
+
+abbrev pub labelled_of : TileLabelling → LabelledGround
+labelled_of (Kept labelled) = labelled
+labelled_of (Flooded flooded) = flooded.labelled
+
+-- no height may have changed since
+abbrev pub IsCurrent : TileLabelling → Type 0
+IsCurrent (Kept labelled) = Unit {0}
+IsCurrent (Flooded flooded) = flooded.changed ≡ []
+
+-- a valid labelling of the corner's tile, or one of its block but for the heights that may have changed
+abbrev pub IsTileLabelling : Mosaic → Corner → TileLabelling → Type 0
+IsTileLabelling m c (Kept labelled) = IsFlooded m c labelled
+IsTileLabelling m c (Flooded flooded) = IsBlockBut m c flooded.changed flooded.block
+
+-- of the points of the corner's tile, that with this index alone may have another height
+pub record DifferAt (c : Corner) (e : ℕ) (m new : Mosaic) : Type 0 where
+  pub side : new.side ≡ m.side
+  pub heights : (z : ℕ) → z < m.side * m.side → z ≢ e → height_of new (point_of m.side c z) ≡ height_of m (point_of m.side c z)
+  pub sinks : (z : ℕ) → z < m.side * m.side → is_sink new (point_of m.side c z) ≡ is_sink m (point_of m.side c z)

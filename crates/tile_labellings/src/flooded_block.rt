@@ -1,0 +1,171 @@
+//! Blocks that were flooded, whose labellings are mended where heights change.
+ghost use Rattle.std.specs.Prelude.{◌≡◌, ◌≢◌, ◌<◌, ◌*◌, ◌⊎◌, ℕ, ℤ, [], true, false, Contains, IfOk, IfErr, IfSome, OnOk, IsTrue, length, slice_set};
+ghost use Rattle.lattice.specs.Block.{Block, is_solid};
+ghost use Rattle.lattice.specs.Corners.{Corner};
+ghost use Rattle.lattice.specs.Ground.{metres};
+ghost use Rattle.lattice.specs.Height.{height_of};
+ghost use Rattle.lattice.specs.Lattice.{point_of};
+ghost use Rattle.lattice.specs.Mosaic.{Mosaic, void};
+ghost use Rattle.lattice.specs.declared.refusal.Refusal.TheVariants.{NoMemory};
+ghost use Rattle.catalogue.specs.Readers.{OnlyReads, reads_of};
+ghost use Rattle.catalogue.specs.Reading.{MayRefuse};
+ghost use Rattle.tile_flood.specs.Blocks.{LabelledGround};
+ghost use Rattle.tile_flood.specs.Mending.{IsLabelledBefore};
+ghost use Rattle.tile_labellings.specs.Labellings.{IsFlooded, IsBlockBut};
+ghost use Rattle.tile_labellings.specs.Updating.{IsUpdated};
+
+use catalogue::{Samples, height};
+use lattice::{Corner, Height, Refusal, VOID, point_at};
+use std::alloc::{AllocError, Global};
+use std::marker::Model;
+use tile_flood::{Block, Flood, Labelled, mend};
+
+/// A block that was flooded, with its labelling, and those of its points whose heights may have changed since.
+#[derive(Drop)]
+pub struct FloodedBlock {
+    block: Block,
+    labelled: Labelled,
+    changed: Vec<u32>,
+}
+
+impl Model for FloodedBlock {
+    ghost use Rattle.tile_labellings.specs.Labellings.{FloodedGround, IsFloodOf};
+
+    ghost Value = { FloodedGround };
+
+    ghost view = { λ f. record { block = f.block; labelled = f.labelled; changed = f.changed.items } };
+
+    ghost invariant = { λ f. IsFloodOf f.block f.labelled };
+}
+
+impl FloodedBlock {
+    /// Floods the block. NoMemory is the only refusal.
+    pub fn new(alloc: Global, block: Block) -> Result<FloodedBlock, Refusal>
+        ensures block { IfOk result (λ flooded. flooded.block ≡ block) }
+        ensures side { IfOk result (λ flooded. flooded.labelled.side ≡ block.side) }
+        ensures current { IfOk result (λ flooded. flooded.changed ≡ []) }
+        ensures refusal { IfErr result (λ r. r ≡ NoMemory) }
+    {
+        let labelled = Flood::run(alloc, &block)?;
+        Ok(FloodedBlock {
+            block,
+            labelled,
+            changed: Vec::new(alloc),
+        })
+    }
+
+    /// The labelling of the block as it was flooded, or mended the last time.
+    pub fn labelled(&self) -> &Labelled
+        ensures value { result.now ≡ self.now.labelled }
+        ensures flooded { (m : Mosaic) (c : Corner) → self.now.changed ≡ [] → IsBlockBut m c self.now.changed self.now.block → IsFlooded m c self.now.labelled }
+    {
+        &self.labelled
+    }
+
+    /// Gives up the block. What is left can't be mended.
+    pub fn into_labelled(self) -> Labelled
+        ensures value { result ≡ self.labelled }
+        ensures flooded { (m : Mosaic) (c : Corner) → self.changed ≡ [] → IsBlockBut m c self.changed self.block → IsFlooded m c result }
+    {
+        self.labelled
+    }
+
+    /// How many points there are whose heights may have changed.
+    pub fn count_changed(&self) -> usize
+        ensures { result ≡ length self.now.changed }
+    {
+        self.changed.len()
+    }
+
+    /// The height of the point with this index may change from then on.
+    pub fn note_changed(&mut self, index: u32) -> Result<(), AllocError>
+        ensures block { OnOk result (self.new.block ≡ self.old.block) }
+        ensures labelled { OnOk result (self.new.labelled ≡ self.old.labelled) }
+        ensures noted { OnOk result (Contains self.new.changed index) }
+        ensures still { OnOk result ((e : ℕ) → Contains self.old.changed e → Contains self.new.changed e) }
+    {
+        if !self.changed.contains(&index) {
+            self.changed.push(index)?;
+        }
+        Ok(())
+    }
+
+    /// The block of the corner's tile with the heights that its changed points have now, and its labelling, mended. None
+    /// where ground came or went with a change: then it is to be flooded anew. It reads the changed points alone, and is
+    /// refused for want of memory, or as a read is.
+    pub fn mended<S: Samples>(
+        self,
+        alloc: Global,
+        samples: &mut S,
+        corner: Corner,
+    ) -> Result<Option<FloodedBlock>, Refusal>
+        ensures right { S.is_honest samples.new → IsBlockBut (S.mosaic samples.old) corner self.changed self.block
+            → IfOk result (λ found. IfSome found (λ mended. IsBlockBut (S.mosaic samples.old) corner [] mended.block)) }
+        ensures current { IfOk result (λ found. IfSome found (λ mended. mended.changed ≡ [])) }
+        ensures side { IfOk result (λ found. IfSome found (λ mended. mended.labelled.side ≡ self.labelled.side)) }
+        ensures refusal { IfErr result (λ r. (r ≡ NoMemory) ⊎ MayRefuse (S.failures samples.old) (S.failures samples.new) r) }
+        ensures reads { OnlyReads S.Samples samples.old samples.new (reads_of result) }
+    {
+        if self.changed.len() == 0 {
+            return Ok(Some(self));
+        }
+        let mut block = self.block;
+        if !read_changed(samples, corner, &self.labelled, &self.changed, &mut block)? {
+            return Ok(None);
+        }
+        let labelled = mend(alloc, &block, self.labelled, &self.changed)?;
+        Ok(Some(FloodedBlock {
+            block,
+            labelled,
+            changed: Vec::new(alloc),
+        }))
+    }
+}
+
+// Gives the changed points of the block the heights that they have now; whether each was ground and is.
+fn read_changed<S: Samples>(
+    samples: &mut S,
+    corner: Corner,
+    labelled: &Labelled,
+    changed: &[u32],
+    block: &mut Block,
+) -> Result<bool, Refusal>
+    requires before { IsLabelledBefore block.old changed.now labelled.now.levels labelled.now.labels }
+    ensures before { IfOk result (λ done. IsTrue done → IsLabelledBefore block.new changed.now labelled.now.levels labelled.now.labels) }
+    ensures side { IfOk result (λ done. IsTrue done → block.new.side ≡ block.old.side) }
+    ensures right { S.is_honest samples.new → IsBlockBut (S.mosaic samples.old) corner changed.now block.old
+        → IfOk result (λ done. IsTrue done → IsBlockBut (S.mosaic samples.old) corner [] block.new) }
+    ensures reads { OnlyReads S.Samples samples.old samples.new result }
+{
+    for k in 0..changed.len() {
+        if !read_height(samples, corner, changed[k], block)? {
+            return Ok(false);
+        }
+    }
+    Ok(true)
+}
+
+// Gives the point of the block with this index the height that it has now; whether it was ground and is.
+fn read_height<S: Samples>(
+    samples: &mut S,
+    corner: Corner,
+    index: u32,
+    block: &mut Block,
+) -> Result<bool, Refusal>
+    ensures updated { IfOk result (λ done. IsTrue done → (h : ℤ) × (IsUpdated block.old index h block.new × (S.is_honest samples.new → h ≡ metres (height_of (S.mosaic samples.old) (point_of block.old.side corner index))))) }
+    ensures reads { OnlyReads S.Samples samples.old samples.new result }
+{
+    let side = block.side();
+    if index >= side.area() {
+        return Ok(false);
+    }
+    let Height::At(metres) = height(samples, point_at(side, corner, index))? else {
+        return Ok(false);
+    };
+    let was = block.heights()[index as usize];
+    if was == VOID || metres == VOID {
+        return Ok(false);
+    }
+    block.set_height(index as usize, metres);
+    Ok(true)
+}

@@ -1,0 +1,18 @@
+//! What a store keeps of the flood of one tile: the planes of its levels and labels; and labellings, made or kept.
+//!
+//! The layers above rest on this: the bytes that `kept_planes` answers are, as they stand on the disk, a valid labelling of
+//! the tile's block in the mosaic; and `labelled_from` reads such bytes back, and refuses what can be no labelling.
+#![tactic(auto)]
+
+mod bytes;
+mod flooded_block;
+mod labellings;
+mod planes;
+mod reading;
+mod tile_labelling;
+
+pub use flooded_block::FloodedBlock;
+pub use labellings::{Labellings, flooded};
+pub use planes::{KeptPlanes, kept_planes};
+pub use reading::{labelled_at, labelled_from};
+pub use tile_labelling::TileLabelling;

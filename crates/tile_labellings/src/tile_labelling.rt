@@ -1,0 +1,104 @@
+//! What is held of a tile's labelling.
+ghost use Rattle.std.specs.Prelude.{◌≡◌, ◌⊎◌, IfErr, IfOk, IfSome, IsTrue};
+ghost use Rattle.lattice.specs.Corners.{Corner};
+ghost use Rattle.lattice.specs.Mosaic.{Mosaic};
+ghost use Rattle.lattice.specs.declared.refusal.Refusal.TheVariants.{NoMemory};
+ghost use Rattle.catalogue.specs.Readers.{OnlyReads, reads_of};
+ghost use Rattle.catalogue.specs.Reading.{MayRefuse};
+ghost use Rattle.tile_labellings.specs.Labellings.{IsFlooded};
+
+use crate::flooded_block::FloodedBlock;
+use catalogue::Samples;
+use lattice::{Corner, Refusal};
+use std::alloc::Global;
+use tile_flood::Labelled;
+
+// So many points of a block may have changed before its labelling is given up: to mend for many takes as long as a flood.
+const MOST_CHANGED: usize = 64;
+
+/// The labelling of a tile: as it was kept, valid but maybe not to be mended; or of its block as it was flooded.
+#[derive(Drop)]
+pub enum TileLabelling {
+    Kept(Labelled),
+    Flooded(FloodedBlock),
+}
+
+impl TileLabelling {
+    ghost use Rattle.tile_labellings.specs.TileLabellings.{labelled_of, DifferAt, IsCurrent, IsTileLabelling};
+
+    /// The levels and labels; those of the tile where no height may have changed since they were made.
+    pub fn labelled(&self) -> &Labelled
+        ensures value { result.now ≡ labelled_of self.now }
+        ensures flooded { (m : Mosaic) (c : Corner) → IsCurrent self.now → IsTileLabelling m c self.now → IsFlooded m c result.now }
+    {
+        match self {
+            TileLabelling::Kept(labelled) => labelled,
+            TileLabelling::Flooded(flooded) => flooded.labelled(),
+        }
+    }
+
+    /// Whether no height may have changed since they were made.
+    pub fn is_current(&self) -> bool
+        ensures { IsTrue result → IsCurrent self.now }
+    {
+        match self {
+            TileLabelling::Kept(_) => true,
+            TileLabelling::Flooded(flooded) => flooded.count_changed() == 0,
+        }
+    }
+
+    /// The height of the tile's point with this index may change from then on. False where that can't be noted: then the
+    /// labelling is to be given up.
+    pub fn note_changed(&mut self, index: u32) -> bool
+        ensures { IsTrue result → (m new : Mosaic) (c : Corner) → DifferAt c index m new → IsTileLabelling m c self.old → IsTileLabelling new c self.new }
+    {
+        match self {
+            TileLabelling::Kept(_) => false,
+            TileLabelling::Flooded(flooded) => {
+                flooded.count_changed() < MOST_CHANGED && flooded.note_changed(index).is_ok()
+            }
+        }
+    }
+
+    /// The labelling of the corner's tile as its heights are now: mended where some may have changed; None where the tile
+    /// is to be flooded anew. It reads the points that may have changed alone, and is refused for want of memory, or as a
+    /// read is.
+    pub fn renewed<S: Samples>(
+        self,
+        alloc: Global,
+        samples: &mut S,
+        corner: Corner,
+    ) -> Result<Option<TileLabelling>, Refusal>
+        ensures valid { S.is_honest samples.new → IsTileLabelling (S.mosaic samples.old) corner self → IfOk result (λ found. IfSome found (IsTileLabelling (S.mosaic samples.old) corner)) }
+        ensures current { IfOk result (λ found. IfSome found IsCurrent) }
+        ensures side { IfOk result (λ found. IfSome found (λ renewed. (labelled_of renewed).side ≡ S.side_of samples.old)) }
+        ensures refusal { IfErr result (λ r. (r ≡ NoMemory) ⊎ MayRefuse (S.failures samples.old) (S.failures samples.new) r) }
+        ensures reads { OnlyReads S.Samples samples.old samples.new (reads_of result) }
+    {
+        if self.labelled().side() != samples.side() {
+            return Ok(None);
+        }
+        match self {
+            TileLabelling::Kept(labelled) => Ok(Some(TileLabelling::Kept(labelled))),
+            TileLabelling::Flooded(flooded) => {
+                let Some(mended) = flooded.mended(alloc, samples, corner)? else {
+                    return Ok(None);
+                };
+                Ok(Some(TileLabelling::Flooded(mended)))
+            }
+        }
+    }
+
+    /// The labelling without its block, so that it can't be mended; None where heights may have changed already.
+    pub fn without_block(self) -> Option<TileLabelling>
+        ensures { IfSome result (λ left. (m : Mosaic) (c : Corner) → IsTileLabelling m c self → IsTileLabelling m c left) }
+    {
+        if !self.is_current() {
+            return None;
+        }
+        match self {
+            TileLabelling::Kept(labelled) => Some(TileLabelling::Kept(labelled)),
+            TileLabelling::Flooded(flooded) => Some(TileLabelling::Kept(flooded.into_labelled())),
+        }
+    }
+}
