@@ -71,6 +71,11 @@ FitsIn n corners sinks (Voids from to h tiles) = IsTrue (is_height h) × IsTrue 
 FitsIn n corners sinks (Sink p) = AreSinks n (with_point p sinks)
 FitsIn n corners sinks (Unsink p) = Unit {0}
 
+-- no tile comes in
+abbrev pub AddsNone : Edit → Type 0
+AddsNone (Add c bytes) = ⊥
+AddsNone edit = Unit {0}
+
 -- there is room for a tile that comes in
 abbrev pub HasRoom : ℕ → List Corner → Edit → Type 0
 HasRoom capacity corners (Add c bytes) = length corners < capacity

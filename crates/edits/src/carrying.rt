@@ -1,10 +1,10 @@
 //! Carrying out an edit in memory.
-ghost use Rattle.std.specs.Prelude.{◌≡◌, ◌≤ℤ◌, ◌+ℤ◌, ◌^◌, pos, IsTrue, IfErr, OnOk, OnErr};
+ghost use Rattle.std.specs.Prelude.{◌≡◌, ◌≤ℤ◌, ◌+ℤ◌, ◌^◌, pos, IsTrue, IsOk, IfErr, OnOk, OnErr};
 ghost use Rattle.lattice.specs.Mosaic.{IsMosaic};
 ghost use Rattle.lattice.specs.declared.refusal.Refusal.TheVariants.{NoMemory};
 ghost use Rattle.catalogue.specs.Tiles.{corners_of};
 ghost use Rattle.edits.specs.Boxes.{filled, is_void_in_row, is_void_in_rows};
-ghost use Rattle.edits.specs.Edits.{FitsIn, edit_made, with_height, with_heights};
+ghost use Rattle.edits.specs.Edits.{AddsNone, FitsIn, edit_made, with_height, with_heights};
 ghost use Rattle.edits.specs.Effect.{is_box, is_void_at, patched};
 
 use crate::boxes::{east_of, north_of, size_of_box};
@@ -22,6 +22,7 @@ pub fn carry_out(alloc: Global, edit: &Edit, table: &mut Table) -> Result<(), Re
     ensures made { OnOk result (table.new ≡ edit_made edit.now table.old) }
     ensures refusal { IfErr result (λ r. r ≡ NoMemory) }
     ensures unchanged { OnErr result (table.new ≡ table.old) }
+    ensures sure { AddsNone edit.now → IsOk result }
     ensures valid { IsMosaic table.new }
 {
     // That a table is a mosaic is told by asking.
