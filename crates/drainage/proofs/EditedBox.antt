@@ -1,10 +1,10 @@
 -- What an edit of points of a box leaves as it was.
-use Rattle.std.proofs.Common.{◌≡◌, ℕ, ◌+◌, ◌<◌, ◌≤◌, ℤ, false, ◌&&◌, List, length, get_or, take, refl, sym, ap, subst}
+use Rattle.std.proofs.Common.{◌≡◌, ◌≢◌, ℕ, ◌+◌, ◌<◌, ◌≤◌, ℤ, true, false, ◌&&◌, List, length, get_or, take, refl, sym, ap, subst}
 use Rattle.std.specs.Prelude.{if◌then◌else◌}
 use Rattle.std.proofs.lemmas.Bool.{and_left}
 use Rattle.lattice.specs.declared.point.Point.{Point}
 use Rattle.lattice.specs.Ground.{same_point}
-use Rattle.lattice.specs.Mosaic.{Mosaic, IsMosaic}
+use Rattle.lattice.specs.Mosaic.{Mosaic, IsMosaic, void}
 use Rattle.catalogue.specs.Tiles.{AreCorners, corners_of}
 use Rattle.catalogue.proofs.OneTile.{corners_are}
 use Rattle.edits.specs.declared.edit.NewHeight.{NewHeight}
@@ -14,6 +14,10 @@ use Rattle.edits.proofs.Edited.{heights_corners, heights_next, heights_side}
 use Rattle.edits.proofs.EditedHeights.{edited_corners, height_stays}
 use Rattle.drainage.specs.Reaching.{is_between, DifferAt, DifferBetween}
 use Rattle.drainage.proofs.Reached.{apart_points, other_point}
+use Rattle.drainage.proofs.HeightSet.{height_set}
+use Rattle.lattice.specs.declared.height.Height.TheVariants.{At}
+use Rattle.lattice.specs.Ground.{is_ground}
+use Rattle.lattice.specs.Height.{height_of}
 
 differ_edited : (f : Point → ℤ → ℤ) (m : Mosaic) (from to : Point) → 3 ≤ m.side → AreCorners (corners_of m) → ((q : Point) (s : ℤ) → is_between from to q ≡ false → f q s ≡ s) → DifferBetween m (edited f m) from to
 differ_edited f m from to side are leaves = record {
@@ -39,3 +43,10 @@ differ_more hs i h m valid below is =
       around = differ_height h.point h.metres mid (subst (λ n. 3 ≤ n) (sym (heights_side (take i hs) m)) valid.side_low) (subst AreCorners (sym (heights_corners (take i hs) m)) (corners_are m valid));
       all_sinks = λ q. refl;
     })
+
+-- .. which the point has then, if it was ground
+pub set_more : (hs : List NewHeight) (i : ℕ) (h : NewHeight) (m : Mosaic) → IsMosaic m → i < length hs → h ≡ get_or hs i h → h.metres ≢ void → is_ground (with_heights (take i hs) m) h.point ≡ true → height_of (with_heights (take (i + 1) hs) m) h.point ≡ At h.metres
+set_more hs i h m valid below is full ground =
+    let mid : Mosaic = with_heights (take i hs) m in
+    subst (λ (y : Mosaic). height_of y h.point ≡ At h.metres) (sym (heights_next hs i h m below is))
+    (height_set h.point h.metres full mid (subst (λ n. 3 ≤ n) (sym (heights_side (take i hs) m)) valid.side_low) (subst AreCorners (sym (heights_corners (take i hs) m)) (corners_are m valid)) ground)

@@ -61,11 +61,12 @@ left_right m new from to known known' differ left right = record {
 
 -- what is left where a height may have changed
 pub noted_right : (m new : Mosaic) (p : Point) (known known' : Known) → DifferAt m new p → IsNotedOf (is_reached known.side known.corners p p) p known known'
-    → ((t : ℕ) → IsEntered m (corner_at known.corners t) known.entered t → IsEntered new (corner_at known.corners t) known'.entered t) → IsRight m known → IsRight new known'
-noted_right m new p known known' differ left entered right = record {
+    → ((t : ℕ) → IsEntered m (corner_at known.corners t) known.entered t → IsEntered new (corner_at known.corners t) known'.entered t)
+    → ((x : ℕ) (level : ℤ) → level_of known'.levels x ≡ Some level → IsRimLevel new known'.corners x level) → IsRight m known → IsRight new known'
+noted_right m new p known known' differ left entered levels right = record {
   ready = left_ready m new p p known known' differ.around left.same_side left.same_corners left.whole left.told right;
   entered = λ t. subst (λ (cs : List Corner). IsEntered new (corner_at cs t) known'.entered t) (sym left.same_corners) (entered t (right.entered t));
-  levels = no_levels m new p p known known' differ.around left.same_side left.same_corners left.whole left.told right left.levels;
+  levels = levels;
 }
 
 -- ---- elements given up one by one

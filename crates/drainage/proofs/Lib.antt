@@ -29,3 +29,5 @@ mod Renewed
 mod Beyond
 mod EditedBox
 pub mod Learnt
+mod SparedLevels
+mod HeightSet

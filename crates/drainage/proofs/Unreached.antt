@@ -113,7 +113,7 @@ module _ (m new : Mosaic) (c : Corner) (same_side : new.side ≡ m.side) (height
 -- ---- two mosaics that differ in the box alone
 
 module _ (m new : Mosaic) (from to : Point) (differ : DifferBetween m new from to) where
-  shared_still : (p q : Point) → share_tile new p q ≡ share_tile m p q
+  pub shared_still : (p q : Point) → share_tile new p q ≡ share_tile m p q
   shared_still p q =
       any_corner (λ c. holds new.side c p && holds new.side c q) new.tiles
       ∙ ap₂ (λ (n : ℕ) (cs : List Corner). list_any (λ c. holds n c p && holds n c q) cs) differ.same_side differ.same_corners

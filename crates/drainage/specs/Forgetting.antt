@@ -1,5 +1,5 @@
 -- What is left of what was known of a mosaic's water (this product's own profile).
-use Rattle.std.specs.Prelude.{◌≡◌, ◌↔◌, ◌<◌, ℕ, Bool, false, Some, None, length}
+use Rattle.std.specs.Prelude.{◌≡◌, ◌↔◌, ◌<◌, ℕ, ℤ, Bool, false, Some, None, length}
 use Rattle.lattice.specs.Lattice.{holds}
 use Rattle.lattice.specs.declared.point.Point.{Point}
 use Rattle.border_graph.specs.Others.{corner_at}
@@ -18,11 +18,11 @@ pub record IsLeftOf (gone : ℕ → Bool) (known known' : Known) : Type 0 where
   pub levels : (x : ℕ) → level_of known'.levels x ≡ None
 
 -- all that was known, but for the summaries of the tiles whose places pass the test, for the labellings of those that hold
--- the point, and for the levels
+-- the point, and for some of the levels
 pub record IsNotedOf (gone : ℕ → Bool) (p : Point) (known known' : Known) : Type 0 where
   pub same_side : known'.side ≡ known.side
   pub same_corners : known'.corners ≡ known.corners
   pub whole : length known'.told ≡ length known.told
   pub told : (t : ℕ) (ways : TileGraph) → told_at known'.told t ≡ Some ways ↔ ((told_at known.told t ≡ Some ways) × (gone t ≡ false))
   pub entered : (t : ℕ) → t < length known.corners → holds known.side (corner_at known.corners t) p ≡ false → entered_at known'.entered t ≡ entered_at known.entered t
-  pub levels : (x : ℕ) → level_of known'.levels x ≡ None
+  pub levels : (x : ℕ) (level : ℤ) → level_of known'.levels x ≡ Some level → level_of known.levels x ≡ Some level

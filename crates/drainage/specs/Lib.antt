@@ -13,3 +13,4 @@ pub mod Nearby
 pub mod Ring
 pub mod Beyond
 pub mod Flows
+pub mod Spared

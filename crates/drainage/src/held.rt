@@ -6,6 +6,7 @@ ghost use Rattle.downstream.specs.Way.{IsWay};
 ghost use Rattle.lattice.specs.declared.refusal.Refusal.TheVariants.{NoMemory};
 ghost use Rattle.drainage.specs.Holding.{IsRight};
 ghost use Rattle.drainage.specs.Reaching.{DifferAt, DifferBetween};
+ghost use Rattle.drainage.specs.Spared.{IsSetTo};
 
 use crate::flows::Flows;
 use crate::nearby::near;
@@ -62,18 +63,19 @@ impl Held {
         self.waters = Some(waters);
     }
 
-    /// The height of the point may change from then on, but no sink comes or goes: the labellings of the tiles that hold it
-    /// are mended when they are asked for; the ways of tiles that hold it or a point beside it are given up, all levels of rim
-    /// points, and where points drain. What is held serves on, for the mosaic as it was and as it becomes.
-    pub fn note_changed(&mut self, point: Point)
+    /// The height of the point may change from then on, to this one, in metres, but no sink comes or goes: the labellings of
+    /// the tiles that hold it are mended when they are asked for; the ways of tiles that hold it or a point beside it are given
+    /// up, and where points drain; and of the levels of rim points those that aren't below both heights of the point, nor above
+    /// both, or all where the height that it has isn't known. What is held serves on, for the mosaic as it was and as it becomes.
+    pub fn note_changed(&mut self, point: Point, to: i16)
         ensures left { IsNotedHeld point self.old self.new }
-        ensures right { (m new : Mosaic) → DifferAt m new point → IsHeldOf m self.old → IsHeldOf new self.new }
+        ensures right { (m new : Mosaic) → DifferAt m new point → IsSetTo m new point to → IsHeldOf m self.old → IsHeldOf new self.new }
     {
         self.forget_ways();
         let Some(mut waters) = self.waters.take() else {
             return;
         };
-        waters.note_changed(point);
+        waters.note_changed(point, to);
         self.waters = Some(waters);
     }
 

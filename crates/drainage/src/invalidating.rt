@@ -12,8 +12,8 @@ use lattice::Point;
 
 /// What the edit may make wrong of what is held isn't used any more: where heights are set, the labellings of the tiles that
 /// hold them are mended when they are asked for; of the tiles that hold a point that changes, or one beside it, the ways are
-/// given up, and the levels of all rim points; everything where a tile comes or goes. What is held then is right for the
-/// mosaic before and after the edit alike.
+/// given up, and the levels of rim points that may change; everything where a tile comes or goes. What is held then is right
+/// for the mosaic before and after the edit alike.
 pub fn forget_edit(held: &mut Held, edit: &Edit)
     ensures still { (m : Mosaic) → IsMosaic m → IsHeldOf m held.old → IsHeldOf m held.new }
     ensures changed { (m : Mosaic) → IsMosaic m → IsHeldOf m held.old → IsHeldOf (edit_made edit.now m) held.new }
@@ -38,7 +38,7 @@ fn forget_heights(held: &mut Held, heights: &[NewHeight])
     ensures kept { IsKeptBeyondHeights heights.now held.old held.new }
 {
     for height in heights {
-        held.note_changed(height.point);
+        held.note_changed(height.point, height.metres);
     }
 }
 

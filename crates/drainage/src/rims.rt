@@ -1,9 +1,10 @@
 //! The levels of rim points, as they were found.
-ghost use Rattle.std.specs.Prelude.{◌≡◌, ◌==◌, ◌⊎◌, ℕ, ℤ, Some, None, Contains, cond, OnOk, IfErr};
+ghost use Rattle.std.specs.Prelude.{◌≡◌, ◌==◌, ◌⊎◌, ◌↔◌, ◌<◌, ◌<ℤ◌, ℕ, ℤ, length, slice_set, Some, None, Contains, cond, IsTrue, IsFalse, IfSome, OnOk, IfErr};
 ghost use Rattle.lattice.specs.declared.refusal.Refusal.TheVariants.{NoMemory};
 ghost use Rattle.drainage.specs.Holding.{level_of};
+ghost use Rattle.drainage.specs.Spared.{IsSpared};
 
-use lattice::Refusal;
+use lattice::{Refusal, VOID};
 use std::alloc::Global;
 use std::marker::Model;
 
@@ -48,6 +49,35 @@ impl RimLevels {
         self.levels.clear();
     }
 
+    /// Gives up the levels that may change as a ground point gets another height, in metres, all where the height that it has
+    /// isn't known. Takes no memory.
+    pub(crate) fn forget_reached(&mut self, was: Option<i16>, is: i16)
+        ensures left { (x : ℕ) (level : ℤ) → level_of self.new x ≡ Some level → (level_of self.old x ≡ Some level) × IsSpared was is level }
+        ensures kept { (x : ℕ) (level : ℤ) → level_of self.old x ≡ Some level → IsSpared was is level → level_of self.new x ≡ Some level }
+    {
+        for x in 0..self.levels.len() {
+            if may_change(was, is, self.at(x)) {
+                self.forget_at(x);
+            }
+        }
+    }
+
+    // The level of the node with this number, where it is known.
+    fn at(&self, x: usize) -> Option<i16>
+        requires { x < length self.now }
+        ensures { result ≡ level_of self.now x }
+    {
+        self.levels[x]
+    }
+
+    // Gives up the level of the node with this number.
+    fn forget_at(&mut self, x: usize)
+        requires { x < length self.old }
+        ensures { self.new ≡ slice_set self.old x None }
+    {
+        self.levels[x] = None;
+    }
+
     /// Knows the level of the node from then on. NoMemory is the only refusal.
     pub(crate) fn know(&mut self, node: u32, level: i16) -> Result<(), Refusal>
         ensures known { OnOk result ((x : ℕ) → level_of self.new x ≡ cond (node == x) (Some level) (level_of self.old x)) }
@@ -72,4 +102,25 @@ impl RimLevels {
         }
         Ok(())
     }
+}
+
+// Whether the level, if there is one, may change as a ground point gets another height.
+fn may_change(was: Option<i16>, is: i16, level: Option<i16>) -> bool
+    ensures yes { IsTrue result → IfSome level (λ l. IsSpared was is l → ⊥) }
+    ensures no { IsFalse result → IfSome level (IsSpared was is) }
+{
+    let Some(level) = level else {
+        return false;
+    };
+    let Some(was) = was else {
+        return true;
+    };
+    is == VOID || !lies_apart(level, was, is)
+}
+
+// Whether the level is below both heights, or above both.
+fn lies_apart(level: i16, was: i16, is: i16) -> bool
+    ensures { IsTrue result ↔ (((level <ℤ was) × (level <ℤ is)) ⊎ ((was <ℤ level) × (is <ℤ level))) }
+{
+    level < was && level < is || was < level && is < level
 }

@@ -12,6 +12,7 @@ ghost use Rattle.drainage.specs.Shores.{told_at};
 ghost use Rattle.drainage.specs.Forgetting.{IsLeftOf, IsNotedOf};
 ghost use Rattle.drainage.specs.Holding.{IsRight, IsGrown};
 ghost use Rattle.drainage.specs.Reaching.{DifferAt, DifferBetween, is_reached};
+ghost use Rattle.drainage.specs.Spared.{IsSetTo};
 
 use crate::entered::Entered;
 use crate::filling::spot_of;
@@ -63,14 +64,16 @@ impl Waters {
         self.shores.forget_between(from, to);
     }
 
-    /// The height of the point may change from then on, of ground or of a void, and no sink: this is noted of the labellings
-    /// of the tiles that hold it, to be mended. Else as `forget_between` does.
-    pub(crate) fn note_changed(&mut self, point: Point)
+    /// The height of the point may change from then on, of ground or of a void, to this one, in metres, and no sink: this is
+    /// noted of the labellings of the tiles that hold it, to be mended; of the levels of rim points those are given up that may
+    /// change. Else as `forget_between` does.
+    pub(crate) fn note_changed(&mut self, point: Point, to: i16)
         ensures left { IsNotedOf (is_reached self.old.shores.side self.old.shores.corners.items point point) point (known_of self.old) (known_of self.new) }
-        ensures right { (m new : Mosaic) → DifferAt m new point → IsRight m (known_of self.old) → IsRight new (known_of self.new) }
+        ensures right { (m new : Mosaic) → DifferAt m new point → IsSetTo m new point to → IsRight m (known_of self.old) → IsRight new (known_of self.new) }
     {
-        self.levels.forget();
         let side = self.shores.side;
+        let was = self.entered.known_height(side, &self.shores.corners, point);
+        self.levels.forget_reached(was, to);
         self.entered.note_changed(side, &self.shores.corners, point);
         self.shores.forget_between(point, point);
     }

@@ -1,7 +1,10 @@
 //! What is held of a tile's labelling.
-ghost use Rattle.std.specs.Prelude.{◌≡◌, ◌⊎◌, IfErr, IfOk, IfSome, IsTrue};
+ghost use Rattle.std.specs.Prelude.{◌≡◌, ◌≢◌, ◌⊎◌, ◌*◌, ◌<◌, IfErr, IfOk, IfSome, IsTrue};
 ghost use Rattle.lattice.specs.Corners.{Corner};
-ghost use Rattle.lattice.specs.Mosaic.{Mosaic};
+ghost use Rattle.lattice.specs.Ground.{metres};
+ghost use Rattle.lattice.specs.Height.{height_of};
+ghost use Rattle.lattice.specs.Lattice.{point_of};
+ghost use Rattle.lattice.specs.Mosaic.{Mosaic, void};
 ghost use Rattle.lattice.specs.declared.refusal.Refusal.TheVariants.{NoMemory};
 ghost use Rattle.catalogue.specs.Readers.{OnlyReads, reads_of};
 ghost use Rattle.catalogue.specs.Reading.{MayRefuse};
@@ -34,6 +37,16 @@ impl TileLabelling {
         match self {
             TileLabelling::Kept(labelled) => labelled,
             TileLabelling::Flooded(flooded) => flooded.labelled(),
+        }
+    }
+
+    /// The height of the tile's point with this index, where it is ground and its height is known.
+    pub fn height_at(&self, index: u32) -> Option<i16>
+        ensures { IfSome result (λ h. (h ≢ void) × ((m : Mosaic) (c : Corner) → index < m.side * m.side → IsTileLabelling m c self.now → metres (height_of m (point_of m.side c index)) ≡ h)) }
+    {
+        match self {
+            TileLabelling::Kept(_) => None,
+            TileLabelling::Flooded(flooded) => flooded.height_at(index),
         }
     }
 

@@ -1,0 +1,268 @@
+-- A level below both heights of a point that changes, or above both, stays.
+use Rattle.std.proofs.Common.{◌≡◌, ◌≢◌, inl, inr, ℕ, ◌+◌, ◌*◌, ◌<◌, ◌≤◌, ℤ, pos, ◌-ℤ◌, ◌≤ℤ◌, ◌<ℤ◌, ◌⊎◌, Bool, true, false, ◌&&◌, ◌||◌, not, IsTrue, List, [], ◌∷◌, length, get_or, cond, refl, sym, ap, ap₂, ◌∙◌, subst, arith}
+use Rattle.std.specs.Prelude.{Option, Some, None, IfSome, slice_set, nat_lt, count_by, int_le}
+use Rattle.std.specs.Int.{int_max}
+use Rattle.std.proofs.Math.Path.{fun_ext}
+use Rattle.std.proofs.lemmas.Bool.{cases_Bool, cases_eq, cases_lt}
+use Rattle.std.proofs.lemmas.Int.{ints, clamps}
+use Rattle.std.proofs.lemmas.List.{get_or-set_same, get_or-set_other, get_or_past, length-set}
+use Rattle.lattice.specs.Corners.{Corner}
+use Rattle.lattice.specs.declared.direction.Dir.{Dir}
+use Rattle.lattice.specs.declared.height.Height.{Height}
+use Rattle.lattice.specs.declared.height.Height.TheVariants.{Outside, Void, At}
+use Rattle.lattice.specs.declared.point.Point.{Point}
+use Rattle.lattice.specs.Ground.{is_height, metres, is_ground, same_point, is_near, share_tile, is_adjacent, degree_of, is_sink, is_outlet, terrain}
+use Rattle.lattice.specs.Height.{height_of}
+use Rattle.lattice.specs.Lattice.{IsIndexOf, point_of}
+use Rattle.lattice.specs.Mosaic.{Mosaic, void}
+use Rattle.lattice.specs.RimPoints.{IsRimPoint}
+use Rattle.lattice.specs.Steps.{step, directions}
+use Rattle.lattice.specs.Terrain.{Terrain, IsPath, LeadsOut, IsFilledLevel, crest, end_of}
+use Rattle.lattice.proofs.IntTests.{le_true, le_false}
+use Rattle.lattice.proofs.Levels.{≤ℤ_same, ≤ℤ_antisym}
+use Rattle.border_graph.specs.Joining.{Rim}
+use Rattle.border_graph.specs.Linking.{node_number}
+use Rattle.border_graph.specs.Others.{corner_at}
+use Rattle.tile_labellings.specs.TileLabellings.{IsTileLabelling}
+use Rattle.tile_labellings.specs.declared.tile_labelling.TileLabelling.{TileLabelling}
+use Rattle.drainage.specs.Holding.{IsEntered, IsRimLevel, entered_at, level_of}
+use Rattle.drainage.specs.Reaching.{is_between, DifferAt}
+use Rattle.drainage.specs.Spared.{IsSpared, IsSetTo}
+use Rattle.drainage.proofs.Asked.{is_at}
+use Rattle.drainage.proofs.Reached.{between_itself}
+use Rattle.drainage.proofs.Unreached.{shared_still}
+
+-- ---- over two terrains whose heights lie at the same side of a level
+
+module _ {P : Type 0} (t u : Terrain P) (ground : (x : P) → u.is_ground x ≡ t.is_ground x) (adjacent : (x y : P) → u.is_adjacent x y ≡ t.is_adjacent x y) (outlet : (x : P) → u.is_outlet x ≡ t.is_outlet x) (v : ℤ)
+    (low : (x : P) → t.height x ≤ℤ v → u.height x ≤ℤ v) (under : (x : P) → u.height x <ℤ v → t.height x <ℤ v) where
+  path_there : (x : P) (rest : List P) → IsPath t x rest → IsPath u x rest
+  path_there x [] on = ground x ∙ on
+  path_there x (y ∷ rest) path = (adjacent x y ∙ path.0, path_there y rest path.1)
+
+  path_back : (x : P) (rest : List P) → IsPath u x rest → IsPath t x rest
+  path_back x [] on = sym (ground x) ∙ on
+  path_back x (y ∷ rest) path = (sym (adjacent x y) ∙ path.0, path_back y rest path.1)
+
+  crest_low : (x : P) (rest : List P) → crest t x rest ≤ℤ v → crest u x rest ≤ℤ v
+  crest_low x [] at = low x at
+  crest_low x (y ∷ rest) at =
+      let here : t.height x ≤ℤ v = omega (arith, ints, clamps) in
+      let later : crest t y rest ≤ℤ v = omega (arith, ints, clamps) in
+      let here' = low x here in
+      let later' = crest_low y rest later in
+      omega (arith, ints, clamps)
+
+  crest_under : (x : P) (rest : List P) → crest u x rest <ℤ v → crest t x rest <ℤ v
+  crest_under x [] at = under x at
+  crest_under x (y ∷ rest) at =
+      let here : u.height x <ℤ v = omega (arith, ints, clamps) in
+      let later : crest u y rest <ℤ v = omega (arith, ints, clamps) in
+      let here' = under x here in
+      let later' = crest_under y rest later in
+      omega (arith, ints, clamps)
+
+  same_end : (x : P) (rest : List P) → end_of u x rest ≡ end_of t x rest
+  same_end x [] = refl
+  same_end x (y ∷ rest) = same_end y rest
+
+  leads_there : (x : P) (rest : List P) → LeadsOut t x rest → LeadsOut u x rest
+  leads_there x rest out = record {
+    path = path_there x rest out.path;
+    outlet = subst (λ e. IsTrue (u.is_outlet e)) (sym (same_end x rest)) (outlet (end_of t x rest) ∙ out.outlet);
+  }
+
+  leads_back : (x : P) (rest : List P) → LeadsOut u x rest → LeadsOut t x rest
+  leads_back x rest out = record {
+    path = path_back x rest out.path;
+    outlet = sym (outlet (end_of t x rest)) ∙ subst (λ e. IsTrue (u.is_outlet e)) (same_end x rest) out.outlet;
+  }
+
+  high_or_less : (w : ℤ) → (v ≤ℤ w) ⊎ (w <ℤ v)
+  high_or_less w = elim (cases_Bool (int_le v w)) [
+    | inl high ↦ inl (le_true v w high)
+    | inr less ↦ inr (le_false v w less)
+  ]
+
+  not_under : (x : P) → ((rest : List P) → LeadsOut t x rest → v ≤ℤ crest t x rest) → (rest : List P) → LeadsOut u x rest → v ≤ℤ crest u x rest
+  not_under x least rest out = elim (high_or_less (crest u x rest)) [
+    | inl high ↦ high
+    | inr less ↦
+        let above = least rest (leads_back x rest out) in
+        let below = crest_under x rest less in
+        absurd (omega (arith, ints))
+  ]
+
+  pub level_stays : (x : P) → IsFilledLevel t x v → IsFilledLevel u x v
+  level_stays x is =
+      let rest = is.reached.0 in
+      let out = leads_there x rest is.reached.1.0 in
+      let low' : crest u x rest ≤ℤ v = crest_low x rest (subst (λ w. w ≤ℤ v) (sym is.reached.1.1) (≤ℤ_same v)) in
+      record { reached = (rest, (out, ≤ℤ_antisym (crest u x rest) v low' (not_under x is.least rest out))); least = not_under x is.least }
+
+-- ---- over two mosaics that differ in the height of one ground point
+
+module _ (m new : Mosaic) (p : Point) (differ : DifferAt m new p) (was is : ℤ) (before : height_of m p ≡ At was) (after : height_of new p ≡ At is) (v : ℤ) (spared : ((v <ℤ was) × (v <ℤ is)) ⊎ ((was <ℤ v) × (is <ℤ v))) where
+  -- a point is this one, or has the height that it had
+  this_or_same : (q : Point) → (p ≡ q) ⊎ (height_of new q ≡ height_of m q)
+  this_or_same q = elim (cases_Bool (is_between p p q)) [
+    | inl within ↦ inl (between_itself p q within)
+    | inr out ↦ inr (differ.around.heights q out)
+  ]
+
+  pub ground_still : (q : Point) → is_ground new q ≡ is_ground m q
+  ground_still q = elim (this_or_same q) [
+    | inl here ↦ ap is_height (ap (height_of new) (sym here) ∙ after) ∙ sym (ap is_height (ap (height_of m) (sym here) ∙ before))
+    | inr same ↦ ap is_height same
+  ]
+
+  adjacent_still : (q r : Point) → is_adjacent new q r ≡ is_adjacent m q r
+  adjacent_still q r =
+      ap₂ (λ (a b : Bool). a && b && not (same_point q r) && is_near q r && share_tile new q r) (ground_still q) (ground_still r)
+      ∙ ap (λ b. is_ground m q && is_ground m r && not (same_point q r) && is_near q r && b) (shared_still m new p p differ.around q r)
+
+  outlet_still : (q : Point) → is_outlet new q ≡ is_outlet m q
+  outlet_still q =
+      let degree : degree_of new q ≡ degree_of m q = ap (λ (f : Dir → Bool). count_by f directions) (fun_ext (λ d. adjacent_still q (step d q))) in
+      ap₂ (λ (a : Bool) (k : ℕ). a && (nat_lt k 8 || is_sink new q)) (ground_still q) degree ∙ ap (λ b. is_ground m q && (nat_lt (degree_of m q) 8 || b)) (differ.all_sinks q)
+
+  metres_before : (q : Point) → p ≡ q → metres (height_of m q) ≡ was
+  metres_before q here = ap metres (ap (height_of m) (sym here) ∙ before)
+
+  metres_after : (q : Point) → p ≡ q → metres (height_of new q) ≡ is
+  metres_after q here = ap metres (ap (height_of new) (sym here) ∙ after)
+
+  low_still : (q : Point) → metres (height_of m q) ≤ℤ v → metres (height_of new q) ≤ℤ v
+  low_still q low = elim (this_or_same q) [
+    | inl here ↦ subst (λ w. w ≤ℤ v) (sym (metres_after q here)) (low_here (subst (λ w. w ≤ℤ v) (metres_before q here) low) spared)
+    | inr same ↦ subst (λ (h : Height). metres h ≤ℤ v) (sym same) low
+  ]
+    where
+      low_here : was ≤ℤ v → ((v <ℤ was) × (v <ℤ is)) ⊎ ((was <ℤ v) × (is <ℤ v)) → is ≤ℤ v
+      low_here low (inl below) = let b = below.0 in absurd (omega (arith, ints))
+      low_here low (inr above) = let b = above.1 in omega (arith, ints)
+
+  under_still : (q : Point) → metres (height_of new q) <ℤ v → metres (height_of m q) <ℤ v
+  under_still q low = elim (this_or_same q) [
+    | inl here ↦ subst (λ w. w <ℤ v) (sym (metres_before q here)) (under_here (subst (λ w. w <ℤ v) (metres_after q here) low) spared)
+    | inr same ↦ subst (λ (h : Height). metres h <ℤ v) same low
+  ]
+    where
+      under_here : is <ℤ v → ((v <ℤ was) × (v <ℤ is)) ⊎ ((was <ℤ v) × (is <ℤ v)) → was <ℤ v
+      under_here low (inl below) = let b = below.1 in absurd (omega (arith, ints))
+      under_here low (inr above) = above.0
+
+  pub filled_still : (q : Point) → IsFilledLevel (terrain m) q v → IsFilledLevel (terrain new) q v
+  filled_still = level_stays (terrain m) (terrain new) ground_still adjacent_still outlet_still v low_still under_still
+
+-- a point that has a height in metres is ground
+ground_at : (h : Height) (was : ℤ) → metres h ≡ was → was ≢ void → h ≡ At was
+ground_at (At x) was is some = ap At is
+ground_at Outside was is some = absurd (some (sym is))
+ground_at Void was is some = absurd (some (sym is))
+
+-- the level of a rim point that is known, and spared
+module _ (m new : Mosaic) (p : Point) (differ : DifferAt m new p) where
+  rim_still : (was is : ℤ) → height_of m p ≡ At was → height_of new p ≡ At is → (corners : List Corner) (x : ℕ) (v : ℤ) → ((v <ℤ was) × (v <ℤ is)) ⊎ ((was <ℤ v) × (is <ℤ v)) → IsRimLevel m corners x v → IsRimLevel new corners x v
+  rim_still was is before after corners x v spared r =
+      let side : m.side ≡ new.side = sym differ.around.same_side in
+      let q = point_of m.side (corner_at corners r.tile) r.index in
+      let on : IsTrue (is_ground new q) = ground_still m new p differ was is before after v spared q ∙ r.on_ground in
+      let filled : IsFilledLevel (terrain new) q v = filled_still m new p differ was is before after v spared q r.filled in
+      record {
+        tile = r.tile;
+        number = r.number;
+        index = r.index;
+        node = r.node ∙ ap (λ n. node_number n (Rim r.tile r.number)) side;
+        place = r.place;
+        rim = subst (λ n. IsRimPoint n r.number r.index) side r.rim;
+        on_ground = subst (λ n. IsTrue (is_ground new (point_of n (corner_at corners r.tile) r.index))) side on;
+        filled = subst (λ n. IsFilledLevel (terrain new) (point_of n (corner_at corners r.tile) r.index) v) side filled;
+      }
+
+  -- the same height twice, or another
+  spared_twice : (was is v : ℤ) → ((v <ℤ was) × (v <ℤ is)) ⊎ ((was <ℤ v) × (is <ℤ v)) → ((v <ℤ was) × (v <ℤ was)) ⊎ ((was <ℤ v) × (was <ℤ v))
+  spared_twice was is v (inl below) = inl (below.0, below.0)
+  spared_twice was is v (inr above) = inr (above.0, above.0)
+
+  pub spared_level : (known : Option ℤ) (is : ℤ) → IfSome known (λ h. (h ≢ void) × (metres (height_of m p) ≡ h)) → IsSetTo m new p is → (corners : List Corner) (x : ℕ) (v : ℤ) → IsSpared known is v → IsRimLevel m corners x v → IsRimLevel new corners x v
+  spared_level None is known set corners x v spared r = absurd spared
+  spared_level (Some was) is known (inl same) corners x v spared r =
+      let before = ground_at (height_of m p) was known.1 known.0 in
+      rim_still was was before (same ∙ before) corners x v (spared_twice was is v spared.1) r
+  spared_level (Some was) is known (inr set) corners x v spared r =
+      let before = ground_at (height_of m p) was known.1 known.0 in
+      rim_still was is before (set spared.0 (ap is_height before)) corners x v spared.1 r
+
+-- ---- levels given up one by one
+
+pub record AreSpared (was : Option ℤ) (is : ℤ) (before : List (Option ℤ)) (k : ℕ) (now : List (Option ℤ)) : Type 0 where
+  pub whole : length now ≡ length before
+  pub left : (x : ℕ) (level : ℤ) → level_of now x ≡ Some level → (level_of before x ≡ Some level) × (x < k → IsSpared was is level)
+  pub kept : (x : ℕ) (level : ℤ) → level_of before x ≡ Some level → IsSpared was is level → level_of now x ≡ Some level
+
+none_is : (a : ℤ) → ◌≡◌ {A = Option ℤ} None (Some a) → ⊥
+none_is a e = cc
+
+module _ (was : Option ℤ) (is : ℤ) (before : List (Option ℤ)) where
+  pub none_seen : AreSpared was is before 0 before
+  none_seen = record { whole = refl; left = λ x level at. (at, λ below. absurd (omega arith)); kept = λ x level at _. at }
+
+  module _ (k : ℕ) (now : List (Option ℤ)) (o : Option ℤ) (at : level_of now k ≡ o) (so : AreSpared was is before k now) where
+    pub one_spared : IfSome o (IsSpared was is) → AreSpared was is before (k + 1) now
+    one_spared spared = record {
+      whole = so.whole;
+      left = λ x level there. (
+        (so.left x level there).0,
+        λ below. elim (cases_eq x k) [
+          | inl here ↦ subst (λ (p : Option ℤ). IfSome p (IsSpared was is)) (sym at ∙ (ap (level_of now) (sym here) ∙ there)) spared
+          | inr other ↦ (so.left x level there).1 (omega arith)
+        ],
+      );
+      kept = so.kept;
+    }
+
+    pub one_given_up : k < length now → IfSome o (λ l. IsSpared was is l → ⊥) → AreSpared was is before (k + 1) (slice_set now k None)
+    one_given_up inside gone = record {
+      whole = length-set now k None ∙ so.whole;
+      left = λ x level there. elim (cases_eq x k) [
+        | inl here ↦ absurd (none_is level (sym (get_or-set_same now k None None inside) ∙ (ap (level_of (slice_set now k None)) (sym here) ∙ there)))
+        | inr other ↦
+            let was_there = so.left x level (sym (get_or-set_other now k x None None other) ∙ there) in
+            (was_there.0, λ below. was_there.1 (omega arith))
+      ];
+      kept = λ x level there spared. elim (cases_eq x k) [
+        | inl here ↦
+            let now_there = so.kept x level there spared in
+            absurd (subst (λ (q : Option ℤ). IfSome q (λ l. IsSpared was is l → ⊥)) (sym at ∙ (ap (level_of now) (sym here) ∙ now_there)) gone spared)
+        | inr other ↦ get_or-set_other now k x None None other ∙ so.kept x level there spared
+      ];
+    }
+
+  pub all_seen : (k : ℕ) (now : List (Option ℤ)) → length now ≤ k → AreSpared was is before k now → (x : ℕ) (level : ℤ) → level_of now x ≡ Some level → (level_of before x ≡ Some level) × IsSpared was is level
+  all_seen k now end so x level there = elim (cases_lt x (length now)) [
+    | inl below ↦ let seen = so.left x level there in (seen.0, seen.1 (omega arith))
+    | inr past ↦ absurd (none_is level (sym (get_or_past now x None past) ∙ there))
+  ]
+
+-- ---- heights that are known
+
+known_by : (o : Option ℤ) (A B : ℤ → Type 0) → ((h : ℤ) → A h → B h) → IfSome o (λ h. (h ≢ void) × A h) → IfSome o (λ h. (h ≢ void) × B h)
+known_by None A B then_ known = tt
+known_by (Some h) A B then_ known = (known.0, then_ h known.1)
+
+-- by the block of a tile that holds the point
+pub height_in_tile : (n : ℕ) (c d : Corner) → c ≡ d → (p : Point) (e : ℕ) → IsIndexOf n d p e → (entered : List (Option TileLabelling)) (t : ℕ) (labelling : TileLabelling) → entered_at entered t ≡ Some labelling → (o : Option ℤ)
+    → IfSome o (λ h. (h ≢ void) × ((m : Mosaic) (x : Corner) → e < m.side * m.side → IsTileLabelling m x labelling → metres (height_of m (point_of m.side x e)) ≡ h))
+    → IfSome o (λ h. (h ≢ void) × ((m : Mosaic) → m.side ≡ n → IsEntered m c entered t → metres (height_of m p) ≡ h))
+height_in_tile n c d same p e index entered t labelling at o known =
+    known_by o (λ h. (m : Mosaic) (x : Corner) → e < m.side * m.side → IsTileLabelling m x labelling → metres (height_of m (point_of m.side x e)) ≡ h) (λ h. (m : Mosaic) → m.side ≡ n → IsEntered m c entered t → metres (height_of m p) ≡ h)
+    (λ h says m side right.
+    let here = is_at m c n p e (sym side) (subst (λ x. IsIndexOf n x p e) (sym same) index) in
+    subst (λ (q : Point). metres (height_of m q) ≡ h) here.point (says m c here.below (right labelling at))) known
+
+-- .. of one of the tiles that are held
+pub known_here : (m : Mosaic) (p : Point) (side : ℕ) (corners : List Corner) (entered : List (Option TileLabelling)) (o : Option ℤ) → m.side ≡ side → ((t : ℕ) → IsEntered m (corner_at corners t) entered t)
+    → IfSome o (λ h. (h ≢ void) × ((x : Mosaic) → x.side ≡ side → ((t : ℕ) → IsEntered x (corner_at corners t) entered t) → metres (height_of x p) ≡ h)) → IfSome o (λ h. (h ≢ void) × (metres (height_of m p) ≡ h))
+known_here m p side corners entered o same right known =
+    known_by o (λ h. (x : Mosaic) → x.side ≡ side → ((t : ℕ) → IsEntered x (corner_at corners t) entered t) → metres (height_of x p) ≡ h) (λ h. metres (height_of m p) ≡ h) (λ h says. says m same right) known
