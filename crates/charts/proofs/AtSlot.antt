@@ -18,14 +18,14 @@ use Rattle.charts.specs.declared.staged.Staged.TheVariants.{Tile, Removed}
 use Rattle.charts.specs.Locations.{times, pages_behind, pages_of_plane}
 use Rattle.charts.specs.FreePages.{free_times, heights_pages, AreInUse}
 use Rattle.charts.specs.TileLocations.{TileLocation, reached, pages_of_kept}
-use Rattle.charts.specs.Charts.{IsLocated, HasFreshHeights, IsFresh, IsWholeTile, IsRewritten, tile_at, is_at, without_location}
+use Rattle.charts.specs.Charts.{ChartValue, IsLocated, HasFreshHeights, IsFresh, IsWholeTile, IsRewritten, tile_at, is_at, without_location}
 use Rattle.charts.specs.Slots.{committed_tile, staged_as, staged_tile, committed_tiles, staged_tiles, fresh_heights, fresh_kept, fresh_pages, used_pages, pages_of_location, is_filled_as, stages_heights, stages_heights_as, fresh_as, HasRoom, IsSound, IsSlotAt, IsRoomAt, IsKept, chart_of, IsRestaged, IsPageRestaged}
 use Rattle.charts.specs.StagedPlanes.{kept_as}
 use Rattle.charts.proofs.Times.{one-self, times-append, member_of_times}
 use Rattle.charts.proofs.FreeTimes.{page_le}
 use Rattle.charts.proofs.Room.{plane_few, room_for_heights}
 use Rattle.charts.proofs.SlotLists.{corner_of, times-split, reached_all, slot_in_use}
-use Rattle.charts.proofs.SlotChanges.{all_middle, kept_change, same_committed, chart_changed, staged_without, slot_fresh, rewritten, rewritten_kept}
+use Rattle.charts.proofs.SlotChanges.{all_middle, kept_change, same_committed, chart_changed, staged_without, slot_fresh, kept_unchanged, rewritten, rewritten_kept}
 use Rattle.charts.proofs.Lookup.{split_of, not_located, located_here, tile_is, tile_here, room_other}
 
 pub heights_le : (p : ℕ) (c : Corner) (o : Option TilePlanes) → times p (heights_pages o) ≤ times p (pages_of_location (option_map (tile_at c) o))
@@ -117,8 +117,15 @@ module _ (format : Format) (slots : List Slot) (free : FreePages) (kept : IsKept
     pub set_is : set slots at new ≡ before ++ new ∷ after
     set_is = set_split slots at new found.below
 
-    kept_as_set : IsKept format (before ++ new ∷ after) now → IsKept format (set slots at new) now
+    pub kept_as_set : IsKept format (before ++ new ∷ after) now → IsKept format (set slots at new) now
     kept_as_set k = subst (λ (l : List Slot). IsKept format l now) (sym set_is) k
+
+    -- what holds of the charts where the slot is in the middle holds of them
+    pub at_chart : (P : Corner → ChartValue → ChartValue → Type 0) → P s.corner (chart_of format (before ++ s ∷ after) free) (chart_of format (before ++ new ∷ after) now) → P c (chart_of format slots free) (chart_of format (set slots at new) now)
+    at_chart P here =
+        subst (λ (l : List Slot). P c (chart_of format l free) (chart_of format (set slots at new) now)) (sym split)
+        (subst (λ (l : List Slot). P c (chart_of format (before ++ s ∷ after) free) (chart_of format l now)) (sym set_is)
+        (subst (λ (d : Corner). P d (chart_of format (before ++ s ∷ after) free) (chart_of format (before ++ new ∷ after) now)) corner here))
 
     module _ (i : ℕ) (r : Result ℕ Refusal) (staged : IfOk r (λ page. IsPageRestaged i page s new)) (restaged : IsRestaged s new free now) (same_kept : fresh_kept new ≡ fresh_kept s) (unchanged : OnErr r (new ≡ s)) where
       pub kept_rewritten : IsKept format (set slots at new) now
@@ -126,21 +133,13 @@ module _ (format : Format) (slots : List Slot) (free : FreePages) (kept : IsKept
         where
           by : (q : Result ℕ Refusal) → IfOk q (λ page. IsPageRestaged i page s new) → OnErr q (new ≡ s) → IsKept format (before ++ new ∷ after) now
           by (Ok page) staged same = rewritten_kept format before s new after free now kept_there i page staged restaged same_kept
-          by (Err refusal) staged same =
-              kept_change format before s new after free now kept_there restaged.corner (same_committed s new restaged.corner restaged.committed)
-              (subst (λ (x : Slot). IsSound format x) (sym same) sound)
-              (subst (λ (x : Slot). length (staged_tiles (before ++ x ∷ after)) ≤ format.capacity) (sym same) kept_there.staged_room)
-              (let alike = ap length same_kept in omega (arith, alike)) restaged.same_range restaged.each
+          by (Err refusal) staged same = kept_unchanged format before s new after free now kept_there restaged same
 
       pub is_rewritten : IfOk r (λ page. IsRewritten c i page (chart_of format slots free) (chart_of format (set slots at new) now))
       is_rewritten = by r staged
         where
           by : (q : Result ℕ Refusal) → IfOk q (λ page. IsPageRestaged i page s new) → IfOk q (λ page. IsRewritten c i page (chart_of format slots free) (chart_of format (set slots at new) now))
-          by (Ok page) staged =
-              subst (λ (l : List Slot). IsRewritten c i page (chart_of format l free) (chart_of format (set slots at new) now)) (sym split)
-              (subst (λ (l : List Slot). IsRewritten c i page (chart_of format (before ++ s ∷ after) free) (chart_of format l now)) (sym set_is)
-              (subst (λ (d : Corner). IsRewritten d i page (chart_of format (before ++ s ∷ after) free) (chart_of format (before ++ new ∷ after) now)) corner
-              (rewritten format before s new after free now kept_there i page staged restaged same_kept)))
+          by (Ok page) staged = at_chart (λ (d : Corner) (x y : ChartValue). IsRewritten d i page x y) (rewritten format before s new after free now kept_there i page staged restaged same_kept)
           by (Err refusal) staged = tt
 
   -- ---- a tile taken out

@@ -1,5 +1,5 @@
 -- What a chart is once one slot has changed.
-use Rattle.std.proofs.Common.{◌≡◌, ℕ, suc, ◌+◌, ◌*◌, ◌/◌, ◌≤◌, true, false, cond, not, IsTrue, List, [], ◌∷◌, ◌++◌, length, map, refl, sym, ap, subst, ◌∙◌, arith}
+use Rattle.std.proofs.Common.{◌≡◌, ℕ, suc, ◌+◌, ◌*◌, ◌/◌, ◌≤◌, true, false, cond, if◌then◌else◌, not, IsTrue, List, [], ◌∷◌, ◌++◌, length, map, refl, sym, ap, subst, ◌∙◌, arith}
 use Rattle.std.specs.Prelude.{Option, Some, None, IfSome, option_map}
 use Rattle.std.specs.List.{cons_option, flat_map, AllByRecursion}
 use Rattle.std.proofs.lemmas.List.{length-append, length-set}
@@ -15,10 +15,10 @@ use Rattle.charts.specs.declared.slot.Slot.{Slot}
 use Rattle.charts.specs.declared.staged.Staged.{Staged}
 use Rattle.charts.specs.declared.staged.HeightsStaged.TheVariants as of_heights
 use Rattle.charts.specs.declared.staged.Staged.TheVariants.{Tile, Removed}
-use Rattle.charts.specs.Locations.{times}
+use Rattle.charts.specs.Locations.{moved_plane, times}
 use Rattle.charts.specs.FreePages.{free_times}
 use Rattle.charts.specs.TileLocations.{TileLocation}
-use Rattle.charts.specs.Charts.{ChartValue, IsFresh, IsWholeTile, IsRewritten, is_at, tile_at, with_page_location_in, with_page_location, without_location}
+use Rattle.charts.specs.Charts.{ChartValue, IsFresh, IsWholeTile, IsRewritten, is_at, tile_at, without_location}
 use Rattle.charts.specs.Slots.{committed_tile, staged_as, staged_tile, committed_tiles, staged_tiles, fresh_kept, fresh_pages, pages_of_location, is_filled_as, IsSound, AreCounted, IsKept, chart_of, IsRestaged, IsPageRestaged}
 use Rattle.charts.proofs.Times.{times-append}
 use Rattle.charts.proofs.SlotLists.{times-split, counted_change, corner_of, rising_change, AllBefore, rising_before, rising_after, staged_own}
@@ -181,49 +181,72 @@ chart_changed format before s new after free now total same tiles staged =
     ∙ (ap (λ (l : List TileLocation). chart free.range.sectors l (staged_tiles (before ++ new ∷ after))) (same_committed_tiles before s new after same)
     ∙ ap (λ (l : List TileLocation). chart free.range.sectors (committed_tiles (before ++ s ∷ after)) l) staged)
 
--- ---- a page that may be written
-module _ (format : Format) (before : List Slot) (s new : Slot) (after : List Slot) (free now : FreePages) (is : IsKept format (before ++ s ∷ after) free)
-    (i page : ℕ) (staged : IsPageRestaged i page s new) (restaged : IsRestaged s new free now) (same_kept : fresh_kept new ≡ fresh_kept s) where
+-- ---- a slot that is the same, beside other free pages
+pub kept_unchanged : (format : Format) (before : List Slot) (s new : Slot) (after : List Slot) (free now : FreePages) → IsKept format (before ++ s ∷ after) free → IsRestaged s new free now → new ≡ s → IsKept format (before ++ new ∷ after) now
+kept_unchanged format before s new after free now is restaged same =
+    kept_change format before s new after free now is restaged.corner (same_committed s new restaged.corner restaged.committed)
+    (subst (λ (x : Slot). IsSound format x) (sym same) (all_middle (IsSound format) before s after is.sound))
+    (subst (λ (x : Slot). length (staged_tiles (before ++ x ∷ after)) ≤ format.capacity) (sym same) is.staged_room)
+    (let alike = ap (λ (x : Slot). length (fresh_kept x)) same in omega (arith, alike)) restaged.same_range restaged.each
+
+-- ---- a slot whose staged tile is another
+module _ (format : Format) (before : List Slot) (s new : Slot) (after : List Slot) (free now : FreePages) (is : IsKept format (before ++ s ∷ after) free) (restaged : IsRestaged s new free now)
+    (tile : TileLocation) (made : TileLocation → TileLocation) (had : staged_tile s ≡ Some tile) (has : staged_tile new ≡ Some (made tile)) where
+  abbrev made_in : TileLocation → TileLocation
+  made_in u = if is_at s.corner u then made u else u
+
   rising : Rising corner_of (before ++ s ∷ after)
   rising = rising_from corner_of (before ++ s ∷ after) is.in_order
 
-  abbrev rewrite : TileLocation → TileLocation
-  rewrite = with_page_location_in s.corner i page staged.index_page staged.record_page
+  made_other : (u : TileLocation) → is_at s.corner u ≡ false → made_in u ≡ u
+  made_other u other = ap (λ b. if b then made u else u) other
 
-  rewrite_other : (u : TileLocation) → is_at s.corner u ≡ false → rewrite u ≡ u
-  rewrite_other u other = rw other refl
+  made_here : made tile ≡ made_in tile
+  made_here = sym (ap (λ b. if b then made tile else tile) (staged_at before s after rising tile had))
 
-  rewrite_here : staged_tile new ≡ Some (rewrite staged.tile)
-  rewrite_here = staged.has ∙ ap Some (sym (rw (staged_at before s after rising staged.tile staged.had) refl))
-
-  pub rewritten_tiles : staged_tiles (before ++ new ∷ after) ≡ with_page_location s.corner i page staged.index_page staged.record_page (staged_tiles (before ++ s ∷ after))
-  rewritten_tiles = staged_mapped before s after rising staged.tile staged.had rewrite rewrite_other new rewrite_here
+  made_tiles : staged_tiles (before ++ new ∷ after) ≡ map made_in (staged_tiles (before ++ s ∷ after))
+  made_tiles = staged_mapped before s after rising tile had made_in made_other new (has ∙ ap Some made_here)
 
   was : IsSound format s
   was = all_middle (IsSound format) before s after is.sound
 
-  whole : IsWholeTile format staged.tile
-  whole = let there : IfSome (Some staged.tile) (IsWholeTile format) = subst (λ (o : Option TileLocation). IfSome o (IsWholeTile format)) staged.had was.staged in there
+  pub was_whole : IsWholeTile format tile
+  was_whole = let there : IfSome (Some tile) (IsWholeTile format) = subst (λ (o : Option TileLocation). IfSome o (IsWholeTile format)) had was.staged in there
 
-  sound_now : IsSound format new
-  sound_now =
-      record {
+  pub made_kept : IsWholeTile format (made tile) → length (flat_map fresh_kept (before ++ new ∷ after)) ≤ 2 * plane_pages_of format → IsKept format (before ++ new ∷ after) now
+  made_kept whole room =
+      kept_change_within format before s new after free now is restaged.corner (same_committed s new restaged.corner restaged.committed)
+      (record {
         corner = subst (λ (d : Corner). IsTrue (is_corner d)) (sym restaged.corner) was.corner;
         committed = subst (λ (o : Option TileLocation). IfSome o (IsWholeTile format)) (sym (same_committed s new restaged.corner restaged.committed)) was.committed;
-        staged = subst (λ (o : Option TileLocation). IfSome o (IsWholeTile format)) (sym staged.has) (record {
-          heights = record {
-            index_pages = length-set staged.tile.heights.index_pages (i / 1024) staged.index_page ∙ whole.heights.index_pages;
-            pages = length-set staged.tile.heights.pages i page ∙ whole.heights.pages;
-          };
-          kept = whole.kept;
-        });
-        filled = filled_from new _ staged.has;
-      }
+        staged = subst (λ (o : Option TileLocation). IfSome o (IsWholeTile format)) (sym has) whole;
+        filled = filled_from new _ has;
+      })
+      (rw made_tiles (rw (length-map made_in (staged_tiles (before ++ s ∷ after))) is.staged_room)) room restaged.same_range restaged.each
+
+  pub made_chart : chart_of format (before ++ new ∷ after) now ≡ record (chart_of format (before ++ s ∷ after) free) { staged = map made_in (staged_tiles (before ++ s ∷ after)) }
+  made_chart = chart_changed format before s new after free now restaged.same_range (same_committed s new restaged.corner restaged.committed) _ made_tiles
+
+-- .. with a page that may be written
+module _ (format : Format) (before : List Slot) (s new : Slot) (after : List Slot) (free now : FreePages) (is : IsKept format (before ++ s ∷ after) free)
+    (i page : ℕ) (staged : IsPageRestaged i page s new) (restaged : IsRestaged s new free now) (same_kept : fresh_kept new ≡ fresh_kept s) where
+  abbrev rewrite : TileLocation → TileLocation
+  rewrite t = record t { heights = moved_plane i page staged.index_page staged.record_page t.heights }
+
+  whole : IsWholeTile format staged.tile
+  whole = was_whole format before s new after free now is restaged staged.tile rewrite staged.had staged.has
 
   pub rewritten_kept : IsKept format (before ++ new ∷ after) now
   rewritten_kept =
-      kept_change format before s new after free now is restaged.corner (same_committed s new restaged.corner restaged.committed) sound_now
-      (rw rewritten_tiles (rw (length-map rewrite (staged_tiles (before ++ s ∷ after))) is.staged_room)) (let same = ap length same_kept in omega (arith, same)) restaged.same_range restaged.each
+      made_kept format before s new after free now is restaged staged.tile rewrite staged.had staged.has
+      (record {
+        heights = record {
+          index_pages = length-set staged.tile.heights.index_pages (i / 1024) staged.index_page ∙ whole.heights.index_pages;
+          pages = length-set staged.tile.heights.pages i page ∙ whole.heights.pages;
+        };
+        kept = whole.kept;
+      })
+      (let same = ap length same_kept in omega (arith, is.kept_room, no_more_kept before s new after (omega (arith, same))))
 
   pub rewritten : IsRewritten s.corner i page (chart_of format (before ++ s ∷ after) free) (chart_of format (before ++ new ∷ after) now)
   rewritten = record {
@@ -232,5 +255,5 @@ module _ (format : Format) (before : List Slot) (s new : Slot) (after : List Slo
     fresh_record = slot_fresh format before new after now rewritten_kept.counted staged.record_page staged.fresh_record;
     fresh_index = λ below. slot_fresh format before new after now rewritten_kept.counted staged.index_page (staged.fresh_index (omega (arith, below, whole.heights.index_pages)));
     fresh_page = slot_fresh format before new after now rewritten_kept.counted page staged.fresh_page;
-    changed = chart_changed format before s new after free now restaged.same_range (same_committed s new restaged.corner restaged.committed) _ rewritten_tiles;
+    changed = made_chart format before s new after free now is restaged staged.tile rewrite staged.had staged.has;
   }
