@@ -1,11 +1,10 @@
 -- Levels and labels of a tile that were written whole are staged.
-use Rattle.std.proofs.Common.{◌≡◌, ℕ, zero, suc, ◌<◌, ◌≤◌, Bool, true, false, not, inl, inr, if◌then◌else◌, List, [], ◌∷◌, ◌++◌, All, Contains, get_or, map, refl, sym, ap, ap₂, ◌∙◌, subst, arith}
+use Rattle.std.proofs.Common.{◌≡◌, ℕ, ◌<◌, ◌≤◌, Bool, true, false, not, inl, inr, if◌then◌else◌, List, [], ◌∷◌, ◌++◌, All, Contains, get_or, map, refl, sym, ap, ap₂, ◌∙◌, subst, arith}
 use Rattle.std.specs.Prelude.{Option, Some, None}
 use Rattle.std.proofs.lemmas.Bool.{cases_eq}
 use Rattle.std.proofs.lemmas.List.Elements.{Contains-get_or}
 use Rattle.disk.specs.Disk.{Image}
 use Rattle.lattice.specs.Corners.{Corner}
-use Rattle.lattice.proofs.CornerOrder.{same_from}
 use Rattle.page_codec.specs.Formats.{Format}
 use Rattle.charts.specs.declared.locations.KeptLocations.{KeptLocations}
 use Rattle.charts.specs.Charts.{ChartValue, IsChart, IsClean, IsFresh, IsLocated, HasKept, AreKept, AreWholeKept, is_at, is_unreached, with_kept_locations}
@@ -18,6 +17,8 @@ use Rattle.cow_tree.specs.Layout.{kept_in, tile_in}
 use Rattle.cow_tree.specs.Staged.{AreListedBy, AreStaged, IsListedBy}
 use Rattle.cow_tree.specs.Stored.{KeptPlanes, PlanePages, StoredTile}
 use Rattle.cow_tree.proofs.Adding.{still_records}
+use Rattle.cow_tree.proofs.CornerChanges.{tile_changed}
+use Rattle.cow_tree.proofs.Due.{located_tile}
 use Rattle.cow_tree.proofs.Counting.{all_at_times, all_of_fewer, at_times, times_among}
 use Rattle.cow_tree.proofs.KeptDrops.{other_stays}
 use Rattle.cow_tree.proofs.Staging.{unreached_test}
@@ -26,18 +27,9 @@ use Rattle.cow_tree.proofs.Tiles.{one_at_corner}
 
 -- the corner's tile has them
 kept_tile : (c : Corner) (k : KeptLocations) (tiles : List TileLocation) → IsLocated c tiles → HasKept c k (with_kept_locations c k tiles)
-kept_tile c k [] (i, lt, here) = absurd (omega (arith, lt))
-kept_tile c k (t ∷ rest) (zero, lt, here) = (
-  record t { kept = Some k },
-  (
-    (0, omega arith, ap (λ (v : Bool). if v then record t { kept = Some k } else t) (same_from t.corner c here)),
-    here,
-    refl,
-  ),
-)
-kept_tile c k (t ∷ rest) (suc i, lt, here) =
-    let later = kept_tile c k rest (i, omega arith, here) in
-    (later.0, ((suc later.1.0.0, omega (arith, later.1.0.1), later.1.0.2), later.1.1, later.1.2))
+kept_tile c k tiles located =
+    let found = located_tile c tiles located in
+    (record (found.0) { kept = Some k }, (tile_changed c (λ t. record t { kept = Some k }) (λ t. refl) tiles found.0 found.1.0 found.1.1, found.1.1, refl))
 
 -- what stands there
 kept_tiles : (c : Corner) (k : KeptLocations) (planes : KeptPlanes) (a b : Image) (tiles : List TileLocation) → kept_in b (Some k) ≡ Some planes → SameOn (reached tiles) a b
@@ -144,5 +136,5 @@ module _ (old new : ChartValue) (c : Corner) (rules : IsChart new) (was : IsChar
     kept_stays format staged =
         subst (λ (tiles : List TileLocation). AreStaged format tiles new.staged b) (sym committed_is)
         (subst (λ (tiles : List TileLocation). AreStaged format old.committed tiles b) (sym staged_is)
-        (other_stays format old.committed c (Some anew.locations) b (subst (λ (l : KeptLocations). AreListedBy format old.committed b l) (sym (locations_are k had)) (listed k had format b)) old.staged
+        (other_stays c (Some anew.locations) format old.committed b (subst (λ (l : KeptLocations). AreListedBy format old.committed b l) (sym (locations_are k had)) (listed k had format b)) old.staged
         (still_records format old.committed old.staged a b same staged)))

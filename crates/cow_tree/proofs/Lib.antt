@@ -20,6 +20,7 @@ pub mod Indexed
 pub mod ReadTiles
 pub mod Opened
 pub mod Adding
+pub mod CornerChanges
 pub mod Due
 pub mod Prepared
 pub mod KeptDrops

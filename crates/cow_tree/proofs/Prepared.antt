@@ -1,14 +1,14 @@
 -- Heights staged as they are: what the tiles store stays.
 use Rattle.std.proofs.Common.{◌≡◌, ℕ, Bool, true, false, not, if◌then◌else◌, List, [], ◌∷◌, Contains, map, refl, sym, ap, ap₂, subst, ◌∙◌}
-use Rattle.std.proofs.lemmas.List.Elements.{All-map, All-weaker}
 use Rattle.disk.specs.Disk.{Image}
 use Rattle.lattice.specs.Corners.{Corner}
 use Rattle.page_codec.specs.Formats.{Format}
 use Rattle.charts.specs.TileLocations.{TileLocation, reached}
 use Rattle.cow_tree.specs.Layout.{tile_in}
-use Rattle.charts.specs.Charts.{ChartValue, IsPrepared, is_at, corners_of_locations, with_record_in, with_record}
+use Rattle.charts.specs.Charts.{ChartValue, IsPrepared, is_at, corners_of_locations, with_record}
 use Rattle.cow_tree.specs.Staged.{AreStaged, IsTileListed}
 use Rattle.cow_tree.specs.Stored.{StoredTile}
+use Rattle.cow_tree.proofs.CornerChanges.{all_changed, corners_still}
 use Rattle.cow_tree.proofs.Staging.{unreached_test}
 
 pub prepared_tiles : (c : Corner) (r : ℕ) (image : Image) (tiles : List TileLocation) → map (tile_in image) (with_record c r tiles) ≡ map (tile_in image) tiles
@@ -19,28 +19,21 @@ prepared_tiles c r image (t ∷ rest) = ap₂ (λ (x : StoredTile) (xs : List St
     by_test true = refl
     by_test false = refl
 
+abbrev prepared : ℕ → TileLocation → TileLocation
+prepared r t = record t { heights = record (t.heights) { record_page = r } }
+
 pub prepared_corners : (c : Corner) (r : ℕ) (tiles : List TileLocation) → corners_of_locations (with_record c r tiles) ≡ corners_of_locations tiles
-prepared_corners c r [] = refl
-prepared_corners c r (t ∷ rest) = ap₂ (λ (x : Corner) (xs : List Corner). x ∷ xs) (by_test (is_at c t)) (prepared_corners c r rest)
-  where
-    by_test : (v : Bool) → (if v then record t { heights = record (t.heights) { record_page = r } } else t).corner ≡ t.corner
-    by_test true = refl
-    by_test false = refl
+prepared_corners c r = corners_still c (prepared r) (λ t. refl)
 
 module _ (format : Format) (committed : List TileLocation) (c : Corner) (r : ℕ) (image : Image) (unreached : ¬ Contains (reached committed) r) where
-  tile_stays : (t : TileLocation) → IsTileListed format committed image t → IsTileListed format committed image (with_record_in c r t)
-  tile_stays t had = by_test (is_at c t)
-    where
-      by_test : (v : Bool) → IsTileListed format committed image (if v then record t { heights = record (t.heights) { record_page = r } } else t)
-      by_test true = record {
-        heights = record { listed = λ shared. absurd (let no : true ≡ false = sym (ap not (unreached_test r (reached committed) unreached)) ∙ shared in cc); indexed = had.heights.indexed };
-        kept = had.kept;
-      }
-      by_test false = had
+  tile_stays : (t : TileLocation) → IsTileListed format committed image t → IsTileListed format committed image (prepared r t)
+  tile_stays t had = record {
+    heights = record { listed = λ shared. absurd (let no : true ≡ false = sym (ap not (unreached_test r (reached committed) unreached)) ∙ shared in cc); indexed = had.heights.indexed };
+    kept = had.kept;
+  }
 
   prepared_stays : (tiles : List TileLocation) → AreStaged format committed tiles image → AreStaged format committed (with_record c r tiles) image
-  prepared_stays tiles had =
-      All-map (IsTileListed format committed image) (with_record_in c r) tiles (All-weaker (IsTileListed format committed image) (λ t. IsTileListed format committed image (with_record_in c r t)) tile_stays tiles had)
+  prepared_stays tiles = all_changed c (prepared r) (λ t. refl) (IsTileListed format committed image) tiles tile_stays
 
 pub still_prepared : (format : Format) (old new : ChartValue) (c : Corner) (image : Image) → IsPrepared c old new → AreStaged format old.committed old.staged image → AreStaged format new.committed new.staged image
 still_prepared format old new c image prepared had =

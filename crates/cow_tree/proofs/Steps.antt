@@ -1,5 +1,5 @@
 -- The steps of staging and of a commit, over charts and images.
-use Rattle.std.proofs.Common.{◌≡◌, ℕ, ◌/◌, ◌<◌, ◌≤◌, ◌==◌, Bool, true, false, if◌then◌else◌, Result, Ok, Err, OnOk, OnErr, List, [], ◌∷◌, All, Contains, length, map, refl, sym, ap, ap₂, ◌∙◌, subst, arith}
+use Rattle.std.proofs.Common.{◌≡◌, ℕ, ◌/◌, ◌<◌, ◌≤◌, ◌==◌, Bool, true, false, Result, Ok, Err, OnOk, OnErr, List, All, Contains, length, map, refl, sym, ap, ◌∙◌, subst, arith}
 use Rattle.std.specs.Prelude.{IfErr, IsErrOf}
 use Rattle.std.specs.List.{list_any}
 use Rattle.std.proofs.lemmas.List.Elements.{All-weaker}
@@ -16,9 +16,10 @@ use Rattle.roots.specs.Slots.{SamePagesBut, KeepsBut}
 use Rattle.charts.specs.TileLocations.{TileLocation, reached}
 use Rattle.cow_tree.specs.Layout.{tile_in, StoresAt, Stands}
 use Rattle.charts.specs.Locations.{moved_plane, times}
-use Rattle.charts.specs.Charts.{ChartValue, IsChart, IsRewritten, IsLocated, IsWholeTile, is_at, corners_of_locations, with_page_location}
+use Rattle.charts.specs.Charts.{ChartValue, IsChart, IsRewritten, IsLocated, IsWholeTile, corners_of_locations, with_page_location}
 use Rattle.cow_tree.specs.Staged.{AreStaged}
 use Rattle.cow_tree.specs.Stored.{Stored, with_page}
+use Rattle.cow_tree.proofs.CornerChanges.{corners_still}
 use Rattle.cow_tree.proofs.Standing.{stores_kept_but}
 use Rattle.cow_tree.proofs.Staging.{IsWrittenAt, written_tiles, staged_pages, still_staged, unreached_test}
 use Rattle.cow_tree.proofs.Tiles.{located_is}
@@ -30,13 +31,7 @@ ok_where_works (Err e) failed err works ok = absurd (let no : true ≡ false = s
 
 -- the same corners
 pub corners_same : (c : Corner) (i p x r : ℕ) (tiles : List TileLocation) → corners_of_locations (with_page_location c i p x r tiles) ≡ corners_of_locations tiles
-corners_same c i p x r [] = refl
-corners_same c i p x r (t ∷ rest) =
-    ap₂ (λ (x : Corner) (xs : List Corner). x ∷ xs) (by_test (is_at c t)) (corners_same c i p x r rest)
-  where
-    by_test : (v : Bool) → (if v then record t { heights = moved_plane i p x r t.heights } else t).corner ≡ t.corner
-    by_test true = refl
-    by_test false = refl
+corners_same c i p x r = corners_still c (λ t. record t { heights = moved_plane i p x r t.heights }) (λ t. refl)
 
 -- one page staged
 module _ (old new : ChartValue) (c : Corner) (i p : ℕ) (page : List ℕ) (a b : Image) (rules : IsChart old) (after : IsChart new) (rw : IsRewritten c i p old new) where

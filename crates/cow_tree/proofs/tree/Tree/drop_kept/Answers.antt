@@ -17,10 +17,10 @@ returns-clause-staged g c =
     ap (λ (x : ChartValue). map (tile_in seen) x.staged) c.drop_kept.ensures.dropped ∙ bared_tiles c.args.c seen c.args.self.now.chart.staged
 
 pub returns-clause-due : goal.returns-clause-due
-returns-clause-due g c = let few = other_due c.args.self.now.chart c.drop_kept.new.self c.args.c None c.drop_kept.ensures.dropped c.rules.ensures in omega (arith, few)
+returns-clause-due g c = let few = other_due c.args.self.now.chart c.drop_kept.new.self c.args.c None c.drop_kept.ensures.dropped c.rules.ensures c.requires in omega (arith, few)
 
 pub returns-clause-still_staged : goal.returns-clause-still_staged
-returns-clause-still_staged g c other = other_still c.args.self.now.chart c.drop_kept.new.self c.args.c None other c.drop_kept.ensures.dropped
+returns-clause-still_staged g c other = other_still c.args.c None c.args.self.now.chart c.drop_kept.new.self other c.drop_kept.ensures.dropped
 
 pub returns-clause-at : goal.returns-clause-at
 returns-clause-at g c s is =
@@ -31,5 +31,5 @@ returns-clause-at g c s is =
       ready = is.ready;
       each = λ image may. subst (λ (tiles : List TileLocation). StoresAt (g.D.Disk.size old.roots.disk) old.roots.root tiles s image) (sym (ap (λ (x : ChartValue). x.committed) dropped)) (is.each image may);
       staged = subst (λ (x : ChartValue). AreStaged (format_of old.root) x.committed x.staged seen) (sym dropped)
-          (other_stays (format_of old.root) old.chart.committed c.args.c None seen tt old.chart.staged is.staged);
+          (other_stays c.args.c None (format_of old.root) old.chart.committed seen tt old.chart.staged is.staged);
     }

@@ -30,14 +30,14 @@ pub returns-clause-due : goal.returns-clause-due
 returns-clause-due g c =
     let old = c.args.self.now.chart in
     either_way c.prepare.result c.prepare.ensures.prepared c.prepare.ensures.unchanged
-    (λ prepared. prepared_due old c.prepare.new.self c.args.c c.rules.ensures prepared)
+    (λ prepared. prepared_due old c.prepare.new.self c.args.c c.rules.ensures prepared c.requires.present)
     (λ same. (let due = ap (λ (x : ChartValue). length (pages_due x)) same in omega (arith, due)))
 
 pub returns-clause-due_same : goal.returns-clause-due_same
 returns-clause-due_same g c had =
     let old = c.args.self.now.chart in
     either_way c.prepare.result c.prepare.ensures.prepared c.prepare.ensures.unchanged
-    (λ prepared. prepared_due_same old c.prepare.new.self c.args.c c.rules.ensures prepared had)
+    (λ prepared. prepared_due_same old c.prepare.new.self c.args.c c.rules.ensures prepared c.requires.present had)
     (λ same. ap (λ (x : ChartValue). length (pages_due x)) same)
 
 pub returns-clause-has_staged : goal.returns-clause-has_staged

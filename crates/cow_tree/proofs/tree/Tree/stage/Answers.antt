@@ -81,16 +81,16 @@ pub returns-clause-due : goal.returns-clause-due
 returns-clause-due g c =
     let old = c.args.self.now in
     subst (λ (f : Format). length (pages_due c.page_for_writing.new.self) ≤ length (pages_due old.chart) + (1 + index_page_by f.version)) old.format
-    (written_due old.chart c.page_for_writing.new.self c.args.c c.args.i c.in_ok-number.number c.rules.ensures c.in_ok-number.ensures.written)
+    (written_due old.chart c.page_for_writing.new.self c.args.c c.args.i c.in_ok-number.number c.rules.ensures c.in_ok-number.ensures.written c.requires.present)
 
 pub returns-clause-due_same : goal.returns-clause-due_same
 returns-clause-due_same g c had =
     let old = c.args.self.now in
     subst (λ (f : Format). length (pages_due c.page_for_writing.new.self) ≤ length (pages_due old.chart) + index_page_by f.version) old.format
-    (written_due_same old.chart c.page_for_writing.new.self c.args.c c.args.i c.in_ok-number.number c.rules.ensures c.in_ok-number.ensures.written had)
+    (written_due_same old.chart c.page_for_writing.new.self c.args.c c.args.i c.in_ok-number.number c.rules.ensures c.in_ok-number.ensures.written c.requires.present had)
 
 pub returns-clause-due_before : goal.returns-clause-due_before
-returns-clause-due_before g c = written_due_before c.args.self.now.chart c.page_for_writing.new.self c.args.c c.args.i c.in_ok-number.number c.rules.ensures c.in_ok-number.ensures.written
+returns-clause-due_before g c = written_due_before c.args.self.now.chart c.page_for_writing.new.self c.args.c c.args.i c.in_ok-number.number c.rules.ensures c.in_ok-number.ensures.written c.requires.present
 
 pub returns-clause-has_staged : goal.returns-clause-has_staged
 returns-clause-has_staged g c = ok_where c.write.result (written_here c.args.self.now.chart c.page_for_writing.new.self c.args.c c.args.i c.in_ok-number.number c.rules.ensures c.in_ok-number.ensures.written c.requires.present)

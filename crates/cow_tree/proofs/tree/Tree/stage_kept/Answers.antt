@@ -69,7 +69,7 @@ returns-clause-due g c =
     let new = c.keep.new.self in
     let old = c.args.self.now in
     subst (λ (f : Format). length (pages_due new) ≤ length (pages_due old.chart) + 2 * (1 + index_pages_of f)) old.format
-    (kept_more old.chart new c.args.c c.in_ok-keep.ensures.kept c.rules.ensures)
+    (kept_more old.chart new c.args.c c.in_ok-keep.ensures.kept c.rules.ensures c.requires.present)
 
 pub returns-in_err-keep-clause-due : goal.returns-in_err-keep-clause-due
 returns-in_err-keep-clause-due g c = let due = ap (λ (x : ChartValue). length (pages_due x)) c.in_err-keep.ensures.unchanged in omega (arith, due)
