@@ -25,7 +25,7 @@ use Rattle.charts.proofs.Times.{one-self, times-append, member_of_times}
 use Rattle.charts.proofs.FreeTimes.{page_le}
 use Rattle.charts.proofs.Room.{plane_few, room_for_heights}
 use Rattle.charts.proofs.SlotLists.{corner_of, times-split, reached_all, slot_in_use}
-use Rattle.charts.proofs.SlotChanges.{all_middle, kept_change, same_committed, chart_changed, staged_without, slot_fresh, kept_unchanged, rewritten, rewritten_kept}
+use Rattle.charts.proofs.SlotChanges.{all_middle, kept_change, chart_changed, staged_without, slot_fresh, kept_unchanged, rewritten, rewritten_kept}
 use Rattle.charts.proofs.Lookup.{split_of, not_located, located_here, tile_is, tile_here, room_other}
 
 pub heights_le : (p : ℕ) (c : Corner) (o : Option TilePlanes) → times p (heights_pages o) ≤ times p (pages_of_location (option_map (tile_at c) o))

@@ -1,19 +1,18 @@
 -- A tile staged without its kept planes, or with others.
-use Rattle.std.proofs.Common.{◌≡◌, ℕ, suc, ◌*◌, ◌≤◌, false, if◌then◌else◌, List, [], ◌∷◌, ◌++◌, length, map, take, drop, get_or, set, refl, sym, ap, subst, ◌∙◌, arith}
-use Rattle.std.specs.Prelude.{IsTrue, Option, Some, None, IfSome, All, Result, Ok, Err, OnOk, OnErr}
+use Rattle.std.proofs.Common.{◌≡◌, ℕ, suc, if◌then◌else◌, List, [], ◌∷◌, ◌++◌, length, map, take, drop, get_or, set, sym, ap, subst, arith}
+use Rattle.std.specs.Prelude.{Option, Some, None, All, Result, Ok, Err, OnOk, OnErr}
 use Rattle.std.specs.List.{flat_map}
 use Rattle.std.proofs.lemmas.List.{length-append}
 use Rattle.lattice.specs.Corners.{Corner}
 use Rattle.lattice.specs.declared.refusal.Refusal.{Refusal}
 use Rattle.charts.specs.FreePages.{FreePages}
 use Rattle.layout.specs.Formats.{Format}
-use Rattle.layout.specs.Sizes.{plane_pages_of}
 use Rattle.charts.specs.declared.locations.KeptLocations.{KeptLocations}
 use Rattle.charts.specs.declared.slot.Slot.{Slot}
 use Rattle.charts.specs.Locations.{times}
 use Rattle.charts.specs.TileLocations.{TileLocation, pages_of_kept}
 use Rattle.charts.specs.Charts.{AreKept, ChartValue, IsFresh, is_at, without_kept}
-use Rattle.charts.specs.Slots.{staged_tile, staged_tiles, fresh_kept, fresh_pages, IsSound, IsSlotAt, IsKept, IsRestaged, IsKeptDropped, IsKeptAnew, chart_of}
+use Rattle.charts.specs.Slots.{staged_tile, staged_tiles, fresh_kept, fresh_pages, IsSlotAt, IsKept, IsRestaged, IsKeptDropped, IsKeptAnew, chart_of}
 use Rattle.charts.proofs.Times.{all_numbers}
 use Rattle.charts.proofs.Slotting.{fresh_split}
 use Rattle.charts.proofs.SlotChanges.{kept_unchanged, made_chart, made_kept, no_more_kept, slot_fresh, was_whole}

@@ -1,27 +1,17 @@
 -- What is listed of the slots, one after another.
-use Rattle.std.proofs.Common.{◌≡◌, ℕ, zero, suc, ◌+◌, ◌<◌, ◌≤◌, Bool, true, false, cond, not, inl, inr, List, [], ◌∷◌, ◌++◌, length, take, drop, get_or, refl, sym, ap, subst, ◌∙◌, arith}
+use Rattle.std.proofs.Common.{◌≡◌, ℕ, zero, suc, ◌+◌, ◌<◌, ◌≤◌, true, false, inl, inr, List, [], ◌∷◌, ◌++◌, length, take, drop, get_or, refl, sym, ap, ◌∙◌, arith}
 use Rattle.std.specs.Prelude.{Option, Some, None, IsSome, IfSome, is_some, Contains, ◌==◌}
 use Rattle.std.specs.List.{cons_option, list_any}
 use Rattle.std.proofs.lemmas.List.{take_more, length-append, map-append, length-map, append-nil}
-use Rattle.std.proofs.lemmas.List.Elements.{filter_map-append, filter-append}
+use Rattle.std.proofs.lemmas.List.Elements.{filter_map-append}
 use Rattle.std.proofs.lemmas.Bool.{false≢true, cases_eq, eq-eqb, ne_eqb}
 use Rattle.lattice.specs.Corners.{Corner}
 use Rattle.lattice.specs.Limits.{most_tiles}
-use Rattle.charts.specs.FreePages.{FreePages}
-use Rattle.layout.specs.Formats.{Format}
-use Rattle.charts.specs.declared.locations.TilePlanes.{TilePlanes}
 use Rattle.charts.specs.declared.slot.Slot.{Slot}
-use Rattle.charts.specs.declared.staged.Staged.{Staged}
-use Rattle.charts.specs.declared.staged.HeightsStaged.TheVariants as of_heights
-use Rattle.charts.specs.declared.staged.Staged.TheVariants.{Tile, Removed}
-use Rattle.charts.specs.Locations.{times}
-use Rattle.charts.specs.TileLocations.{TileLocation, reached}
+use Rattle.charts.specs.TileLocations.{TileLocation}
 use Rattle.charts.specs.Charts.{corners_of_locations}
-use Rattle.charts.specs.Slots.{committed_tile, committed_tiles, staged_as, staged_tile, staged_tiles, fresh_as, fresh_pages, pages_of_location, stages_heights, stages_heights_as, IsKept, AreCounted}
-use Rattle.charts.specs.StagedPlanes.{kept_as}
-use Rattle.charts.proofs.Times.{one-self, member_of_times}
-use Rattle.charts.proofs.SlotLists.{staged_own, times-split, reached_all}
-use Rattle.charts.proofs.SlotChanges.{slot_fresh}
+use Rattle.charts.specs.Slots.{staged_tile, staged_tiles}
+use Rattle.charts.proofs.SlotLists.{staged_own}
 use Rattle.charts.proofs.Lookup.{split_of}
 
 pub staged_more : (slots : List Slot) (i : ℕ) (s : Slot) → i < length slots → s ≡ get_or slots i s → staged_tiles (take (i + 1) slots) ≡ staged_tiles (take i slots) ++ cons_option (staged_tile s) []

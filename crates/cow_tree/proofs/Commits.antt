@@ -2,7 +2,7 @@
 use Rattle.std.proofs.Common.{◌≡◌, ◌⊎◌, inl, inr, ⊎_elim, ℕ, zero, suc, ◌+◌, ◌<◌, ◌≤◌, ◌^◌, Bool, true, false, if◌then◌else◌, List, [], ◌∷◌, All, length, get_or, map, refl, sym, ap, ap₂, ◌∙◌, subst, arith}
 use Rattle.std.specs.Prelude.{Option, Some, None, IfSome}
 use Rattle.std.proofs.lemmas.Bool.{cases_Bool}
-use Rattle.std.proofs.lemmas.List.Elements.{All-nil, All-cons, All-append, All-head, All-tail, All-weaker, All-contains_itself}
+use Rattle.std.proofs.lemmas.List.Elements.{All-nil, All-cons, All-append, All-head, All-tail, All-weaker}
 use Rattle.disk.specs.Disk.{Image}
 use Rattle.disk.specs.Stops.{LeavesOnly, weaker, in_turn}
 use Rattle.disk.specs.declared.disk.Disk.{Ghosts}
@@ -12,7 +12,7 @@ use Rattle.page_codec.specs.Formats.{Format}
 use Rattle.page_codec.specs.Records.{record_bytes}
 use Rattle.page_codec.specs.Roots.{RootValue, format_of}
 use Rattle.page_codec.specs.Sizes.{sectors_asked}
-use Rattle.roots.specs.Slots.{SamePages, KeepsAll, HasMoved}
+use Rattle.roots.specs.Slots.{KeepsAll, HasMoved}
 use Rattle.charts.specs.declared.locations.KeptLocations.{KeptLocations}
 use Rattle.charts.specs.TileLocations.{TileLocation, pages_of_kept, pages_of_tile, reached, KeepsPageRule}
 use Rattle.charts.specs.Upgraded.{KeptData, TileData, data_of, data_of_kept, listings}

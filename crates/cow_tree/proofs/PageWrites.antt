@@ -1,5 +1,5 @@
 -- Pages written one after another.
-use Rattle.std.proofs.Common.{◌≡◌, ℕ, ◌+◌, ◌≤◌, Bool, true, false, if◌then◌else◌, List, [], ◌∷◌, ◌++◌, All, Contains, length, Result, Ok, Err, OnOk, OnErr, refl, sym, ◌∙◌, subst, arith}
+use Rattle.std.proofs.Common.{◌≡◌, ℕ, ◌+◌, ◌≤◌, Bool, true, false, if◌then◌else◌, List, [], ◌∷◌, ◌++◌, Contains, length, Result, Ok, Err, OnOk, OnErr, refl, sym, ◌∙◌, subst, arith}
 use Rattle.std.specs.Prelude.{IfErr}
 use Rattle.std.proofs.lemmas.List.{length-append}
 use Rattle.std.proofs.lemmas.List.Elements.{All-head}
@@ -12,7 +12,7 @@ use Rattle.lattice.specs.declared.refusal.Refusal.TheVariants.{Device}
 use Rattle.roots.specs.Roots.{disk_of, root_of, has_begun, has_failed, IsReady}
 use Rattle.roots.specs.Slots.{SamePagesBut, KeepsBut}
 use Rattle.roots.specs.declared.roots.Roots.{Roots}
-use Rattle.charts.specs.TileLocations.{TileLocation, reached}
+use Rattle.charts.specs.TileLocations.{reached}
 use Rattle.charts.specs.Locations.{times}
 use Rattle.charts.proofs.Occurrences.{times-append, apart_head}
 use Rattle.cow_tree.specs.Layout.{StoresAt}

@@ -1,17 +1,15 @@
 -- What lists the pages of tiles, written plane by plane and tile by tile.
-use Rattle.std.proofs.Common.{◌≡◌, ◌+◌, ◌<◌, ◌≤◌, ◌++◌, ◌∷◌, [], ℕ, List, Contains, get_or, length, take, drop, Result, Ok, Err, refl, sym, ap, ◌∙◌, subst, arith}
-use Rattle.std.specs.List.{flat_map}
+use Rattle.std.proofs.Common.{◌≡◌, ◌+◌, ◌<◌, ◌≤◌, ◌++◌, ℕ, List, Contains, get_or, length, take, drop, Result, Ok, Err, sym, ap, ◌∙◌, subst, arith}
 use Rattle.std.proofs.lemmas.Grind.{flat_map-append}
 use Rattle.std.proofs.lemmas.List.{length-append, take-append-drop, take_all}
 use Rattle.std.proofs.lemmas.List.Elements.{filter-append}
 use Rattle.disk.specs.declared.disk.Disk.{Ghosts}
 use Rattle.lattice.specs.declared.refusal.Refusal.{Refusal}
-use Rattle.page_codec.specs.Formats.{Format}
 use Rattle.roots.specs.declared.roots.Roots.{Roots}
 use Rattle.charts.specs.declared.plane.Plane.TheVariants.{Heights, Levels, Labels}
 use Rattle.charts.specs.Charts.{ChartValue, IsChart, is_unreached}
 use Rattle.charts.specs.Locations.{times}
-use Rattle.charts.specs.TileLocations.{TileLocation, reached}
+use Rattle.charts.specs.TileLocations.{TileLocation}
 use Rattle.charts.proofs.Occurrences.{times-append}
 use Rattle.cow_tree.specs.Listings.{ListingPage, WritesListing, due_among, named_listing, numbers_of, tile_listing, tiles_listing}
 use Rattle.cow_tree.proofs.Counting.{flat_more}

@@ -1,5 +1,5 @@
 -- What lists the pages of planes, page by page (this product's own profile).
-use Rattle.std.specs.Prelude.{◌≡◌, ℕ, zero, suc, Bool, List, [], ◌∷◌, ◌++◌, All, Option, Some, None, Result, OnOk, length, map, filter, slice_index}
+use Rattle.std.specs.Prelude.{◌≡◌, ℕ, zero, suc, List, [], ◌∷◌, ◌++◌, All, Option, Some, None, Result, OnOk, map, filter}
 use Rattle.std.specs.List.{flat_map}
 use Rattle.disk.specs.Disk.{Image}
 use Rattle.disk.specs.declared.disk.Disk.{Ghosts}

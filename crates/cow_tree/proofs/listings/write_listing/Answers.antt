@@ -1,8 +1,7 @@
-use Rattle.std.proofs.Common.{◌≡◌, ◌<◌, ◌≤◌, ◌∷◌, [], ℕ, List, Contains, Result, Ok, Err, get_or, length, sym, ap, ◌∙◌, subst, arith}
+use Rattle.std.proofs.Common.{◌≡◌, ◌<◌, ◌≤◌, ℕ, List, Result, Ok, Err, length, sym, ap, ◌∙◌, subst, arith}
 use Rattle.std.proofs.lemmas.Result.{err_from_is_err_and}
 use Rattle.lattice.specs.declared.refusal.Refusal.{Refusal}
 use Rattle.page_codec.specs.Formats.{Format}
-use Rattle.charts.specs.Charts.{is_unreached, page_if}
 use Rattle.charts.specs.Locations.{listing_of}
 use Rattle.cow_tree.specs.Listings.{ListingPage, WritesListing, due_among, listing_bytes, plane_listing, written_before}
 use Rattle.cow_tree.proofs.ListingPages.{none_listed}

@@ -1,7 +1,6 @@
-use Rattle.std.proofs.Common.{◌≡◌, Result, Err, Contains, sym, ap, ◌∙◌, subst}
+use Rattle.std.proofs.Common.{◌≡◌, Result, Err, sym, ap, ◌∙◌, subst}
 use Rattle.std.proofs.lemmas.Result.{err_from_is_err_and}
 use Rattle.lattice.specs.declared.refusal.Refusal.{Refusal}
-use Rattle.charts.specs.TileLocations.{TileLocation}
 use Rattle.cow_tree.specs.Listings.{WritesListing, due_among, tile_listing, written_before}
 use Rattle.cow_tree.proofs.Due.{located_tile}
 use Rattle.cow_tree.proofs.TileWrites.{first_refused, second_refused, tile_written}

@@ -1,9 +1,8 @@
-use Rattle.std.proofs.Common.{◌≡◌, ◌+◌, ◌∙◌, ℕ, List, Contains, refl, sym, subst}
+use Rattle.std.proofs.Common.{◌≡◌, ◌+◌, ℕ, List, Contains, refl, sym, subst}
 use Rattle.std.specs.Prelude.{slice_range}
 use Rattle.std.specs.Global.{Vec}
 use Rattle.lru.specs.LruCache.{LruCache}
 use Rattle.lru.proofs.CallerLemmas.{Contains-promoted}
-use Rattle.cow_tree.specs.Caches.{IsHeld}
 use Rattle.cow_tree.proofs.Cached.{found_there}
 use Rattle.cow_tree.proofs.cache.PageCache.find_two.Goals as goal
 

@@ -2,7 +2,7 @@ use Rattle.std.proofs.Common.{rules, ◌≡◌, false, sym, subst, ◌∙◌, ap
 use Rattle.disk.specs.Disk.{Image}
 use Rattle.cow_tree.specs.Caches.{Agrees}
 use Rattle.cow_tree.proofs.Cached.{fewer_agree, one_more_agrees}
-use Rattle.cow_tree.proofs.Steps.{on_ok, ok_where_works}
+use Rattle.cow_tree.proofs.Steps.{ok_where_works}
 use Rattle.cow_tree.proofs.tree.Tree.read_two.Goals as goal
 
 pub invariant_of-self-clause-cached : goal.invariant_of-self-clause-cached

@@ -1,11 +1,10 @@
-use Rattle.std.proofs.Common.{◌≡◌, ℕ, ◌+◌, ◌<◌, ◌≤◌, ◌*◌, ◌++◌, List, length, Some, refl, sym, ap, ◌∙◌, subst, arith}
+use Rattle.std.proofs.Common.{◌≡◌, ◌+◌, ◌≤◌, ◌*◌, ◌++◌, length, Some, ap, ◌∙◌, subst, arith}
 use Rattle.std.proofs.lemmas.List.{length-append}
 use Rattle.disk.specs.Stops.{weaker}
 use Rattle.page_codec.specs.Formats.{Format}
 use Rattle.page_codec.specs.Roots.{format_of}
 use Rattle.page_codec.specs.Sizes.{index_pages_of, pages_of}
 use Rattle.charts.specs.Charts.{ChartValue, AreKept, AreWholeKept, corners_of_locations}
-use Rattle.charts.specs.TileLocations.{TileLocation}
 use Rattle.cow_tree.specs.Kept.{planes_of_bytes}
 use Rattle.cow_tree.specs.Layout.{StoresAt, Stands}
 use Rattle.cow_tree.specs.Staged.{pages_due}

@@ -12,7 +12,7 @@ use Rattle.charts.specs.Locations.{times}
 use Rattle.charts.specs.TileLocations.{TileLocation, reached}
 use Rattle.charts.specs.Upgraded.{data_of, listings}
 use Rattle.cow_tree.specs.Entries.{entry_of}
-use Rattle.cow_tree.specs.Layout.{stored_in, tile_in, StoresAt, Stands}
+use Rattle.cow_tree.specs.Layout.{stored_in, StoresAt, Stands}
 use Rattle.cow_tree.specs.Listings.{due_among, numbers_of, tiles_listing}
 use Rattle.cow_tree.specs.Staged.{AreStaged}
 use Rattle.cow_tree.specs.Stored.{Stored}
