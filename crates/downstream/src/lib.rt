@@ -5,6 +5,11 @@
 //! the flat, the nearest first, until one of them drains. A flow path goes on to that point by the way that this search
 //! found. `direction_over` is for many questions: it searches each flat whole, once, and holds the distances of its points
 //! (`Flats`).
+//!
+//! ```
+//! let way = direction_at(alloc, &mut levels, &mut source, point)?;  // None where water leaves the mosaic
+//! let path = trace(alloc, &mut levels, &mut source, point)?;
+//! ```
 #![tactic(auto)]
 
 mod across;

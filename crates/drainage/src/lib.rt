@@ -5,6 +5,12 @@
 //! they stand for, and only reads. A filled level asks for the labellings of the tiles on the water's way out, a direction and
 //! a flow path for levels on their way, and a watershed for those around its points; they are made or were kept. What is
 //! found is held for the next question, and outlasts changes of points out of its reach.
+//!
+//! ```
+//! let level = fill(alloc, &mut table, point)?;           // in metres; Outside or Void where there is none
+//! let mut held = Held::new();                            // what is found, for the questions to come
+//! let path = trace_held(alloc, &mut table, &mut held, point)?;
+//! ```
 #![tactic(auto)]
 
 mod asking;

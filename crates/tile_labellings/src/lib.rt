@@ -2,6 +2,11 @@
 //!
 //! The layers above rest on this: the bytes that `kept_planes` answers are, as they stand on the disk, a valid labelling of
 //! the tile's block in the mosaic; and `labelled_from` reads such bytes back, and refuses what can be no labelling.
+//!
+//! ```
+//! let planes = kept_planes(alloc, &mut table, corner)?;  // two bytes a point of each
+//! let labelled = labelled_from(alloc, side, &planes.levels, &planes.labels)?;
+//! ```
 #![tactic(auto)]
 
 mod bytes;
