@@ -5,12 +5,12 @@ use Rattle.lattice.specs.Corners.{Corner}
 use Rattle.lattice.specs.Mosaic.{Mosaic}
 use Rattle.cow_tree.specs.Stored.{Stored}
 use Rattle.cow_tree.specs.Trees.{IsAt as IsTreeAt}
-use Rattle.cow_tree.specs.declared.tree.Tree.{Tree}
 use Rattle.derived.specs.Kept.{IsFresh, mosaic_stored}
+use Rattle.store.specs.declared.store.Store.{Store}
 
--- the tree is at what holds this mosaic, and the corner's tile keeps a valid labelling of its block there
-pub record KeepsFresh {D : Type 0} (g : Ghosts D) (tree : Tree D g) (m : Mosaic) (c : Corner) : Type 0 where
+-- the store stands on a tree that holds this mosaic, and the corner's tile keeps a valid labelling of its block there
+pub record KeepsFresh {D : Type 0} (g : Ghosts D) (store : Store D g) (m : Mosaic) (c : Corner) : Type 0 where
   pub stored : Stored
-  pub at : IsTreeAt g tree stored
+  pub at : IsTreeAt g store.tree stored
   pub mosaic : mosaic_stored stored ≡ m
   pub fresh : IsFresh stored c

@@ -3,8 +3,8 @@ ghost use Rattle.std.specs.Prelude.{◌≡◌, ◌≤◌, ◌+◌, true, Err};
 ghost use Rattle.lattice.specs.declared.refusal.Refusal.TheVariants.{Failed};
 ghost use Rattle.page_codec.specs.Formats.{number_of};
 ghost use Rattle.calls.specs.Told.{writes_a_step};
-ghost use Rattle.cow_tree.specs.Trees.{disk_of, root_of, has_failed};
 ghost use Rattle.store.specs.Stepped.{HasStepped};
+ghost use Rattle.store.specs.Stores.{disk_of, root_of, has_failed};
 
 use crate::Store;
 use disk::Disk;
@@ -18,11 +18,11 @@ impl<D: Disk> Store<D> {
         ensures stepped { HasStepped D.Disk result self.old self.new }
 
         // It writes two planes with what lists their pages, a root and two gates at most, on any disk.
-        ensures writes { D.writes (disk_of self.new.tree) ≤ D.writes (disk_of self.old.tree) + (writes_a_step (number_of (root_of self.old.tree).version) (root_of self.old.tree).side + 3) }
+        ensures writes { D.writes (disk_of self.new) ≤ D.writes (disk_of self.old) + (writes_a_step (number_of (root_of self.old).version) (root_of self.old).side + 3) }
 
         // A store that failed makes no call of the disk, and stays failed.
-        ensures failed { has_failed self.old.tree ≡ true → (result ≡ Err Failed) × (disk_of self.new.tree ≡ disk_of self.old.tree) }
-        ensures still_failed { has_failed self.old.tree ≡ true → has_failed self.new.tree ≡ true }
+        ensures failed { has_failed self.old ≡ true → (result ≡ Err Failed) × (disk_of self.new ≡ disk_of self.old) }
+        ensures still_failed { has_failed self.old ≡ true → has_failed self.new ≡ true }
     {
         derived::step(self.alloc, &mut self.tree)
     }

@@ -15,7 +15,6 @@ ghost use Rattle.cow_tree.specs.Stored.{no_tiles};
 ghost use Rattle.cow_tree.specs.Trees.{MayRefuse, has_failed as have_failed};
 ghost use Rattle.store.specs.Formatted.{format_2, format_by};
 ghost use Rattle.derived.specs.Kept.{stale_in};
-ghost use Rattle.store.specs.Fresh.{KeepsFresh};
 ghost use Rattle.store.specs.Standing.{StandsFor};
 ghost use Rattle.derived.specs.Clean.{IsClean};
 
@@ -42,6 +41,7 @@ pub struct Store<D: Disk> {
 }
 
 impl<D: Disk> Store<D> {
+    ghost use Rattle.store.specs.Fresh.{KeepsFresh};
     ghost use Rattle.store.specs.Stores.{disk_of, root_of, side_of, capacity_of, has_failed, disk_after, IsAt};
 
     /// Makes an empty store on a disk, by the second version: of tiles of this side (3 to 3601 samples), with room for so
@@ -176,7 +176,7 @@ impl<D: Disk> Store<D> {
 
         // Of a present tile that isn't stale a valid labelling of its block is kept.
         ensures fresh { D.honest (disk_of self.now) → has_failed self.now ≡ false → (s : State) → IsAt D.Disk self.now s
-            → Contains (corners_of s.contents.mosaic) corner → result ≡ false → KeepsFresh D.Disk self.now.tree s.contents.mosaic corner }
+            → Contains (corners_of s.contents.mosaic) corner → result ≡ false → KeepsFresh D.Disk self.now s.contents.mosaic corner }
     {
         derived::stale(&self.tree, corner)
     }
