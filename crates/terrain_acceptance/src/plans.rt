@@ -22,14 +22,17 @@ fn changes_of_commands(rt: HostRuntime) -> Result<(), Fail> {
     let alloc = rt.alloc();
     let side = Side::new(3).ok_or("no side")?;
     let mut table = Table::new(alloc, side);
-    let mut row = 0;
-    for (asked, count) in &PLANS {
+    for (row, (asked, count)) in PLANS.iter().enumerate() {
         let command = command(alloc, *asked)?;
         let changes = plan(alloc, &mut table, 4, &command)?;
-        assert_row(&rt, changes.len() == *count, "changes of a command", row);
+        assert_row(
+            &rt,
+            changes.len() == *count,
+            "changes of a command",
+            row as u64,
+        );
         let edit = edit_of(&mut table, 4, &command)?;
         carry_out(alloc, &edit, &mut table)?;
-        row += 1;
     }
     Ok(())
 }
