@@ -1,5 +1,7 @@
 //! The program's words, and what it does on files of stores.
 mod lengths;
+mod outputs;
+mod places;
 mod sessions;
 
 use disk::FileDisk;
