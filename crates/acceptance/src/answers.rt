@@ -2,11 +2,11 @@
 ghost use Rattle.std.specs.Prelude.{IsTrue};
 ghost use Rattle.lattice.specs.Ground.{is_ground, terrain};
 ghost use Rattle.flow_d8.specs.Drainage.{AreFilledLevels};
-ghost use Rattle.plain.specs.Levels.{level_of};
+ghost use Rattle.reference.specs.Levels.{level_of};
 
 use engine::Engine;
 use lattice::{Height, Point, Refusal};
-use plain::{Levels, Plain};
+use reference::{Levels, Plain};
 use std::alloc::{AllocError, Global};
 use watershed::Run;
 
@@ -40,10 +40,10 @@ pub(crate) fn defined(
 ) -> Result<Answers, AllocError>
     requires { AreFilledLevels (terrain mosaic.now) (level_of levels.now) }
 {
-    if plain::is_ground(mosaic, point) {
+    if reference::is_ground(mosaic, point) {
         return drained(alloc, mosaic, levels, point);
     }
-    let elevation = plain::height(mosaic, point);
+    let elevation = reference::height(mosaic, point);
     let refusal = match elevation {
         Height::Outside => Refusal::Outside,
         _ => Refusal::Void,
@@ -66,15 +66,15 @@ fn drained(
     requires filled { AreFilledLevels (terrain mosaic.now) (level_of levels.now) }
     requires on_ground { IsTrue (is_ground mosaic.now point) }
 {
-    let direction = match plain::direction(alloc, mosaic, levels, point)? {
+    let direction = match reference::direction(alloc, mosaic, levels, point)? {
         Some(direction) => direction.code(),
         None => 0,
     };
     Ok(Answers {
-        elevation: Ok(plain::height(mosaic, point)),
+        elevation: Ok(reference::height(mosaic, point)),
         fill: levels.get(point).ok_or(Refusal::Void),
         direction: Ok(direction),
-        trace: Ok(plain::flow_path(alloc, mosaic, levels, point)?),
-        watershed: Ok(plain::watershed(alloc, mosaic, levels, point)?),
+        trace: Ok(reference::flow_path(alloc, mosaic, levels, point)?),
+        watershed: Ok(reference::watershed(alloc, mosaic, levels, point)?),
     })
 }

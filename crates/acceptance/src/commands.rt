@@ -3,7 +3,7 @@ use crate::region::corner_beside;
 use arrayvec::ArrayVec;
 use edits::{Bytes, Command};
 use lattice::{Corner, Point, Side, point_at};
-use plain::Plain;
+use reference::Plain;
 use seeded_random::Random;
 use std::alloc::{AllocError, Global};
 

@@ -5,7 +5,7 @@ use crate::region::{MIDDLES, corners_around, points_around};
 use edits::Command;
 use engine::Engine;
 use lattice::{Corner, Point, Refusal, Side};
-use plain::Plain;
+use reference::Plain;
 use seeded_random::Random;
 use std::alloc::{AllocError, Global};
 use std::process::Abort;
@@ -101,7 +101,7 @@ impl Session {
     }
 
     fn apply(&mut self, command: &Command) -> Result<u64, Refusal> {
-        self.mosaic = plain::effect(self.alloc, self.capacity, &self.mosaic, command)?;
+        self.mosaic = reference::effect(self.alloc, self.capacity, &self.mosaic, command)?;
         self.count = self.count.saturating_add(1);
         Ok(self.count)
     }
@@ -133,7 +133,7 @@ impl Session {
 
     fn check_elevations<E: Engine>(&self, rt: &impl Abort, engine: &mut E) {
         for (point, number) in self.points.iter().zip(0..) {
-            let height = plain::height(&self.mosaic, *point);
+            let height = reference::height(&self.mosaic, *point);
             let is_right = engine.elevation(*point) == Ok(height);
             self.assert_at(rt, is_right, "the elevation of point", number);
         }
@@ -145,7 +145,7 @@ impl Session {
         rt: &impl Abort,
         engine: &mut E,
     ) -> Result<(), Fail> {
-        let levels = plain::filled_levels(self.alloc, &self.mosaic)?;
+        let levels = reference::filled_levels(self.alloc, &self.mosaic)?;
         for (point, number) in self.points.iter().zip(0..) {
             let answers = defined(self.alloc, &self.mosaic, &levels, *point)?;
             let is_right = served(engine, *point) == answers;

@@ -4,14 +4,14 @@ use Rattle.std.proofs.lemmas.List.Elements.{All-nil, All-cons, All-head, All-tai
 use Rattle.disk.specs.Disk.{Image}
 use Rattle.lattice.specs.Corners.{Corner, is_before}
 use Rattle.page_codec.specs.Formats.{Format}
-use Rattle.charts.specs.Locations.{PlaneLocation, pages_behind, pages_of_plane, times}
-use Rattle.charts.specs.TileLocations.{TileLocation, pages_of_kept, pages_of_tile, reached}
+use Rattle.page_map.specs.Locations.{PlaneLocation, pages_behind, pages_of_plane, times}
+use Rattle.page_map.specs.TileLocations.{TileLocation, pages_of_kept, pages_of_tile, reached}
 use Rattle.cow_tree.specs.Layout.{tile_in}
-use Rattle.charts.specs.Charts.{ChartValue, IsChart, IsAdded, IsFresh, IsLocated, HasHeights, with_tile_location, is_unreached}
+use Rattle.page_map.specs.PageMaps.{PageMapValue, IsPageMap, IsAdded, IsFresh, IsLocated, HasHeights, with_tile_location, is_unreached}
 use Rattle.cow_tree.specs.Stored.{StoredTile, with_tile, stale_tile, pages_of_bytes}
 use Rattle.cow_tree.specs.Staged.{AreStaged, IsListedBy, IsTileListed}
 use Rattle.cow_tree.proofs.Standing.{SameOn, All-front, All-back, tile_same, tiles_same}
-use Rattle.charts.proofs.Occurrences.{times-append}
+use Rattle.page_map.proofs.Occurrences.{times-append}
 use Rattle.cow_tree.proofs.Staging.{tile_listed_same, unreached_test}
 use Rattle.cow_tree.proofs.Tiles.{one_at_corner}
 use Rattle.page_codec.specs.Sizes.{pages_of}
@@ -86,13 +86,13 @@ contains-map f [] x (k, lt, here) = absurd (omega (arith, lt))
 contains-map f (y ∷ ys) x (zero, lt, here) = (0, omega arith, ap f here)
 contains-map f (y ∷ ys) x (suc k, lt, here) = let later = contains-map f ys x (k, omega arith, here) in (suc later.0, omega (arith, later.1), later.2)
 
--- a tile was added to a chart
-module _ (old new : ChartValue) (c : Corner) (rules : IsChart new) (added : IsAdded c old new) where
+-- a tile was added to a page_map
+module _ (old new : PageMapValue) (c : Corner) (rules : IsPageMap new) (added : IsAdded c old new) where
   staged_is : new.staged ≡ with_tile_location (record { corner = c; heights = added.location; kept = None }) old.staged
-  staged_is = ap (λ (x : ChartValue). x.staged) added.changed
+  staged_is = ap (λ (x : PageMapValue). x.staged) added.changed
 
   committed_is : new.committed ≡ old.committed
-  committed_is = ap (λ (x : ChartValue). x.committed) added.changed
+  committed_is = ap (λ (x : PageMapValue). x.committed) added.changed
 
   among : Contains new.staged (record { corner = c; heights = added.location; kept = None })
   among = subst (λ (tiles : List TileLocation). Contains tiles (record { corner = c; heights = added.location; kept = None })) (sym staged_is) (added_there (record { corner = c; heights = added.location; kept = None }) old.staged)

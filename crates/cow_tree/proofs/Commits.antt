@@ -13,15 +13,15 @@ use Rattle.page_codec.specs.Records.{record_bytes}
 use Rattle.page_codec.specs.Roots.{RootValue, format_of}
 use Rattle.page_codec.specs.Sizes.{sectors_asked}
 use Rattle.roots.specs.Slots.{KeepsAll, HasMoved}
-use Rattle.charts.specs.declared.locations.KeptLocations.{KeptLocations}
-use Rattle.charts.specs.TileLocations.{TileLocation, pages_of_kept, pages_of_tile, reached, KeepsPageRule}
-use Rattle.charts.specs.Upgraded.{KeptData, TileData, data_of, data_of_kept, listings}
-use Rattle.charts.proofs.UpgradedTiles.{kept_data, data_pages, all_data, tiles_split}
+use Rattle.page_map.specs.declared.locations.KeptLocations.{KeptLocations}
+use Rattle.page_map.specs.TileLocations.{TileLocation, pages_of_kept, pages_of_tile, reached, KeepsPageRule}
+use Rattle.page_map.specs.Upgraded.{KeptData, TileData, data_of, data_of_kept, listings}
+use Rattle.page_map.proofs.UpgradedTiles.{kept_data, data_pages, all_data, tiles_split}
 use Rattle.cow_tree.specs.Entries.{entry_of}
 use Rattle.cow_tree.specs.Layout.{tile_in, kept_in, stored_in, listed_by, HasRecord, HasRecords, HaveKeptRecords, IsIndexed, StoresAt, Stands}
 use Rattle.cow_tree.specs.Listings.{ListingPage, IsOn, due_among, kept_listing, index_listing, listing_bytes, numbers_of, plane_listing, tile_listing, tiles_listing}
-use Rattle.charts.specs.Locations.{PlaneLocation, IsWholePlane, listing_of, pages_behind, pages_of_plane, times}
-use Rattle.charts.specs.Charts.{AreWholeKept, ChartValue, IsChart, IsWholeTile, is_unreached}
+use Rattle.page_map.specs.Locations.{PlaneLocation, IsWholePlane, listing_of, pages_behind, pages_of_plane, times}
+use Rattle.page_map.specs.PageMaps.{AreWholeKept, PageMapValue, IsPageMap, IsWholeTile, is_unreached}
 use Rattle.cow_tree.specs.Staged.{AreListedBy, AreStaged, IsListedBy, IsTileListed}
 use Rattle.cow_tree.specs.Stored.{KeptPlanes, PlanePages, Stored, StoredTile}
 use Rattle.cow_tree.proofs.Counting.{all_at_times, at_times, times_failing}
@@ -95,15 +95,15 @@ each_listing format image (t ∷ rest) all =
     All-cons (λ u. All (IsOn image) (tile_listing format u)) t rest (All-front (IsOn image) (tile_listing format t) (tiles_listing format rest) all)
     (each_listing format image rest (All-back (IsOn image) (tile_listing format t) (tiles_listing format rest) all))
 
--- ---- where a chart's listings are written, those that these tiles don't reach
-module _ (chart : ChartValue) (rules : IsChart chart) (before : List TileLocation) (a b : Image) (had : AreStaged chart.format before chart.staged a)
-    (wrote : All (IsOn b) (due_among before (tiles_listing chart.format chart.staged)))
-    (others : (p : ℕ) → 4 ≤ p → times p (numbers_of (due_among before (tiles_listing chart.format chart.staged))) ≡ 0 → a p ≡ b p) where
+-- ---- where a page_map's listings are written, those that these tiles don't reach
+module _ (page_map : PageMapValue) (rules : IsPageMap page_map) (before : List TileLocation) (a b : Image) (had : AreStaged page_map.format before page_map.staged a)
+    (wrote : All (IsOn b) (due_among before (tiles_listing page_map.format page_map.staged)))
+    (others : (p : ℕ) → 4 ≤ p → times p (numbers_of (due_among before (tiles_listing page_map.format page_map.staged))) ≡ 0 → a p ≡ b p) where
   abbrev all_pages : List ListingPage
-  all_pages = tiles_listing chart.format chart.staged
+  all_pages = tiles_listing page_map.format page_map.staged
 
   low : (q : ℕ) → 1 ≤ times q (numbers_of all_pages) → 4 ≤ q
-  low q some = at_times (λ p. 4 ≤ p) q (reached chart.staged) rules.staged.page_rule.low (omega (arith, some, all_within chart.format chart.staged q))
+  low q some = at_times (λ p. 4 ≤ p) q (reached page_map.staged) rules.staged.page_rule.low (omega (arith, some, all_within page_map.format page_map.staged q))
 
   on_b : All (IsOn b) all_pages
   on_b k d lt =
@@ -112,68 +112,68 @@ module _ (chart : ChartValue) (rules : IsChart chart) (before : List TileLocatio
         | inl due ↦ unfiltered (λ (x : ListingPage). is_unreached before x.page) (IsOn b) all_pages wrote k d lt due
         | inr shared ↦
             let none : times l.page (numbers_of (due_among before all_pages)) ≡ 0 = ap (times l.page) (due_numbers before all_pages) ∙ times_failing l.page (is_unreached before) shared (numbers_of all_pages) in
-            sym (others l.page (low l.page (number_there all_pages k d lt)) none) ∙ tiles_listed chart.format before chart.staged a had k d lt shared
+            sym (others l.page (low l.page (number_there all_pages k d lt)) none) ∙ tiles_listed page_map.format before page_map.staged a had k d lt shared
       ]
 
   module _ (image : Image) (pages : (q : ℕ) → 4 ≤ q → b q ≡ image q) where
     on_image : All (IsOn image) all_pages
     on_image k d lt = sym (pages (get_or all_pages k d).page (low (get_or all_pages k d).page (number_there all_pages k d lt))) ∙ on_b k d lt
 
-    data_same : SameOn (all_data (map data_of chart.staged)) a image
+    data_same : SameOn (all_data (map data_of page_map.staged)) a image
     data_same =
-        all_at_times (λ q. a q ≡ image q) (all_data (map data_of chart.staged)) (λ q some.
-        let split = tiles_split q chart.staged in
+        all_at_times (λ q. a q ≡ image q) (all_data (map data_of page_map.staged)) (λ q some.
+        let split = tiles_split q page_map.staged in
         let few = few_due before all_pages q in
         let all = all_listings q in
-        let four : 4 ≤ q = at_times (λ p. 4 ≤ p) q (reached chart.staged) rules.staged.page_rule.low (omega (arith, split, some)) in
+        let four : 4 ≤ q = at_times (λ p. 4 ≤ p) q (reached page_map.staged) rules.staged.page_rule.low (omega (arith, split, some)) in
         others q four (omega (arith, split, some, few, all, rules.staged.page_rule.once q)) ∙ pages q four)
       where
-        all_listings : (q : ℕ) → times q (numbers_of all_pages) ≡ times q (listings chart.staged)
-        all_listings q = ap (times q) (tiles_numbers chart.format chart.staged)
+        all_listings : (q : ℕ) → times q (numbers_of all_pages) ≡ times q (listings page_map.staged)
+        all_listings q = ap (times q) (tiles_numbers page_map.format page_map.staged)
 
     -- the tiles are the same there
-    pub same_tiles : (tiles : List TileLocation) → map data_of chart.staged ≡ map data_of tiles → map (tile_in a) tiles ≡ map (tile_in image) chart.staged
-    same_tiles tiles stays = over a tiles ∙ ap (map (tile_over a)) (sym stays) ∙ alike a image (map data_of chart.staged) data_same ∙ sym (over image chart.staged)
+    pub same_tiles : (tiles : List TileLocation) → map data_of page_map.staged ≡ map data_of tiles → map (tile_in a) tiles ≡ map (tile_in image) page_map.staged
+    same_tiles tiles stays = over a tiles ∙ ap (map (tile_over a)) (sym stays) ∙ alike a image (map data_of page_map.staged) data_same ∙ sym (over image page_map.staged)
 
     -- .. and all their records
-    module _ (fits : chart.sectors < 2 ^ 32) where
-      has_record : (p : PlaneLocation) → IsWholePlane chart.format p → All (λ q. q < chart.sectors) (pages_of_plane p) → All (IsOn image) (plane_listing chart.format p) → HasRecord chart.format image p
+    module _ (fits : page_map.sectors < 2 ^ 32) where
+      has_record : (p : PlaneLocation) → IsWholePlane page_map.format p → All (λ q. q < page_map.sectors) (pages_of_plane p) → All (IsOn image) (plane_listing page_map.format p) → HasRecord page_map.format image p
       has_record p whole high all = record {
         whole = whole;
-        each = All-weaker (λ q. q < chart.sectors) (λ q. q < 2 ^ 32) (λ q h. omega (arith, h, fits)) (pages_behind p) (All-tail (λ q. q < chart.sectors) p.record_page (pages_behind p) high);
-        listed = All-head (IsOn image) (record { page = p.record_page; bytes = record_bytes (listed_by chart.format.version p) }) (index_listing 0 p.index_pages p.pages) all;
-        indexed = indexed_by chart.format p image all;
+        each = All-weaker (λ q. q < page_map.sectors) (λ q. q < 2 ^ 32) (λ q h. omega (arith, h, fits)) (pages_behind p) (All-tail (λ q. q < page_map.sectors) p.record_page (pages_behind p) high);
+        listed = All-head (IsOn image) (record { page = p.record_page; bytes = record_bytes (listed_by page_map.format.version p) }) (index_listing 0 p.index_pages p.pages) all;
+        indexed = indexed_by page_map.format p image all;
       }
 
-      have_kept : (kept : Option KeptLocations) → IfSome kept (AreWholeKept chart.format) → All (λ q. q < chart.sectors) (pages_of_kept kept) → All (IsOn image) (kept_listing chart.format kept) → IfSome kept (HaveKeptRecords chart.format image)
+      have_kept : (kept : Option KeptLocations) → IfSome kept (AreWholeKept page_map.format) → All (λ q. q < page_map.sectors) (pages_of_kept kept) → All (IsOn image) (kept_listing page_map.format kept) → IfSome kept (HaveKeptRecords page_map.format image)
       have_kept None whole high all = tt
       have_kept (Some k) whole high all = record {
-        levels = has_record k.levels whole.levels (All-front (λ q. q < chart.sectors) (pages_of_plane k.levels) (pages_of_plane k.labels) high) (All-front (IsOn image) (plane_listing chart.format k.levels) (plane_listing chart.format k.labels) all);
-        labels = has_record k.labels whole.labels (All-back (λ q. q < chart.sectors) (pages_of_plane k.levels) (pages_of_plane k.labels) high) (All-back (IsOn image) (plane_listing chart.format k.levels) (plane_listing chart.format k.labels) all);
+        levels = has_record k.levels whole.levels (All-front (λ q. q < page_map.sectors) (pages_of_plane k.levels) (pages_of_plane k.labels) high) (All-front (IsOn image) (plane_listing page_map.format k.levels) (plane_listing page_map.format k.labels) all);
+        labels = has_record k.labels whole.labels (All-back (λ q. q < page_map.sectors) (pages_of_plane k.levels) (pages_of_plane k.labels) high) (All-back (IsOn image) (plane_listing page_map.format k.levels) (plane_listing page_map.format k.labels) all);
       }
 
-      have_records : All (HasRecords chart.format image) chart.staged
+      have_records : All (HasRecords page_map.format image) page_map.staged
       have_records k d lt =
-          let t : TileLocation = get_or chart.staged k d in
-          let high : All (λ q. q < chart.sectors) (pages_of_tile t) = each_tile (λ q. q < chart.sectors) chart.staged rules.staged.page_rule.high k d lt in
-          let whole : IsWholeTile chart.format t = rules.staged.whole k d lt in
-          let all : All (IsOn image) (tile_listing chart.format t) = each_listing chart.format image chart.staged on_image k d lt in
+          let t : TileLocation = get_or page_map.staged k d in
+          let high : All (λ q. q < page_map.sectors) (pages_of_tile t) = each_tile (λ q. q < page_map.sectors) page_map.staged rules.staged.page_rule.high k d lt in
+          let whole : IsWholeTile page_map.format t = rules.staged.whole k d lt in
+          let all : All (IsOn image) (tile_listing page_map.format t) = each_listing page_map.format image page_map.staged on_image k d lt in
           record {
-            heights = has_record t.heights whole.heights (All-front (λ q. q < chart.sectors) (pages_of_plane t.heights) (pages_of_kept t.kept) high) (All-front (IsOn image) (plane_listing chart.format t.heights) (kept_listing chart.format t.kept) all);
-            kept = have_kept t.kept whole.kept (All-back (λ q. q < chart.sectors) (pages_of_plane t.heights) (pages_of_kept t.kept) high) (All-back (IsOn image) (plane_listing chart.format t.heights) (kept_listing chart.format t.kept) all);
+            heights = has_record t.heights whole.heights (All-front (λ q. q < page_map.sectors) (pages_of_plane t.heights) (pages_of_kept t.kept) high) (All-front (IsOn image) (plane_listing page_map.format t.heights) (kept_listing page_map.format t.kept) all);
+            kept = have_kept t.kept whole.kept (All-back (λ q. q < page_map.sectors) (pages_of_plane t.heights) (pages_of_kept t.kept) high) (All-back (IsOn image) (plane_listing page_map.format t.heights) (kept_listing page_map.format t.kept) all);
           }
 
   -- behind this root, whose entries name them
-  pub lands : (sectors : ℕ) (root : RootValue) (was : List TileLocation) (t : Stored) → chart.sectors ≡ sectors → chart.sectors < 2 ^ 32 → chart.format ≡ format_of root → map entry_of chart.staged ≡ root.entries
-      → map data_of chart.staged ≡ map data_of was → t ≡ record (stored_in a root chart.staged) { tiles = map (tile_in a) was } → (image : Image) → HasMoved root b image → StoresAt sectors root chart.staged t image
+  pub lands : (sectors : ℕ) (root : RootValue) (was : List TileLocation) (t : Stored) → page_map.sectors ≡ sectors → page_map.sectors < 2 ^ 32 → page_map.format ≡ format_of root → map entry_of page_map.staged ≡ root.entries
+      → map data_of page_map.staged ≡ map data_of was → t ≡ record (stored_in a root page_map.staged) { tiles = map (tile_in a) was } → (image : Image) → HasMoved root b image → StoresAt sectors root page_map.staged t image
   lands sectors root was t size fits format entries stays is image moved = record {
     laid_out = record {
-      store = (moved.0, subst (λ (n : ℕ). sectors_asked (format_of root) ≤ n) size (subst (λ (f : Format). sectors_asked f ≤ chart.sectors) format rules.size));
+      store = (moved.0, subst (λ (n : ℕ). sectors_asked (format_of root) ≤ n) size (subst (λ (f : Format). sectors_asked f ≤ page_map.sectors) format rules.size));
       entries = entries;
-      records = subst (λ (f : Format). All (HasRecords f image) chart.staged) format (have_records image moved.1 fits);
-      page_rule = subst (λ (n : ℕ). KeepsPageRule n chart.staged) size rules.staged.page_rule;
+      records = subst (λ (f : Format). All (HasRecords f image) page_map.staged) format (have_records image moved.1 fits);
+      page_rule = subst (λ (n : ℕ). KeepsPageRule n page_map.staged) size rules.staged.page_rule;
     };
-    stands = is ∙ ap (λ (ts : List StoredTile). let u : Stored = record (stored_in a root chart.staged) { tiles = ts } in u) (same_tiles image moved.1 was stays);
+    stands = is ∙ ap (λ (ts : List StoredTile). let u : Stored = record (stored_in a root page_map.staged) { tiles = ts } in u) (same_tiles image moved.1 was stays);
   }
 
 -- what is staged once it is committed: nothing else than it

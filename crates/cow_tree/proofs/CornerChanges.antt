@@ -3,8 +3,8 @@ use Rattle.std.proofs.Common.{◌≡◌, ℕ, ◌<◌, Bool, true, false, if◌t
 use Rattle.std.proofs.lemmas.List.Elements.{All-map, All-weaker}
 use Rattle.lattice.specs.Corners.{Corner}
 use Rattle.lattice.proofs.CornerOrder.{same_from}
-use Rattle.charts.specs.Charts.{ChartValue, HasFreshHeights, IsFresh, is_at, corners_of_locations}
-use Rattle.charts.specs.TileLocations.{TileLocation, reached}
+use Rattle.page_map.specs.PageMaps.{PageMapValue, HasFreshHeights, IsFresh, is_at, corners_of_locations}
+use Rattle.page_map.specs.TileLocations.{TileLocation, reached}
 use Rattle.cow_tree.proofs.Adding.{contains-map}
 
 module _ (c : Corner) (f : TileLocation → TileLocation) (corner : (t : TileLocation) → (f t).corner ≡ t.corner) where
@@ -29,9 +29,9 @@ module _ (c : Corner) (f : TileLocation → TileLocation) (corner : (t : TileLoc
       subst (Contains (map changed tiles)) (ap (λ (v : Bool). if v then f t else t) (same_from t.corner c here)) (contains-map changed tiles t among)
 
   -- of which tiles heights are staged
-  module _ (old new : ChartValue) (changes : new ≡ record old { staged = map changed old.staged }) where
+  module _ (old new : PageMapValue) (changes : new ≡ record old { staged = map changed old.staged }) where
     staged_is : map changed old.staged ≡ new.staged
-    staged_is = sym (ap (λ (x : ChartValue). x.staged) changes)
+    staged_is = sym (ap (λ (x : PageMapValue). x.staged) changes)
 
     pub heights_here : (t : TileLocation) → Contains old.staged t → t.corner ≡ c → IsFresh new (f t).heights.record_page → HasFreshHeights c new
     heights_here t staged here fresh =
@@ -50,6 +50,6 @@ module _ (c : Corner) (f : TileLocation → TileLocation) (corner : (t : TileLoc
         still : IsFresh new t.heights.record_page
         still = record {
           low = was.low;
-          high = subst (λ (n : ℕ). t.heights.record_page < n) (sym (ap (λ (x : ChartValue). x.sectors) changes)) was.high;
-          unreached = subst (λ (tiles : List TileLocation). ¬ Contains (reached tiles) t.heights.record_page) (sym (ap (λ (x : ChartValue). x.committed) changes)) was.unreached;
+          high = subst (λ (n : ℕ). t.heights.record_page < n) (sym (ap (λ (x : PageMapValue). x.sectors) changes)) was.high;
+          unreached = subst (λ (tiles : List TileLocation). ¬ Contains (reached tiles) t.heights.record_page) (sym (ap (λ (x : PageMapValue). x.committed) changes)) was.unreached;
         }

@@ -5,8 +5,8 @@ use Rattle.std.proofs.lemmas.Bool.{cases_eq}
 use Rattle.std.proofs.lemmas.Grind.{flat_map-append}
 use Rattle.std.proofs.lemmas.List.{append-nil, length-append, take_more, take-append-drop}
 use Rattle.std.proofs.lemmas.List.Elements.{All-head, All-tail, All-contains_itself}
-use Rattle.charts.specs.Locations.{times}
-use Rattle.charts.proofs.Occurrences.{times-append, times_other, stands_there}
+use Rattle.page_map.specs.Locations.{times}
+use Rattle.page_map.proofs.Occurrences.{times-append, times_other, stands_there}
 
 -- what holds of a number that stands there
 pub at_times : (P : ℕ → Type 0) (q : ℕ) (xs : List ℕ) → All P xs → 1 ≤ times q xs → P q

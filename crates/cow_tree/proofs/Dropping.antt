@@ -6,10 +6,10 @@ use Rattle.disk.specs.Disk.{Image}
 use Rattle.lattice.specs.Corners.{Corner}
 use Rattle.page_codec.specs.Formats.{Format}
 use Rattle.page_codec.specs.Entries.{EntryValue}
-use Rattle.charts.specs.Locations.{pages_behind}
-use Rattle.charts.specs.TileLocations.{TileLocation, reached, pages_of_kept, pages_of_tile}
+use Rattle.page_map.specs.Locations.{pages_behind}
+use Rattle.page_map.specs.TileLocations.{TileLocation, reached, pages_of_kept, pages_of_tile}
 use Rattle.cow_tree.specs.Entries.{entry_of}
-use Rattle.charts.specs.Charts.{ChartValue, HasFreshHeights, is_at, corners_of_locations, without_location}
+use Rattle.page_map.specs.PageMaps.{PageMapValue, HasFreshHeights, is_at, corners_of_locations, without_location}
 use Rattle.cow_tree.specs.Staged.{AreStaged, IsTileListed}
 use Rattle.cow_tree.proofs.Tiles.{each_tile}
 
@@ -25,11 +25,11 @@ pub corners_of_entries : (tiles : List TileLocation) → corners_of_locations ti
 corners_of_entries [] = refl
 corners_of_entries (t ∷ rest) = ap (λ (cs : List Corner). t.corner ∷ cs) (corners_of_entries rest)
 
-pub clean_is_committed : (chart : ChartValue) → chart.staged ≡ chart.committed → (c : Corner) → ¬ HasFreshHeights c chart
-clean_is_committed chart clean c (t, (staged, corner, fresh)) =
-    let among : Contains chart.committed t = subst (λ (tiles : List TileLocation). Contains tiles t) clean staged in
-    let all : All (Contains (reached chart.committed)) (pages_of_tile t) = All-contains (λ u. All (Contains (reached chart.committed)) (pages_of_tile u)) chart.committed t (each_tile (Contains (reached chart.committed)) chart.committed (All-contains_itself (reached chart.committed))) among in
-    fresh.unreached (All-head (Contains (reached chart.committed)) t.heights.record_page (pages_behind t.heights ++ pages_of_kept t.kept) all)
+pub clean_is_committed : (page_map : PageMapValue) → page_map.staged ≡ page_map.committed → (c : Corner) → ¬ HasFreshHeights c page_map
+clean_is_committed page_map clean c (t, (staged, corner, fresh)) =
+    let among : Contains page_map.committed t = subst (λ (tiles : List TileLocation). Contains tiles t) clean staged in
+    let all : All (Contains (reached page_map.committed)) (pages_of_tile t) = All-contains (λ u. All (Contains (reached page_map.committed)) (pages_of_tile u)) page_map.committed t (each_tile (Contains (reached page_map.committed)) page_map.committed (All-contains_itself (reached page_map.committed))) among in
+    fresh.unreached (All-head (Contains (reached page_map.committed)) t.heights.record_page (pages_behind t.heights ++ pages_of_kept t.kept) all)
 
 pub staged_without : (format : Format) (committed tiles : List TileLocation) (c : Corner) (image : Image) → AreStaged format committed tiles image → AreStaged format committed (without_location c tiles) image
 staged_without format committed tiles c image had = All-filter (λ t. not (is_at c t)) (IsTileListed format committed image) tiles had

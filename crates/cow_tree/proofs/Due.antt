@@ -12,13 +12,13 @@ use Rattle.lattice.specs.Corners.{Corner, is_before}
 use Rattle.lattice.proofs.CornerOrder.{same_says, after_not_same}
 use Rattle.lattice.proofs.Rising.{AllAfter, Rising, rising_from}
 use Rattle.page_codec.specs.Sizes.{pages_of, index_pages_by, index_pages_of}
-use Rattle.charts.specs.declared.locations.KeptLocations.{KeptLocations}
-use Rattle.charts.specs.Locations.{PlaneLocation, listing_of, moved_plane, pages_behind}
-use Rattle.charts.specs.TileLocations.{TileLocation, reached}
-use Rattle.charts.specs.Upgraded.{listing_of_kept, listing_of_tile, listings}
-use Rattle.charts.proofs.KeptChanging.{other_kept}
-use Rattle.charts.proofs.UpgradedTiles.{tiles_split}
-use Rattle.charts.specs.Charts.{ChartValue, IsChart, IsFresh, IsLocated, IsRewritten, IsPrepared, IsAdded, HasFreshHeights, AreKept, IsWholeTile, is_at, is_unreached, corners_of_locations, with_tile_location, without_location}
+use Rattle.page_map.specs.declared.locations.KeptLocations.{KeptLocations}
+use Rattle.page_map.specs.Locations.{PlaneLocation, listing_of, moved_plane, pages_behind}
+use Rattle.page_map.specs.TileLocations.{TileLocation, reached}
+use Rattle.page_map.specs.Upgraded.{listing_of_kept, listing_of_tile, listings}
+use Rattle.page_map.proofs.KeptChanging.{other_kept}
+use Rattle.page_map.proofs.UpgradedTiles.{tiles_split}
+use Rattle.page_map.specs.PageMaps.{PageMapValue, IsPageMap, IsFresh, IsLocated, IsRewritten, IsPrepared, IsAdded, HasFreshHeights, AreKept, IsWholeTile, is_at, is_unreached, corners_of_locations, with_tile_location, without_location}
 use Rattle.cow_tree.specs.Staged.{index_page_by, pages_due}
 use Rattle.cow_tree.specs.Stored.{with_corner}
 use Rattle.cow_tree.proofs.Adding.{added_there}
@@ -42,9 +42,9 @@ reached_from committed page has = ap not (list_any_at (λ q. q == page) (reached
 due_of : List TileLocation → List ℕ → ℕ
 due_of committed pages = length (filter (is_unreached committed) pages)
 
-due_is : (chart : ChartValue) → length (pages_due chart) ≡ due_of chart.committed (listings chart.staged)
+due_is : (page_map : PageMapValue) → length (pages_due page_map) ≡ due_of page_map.committed (listings page_map.staged)
 unfolding due_of
-due_is chart = refl
+due_is page_map = refl
 
 due_nothing : (committed : List TileLocation) → due_of committed [] ≡ 0
 unfolding due_of
@@ -127,22 +127,22 @@ due_among committed (u ∷ rest) t (suc k, lt, here) =
     omega (arith, due_cons committed u rest, due_among committed rest t (k, omega (arith, lt), here))
 
 -- nothing is staged
-pub none_due : (chart : ChartValue) → chart.staged ≡ chart.committed → length (pages_due chart) ≡ 0
-none_due chart clean =
-    due_is chart
-    ∙ ap (λ (tiles : List TileLocation). due_of chart.committed (listings tiles)) clean
-    ∙ due_none chart.committed (listings chart.committed)
-    (all_of_fewer (Contains (reached chart.committed)) (listings chart.committed) (reached chart.committed) (λ q. omega (arith, tiles_split q chart.committed)) (All-contains_itself (reached chart.committed)))
+pub none_due : (page_map : PageMapValue) → page_map.staged ≡ page_map.committed → length (pages_due page_map) ≡ 0
+none_due page_map clean =
+    due_is page_map
+    ∙ ap (λ (tiles : List TileLocation). due_of page_map.committed (listings tiles)) clean
+    ∙ due_none page_map.committed (listings page_map.committed)
+    (all_of_fewer (Contains (reached page_map.committed)) (listings page_map.committed) (reached page_map.committed) (λ q. omega (arith, tiles_split q page_map.committed)) (All-contains_itself (reached page_map.committed)))
 
 -- where heights are staged, their record is due
-pub fresh_due : (chart : ChartValue) (c : Corner) → HasFreshHeights c chart → 1 ≤ length (pages_due chart)
-fresh_due chart c (t, (staged, corner, fresh)) =
+pub fresh_due : (page_map : PageMapValue) (c : Corner) → HasFreshHeights c page_map → 1 ≤ length (pages_due page_map)
+fresh_due page_map c (t, (staged, corner, fresh)) =
     omega (
       arith,
-      due_is chart,
-      due_among chart.committed chart.staged t staged,
-      due_tile chart.committed t,
-      due_one chart.committed t.heights.record_page fresh.unreached,
+      due_is page_map,
+      due_among page_map.committed page_map.staged t staged,
+      due_tile page_map.committed t,
+      due_one page_map.committed t.heights.record_page fresh.unreached,
     )
 
 -- ---- the corner's tile changed
@@ -180,28 +180,28 @@ module _ (committed : List TileLocation) (c : Corner) (f : TileLocation → Tile
             (found.0, ((suc found.1.0.0, omega (arith, found.1.0.1), found.1.0.2), found.1.1, omega (arith, now, was, found.1.2)))
       ] refl some
 
-module _ (old new : ChartValue) (c : Corner) (f : TileLocation → TileLocation) (rules : IsChart old) (located : IsLocated c old.staged)
+module _ (old new : PageMapValue) (c : Corner) (f : TileLocation → TileLocation) (rules : IsPageMap old) (located : IsLocated c old.staged)
     (changed : new ≡ record old { staged = map (λ t. if is_at c t then f t else t) old.staged }) where
   the_tile : (t : TileLocation) × (Contains old.staged t × (t.corner ≡ c)
       × (length (pages_due new) + due_of old.committed (listing_of_tile t) ≡ length (pages_due old) + due_of old.committed (listing_of_tile (f t))))
   the_tile =
       let found = due_changed old.committed c f old.staged (rising_from corner_of old.staged rules.staged.in_order) (located_is c old.staged located) in
-      let now = ap (λ (x : ChartValue). length (pages_due x)) changed ∙ due_is (record old { staged = map (λ t. if is_at c t then f t else t) old.staged }) in
+      let now = ap (λ (x : PageMapValue). length (pages_due x)) changed ∙ due_is (record old { staged = map (λ t. if is_at c t then f t else t) old.staged }) in
       (found.0, (found.1.0, found.1.1, omega (arith, found.1.2, now, due_is old)))
 
 -- ---- its heights changed, and their record moved to a page that no committed tile reaches
-module _ (old new : ChartValue) (c : Corner) (g : PlaneLocation → PlaneLocation) (fresh : (p : PlaneLocation) → IsFresh new (g p).record_page)
+module _ (old new : PageMapValue) (c : Corner) (g : PlaneLocation → PlaneLocation) (fresh : (p : PlaneLocation) → IsFresh new (g p).record_page)
     (changed : new ≡ record old { staged = map (λ t. if is_at c t then record t { heights = g t.heights } else t) old.staged }) where
   abbrev moved : TileLocation → TileLocation
   moved t = record t { heights = g t.heights }
 
   committed_same : new.committed ≡ old.committed
-  committed_same = ap (λ (x : ChartValue). x.committed) changed
+  committed_same = ap (λ (x : PageMapValue). x.committed) changed
 
   staged_still : (other : Corner) → HasFreshHeights other old → HasFreshHeights other new
   staged_still = heights_still c moved (λ t. refl) old new changed (λ t was. fresh t.heights)
 
-  module _ (rules : IsChart old) (located : IsLocated c old.staged) where
+  module _ (rules : IsPageMap old) (located : IsLocated c old.staged) where
     found : (t : TileLocation) × (Contains old.staged t × (t.corner ≡ c)
         × (length (pages_due new) + due_of old.committed (listing_of_tile t) ≡ length (pages_due old) + due_of old.committed (listing_of_tile (moved t))))
     found = the_tile old new c moved rules located changed
@@ -233,7 +233,7 @@ module _ (old new : ChartValue) (c : Corner) (g : PlaneLocation → PlaneLocatio
         (subst (λ (u : TileLocation). ¬ Contains (reached old.committed) u.heights.record_page) (one_at_corner old.staged t tile rules.staged.in_order staged found.1.0 (here ∙ sym found.1.1)) was.unreached)
 
 -- a page written
-module _ (old new : ChartValue) (c : Corner) (i page : ℕ) (rules : IsChart old) (written : IsRewritten c i page old new) where
+module _ (old new : PageMapValue) (c : Corner) (i page : ℕ) (rules : IsPageMap old) (written : IsRewritten c i page old new) where
   abbrev rewrite : PlaneLocation → PlaneLocation
   rewrite = moved_plane i page written.index_page written.record_page
 
@@ -262,7 +262,7 @@ module _ (old new : ChartValue) (c : Corner) (i page : ℕ) (rules : IsChart old
     fresh_there : i / 1024 < length index → due_of old.committed (written.index_page ∷ []) ≡ 1
     fresh_there below =
         due_one old.committed written.index_page
-        (subst (λ (tiles : List TileLocation). ¬ Contains (reached tiles) written.index_page) (ap (λ (x : ChartValue). x.committed) written.changed) (written.fresh_index (omega (arith, below, whole_index))).unreached)
+        (subst (λ (tiles : List TileLocation). ¬ Contains (reached tiles) written.index_page) (ap (λ (x : PageMapValue). x.committed) written.changed) (written.fresh_index (omega (arith, below, whole_index))).unreached)
 
     more : due_of old.committed (slice_set index (i / 1024) written.index_page) ≤ due_of old.committed index + index_page_by old.format.version
     more = due_set_by old.committed (i / 1024) written.index_page old.format.version (pages_of old.format.side) index whole_index fresh_there
@@ -280,7 +280,7 @@ module _ (old new : ChartValue) (c : Corner) (i page : ℕ) (rules : IsChart old
     written_here = staged_here old new c rewrite fresh_record written.changed rules located
 
 -- a tile prepared
-module _ (old new : ChartValue) (c : Corner) (rules : IsChart old) (prepared : IsPrepared c old new) where
+module _ (old new : PageMapValue) (c : Corner) (rules : IsPageMap old) (prepared : IsPrepared c old new) where
   abbrev prepare : PlaneLocation → PlaneLocation
   prepare p = record p { record_page = prepared.record_page }
 
@@ -302,7 +302,7 @@ module _ (old new : ChartValue) (c : Corner) (rules : IsChart old) (prepared : I
     prepared_located = staged_here old new c prepare prepared_record prepared.changed rules located
 
 -- ---- other kept planes
-pub other_due : (old new : ChartValue) (c : Corner) (kept : Option KeptLocations) → new ≡ record old { staged = other_kept c kept old.staged } → IsChart old → IsLocated c old.staged
+pub other_due : (old new : PageMapValue) (c : Corner) (kept : Option KeptLocations) → new ≡ record old { staged = other_kept c kept old.staged } → IsPageMap old → IsLocated c old.staged
     → length (pages_due new) ≤ length (pages_due old) + length (listing_of_kept kept)
 other_due old new c kept changed rules located =
     let found = the_tile old new c (λ t. record t { kept = kept }) rules located changed in
@@ -311,7 +311,7 @@ other_due old new c kept changed rules located =
     let now = due_append old.committed (listing_of t.heights) (listing_of_kept kept) in
     omega (arith, found.1.2, was, now, due_few old.committed (listing_of_kept kept))
 
-pub kept_more : (old new : ChartValue) (c : Corner) → AreKept c old new → IsChart old → IsLocated c old.staged → length (pages_due new) ≤ length (pages_due old) + 2 * (1 + index_pages_of old.format)
+pub kept_more : (old new : PageMapValue) (c : Corner) → AreKept c old new → IsPageMap old → IsLocated c old.staged → length (pages_due new) ≤ length (pages_due old) + 2 * (1 + index_pages_of old.format)
 kept_more old new c anew rules located =
     omega (arith, other_due old new c (Some anew.locations) anew.changed rules located, length-append (listing_of anew.locations.levels) (listing_of anew.locations.labels), anew.whole.levels.index_pages, anew.whole.labels.index_pages)
 
@@ -336,19 +336,19 @@ corners_added t (u ∷ rest) = by_test (is_before t.corner u.corner) (corners_ad
     by_test true later = refl
     by_test false later = ap (λ (l : List Corner). u.corner ∷ l) later
 
-module _ (old new : ChartValue) (c : Corner) (added : IsAdded c old new) where
+module _ (old new : PageMapValue) (c : Corner) (added : IsAdded c old new) where
   abbrev one_more : TileLocation
   one_more = record { corner = c; heights = added.location; kept = None }
 
   all_fresh : All (λ q. ¬ Contains (reached old.committed) q) (listing_of added.location)
   all_fresh =
       All-weaker (IsFresh new) (λ q. ¬ Contains (reached old.committed) q)
-      (λ q fresh. subst (λ (tiles : List TileLocation). ¬ Contains (reached tiles) q) (ap (λ (x : ChartValue). x.committed) added.changed) fresh.unreached) (listing_of added.location)
+      (λ q fresh. subst (λ (tiles : List TileLocation). ¬ Contains (reached tiles) q) (ap (λ (x : PageMapValue). x.committed) added.changed) fresh.unreached) (listing_of added.location)
       (All-front (IsFresh new) (listing_of added.location) added.location.pages added.fresh)
 
   pub added_due : length (pages_due new) ≡ length (pages_due old) + (1 + index_pages_of old.format)
   added_due =
-      let now = ap (λ (x : ChartValue). length (pages_due x)) added.changed ∙ due_is (record old { staged = with_tile_location one_more old.staged }) in
+      let now = ap (λ (x : PageMapValue). length (pages_due x)) added.changed ∙ due_is (record old { staged = with_tile_location one_more old.staged }) in
       let whole = due_append old.committed (listing_of added.location) [] in
       omega (arith, now, due_is old, due_added old.committed one_more old.staged, whole, due_nothing old.committed, due_all old.committed (listing_of added.location) all_fresh, added.whole.index_pages)
 
@@ -356,14 +356,14 @@ module _ (old new : ChartValue) (c : Corner) (added : IsAdded c old new) where
   added_here = (
     one_more,
     (
-      subst (λ (tiles : List TileLocation). Contains tiles one_more) (sym (ap (λ (x : ChartValue). x.staged) added.changed)) (added_there one_more old.staged),
+      subst (λ (tiles : List TileLocation). Contains tiles one_more) (sym (ap (λ (x : PageMapValue). x.staged) added.changed)) (added_there one_more old.staged),
       refl,
       All-head (IsFresh new) added.location.record_page (pages_behind added.location) added.fresh,
     ),
   )
 
   pub added_corners : corners_of_locations new.staged ≡ with_corner c (corners_of_locations old.staged)
-  added_corners = ap (λ (x : ChartValue). corners_of_locations x.staged) added.changed ∙ corners_added one_more old.staged
+  added_corners = ap (λ (x : PageMapValue). corners_of_locations x.staged) added.changed ∙ corners_added one_more old.staged
 
 -- ---- a tile taken out
 due_filtered : (committed : List TileLocation) (p : TileLocation → Bool) (tiles : List TileLocation) → due_of committed (listings (filter p tiles)) ≤ due_of committed (listings tiles)
@@ -377,7 +377,7 @@ due_filtered committed p (t ∷ rest) =
       | false ↦ omega (arith, later, was)
     ]
 
-pub without_due : (old new : ChartValue) (c : Corner) → new ≡ record old { staged = without_location c old.staged } → length (pages_due new) ≤ length (pages_due old)
+pub without_due : (old new : PageMapValue) (c : Corner) → new ≡ record old { staged = without_location c old.staged } → length (pages_due new) ≤ length (pages_due old)
 without_due old new c removed =
-    let now = ap (λ (x : ChartValue). length (pages_due x)) removed ∙ due_is (record old { staged = without_location c old.staged }) in
+    let now = ap (λ (x : PageMapValue). length (pages_due x)) removed ∙ due_is (record old { staged = without_location c old.staged }) in
     omega (arith, now, due_is old, due_filtered old.committed (λ t. not (is_at c t)) old.staged)

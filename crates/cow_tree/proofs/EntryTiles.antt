@@ -6,38 +6,38 @@ use Rattle.std.proofs.lemmas.List.Elements.{All-head, All-contains, All-map, All
 use Rattle.lattice.specs.Corners.{Corner, is_corner}
 use Rattle.page_codec.specs.Entries.{EntryValue, IsPage, AreKept, IsEntry}
 use Rattle.page_codec.specs.Roots.{AreInOrder}
-use Rattle.charts.specs.declared.locations.KeptLocations.{KeptLocations}
-use Rattle.charts.specs.Locations.{PlaneLocation, pages_behind, pages_of_plane}
-use Rattle.charts.specs.TileLocations.{TileLocation, pages_of_kept, pages_of_tile, reached}
-use Rattle.charts.specs.Charts.{ChartValue, IsChart, HasHeights, HasKept, IsLocated, corners_of_locations}
+use Rattle.page_map.specs.declared.locations.KeptLocations.{KeptLocations}
+use Rattle.page_map.specs.Locations.{PlaneLocation, pages_behind, pages_of_plane}
+use Rattle.page_map.specs.TileLocations.{TileLocation, pages_of_kept, pages_of_tile, reached}
+use Rattle.page_map.specs.PageMaps.{PageMapValue, IsPageMap, HasHeights, HasKept, IsLocated, corners_of_locations}
 use Rattle.cow_tree.specs.Entries.{entry_of_kept, entry_of}
 use Rattle.cow_tree.proofs.Standing.{All-back}
 use Rattle.cow_tree.proofs.Tiles.{each_tile, one_at_corner, adjacent_map}
 
-module _ (chart : ChartValue) (rules : IsChart chart) where
+module _ (page_map : PageMapValue) (rules : IsPageMap page_map) where
   -- ---- what a corner's tile is named by
-  pub entry_is : (c : Corner) (heights : PlaneLocation) (kept : Option (Bor KeptLocations)) → HasHeights c heights chart.staged → IfSome kept (λ k. HasKept c k.now chart.staged)
-      → IfNone kept ((t : TileLocation) → Contains chart.staged t → t.corner ≡ c → t.kept ≡ None)
-      → (t : TileLocation) → Contains chart.staged t → t.corner ≡ c → record { corner = c; heights = heights.record_page; kept = entry_of_kept (option_copied kept) } ≡ entry_of t
+  pub entry_is : (c : Corner) (heights : PlaneLocation) (kept : Option (Bor KeptLocations)) → HasHeights c heights page_map.staged → IfSome kept (λ k. HasKept c k.now page_map.staged)
+      → IfNone kept ((t : TileLocation) → Contains page_map.staged t → t.corner ≡ c → t.kept ≡ None)
+      → (t : TileLocation) → Contains page_map.staged t → t.corner ≡ c → record { corner = c; heights = heights.record_page; kept = entry_of_kept (option_copied kept) } ≡ entry_of t
   entry_is c heights kept had some none t has at =
       ap₂ (λ (h : PlaneLocation) (k : Option KeptLocations). let e : EntryValue = record { corner = c; heights = h.record_page; kept = entry_of_kept k } in e)
       (sym had.1.2 ∙ ap (λ (u : TileLocation). u.heights) (same had.0 had.1.0 had.1.1)) (kept_is kept some none)
       ∙ ap (λ (d : Corner). let e : EntryValue = record { corner = d; heights = t.heights.record_page; kept = entry_of_kept t.kept } in e) (sym at)
     where
-      same : (u : TileLocation) → Contains chart.staged u → u.corner ≡ c → u ≡ t
-      same u among here = one_at_corner chart.staged u t rules.staged.in_order among has (here ∙ sym at)
+      same : (u : TileLocation) → Contains page_map.staged u → u.corner ≡ c → u ≡ t
+      same u among here = one_at_corner page_map.staged u t rules.staged.in_order among has (here ∙ sym at)
 
-      kept_is : (k : Option (Bor KeptLocations)) → IfSome k (λ q. HasKept c q.now chart.staged) → IfNone k ((u : TileLocation) → Contains chart.staged u → u.corner ≡ c → u.kept ≡ None) → option_copied k ≡ t.kept
+      kept_is : (k : Option (Bor KeptLocations)) → IfSome k (λ q. HasKept c q.now page_map.staged) → IfNone k ((u : TileLocation) → Contains page_map.staged u → u.corner ≡ c → u.kept ≡ None) → option_copied k ≡ t.kept
       kept_is None some none = sym (none t has at)
       kept_is (Some k) (u, (among, here, is)) none = sym is ∙ ap (λ (v : TileLocation). v.kept) (same u among here)
 
-  module _ (fits : chart.sectors < 2 ^ 32) where
-    pub entry_rules : (t : TileLocation) → Contains chart.staged t → IsEntry (entry_of t)
+  module _ (fits : page_map.sectors < 2 ^ 32) where
+    pub entry_rules : (t : TileLocation) → Contains page_map.staged t → IsEntry (entry_of t)
     entry_rules t has =
-        let all : All IsPage (reached chart.staged) = λ k d lt. let low = rules.staged.page_rule.low k d lt in let high = rules.staged.page_rule.high k d lt in (omega (arith, low), omega (arith, high, fits)) in
-        let pages : All IsPage (pages_of_tile t) = All-contains (λ u. All IsPage (pages_of_tile u)) chart.staged t (each_tile IsPage chart.staged all) has in
+        let all : All IsPage (reached page_map.staged) = λ k d lt. let low = rules.staged.page_rule.low k d lt in let high = rules.staged.page_rule.high k d lt in (omega (arith, low), omega (arith, high, fits)) in
+        let pages : All IsPage (pages_of_tile t) = All-contains (λ u. All IsPage (pages_of_tile u)) page_map.staged t (each_tile IsPage page_map.staged all) has in
         record {
-          corner = All-contains (λ u. IsTrue (is_corner u.corner)) chart.staged t rules.staged.corners has;
+          corner = All-contains (λ u. IsTrue (is_corner u.corner)) page_map.staged t rules.staged.corners has;
           heights = All-head IsPage t.heights.record_page (pages_behind t.heights ++ pages_of_kept t.kept) pages;
           kept = kept_rules t.kept (All-back IsPage (pages_of_plane t.heights) (pages_of_kept t.kept) pages);
         }
@@ -49,11 +49,11 @@ module _ (chart : ChartValue) (rules : IsChart chart) where
           labels = All-head IsPage k.labels.record_page (pages_behind k.labels) (All-back IsPage (pages_of_plane k.levels) (pages_of_plane k.labels) pages);
         }
 
-    pub entries_rules : All IsEntry (map entry_of chart.staged)
-    entries_rules = All-map IsEntry entry_of chart.staged (λ k d lt. entry_rules (get_or chart.staged k d) (All-contains_itself chart.staged k d lt))
+    pub entries_rules : All IsEntry (map entry_of page_map.staged)
+    entries_rules = All-map IsEntry entry_of page_map.staged (λ k d lt. entry_rules (get_or page_map.staged k d) (All-contains_itself page_map.staged k d lt))
 
-  pub entries_in_order : AreInOrder (map entry_of chart.staged)
-  entries_in_order = adjacent_map entry_of (λ e. e.corner) chart.staged rules.staged.in_order
+  pub entries_in_order : AreInOrder (map entry_of page_map.staged)
+  entries_in_order = adjacent_map entry_of (λ e. e.corner) page_map.staged rules.staged.in_order
 
 -- ---- the tile of the next corner
 pub tile_at : (tiles : List TileLocation) (k : ℕ) (c : Corner) → k < length (corners_of_locations tiles) → c ≡ get_or (corners_of_locations tiles) k c

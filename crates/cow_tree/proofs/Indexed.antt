@@ -12,7 +12,7 @@ use Rattle.layout.specs.declared.version.Version.TheVariants.{One, Two}
 use Rattle.page_codec.specs.Formats.{Format}
 use Rattle.page_codec.specs.Records.{IsRecord, part_of, record_bytes}
 use Rattle.page_codec.specs.Sizes.{pages_of, index_pages_by, index_pages_of, listed_in, listed_by as count_listed}
-use Rattle.charts.specs.Locations.{PlaneLocation, IsWholePlane, pages_behind}
+use Rattle.page_map.specs.Locations.{PlaneLocation, IsWholePlane, pages_behind}
 use Rattle.cow_tree.specs.Layout.{HasRecord, IsIndexed, listed_by}
 use Rattle.cow_tree.specs.Found.{NoneListed, NoneIndexed, NonePlane}
 use Rattle.page_codec.proofs.RecordPages.{same_records}

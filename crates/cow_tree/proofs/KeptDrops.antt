@@ -4,10 +4,10 @@ use Rattle.std.specs.Prelude.{Option, None, IfSome}
 use Rattle.disk.specs.Disk.{Image}
 use Rattle.lattice.specs.Corners.{Corner}
 use Rattle.page_codec.specs.Formats.{Format}
-use Rattle.charts.specs.TileLocations.{TileLocation}
-use Rattle.charts.specs.Charts.{ChartValue, HasFreshHeights, is_at, corners_of_locations, without_kept}
-use Rattle.charts.specs.declared.locations.KeptLocations.{KeptLocations}
-use Rattle.charts.proofs.KeptChanging.{other_kept}
+use Rattle.page_map.specs.TileLocations.{TileLocation}
+use Rattle.page_map.specs.PageMaps.{PageMapValue, HasFreshHeights, is_at, corners_of_locations, without_kept}
+use Rattle.page_map.specs.declared.locations.KeptLocations.{KeptLocations}
+use Rattle.page_map.proofs.KeptChanging.{other_kept}
 use Rattle.cow_tree.specs.Layout.{tile_in}
 use Rattle.cow_tree.specs.Staged.{AreListedBy, AreStaged, IsTileListed}
 use Rattle.cow_tree.specs.Stored.{StoredTile, stale_tile, made_stale}
@@ -29,7 +29,7 @@ module _ (c : Corner) (kept : Option KeptLocations) where
   pub other_corners : (tiles : List TileLocation) → corners_of_locations (other_kept c kept tiles) ≡ corners_of_locations tiles
   other_corners = corners_still c with_kept (λ t. refl)
 
-  pub other_still : (old new : ChartValue) (other : Corner) → new ≡ record old { staged = other_kept c kept old.staged } → HasFreshHeights other old → HasFreshHeights other new
+  pub other_still : (old new : PageMapValue) (other : Corner) → new ≡ record old { staged = other_kept c kept old.staged } → HasFreshHeights other old → HasFreshHeights other new
   other_still old new other changed = heights_still c with_kept (λ t. refl) old new changed (λ t fresh. fresh) other
 
   pub other_stays : (format : Format) (committed : List TileLocation) (image : Image) → IfSome kept (AreListedBy format committed image) → (tiles : List TileLocation)

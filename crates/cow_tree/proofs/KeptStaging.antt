@@ -6,12 +6,12 @@ use Rattle.std.proofs.lemmas.List.Elements.{Contains-get_or}
 use Rattle.disk.specs.Disk.{Image}
 use Rattle.lattice.specs.Corners.{Corner}
 use Rattle.page_codec.specs.Formats.{Format}
-use Rattle.charts.specs.declared.locations.KeptLocations.{KeptLocations}
-use Rattle.charts.specs.Charts.{ChartValue, IsChart, IsClean, IsFresh, IsLocated, HasKept, AreKept, AreWholeKept, is_at, is_unreached, with_kept_locations}
-use Rattle.charts.specs.Locations.{PlaneLocation, listing_of, pages_behind, pages_of_plane, times}
-use Rattle.charts.specs.TileLocations.{TileLocation, pages_of_kept, pages_of_tile, reached}
-use Rattle.charts.proofs.Occurrences.{times-append, times_here, stands_there}
-use Rattle.charts.proofs.Times.{member_of_times}
+use Rattle.page_map.specs.declared.locations.KeptLocations.{KeptLocations}
+use Rattle.page_map.specs.PageMaps.{PageMapValue, IsPageMap, IsClean, IsFresh, IsLocated, HasKept, AreKept, AreWholeKept, is_at, is_unreached, with_kept_locations}
+use Rattle.page_map.specs.Locations.{PlaneLocation, listing_of, pages_behind, pages_of_plane, times}
+use Rattle.page_map.specs.TileLocations.{TileLocation, pages_of_kept, pages_of_tile, reached}
+use Rattle.page_map.proofs.Occurrences.{times-append, times_here, stands_there}
+use Rattle.page_map.proofs.Times.{member_of_times}
 use Rattle.cow_tree.specs.Kept.{with_kept}
 use Rattle.cow_tree.specs.Layout.{kept_in, tile_in}
 use Rattle.cow_tree.specs.Staged.{AreListedBy, AreStaged, IsListedBy}
@@ -45,12 +45,12 @@ kept_tiles c k planes a b (t ∷ rest) wrote same =
     by_test true = ap₂ (λ (x : PlanePages) (y : Option KeptPlanes). record { corner = t.corner; heights = x; kept = y }) (sym (plane_same t.heights a b (All-front (λ q. a q ≡ b q) (pages_of_plane t.heights) (pages_of_kept t.kept) here))) wrote
     by_test false = sym (tile_same t a b here)
 
-module _ (old new : ChartValue) (c : Corner) (rules : IsChart new) (was : IsChart old) (anew : AreKept c old new) (clean : IsClean old) (located : IsLocated c old.staged) where
+module _ (old new : PageMapValue) (c : Corner) (rules : IsPageMap new) (was : IsPageMap old) (anew : AreKept c old new) (clean : IsClean old) (located : IsLocated c old.staged) where
   staged_is : new.staged ≡ with_kept_locations c anew.locations old.staged
-  staged_is = ap (λ (x : ChartValue). x.staged) anew.changed
+  staged_is = ap (λ (x : PageMapValue). x.staged) anew.changed
 
   committed_is : new.committed ≡ old.committed
-  committed_is = ap (λ (x : ChartValue). x.committed) anew.changed
+  committed_is = ap (λ (x : PageMapValue). x.committed) anew.changed
 
   has_kept : HasKept c anew.locations new.staged
   has_kept = subst (HasKept c anew.locations) (sym staged_is) (kept_tile c anew.locations old.staged located)

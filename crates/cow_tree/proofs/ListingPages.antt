@@ -11,16 +11,16 @@ use Rattle.page_codec.specs.Formats.{Format}
 use Rattle.page_codec.specs.Records.{part_of, record_bytes}
 use Rattle.roots.specs.Roots.{disk_of, has_failed}
 use Rattle.roots.specs.declared.roots.Roots.{Roots}
-use Rattle.charts.specs.declared.locations.KeptLocations.{KeptLocations}
-use Rattle.charts.specs.declared.plane.Plane.{Plane}
-use Rattle.charts.specs.declared.plane.Plane.TheVariants.{Heights, Levels, Labels}
-use Rattle.charts.specs.Charts.{is_unreached}
-use Rattle.charts.specs.Locations.{PlaneLocation, listing_of, times}
-use Rattle.charts.specs.Planes.{plane_of}
-use Rattle.charts.specs.TileLocations.{TileLocation, KeepsPageRule, reached}
-use Rattle.charts.specs.Upgraded.{listing_of_kept, listing_of_tile, listings}
-use Rattle.charts.proofs.Occurrences.{times-append, stands_there}
-use Rattle.charts.proofs.UpgradedTiles.{tiles_split}
+use Rattle.page_map.specs.declared.locations.KeptLocations.{KeptLocations}
+use Rattle.page_map.specs.declared.plane.Plane.{Plane}
+use Rattle.page_map.specs.declared.plane.Plane.TheVariants.{Heights, Levels, Labels}
+use Rattle.page_map.specs.PageMaps.{is_unreached}
+use Rattle.page_map.specs.Locations.{PlaneLocation, listing_of, times}
+use Rattle.page_map.specs.Planes.{plane_of}
+use Rattle.page_map.specs.TileLocations.{TileLocation, KeepsPageRule, reached}
+use Rattle.page_map.specs.Upgraded.{listing_of_kept, listing_of_tile, listings}
+use Rattle.page_map.proofs.Occurrences.{times-append, stands_there}
+use Rattle.page_map.proofs.UpgradedTiles.{tiles_split}
 use Rattle.cow_tree.specs.Listings.{ListingPage, WritesListing, IsOn, due_among, index_listing, kept_listing, listing_bytes, listing_if, named_listing, numbers_of, plane_listing, tile_listing, tiles_listing}
 use Rattle.cow_tree.specs.OverRoots.{WritesPages}
 use Rattle.cow_tree.proofs.Counting.{all_at_times, at_times, times_among, times_failing, times_passing}

@@ -5,7 +5,7 @@ use Rattle.disk.specs.Disk.{Image}
 use Rattle.page_codec.specs.Roots.{RootValue}
 use Rattle.roots.specs.Slots.{is_open, IsSpelledBy, IsLaterThan, IsCurrent}
 use Rattle.roots.specs.declared.slot.Slot.TheVariants.{A, B}
-use Rattle.charts.specs.TileLocations.{reached}
+use Rattle.page_map.specs.TileLocations.{reached}
 use Rattle.cow_tree.specs.Longer.{StandsWhereLonger}
 use Rattle.cow_tree.proofs.Standing.{stores_same}
 

@@ -17,9 +17,9 @@ use Rattle.page_codec.specs.Sizes.{pages_of, index_pages_by}
 use Rattle.page_codec.proofs.RecordPages.{same_records}
 use Rattle.cow_tree.proofs.Standing.{All-front, All-back}
 use Rattle.roots.proofs.OneAnswer.{one_is_current}
-use Rattle.charts.specs.declared.locations.KeptLocations.{KeptLocations}
-use Rattle.charts.specs.Locations.{PlaneLocation, IsWholePlane, pages_behind}
-use Rattle.charts.specs.TileLocations.{TileLocation}
+use Rattle.page_map.specs.declared.locations.KeptLocations.{KeptLocations}
+use Rattle.page_map.specs.Locations.{PlaneLocation, IsWholePlane, pages_behind}
+use Rattle.page_map.specs.TileLocations.{TileLocation}
 use Rattle.cow_tree.specs.Entries.{entry_of_kept, entry_of}
 use Rattle.cow_tree.specs.Layout.{HasRecord, HaveKeptRecords, HasRecords, IsIndexed, IsLaidOut, listed_by, stored_in, StandsForOne}
 

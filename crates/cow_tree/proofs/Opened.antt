@@ -13,8 +13,8 @@ use Rattle.roots.specs.Opening.{OpensAs, StoresOpen}
 use Rattle.roots.specs.Roots.{IsReady, ready_current}
 use Rattle.roots.specs.Slots.{is_open, IsCurrent}
 use Rattle.roots.specs.declared.slot.Slot.TheVariants.{A}
-use Rattle.charts.specs.Charts.{ChartValue, IsChart, IsClean}
-use Rattle.charts.specs.TileLocations.{TileLocation, KeepsPageRule}
+use Rattle.page_map.specs.PageMaps.{PageMapValue, IsPageMap, IsClean}
+use Rattle.page_map.specs.TileLocations.{TileLocation, KeepsPageRule}
 use Rattle.cow_tree.specs.Entries.{entry_of}
 use Rattle.cow_tree.specs.Layout.{stored_in, tile_in, HasRecords, IsLaidOut, StoresAt, Stands, NoTilesStand}
 use Rattle.cow_tree.specs.OverRoots.{IsRefusedFor}
@@ -43,43 +43,43 @@ formatted_stands n format root seen image is_root current same room = (
   },
 )
 
--- the tiles of a chart that was read
-pub opened_stores : (n : ℕ) (root : RootValue) (chart : ChartValue) (image : Image) → IsCurrent root image → IsChart chart → chart.sectors ≡ n → chart.format ≡ format_of root → map entry_of chart.committed ≡ root.entries → All (HasRecords (format_of root) image) chart.committed
-    → StoresAt n root chart.committed (stored_in image root chart.committed) image
-opened_stores n root chart image current rules sectors format entries records = record {
+-- the tiles of a page_map that was read
+pub opened_stores : (n : ℕ) (root : RootValue) (page_map : PageMapValue) (image : Image) → IsCurrent root image → IsPageMap page_map → page_map.sectors ≡ n → page_map.format ≡ format_of root → map entry_of page_map.committed ≡ root.entries → All (HasRecords (format_of root) image) page_map.committed
+    → StoresAt n root page_map.committed (stored_in image root page_map.committed) image
+opened_stores n root page_map image current rules sectors format entries records = record {
   laid_out = record {
-    store = (current, subst (λ (k : ℕ). sectors_asked (format_of root) ≤ k) sectors (subst (λ (f : Format). sectors_asked f ≤ chart.sectors) format rules.size));
+    store = (current, subst (λ (k : ℕ). sectors_asked (format_of root) ≤ k) sectors (subst (λ (f : Format). sectors_asked f ≤ page_map.sectors) format rules.size));
     entries = entries;
     records = records;
-    page_rule = subst (λ (k : ℕ). KeepsPageRule k chart.committed) sectors rules.committed.page_rule;
+    page_rule = subst (λ (k : ℕ). KeepsPageRule k page_map.committed) sectors rules.committed.page_rule;
   };
   stands = refl;
 }
 
-pub clean_staged : (n : ℕ) (root : RootValue) (chart : ChartValue) (image : Image) → IsClean chart → StoresAt n root chart.committed (stored_in image root chart.committed) image → AreStaged (format_of root) chart.committed chart.staged image
-clean_staged n root chart image clean stores =
-    subst (λ (tiles : List TileLocation). AreStaged (format_of root) chart.committed tiles image) (sym clean) (nothing_staged n root chart.committed (stored_in image root chart.committed) image stores)
+pub clean_staged : (n : ℕ) (root : RootValue) (page_map : PageMapValue) (image : Image) → IsClean page_map → StoresAt n root page_map.committed (stored_in image root page_map.committed) image → AreStaged (format_of root) page_map.committed page_map.staged image
+clean_staged n root page_map image clean stores =
+    subst (λ (tiles : List TileLocation). AreStaged (format_of root) page_map.committed tiles image) (sym clean) (nothing_staged n root page_map.committed (stored_in image root page_map.committed) image stores)
 
 -- a tree that was just read from the image stands for what the image holds
 pub opened : {D : Type 0} (g : Ghosts D) (tree : Tree D g) (n : ℕ) (image : Image) → IsReady g tree.roots → g.size tree.roots.disk ≡ n → g.seen tree.roots.disk ≡ image → Only image (g.may tree.roots.disk)
-    → g.may tree.roots.disk (g.seen tree.roots.disk) → IsChart tree.chart → IsClean tree.chart → All (HasRecords (format_of tree.root) image) tree.chart.committed
+    → g.may tree.roots.disk (g.seen tree.roots.disk) → IsPageMap tree.page_map → IsClean tree.page_map → All (HasRecords (format_of tree.root) image) tree.page_map.committed
     → (s : Stored) × (Stands n image s × (IsAt g tree s × (staged_in g tree ≡ s.tiles)))
 opened g tree n image ready size seen only here rules clean records =
     let root_is : tree.roots.root ≡ tree.root = tree.known ready.works in
     let current : IsCurrent tree.root image = subst (λ (i : Image). IsCurrent tree.root i) seen (subst (λ (r : RootValue). IsCurrent r (g.seen tree.roots.disk)) root_is (ready_current g tree.roots (g.seen tree.roots.disk) ready here)) in
-    let s : Stored = stored_in image tree.root tree.chart.committed in
-    let stores : StoresAt n tree.root tree.chart.committed s image = opened_stores n tree.root tree.chart image current rules (tree.sectors ∙ size) tree.format tree.entries records in (
+    let s : Stored = stored_in image tree.root tree.page_map.committed in
+    let stores : StoresAt n tree.root tree.page_map.committed s image = opened_stores n tree.root tree.page_map image current rules (tree.sectors ∙ size) tree.format tree.entries records in (
       s,
       (
-        (tree.root, tree.chart.committed, stores),
+        (tree.root, tree.page_map.committed, stores),
         (
           record {
             ready = ready;
-            each = λ i may. stores_along n (g.size tree.roots.disk) tree.root tree.roots.root tree.chart.committed tree.chart.committed s i size root_is refl
-                (subst (λ (x : Image). StoresAt n tree.root tree.chart.committed s x) (sym (only i may)) stores);
-            staged = subst (λ (i : Image). AreStaged (format_of tree.root) tree.chart.committed tree.chart.staged i) (sym seen) (clean_staged n tree.root tree.chart image clean stores);
+            each = λ i may. stores_along n (g.size tree.roots.disk) tree.root tree.roots.root tree.page_map.committed tree.page_map.committed s i size root_is refl
+                (subst (λ (x : Image). StoresAt n tree.root tree.page_map.committed s x) (sym (only i may)) stores);
+            staged = subst (λ (i : Image). AreStaged (format_of tree.root) tree.page_map.committed tree.page_map.staged i) (sym seen) (clean_staged n tree.root tree.page_map image clean stores);
           },
-          ap (map (tile_in (g.seen tree.roots.disk))) clean ∙ ap (λ (i : Image). map (tile_in i) tree.chart.committed) seen,
+          ap (map (tile_in (g.seen tree.roots.disk))) clean ∙ ap (λ (i : Image). map (tile_in i) tree.page_map.committed) seen,
         ),
       ),
     )
@@ -91,9 +91,9 @@ records_refuse n image root why law opens refused =
     (λ other. ⊎_elim (λ device. inl device) (λ rest. ⊎_elim (λ memory. inr (inl memory)) (λ damaged. inr (inr (inr (damaged.0, (root, (opens, damaged.1)))))) rest) other) refused
 
 -- .. where the roots opened as this root, and the image was read from then on
-pub chart_refuses : (n m : ℕ) (image read : Image) (root known : RootValue) (why : Refusal) (Fault : Type 0) → m ≡ n → read ≡ image → root ≡ known → ¬ Fault → Fault ⊎ OpensAs n image (Ok known)
+pub page_map_refuses : (n m : ℕ) (image read : Image) (root known : RootValue) (why : Refusal) (Fault : Type 0) → m ≡ n → read ≡ image → root ≡ known → ¬ Fault → Fault ⊎ OpensAs n image (Ok known)
     → (m < sectors_asked (format_of root)) ⊎ IsRefusedFor ((tiles : List TileLocation) → ¬ IsLaidOut m read root tiles) why → MayRefuse n image why
-chart_refuses n m image read root known why Fault size same root_is none opens refused =
+page_map_refuses n m image read root known why Fault size same root_is none opens refused =
     let F : ℕ → Image → Type 0 = λ k i. (k < sectors_asked (format_of root)) ⊎ IsRefusedFor ((tiles : List TileLocation) → ¬ IsLaidOut k i root tiles) why in
     records_refuse n image root why stores_open
     (subst (λ (r : RootValue). OpensAs n image (Ok r)) (sym root_is) (⊎_elim (λ fault. absurd (none fault)) (λ opened. opened) opens))

@@ -8,14 +8,14 @@ use Rattle.disk.specs.Disk.{Image}
 use Rattle.lattice.specs.Corners.{Corner}
 use Rattle.page_codec.specs.Formats.{Format}
 use Rattle.page_codec.specs.Sizes.{pages_of}
-use Rattle.charts.specs.declared.locations.KeptLocations.{KeptLocations}
-use Rattle.charts.specs.declared.plane.Plane.{Plane}
-use Rattle.charts.specs.declared.plane.Plane.TheVariants.{Heights, Levels, Labels}
-use Rattle.charts.specs.Locations.{PlaneLocation, pages_behind, pages_of_plane}
-use Rattle.charts.specs.TileLocations.{TileLocation, pages_of_kept, pages_of_tile, reached}
+use Rattle.page_map.specs.declared.locations.KeptLocations.{KeptLocations}
+use Rattle.page_map.specs.declared.plane.Plane.{Plane}
+use Rattle.page_map.specs.declared.plane.Plane.TheVariants.{Heights, Levels, Labels}
+use Rattle.page_map.specs.Locations.{PlaneLocation, pages_behind, pages_of_plane}
+use Rattle.page_map.specs.TileLocations.{TileLocation, pages_of_kept, pages_of_tile, reached}
 use Rattle.cow_tree.specs.Layout.{plane_in, kept_in, tile_in}
-use Rattle.charts.specs.Charts.{IsWholeTile, AreWholeKept}
-use Rattle.charts.specs.Planes.{HasPlaneAt}
+use Rattle.page_map.specs.PageMaps.{IsWholeTile, AreWholeKept}
+use Rattle.page_map.specs.Planes.{HasPlaneAt}
 use Rattle.cow_tree.specs.Planes.{HasPage}
 use Rattle.cow_tree.proofs.Adding.{contains-map}
 use Rattle.cow_tree.proofs.Standing.{All-front, All-back}

@@ -12,9 +12,9 @@ use Rattle.lattice.specs.declared.refusal.Refusal.TheVariants.{Device}
 use Rattle.roots.specs.Roots.{disk_of, root_of, has_begun, has_failed, IsReady}
 use Rattle.roots.specs.Slots.{SamePagesBut, KeepsBut}
 use Rattle.roots.specs.declared.roots.Roots.{Roots}
-use Rattle.charts.specs.TileLocations.{reached}
-use Rattle.charts.specs.Locations.{times}
-use Rattle.charts.proofs.Occurrences.{times-append, apart_head}
+use Rattle.page_map.specs.TileLocations.{reached}
+use Rattle.page_map.specs.Locations.{times}
+use Rattle.page_map.proofs.Occurrences.{times-append, apart_head}
 use Rattle.cow_tree.specs.Layout.{StoresAt}
 use Rattle.cow_tree.specs.OverRoots.{EachStores, WritesPages}
 use Rattle.cow_tree.proofs.Counting.{all_of_fewer}

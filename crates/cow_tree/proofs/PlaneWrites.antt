@@ -10,15 +10,15 @@ use Rattle.lattice.specs.declared.refusal.Refusal.{Refusal}
 use Rattle.page_codec.specs.Formats.{Format}
 use Rattle.roots.specs.Roots.{disk_of}
 use Rattle.roots.specs.declared.roots.Roots.{Roots}
-use Rattle.charts.specs.declared.locations.KeptLocations.{KeptLocations}
-use Rattle.charts.specs.declared.plane.Plane.{Plane}
-use Rattle.charts.specs.declared.plane.Plane.TheVariants.{Heights, Levels, Labels}
-use Rattle.charts.specs.Charts.{AreWholeKept, ChartValue, IsChart, IsWholeTile, is_unreached, page_if}
-use Rattle.charts.specs.Locations.{PlaneLocation, IsWholePlane, listing_of, times}
-use Rattle.charts.specs.Planes.{HasPlane, HasPlaneAt, LiesAt, plane_of}
-use Rattle.charts.specs.TileLocations.{TileLocation, reached}
-use Rattle.charts.proofs.DueListings.{lies}
-use Rattle.charts.proofs.Occurrences.{stands_there, times-append}
+use Rattle.page_map.specs.declared.locations.KeptLocations.{KeptLocations}
+use Rattle.page_map.specs.declared.plane.Plane.{Plane}
+use Rattle.page_map.specs.declared.plane.Plane.TheVariants.{Heights, Levels, Labels}
+use Rattle.page_map.specs.PageMaps.{AreWholeKept, PageMapValue, IsPageMap, IsWholeTile, is_unreached, page_if}
+use Rattle.page_map.specs.Locations.{PlaneLocation, IsWholePlane, listing_of, times}
+use Rattle.page_map.specs.Planes.{HasPlane, HasPlaneAt, LiesAt, plane_of}
+use Rattle.page_map.specs.TileLocations.{TileLocation, reached}
+use Rattle.page_map.proofs.DueListings.{lies}
+use Rattle.page_map.proofs.Occurrences.{stands_there, times-append}
 use Rattle.cow_tree.specs.Listings.{ListingPage, WritesListing, due_among, listing_bytes, listing_if, named_listing, numbers_of, plane_listing}
 use Rattle.cow_tree.specs.OverRoots.{WritesPages}
 use Rattle.cow_tree.proofs.Counting.{at_times}
@@ -27,29 +27,29 @@ use Rattle.cow_tree.proofs.Steps.{on_ok}
 use Rattle.cow_tree.proofs.Tiles.{one_at_corner}
 
 -- a plane of a staged tile: whole, and on pages that the staged tiles reach
-pub record IsPlaneAt (chart : ChartValue) (p : PlaneLocation) : Type 0 where
-  pub whole : IsWholePlane chart.format p
-  pub within : AreWithin (plane_listing chart.format p) chart.staged
+pub record IsPlaneAt (page_map : PageMapValue) (p : PlaneLocation) : Type 0 where
+  pub whole : IsWholePlane page_map.format p
+  pub within : AreWithin (plane_listing page_map.format p) page_map.staged
 
 whole_plane : (format : Format) (name : Plane) (t : TileLocation) (p : PlaneLocation) → IsWholeTile format t → LiesAt name t p → IsWholePlane format p
 whole_plane format Heights t p whole at = subst (IsWholePlane format) at whole.heights
 whole_plane format Levels t p whole (k, (some, at)) = let kept : IfSome (Some k) (AreWholeKept format) = subst (λ (o : Option KeptLocations). IfSome o (AreWholeKept format)) some whole.kept in subst (IsWholePlane format) at kept.levels
 whole_plane format Labels t p whole (k, (some, at)) = let kept : IfSome (Some k) (AreWholeKept format) = subst (λ (o : Option KeptLocations). IfSome o (AreWholeKept format)) some whole.kept in subst (IsWholePlane format) at kept.labels
 
-module _ (chart : ChartValue) (rules : IsChart chart) (c : Corner) (name : Plane) where
-  pub plane_there : (p : PlaneLocation) → HasPlaneAt chart.staged c name p → IsPlaneAt chart p
+module _ (page_map : PageMapValue) (rules : IsPageMap page_map) (c : Corner) (name : Plane) where
+  pub plane_there : (p : PlaneLocation) → HasPlaneAt page_map.staged c name p → IsPlaneAt page_map p
   plane_there p (t, (among, (here, at))) = record {
-    whole = whole_plane chart.format name t p (All-contains (IsWholeTile chart.format) chart.staged t rules.staged.whole among) at;
-    within = plane_within chart.format chart.staged t name p among (lies name t p at);
+    whole = whole_plane page_map.format name t p (All-contains (IsWholeTile page_map.format) page_map.staged t rules.staged.whole among) at;
+    within = plane_within page_map.format page_map.staged t name p among (lies name t p at);
   }
 
   -- it is the one of the corner's tile
-  pub plane_is : (p : PlaneLocation) → HasPlaneAt chart.staged c name p → (t : TileLocation) → Contains chart.staged t → t.corner ≡ c → named_listing chart.format name t ≡ plane_listing chart.format p
+  pub plane_is : (p : PlaneLocation) → HasPlaneAt page_map.staged c name p → (t : TileLocation) → Contains page_map.staged t → t.corner ≡ c → named_listing page_map.format name t ≡ plane_listing page_map.format p
   plane_is p (u, (there, (here, at))) t among corner =
-      let same : u ≡ t = one_at_corner chart.staged u t rules.staged.in_order there among (here ∙ sym corner) in
-      ap (listing_if chart.format) (ap (plane_of name) (sym same) ∙ lies name u p at)
+      let same : u ≡ t = one_at_corner page_map.staged u t rules.staged.in_order there among (here ∙ sym corner) in
+      ap (listing_if page_map.format) (ap (plane_of name) (sym same) ∙ lies name u p at)
 
-  pub no_plane : ¬ HasPlane chart.staged c name → (t : TileLocation) → Contains chart.staged t → t.corner ≡ c → named_listing chart.format name t ≡ []
+  pub no_plane : ¬ HasPlane page_map.staged c name → (t : TileLocation) → Contains page_map.staged t → t.corner ≡ c → named_listing page_map.format name t ≡ []
   no_plane none t among corner = by (plane_of name t) refl
     where
       has : (n : Plane) (p : PlaneLocation) → plane_of n t ≡ Some p → LiesAt n t p
@@ -65,20 +65,20 @@ module _ (chart : ChartValue) (rules : IsChart chart) (c : Corner) (name : Plane
           by_kept None no_kept = absurd (let no_labels : None ≡ Some p = sym (ap (option_map (λ (k : KeptLocations). k.labels)) no_kept) ∙ is in cc)
           by_kept (Some k) some = (k, (some, same_Some k.labels p (sym (ap (option_map (λ (l : KeptLocations). l.labels)) some) ∙ is)))
 
-      by : (o : Option PlaneLocation) → plane_of name t ≡ o → listing_if chart.format o ≡ []
+      by : (o : Option PlaneLocation) → plane_of name t ≡ o → listing_if page_map.format o ≡ []
       by None is = refl
       by (Some p) is = absurd (none (t, (among, (corner, (p, has name p is)))))
 
 -- ---- its pages, one after another
-module _ (chart : ChartValue) (rules : IsChart chart) (p : PlaneLocation) (is : IsPlaneAt chart p) (before : List TileLocation) where
+module _ (page_map : PageMapValue) (rules : IsPageMap page_map) (p : PlaneLocation) (is : IsPlaneAt page_map p) (before : List TileLocation) where
   abbrev pages : List ListingPage
-  pages = plane_listing chart.format p
+  pages = plane_listing page_map.format p
 
   abbrev due_to : ℕ → List ListingPage
   due_to i = due_among before (take i pages)
 
   pub all_due : (i : ℕ) → length (listing_of p) ≤ i → due_to i ≡ due_among before pages
-  all_due i le = ap (due_among before) (take_all i pages (omega (arith, le, plane_length chart.format p)))
+  all_due i le = ap (due_among before) (take_all i pages (omega (arith, le, plane_length page_map.format p)))
 
   pub few_to : (i : ℕ) → length (due_to i) ≤ length (due_among before pages)
   few_to i =
@@ -93,7 +93,7 @@ module _ (chart : ChartValue) (rules : IsChart chart) (p : PlaneLocation) (is : 
       let parts = ap (times q) (numbers-append (due_to i) (due_among before (drop i pages))) in
       omega (arith, whole, same, parts, times-append q (numbers_of (due_to i)) (numbers_of (due_among before (drop i pages))))
 
-  pub first_within : (i : ℕ) → AreWithin (due_to i) chart.staged
+  pub first_within : (i : ℕ) → AreWithin (due_to i) page_map.staged
   first_within i q = omega (arith, few_due before (take i pages) q, few_first i pages q, is.within q)
 
   module _ (i : ℕ) (lt : i < length (listing_of p)) where
@@ -101,11 +101,11 @@ module _ (chart : ChartValue) (rules : IsChart chart) (p : PlaneLocation) (is : 
     page = get_or (listing_of p) i 0
 
     abbrev this : ListingPage
-    this = record { page = page; bytes = listing_bytes chart.format p i }
+    this = record { page = page; bytes = listing_bytes page_map.format p i }
 
     more : due_to (i + 1) ≡ due_to i ++ due_among before (this ∷ [])
     more =
-        ap (due_among before) (take_more pages i this (omega (arith, lt, plane_length chart.format p)) ∙ ap (λ (l : ListingPage). take i pages ++ l ∷ []) (plane_at chart.format p i this lt))
+        ap (due_among before) (take_more pages i this (omega (arith, lt, plane_length page_map.format p)) ∙ ap (λ (l : ListingPage). take i pages ++ l ∷ []) (plane_at page_map.format p i this lt))
         ∙ filter-append (λ (l : ListingPage). is_unreached before l.page) (take i pages) (this ∷ [])
 
     pub due_more : is_unreached before page ≡ true → due_to (i + 1) ≡ due_to i ++ this ∷ []
@@ -114,17 +114,17 @@ module _ (chart : ChartValue) (rules : IsChart chart) (p : PlaneLocation) (is : 
     pub due_same : is_unreached before page ≡ false → due_to (i + 1) ≡ due_to i
     due_same shared = more ∙ ap (λ (v : Bool). due_to i ++ cond v (this ∷ []) []) shared ∙ append-nil (due_to i)
 
-    there : 1 ≤ times page (reached chart.staged)
+    there : 1 ≤ times page (reached page_map.staged)
     there =
         let here = stands_there page (listing_of p) (Contains-get_or (listing_of p) i 0 lt) in
-        let same = ap (times page) (plane_numbers chart.format p) in
+        let same = ap (times page) (plane_numbers page_map.format p) in
         omega (arith, here, same, is.within page)
 
     pub page_low : 4 ≤ page
-    page_low = at_times (λ q. 4 ≤ q) page (reached chart.staged) rules.staged.page_rule.low there
+    page_low = at_times (λ q. 4 ≤ q) page (reached page_map.staged) rules.staged.page_rule.low there
 
-    pub page_high : page < chart.sectors
-    page_high = at_times (λ q. q < chart.sectors) page (reached chart.staged) rules.staged.page_rule.high there
+    pub page_high : page < page_map.sectors
+    page_high = at_times (λ q. q < page_map.sectors) page (reached page_map.staged) rules.staged.page_rule.high there
 
     -- the page that is to be written, if it is
     page_is : (v : Bool) (q n : ℕ) → page_if v q ≡ Some n → (v ≡ true) × (q ≡ n)
@@ -139,11 +139,11 @@ module _ (chart : ChartValue) (rules : IsChart chart) (p : PlaneLocation) (is : 
     number_is n here = (page_is (is_unreached before page) page n here).1
 
     pub page_more : {D : Type 0} (g : Ghosts D) (old mid new : Roots D g) (n : ℕ) (r : Result (Unit {0}) Refusal) → page_if (is_unreached before page) page ≡ Some n → WritesListing {T = Unit {0}} g (due_to i) old mid (Ok tt)
-        → WritesPages g (n ∷ []) mid new r → (g.honest (disk_of new) → OnOk r (g.seen (disk_of new) n ≡ listing_bytes chart.format p i)) → WritesListing g (due_to (i + 1)) old new r
+        → WritesPages g (n ∷ []) mid new r → (g.honest (disk_of new) → OnOk r (g.seen (disk_of new) n ≡ listing_bytes page_map.format p i)) → WritesListing g (due_to (i + 1)) old new r
     page_more g old mid new n r here so_far wrote bytes =
         let due = page_is (is_unreached before page) page n here in
         subst (λ (l : List ListingPage). WritesListing g l old new r) (sym (due_more due.0))
-        (then_listed g chart.staged chart.sectors rules.staged.page_rule old mid new (due_to i) (this ∷ []) r
+        (then_listed g page_map.staged page_map.sectors rules.staged.page_rule old mid new (due_to i) (this ∷ []) r
         (λ q. let same = ap (λ (l : List ListingPage). times q (numbers_of l)) (due_more due.0) in omega (arith, same, first_within (i + 1) q)) so_far
         (one_listed g mid new this r (subst (λ (m : ℕ). WritesPages g (m ∷ []) mid new r) (sym due.1) wrote)
         (λ honest. on_ok r (λ has. ap (g.seen (disk_of new)) due.1 ∙ has) (bytes honest))))

@@ -3,9 +3,9 @@ use Rattle.std.proofs.Common.{◌≡◌, ℕ, Bool, true, false, not, if◌then�
 use Rattle.disk.specs.Disk.{Image}
 use Rattle.lattice.specs.Corners.{Corner}
 use Rattle.page_codec.specs.Formats.{Format}
-use Rattle.charts.specs.TileLocations.{TileLocation, reached}
+use Rattle.page_map.specs.TileLocations.{TileLocation, reached}
 use Rattle.cow_tree.specs.Layout.{tile_in}
-use Rattle.charts.specs.Charts.{ChartValue, IsPrepared, is_at, corners_of_locations, with_record}
+use Rattle.page_map.specs.PageMaps.{PageMapValue, IsPrepared, is_at, corners_of_locations, with_record}
 use Rattle.cow_tree.specs.Staged.{AreStaged, IsTileListed}
 use Rattle.cow_tree.specs.Stored.{StoredTile}
 use Rattle.cow_tree.proofs.CornerChanges.{all_changed, corners_still}
@@ -35,8 +35,8 @@ module _ (format : Format) (committed : List TileLocation) (c : Corner) (r : ℕ
   prepared_stays : (tiles : List TileLocation) → AreStaged format committed tiles image → AreStaged format committed (with_record c r tiles) image
   prepared_stays tiles = all_changed c (prepared r) (λ t. refl) (IsTileListed format committed image) tiles tile_stays
 
-pub still_prepared : (format : Format) (old new : ChartValue) (c : Corner) (image : Image) → IsPrepared c old new → AreStaged format old.committed old.staged image → AreStaged format new.committed new.staged image
+pub still_prepared : (format : Format) (old new : PageMapValue) (c : Corner) (image : Image) → IsPrepared c old new → AreStaged format old.committed old.staged image → AreStaged format new.committed new.staged image
 still_prepared format old new c image prepared had =
-    let committed : new.committed ≡ old.committed = ap (λ (x : ChartValue). x.committed) prepared.changed in
-    subst (λ (x : ChartValue). AreStaged format x.committed x.staged image) (sym prepared.changed)
+    let committed : new.committed ≡ old.committed = ap (λ (x : PageMapValue). x.committed) prepared.changed in
+    subst (λ (x : PageMapValue). AreStaged format x.committed x.staged image) (sym prepared.changed)
     (prepared_stays format old.committed c prepared.record_page image (subst (λ (tiles : List TileLocation). ¬ Contains (reached tiles) prepared.record_page) committed prepared.fresh_record.unreached) old.staged had)

@@ -8,13 +8,13 @@ use Rattle.lattice.specs.Corners.{Corner, is_before}
 use Rattle.page_codec.specs.Entries.{EntryValue}
 use Rattle.page_codec.specs.Roots.{RootValue, AreInOrder, format_of}
 use Rattle.lattice.proofs.Rising.{AllAfter, Rising, rising_from}
-use Rattle.charts.specs.Locations.{times}
-use Rattle.charts.specs.TileLocations.{TileLocation, pages_of_tile, reached, KeepsPageRule}
+use Rattle.page_map.specs.Locations.{times}
+use Rattle.page_map.specs.TileLocations.{TileLocation, pages_of_tile, reached, KeepsPageRule}
 use Rattle.cow_tree.specs.Entries.{entry_of}
 use Rattle.cow_tree.specs.Layout.{HasRecords, IsLaidOut}
 use Rattle.cow_tree.specs.Found.{NoTileAt}
 use Rattle.cow_tree.proofs.Standing.{All-front}
-use Rattle.charts.proofs.Occurrences.{times-append}
+use Rattle.page_map.proofs.Occurrences.{times-append}
 use Rattle.cow_tree.proofs.OneStored.{one_layout}
 use Rattle.cow_tree.proofs.Tiles.{each_tile}
 

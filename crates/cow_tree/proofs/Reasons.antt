@@ -9,8 +9,8 @@ use Rattle.page_codec.specs.Entries.{EntryValue}
 use Rattle.page_codec.specs.Records.{IsRecord}
 use Rattle.page_codec.specs.Sizes.{pages_of, index_pages_by, listed_in, listed_by as count_listed}
 use Rattle.page_codec.specs.declared.entry.Kept.{Kept}
-use Rattle.charts.specs.Locations.{PlaneLocation, pages_behind, pages_of_plane}
-use Rattle.charts.specs.TileLocations.{pages_of_kept}
+use Rattle.page_map.specs.Locations.{PlaneLocation, pages_behind, pages_of_plane}
+use Rattle.page_map.specs.TileLocations.{pages_of_kept}
 use Rattle.cow_tree.specs.Found.{NoneListed, NonePlane, NoneKept, NoTileAt}
 use Rattle.cow_tree.specs.Layout.{HasRecord, listed_by}
 use Rattle.cow_tree.proofs.Standing.{All-front, All-back}

@@ -17,7 +17,7 @@ use Rattle.hgt.specs.Bytes.{sample_of, samples_in}
 use Rattle.hgt.proofs.BytesLemmas.{get_or-samples_in}
 use Rattle.lattice.proofs.CornerOrder.{same_from, before_not_same}
 use Rattle.lattice.proofs.Rising.{AllAfter, Rising, rising_from}
-use Rattle.charts.specs.declared.plane.Plane.TheVariants.{Heights}
+use Rattle.page_map.specs.declared.plane.Plane.TheVariants.{Heights}
 use Rattle.layout.specs.Formats.{largest_side_of}
 use Rattle.layout.specs.declared.version.Version.{Version}
 use Rattle.layout.specs.declared.version.Version.TheVariants.{One, Two}

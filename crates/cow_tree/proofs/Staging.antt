@@ -12,15 +12,15 @@ use Rattle.lattice.specs.Corners.{Corner}
 use Rattle.page_codec.specs.Formats.{Format}
 use Rattle.roots.specs.Slots.{SamePagesBut}
 use Rattle.page_codec.specs.Records.{part_of, record_bytes}
-use Rattle.charts.specs.Locations.{PlaneLocation, moved_plane, pages_behind, pages_of_plane, times}
-use Rattle.charts.specs.TileLocations.{TileLocation, pages_of_kept, pages_of_tile, reached}
-use Rattle.charts.specs.declared.locations.KeptLocations.{KeptLocations}
+use Rattle.page_map.specs.Locations.{PlaneLocation, moved_plane, pages_behind, pages_of_plane, times}
+use Rattle.page_map.specs.TileLocations.{TileLocation, pages_of_kept, pages_of_tile, reached}
+use Rattle.page_map.specs.declared.locations.KeptLocations.{KeptLocations}
 use Rattle.cow_tree.specs.Layout.{IsIndexed, tile_in}
-use Rattle.charts.specs.Charts.{is_at, is_unreached}
+use Rattle.page_map.specs.PageMaps.{is_at, is_unreached}
 use Rattle.cow_tree.specs.Staged.{AreListedBy, AreStaged, IsListedBy, IsTileListed}
 use Rattle.cow_tree.specs.Stored.{PlanePages, KeptPlanes, StoredTile, with_page_in, with_page}
 use Rattle.cow_tree.proofs.Standing.{SameOn, All-front, All-back, map_same, kept_same, tile_same}
-use Rattle.charts.proofs.Occurrences.{times-append, times_here, apart_head, absent, set_there}
+use Rattle.page_map.proofs.Occurrences.{times-append, times_here, apart_head, absent, set_there}
 
 -- the tile with page i of its heights, its index page and their record elsewhere, if it is the corner's
 abbrev pub rewritten : Corner → (i p x r : ℕ) → TileLocation → TileLocation

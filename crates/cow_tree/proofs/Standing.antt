@@ -7,9 +7,9 @@ use Rattle.page_codec.specs.Formats.{Format}
 use Rattle.page_codec.specs.Roots.{RootValue, format_of}
 use Rattle.roots.specs.Slots.{SamePages, SamePagesBut, KeepsAll, KeepsBut, IsCurrent}
 use Rattle.cow_tree.specs.Stored.{PlanePages, KeptPlanes, StoredTile, Stored}
-use Rattle.charts.specs.declared.locations.KeptLocations.{KeptLocations}
-use Rattle.charts.specs.Locations.{PlaneLocation, pages_behind, pages_of_plane}
-use Rattle.charts.specs.TileLocations.{TileLocation, pages_of_kept, pages_of_tile, reached}
+use Rattle.page_map.specs.declared.locations.KeptLocations.{KeptLocations}
+use Rattle.page_map.specs.Locations.{PlaneLocation, pages_behind, pages_of_plane}
+use Rattle.page_map.specs.TileLocations.{TileLocation, pages_of_kept, pages_of_tile, reached}
 use Rattle.cow_tree.specs.Layout.{HasRecord, HaveKeptRecords, HasRecords, plane_in, kept_in, tile_in, StoresAt}
 
 -- both images have the same in these pages

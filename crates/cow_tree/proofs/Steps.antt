@@ -1,4 +1,4 @@
--- The steps of staging and of a commit, over charts and images.
+-- The steps of staging and of a commit, over page_map and images.
 use Rattle.std.proofs.Common.{◌≡◌, ℕ, ◌/◌, ◌<◌, ◌≤◌, ◌==◌, Bool, true, false, Result, Ok, Err, OnOk, OnErr, List, All, Contains, length, map, refl, sym, ap, ◌∙◌, subst, arith}
 use Rattle.std.specs.Prelude.{IfErr, IsErrOf}
 use Rattle.std.specs.List.{list_any}
@@ -13,10 +13,10 @@ use Rattle.page_codec.specs.Formats.{Format}
 use Rattle.page_codec.specs.Roots.{RootValue}
 use Rattle.page_codec.specs.Sizes.{pages_of}
 use Rattle.roots.specs.Slots.{SamePagesBut, KeepsBut}
-use Rattle.charts.specs.TileLocations.{TileLocation, reached}
+use Rattle.page_map.specs.TileLocations.{TileLocation, reached}
 use Rattle.cow_tree.specs.Layout.{tile_in, StoresAt, Stands}
-use Rattle.charts.specs.Locations.{moved_plane, times}
-use Rattle.charts.specs.Charts.{ChartValue, IsChart, IsRewritten, IsLocated, IsWholeTile, corners_of_locations, with_page_location}
+use Rattle.page_map.specs.Locations.{moved_plane, times}
+use Rattle.page_map.specs.PageMaps.{PageMapValue, IsPageMap, IsRewritten, IsLocated, IsWholeTile, corners_of_locations, with_page_location}
 use Rattle.cow_tree.specs.Staged.{AreStaged}
 use Rattle.cow_tree.specs.Stored.{Stored, with_page}
 use Rattle.cow_tree.proofs.CornerChanges.{corners_still}
@@ -34,12 +34,12 @@ pub corners_same : (c : Corner) (i p x r : ℕ) (tiles : List TileLocation) → 
 corners_same c i p x r = corners_still c (λ t. record t { heights = moved_plane i p x r t.heights }) (λ t. refl)
 
 -- one page staged
-module _ (old new : ChartValue) (c : Corner) (i p : ℕ) (page : List ℕ) (a b : Image) (rules : IsChart old) (after : IsChart new) (rw : IsRewritten c i p old new) where
+module _ (old new : PageMapValue) (c : Corner) (i p : ℕ) (page : List ℕ) (a b : Image) (rules : IsPageMap old) (after : IsPageMap new) (rw : IsRewritten c i p old new) where
   committed_same : new.committed ≡ old.committed
-  committed_same = ap (λ (x : ChartValue). x.committed) rw.changed
+  committed_same = ap (λ (x : PageMapValue). x.committed) rw.changed
 
   staged_is : new.staged ≡ with_page_location c i p rw.index_page rw.record_page old.staged
-  staged_is = ap (λ (x : ChartValue). x.staged) rw.changed
+  staged_is = ap (λ (x : PageMapValue). x.staged) rw.changed
 
   pub page_unreached : ¬ Contains (reached old.committed) p
   page_unreached = subst (λ (tiles : List TileLocation). ¬ Contains (reached tiles) p) committed_same rw.fresh_page.unreached

@@ -7,8 +7,8 @@ use Rattle.lattice.specs.Lattice.{IsBefore}
 use Rattle.lattice.proofs.CornerOrder.{before_apart}
 use Rattle.catalogue.proofs.Presence.{listed_from}
 use Rattle.lattice.proofs.Rising.{AllAfter, Rising, rising_from, adjacent_from}
-use Rattle.charts.specs.TileLocations.{TileLocation, pages_of_tile, reached}
-use Rattle.charts.specs.Charts.{is_at, corners_of_locations, IsLocated}
+use Rattle.page_map.specs.TileLocations.{TileLocation, pages_of_tile, reached}
+use Rattle.page_map.specs.PageMaps.{is_at, corners_of_locations, IsLocated}
 use Rattle.cow_tree.proofs.Standing.{All-front, All-back}
 
 abbrev pub corner_of : TileLocation → Corner

@@ -1,4 +1,4 @@
--- What an upgrade keeps of the chart, and how much it writes.
+-- What an upgrade keeps of the page_map, and how much it writes.
 use Rattle.std.proofs.Common.{◌≡◌, ℕ, ◌+◌, ◌*◌, ◌≤◌, Bool, true, false, if◌then◌else◌, List, [], ◌∷◌, All, length, map, refl, sym, ap, ◌∙◌, subst, arith}
 use Rattle.std.specs.Prelude.{Option, Some, None, IfSome}
 use Rattle.std.proofs.Math.Nat.{mul-add}
@@ -11,11 +11,11 @@ use Rattle.page_codec.specs.Entries.{EntryValue}
 use Rattle.page_codec.specs.Formats.{Format}
 use Rattle.page_codec.specs.Roots.{RootValue, format_of}
 use Rattle.page_codec.specs.Sizes.{index_pages_of}
-use Rattle.charts.specs.declared.locations.KeptLocations.{KeptLocations}
-use Rattle.charts.specs.Charts.{ChartValue, IsChart, IsWholeTile, AreWholeKept, corners_of_locations}
-use Rattle.charts.specs.Locations.{listing_of}
-use Rattle.charts.specs.TileLocations.{TileLocation}
-use Rattle.charts.specs.Upgraded.{TileData, IsUpgraded, data_of, listing_of_kept, listing_of_tile, listings}
+use Rattle.page_map.specs.declared.locations.KeptLocations.{KeptLocations}
+use Rattle.page_map.specs.PageMaps.{PageMapValue, IsPageMap, IsWholeTile, AreWholeKept, corners_of_locations}
+use Rattle.page_map.specs.Locations.{listing_of}
+use Rattle.page_map.specs.TileLocations.{TileLocation}
+use Rattle.page_map.specs.Upgraded.{TileData, IsUpgraded, data_of, listing_of_kept, listing_of_tile, listings}
 use Rattle.cow_tree.specs.Entries.{entry_of}
 
 -- the root of the next commit by the second version
@@ -38,12 +38,12 @@ module _ (format : Format) where
       let later = few_of_tiles rest (All-tail (IsWholeTile format) t rest whole) in
       omega (arith, here, later, length-append (listing_of_tile t) (listings rest), mul-add (3 * (1 + index_pages_of format)) 1 (length rest))
 
--- ---- what stays in the chart, and how much is written
+-- ---- what stays in the page_map, and how much is written
 corners_of_data : (tiles : List TileLocation) → corners_of_locations tiles ≡ map (λ (d : TileData). d.corner) (map data_of tiles)
 corners_of_data [] = refl
 corners_of_data (t ∷ rest) = ap (λ (cs : List Corner). t.corner ∷ cs) (corners_of_data rest)
 
-module _ (old new : ChartValue) (rules : IsChart new) (up : IsUpgraded old new) where
+module _ (old new : PageMapValue) (rules : IsPageMap new) (up : IsUpgraded old new) where
   pub corners_stay : old.staged ≡ old.committed → corners_of_locations new.staged ≡ corners_of_locations old.staged
   corners_stay clean =
       ap corners_of_locations up.clean ∙ corners_of_data new.committed ∙ ap (map (λ (d : TileData). d.corner)) up.stays

@@ -2,8 +2,8 @@
 use Rattle.std.specs.Prelude.{Option, Some, None}
 use Rattle.page_codec.specs.Entries.{EntryValue}
 use Rattle.page_codec.specs.declared.entry.Kept.{Kept}
-use Rattle.charts.specs.declared.locations.KeptLocations.{KeptLocations}
-use Rattle.charts.specs.TileLocations.{TileLocation}
+use Rattle.page_map.specs.declared.locations.KeptLocations.{KeptLocations}
+use Rattle.page_map.specs.TileLocations.{TileLocation}
 
 abbrev pub entry_of_kept : Option KeptLocations → Option Kept
 entry_of_kept None = None

@@ -5,9 +5,9 @@ use Rattle.page_codec.specs.Entries.{EntryValue}
 use Rattle.page_codec.specs.Formats.{Format}
 use Rattle.page_codec.specs.Records.{IsRecord, record_bytes}
 use Rattle.page_codec.specs.declared.entry.Kept.{Kept}
-use Rattle.charts.specs.declared.locations.KeptLocations.{KeptLocations}
-use Rattle.charts.specs.Locations.{PlaneLocation, pages_of_plane}
-use Rattle.charts.specs.TileLocations.{TileLocation, pages_of_tile, pages_of_kept}
+use Rattle.page_map.specs.declared.locations.KeptLocations.{KeptLocations}
+use Rattle.page_map.specs.Locations.{PlaneLocation, pages_of_plane}
+use Rattle.page_map.specs.TileLocations.{TileLocation, pages_of_tile, pages_of_kept}
 use Rattle.cow_tree.specs.Entries.{entry_of_kept, entry_of}
 use Rattle.cow_tree.specs.Layout.{HasRecord, HasRecords, HaveKeptRecords}
 

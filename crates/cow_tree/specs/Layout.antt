@@ -8,9 +8,9 @@ use Rattle.page_codec.specs.Sizes.{sectors_asked}
 use Rattle.layout.specs.declared.version.Version.{Version}
 use Rattle.layout.specs.declared.version.Version.TheVariants.{One, Two}
 use Rattle.roots.specs.Opening.{HoldsStore}
-use Rattle.charts.specs.declared.locations.KeptLocations.{KeptLocations}
-use Rattle.charts.specs.Locations.{PlaneLocation, IsWholePlane, pages_behind}
-use Rattle.charts.specs.TileLocations.{TileLocation, KeepsPageRule}
+use Rattle.page_map.specs.declared.locations.KeptLocations.{KeptLocations}
+use Rattle.page_map.specs.Locations.{PlaneLocation, IsWholePlane, pages_behind}
+use Rattle.page_map.specs.TileLocations.{TileLocation, KeepsPageRule}
 use Rattle.cow_tree.specs.Entries.{entry_of}
 use Rattle.cow_tree.specs.Stored.{PlanePages, KeptPlanes, StoredTile, Stored, no_tiles}
 

@@ -8,12 +8,12 @@ use Rattle.page_codec.specs.Formats.{Format}
 use Rattle.page_codec.specs.Records.{part_of, record_bytes}
 use Rattle.roots.specs.Roots.{disk_of}
 use Rattle.roots.specs.declared.roots.Roots.{Roots}
-use Rattle.charts.specs.declared.locations.KeptLocations.{KeptLocations}
-use Rattle.charts.specs.declared.plane.Plane.{Plane}
-use Rattle.charts.specs.Charts.{ChartValue, is_unreached}
-use Rattle.charts.specs.Locations.{PlaneLocation}
-use Rattle.charts.specs.Planes.{plane_of}
-use Rattle.charts.specs.TileLocations.{TileLocation}
+use Rattle.page_map.specs.declared.locations.KeptLocations.{KeptLocations}
+use Rattle.page_map.specs.declared.plane.Plane.{Plane}
+use Rattle.page_map.specs.PageMaps.{PageMapValue, is_unreached}
+use Rattle.page_map.specs.Locations.{PlaneLocation}
+use Rattle.page_map.specs.Planes.{plane_of}
+use Rattle.page_map.specs.TileLocations.{TileLocation}
 use Rattle.cow_tree.specs.Layout.{listed_by}
 use Rattle.cow_tree.specs.OverRoots.{WritesPages}
 use Rattle.cow_tree.specs.declared.listings.Listings.{Listings}
@@ -68,9 +68,9 @@ abbrev pub due_among : List TileLocation → List ListingPage → List ListingPa
 due_among tiles listing = filter (λ l. is_unreached tiles l.page) listing
 
 -- of which tiles the pages are written already: the committed ones, or none
-abbrev pub written_before : Listings → ChartValue → List TileLocation
-written_before listings.Due chart = chart.committed
-written_before listings.All chart = []
+abbrev pub written_before : Listings → PageMapValue → List TileLocation
+written_before listings.Due page_map = page_map.committed
+written_before listings.All page_map = []
 
 -- these pages were written, each with its bytes, and no others; or the disk refused it
 pub record WritesListing {D T : Type 0} (g : Ghosts D) (listing : List ListingPage) (old new : Roots D g) (result : Result T Refusal) : Type 0 where

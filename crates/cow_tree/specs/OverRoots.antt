@@ -4,8 +4,8 @@ use Rattle.disk.specs.declared.disk.Disk.{Ghosts}
 use Rattle.roots.specs.Opening.{IsRefusalOfOpening}
 use Rattle.roots.specs.Roots.{IsReady, disk_of, root_of, has_begun, has_failed}
 use Rattle.roots.specs.declared.roots.Roots.{Roots}
-use Rattle.charts.specs.Locations.{times}
-use Rattle.charts.specs.TileLocations.{TileLocation, reached}
+use Rattle.page_map.specs.Locations.{times}
+use Rattle.page_map.specs.TileLocations.{TileLocation, reached}
 use Rattle.cow_tree.specs.Layout.{StoresAt}
 use Rattle.cow_tree.specs.Stored.{Stored}
 use Rattle.disk.specs.Disk.{Image, HasRisen}

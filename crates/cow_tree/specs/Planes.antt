@@ -1,8 +1,8 @@
 -- The pages of a stored tile's planes, by the plane's name.
 use Rattle.std.specs.Prelude.{◌≡◌, ℕ, List, Contains, Some, slice_get}
 use Rattle.lattice.specs.Corners.{Corner}
-use Rattle.charts.specs.declared.plane.Plane.{Plane}
-use Rattle.charts.specs.declared.plane.Plane.TheVariants.{Heights, Levels, Labels}
+use Rattle.page_map.specs.declared.plane.Plane.{Plane}
+use Rattle.page_map.specs.declared.plane.Plane.TheVariants.{Heights, Levels, Labels}
 use Rattle.cow_tree.specs.Stored.{PlanePages, KeptPlanes, StoredTile}
 
 -- the tile has these pages for its plane

@@ -10,7 +10,7 @@ use Rattle.lattice.specs.Mosaic.{Mosaic, IsMosaic}
 use Rattle.lattice.specs.declared.refusal.Refusal.{Refusal}
 use Rattle.lattice.specs.declared.refusal.Refusal.TheVariants.{Device, Failed}
 use Rattle.catalogue.specs.Tiles.{corners_of as corners_in}
-use Rattle.charts.specs.TileLocations.{TileLocation}
+use Rattle.page_map.specs.TileLocations.{TileLocation}
 use Rattle.cow_tree.specs.Layout.{tile_in}
 use Rattle.cow_tree.specs.Stored.{Stored, AreWhole, mosaic_of_tiles}
 use Rattle.cow_tree.specs.Trees.{disk_of, root_of, has_failed, has_begun, corners_of, sinks_of, staged_in, IsAt}
@@ -34,7 +34,7 @@ pub record HasOnlyRead {D : Type 0} (g : Ghosts D) (old new : Tree D g) : Type 0
   pub writes : g.writes (disk_of new) ≡ g.writes (disk_of old)
   pub later : g.failures (disk_of old) ≤ g.failures (disk_of new)
   pub root : root_of new ≡ root_of old
-  pub chart : new.chart ≡ old.chart
+  pub page_map : new.page_map ≡ old.page_map
   pub corners : corners_of new ≡ corners_of old
   pub sinks : sinks_of new ≡ sinks_of old
   pub begun : has_begun new ≡ has_begun old
@@ -61,7 +61,7 @@ module _ {D : Type 0} (g : Ghosts D) where
     writes = refl;
     later = omega arith;
     root = refl;
-    chart = refl;
+    page_map = refl;
     corners = refl;
     sinks = refl;
     begun = refl;
@@ -79,7 +79,7 @@ module _ {D : Type 0} (g : Ghosts D) where
     writes = second.writes ∙ first.writes;
     later = omega (arith, first.later, second.later);
     root = second.root ∙ first.root;
-    chart = second.chart ∙ first.chart;
+    page_map = second.page_map ∙ first.page_map;
     corners = second.corners ∙ first.corners;
     sinks = second.sinks ∙ first.sinks;
     begun = second.begun ∙ first.begun;

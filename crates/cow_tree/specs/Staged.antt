@@ -6,11 +6,11 @@ use Rattle.layout.specs.declared.version.Version.TheVariants.{One, Two}
 use Rattle.page_codec.specs.Formats.{Format}
 use Rattle.page_codec.specs.Numbers.{padded}
 use Rattle.page_codec.specs.Records.{record_bytes}
-use Rattle.charts.specs.Locations.{PlaneLocation}
-use Rattle.charts.specs.TileLocations.{TileLocation}
-use Rattle.charts.specs.declared.locations.KeptLocations.{KeptLocations}
-use Rattle.charts.specs.Charts.{ChartValue, is_unreached}
-use Rattle.charts.specs.Upgraded.{listings}
+use Rattle.page_map.specs.Locations.{PlaneLocation}
+use Rattle.page_map.specs.TileLocations.{TileLocation}
+use Rattle.page_map.specs.declared.locations.KeptLocations.{KeptLocations}
+use Rattle.page_map.specs.PageMaps.{PageMapValue, is_unreached}
+use Rattle.page_map.specs.Upgraded.{listings}
 use Rattle.cow_tree.specs.Layout.{IsIndexed, listed_by}
 
 -- of what lists the plane's pages, those that these tiles reach do so on this image
@@ -35,8 +35,8 @@ abbrev pub page_of_bytes : List ℕ → ℕ → List ℕ
 page_of_bytes bytes i = padded 4096 (take 4096 (drop (4096 * i) bytes))
 
 -- what a commit writes besides the root: of what lists the planes of staged tiles, the pages that no committed tile reaches
-abbrev pub pages_due : ChartValue → List ℕ
-pages_due chart = filter (is_unreached chart.committed) (listings chart.staged)
+abbrev pub pages_due : PageMapValue → List ℕ
+pages_due page_map = filter (is_unreached page_map.committed) (listings page_map.staged)
 
 -- how many index pages a page of a plane has to have written with it
 abbrev pub index_page_by : Version → ℕ

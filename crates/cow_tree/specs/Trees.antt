@@ -9,12 +9,12 @@ use Rattle.lattice.specs.declared.refusal.Refusal.TheVariants as refusal
 use Rattle.page_codec.specs.Roots.{RootValue, format_of}
 use Rattle.roots.specs.Opening.{OpensAs}
 use Rattle.roots.specs.declared.roots.NotOpened.{NotOpened}
-use Rattle.charts.specs.declared.plane.Plane.{Plane}
+use Rattle.page_map.specs.declared.plane.Plane.{Plane}
 use Rattle.cow_tree.specs.Stored.{StoredTile, Stored}
-use Rattle.charts.specs.TileLocations.{TileLocation}
+use Rattle.page_map.specs.TileLocations.{TileLocation}
 use Rattle.cow_tree.specs.Layout.{tile_in, IsLaidOut}
-use Rattle.charts.specs.Charts.{ChartValue, corners_of_locations, IsClean, HasFreshHeights}
-use Rattle.charts.specs.Planes.{HasPlane}
+use Rattle.page_map.specs.PageMaps.{PageMapValue, corners_of_locations, IsClean, HasFreshHeights}
+use Rattle.page_map.specs.Planes.{HasPlane}
 use Rattle.cow_tree.specs.Staged.{AreStaged, pages_due}
 use Rattle.roots.specs.Roots.{IsReady, disk_of as disk_under, has_begun as have_begun, has_failed as have_failed}
 use Rattle.cow_tree.specs.OverRoots.{EachStores}
@@ -29,8 +29,8 @@ module _ {D : Type 0} {g : Ghosts D} where
   root_of tree = tree.root
 
   -- which pages hold which planes, as committed and as staged
-  abbrev pub chart_of : Tree D g → ChartValue
-  chart_of tree = tree.chart
+  abbrev pub page_map_of : Tree D g → PageMapValue
+  page_map_of tree = tree.page_map
 
   -- a call was refused by the disk, or a reopening was refused, and no opening succeeded since
   abbrev pub has_failed : Tree D g → Bool
@@ -42,7 +42,7 @@ module _ {D : Type 0} {g : Ghosts D} where
 
   -- the corners of the staged tiles, in order. They are held in memory, and so known whatever a disk does.
   abbrev pub corners_of : Tree D g → List Corner
-  corners_of tree = corners_of_locations tree.chart.staged
+  corners_of tree = corners_of_locations tree.page_map.staged
 
   -- the declared sinks as the next commit will have them, in the order of points; held in memory too
   abbrev pub sinks_of : Tree D g → List Point
@@ -50,19 +50,19 @@ module _ {D : Type 0} {g : Ghosts D} where
 
   -- the corner has such a plane
   abbrev pub Holds : Tree D g → Corner → Plane → Type 0
-  Holds tree c plane = HasPlane tree.chart.staged c plane
+  Holds tree c plane = HasPlane tree.page_map.staged c plane
 
   -- heights of the corner were staged since the last commit
   abbrev pub HasStaged : Tree D g → Corner → Type 0
-  HasStaged tree c = HasFreshHeights c tree.chart
+  HasStaged tree c = HasFreshHeights c tree.page_map
 
   -- nothing is staged
   abbrev pub IsUnstaged : Tree D g → Type 0
-  IsUnstaged tree = IsClean tree.chart
+  IsUnstaged tree = IsClean tree.page_map
 
   -- how many records and index pages the next commit writes: those of staged tiles that no committed tile reaches
   abbrev pub records_due : Tree D g → ℕ
-  records_due tree = length (pages_due tree.chart)
+  records_due tree = length (pages_due tree.page_map)
 
   -- the disk, opened or handed back
   abbrev pub disk_after : Result (Tree D g) (NotOpened D) → D
@@ -71,14 +71,14 @@ module _ {D : Type 0} {g : Ghosts D} where
 
 -- the tiles as the next commit will have them
 abbrev pub staged_in : {D : Type 0} (g : Ghosts D) → Tree D g → List StoredTile
-staged_in g tree = map (tile_in (g.seen (disk_of tree))) tree.chart.staged
+staged_in g tree = map (tile_in (g.seen (disk_of tree))) tree.page_map.staged
 
--- The tree stands for this: it hasn't failed, each image that a stop may leave stands for it in the locations of the chart,
--- and what the chart has staged is on the disk but for the records that a commit writes.
+-- The tree stands for this: it hasn't failed, each image that a stop may leave stands for it in the locations of the page_map,
+-- and what the page_map has staged is on the disk but for the records that a commit writes.
 pub record IsAt {D : Type 0} (g : Ghosts D) (tree : Tree D g) (s : Stored) : Type 0 where
   pub ready : IsReady g tree.roots
-  pub each : EachStores g tree.roots tree.chart.committed s
-  pub staged : AreStaged (format_of tree.root) tree.chart.committed tree.chart.staged (g.seen (disk_of tree))
+  pub each : EachStores g tree.roots tree.page_map.committed s
+  pub staged : AreStaged (format_of tree.root) tree.page_map.committed tree.page_map.staged (g.seen (disk_of tree))
 
 -- an image is refused so by opening where no call fails and memory is had: as roots refuse it, or Damaged where the tiles
 -- of its current root lie nowhere

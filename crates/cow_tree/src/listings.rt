@@ -1,16 +1,16 @@
 //! What lists the pages of planes: records, and index pages.
 ghost use Rattle.std.specs.Prelude.{◌≡◌, ◌≤◌, ◌<◌, ◌*◌, false, Contains, length, slice_index};
 ghost use Rattle.page_codec.specs.Records.{part_of, record_bytes};
-ghost use Rattle.charts.specs.Charts.{IsLocated, is_unreached, page_if};
-ghost use Rattle.charts.specs.Locations.{IsWholePlane, listing_of};
-ghost use Rattle.charts.specs.Planes.{HasPlaneAt};
-ghost use Rattle.charts.specs.TileLocations.{TileLocation};
+ghost use Rattle.page_map.specs.PageMaps.{IsLocated, is_unreached, page_if};
+ghost use Rattle.page_map.specs.Locations.{IsWholePlane, listing_of};
+ghost use Rattle.page_map.specs.Planes.{HasPlaneAt};
+ghost use Rattle.page_map.specs.TileLocations.{TileLocation};
 ghost use Rattle.cow_tree.specs.Layout.{listed_by};
 ghost use Rattle.cow_tree.specs.Listings.{WritesListing, due_among, listing_bytes, named_listing, tile_listing, tiles_listing, written_before};
 ghost use Rattle.roots.specs.Roots.{disk_of, has_failed};
 
 use arrayvec::ArrayVec;
-use charts::{Chart, PagedPlane, Plane};
+use page_map::{PageMap, PagedPlane, Plane};
 use disk::Disk;
 use lattice::{Corner, Refusal};
 use page_codec::{Format, IndexPage, RECORD_PAGES, Record, Version};
@@ -21,7 +21,7 @@ use roots::Roots;
 pub(crate) enum Listings {
     /// Those that no committed tile reaches.
     Due,
-    /// All, as where the chart is of another version than what is committed.
+    /// All, as where the page_map is of another version than what is committed.
     All,
 }
 
@@ -96,19 +96,19 @@ fn listing_page(format: Format, plane: &PagedPlane, i: usize) -> [u8; 4096]
 
 // The number of such a page, where it is written; the plane is this one of the corner's staged tile.
 fn page_due(
-    chart: &Chart,
+    page_map: &PageMap,
     which: Listings,
     corner: Corner,
     name: Plane,
     plane: &PagedPlane,
     i: usize,
 ) -> Option<u32>
-    requires here { HasPlaneAt chart.now.staged corner name plane.now }
+    requires here { HasPlaneAt page_map.now.staged corner name plane.now }
     requires index { i < length (listing_of plane.now) }
-    ensures { result ≡ page_if (is_unreached (written_before which chart.now) (slice_index (listing_of plane.now) i)) (slice_index (listing_of plane.now) i) }
+    ensures { result ≡ page_if (is_unreached (written_before which page_map.now) (slice_index (listing_of plane.now) i)) (slice_index (listing_of plane.now) i) }
 {
     match which {
-        Listings::Due => chart.page_due(corner, name, i),
+        Listings::Due => page_map.page_due(corner, name, i),
         Listings::All => plane.listing_page(i),
     }
 }
@@ -116,23 +116,23 @@ fn page_due(
 // Writes what lists the pages of one plane of the corner's staged tile, if it has it.
 fn write_listing<D: Disk>(
     roots: &mut Roots<D>,
-    chart: &Chart,
+    page_map: &PageMap,
     which: Listings,
     corner: Corner,
     name: Plane,
 ) -> Result<(), Refusal>
     requires not_failed { has_failed roots.old ≡ false }
-    requires sectors { chart.now.sectors ≡ D.size (disk_of roots.old) }
-    ensures { (t : TileLocation) → Contains chart.now.staged t → t.corner ≡ corner
-        → WritesListing D.Disk (due_among (written_before which chart.now) (named_listing chart.now.format name t)) roots.old roots.new result }
+    requires sectors { page_map.now.sectors ≡ D.size (disk_of roots.old) }
+    ensures { (t : TileLocation) → Contains page_map.now.staged t → t.corner ≡ corner
+        → WritesListing D.Disk (due_among (written_before which page_map.now) (named_listing page_map.now.format name t)) roots.old roots.new result }
 {
-    chart.rules();
-    let Some(plane) = chart.plane(corner, name) else {
+    page_map.rules();
+    let Some(plane) = page_map.plane(corner, name) else {
         return Ok(());
     };
     for i in 0..plane.listing_len() {
-        if let Some(page) = page_due(chart, which, corner, name, plane, i) {
-            roots.write(page, &listing_page(chart.format(), plane, i))?;
+        if let Some(page) = page_due(page_map, which, corner, name, plane, i) {
+            roots.write(page, &listing_page(page_map.format(), plane, i))?;
         }
     }
     Ok(())
@@ -141,36 +141,36 @@ fn write_listing<D: Disk>(
 // Writes what lists the pages of the corner's staged tile.
 fn write_tile<D: Disk>(
     roots: &mut Roots<D>,
-    chart: &Chart,
+    page_map: &PageMap,
     which: Listings,
     corner: Corner,
 ) -> Result<(), Refusal>
     requires not_failed { has_failed roots.old ≡ false }
-    requires sectors { chart.now.sectors ≡ D.size (disk_of roots.old) }
-    requires present { IsLocated corner chart.now.staged }
-    ensures { (t : TileLocation) → Contains chart.now.staged t → t.corner ≡ corner
-        → WritesListing D.Disk (due_among (written_before which chart.now) (tile_listing chart.now.format t)) roots.old roots.new result }
+    requires sectors { page_map.now.sectors ≡ D.size (disk_of roots.old) }
+    requires present { IsLocated corner page_map.now.staged }
+    ensures { (t : TileLocation) → Contains page_map.now.staged t → t.corner ≡ corner
+        → WritesListing D.Disk (due_among (written_before which page_map.now) (tile_listing page_map.now.format t)) roots.old roots.new result }
 {
-    chart.rules();
-    write_listing(roots, chart, which, corner, Plane::Heights)?;
-    write_listing(roots, chart, which, corner, Plane::Levels)?;
-    write_listing(roots, chart, which, corner, Plane::Labels)
+    page_map.rules();
+    write_listing(roots, page_map, which, corner, Plane::Heights)?;
+    write_listing(roots, page_map, which, corner, Plane::Levels)?;
+    write_listing(roots, page_map, which, corner, Plane::Labels)
 }
 
 /// Writes what lists the pages of the staged tiles: records, and index pages.
 pub(crate) fn write_listings<D: Disk>(
     roots: &mut Roots<D>,
-    chart: &Chart,
+    page_map: &PageMap,
     which: Listings,
 ) -> Result<(), Refusal>
     requires not_failed { has_failed roots.old ≡ false }
-    requires sectors { chart.now.sectors ≡ D.size (disk_of roots.old) }
-    ensures { WritesListing D.Disk (due_among (written_before which chart.now) (tiles_listing chart.now.format chart.now.staged)) roots.old roots.new result }
+    requires sectors { page_map.now.sectors ≡ D.size (disk_of roots.old) }
+    ensures { WritesListing D.Disk (due_among (written_before which page_map.now) (tiles_listing page_map.now.format page_map.now.staged)) roots.old roots.new result }
 {
-    chart.rules();
-    let corners = chart.corners();
+    page_map.rules();
+    let corners = page_map.corners();
     for corner in corners.as_slice() {
-        write_tile(roots, chart, which, *corner)?;
+        write_tile(roots, page_map, which, *corner)?;
     }
     Ok(())
 }

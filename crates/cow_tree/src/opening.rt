@@ -1,21 +1,21 @@
-//! The chart of a disk, from its records.
+//! The page_map of a disk, from its records.
 ghost use Rattle.std.specs.Prelude.{◌≡◌, ◌≤◌, ◌<◌, ◌⊎◌, ◌^◌, ℕ, List, All, length, map, IfSome, false, Ok, Err, IfOk, IfErr, Some, None};
 ghost use Rattle.lattice.specs.declared.refusal.Refusal.TheVariants.{Damaged};
 ghost use Rattle.layout.specs.declared.version.Version.TheVariants.{Two};
 ghost use Rattle.page_codec.specs.Records.{IsRecord, record_bytes};
 ghost use Rattle.page_codec.specs.Roots.{format_of};
 ghost use Rattle.page_codec.specs.Sizes.{pages_of, index_pages_of, sectors_asked};
-ghost use Rattle.charts.specs.Locations.{IsWholePlane};
-ghost use Rattle.charts.specs.TileLocations.{TileLocation};
+ghost use Rattle.page_map.specs.Locations.{IsWholePlane};
+ghost use Rattle.page_map.specs.TileLocations.{TileLocation};
 ghost use Rattle.cow_tree.specs.Entries.{entry_of, entry_of_kept};
 ghost use Rattle.cow_tree.specs.Layout.{HasRecord, IsIndexed, HasRecords, IsLaidOut, HaveKeptRecords};
-ghost use Rattle.charts.specs.Charts.{IsWholeTile, IsChart, IsClean, tile_at, AreWholeKept};
+ghost use Rattle.page_map.specs.PageMaps.{IsWholeTile, IsPageMap, IsClean, tile_at, AreWholeKept};
 ghost use Rattle.cow_tree.specs.Found.{NoneListed, NoneIndexed, NonePlane, NoneKept, NoTileAt};
 ghost use Rattle.roots.specs.Roots.{disk_of, has_failed};
 ghost use Rattle.cow_tree.specs.OverRoots.{OnlyReads, IsRefusedFor, IsRefusalOfTree};
 
 use arrayvec::ArrayVec;
-use charts::{Chart, KeptLocations, PagedPlane, TilePlanes};
+use page_map::{PageMap, KeptLocations, PagedPlane, TilePlanes};
 use disk::Disk;
 use lattice::Refusal;
 use page_codec::{Entry, Format, Kept, PAGE_BYTES, RECORD_PAGES, Record, Root, Version};
@@ -148,22 +148,22 @@ fn read_planes<D: Disk>(
     Ok(TilePlanes { heights, kept })
 }
 
-/// The chart of the tiles that the current root's entries name.
-pub(crate) fn read_chart<D: Disk>(
+/// The page_map of the tiles that the current root's entries name.
+pub(crate) fn read_page_map<D: Disk>(
     alloc: Global,
     roots: &mut Roots<D>,
     root: &Root,
-) -> Result<Chart, Refusal>
+) -> Result<PageMap, Refusal>
     requires not_failed { has_failed roots.old ≡ false }
     ensures reads { OnlyReads D.Disk roots.old roots.new result }
     ensures refusals { IfErr result IsRefusalOfTree }
-    ensures rules { IfOk result IsChart }
-    ensures sectors { IfOk result (λ chart. chart.sectors ≡ D.size (disk_of roots.old)) }
-    ensures format { IfOk result (λ chart. chart.format ≡ format_of root.now) }
-    ensures fits { IfOk result (λ chart. chart.sectors < 2 ^ 32) }
-    ensures entries { IfOk result (λ chart. map entry_of chart.committed ≡ root.now.entries) }
+    ensures rules { IfOk result IsPageMap }
+    ensures sectors { IfOk result (λ page_map. page_map.sectors ≡ D.size (disk_of roots.old)) }
+    ensures format { IfOk result (λ page_map. page_map.format ≡ format_of root.now) }
+    ensures fits { IfOk result (λ page_map. page_map.sectors < 2 ^ 32) }
+    ensures entries { IfOk result (λ page_map. map entry_of page_map.committed ≡ root.now.entries) }
     ensures clean { IfOk result IsClean }
-    ensures records { D.honest (disk_of roots.new) → IfOk result (λ chart. All (HasRecords (format_of root.now) (D.seen (disk_of roots.old))) chart.committed) }
+    ensures records { D.honest (disk_of roots.new) → IfOk result (λ page_map. All (HasRecords (format_of root.now) (D.seen (disk_of roots.old))) page_map.committed) }
     ensures refused { D.honest (disk_of roots.new)
         → IfErr result (λ why. (D.size (disk_of roots.old) < sectors_asked (format_of root.now))
         ⊎ IsRefusedFor ((tiles : List TileLocation) → ¬ IsLaidOut (D.size (disk_of roots.old)) (D.seen (disk_of roots.old)) root.now tiles) why) }
@@ -175,10 +175,10 @@ pub(crate) fn read_chart<D: Disk>(
     if sectors < format.sectors() {
         return Err(Refusal::TooSmall);
     }
-    let mut chart = Chart::new(alloc, sectors, format)?;
+    let mut page_map = PageMap::new(alloc, sectors, format)?;
     for entry in entries {
         let planes = read_planes(alloc, roots, format, entry)?;
-        chart = chart.load(entry.corner, planes)?;
+        page_map = page_map.load(entry.corner, planes)?;
     }
-    Ok(chart)
+    Ok(page_map)
 }

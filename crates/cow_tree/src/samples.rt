@@ -6,7 +6,7 @@ ghost use Rattle.cow_tree.specs.Trees.{disk_of, root_of, has_failed, corners_of,
 
 use crate::tree::Tree;
 use catalogue::Samples;
-use charts::Plane;
+use page_map::Plane;
 use disk::Disk;
 use lattice::{Corner, Point, Refusal, Side};
 use page_codec::PAGE_BYTES;
@@ -60,7 +60,7 @@ impl<D: Disk> Samples for Tree<D> {
 
     ghost same_side = { λ _ _. refl };
 
-    ghost same_corners = { λ tree _. corners_in_mosaic (root_of tree).side (sinks_of tree) (D.seen (disk_of tree)) tree.chart.staged };
+    ghost same_corners = { λ tree _. corners_in_mosaic (root_of tree).side (sinks_of tree) (D.seen (disk_of tree)) tree.page_map.staged };
 
     ghost same_sinks = { λ _ _. refl };
 

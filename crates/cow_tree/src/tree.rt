@@ -10,7 +10,7 @@ ghost use Rattle.lattice.specs.declared.refusal.Refusal.TheVariants.{Device, NoM
 ghost use Rattle.page_codec.specs.Roots.{format_of};
 ghost use Rattle.page_codec.specs.Formats.{IsKnown};
 ghost use Rattle.page_codec.specs.Sizes.{pages_of, index_pages_of, sectors_asked};
-ghost use Rattle.charts.specs.declared.plane.Plane.TheVariants.{Heights, Levels, Labels};
+ghost use Rattle.page_map.specs.declared.plane.Plane.TheVariants.{Heights, Levels, Labels};
 ghost use Rattle.cow_tree.specs.Caches.{Agrees};
 ghost use Rattle.cow_tree.specs.Entries.{entry_of};
 ghost use Rattle.cow_tree.specs.Kept.{planes_of_bytes, with_kept};
@@ -26,11 +26,11 @@ ghost use Rattle.cow_tree.specs.Stored.{Stored, made_stale, no_tiles, next_commi
 use crate::cache::PageCache;
 use crate::entries::staged_entries;
 use crate::listings::{Listings, write_listings};
-use crate::opening::read_chart;
+use crate::opening::read_page_map;
 use crate::sinks::Sinks;
 use crate::writing::{write_kept, write_plane};
 use arrayvec::ArrayVec;
-use charts::{Chart, Plane};
+use page_map::{PageMap, Plane};
 use disk::Disk;
 use lattice::{Corner, MOST_TILES, Point, Refusal};
 use page_codec::{Format, PAGE_BYTES, Root, Version};
@@ -47,15 +47,15 @@ const TILES: usize = MOST_TILES as usize;
 pub struct Tree<D: Disk> {
     alloc: Global,
     roots: Roots<D>,
-    chart: Chart,
+    page_map: PageMap,
     root: Root,
     sinks: Sinks,
     // Pages that were read lately.
     cache: PageCache,
-    ghost sectors: { chart.sectors ≡ D.Disk.size (disk_under roots) },
-    ghost fits: { chart.sectors < 2 ^ 32 },
-    ghost format: { chart.format ≡ format_of root },
-    ghost entries: { map entry_of chart.committed ≡ root.entries },
+    ghost sectors: { page_map.sectors ≡ D.Disk.size (disk_under roots) },
+    ghost fits: { page_map.sectors < 2 ^ 32 },
+    ghost format: { page_map.format ≡ format_of root },
+    ghost entries: { map entry_of page_map.committed ≡ root.entries },
     ghost known: { have_failed roots ≡ false → root_under roots ≡ root },
     ghost declared: { sinks.side ≡ root.side },
     ghost cached: { D.Disk.honest (disk_under roots) → have_failed roots ≡ false → Agrees cache (D.Disk.seen (disk_under roots)) },
@@ -63,7 +63,7 @@ pub struct Tree<D: Disk> {
 
 impl<D: Disk> Tree<D> {
     ghost use Rattle.cow_tree.specs.Reading.{Reads};
-    ghost use Rattle.cow_tree.specs.Trees.{disk_of, root_of, chart_of, has_failed, has_begun, corners_of, sinks_of, Holds, HasStaged, IsUnstaged, records_due, disk_after, staged_in, IsAt, MayRefuse};
+    ghost use Rattle.cow_tree.specs.Trees.{disk_of, root_of, page_map_of, has_failed, has_begun, corners_of, sinks_of, Holds, HasStaged, IsUnstaged, records_due, disk_after, staged_in, IsAt, MayRefuse};
 
     /// Makes an empty store of this format on a disk. A fault before the Ok may leave anything.
     pub fn format(disk: &mut D, format: Format) -> Result<(), Refusal>
@@ -116,11 +116,11 @@ impl<D: Disk> Tree<D> {
         };
         let mut roots = Roots::open(disk)?;
         let root = roots.current().copy();
-        match read_chart(alloc, &mut roots, &root) {
-            Ok(chart) => Ok(Tree {
+        match read_page_map(alloc, &mut roots, &root) {
+            Ok(page_map) => Ok(Tree {
                 alloc,
                 roots,
-                chart,
+                page_map,
                 sinks: Sinks::of(&root),
                 root,
                 cache,
@@ -162,9 +162,9 @@ impl<D: Disk> Tree<D> {
         self.cache.clear();
         self.roots.reopen()?;
         let root = self.roots.current().copy();
-        match read_chart(self.alloc, &mut self.roots, &root) {
-            Ok(chart) => {
-                self.chart = chart;
+        match read_page_map(self.alloc, &mut self.roots, &root) {
+            Ok(page_map) => {
+                self.page_map = page_map;
                 self.sinks = Sinks::of(&root);
                 self.root = root;
                 Ok(())
@@ -196,8 +196,8 @@ impl<D: Disk> Tree<D> {
         ensures in_order { AllAdjacentBelow IsBefore (corners_of self.now) (length (corners_of self.now)) }
         ensures whole_degrees { All (λ d. IsTrue (is_corner d)) (corners_of self.now) }
     {
-        self.chart.rules();
-        self.chart.is_present(c)
+        self.page_map.rules();
+        self.page_map.is_present(c)
     }
 
     /// Whether levels and labels of the corner's tile are kept, as the next commit will have them.
@@ -205,7 +205,7 @@ impl<D: Disk> Tree<D> {
         ensures levels { IsTrue result ↔ Holds self.now c Levels }
         ensures labels { IsTrue result ↔ Holds self.now c Labels }
     {
-        match self.chart.kept(c) {
+        match self.page_map.kept(c) {
             Some(_) => true,
             None => false,
         }
@@ -217,8 +217,8 @@ impl<D: Disk> Tree<D> {
         ensures in_order { AllAdjacentBelow IsBefore (corners_of self.now) (length (corners_of self.now)) }
         ensures whole_degrees { All (λ d. IsTrue (is_corner d)) (corners_of self.now) }
     {
-        self.chart.rules();
-        self.chart.corners()
+        self.page_map.rules();
+        self.page_map.corners()
     }
 
     /// The points that are declared sinks, in the order of points, as the next commit will have them.
@@ -235,7 +235,7 @@ impl<D: Disk> Tree<D> {
         ensures sinks { sinks_of self.new ≡ sinks.now }
         ensures disk { disk_of self.new ≡ disk_of self.old }
         ensures root { root_of self.new ≡ root_of self.old }
-        ensures chart { chart_of self.new ≡ chart_of self.old }
+        ensures page_map { page_map_of self.new ≡ page_map_of self.old }
         ensures failed { has_failed self.new ≡ has_failed self.old }
         ensures begun { has_begun self.new ≡ has_begun self.old }
         ensures staged { staged_in D.Disk self.new ≡ staged_in D.Disk self.old }
@@ -349,10 +349,10 @@ impl<D: Disk> Tree<D> {
         requires index { i < pages_of (root_of self.now).side }
         ensures low { 4 ≤ result }
         ensures high { result < D.size (disk_of self.now) }
-        ensures page { (image : Image) (bytes : List ℕ) → bytes ≡ image result → HasPage (map (tile_in image) (chart_of self.now).staged) c plane i bytes }
+        ensures page { (image : Image) (bytes : List ℕ) → bytes ≡ image result → HasPage (map (tile_in image) (page_map_of self.now).staged) c plane i bytes }
     {
-        self.chart.rules();
-        match self.chart.plane(c, plane) {
+        self.page_map.rules();
+        match self.page_map.plane(c, plane) {
             Some(location) => location.pages()[i as usize],
             None => unreachable!(),
         }
@@ -407,8 +407,8 @@ impl<D: Disk> Tree<D> {
             → LeavesOnly D.Disk (disk_of self.old) (disk_of self.new) (λ image. Stands (D.size (disk_of self.old)) image s) }
     {
         prove!(plane == Plane::Heights);
-        self.chart.rules();
-        let number = self.chart.page_for_writing(c, i)?;
+        self.page_map.rules();
+        let number = self.page_map.page_for_writing(c, i)?;
         self.cache.forget(number);
         self.roots.write(number, page)
     }
@@ -419,7 +419,7 @@ impl<D: Disk> Tree<D> {
     pub fn prepare(&mut self, c: Corner) -> Result<(), Refusal>
         requires present { Contains (corners_of self.old) c }
         ensures refused { IfErr result (λ refusal. refusal ≡ NoMemory) }
-        ensures unchanged { OnErr result (chart_of self.new ≡ chart_of self.old) }
+        ensures unchanged { OnErr result (page_map_of self.new ≡ page_map_of self.old) }
         ensures disk { disk_of self.new ≡ disk_of self.old }
         ensures root { root_of self.new ≡ root_of self.old }
         ensures corners { corners_of self.new ≡ corners_of self.old }
@@ -433,8 +433,8 @@ impl<D: Disk> Tree<D> {
         ensures still_staged { (other : Corner) → HasStaged self.old other → HasStaged self.new other }
         ensures at { (s : Stored) → IsAt D.Disk self.old s → IsAt D.Disk self.new s }
     {
-        self.chart.rules();
-        self.chart.prepare(c)
+        self.page_map.rules();
+        self.page_map.prepare(c)
     }
 
     /// Stages a tile for a corner that has none, with these bytes of heights, two a sample; the plane named is heights.
@@ -476,9 +476,9 @@ impl<D: Disk> Tree<D> {
             → LeavesOnly D.Disk (disk_of self.old) (disk_of self.new) (λ image. Stands (D.size (disk_of self.old)) image s) }
     {
         prove!(plane == Plane::Heights);
-        self.chart.tile_for_writing(c)?;
+        self.page_map.tile_for_writing(c)?;
         self.cache.clear();
-        match self.chart.heights(c) {
+        match self.page_map.heights(c) {
             Some(plane) => write_plane(&mut self.roots, plane.pages(), bytes),
             None => unreachable!(),
         }
@@ -506,7 +506,7 @@ impl<D: Disk> Tree<D> {
         ensures works { has_failed self.new ≡ false ⊎ IsErrOf result Device }
         ensures not_failed { OnOk result (has_failed self.new ≡ false) }
         ensures unchanged { IsErrOf result NoMemory → disk_of self.new ≡ disk_of self.old }
-        ensures same { IsErrOf result NoMemory → chart_of self.new ≡ chart_of self.old }
+        ensures same { IsErrOf result NoMemory → page_map_of self.new ≡ page_map_of self.old }
         ensures device { IsErrOf result Device → has_failed self.new ≡ true }
         ensures due { records_due self.new ≤ records_due self.old + 2 * (1 + index_pages_of (format_of (root_of self.old))) }
 
@@ -520,10 +520,10 @@ impl<D: Disk> Tree<D> {
         ensures any_moment { D.honest (disk_of self.new) → (s : Stored) → IsAt D.Disk self.old s
             → LeavesOnly D.Disk (disk_of self.old) (disk_of self.new) (λ image. Stands (D.size (disk_of self.old)) image s) }
     {
-        self.chart.rules();
-        self.chart.keep(c)?;
+        self.page_map.rules();
+        self.page_map.keep(c)?;
         self.cache.clear();
-        match self.chart.kept(c) {
+        match self.page_map.kept(c) {
             Some(kept) => write_kept(&mut self.roots, kept, levels, labels),
             None => unreachable!(),
         }
@@ -569,16 +569,16 @@ impl<D: Disk> Tree<D> {
     {
         // What it gives up may hold something else from here on, and so do the pages that get its records.
         self.cache.clear();
-        self.chart.rules();
-        let entries = staged_entries(&self.chart);
+        self.page_map.rules();
+        let entries = staged_entries(&self.page_map);
         let root = self
             .root
             .next(count, entries)
             .with_sinks(self.sinks.points());
-        write_listings(&mut self.roots, &self.chart, Listings::Due)?;
+        write_listings(&mut self.roots, &self.page_map, Listings::Due)?;
         self.roots.commit(&root)?;
         self.root = root;
-        self.chart.settle();
+        self.page_map.settle();
         Ok(())
     }
 
@@ -627,14 +627,14 @@ impl<D: Disk> Tree<D> {
             (λ image. Stands (D.size (disk_of self.old)) image s ⊎ Stands (D.size (disk_of self.old)) image (upgraded_store s)) }
     {
         self.allow_upgrade()?;
-        let chart = self.chart.upgraded()?;
+        let page_map = self.page_map.upgraded()?;
         self.cache.clear();
-        let entries = staged_entries(&chart);
+        let entries = staged_entries(&page_map);
         let root = self.root.upgraded(entries);
-        write_listings(&mut self.roots, &chart, Listings::All)?;
+        write_listings(&mut self.roots, &page_map, Listings::All)?;
         self.roots.commit(&root)?;
         self.root = root;
-        self.chart = chart;
+        self.page_map = page_map;
         Ok(())
     }
 
@@ -674,7 +674,7 @@ impl<D: Disk> Tree<D> {
         ensures undeclared { D.honest (disk_of self.old) → (s : Stored) → IsAt D.Disk self.old s → sinks_of self.new ≡ s.sinks }
     {
         self.cache.clear();
-        self.chart.undo();
+        self.page_map.undo();
         self.sinks = Sinks::of(&self.root);
     }
 
@@ -696,7 +696,7 @@ impl<D: Disk> Tree<D> {
         ensures at { (s : Stored) → IsAt D.Disk self.old s → IsAt D.Disk self.new s }
     {
         prove!(plane == Plane::Heights);
-        self.chart.remove_tile(c);
+        self.page_map.remove_tile(c);
     }
 
     /// Takes the levels and the labels of the corner's tile out, where they are kept; its heights stay. No call of the disk
@@ -714,7 +714,7 @@ impl<D: Disk> Tree<D> {
         ensures staged { staged_in D.Disk self.new ≡ made_stale c (staged_in D.Disk self.old) }
         ensures at { (s : Stored) → IsAt D.Disk self.old s → IsAt D.Disk self.new s }
     {
-        self.chart.rules();
-        self.chart.drop_kept(c);
+        self.page_map.rules();
+        self.page_map.drop_kept(c);
     }
 }

@@ -2,14 +2,14 @@
 ghost use Rattle.std.specs.Prelude.{◌≡◌, ◌≤◌, ◌<◌, ℕ, ◌++◌, All, Some, false, length, map, take, drop, OnOk};
 ghost use Rattle.page_codec.specs.Numbers.{padded};
 ghost use Rattle.page_codec.specs.Sizes.{pages_of};
-ghost use Rattle.charts.specs.Locations.{times};
+ghost use Rattle.page_map.specs.Locations.{times};
 ghost use Rattle.cow_tree.specs.Kept.{planes_of_bytes};
 ghost use Rattle.cow_tree.specs.Layout.{kept_in};
 ghost use Rattle.cow_tree.specs.Stored.{pages_of_bytes};
 ghost use Rattle.roots.specs.Roots.{disk_of, has_failed};
 ghost use Rattle.cow_tree.specs.OverRoots.{WritesPages};
 
-use charts::KeptLocations;
+use page_map::KeptLocations;
 use disk::Disk;
 use lattice::Refusal;
 use page_codec::PAGE_BYTES;

@@ -5,8 +5,8 @@ use Rattle.disk.specs.Disk.{Image}
 use Rattle.disk.specs.declared.disk.Disk.{Ghosts}
 use Rattle.lattice.specs.Corners.{Corner}
 use Rattle.page_codec.specs.Roots.{RootValue}
-use Rattle.charts.specs.TileLocations.{TileLocation}
-use Rattle.charts.specs.declared.locations.KeptLocations.{KeptLocations}
+use Rattle.page_map.specs.TileLocations.{TileLocation}
+use Rattle.page_map.specs.declared.locations.KeptLocations.{KeptLocations}
 use Rattle.cow_tree.specs.Entries.{entry_of}
 use Rattle.cow_tree.specs.Layout.{StoresAt, tile_in}
 use Rattle.cow_tree.specs.Stored.{Stored}
@@ -50,20 +50,20 @@ root_stale sectors root tiles stored image stores =
 
 -- a tree that is at this
 module _ {D : Type 0} (g : Ghosts D) (tree : Tree D g) (s : Stored) (at : IsAt g tree s) (seen : g.may (disk_of tree) (g.seen (disk_of tree))) where
-  pub seen_stores : StoresAt (g.size (disk_of tree)) (root_of tree) tree.chart.committed s (g.seen (disk_of tree))
-  seen_stores = subst (λ (r : RootValue). StoresAt (g.size (disk_of tree)) r tree.chart.committed s (g.seen (disk_of tree))) (tree.known at.ready.works) (at.each (g.seen (disk_of tree)) seen)
+  pub seen_stores : StoresAt (g.size (disk_of tree)) (root_of tree) tree.page_map.committed s (g.seen (disk_of tree))
+  seen_stores = subst (λ (r : RootValue). StoresAt (g.size (disk_of tree)) r tree.page_map.committed s (g.seen (disk_of tree))) (tree.known at.ready.works) (at.each (g.seen (disk_of tree)) seen)
 
   pub side_at : s.side ≡ (root_of tree).side
-  side_at = root_side (g.size (disk_of tree)) (root_of tree) tree.chart.committed s (g.seen (disk_of tree)) seen_stores
+  side_at = root_side (g.size (disk_of tree)) (root_of tree) tree.page_map.committed s (g.seen (disk_of tree)) seen_stores
 
   pub count_at : s.count ≡ (root_of tree).count
-  count_at = root_count (g.size (disk_of tree)) (root_of tree) tree.chart.committed s (g.seen (disk_of tree)) seen_stores
+  count_at = root_count (g.size (disk_of tree)) (root_of tree) tree.page_map.committed s (g.seen (disk_of tree)) seen_stores
 
   pub number_at : s.number ≡ (root_of tree).number
-  number_at = root_number (g.size (disk_of tree)) (root_of tree) tree.chart.committed s (g.seen (disk_of tree)) seen_stores
+  number_at = root_number (g.size (disk_of tree)) (root_of tree) tree.page_map.committed s (g.seen (disk_of tree)) seen_stores
 
   pub sinks_at : s.sinks ≡ (root_of tree).sinks
-  sinks_at = root_sinks (g.size (disk_of tree)) (root_of tree) tree.chart.committed s (g.seen (disk_of tree)) seen_stores
+  sinks_at = root_sinks (g.size (disk_of tree)) (root_of tree) tree.page_map.committed s (g.seen (disk_of tree)) seen_stores
 
   pub stale_at : stale_in (root_of tree) ≡ stale_corners s.tiles
-  stale_at = root_stale (g.size (disk_of tree)) (root_of tree) tree.chart.committed s (g.seen (disk_of tree)) seen_stores
+  stale_at = root_stale (g.size (disk_of tree)) (root_of tree) tree.page_map.committed s (g.seen (disk_of tree)) seen_stores

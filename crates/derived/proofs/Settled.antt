@@ -4,13 +4,13 @@ use Rattle.disk.specs.declared.disk.Disk.{Ghosts}
 use Rattle.lattice.specs.Mosaic.{IsMosaic}
 use Rattle.lattice.specs.declared.point.Point.{Point}
 use Rattle.page_codec.specs.Roots.{RootValue}
-use Rattle.charts.specs.Charts.{ChartValue, HasFreshHeights}
-use Rattle.charts.specs.TileLocations.{TileLocation}
+use Rattle.page_map.specs.PageMaps.{PageMapValue, HasFreshHeights}
+use Rattle.page_map.specs.TileLocations.{TileLocation}
 use Rattle.cow_tree.specs.Layout.{tile_in}
 use Rattle.cow_tree.specs.Reading.{mosaic_of, IsReadable, HasOnlyRead}
 use Rattle.cow_tree.specs.Staged.{pages_due}
 use Rattle.cow_tree.specs.Stored.{StoredTile, Stored, AreWhole, mosaic_of_tiles}
-use Rattle.cow_tree.specs.Trees.{disk_of, root_of, chart_of, corners_of, sinks_of, staged_in, IsUnstaged, IsAt}
+use Rattle.cow_tree.specs.Trees.{disk_of, root_of, page_map_of, corners_of, sinks_of, staged_in, IsUnstaged, IsAt}
 use Rattle.cow_tree.specs.declared.tree.Tree.{Tree}
 use Rattle.derived.specs.Clean.{IsClean, IsSettled}
 use Rattle.derived.specs.Kept.{KeepsRight, mosaic_stored}
@@ -18,16 +18,16 @@ use Rattle.derived.proofs.RootStored.{seen_stores, side_at, sinks_at}
 
 module _ {D : Type 0} (g : Ghosts D) where
   -- nothing was staged, and nothing is
-  pub still_clean : (old new : Tree D g) → chart_of new ≡ chart_of old → root_of new ≡ root_of old → corners_of new ≡ corners_of old → IsClean old → IsClean new
-  still_clean old new chart root corners was = record {
-    none_staged = λ c staged. was.none_staged c (subst (λ (x : ChartValue). HasFreshHeights c x) chart staged);
-    none_due = ap (λ (x : ChartValue). length (pages_due x)) chart ∙ was.none_due;
+  pub still_clean : (old new : Tree D g) → page_map_of new ≡ page_map_of old → root_of new ≡ root_of old → corners_of new ≡ corners_of old → IsClean old → IsClean new
+  still_clean old new page_map root corners was = record {
+    none_staged = λ c staged. was.none_staged c (subst (λ (x : PageMapValue). HasFreshHeights c x) page_map staged);
+    none_due = ap (λ (x : PageMapValue). length (pages_due x)) page_map ∙ was.none_due;
     corners = corners ∙ was.corners ∙ ap (λ (r : RootValue). map (λ e. e.corner) r.entries) (sym root);
   }
 
   -- on the same disk the same tiles are staged
-  pub staged_same : (old new : Tree D g) → disk_of new ≡ disk_of old → chart_of new ≡ chart_of old → staged_in g new ≡ staged_in g old
-  staged_same old new disk chart = ap₂ (λ (x : D) (y : ChartValue). map (tile_in (g.seen x)) y.staged) disk chart
+  pub staged_same : (old new : Tree D g) → disk_of new ≡ disk_of old → page_map_of new ≡ page_map_of old → staged_in g new ≡ staged_in g old
+  staged_same old new disk page_map = ap₂ (λ (x : D) (y : PageMapValue). map (tile_in (g.seen x)) y.staged) disk page_map
 
   -- where nothing is staged, the tiles and the sinks are those of what the tree is at
   pub settled_at : (tree : Tree D g) (s : Stored) → IsUnstaged tree → sinks_of tree ≡ (root_of tree).sinks → IsAt g tree s → g.may (disk_of tree) (g.seen (disk_of tree)) → IsSettled g tree s

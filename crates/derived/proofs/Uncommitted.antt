@@ -29,7 +29,7 @@ always (Err e) p = tt
 module _ {D : Type 0} (g : Ghosts D) where
   -- each image that a stop may leave stands for what the tree is at
   pub each_stands : (tree : Tree D g) (s : Stored) → IsAt g tree s → (image : Image) → g.may (disk_of tree) image → Stands (g.size (disk_of tree)) image s
-  each_stands tree s at image may = (tree.roots.root, tree.chart.committed, at.each image may)
+  each_stands tree s at image may = (tree.roots.root, tree.page_map.committed, at.each image may)
 
   abbrev pub OnlyNow : Type 0
   OnlyNow = (disk : D) (c : Image) → g.honest disk → g.since disk (g.moment disk) c → g.may disk c

@@ -10,7 +10,7 @@ use Rattle.border_graph.specs.Others.{corner_at}
 use Rattle.drainage.specs.Between.{are_noted}
 use Rattle.drainage.specs.Beyond.{IsKeptAt, is_beyond, are_kept_from, are_kept_beyond}
 use Rattle.drainage.specs.Reaching.{is_between, is_reached, reaches}
-use Rattle.drainage.specs.declared.waters.Waters.{Waters}
+use Rattle.drainage.specs.declared.tile_cache.TileCache.{TileCache}
 use Rattle.drainage.proofs.Reached.{at_itself}
 use Rattle.drainage.proofs.Unreached.{itself_unreached}
 
@@ -42,39 +42,39 @@ module _ (n : ℕ) (corners : List Corner) (p : Point) (t : ℕ) (out : is_reach
   not_held = false_from_ne_true (holds n (corner_at corners t) p) (λ held.
       both_ways (is_between p p p) (itself_unreached n (corner_at corners t) p p parts.1 p held) (at_itself p))
 
-pub kept_by_noted : (p : Point) (held left : Option Waters) → are_noted p held left → are_kept_from p held left
+pub kept_by_noted : (p : Point) (held left : Option TileCache) → are_noted p held left → are_kept_from p held left
 kept_by_noted p None left is = tt
-kept_by_noted p (Some waters) left (some, at, is) = λ t out. (
+kept_by_noted p (Some tile_cache) left (some, at, is) = λ t out. (
   some,
   at,
   record {
     same_side = is.same_side;
     same_corners = is.same_corners;
-    told = kept_there _ _ (is_reached waters.shores.side waters.shores.corners.items p p) t (is.told t) out;
-    entered = is.entered t (place waters.shores.side waters.shores.corners.items p t out) (not_held waters.shores.side waters.shores.corners.items p t out);
+    loaded = kept_there _ _ (is_reached tile_cache.rim_graph.side tile_cache.rim_graph.corners.items p p) t (is.loaded t) out;
+    labellings = is.labellings t (place tile_cache.rim_graph.side tile_cache.rim_graph.corners.items p t out) (not_held tile_cache.rim_graph.side tile_cache.rim_graph.corners.items p t out);
   },
 )
 
-pub all_kept : {A : Type 0} (point : A → Option Point) (changes : List A) (held : Option Waters) → are_kept_beyond point changes held held
+pub all_kept : {A : Type 0} (point : A → Option Point) (changes : List A) (held : Option TileCache) → are_kept_beyond point changes held held
 all_kept point changes None = tt
-all_kept point changes (Some waters) = λ t beyond. (waters, refl, record { same_side = refl; same_corners = refl; told = refl; entered = refl })
+all_kept point changes (Some tile_cache) = λ t beyond. (tile_cache, refl, record { same_side = refl; same_corners = refl; loaded = refl; labellings = refl })
 
 -- one change more
-pub one_kept : {A : Type 0} (point : A → Option Point) (changes : List A) (i : ℕ) (x : A) (p : Point) (first held left : Option Waters) → i < length changes → x ≡ get_or changes i x → point x ≡ Some p
+pub one_kept : {A : Type 0} (point : A → Option Point) (changes : List A) (i : ℕ) (x : A) (p : Point) (first held left : Option TileCache) → i < length changes → x ≡ get_or changes i x → point x ≡ Some p
     → are_kept_from p held left → are_kept_beyond point changes first held → are_kept_beyond point changes first left
 one_kept point changes i x p None held left below is_x at kept before = tt
-one_kept point changes i x p (Some waters) held left below is_x at kept before = λ t beyond.
+one_kept point changes i x p (Some tile_cache) held left below is_x at kept before = λ t beyond.
     let was = before t beyond in
-    let out : is_reached waters.shores.side waters.shores.corners.items p p t ≡ false =
-    subst (is_beyond waters.shores.side waters.shores.corners.items t) (ap point (sym is_x) ∙ at) (All-get_or (λ change. is_beyond waters.shores.side waters.shores.corners.items t (point change)) changes i x below beyond) in
-    let still = subst (λ (o : Option Waters). are_kept_from p o left) was.1 kept in
-    let now = still t (ap (λ (s : ℕ). is_reached s was.0.shores.corners.items p p t) was.2.same_side ∙ (ap (λ (cs : List Corner). is_reached waters.shores.side cs p p t) was.2.same_corners ∙ out)) in (
+    let out : is_reached tile_cache.rim_graph.side tile_cache.rim_graph.corners.items p p t ≡ false =
+    subst (is_beyond tile_cache.rim_graph.side tile_cache.rim_graph.corners.items t) (ap point (sym is_x) ∙ at) (All-get_or (λ change. is_beyond tile_cache.rim_graph.side tile_cache.rim_graph.corners.items t (point change)) changes i x below beyond) in
+    let still = subst (λ (o : Option TileCache). are_kept_from p o left) was.1 kept in
+    let now = still t (ap (λ (s : ℕ). is_reached s was.0.rim_graph.corners.items p p t) was.2.same_side ∙ (ap (λ (cs : List Corner). is_reached tile_cache.rim_graph.side cs p p t) was.2.same_corners ∙ out)) in (
       now.0,
       now.1,
       record {
         same_side = now.2.same_side ∙ was.2.same_side;
         same_corners = now.2.same_corners ∙ was.2.same_corners;
-        told = now.2.told ∙ was.2.told;
-        entered = now.2.entered ∙ was.2.entered;
+        loaded = now.2.loaded ∙ was.2.loaded;
+        labellings = now.2.labellings ∙ was.2.labellings;
       },
     )

@@ -47,7 +47,7 @@ module _ (m : Mosaic) (is : IsMosaic m) (p : Point) (known : Known) (right : IsR
   -- its label is that of a void
   pub void_there : label ≡ NO_LABEL → IsFalse (is_ground m p)
   void_there none = subst (λ q. IsFalse (is_ground m q)) at_point.point
-      (void_by_label m is known.side known.corners known.told right.ready t small spot.0 tile e at_point.below (sym spot.1.1.1 ∙ none))
+      (void_by_label m is known.side known.corners known.loaded right.ready t small spot.0 tile e at_point.below (sym spot.1.1.1 ∙ none))
 
   pub no_height_there : label ≡ NO_LABEL → metres (height_of m p) ≡ void
   no_height_there none = no_metres (height_of m p) (void_there none)
@@ -55,22 +55,22 @@ module _ (m : Mosaic) (is : IsMosaic m) (p : Point) (known : Known) (right : IsR
   -- or another point's
   module _ (ground : label ≢ NO_LABEL) where
     on_ground : IsTrue (is_ground m (point_of m.side (corner_at known.corners t) e))
-    on_ground = ground_by_label m is known.side known.corners known.told right.ready t small spot.0 tile e at_point.below (λ none. ground (spot.1.1.1 ∙ none))
+    on_ground = ground_by_label m is known.side known.corners known.loaded right.ready t small spot.0 tile e at_point.below (λ none. ground (spot.1.1.1 ∙ none))
 
     -- it is OUT
     pub level_inside : label ≡ OUT → IsFilledLevel (terrain m) p level
     level_inside out = subst (IsFilledLevel (terrain m) p) (sym spot.1.1.0) (subst (λ q. IsFilledLevel (terrain m) q (slice_index_or spot.0.levels e void)) at_point.point
-        (out_level m is known.side known.corners known.told right.ready t small spot.0 tile e at_point.below on_ground (sym spot.1.1.1 ∙ out)))
+        (out_level m is known.side known.corners known.loaded right.ready t small spot.0 tile e at_point.below on_ground (sym spot.1.1.1 ∙ out)))
 
     -- or names a rim point
     module _ (named : label ≢ OUT) where
       pub rim_there : IsGroundNode m known.corners t label
       rim_there = subst (IsGroundNode m known.corners t) (sym spot.1.1.1)
-          (ground_node m is known.side known.corners known.told right.ready t small spot.0 tile e at_point.below on_ground (λ out. named (spot.1.1.1 ∙ out)))
+          (ground_node m is known.side known.corners known.loaded right.ready t small spot.0 tile e at_point.below on_ground (λ out. named (spot.1.1.1 ∙ out)))
 
       pub level_over : (v : ℤ) → IsRimLevel m known.corners (node_number m.side (Rim t label)) v → IsFilledLevel (terrain m) p (int_max level v)
       level_over v rim = subst (λ l. IsFilledLevel (terrain m) p (int_max l v)) (sym spot.1.1.0)
           (subst (λ q. IsFilledLevel (terrain m) q (int_max (slice_index_or spot.0.levels e void) v)) at_point.point
-          (over_level m is known.side known.corners known.told right.ready t small spot.0 tile e at_point.below on_ground (λ out. named (spot.1.1.1 ∙ out)) v
+          (over_level m is known.side known.corners known.loaded right.ready t small spot.0 tile e at_point.below on_ground (λ out. named (spot.1.1.1 ∙ out)) v
           (joined_at m is known right (node_number m.side (Rim t (slice_index spot.0.labels e))) v
           (subst (λ k. IsRimLevel m known.corners (node_number m.side (Rim t k)) v) spot.1.1.1 rim))))

@@ -8,14 +8,14 @@ use Rattle.catalogue.specs.Endings.{ends_any}
 use Rattle.catalogue.specs.Readers.{OnlyReads}
 use Rattle.catalogue.specs.declared.samples.Samples.{Ghosts}
 use Rattle.catalogue.proofs.Asking.{asked_passed}
-use Rattle.drainage.specs.declared.held.Held.{Held}
+use Rattle.drainage.specs.declared.drainage_cache.DrainageCache.{DrainageCache}
 use Rattle.drainage.specs.Between.{IsHeldOf, IsHeldFor}
 use Rattle.drainage.specs.Following.{AreRead, IsStopped}
 use Rattle.drainage.proofs.Questioned.{asked_reads, answered}
 
 module _ {S : Type 0} (g : Ghosts S) (a b : S) where
   -- what was right for the samples is so after reads of them, whether those were answered or refused
-  pub held_still : {T : Type 0} (result : Result T Refusal) (held : Held) → OnlyReads g a b result → IsHeldFor g a held → IsHeldFor g b held
+  pub held_still : {T : Type 0} (result : Result T Refusal) (held : DrainageCache) → OnlyReads g a b result → IsHeldFor g a held → IsHeldFor g b held
   held_still result held reads right honest = subst (λ (m : Mosaic). IsHeldOf m held) (sym (reads.mosaic honest)) (right (reads.honest honest))
 
   pub refused_so : {T : Type 0} (result : Result T Refusal) → IfErr result (λ r. IsTrue (ends_any r)) → Asked g a b result → IfErr result (IsStopped g a b)

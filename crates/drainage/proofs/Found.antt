@@ -17,10 +17,10 @@ use Rattle.drainage.proofs.Whole.{summaries}
 
 -- one level more is known
 pub right_more : (m : Mosaic) (known : Known) (levels : List (Option ℤ)) (node : ℕ) (level : ℤ) → ((x : ℕ) → level_of levels x ≡ cond (node == x) (Some level) (level_of known.levels x)) → IsRimLevel m known.corners node level → IsRight m known
-    → IsRight m (record { side = known.side; corners = known.corners; told = known.told; entered = known.entered; levels = levels })
+    → IsRight m (record { side = known.side; corners = known.corners; loaded = known.loaded; labellings = known.labellings; levels = levels })
 right_more m known levels node level more rim right = record {
   ready = right.ready;
-  entered = right.entered;
+  labellings = right.labellings;
   levels = λ x l is. elim (eqb_tells node x) [
     | inl same ↦ by x l same.1 (ap (λ b. cond b (Some level) (level_of known.levels x)) (sym same.0) ∙ (sym (more x) ∙ is))
     | inr other ↦ right.levels x l (ap (λ b. cond b (Some level) (level_of known.levels x)) (sym other.0) ∙ (sym (more x) ∙ is))
@@ -34,10 +34,10 @@ right_more m known levels node level more rim right = record {
 pub right_all : (m : Mosaic) (known : Known) (levels : List (Option ℤ)) (nodes : List ℕ) (level : ℤ)
     → ((x : ℕ) (found : ℤ) → level_of levels x ≡ Some found → (level_of known.levels x ≡ Some found) ⊎ (Contains nodes x × (found ≡ level)))
     → ((x : ℕ) → Contains nodes x → IsRimLevel m known.corners x level) → IsRight m known
-    → IsRight m (record { side = known.side; corners = known.corners; told = known.told; entered = known.entered; levels = levels })
+    → IsRight m (record { side = known.side; corners = known.corners; loaded = known.loaded; labellings = known.labellings; levels = levels })
 right_all m known levels nodes level only rim right = record {
   ready = right.ready;
-  entered = right.entered;
+  labellings = right.labellings;
   levels = λ x l is. elim (only x l is) [
     | inl before ↦ right.levels x l before
     | inr more ↦ subst (IsRimLevel m known.corners x) (sym more.1) (rim x more.0)
@@ -50,14 +50,14 @@ module _ {S : Type 0} (g : Ghosts S) (a b : S) (is : IsMosaic (g.mosaic a)) (kno
   right_then = grown.right honest right
 
   all_then : List Summary
-  all_then = summaries (g.mosaic a) is known'.side known'.corners known'.told right_then.ready
+  all_then = summaries (g.mosaic a) is known'.side known'.corners known'.loaded right_then.ready
 
   pub reached_later : ((n : ℕ) (all : List Summary) → Agrees known' n all → (0 < x) × IsJoinedLevel (IsPlacedLink n all) 0 x level) → IsRimLevel (g.mosaic b) known'.corners x level
   unfolding all_then
   reached_later joined =
       let found = joined (g.mosaic a).side all_then (all_agree (g.mosaic a) is known' right_then) in
       subst (λ (m : Mosaic). IsRimLevel m known'.corners x level) (sym (grown.kept.mosaic honest))
-      (rim_level_of (g.mosaic a) is known'.side known'.corners known'.told right_then.ready x found.0 level found.1)
+      (rim_level_of (g.mosaic a) is known'.side known'.corners known'.loaded right_then.ready x found.0 level found.1)
 
 -- a rim point's node, as it was numbered
 pub start_is : (m : Mosaic) (known : Known) (t k start : ℕ) → IsRight m known → start ≡ 1 + t * (4 * (known.side - 1)) + k → start ≡ node_number m.side (Rim t k)
@@ -87,9 +87,9 @@ module _ {S : Type 0} (g : Ghosts S) (a b : S) (is : IsMosaic (g.mosaic a)) (kno
     place = small_later;
     rim = ground_later.rim;
     on_ground = ground_later.on_ground;
-    filled = filled_by_joined (g.mosaic a) is known'.side known'.corners known'.told right_later.ready t k ground_later.index small_later ground_later.rim ground_later.on_ground v
-        (subst (λ x. IsJoinedLevel (IsPlacedLink (g.mosaic a).side (summaries (g.mosaic a) is known'.side known'.corners known'.told right_later.ready)) 0 x v) at_node
-        (joined (g.mosaic a).side (summaries (g.mosaic a) is known'.side known'.corners known'.told right_later.ready) (all_agree (g.mosaic a) is known' right_later)));
+    filled = filled_by_joined (g.mosaic a) is known'.side known'.corners known'.loaded right_later.ready t k ground_later.index small_later ground_later.rim ground_later.on_ground v
+        (subst (λ x. IsJoinedLevel (IsPlacedLink (g.mosaic a).side (summaries (g.mosaic a) is known'.side known'.corners known'.loaded right_later.ready)) 0 x v) at_node
+        (joined (g.mosaic a).side (summaries (g.mosaic a) is known'.side known'.corners known'.loaded right_later.ready) (all_agree (g.mosaic a) is known' right_later)));
   }
 
   pub found : (v : ℤ) → ((n : ℕ) (all : List Summary) → Agrees known' n all → IsJoinedLevel (IsPlacedLink n all) 0 start v) → IsRimLevel (g.mosaic a) known.corners (node_number (g.mosaic a).side (Rim t k)) v
@@ -101,6 +101,6 @@ module _ {S : Type 0} (g : Ghosts S) (a b : S) (is : IsMosaic (g.mosaic a)) (kno
 
   -- and some way leads out
   pub never : ((n : ℕ) (all : List Summary) → Agrees known' n all → (level : ℤ) (rest : List ℕ) → IsWayBelow (IsPlacedLink n all) 0 level start rest → ⊥) → ⊥
-  never none = way_out (g.mosaic a) is known'.side known'.corners known'.told right_later.ready t k ground_later.index small_later ground_later.rim ground_later.on_ground
-      (λ level rest way. none (g.mosaic a).side (summaries (g.mosaic a) is known'.side known'.corners known'.told right_later.ready) (all_agree (g.mosaic a) is known' right_later) level rest
-      (subst (λ x. IsWayBelow (IsPlacedLink (g.mosaic a).side (summaries (g.mosaic a) is known'.side known'.corners known'.told right_later.ready)) 0 level x rest) (sym at_node) way))
+  never none = way_out (g.mosaic a) is known'.side known'.corners known'.loaded right_later.ready t k ground_later.index small_later ground_later.rim ground_later.on_ground
+      (λ level rest way. none (g.mosaic a).side (summaries (g.mosaic a) is known'.side known'.corners known'.loaded right_later.ready) (all_agree (g.mosaic a) is known' right_later) level rest
+      (subst (λ x. IsWayBelow (IsPlacedLink (g.mosaic a).side (summaries (g.mosaic a) is known'.side known'.corners known'.loaded right_later.ready)) 0 level x rest) (sym at_node) way))

@@ -1,4 +1,4 @@
--- Bytes that tell where points drain.
+-- Bytes that load_tile where points drain.
 use Rattle.std.proofs.Common.{◌≡◌, ℕ, ◌*◌, ◌<◌, Option, Some, None, Bool, true, false, List, [], ◌∷◌, ◌++◌, length, inl, inr, get_or, set, replicate, sym, ap, ◌∙◌, subst, get_or-set_other, get_or-set_same}
 use Rattle.std.proofs.lemmas.List.{get_or-replicate}
 use Rattle.std.proofs.lemmas.Bool.{cases_eq}
@@ -24,7 +24,7 @@ unwrap : (a b : Option Dir) → ◌≡◌ {A = Option (Option Dir)} (Some a) (So
 unwrap a b e = cc
 
 module _ (m : Mosaic) (n : ℕ) (c : Corner) where
-  -- nothing is told
+  -- nothing is loaded
   pub none_told : AreFlowsOf m n c (replicate (n * n) Unknown)
   none_told p e way at is = absurd (none_some way (sym (ap way_of (get_or-replicate (n * n) e Unknown Unknown (index_below n c p e at))) ∙ is))
 
@@ -38,8 +38,8 @@ module _ (m : Mosaic) (n : ℕ) (c : Corner) where
   one_told flows p e flow way within at tells right before q f w there is = elim (cases_eq f e) [
     | inl same ↦
         let here : q ≡ p = sym (point_at_index n c q f there) ∙ ap (point_of n c) same ∙ point_at_index n c p e at in
-        let told : way_of flow ≡ Some w = sym (ap way_of (ap (λ k. get_or (set flows e flow) k Unknown) same ∙ get_or-set_same flows e flow Unknown within)) ∙ is in
-        subst (λ x. IsWay m x w) (sym here) (subst (IsWay m p) (unwrap way w (sym tells ∙ told)) right)
+        let loaded : way_of flow ≡ Some w = sym (ap way_of (ap (λ k. get_or (set flows e flow) k Unknown) same ∙ get_or-set_same flows e flow Unknown within)) ∙ is in
+        subst (λ x. IsWay m x w) (sym here) (subst (IsWay m p) (unwrap way w (sym tells ∙ loaded)) right)
     | inr other ↦ before q f w there (sym (ap way_of (get_or-set_other flows e f flow Unknown other)) ∙ is)
   ]
 

@@ -11,8 +11,8 @@ use Rattle.border_graph.specs.Edges.{AreEdges}
 use Rattle.border_graph.specs.Placed.{IsPlacedLink, IsOfTile}
 use Rattle.border_graph.specs.TileGraph.{TileGraph}
 use Rattle.border_graph.specs.declared.edge_source.Edge.{Edge}
-use Rattle.drainage.specs.Shores.{told_at, Fits, AreTileEdges}
-use Rattle.drainage.proofs.Ashore.{as_many, are_ways}
+use Rattle.drainage.specs.RimGraphs.{loaded_at, Fits, AreTileEdges}
+use Rattle.drainage.proofs.OnRims.{as_many, are_ways}
 
 node_is : (node size : ℕ) → 0 < node → 1 + ((node - 1) / size) * size + (node - 1) % size ≡ node
 node_is node size some = let cell : node - 1 ≡ ((node - 1) / size) * size + (node - 1) % size = cell_of size (node - 1) in let one : 1 + (node - 1) ≡ node = omega arith in sum (((node - 1) / size) * size) ((node - 1) % size) (node - 1) node cell one
@@ -23,7 +23,7 @@ node_is node size some = let cell : node - 1 ≡ ((node - 1) / size) * size + (n
 rim_some : (n : ℕ) → 3 ≤ n → 0 < 4 * (n - 1)
 rim_some n low = omega arith
 
-module _ (side : ℕ) (corners : List Corner) (told : List (Option TileGraph)) (n : ℕ) (summaries : List Summary) (fits : Fits side corners told n summaries) (node r r' : ℕ) (some : 0 < node) (low : 3 ≤ side) (is_r : r ≡ 4 * (side - 1)) (is_r' : r' ≡ 4 * (side - 1)) where
+module _ (side : ℕ) (corners : List Corner) (loaded : List (Option TileGraph)) (n : ℕ) (summaries : List Summary) (fits : Fits side corners loaded n summaries) (node r r' : ℕ) (some : 0 < node) (low : 3 ≤ side) (is_r : r ≡ 4 * (side - 1)) (is_r' : r' ≡ 4 * (side - 1)) where
   there_is : (t k : ℕ) (to : Node) (level : ℤ) → IsLink n summaries (Rim t k) to level → IsThere n summaries t k
   there_is t k Outlet level link = link.0
   there_is t k (Rim u l) level link = link.0
@@ -51,8 +51,8 @@ module _ (side : ℕ) (corners : List Corner) (told : List (Option TileGraph)) (
           before : (a k node : ℕ) → node ≡ 1 + a + k → node - 1 ≡ a + k
           before a k node h = omega arith
 
-  -- the tile is told
-  pub told_ways : (ways : TileGraph) → told_at told ((node - 1) / r) ≡ Some ways → (node - 1) / r < length corners → (old new : List Edge) → old ≡ [] → AreTileEdges side corners ways ((node - 1) / r) ((node - 1) % r') old new → AreEdges (IsPlacedLink n summaries) node new
+  -- the tile is loaded
+  pub told_ways : (ways : TileGraph) → loaded_at loaded ((node - 1) / r) ≡ Some ways → (node - 1) / r < length corners → (old new : List Edge) → old ≡ [] → AreTileEdges side corners ways ((node - 1) / r) ((node - 1) % r') old new → AreEdges (IsPlacedLink n summaries) node new
   told_ways ways is small old new empty listed =
       let m = fits.mosaic in
       let t = (node - 1) / r in
@@ -73,9 +73,9 @@ module _ (side : ℕ) (corners : List Corner) (told : List (Option TileGraph)) (
       let size : 4 * (n - 1) ≡ 4 * (side - 1) = ap (λ s. 4 * (s - 1)) fits.same_side in
       sym (ap (λ s. 1 + ((node - 1) / r) * s + (node - 1) % r') size ∙ (ap₂ (λ a b. 1 + ((node - 1) / a) * (4 * (side - 1)) + (node - 1) % b) is_r is_r' ∙ node_is node (4 * (side - 1)) some))
 
-  -- no other tile is told than that
-  pub told_of : (before : List (Option TileGraph)) → ((u : ℕ) (ways : TileGraph) → u ≢ (node - 1) / r → told_at told u ≡ Some ways → told_at before u ≡ Some ways)
-      → (u : ℕ) → ((ways : TileGraph) × (told_at told u ≡ Some ways)) → ((ways : TileGraph) × (told_at before u ≡ Some ways)) ⊎ IsOfTile n u node
+  -- no other tile is loaded than that
+  pub told_of : (before : List (Option TileGraph)) → ((u : ℕ) (ways : TileGraph) → u ≢ (node - 1) / r → loaded_at loaded u ≡ Some ways → loaded_at before u ≡ Some ways)
+      → (u : ℕ) → ((ways : TileGraph) × (loaded_at loaded u ≡ Some ways)) → ((ways : TileGraph) × (loaded_at before u ≡ Some ways)) ⊎ IsOfTile n u node
   told_of before only u (ways, is) = elim (cases_eq u ((node - 1) / r)) [
     | inl here ↦ inr ((node - 1) % r', of_tile ∙ ap (λ v. node_number n (Rim v ((node - 1) % r'))) (sym here))
     | inr other ↦ inl (ways, only u ways other is)

@@ -25,7 +25,7 @@ use Rattle.border_graph.specs.Placed.{IsPlacedLink}
 use Rattle.border_graph.specs.Others.{corner_at}
 use Rattle.border_graph.specs.TileGraph.{TileGraph}
 use Rattle.tile_labellings.specs.Labellings.{IsFlooded}
-use Rattle.drainage.specs.Shores.{AreReady}
+use Rattle.drainage.specs.RimGraphs.{AreReady}
 use Rattle.drainage.specs.Holding.{IsGroundNode}
 use Rattle.drainage.proofs.RimNodes.{filled_by_joined}
 use Rattle.drainage.proofs.Whole.{summaries}
@@ -112,7 +112,7 @@ module _ (m : Mosaic) (is : IsMosaic m) (c : Corner) (present : IsTrue (is_prese
   level_over n v fill = level_of_part (block_terrain (block_of m.side heights sinks)) (terrain m) (λ i. point_of m.side c i) (is_rim m.side) (block_is_part m is c present heights sinks of) (block_is_lawful (block_of m.side heights sinks)) (terrain_is_lawful m)
       e (slice_index_or levels e void) v n.rest solid (labelling.level e solid) n.path n.at_level (subst (λ q. IsFilledLevel (terrain m) (point_of m.side c q) v) (sym n.ends) fill)
 
-module _ (m : Mosaic) (is : IsMosaic m) (side : ℕ) (corners : List Corner) (told : List (Option TileGraph)) (ready : AreReady m side corners told) (t : ℕ) (small : t < length corners)
+module _ (m : Mosaic) (is : IsMosaic m) (side : ℕ) (corners : List Corner) (loaded : List (Option TileGraph)) (ready : AreReady m side corners loaded) (t : ℕ) (small : t < length corners)
     (labelled : LabelledGround) (flooded : IsFlooded m (corner_at corners t) labelled) (e : ℕ) (inside : e < m.side * m.side) where
   of : IsBlockOf m (corner_at corners t) (block_of m.side flooded.valid.0.heights flooded.valid.0.sinks)
   of = subst (λ n. IsBlockOf m (corner_at corners t) (record { side = n; heights = flooded.valid.0.heights; sinks = flooded.valid.0.sinks })) flooded.valid.1.0.side flooded.valid.1.0
@@ -148,9 +148,9 @@ module _ (m : Mosaic) (is : IsMosaic m) (side : ℕ) (corners : List Corner) (to
         on_ground = ground_of m is (corner_at corners t) present flooded.valid.0.heights flooded.valid.0.sinks of labelled.levels labelled.labels labelling e inside on n.r n.solid_r;
       }
 
-      pub over_level : (v : ℤ) → IsJoinedLevel (IsPlacedLink m.side (summaries m is side corners told ready)) 0 (node_number m.side (Rim t (slice_index labelled.labels e))) v
+      pub over_level : (v : ℤ) → IsJoinedLevel (IsPlacedLink m.side (summaries m is side corners loaded ready)) 0 (node_number m.side (Rim t (slice_index labelled.labels e))) v
           → IsFilledLevel (terrain m) (point_of m.side (corner_at corners t) e) (int_max (slice_index_or labelled.levels e void) v)
       unfolding n ground_node
       over_level v joined =
           level_over m is (corner_at corners t) present flooded.valid.0.heights flooded.valid.0.sinks of labelled.levels labelled.labels labelling e inside on n v
-          (filled_by_joined m is side corners told ready t (slice_index labelled.labels e) n.r small ground_node.rim ground_node.on_ground v joined)
+          (filled_by_joined m is side corners loaded ready t (slice_index labelled.labels e) n.r small ground_node.rim ground_node.on_ground v joined)

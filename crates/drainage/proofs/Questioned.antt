@@ -42,7 +42,7 @@ pub wanting : {S U : Type 0} (g : Ghosts S) (a b : S) → OnlyReads {T = Unit {0
 wanting {S} {U} g a b reads = asked g a b (tt {0}) (Err NoMemory) reads tt (λ _ _ e. absurd (cc))
 
 module _ {S : Type 0} (g : Ghosts S) (a b : S) (known known' : Known) where
-  -- tiles were told, and then memory was wanting, or something was found that can't be
+  -- tiles were loaded, and then memory was wanting, or something was found that can't be
   pub own_refused : (r : Refusal) (Q : Type 0) → IsGrown g a b known known' → OnlyReads {T = Unit {0}} g a b (Ok tt) → (r ≡ NoMemory) ⊎ ((r ≡ Damaged) × Q)
       → (g.is_honest b → IsRight (g.mosaic a) known → Q → ⊥) → IsRefused g a b known known' r
   own_refused r Q grown reads (inl memory) never = subst (IsRefused g a b known known') (sym memory)

@@ -14,5 +14,5 @@ module _ {S : Type 0} (g : Ghosts S) (a : S) (known : Known) (t : ℕ) (c : Corn
   is_there same = subst (λ (cs : List Corner). Contains cs c) (right.ready.all ∙ same)
       (t, place, get_or_default known.corners t c (record { lat = pos 0; lon = pos 0 }) place ∙ at)
 
-  pub entered_there : IsEntered (g.mosaic a) c known.entered t
-  entered_there x is = subst (λ (d : Corner). IsTileLabelling (g.mosaic a) d x) at (right.entered t x is)
+  pub entered_there : IsEntered (g.mosaic a) c known.labellings t
+  entered_there x is = subst (λ (d : Corner). IsTileLabelling (g.mosaic a) d x) at (right.labellings t x is)

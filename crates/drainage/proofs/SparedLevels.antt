@@ -25,7 +25,7 @@ use Rattle.border_graph.specs.Linking.{node_number}
 use Rattle.border_graph.specs.Others.{corner_at}
 use Rattle.tile_labellings.specs.TileLabellings.{IsTileLabelling}
 use Rattle.tile_labellings.specs.declared.tile_labelling.TileLabelling.{TileLabelling}
-use Rattle.drainage.specs.Holding.{IsEntered, IsRimLevel, entered_at, level_of}
+use Rattle.drainage.specs.Holding.{IsEntered, IsRimLevel, labelling_at, level_of}
 use Rattle.drainage.specs.Reaching.{is_between, DifferAt}
 use Rattle.drainage.specs.Spared.{IsSpared, IsSetTo}
 use Rattle.drainage.proofs.Asked.{is_at}
@@ -252,17 +252,17 @@ known_by None A B then_ known = tt
 known_by (Some h) A B then_ known = (known.0, then_ h known.1)
 
 -- by the block of a tile that holds the point
-pub height_in_tile : (n : ℕ) (c d : Corner) → c ≡ d → (p : Point) (e : ℕ) → IsIndexOf n d p e → (entered : List (Option TileLabelling)) (t : ℕ) (labelling : TileLabelling) → entered_at entered t ≡ Some labelling → (o : Option ℤ)
+pub height_in_tile : (n : ℕ) (c d : Corner) → c ≡ d → (p : Point) (e : ℕ) → IsIndexOf n d p e → (labellings : List (Option TileLabelling)) (t : ℕ) (labelling : TileLabelling) → labelling_at labellings t ≡ Some labelling → (o : Option ℤ)
     → IfSome o (λ h. (h ≢ void) × ((m : Mosaic) (x : Corner) → e < m.side * m.side → IsTileLabelling m x labelling → metres (height_of m (point_of m.side x e)) ≡ h))
-    → IfSome o (λ h. (h ≢ void) × ((m : Mosaic) → m.side ≡ n → IsEntered m c entered t → metres (height_of m p) ≡ h))
-height_in_tile n c d same p e index entered t labelling at o known =
-    known_by o (λ h. (m : Mosaic) (x : Corner) → e < m.side * m.side → IsTileLabelling m x labelling → metres (height_of m (point_of m.side x e)) ≡ h) (λ h. (m : Mosaic) → m.side ≡ n → IsEntered m c entered t → metres (height_of m p) ≡ h)
+    → IfSome o (λ h. (h ≢ void) × ((m : Mosaic) → m.side ≡ n → IsEntered m c labellings t → metres (height_of m p) ≡ h))
+height_in_tile n c d same p e index labellings t labelling at o known =
+    known_by o (λ h. (m : Mosaic) (x : Corner) → e < m.side * m.side → IsTileLabelling m x labelling → metres (height_of m (point_of m.side x e)) ≡ h) (λ h. (m : Mosaic) → m.side ≡ n → IsEntered m c labellings t → metres (height_of m p) ≡ h)
     (λ h says m side right.
     let here = is_at m c n p e (sym side) (subst (λ x. IsIndexOf n x p e) (sym same) index) in
     subst (λ (q : Point). metres (height_of m q) ≡ h) here.point (says m c here.below (right labelling at))) known
 
 -- .. of one of the tiles that are held
-pub known_here : (m : Mosaic) (p : Point) (side : ℕ) (corners : List Corner) (entered : List (Option TileLabelling)) (o : Option ℤ) → m.side ≡ side → ((t : ℕ) → IsEntered m (corner_at corners t) entered t)
-    → IfSome o (λ h. (h ≢ void) × ((x : Mosaic) → x.side ≡ side → ((t : ℕ) → IsEntered x (corner_at corners t) entered t) → metres (height_of x p) ≡ h)) → IfSome o (λ h. (h ≢ void) × (metres (height_of m p) ≡ h))
-known_here m p side corners entered o same right known =
-    known_by o (λ h. (x : Mosaic) → x.side ≡ side → ((t : ℕ) → IsEntered x (corner_at corners t) entered t) → metres (height_of x p) ≡ h) (λ h. metres (height_of m p) ≡ h) (λ h says. says m same right) known
+pub known_here : (m : Mosaic) (p : Point) (side : ℕ) (corners : List Corner) (labellings : List (Option TileLabelling)) (o : Option ℤ) → m.side ≡ side → ((t : ℕ) → IsEntered m (corner_at corners t) labellings t)
+    → IfSome o (λ h. (h ≢ void) × ((x : Mosaic) → x.side ≡ side → ((t : ℕ) → IsEntered x (corner_at corners t) labellings t) → metres (height_of x p) ≡ h)) → IfSome o (λ h. (h ≢ void) × (metres (height_of m p) ≡ h))
+known_here m p side corners labellings o same right known =
+    known_by o (λ h. (x : Mosaic) → x.side ≡ side → ((t : ℕ) → IsEntered x (corner_at corners t) labellings t) → metres (height_of x p) ≡ h) (λ h. metres (height_of m p) ≡ h) (λ h says. says m same right) known

@@ -1,4 +1,4 @@
--- Where some tiles are told, there are summaries of all tiles that agree with them.
+-- Where some tiles are loaded, there are summaries of all tiles that agree with them.
 use Rattle.std.proofs.Common.{◌≡◌, ℕ, suc, ◌<◌, pos, inl, inr, IsTrue, List, [], ◌∷◌, length, map, get_or, refl, sym, ap, ap₂, ◌∙◌, subst, arith}
 use Rattle.std.specs.Prelude.{Option, Some, None}
 use Rattle.std.proofs.lemmas.Bool.{cases_lt}
@@ -14,10 +14,10 @@ use Rattle.border_graph.proofs.Tabulated.{tabulated, length-tabulated, at_number
 use Rattle.border_graph.proofs.SummariesExist.{summary_exists}
 use Rattle.border_graph.specs.Others.{corner_at}
 use Rattle.border_graph.specs.TileGraph.{TileGraph}
-use Rattle.drainage.specs.Shores.{told_at, Fits, AreReady}
+use Rattle.drainage.specs.RimGraphs.{loaded_at, Fits, AreReady}
 use Rattle.drainage.proofs.Lowest.{low_link}
 use Rattle.drainage.proofs.Turned.{placed_turned}
-use Rattle.drainage.proofs.Telling.{some_is, not_both}
+use Rattle.drainage.proofs.LoadingTiles.{some_is, not_both}
 
 same_list : {X : Type 0} (d : X) (xs ys : List X) → length xs ≡ length ys → ((i : ℕ) → i < length xs → get_or xs i d ≡ get_or ys i d) → xs ≡ ys
 same_list d [] [] whole each = refl
@@ -28,7 +28,7 @@ same_list d (x ∷ xs) (y ∷ ys) whole each = ap₂ (λ a b. a ∷ b) (each 0 (
 abbrev no_tile : Summary
 no_tile = record { corner = record { lat = pos 0; lon = pos 0 }; rim = []; spills = [] }
 
-module _ (m : Mosaic) (is : IsMosaic m) (side : ℕ) (corners : List Corner) (told : List (Option TileGraph)) (ready : AreReady m side corners told) where
+module _ (m : Mosaic) (is : IsMosaic m) (side : ℕ) (corners : List Corner) (loaded : List (Option TileGraph)) (ready : AreReady m side corners loaded) where
   corners_are : corners ≡ corners_of m
   corners_are = ready.all
 
@@ -42,9 +42,9 @@ module _ (m : Mosaic) (is : IsMosaic m) (side : ℕ) (corners : List Corner) (to
   record IsPicked (t : ℕ) (b : Summary) : Type 0 where
     of : Summarizes m b
     place : b.corner ≡ corner_at corners t
-    tells : (ways : TileGraph) → told_at told t ≡ Some ways → b ≡ ways.summary
+    tells : (ways : TileGraph) → loaded_at loaded t ≡ Some ways → b ≡ ways.summary
 
-  picked_by : (t : ℕ) → t < length corners → (o : Option TileGraph) → told_at told t ≡ o → (b : Summary) × IsPicked t b
+  picked_by : (t : ℕ) → t < length corners → (o : Option TileGraph) → loaded_at loaded t ≡ o → (b : Summary) × IsPicked t b
   picked_by t small (Some ways) at = (
     ways.summary,
     record {
@@ -59,7 +59,7 @@ module _ (m : Mosaic) (is : IsMosaic m) (side : ℕ) (corners : List Corner) (to
 
   picked : (t : ℕ) → (b : Summary) × (t < length corners → IsPicked t b)
   picked t = elim (cases_lt t (length corners)) [
-    | inl small ↦ let p = picked_by t small (told_at told t) refl in (p.0, λ _. p.1)
+    | inl small ↦ let p = picked_by t small (loaded_at loaded t) refl in (p.0, λ _. p.1)
     | inr past ↦ (no_tile, λ small. absurd (omega arith))
   ]
 
@@ -94,13 +94,13 @@ module _ (m : Mosaic) (is : IsMosaic m) (side : ℕ) (corners : List Corner) (to
         subst (Summarizes m) (sym (at_place t d below)) (pick_is t below).of;
   }
 
-  told_below : (t : ℕ) (ways : TileGraph) → told_at told t ≡ Some ways → t < length corners
-  told_below t ways at = elim (cases_lt t (length told)) [
+  told_below : (t : ℕ) (ways : TileGraph) → loaded_at loaded t ≡ Some ways → t < length corners
+  told_below t ways at = elim (cases_lt t (length loaded)) [
     | inl small ↦ subst (λ k. t < k) ready.tiles.whole small
-    | inr past ↦ absurd (not_both ways (sym (get_or_past told t None past) ∙ at))
+    | inr past ↦ absurd (not_both ways (sym (get_or_past loaded t None past) ∙ at))
   ]
 
-  pub all_fit : Fits side corners told m.side summaries
+  pub all_fit : Fits side corners loaded m.side summaries
   all_fit = record {
     mosaic = m;
     is = is;

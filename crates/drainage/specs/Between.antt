@@ -4,45 +4,45 @@ use Rattle.lattice.specs.Mosaic.{Mosaic}
 use Rattle.lattice.specs.declared.point.Point.{Point}
 use Rattle.catalogue.specs.declared.samples.Samples.{Ghosts}
 use Rattle.drainage.specs.Flows.{AreFlows}
-use Rattle.drainage.specs.Forgetting.{IsLeftOf, IsNotedOf}
+use Rattle.drainage.specs.Invalidating.{IsLeftOf, IsNotedOf}
 use Rattle.drainage.specs.Holding.{IsRight}
 use Rattle.drainage.specs.Reaching.{is_reached}
-use Rattle.drainage.specs.Waters.{known_of}
+use Rattle.drainage.specs.TileCaches.{known_of}
 use Rattle.drainage.specs.declared.flows.Flows.{Flows}
-use Rattle.drainage.specs.declared.held.Held.{Held}
-use Rattle.drainage.specs.declared.waters.Waters.{Waters}
+use Rattle.drainage.specs.declared.drainage_cache.DrainageCache.{DrainageCache}
+use Rattle.drainage.specs.declared.tile_cache.TileCache.{TileCache}
 
-abbrev pub are_right : Mosaic → Option Waters → Type 0
+abbrev pub are_right : Mosaic → Option TileCache → Type 0
 are_right m None = Unit {0}
-are_right m (Some waters) = IsRight m (known_of waters)
+are_right m (Some tile_cache) = IsRight m (known_of tile_cache)
 
 abbrev pub drain_right : Mosaic → Option Flows → Type 0
 drain_right m None = Unit {0}
 drain_right m (Some flows) = AreFlows m flows
 
 -- what is held is right for the mosaic, or nothing is
-pub record IsHeldOf (m : Mosaic) (held : Held) : Type 0 where
-  pub waters : are_right m held.waters
+pub record IsHeldOf (m : Mosaic) (held : DrainageCache) : Type 0 where
+  pub tile_cache : are_right m held.tile_cache
   pub flows : drain_right m held.flows
 
 -- what was found is left, but for the tiles that the box reaches, and for the levels
-abbrev pub are_left : Point → Point → Option Waters → Option Waters → Type 0
+abbrev pub are_left : Point → Point → Option TileCache → Option TileCache → Type 0
 are_left from to None left = left ≡ None
-are_left from to (Some waters) left =
-    (some : Waters) × (left ≡ Some some) × IsLeftOf (is_reached waters.shores.side waters.shores.corners.items from to) (known_of waters) (known_of some)
+are_left from to (Some tile_cache) left =
+    (some : TileCache) × (left ≡ Some some) × IsLeftOf (is_reached tile_cache.rim_graph.side tile_cache.rim_graph.corners.items from to) (known_of tile_cache) (known_of some)
 
-abbrev pub IsLeftHeld : Point → Point → Held → Held → Type 0
-IsLeftHeld from to held left = are_left from to held.waters left.waters
+abbrev pub IsLeftHeld : Point → Point → DrainageCache → DrainageCache → Type 0
+IsLeftHeld from to held left = are_left from to held.tile_cache left.tile_cache
 
 -- what was found is left, but for the summaries that the point reaches, the labellings of tiles that hold it, and the levels
-abbrev pub are_noted : Point → Option Waters → Option Waters → Type 0
+abbrev pub are_noted : Point → Option TileCache → Option TileCache → Type 0
 are_noted p None left = left ≡ None
-are_noted p (Some waters) left =
-    (some : Waters) × (left ≡ Some some) × IsNotedOf (is_reached waters.shores.side waters.shores.corners.items p p) p (known_of waters) (known_of some)
+are_noted p (Some tile_cache) left =
+    (some : TileCache) × (left ≡ Some some) × IsNotedOf (is_reached tile_cache.rim_graph.side tile_cache.rim_graph.corners.items p p) p (known_of tile_cache) (known_of some)
 
-abbrev pub IsNotedHeld : Point → Held → Held → Type 0
-IsNotedHeld p held left = are_noted p held.waters left.waters
+abbrev pub IsNotedHeld : Point → DrainageCache → DrainageCache → Type 0
+IsNotedHeld p held left = are_noted p held.tile_cache left.tile_cache
 
 -- what is held is right for the mosaic that the samples stand for, where they are honest
-abbrev pub IsHeldFor : {S : Type 0} (g : Ghosts S) → S → Held → Type 0
+abbrev pub IsHeldFor : {S : Type 0} (g : Ghosts S) → S → DrainageCache → Type 0
 IsHeldFor g samples held = g.is_honest samples → IsHeldOf (g.mosaic samples) held

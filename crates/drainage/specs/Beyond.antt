@@ -6,18 +6,18 @@ use Rattle.edits.specs.declared.edit.Edit.{Edit}
 use Rattle.edits.specs.declared.edit.Edit.TheVariants.{Heights, Voids, Sink, Unsink}
 use Rattle.edits.specs.declared.edit.NewHeight.{NewHeight}
 use Rattle.drainage.specs.Between.{IsLeftHeld}
-use Rattle.drainage.specs.Holding.{entered_at}
+use Rattle.drainage.specs.Holding.{labelling_at}
 use Rattle.drainage.specs.Reaching.{is_reached}
-use Rattle.drainage.specs.Shores.{told_at}
-use Rattle.drainage.specs.declared.held.Held.{Held}
-use Rattle.drainage.specs.declared.waters.Waters.{Waters}
+use Rattle.drainage.specs.RimGraphs.{loaded_at}
+use Rattle.drainage.specs.declared.drainage_cache.DrainageCache.{DrainageCache}
+use Rattle.drainage.specs.declared.tile_cache.TileCache.{TileCache}
 
 -- the summary and the labelling that are held of the tile with this place
-pub record IsKeptAt (t : ℕ) (waters left : Waters) : Type 0 where
-  pub same_side : left.shores.side ≡ waters.shores.side
-  pub same_corners : left.shores.corners.items ≡ waters.shores.corners.items
-  pub told : told_at left.shores.told.items t ≡ told_at waters.shores.told.items t
-  pub entered : entered_at left.entered t ≡ entered_at waters.entered t
+pub record IsKeptAt (t : ℕ) (tile_cache left : TileCache) : Type 0 where
+  pub same_side : left.rim_graph.side ≡ tile_cache.rim_graph.side
+  pub same_corners : left.rim_graph.corners.items ≡ tile_cache.rim_graph.corners.items
+  pub loaded : loaded_at left.rim_graph.loaded.items t ≡ loaded_at tile_cache.rim_graph.loaded.items t
+  pub labellings : labelling_at left.labellings t ≡ labelling_at tile_cache.labellings t
 
 -- the tile with this place neither holds the point nor one beside it
 abbrev pub is_beyond : ℕ → List Corner → ℕ → Option Point → Type 0
@@ -25,22 +25,22 @@ is_beyond n corners t None = ⊥
 is_beyond n corners t (Some p) = is_reached n corners p p t ≡ false
 
 -- what is held of tiles that the point doesn't reach is kept
-abbrev pub are_kept_from : Point → Option Waters → Option Waters → Type 0
+abbrev pub are_kept_from : Point → Option TileCache → Option TileCache → Type 0
 are_kept_from p None left = Unit {0}
-are_kept_from p (Some waters) left = (t : ℕ) → is_beyond waters.shores.side waters.shores.corners.items t (Some p) → (some : Waters) × (left ≡ Some some) × IsKeptAt t waters some
+are_kept_from p (Some tile_cache) left = (t : ℕ) → is_beyond tile_cache.rim_graph.side tile_cache.rim_graph.corners.items t (Some p) → (some : TileCache) × (left ≡ Some some) × IsKeptAt t tile_cache some
 
 -- what is held of tiles that none of these reaches, each at its point, is kept
-abbrev pub are_kept_beyond : {A : Type 0} → (A → Option Point) → List A → Option Waters → Option Waters → Type 0
+abbrev pub are_kept_beyond : {A : Type 0} → (A → Option Point) → List A → Option TileCache → Option TileCache → Type 0
 are_kept_beyond at all None left = Unit {0}
-are_kept_beyond at all (Some waters) left =
-    (t : ℕ) → All (λ x. is_beyond waters.shores.side waters.shores.corners.items t (at x)) all → (some : Waters) × (left ≡ Some some) × IsKeptAt t waters some
+are_kept_beyond at all (Some tile_cache) left =
+    (t : ℕ) → All (λ x. is_beyond tile_cache.rim_graph.side tile_cache.rim_graph.corners.items t (at x)) all → (some : TileCache) × (left ≡ Some some) × IsKeptAt t tile_cache some
 
 -- .. none of the points that get new heights
-abbrev pub IsKeptBeyondHeights : List NewHeight → Held → Held → Type 0
-IsKeptBeyondHeights heights held left = are_kept_beyond (λ h. Some h.point) heights held.waters left.waters
+abbrev pub IsKeptBeyondHeights : List NewHeight → DrainageCache → DrainageCache → Type 0
+IsKeptBeyondHeights heights held left = are_kept_beyond (λ h. Some h.point) heights held.tile_cache left.tile_cache
 
 -- .. the edit, where no tile comes or goes
-abbrev pub IsKeptBeyondEdit : Edit → Held → Held → Type 0
+abbrev pub IsKeptBeyondEdit : Edit → DrainageCache → DrainageCache → Type 0
 IsKeptBeyondEdit (Heights heights) held left = IsKeptBeyondHeights heights.items held left
 IsKeptBeyondEdit (Voids from to h tiles) held left = IsLeftHeld from to held left
 IsKeptBeyondEdit (Sink p) held left = IsLeftHeld p p held left

@@ -20,24 +20,24 @@ use Rattle.lattice.specs.Corners.{Corner}
 use Rattle.border_graph.specs.Others.{corner_at}
 use Rattle.border_graph.specs.Placed.{IsPlacedLink}
 use Rattle.border_graph.specs.TileGraph.{TileGraph}
-use Rattle.drainage.specs.Shores.{Fits, AreReady, AreKept}
+use Rattle.drainage.specs.RimGraphs.{Fits, AreReady, AreKept}
 
--- the side, the corners of all tiles in order, what is told of the ways of each, the labellings of those that were entered,
+-- the side, the corners of all tiles in order, what is loaded of the ways of each, the labellings of those that were labellings,
 -- and the levels of rim points, by the numbers of their nodes
 pub record Known : Type 0 where
   pub side : ℕ
   pub corners : List Corner
-  pub told : List (Option TileGraph)
-  pub entered : List (Option TileLabelling)
+  pub loaded : List (Option TileGraph)
+  pub labellings : List (Option TileLabelling)
   pub levels : List (Option ℤ)
 
 -- the labelling that is held of the tile with this place
-abbrev pub entered_at : List (Option TileLabelling) → ℕ → Option TileLabelling
-entered_at entered t = slice_index_or entered t None
+abbrev pub labelling_at : List (Option TileLabelling) → ℕ → Option TileLabelling
+labelling_at labellings t = slice_index_or labellings t None
 
 -- what is held of the tile with this place is a labelling of the corner's tile
 abbrev pub IsEntered : Mosaic → Corner → List (Option TileLabelling) → ℕ → Type 0
-IsEntered m c entered t = (labelling : TileLabelling) → entered_at entered t ≡ Some labelling → IsTileLabelling m c labelling
+IsEntered m c labellings t = (labelling : TileLabelling) → labelling_at labellings t ≡ Some labelling → IsTileLabelling m c labelling
 
 -- the level that is known of the rim point with this node
 abbrev pub level_of : List (Option ℤ) → ℕ → Option ℤ
@@ -62,19 +62,19 @@ pub record IsGroundNode (m : Mosaic) (corners : List Corner) (t number : ℕ) : 
 
 -- all of it is right for the mosaic
 pub record IsRight (m : Mosaic) (known : Known) : Type 0 where
-  pub ready : AreReady m known.side known.corners known.told
-  pub entered : (t : ℕ) → IsEntered m (corner_at known.corners t) known.entered t
+  pub ready : AreReady m known.side known.corners known.loaded
+  pub labellings : (t : ℕ) → IsEntered m (corner_at known.corners t) known.labellings t
   pub levels : (x : ℕ) (level : ℤ) → level_of known.levels x ≡ Some level → IsRimLevel m known.corners x level
 
--- summaries of all tiles agree with what is told of them, and with the levels that are known
+-- summaries of all tiles agree with what is loaded of them, and with the levels that are known
 pub record Agrees (known : Known) (n : ℕ) (summaries : List Summary) : Type 0 where
-  pub fits : Fits known.side known.corners known.told n summaries
+  pub fits : Fits known.side known.corners known.loaded n summaries
   pub knows : (x : ℕ) (level : ℤ) → level_of known.levels x ≡ Some level → IsJoinedLevel (IsPlacedLink n summaries) 0 x level
 
 module _ {S : Type 0} (g : Ghosts S) (a b : S) (known known' : Known) where
-  -- what was told is told still, and what is known then is as right as it was
+  -- what was loaded is loaded still, and what is known then is as right as it was
   pub record IsGrown : Type 0 where
-    pub kept : AreKept g a b known.side known.corners known.told known'.side known'.corners known'.told
+    pub kept : AreKept g a b known.side known.corners known.loaded known'.side known'.corners known'.loaded
     pub levels : known'.levels ≡ known.levels
     pub right : g.is_honest b → IsRight (g.mosaic a) known → IsRight (g.mosaic a) known'
 

@@ -1,4 +1,4 @@
--- Laws of what is kept as tiles are told: a source of ways has them.
+-- Laws of what is kept as tiles are loaded: a source of ways has them.
 use Rattle.std.specs.Prelude.{ℕ, List, Option, Ok, Err, refl}
 use Rattle.std.proofs.Common.{sym, ◌∙◌, subst}
 use Rattle.lattice.specs.Corners.{Corner}
@@ -9,22 +9,22 @@ use Rattle.catalogue.specs.declared.samples.Samples.{Ghosts}
 use Rattle.catalogue.proofs.Reading.{reads_nothing, reads_on}
 use Rattle.catalogue.proofs.Asking.{asked, asked_on}
 use Rattle.border_graph.specs.TileGraph.{TileGraph}
-use Rattle.drainage.specs.Shores.{AreTold, AreReady, AreKept}
+use Rattle.drainage.specs.RimGraphs.{AreLoaded, AreReady, AreKept}
 use Rattle.drainage.specs.Holding.{Known, IsRight, IsGrown, IsCarried, IsRefused}
 
 module _ {S : Type 0} (g : Ghosts S) where
-  pub kept_itself : (a : S) (side : ℕ) (corners : List Corner) (told : List (Option TileGraph)) → AreKept g a a side corners told side corners told
-  kept_itself a side corners told = record { honest = λ h. h; mosaic = λ _. refl; same_side = refl; same_corners = refl; still = λ t ways is. is }
+  pub kept_itself : (a : S) (side : ℕ) (corners : List Corner) (loaded : List (Option TileGraph)) → AreKept g a a side corners loaded side corners loaded
+  kept_itself a side corners loaded = record { honest = λ h. h; mosaic = λ _. refl; same_side = refl; same_corners = refl; still = λ t ways is. is }
 
-  module _ (a b : S) (side : ℕ) (corners : List Corner) (told : List (Option TileGraph)) (side' : ℕ) (corners' : List Corner) (told' : List (Option TileGraph)) (kept : AreKept g a b side corners told side' corners' told') where
-    -- what is told then is as ready as what was told
-    pub ready_later : AreReady (g.mosaic a) side corners told → AreTold (g.mosaic a) side corners told' → AreReady (g.mosaic a) side' corners' told'
+  module _ (a b : S) (side : ℕ) (corners : List Corner) (loaded : List (Option TileGraph)) (side' : ℕ) (corners' : List Corner) (loaded' : List (Option TileGraph)) (kept : AreKept g a b side corners loaded side' corners' loaded') where
+    -- what is loaded then is as ready as what was loaded
+    pub ready_later : AreReady (g.mosaic a) side corners loaded → AreLoaded (g.mosaic a) side corners loaded' → AreReady (g.mosaic a) side' corners' loaded'
     ready_later ready tiles =
-        subst (λ s. AreReady (g.mosaic a) s corners' told') (sym kept.same_side) (subst (λ (cs : List Corner). AreReady (g.mosaic a) side cs told') (sym kept.same_corners)
+        subst (λ s. AreReady (g.mosaic a) s corners' loaded') (sym kept.same_side) (subst (λ (cs : List Corner). AreReady (g.mosaic a) side cs loaded') (sym kept.same_corners)
         (record { same_side = ready.same_side; all = ready.all; room = ready.room; tiles = tiles }))
 
-    module _ (c : S) (side'' : ℕ) (corners'' : List Corner) (told'' : List (Option TileGraph)) (then_ : AreKept g b c side' corners' told' side'' corners'' told'') where
-      pub kept_on : AreKept g a c side corners told side'' corners'' told''
+    module _ (c : S) (side'' : ℕ) (corners'' : List Corner) (loaded'' : List (Option TileGraph)) (then_ : AreKept g b c side' corners' loaded' side'' corners'' loaded'') where
+      pub kept_on : AreKept g a c side corners loaded side'' corners'' loaded''
       kept_on = record {
         honest = λ honest. kept.honest (then_.honest honest);
         mosaic = λ honest. then_.mosaic honest ∙ kept.mosaic (then_.honest honest);
@@ -34,11 +34,11 @@ module _ {S : Type 0} (g : Ghosts S) where
       }
 
   pub grown_itself : (a : S) (known : Known) → IsGrown g a a known known
-  grown_itself a known = record { kept = kept_itself a known.side known.corners known.told; levels = refl; right = λ _ r. r }
+  grown_itself a known = record { kept = kept_itself a known.side known.corners known.loaded; levels = refl; right = λ _ r. r }
 
   pub grown_on : (a b c : S) (known known' known'' : Known) → IsGrown g a b known known' → IsGrown g b c known' known'' → IsGrown g a c known known''
   grown_on a b c known known' known'' one two = record {
-    kept = kept_on a b known.side known.corners known.told known'.side known'.corners known'.told one.kept c known''.side known''.corners known''.told two.kept;
+    kept = kept_on a b known.side known.corners known.loaded known'.side known'.corners known'.loaded one.kept c known''.side known''.corners known''.loaded two.kept;
     levels = two.levels ∙ one.levels;
     right = λ honest r.
         let mid = two.kept.honest honest in

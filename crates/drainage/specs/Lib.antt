@@ -2,10 +2,10 @@ pub mod Flooded
 pub mod Asking
 pub mod Draining
 pub mod Following
-pub mod Shores
+pub mod RimGraph
 pub mod Kept
 pub mod Holding
-pub mod Waters
+pub mod TileCache
 pub mod Between
 pub mod Reaching
 pub mod Forgetting

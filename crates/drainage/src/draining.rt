@@ -14,7 +14,7 @@ ghost use Rattle.drainage.specs.Asking.{IsHeldByNone, may_refuse};
 ghost use Rattle.drainage.specs.Between.{IsHeldFor};
 
 use crate::asking::check_ground;
-use crate::held::Held;
+use crate::drainage_cache::DrainageCache;
 use lattice::{Point, Refusal};
 use std::alloc::Global;
 use tile_labellings::Labellings;
@@ -37,7 +37,7 @@ pub fn watershed<S: Labellings>(
     ensures causes { IfErr result (λ r. IsTrue (may_refuse r)) }
     ensures asked { Asked S.Samples samples.old samples.new result }
 {
-    let mut held = Held::new();
+    let mut held = DrainageCache::new();
     watershed_held(alloc, samples, &mut held, point)
 }
 
@@ -45,7 +45,7 @@ pub fn watershed<S: Labellings>(
 pub fn watershed_held<S: Labellings>(
     alloc: Global,
     samples: &mut S,
-    held: &mut Held,
+    held: &mut DrainageCache,
     point: Point,
 ) -> Result<Vec<Run>, Refusal>
     requires held { IsHeldFor S.Samples samples.old held.old }

@@ -15,12 +15,12 @@ ghost use Rattle.border_graph.specs.Joining.{Rim};
 ghost use Rattle.border_graph.specs.Linking.{node_number};
 ghost use Rattle.drainage.specs.Between.{IsHeldFor};
 ghost use Rattle.drainage.specs.Holding.{IsRight, IsRimLevel, IsGroundNode};
-ghost use Rattle.drainage.specs.Waters.{known_of};
+ghost use Rattle.drainage.specs.TileCaches.{known_of};
 
 use crate::asking::check_ground;
 use crate::heights::is_height;
-use crate::held::Held;
-use crate::waters::Waters;
+use crate::drainage_cache::DrainageCache;
+use crate::tile_cache::TileCache;
 use border_graph::{lowest_pass, node_at};
 use lattice::{Corner, Point, Refusal, Side, VOID, index_in};
 use std::alloc::Global;
@@ -39,7 +39,7 @@ pub fn fill<S: Labellings>(alloc: Global, samples: &mut S, point: Point) -> Resu
     ensures causes { IfErr result (λ r. IsTrue (may_refuse r)) }
     ensures asked { Asked S.Samples samples.old samples.new result }
 {
-    let mut held = Held::new();
+    let mut held = DrainageCache::new();
     fill_held(alloc, samples, &mut held, point)
 }
 
@@ -48,7 +48,7 @@ pub fn fill<S: Labellings>(alloc: Global, samples: &mut S, point: Point) -> Resu
 pub fn fill_held<S: Labellings>(
     alloc: Global,
     samples: &mut S,
-    held: &mut Held,
+    held: &mut DrainageCache,
     point: Point,
 ) -> Result<i16, Refusal>
     requires held { IsHeldFor S.Samples samples.old held.old }
@@ -73,7 +73,7 @@ pub fn fill_held<S: Labellings>(
 pub fn level<S: Labellings>(
     alloc: Global,
     samples: &mut S,
-    held: &mut Held,
+    held: &mut DrainageCache,
     point: Point,
 ) -> Result<Option<i16>, Refusal>
     requires held { IsHeldFor S.Samples samples.old held.old }
@@ -82,9 +82,9 @@ pub fn level<S: Labellings>(
     ensures causes { IfErr result (λ r. IsTrue (ends_any r)) }
     ensures asked { Asked S.Samples samples.old samples.new result }
 {
-    let mut waters = held.take(alloc, samples)?;
-    let found = level_in(alloc, samples, &mut waters, point);
-    held.put(waters);
+    let mut tile_cache = held.take(alloc, samples)?;
+    let found = level_in(alloc, samples, &mut tile_cache, point);
+    held.put(tile_cache);
     found
 }
 
@@ -94,22 +94,22 @@ pub fn level<S: Labellings>(
 fn level_in<S: Labellings>(
     alloc: Global,
     samples: &mut S,
-    waters: &mut Waters,
+    tile_cache: &mut TileCache,
     point: Point,
 ) -> Result<Option<i16>, Refusal>
-    requires right { S.is_honest samples.old → IsRight (S.mosaic samples.old) (known_of waters.old) }
+    requires right { S.is_honest samples.old → IsRight (S.mosaic samples.old) (known_of tile_cache.old) }
     ensures level { S.is_honest samples.new → IfOk result (λ found. MatchOption found (IsFalse (is_ground (S.mosaic samples.old) point)) (λ level. IsFilledLevel (terrain (S.mosaic samples.old)) point level)) }
-    ensures right { S.is_honest samples.new → IsRight (S.mosaic samples.new) (known_of waters.new) }
+    ensures right { S.is_honest samples.new → IsRight (S.mosaic samples.new) (known_of tile_cache.new) }
     ensures causes { IfErr result (λ r. IsTrue (ends_any r)) }
     ensures asked { Asked S.Samples samples.old samples.new result }
 {
-    let side = waters.shores.side;
-    let last = waters.entered.last();
-    let Some((t, index)) = holder_of(side, &waters.shores.corners, last, point) else {
+    let side = tile_cache.rim_graph.side;
+    let last = tile_cache.labellings.last();
+    let Some((t, index)) = holder_of(side, &tile_cache.rim_graph.corners, last, point) else {
         return Ok(None);
     };
-    let corner = waters.shores.corners[t];
-    let (level, label) = waters.spot(alloc, samples, t, corner, index)?;
+    let corner = tile_cache.rim_graph.corners[t];
+    let (level, label) = tile_cache.spot(alloc, samples, t, corner, index)?;
     if label == NO_LABEL {
         if !is_height(samples, point, VOID)? {
             return Err(Refusal::Damaged);
@@ -119,7 +119,7 @@ fn level_in<S: Labellings>(
     if label == OUT {
         return Ok(Some(level));
     }
-    let over = rim_level(alloc, samples, waters, t, label)?;
+    let over = rim_level(alloc, samples, tile_cache, t, label)?;
     Ok(Some(level.max(over)))
 }
 
@@ -128,30 +128,30 @@ fn level_in<S: Labellings>(
 fn rim_level<S: Labellings>(
     alloc: Global,
     samples: &mut S,
-    waters: &mut Waters,
+    tile_cache: &mut TileCache,
     t: usize,
     number: u16,
 ) -> Result<i16, Refusal>
-    requires place { t < length waters.old.shores.corners.items }
-    requires right { S.is_honest samples.old → IsRight (S.mosaic samples.old) (known_of waters.old) }
-    requires there { S.is_honest samples.old → IsGroundNode (S.mosaic samples.old) waters.old.shores.corners.items t number }
-    ensures level { S.is_honest samples.new → IfOk result (IsRimLevel (S.mosaic samples.old) waters.old.shores.corners.items (node_number (S.mosaic samples.old).side (Rim t number))) }
-    ensures right { S.is_honest samples.new → IsRight (S.mosaic samples.new) (known_of waters.new) }
+    requires place { t < length tile_cache.old.rim_graph.corners.items }
+    requires right { S.is_honest samples.old → IsRight (S.mosaic samples.old) (known_of tile_cache.old) }
+    requires there { S.is_honest samples.old → IsGroundNode (S.mosaic samples.old) tile_cache.old.rim_graph.corners.items t number }
+    ensures level { S.is_honest samples.new → IfOk result (IsRimLevel (S.mosaic samples.old) tile_cache.old.rim_graph.corners.items (node_number (S.mosaic samples.old).side (Rim t number))) }
+    ensures right { S.is_honest samples.new → IsRight (S.mosaic samples.new) (known_of tile_cache.new) }
     ensures causes { IfErr result (λ r. IsTrue (ends_any r)) }
     ensures asked { Asked S.Samples samples.old samples.new result }
 {
-    let Some(start) = node_at(waters.shores.side, t, u32::from(number)) else {
+    let Some(start) = node_at(tile_cache.rim_graph.side, t, u32::from(number)) else {
         return Err(Refusal::Damaged);
     };
-    if let Some(level) = waters.levels.level(start) {
+    if let Some(level) = tile_cache.levels.level(start) {
         return Ok(level);
     }
     let mut alike = Vec::new(alloc);
-    let Some(level) = lowest_pass(alloc, waters, samples, start, &mut alike)? else {
+    let Some(level) = lowest_pass(alloc, tile_cache, samples, start, &mut alike)? else {
         return Err(Refusal::Damaged);
     };
-    waters.levels.know(start, level)?;
-    waters.levels.know_all(&alike, level)?;
+    tile_cache.levels.know(start, level)?;
+    tile_cache.levels.know_all(&alike, level)?;
     Ok(level)
 }
 

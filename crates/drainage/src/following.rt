@@ -15,7 +15,7 @@ ghost use Rattle.drainage.specs.Between.{IsHeldFor};
 
 use crate::asking::check_ground;
 use crate::filling::level;
-use crate::held::Held;
+use crate::drainage_cache::DrainageCache;
 use catalogue::share_tile;
 use downstream::{FilledLevels, Near, direction_at};
 use lattice::{Dir, Point, Refusal};
@@ -38,7 +38,7 @@ pub fn direction<S: Labellings>(alloc: Global, samples: &mut S, point: Point) ->
     ensures causes { IfErr result (λ r. IsTrue (may_refuse r)) }
     ensures asked { Asked S.Samples samples.old samples.new result }
 {
-    let mut held = Held::new();
+    let mut held = DrainageCache::new();
     direction_held(alloc, samples, &mut held, point)
 }
 
@@ -47,7 +47,7 @@ pub fn direction<S: Labellings>(alloc: Global, samples: &mut S, point: Point) ->
 pub fn direction_held<S: Labellings>(
     alloc: Global,
     samples: &mut S,
-    held: &mut Held,
+    held: &mut DrainageCache,
     point: Point,
 ) -> Result<u8, Refusal>
     requires held { IsHeldFor S.Samples samples.old held.old }
@@ -82,7 +82,7 @@ pub fn trace<S: Labellings>(
     ensures causes { IfErr result (λ r. IsTrue (may_refuse r)) }
     ensures asked { Asked S.Samples samples.old samples.new result }
 {
-    let mut held = Held::new();
+    let mut held = DrainageCache::new();
     trace_held(alloc, samples, &mut held, point)
 }
 
@@ -90,7 +90,7 @@ pub fn trace<S: Labellings>(
 pub fn trace_held<S: Labellings>(
     alloc: Global,
     samples: &mut S,
-    held: &mut Held,
+    held: &mut DrainageCache,
     point: Point,
 ) -> Result<Vec<Point>, Refusal>
     requires held { IsHeldFor S.Samples samples.old held.old }
@@ -108,7 +108,7 @@ pub fn trace_held<S: Labellings>(
     downstream::trace(alloc, held, samples, point)
 }
 
-impl<S: Labellings> FilledLevels<S> for Held {
+impl<S: Labellings> FilledLevels<S> for DrainageCache {
     ghost use Rattle.drainage.specs.Between.{IsHeldFor};
     ghost use Rattle.drainage.specs.Following.{AreRead, IsStopped, ran_out, found_out, stopped_on};
     ghost use Rattle.catalogue.proofs.Reading.{reads_nothing, reads_on};

@@ -6,7 +6,7 @@ ghost use Rattle.edits.specs.Sinks.{with_point, without_point};
 ghost use Rattle.drainage.specs.Between.{IsHeldOf, IsLeftHeld};
 ghost use Rattle.drainage.specs.Beyond.{IsKeptBeyondEdit, IsKeptBeyondHeights};
 
-use crate::held::Held;
+use crate::drainage_cache::DrainageCache;
 use edits::{Edit, NewHeight};
 use lattice::Point;
 
@@ -14,7 +14,7 @@ use lattice::Point;
 /// hold them are mended when they are asked for; of the tiles that hold a point that changes, or one beside it, the ways are
 /// given up, and the levels of rim points that may change; everything where a tile comes or goes. What is held then is right
 /// for the mosaic before and after the edit alike.
-pub fn forget_edit(held: &mut Held, edit: &Edit)
+pub fn invalidate_edit(held: &mut DrainageCache, edit: &Edit)
     ensures still { (m : Mosaic) → IsMosaic m → IsHeldOf m held.old → IsHeldOf m held.new }
     ensures changed { (m : Mosaic) → IsMosaic m → IsHeldOf m held.old → IsHeldOf (edit_made edit.now m) held.new }
 
@@ -22,17 +22,17 @@ pub fn forget_edit(held: &mut Held, edit: &Edit)
     ensures kept { IsKeptBeyondEdit edit.now held.old held.new }
 {
     match edit {
-        Edit::Add { .. } => held.forget(),
-        Edit::Drop { .. } => held.forget(),
-        Edit::Heights { heights } => forget_heights(held, heights.as_slice()),
-        Edit::Voids { from, to, .. } => held.forget_between(*from, *to),
-        Edit::Sink { point } => forget_near_sink(held, *point),
-        Edit::Unsink { point } => forget_near_sink(held, *point),
+        Edit::Add { .. } => held.invalidate(),
+        Edit::Drop { .. } => held.invalidate(),
+        Edit::Heights { heights } => invalidate_heights(held, heights.as_slice()),
+        Edit::Voids { from, to, .. } => held.invalidate_between(*from, *to),
+        Edit::Sink { point } => invalidate_near_sink(held, *point),
+        Edit::Unsink { point } => invalidate_near_sink(held, *point),
     }
 }
 
 // Notes that these points get new heights.
-fn forget_heights(held: &mut Held, heights: &[NewHeight])
+fn invalidate_heights(held: &mut DrainageCache, heights: &[NewHeight])
     ensures still { (m : Mosaic) → IsMosaic m → IsHeldOf m held.old → IsHeldOf m held.new }
     ensures changed { (m : Mosaic) → IsMosaic m → IsHeldOf m held.old → IsHeldOf (with_heights heights.now m) held.new }
     ensures kept { IsKeptBeyondHeights heights.now held.old held.new }
@@ -43,11 +43,11 @@ fn forget_heights(held: &mut Held, heights: &[NewHeight])
 }
 
 // Gives up what a sink that comes or goes at the point may make wrong.
-fn forget_near_sink(held: &mut Held, point: Point)
+fn invalidate_near_sink(held: &mut DrainageCache, point: Point)
     ensures still { (m : Mosaic) → IsMosaic m → IsHeldOf m held.old → IsHeldOf m held.new }
     ensures declared { (m : Mosaic) → IsMosaic m → IsHeldOf m held.old → IsHeldOf (with_sinks (with_point point m.sinks) m) held.new }
     ensures taken_back { (m : Mosaic) → IsMosaic m → IsHeldOf m held.old → IsHeldOf (with_sinks (without_point point m.sinks) m) held.new }
     ensures kept { IsLeftHeld point point held.old held.new }
 {
-    held.forget_between(point, point);
+    held.invalidate_between(point, point);
 }

@@ -8,20 +8,20 @@
 //!
 //! ```
 //! let level = fill(alloc, &mut table, point)?;           // in metres; Outside or Void where there is none
-//! let mut held = Held::new();                            // what is found, for the questions to come
+//! let mut held = DrainageCache::new();                            // what is found, for the questions to come
 //! let path = trace_held(alloc, &mut table, &mut held, point)?;
 //! ```
 #![tactic(auto)]
 
 mod asking;
 mod draining;
-mod entered;
+mod labelling_cache;
 mod filling;
 mod flows;
 mod following;
 mod growth;
 mod heights;
-mod held;
+mod drainage_cache;
 mod invalidating;
 mod laws;
 mod nearby;
@@ -30,13 +30,13 @@ mod reaching;
 mod renewing;
 mod rims;
 mod ring;
-mod shores;
+mod rim_graph;
 mod summing;
-mod waters;
+mod tile_cache;
 
 pub use draining::{watershed, watershed_held};
 pub use filling::{fill, fill_held, level};
 pub use following::{direction, direction_held, trace, trace_held};
-pub use held::Held;
-pub use invalidating::forget_edit;
+pub use drainage_cache::DrainageCache;
+pub use invalidating::invalidate_edit;
 pub use laws::level_functions_exist;

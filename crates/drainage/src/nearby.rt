@@ -7,10 +7,10 @@ ghost use Rattle.border_graph.specs.Others.{corner_at};
 ghost use Rattle.tile_labellings.specs.Labellings.{IsFlooded};
 ghost use Rattle.drainage.specs.Holding.{IsRight};
 ghost use Rattle.drainage.specs.Nearby.{IsToldOf};
-ghost use Rattle.drainage.specs.Waters.{known_of};
+ghost use Rattle.drainage.specs.TileCaches.{known_of};
 
 use crate::filling::spot_of;
-use crate::waters::Waters;
+use crate::tile_cache::TileCache;
 use border_graph::node_at;
 use downstream::Near;
 use lattice::{Corner, DIRECTIONS, Dir, Point, index_in, neighbour};
@@ -19,17 +19,17 @@ use tile_flood::{Labelled, NO_LABEL, OUT};
 /// The filled level of a ground point and those of the points around it, where they all lie in one tile whose labelling is
 /// held, which marks none as a void, and the levels of the rim points that their labels name are known. So it is of nearly
 /// every point of a tile that was asked about before.
-pub(crate) fn near(waters: &Waters, point: Point) -> Option<Near>
-    ensures { (m : Mosaic) → IsMosaic m → IsRight m (known_of waters.now) → IfSome result (IsNear m point) }
+pub(crate) fn near(tile_cache: &TileCache, point: Point) -> Option<Near>
+    ensures { (m : Mosaic) → IsMosaic m → IsRight m (known_of tile_cache.now) → IfSome result (IsNear m point) }
 {
-    let side = waters.shores.side;
-    let t = waters.entered.holder(side, &waters.shores.corners, point)?;
-    let corner = waters.shores.corner(t)?;
-    let labelled = waters.entered.labelling(t)?;
-    let height = level_in_tile(waters, t, corner, labelled, point)?;
+    let side = tile_cache.rim_graph.side;
+    let t = tile_cache.labellings.holder(side, &tile_cache.rim_graph.corners, point)?;
+    let corner = tile_cache.rim_graph.corner(t)?;
+    let labelled = tile_cache.labellings.labelling(t)?;
+    let height = level_in_tile(tile_cache, t, corner, labelled, point)?;
     let mut around = [None; 8];
     for i in 0..8 {
-        let level = level_beside(waters, t, corner, labelled, point, DIRECTIONS[i])?;
+        let level = level_beside(tile_cache, t, corner, labelled, point, DIRECTIONS[i])?;
         around[i] = Some(level);
     }
     Some(Near { height, around })
@@ -37,37 +37,37 @@ pub(crate) fn near(waters: &Waters, point: Point) -> Option<Near>
 
 // The level of the point in the direction, as that of a point in the tile.
 fn level_beside(
-    waters: &Waters,
+    tile_cache: &TileCache,
     t: usize,
     corner: Corner,
     labelled: &Labelled,
     point: Point,
     direction: Dir,
 ) -> Option<i16>
-    requires place { t < length waters.now.shores.corners.items }
-    requires corner { corner_at waters.now.shores.corners.items t ≡ corner }
-    requires held { (m : Mosaic) → IsRight m (known_of waters.now) → IsFlooded m corner labelled.now }
-    ensures { IfSome result (λ level. IsToldOf (known_of waters.now) t (step direction point) (Some level)) }
+    requires place { t < length tile_cache.now.rim_graph.corners.items }
+    requires corner { corner_at tile_cache.now.rim_graph.corners.items t ≡ corner }
+    requires held { (m : Mosaic) → IsRight m (known_of tile_cache.now) → IsFlooded m corner labelled.now }
+    ensures { IfSome result (λ level. IsToldOf (known_of tile_cache.now) t (step direction point) (Some level)) }
 {
     let to = neighbour(point, direction)?;
-    level_in_tile(waters, t, corner, labelled, to)
+    level_in_tile(tile_cache, t, corner, labelled, to)
 }
 
 // The filled level of the point, where the tile with this place, corner and labelling holds it, and the level of the rim
 // point that its label names is known. Whether a point that is marked as a void has a height isn't held.
 fn level_in_tile(
-    waters: &Waters,
+    tile_cache: &TileCache,
     t: usize,
     corner: Corner,
     labelled: &Labelled,
     point: Point,
 ) -> Option<i16>
-    requires place { t < length waters.now.shores.corners.items }
-    requires corner { corner_at waters.now.shores.corners.items t ≡ corner }
-    requires held { (m : Mosaic) → IsRight m (known_of waters.now) → IsFlooded m corner labelled.now }
-    ensures { IfSome result (λ level. IsToldOf (known_of waters.now) t point (Some level)) }
+    requires place { t < length tile_cache.now.rim_graph.corners.items }
+    requires corner { corner_at tile_cache.now.rim_graph.corners.items t ≡ corner }
+    requires held { (m : Mosaic) → IsRight m (known_of tile_cache.now) → IsFlooded m corner labelled.now }
+    ensures { IfSome result (λ level. IsToldOf (known_of tile_cache.now) t point (Some level)) }
 {
-    let side = waters.shores.side;
+    let side = tile_cache.rim_graph.side;
     let index = index_in(side, corner, point)?;
     let (level, label) = spot_of(labelled, index)?;
     if label == NO_LABEL {
@@ -77,6 +77,6 @@ fn level_in_tile(
         return Some(level);
     }
     let node = node_at(side, t, u32::from(label))?;
-    let over = waters.levels.level(node)?;
+    let over = tile_cache.levels.level(node)?;
     Some(level.max(over))
 }

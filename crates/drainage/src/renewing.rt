@@ -11,7 +11,7 @@ ghost use Rattle.tile_labellings.specs.Spots.{IsLabelledAt};
 ghost use Rattle.tile_labellings.specs.TileLabellings.{labelled_of, IsCurrent, IsTileLabelling};
 ghost use Rattle.drainage.specs.Holding.{IsEntered};
 
-use crate::entered::Entered;
+use crate::labelling_cache::LabellingCache;
 use catalogue::Samples;
 use lattice::{Corner, Refusal};
 use std::alloc::Global;
@@ -24,15 +24,15 @@ use tile_labellings::{Labellings, TileLabelling};
 pub(crate) fn current_labelling<S: Labellings>(
     alloc: Global,
     samples: &mut S,
-    entered: &mut Entered,
+    labellings: &mut LabellingCache,
     t: usize,
     corner: Corner,
 ) -> Result<TileLabelling, Refusal>
-    ensures valid { S.is_honest samples.new → IsEntered (S.mosaic samples.old) corner entered.old t → IfOk result (IsTileLabelling (S.mosaic samples.old) corner) }
+    ensures valid { S.is_honest samples.new → IsEntered (S.mosaic samples.old) corner labellings.old t → IfOk result (IsTileLabelling (S.mosaic samples.old) corner) }
     ensures current { IfOk result IsCurrent }
     ensures side { IfOk result (λ labelling. (labelled_of labelling).side ≡ S.side_of samples.old) }
     ensures present { OnOk result (Contains (S.corners samples.old) corner) }
-    ensures left { (m : Mosaic) (c : Corner) (u : ℕ) → IsEntered m c entered.old u → IsEntered m c entered.new u }
+    ensures left { (m : Mosaic) (c : Corner) (u : ℕ) → IsEntered m c labellings.old u → IsEntered m c labellings.new u }
     ensures honest { S.is_honest samples.new → S.is_honest samples.old }
     ensures mosaic { S.is_honest samples.new → S.mosaic samples.new ≡ S.mosaic samples.old }
     ensures asked { (S.is_honest samples.new → Contains (S.corners samples.old) corner) → Asked S.Samples samples.old samples.new result }
@@ -42,7 +42,7 @@ pub(crate) fn current_labelling<S: Labellings>(
     if !samples.present(corner) {
         return Err(Refusal::Damaged);
     }
-    if let Some(renewed) = renewed(alloc, samples, entered, t, corner)? {
+    if let Some(renewed) = renewed(alloc, samples, labellings, t, corner)? {
         return Ok(renewed);
     }
     let labelling = samples.labelling(alloc, corner)?;
@@ -56,20 +56,20 @@ pub(crate) fn current_labelling<S: Labellings>(
 /// read is.
 pub(crate) fn kept_spot<S: Labellings>(
     samples: &mut S,
-    entered: &mut Entered,
+    labellings: &mut LabellingCache,
     t: usize,
     corner: Corner,
     index: u32,
 ) -> Result<Option<(i16, u16)>, Refusal>
     ensures spot { S.is_honest samples.new → IfOk result (λ found. IfSome found (λ spot. IsLabelledAt (S.mosaic samples.old) corner index spot.0 spot.1)) }
-    ensures same { entered.new ≡ entered.old }
+    ensures same { labellings.new ≡ labellings.old }
     ensures asked { (S.is_honest samples.new → Contains (S.corners samples.old) corner) → Asked S.Samples samples.old samples.new result }
     ensures reads { OnOk result (OnlyReads {T = Unit {0}} S.Samples samples.old samples.new (Ok tt)) }
     ensures honest { S.is_honest samples.new → S.is_honest samples.old }
     ensures mosaic { S.is_honest samples.new → S.mosaic samples.new ≡ S.mosaic samples.old }
     ensures causes { IfErr result (λ r. IsTrue (ends_any r)) }
 {
-    if !entered.reads_alone(t) {
+    if !labellings.reads_alone(t) {
         return Ok(None);
     }
     if !samples.present(corner) {
@@ -87,18 +87,18 @@ pub(crate) fn kept_spot<S: Labellings>(
 fn renewed<S: Samples>(
     alloc: Global,
     samples: &mut S,
-    entered: &mut Entered,
+    labellings: &mut LabellingCache,
     t: usize,
     corner: Corner,
 ) -> Result<Option<TileLabelling>, Refusal>
-    ensures valid { S.is_honest samples.new → IsEntered (S.mosaic samples.old) corner entered.old t → IfOk result (λ found. IfSome found (IsTileLabelling (S.mosaic samples.old) corner)) }
+    ensures valid { S.is_honest samples.new → IsEntered (S.mosaic samples.old) corner labellings.old t → IfOk result (λ found. IfSome found (IsTileLabelling (S.mosaic samples.old) corner)) }
     ensures current { IfOk result (λ found. IfSome found IsCurrent) }
     ensures side { IfOk result (λ found. IfSome found (λ renewed. (labelled_of renewed).side ≡ S.side_of samples.old)) }
-    ensures left { (m : Mosaic) (c : Corner) (u : ℕ) → IsEntered m c entered.old u → IsEntered m c entered.new u }
+    ensures left { (m : Mosaic) (c : Corner) (u : ℕ) → IsEntered m c labellings.old u → IsEntered m c labellings.new u }
     ensures refusal { IfErr result (λ r. (r ≡ NoMemory) ⊎ MayRefuse (S.failures samples.old) (S.failures samples.new) r) }
     ensures reads { OnlyReads S.Samples samples.old samples.new (reads_of result) }
 {
-    let Some(held) = entered.take(t) else {
+    let Some(held) = labellings.take(t) else {
         return Ok(None);
     };
     held.renewed(alloc, samples, corner)

@@ -43,7 +43,7 @@ impl RimLevels {
     }
 
     /// Knows no level from then on. Takes no memory.
-    pub(crate) fn forget(&mut self)
+    pub(crate) fn invalidate(&mut self)
         ensures { (x : ℕ) → level_of self.new x ≡ None }
     {
         self.levels.clear();
@@ -51,13 +51,13 @@ impl RimLevels {
 
     /// Gives up the levels that may change as a ground point gets another height, in metres, all where the height that it has
     /// isn't known. Takes no memory.
-    pub(crate) fn forget_reached(&mut self, was: Option<i16>, is: i16)
+    pub(crate) fn invalidate_reached(&mut self, was: Option<i16>, is: i16)
         ensures left { (x : ℕ) (level : ℤ) → level_of self.new x ≡ Some level → (level_of self.old x ≡ Some level) × IsSpared was is level }
         ensures kept { (x : ℕ) (level : ℤ) → level_of self.old x ≡ Some level → IsSpared was is level → level_of self.new x ≡ Some level }
     {
         for x in 0..self.levels.len() {
             if may_change(was, is, self.at(x)) {
-                self.forget_at(x);
+                self.invalidate_at(x);
             }
         }
     }
@@ -71,7 +71,7 @@ impl RimLevels {
     }
 
     // Gives up the level of the node with this number.
-    fn forget_at(&mut self, x: usize)
+    fn invalidate_at(&mut self, x: usize)
         requires { x < length self.old }
         ensures { self.new ≡ slice_set self.old x None }
     {

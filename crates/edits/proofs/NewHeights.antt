@@ -15,26 +15,26 @@ use Rattle.catalogue.specs.Readers.{OnlyReads}
 use Rattle.catalogue.proofs.Reading.{reads_on, reads_nothing}
 use Rattle.edits.specs.declared.command.Command.TheVariants.{Burn, Wall}
 use Rattle.edits.specs.declared.edit.NewHeight.{NewHeight}
-use Rattle.edits.specs.declared.treatment.Treatment.{Treatment}
-use Rattle.edits.specs.declared.treatment.Treatment.TheVariants.{Lower, Raise}
+use Rattle.edits.specs.declared.point_edit.PointEdit.{PointEdit}
+use Rattle.edits.specs.declared.point_edit.PointEdit.TheVariants.{Lower, Raise}
 use Rattle.edits.specs.Edits.{points_of, with_heights}
 use Rattle.edits.specs.Effect.{effect, is_depth, is_height, is_repeated, first_fault, fault_at, edited, unless_fault, burnt, walled}
-use Rattle.edits.specs.Treatments.{treated, depth_of, treatment_at, fault_of, refuses, treats}
+use Rattle.edits.specs.PointEdits.{edited_metres, depth_of, treatment_at, fault_of, refuses, treats}
 use Rattle.edits.proofs.Edited.{height_by, named_heights}
-use Rattle.edits.proofs.Treating.{height_not_void, fault_says}
+use Rattle.edits.proofs.PointEditing.{height_not_void, fault_says}
 
 -- the height that a point gets
-abbrev pub treated_at : Treatment → Mosaic → Point → ℤ
-treated_at t m p = treated t (metres (height_of m p))
+abbrev pub edited_at : PointEdit → Mosaic → Point → ℤ
+edited_at t m p = edited_metres t (metres (height_of m p))
 
 -- the first of these points have their new heights
-pub record HaveHeights {S : Type 0} (g : Ghosts S) (t : Treatment) (points : List Point) (i : ℕ) (old now : S) (heights : List NewHeight) : Type 0 where
+pub record HaveHeights {S : Type 0} (g : Ghosts S) (t : PointEdit) (points : List Point) (i : ℕ) (old now : S) (heights : List NewHeight) : Type 0 where
   pub reads : OnlyReads {T = Unit {0}} g old now (Ok tt)
   pub named : points_of heights ≡ take i points
-  pub values : g.is_honest now → heights ≡ map (height_by (treated_at t (g.mosaic old))) (take i points)
+  pub values : g.is_honest now → heights ≡ map (height_by (edited_at t (g.mosaic old))) (take i points)
   pub faults : g.is_honest now → first_fault (g.mosaic old) (depth_of t) points ≡ first_fault (g.mosaic old) (depth_of t) (drop i points)
 
-module _ {S : Type 0} (g : Ghosts S) (t : Treatment) (points : List Point) where
+module _ {S : Type 0} (g : Ghosts S) (t : PointEdit) (points : List Point) where
   pub heights_none : ((s : S) → g.keeps s s) → (s : S) → HaveHeights g t points 0 s s []
   heights_none keeps_itself s = record {
     reads = reads_nothing g keeps_itself s tt;
@@ -55,7 +55,7 @@ module _ {S : Type 0} (g : Ghosts S) (t : Treatment) (points : List Point) where
     next = ap (λ (q : Point). take i points ++ q ∷ []) is ∙ sym (take_more points i p within)
 
     pub heights_more : (keeps_on : (a b c : S) → g.keeps a b → g.keeps b c → g.keeps a c) (h s : ℤ) → OnlyReads {T = Unit {0}} g mid now (Ok tt) →
-        (g.is_honest now → height_of (g.mosaic mid) p ≡ height.At h) → s ≡ treated t h →
+        (g.is_honest now → height_of (g.mosaic mid) p ≡ height.At h) → s ≡ edited_metres t h →
         (h ≢ void → int_lt (h -ℤ depth_of t) (negsuc 32766) ≡ false) →
         HaveHeights g t points (i + 1) old now (heights ++ record { point = p; metres = s } ∷ [])
     heights_more keeps_on h s read at value shallow = record {
@@ -63,7 +63,7 @@ module _ {S : Type 0} (g : Ghosts S) (t : Treatment) (points : List Point) where
       named = map-append (λ (n : NewHeight). n.point) heights (record { point = p; metres = s } ∷ []) ∙ ap (λ (l : List Point). l ++ p ∷ []) so.named ∙ next;
       values = λ honest.
           let was = read.honest honest in
-          let here : s ≡ f p = value ∙ ap (treated t) (sym (ap metres (ap (λ (m : Mosaic). height_of m p) (sym (so.reads.mosaic was)) ∙ at honest))) in
+          let here : s ≡ f p = value ∙ ap (edited_metres t) (sym (ap metres (ap (λ (m : Mosaic). height_of m p) (sym (so.reads.mosaic was)) ∙ at honest))) in
           ap₂ (λ (l : List NewHeight) (v : ℤ). l ++ record { point = p; metres = v } ∷ []) (so.values was) here
           ∙ sym (map-append (height_by f) (take i points) (p ∷ []))
           ∙ ap (map (height_by f)) next;
@@ -72,7 +72,7 @@ module _ {S : Type 0} (g : Ghosts S) (t : Treatment) (points : List Point) where
     }
       where
         f : Point → ℤ
-        f = treated_at t (g.mosaic old)
+        f = edited_at t (g.mosaic old)
 
     -- without a height, or too deep
     pub heights_end : is_repeated points ≡ false → (r : Refusal) → g.is_honest mid → fault_at (depth_of t) (height_of (g.mosaic mid) p) (first_fault (g.mosaic old) (depth_of t) (drop (i + 1) points)) ≡ Some r →
@@ -93,13 +93,13 @@ module _ {S : Type 0} (g : Ghosts S) (t : Treatment) (points : List Point) where
         let m = g.mosaic old in
         ap (λ b. if b then Err Repeated else unless_fault (first_fault m (depth_of t) points) (edited (treatment_at t m points) m)) single
         ∙ ap (λ f. unless_fault f (edited (treatment_at t m points) m)) (so.faults honest ∙ at_drop_all (first_fault m (depth_of t)) points i all)
-        ∙ ap (λ (n : Mosaic). Ok n) (sym (ap (λ (l : List NewHeight). with_heights l m) (so.values honest ∙ ap (map (height_by (treated_at t m))) (take_all i points all))
-        ∙ named_heights (treated_at t m) points m))
+        ∙ ap (λ (n : Mosaic). Ok n) (sym (ap (λ (l : List NewHeight). with_heights l m) (so.values honest ∙ ap (map (height_by (edited_at t m))) (take_all i points all))
+        ∙ named_heights (edited_at t m) points m))
 
--- why a point ends the treatment
-pub ends_treating : {S : Type 0} (g : Ghosts S) (t : Treatment) (points : List Point) (i : ℕ) (p : Point) (old mid now : S) (heights : List NewHeight) → i < length points → p ≡ get_or points i p
+-- why a point ends the point_edit
+pub ends_editing : {S : Type 0} (g : Ghosts S) (t : PointEdit) (points : List Point) (i : ℕ) (p : Point) (old mid now : S) (heights : List NewHeight) → i < length points → p ≡ get_or points i p
     → HaveHeights g t points i old mid heights → is_repeated points ≡ false → (r : Refusal) → g.is_honest mid → fault_of (height_of (g.mosaic mid) p) r → IsTrue (refuses t r) → treats t (g.mosaic old) points ≡ Err r
-ends_treating g t points i p old mid now heights within is so single r honest why fault =
+ends_editing g t points i p old mid now heights within is so single r honest why fault =
     heights_end g t points i p old mid now heights within is so single r honest (by r why fault)
   where
     later : Option Refusal
@@ -109,17 +109,17 @@ ends_treating g t points i p old mid now heights within is so single r honest wh
     by Repeated why fault = absurd why
     by r why fault = fault_says t (height_of (g.mosaic mid) p) r later why fault
 
-pub deep_treating : {S : Type 0} (g : Ghosts S) (t : Treatment) (points : List Point) (i : ℕ) (p : Point) (old mid now : S) (heights : List NewHeight) → i < length points → p ≡ get_or points i p
+pub deep_editing : {S : Type 0} (g : Ghosts S) (t : PointEdit) (points : List Point) (i : ℕ) (p : Point) (old mid now : S) (heights : List NewHeight) → i < length points → p ≡ get_or points i p
     → HaveHeights g t points i old mid heights → is_repeated points ≡ false → (h : ℤ) → g.is_honest mid → height_of (g.mosaic mid) p ≡ height.At h → int_lt (h -ℤ depth_of t) (negsuc 32766) ≡ true
     → treats t (g.mosaic old) points ≡ Err TooDeep
-deep_treating g t points i p old mid now heights within is so single h honest at deep =
+deep_editing g t points i p old mid now heights within is so single h honest at deep =
     heights_end g t points i p old mid now heights within is so single TooDeep honest
     (ap (λ v. fault_at (depth_of t) v later) at ∙ ap (λ b. if b then Some TooDeep else later) deep)
   where
     later : Option Refusal
     later = first_fault (g.mosaic old) (depth_of t) (drop (i + 1) points)
 
--- the effect of burns and walls, by the treatment of their points
+-- the effect of burns and walls, by the point_edit of their points
 
 pub burn_made : (capacity : ℕ) (m : Mosaic) (depth : ℤ) (by_ : ℕ) (points : ArrayVec Point) (result : Result (ArrayVec NewHeight) Refusal) → is_depth depth ≡ true → depth ≡ pos by_ →
     IfOk result (λ heights. treats (Lower by_) m points.items ≡ Ok (with_heights heights.items m)) → IfOk result (λ heights. effect capacity m (Burn depth points) ≡ Ok (with_heights heights.items m))

@@ -24,7 +24,7 @@ changed_from f e [] = []
 changed_from f e (s ∷ rest) = f e s ∷ changed_from f (e + 1) rest
 
 -- every sample of every present tile changed by its point and what it was, so that all tiles that hold a point get
--- the same treatment
+-- the same point_edit
 abbrev pub edited : (Point → ℤ → ℤ) → Mosaic → Mosaic
 edited f m = record m { tiles = map (λ t. record { corner = t.corner; samples = changed_from (λ e s. f (point_of m.side t.corner e) s) 0 t.samples }) m.tiles }
 

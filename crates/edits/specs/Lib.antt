@@ -7,4 +7,4 @@ pub mod Places
 pub mod Plans
 pub mod Sinks
 pub mod Touched
-pub mod Treatments
+pub mod PointEdits

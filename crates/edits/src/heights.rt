@@ -8,11 +8,11 @@ ghost use Rattle.catalogue.specs.Readers.{OnlyReads, reads_of};
 ghost use Rattle.edits.specs.Edits.{points_of, with_heights};
 ghost use Rattle.edits.specs.Effect.{effect, is_named, is_repeated};
 ghost use Rattle.edits.specs.Plans.{is_own, may_end};
-ghost use Rattle.edits.specs.Treatments.{fault_of, is_groundless, refuses, treats};
+ghost use Rattle.edits.specs.PointEdits.{fault_of, is_groundless, refuses, treats};
 ghost use Rattle.edits.specs.declared.command.Command.TheVariants.{Burn, Wall};
 
 use crate::NewHeight;
-use crate::treatment::{DEEPEST, HIGHEST, LOWEST, Treatment};
+use crate::point_edit::{DEEPEST, HIGHEST, LOWEST, PointEdit};
 use arrayvec::ArrayVec;
 use catalogue::{Samples, height};
 use lattice::{Height, Point, Refusal};
@@ -33,7 +33,7 @@ pub(crate) fn lowered<S: Samples>(
     if depth < 1 || DEEPEST < depth {
         return Err(Refusal::BadDepth);
     }
-    treat(samples, points, Treatment::Lower { by: depth as u16 })
+    apply_to(samples, points, PointEdit::Lower { by: depth as u16 })
 }
 
 /// The heights that a wall gives to its points.
@@ -52,18 +52,18 @@ pub(crate) fn raised<S: Samples>(
     if height < LOWEST || HIGHEST < height {
         return Err(Refusal::BadHeight);
     }
-    treat(samples, points, Treatment::Raise { to: height as i16 })
+    apply_to(samples, points, PointEdit::Raise { to: height as i16 })
 }
 
 // The points with their new heights. None of them may be named twice.
-fn treat<S: Samples>(
+fn apply_to<S: Samples>(
     samples: &mut S,
     points: &ArrayVec<Point, 64>,
-    treatment: Treatment,
+    point_edit: PointEdit,
 ) -> Result<ArrayVec<NewHeight, 64>, Refusal>
-    ensures made { S.is_honest samples.new → IfOk result (λ heights. treats treatment (S.mosaic samples.old) points.now.items ≡ Ok (with_heights heights.items (S.mosaic samples.old))) }
-    ensures refused { S.is_honest samples.new → IfErr result (λ r. IsTrue (refuses treatment r) → treats treatment (S.mosaic samples.old) points.now.items ≡ Err r) }
-    ensures causes { IfErr result (λ r. IsTrue (refuses treatment r || ends_any r)) }
+    ensures made { S.is_honest samples.new → IfOk result (λ heights. treats point_edit (S.mosaic samples.old) points.now.items ≡ Ok (with_heights heights.items (S.mosaic samples.old))) }
+    ensures refused { S.is_honest samples.new → IfErr result (λ r. IsTrue (refuses point_edit r) → treats point_edit (S.mosaic samples.old) points.now.items ≡ Err r) }
+    ensures causes { IfErr result (λ r. IsTrue (refuses point_edit r || ends_any r)) }
     ensures memory { IfErr result (λ r. r ≢ NoMemory) }
     ensures points { IfOk result (λ heights. points_of heights.items ≡ points.now.items) }
     ensures reads { OnlyReads S.Samples samples.old samples.new (reads_of result) }
@@ -75,7 +75,7 @@ fn treat<S: Samples>(
     let mut heights = ArrayVec::new();
     for point in points {
         let height = ground(samples, *point)?;
-        let metres = treatment.of(height)?;
+        let metres = point_edit.of(height)?;
         heights.push(NewHeight {
             point: *point,
             metres,

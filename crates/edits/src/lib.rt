@@ -27,7 +27,7 @@ mod room;
 mod sinks;
 mod stale;
 mod tiles;
-mod treatment;
+mod point_edit;
 mod void_tiles;
 
 pub use carrying::carry_out;

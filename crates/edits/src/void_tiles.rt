@@ -15,7 +15,7 @@ ghost use Rattle.edits.specs.Plans.{is_own, may_end};
 ghost use Rattle.edits.specs.declared.command.Command.TheVariants.{Patch};
 
 use crate::boxes::{east_of, north_of, size_of_box, span};
-use crate::treatment::{HIGHEST, LOWEST};
+use crate::point_edit::{HIGHEST, LOWEST};
 use arrayvec::ArrayVec;
 use catalogue::{Samples, height};
 use lattice::{Corner, Height, Point, Refusal, Side, holders, point_at};

@@ -6,7 +6,7 @@
 //!
 //! ```
 //! let request = request_of(b"fill 1 1");                 // Some: the event to fill y = 1, x = 1
-//! let text = tell(alloc, reply);                         // "OK 5" and an LF
+//! let text = format_reply(alloc, reply);                         // "OK 5" and an LF
 //! text.write(&mut writer)?;
 //! ```
 #![tactic(auto)]
@@ -18,7 +18,7 @@ mod lists;
 mod number;
 mod request;
 mod source;
-mod telling;
+mod replying;
 mod text;
 mod words;
 
@@ -26,5 +26,5 @@ pub use grammar::request_of;
 pub use number::natural;
 pub use request::{MOST_POINTS, Request};
 pub use source::{Ahead, Extent, Line, ReadFault, read_line, read_payload, skip_payload};
-pub use telling::tell;
+pub use replying::format_reply;
 pub use text::{Text, WriteFault, write_bytes};

@@ -9,7 +9,7 @@ ghost use Rattle.server.specs.Program.{CarriesOut, EndsServing, Runs, RunsAs, Ru
 ghost use Rattle.server.specs.Sizes.{IsRefusedFor, IsTaken};
 
 use crate::disks::{check_store, grow_and_upgrade, import_tile, make_store, serve_store};
-use crate::endings::{BAD_WORDS, end_session, end_with, refuse, tell};
+use crate::exit::{BAD_WORDS, end_session, end_with, refuse, write_message};
 use crate::files::FilePlaces;
 use crate::places::{MakeFault, Places};
 use command_line::{ArgumentFault, Arguments};
@@ -26,7 +26,7 @@ use table_engine::TableEngine;
 
 /// What came of the program's words.
 #[derive(Drop)]
-pub struct Ended<D> {
+pub struct Exit<D> {
     /// The exit status.
     pub status: u8,
     /// The disk that was worked on, if one was made or opened and is open still.
@@ -61,7 +61,7 @@ fn on_files<V: World, S: AsStr, R: Read, O: Output>(
     words: &[S],
     reader: &mut R,
     writer: &mut O,
-) -> Ended<FileDisk<V>>
+) -> Exit<FileDisk<V>>
     ensures { RunsOnFiles V.image (map S.text words.now) (R.remaining reader.old) (R.remaining reader.new) (O.contents writer.old) (stream_of O.contents O.failed writer.new) result.disk result.status }
 {
     let mut places = FilePlaces::<V>::new(rt);
@@ -81,16 +81,16 @@ pub fn carry_out<P: Places, S: AsStr, R: Read, O: Output>(
     words: &[S],
     reader: &mut R,
     writer: &mut O,
-) -> Ended<P::File>
+) -> Exit<P::File>
     ensures { Accessing P.accessed places.old places.new (λ accesses. CarriesOut P.File.Disk P.Tile.remaining (map S.text words.now) accesses (R.remaining reader.old) (R.remaining reader.new) (O.contents writer.old) (stream_of O.contents O.failed writer.new) result.disk result.status) }
 {
     match Arguments::parse(alloc, words) {
         Ok(arguments) => run(alloc, places, arguments, reader, writer),
-        Err(ArgumentFault::Bad) => Ended {
+        Err(ArgumentFault::Bad) => Exit {
             status: end_with(writer, b"mosaic: bad arguments\n", BAD_WORDS),
             disk: None,
         },
-        Err(ArgumentFault::NoMemory) => Ended {
+        Err(ArgumentFault::NoMemory) => Exit {
             status: no_room(writer),
             disk: None,
         },
@@ -104,7 +104,7 @@ fn run<P: Places, R: Read, O: Output>(
     arguments: Arguments<'_>,
     reader: &mut R,
     writer: &mut O,
-) -> Ended<P::File>
+) -> Exit<P::File>
     ensures { Accessing P.accessed places.old places.new (λ accesses. RunsAs P.File.Disk P.Tile.remaining arguments.entry accesses (R.remaining reader.old) (R.remaining reader.new) (O.contents writer.old) (stream_of O.contents O.failed writer.new) result.disk result.status) }
 {
     match arguments {
@@ -115,7 +115,7 @@ fn run<P: Places, R: Read, O: Output>(
         } => format(alloc, places, path, side, capacity, writer),
         Arguments::Import { path, tile } => import(alloc, places, path, tile, writer),
         Arguments::Serve { path } => serve_file(alloc, places, path, reader, writer),
-        Arguments::Table { side, capacity } => Ended {
+        Arguments::Table { side, capacity } => Exit {
             status: table(alloc, side, capacity, reader, writer),
             disk: None,
         },
@@ -132,21 +132,21 @@ fn format<P: Places, O: Output>(
     side: u32,
     capacity: u32,
     writer: &mut O,
-) -> Ended<P::File>
+) -> Exit<P::File>
     ensures { Accessing P.accessed places.old places.new (λ accesses. RunsFormat P.File.Disk P.Tile.remaining path.now side capacity accesses (O.contents writer.old) (stream_of O.contents O.failed writer.new) result.disk result.status) }
 {
     let format = match format_of(side, capacity) {
         Ok(format) => format,
         Err(refusal) => {
-            return Ended {
+            return Exit {
                 status: refuse(writer, refusal),
                 disk: None,
             };
         }
     };
     match places.make(path, format.sectors()) {
-        Ok(disk) => ended_on(make_store(disk, side, capacity, writer)),
-        Err(fault) => Ended {
+        Ok(disk) => exit_on(make_store(disk, side, capacity, writer)),
+        Err(fault) => Exit {
             status: tell_fault(alloc, path, fault, writer),
             disk: None,
         },
@@ -168,11 +168,11 @@ fn import<P: Places, O: Output>(
     path: &str,
     tile: &str,
     writer: &mut O,
-) -> Ended<P::File>
+) -> Exit<P::File>
     ensures { Accessing P.accessed places.old places.new (λ accesses. RunsImport P.File.Disk P.Tile.remaining path.now tile.now accesses (O.contents writer.old) (stream_of O.contents O.failed writer.new) result.disk result.status) }
 {
     let Ok(corner) = file_name(tile.as_bytes()) else {
-        return Ended {
+        return Exit {
             status: refuse(writer, Refusal::BadName),
             disk: None,
         };
@@ -180,7 +180,7 @@ fn import<P: Places, O: Output>(
     match places.open(path) {
         Some(disk) => {
             let reader = places.read(tile);
-            ended_on(import_tile(alloc, disk, corner, tile.as_bytes(), reader, writer))
+            exit_on(import_tile(alloc, disk, corner, tile.as_bytes(), reader, writer))
         }
         None => not_opened(alloc, path, writer),
     }
@@ -193,11 +193,11 @@ fn serve_file<P: Places, R: Read, O: Output>(
     path: &str,
     reader: &mut R,
     writer: &mut O,
-) -> Ended<P::File>
+) -> Exit<P::File>
     ensures { Accessing P.accessed places.old places.new (λ accesses. RunsServe P.File.Disk P.Tile.remaining path.now accesses (R.remaining reader.old) (R.remaining reader.new) (O.contents writer.old) (stream_of O.contents O.failed writer.new) result.disk result.status) }
 {
     match places.open(path) {
-        Some(disk) => ended_on(serve_store(alloc, disk, reader, writer)),
+        Some(disk) => exit_on(serve_store(alloc, disk, reader, writer)),
         None => not_opened(alloc, path, writer),
     }
 }
@@ -208,11 +208,11 @@ fn check<P: Places, O: Output>(
     places: &mut P,
     path: &str,
     writer: &mut O,
-) -> Ended<P::File>
+) -> Exit<P::File>
     ensures { Accessing P.accessed places.old places.new (λ accesses. RunsCheck P.File.Disk P.Tile.remaining path.now accesses (O.contents writer.old) (stream_of O.contents O.failed writer.new) result.disk result.status) }
 {
     match places.open(path) {
-        Some(disk) => ended_on(check_store(alloc, disk, writer)),
+        Some(disk) => exit_on(check_store(alloc, disk, writer)),
         None => not_opened(alloc, path, writer),
     }
 }
@@ -224,33 +224,33 @@ fn upgrade<P: Places, O: Output>(
     places: &mut P,
     path: &str,
     writer: &mut O,
-) -> Ended<P::File>
+) -> Exit<P::File>
     ensures { Accessing P.accessed places.old places.new (λ accesses. RunsUpgrade P.File.Disk P.Tile.remaining path.now accesses (O.contents writer.old) (stream_of O.contents O.failed writer.new) result.disk result.status) }
 {
     match places.open(path) {
-        Some(disk) => ended_on(grow_and_upgrade(alloc, disk, writer)),
+        Some(disk) => exit_on(grow_and_upgrade(alloc, disk, writer)),
         None => not_opened(alloc, path, writer),
     }
 }
 
 /// What came of work on a disk.
-fn ended_on<D>(work: (D, u8)) -> Ended<D>
+fn exit_on<D>(work: (D, u8)) -> Exit<D>
     ensures status { result.status ≡ work.1 }
     ensures disk { result.disk ≡ Some work.0 }
 {
     let (disk, status) = work;
-    Ended {
+    Exit {
         status,
         disk: Some(disk),
     }
 }
 
 /// Tells that the store's file can't be opened.
-fn not_opened<D, O: Output>(alloc: Global, path: &str, writer: &mut O) -> Ended<D>
+fn not_opened<D, O: Output>(alloc: Global, path: &str, writer: &mut O) -> Exit<D>
     ensures none { result.disk ≡ None }
     ensures told { TellsFault path.now MakeFault.Closed (O.contents writer.old) (stream_of O.contents O.failed writer.new) result.status }
 {
-    Ended {
+    Exit {
         status: tell_fault(alloc, path, MakeFault::Closed, writer),
         disk: None,
     }
@@ -261,8 +261,8 @@ fn tell_fault<O: Output>(alloc: Global, path: &str, fault: MakeFault, writer: &m
     ensures { TellsFault path.now fault (O.contents writer.old) (stream_of O.contents O.failed writer.new) result }
 {
     match fault {
-        MakeFault::Exists => tell(alloc, writer, b"mosaic: exists ", path.as_bytes()),
-        MakeFault::Closed => tell(alloc, writer, b"mosaic: cannot open ", path.as_bytes()),
+        MakeFault::Exists => write_message(alloc, writer, b"mosaic: exists ", path.as_bytes()),
+        MakeFault::Closed => write_message(alloc, writer, b"mosaic: cannot open ", path.as_bytes()),
     }
 }
 

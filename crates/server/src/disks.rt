@@ -5,7 +5,7 @@ ghost use Rattle.store.specs.Upgraded.{HasUpgraded as Upgraded};
 ghost use Rattle.server.specs.OnDisks.{ChecksStore, GrowsAndUpgrades, HasMeasured, ImportsTile, IsClosed, IsTileRead, MakesStore, RunsGrown, ServesLines, UpgradesStore, done_of, given_by};
 ghost use Rattle.serving.specs.Outputs.{stream_of};
 
-use crate::endings::{end_command, end_format, end_report, end_session, refuse, tell};
+use crate::exit::{end_command, end_format, end_report, end_session, refuse, write_message};
 use crate::places::Lengthen;
 use crate::reporting::report;
 use disk::Disk;
@@ -51,7 +51,7 @@ pub fn import_tile<D: Disk, R: Read + Drop, O: Output>(
     let bytes = match read_tile(alloc, reader, store.tile_side()) {
         Ok(bytes) => Bytes::new(bytes),
         Err(TileFault::Unreadable) => {
-            let status = tell(alloc, writer, b"mosaic: cannot read ", tile);
+            let status = write_message(alloc, writer, b"mosaic: cannot read ", tile);
             return (store.into_disk(), status);
         }
         Err(TileFault::NoMemory) => {

@@ -12,13 +12,13 @@
 
 mod commands;
 mod disks;
-mod endings;
+mod exit;
 mod files;
 mod following;
 mod places;
 mod reporting;
 
-pub use commands::{Ended, carry_out, no_room, program};
+pub use commands::{Exit, carry_out, no_room, program};
 pub use disks::{
     check_store, grow_and_upgrade, import_tile, make_store, measure_store, serve_store,
     upgrade_store,

@@ -5,7 +5,7 @@ use Rattle.serving.specs.Items.{Item, spelled, IsItem, GoesOn, IsBegun}
 use Rattle.lines.specs.Requests.{asked}
 use Rattle.serving.specs.Served.{Replies, Ends}
 use Rattle.lines.specs.declared.source.Extent.{Extent}
-use Rattle.serving.specs.declared.hearing.KeptItem.{KeptItem}
+use Rattle.serving.specs.declared.reading.KeptItem.{KeptItem}
 use Rattle.serving.specs.declared.session.Next.{Next}
 use Rattle.serving.specs.declared.session.Next.TheVariants.{More, End}
 use Rattle.serving.specs.declared.session.ServeFault.{ServeFault}

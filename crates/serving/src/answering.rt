@@ -4,13 +4,13 @@ ghost use Rattle.serving.specs.Answers.{ImportComesTo, Replied, Turn, Turns};
 ghost use Rattle.serving.specs.Items.{Item};
 ghost use Rattle.serving.specs.Session.{Holds, Stored};
 
-use crate::hearing::KeptItem;
+use crate::reading::KeptItem;
 use calls::Event;
 use edits::{Bytes, Command};
 use engine::Engine;
 use hgt::name_of;
 use lattice::Refusal;
-use lines::{Extent, Request, Text, tell};
+use lines::{Extent, Request, Text, format_reply};
 use std::alloc::Global;
 
 /// Answers an import of this length. Its payload is there where it came whole and there was room for it.
@@ -37,7 +37,7 @@ fn answer_import<E: Engine>(
     };
     let bytes = Bytes::new(payload);
     let import = Event::Do(Command::Import { corner, bytes });
-    tell(alloc, engine.answer(&import))
+    format_reply(alloc, engine.answer(&import))
 }
 
 /// Answers an item.
@@ -54,7 +54,7 @@ pub(crate) fn answer<E: Engine>(alloc: Global, engine: &mut E, item: KeptItem<'_
         Some(Request::Import { name, len }) => {
             answer_import(alloc, engine, name, len, payload, extent)
         }
-        Some(Request::Ask(event)) => tell(alloc, engine.answer(&event)),
+        Some(Request::Ask(event)) => format_reply(alloc, engine.answer(&event)),
         Some(Request::BadName) => Text::refused(Refusal::BadName),
         Some(Request::Quit) => Text::done(),
         None => Text::refused(Refusal::BadLine),

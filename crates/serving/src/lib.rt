@@ -14,7 +14,7 @@
 #![tactic(auto)]
 
 mod answering;
-mod hearing;
+mod reading;
 mod output;
 mod session;
 

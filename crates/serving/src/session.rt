@@ -7,7 +7,7 @@ ghost use Rattle.serving.specs.Promises.{Answers, Serves};
 ghost use Rattle.serving.specs.Session.{Steps};
 
 use crate::answering::answer;
-use crate::hearing::{hear, is_last, is_over};
+use crate::reading::{read_item, is_last, is_over};
 use crate::output::Output;
 use engine::Engine;
 use lines::{Ahead, Line, read_line};
@@ -56,7 +56,7 @@ fn step<R: Read, O: Output, E: Engine>(
     if is_over(fed, line) {
         return Ok(Next::End);
     }
-    let Ok(item) = hear(alloc, tile_len, fed, line, ahead, reader) else {
+    let Ok(item) = read_item(alloc, tile_len, fed, line, ahead, reader) else {
         return Err(ServeFault::Input);
     };
     let next = if is_last(&item) {

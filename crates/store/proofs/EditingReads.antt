@@ -17,10 +17,10 @@ use Rattle.edits.specs.Plans.{is_own, may_end}
 use Rattle.calls.specs.Outcomes.{AppliesNot}
 use Rattle.calls.specs.State.{State}
 use Rattle.calls.proofs.Applying.{plan_refused}
-use Rattle.charts.specs.Charts.{ChartValue, HasFreshHeights, corners_of_locations}
-use Rattle.charts.specs.TileLocations.{TileLocation}
-use Rattle.charts.specs.Planes.{HasPlane}
-use Rattle.charts.specs.declared.plane.Plane.TheVariants.{Heights}
+use Rattle.page_map.specs.PageMaps.{PageMapValue, HasFreshHeights, corners_of_locations}
+use Rattle.page_map.specs.TileLocations.{TileLocation}
+use Rattle.page_map.specs.Planes.{HasPlane}
+use Rattle.page_map.specs.declared.plane.Plane.TheVariants.{Heights}
 use Rattle.cow_tree.specs.Reading.{mosaic_of, IsReadable, HasOnlyRead, Reads}
 use Rattle.cow_tree.specs.Stored.{StoredTile, AreWhole, mosaic_of_tiles}
 use Rattle.cow_tree.specs.Trees.{disk_of, root_of, has_failed, sinks_of, staged_in, HasStaged}
@@ -102,10 +102,10 @@ quiet_read (Err r) P only ready = λ other. ((λ e. cc), ready)
 
 module _ {D : Type 0} (g : Ghosts D) (old new : Tree D g) (keeps : HasOnlyRead g old new) where
   still_staged_by : (c : Corner) → HasStaged old c → HasStaged new c
-  still_staged_by c staged = subst (λ (chart : ChartValue). HasFreshHeights c chart) (sym keeps.chart) staged
+  still_staged_by c staged = subst (λ (page_map : PageMapValue). HasFreshHeights c page_map) (sym keeps.page_map) staged
 
   pub none_staged_by : (c : Corner) → HasStaged new c → HasStaged old c
-  none_staged_by c staged = subst (λ (chart : ChartValue). HasFreshHeights c chart) keeps.chart staged
+  none_staged_by c staged = subst (λ (page_map : PageMapValue). HasFreshHeights c page_map) keeps.page_map staged
 
   -- what is read is the mosaic of the state
   module _ (works : has_failed old ≡ false) (s : State) (at : IsInState g old s) where

@@ -19,9 +19,9 @@ use Rattle.edits.specs.Touched.{are_neighbours}
 use Rattle.calls.specs.Outcomes.{AppliesNot, Refuses, IsWorn}
 use Rattle.calls.specs.State.{State, last_number, made_by}
 use Rattle.edits.specs.EffectLaws.{CommandsMakeMosaics}
-use Rattle.charts.specs.TileLocations.{TileLocation}
+use Rattle.page_map.specs.TileLocations.{TileLocation}
 use Rattle.cow_tree.specs.Layout.{tile_in}
-use Rattle.charts.specs.Charts.{corners_of_locations}
+use Rattle.page_map.specs.PageMaps.{corners_of_locations}
 use Rattle.cow_tree.specs.Stored.{Stored, next_commit, corners_of_stored, pages_of_bytes, stale_tile, with_tile, without_tile}
 use Rattle.cow_tree.specs.Trees.{disk_of, root_of, has_failed, sinks_of, staged_in, corners_of as corners_under, IsAt as IsTreeAt}
 use Rattle.cow_tree.specs.declared.tree.Tree.{Tree}
@@ -54,7 +54,7 @@ module _ {D : Type 0} (g : Ghosts D) (tree : Tree D g) (works : has_failed tree 
 
   pub corners_are : corners_under tree ≡ corners_of s.contents.mosaic
   corners_are =
-      corners_kept (g.seen (disk_of tree)) tree.chart.staged ∙ ap corners_of_stored sound_at.nothing_staged
+      corners_kept (g.seen (disk_of tree)) tree.page_map.staged ∙ ap corners_of_stored sound_at.nothing_staged
       ∙ corners_held n sound_at.stored.tiles s.contents.mosaic (held n capacity sound_at.stored s.contents sound_at.holds)
 
   refuses : (command : Command) (r : Refusal) → effect capacity s.contents.mosaic command ≡ Err r → Refuses capacity s command r s

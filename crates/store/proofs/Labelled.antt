@@ -9,9 +9,9 @@ use Rattle.lattice.specs.Mosaic.{Mosaic, IsMosaic, void}
 use Rattle.lattice.specs.declared.refusal.Refusal.{Refusal}
 use Rattle.lattice.specs.declared.refusal.Refusal.TheVariants.{Device, NoMemory, Failed, Damaged}
 use Rattle.catalogue.specs.Reading.{MayRefuse}
-use Rattle.charts.specs.Planes.{HasPlane}
-use Rattle.charts.specs.TileLocations.{TileLocation}
-use Rattle.charts.specs.declared.plane.Plane.TheVariants.{Levels}
+use Rattle.page_map.specs.Planes.{HasPlane}
+use Rattle.page_map.specs.TileLocations.{TileLocation}
+use Rattle.page_map.specs.declared.plane.Plane.TheVariants.{Levels}
 use Rattle.tile_labellings.specs.Labellings.{IsFlooded}
 use Rattle.tile_labellings.specs.Spots.{IsLabelledAt, StandsAt}
 use Rattle.tile_flood.specs.Blocks.{LabelledGround}
@@ -77,12 +77,12 @@ pub record KeepsThere {D : Type 0} (g : Ghosts D) (tree : Tree D g) (c : Corner)
 right_there : (m : Mosaic) (c : Corner) (t : StoredTile) (kept : KeptPlanes) → t.kept ≡ Some kept → IfSome t.kept (AreRight m c) → AreRight m c kept
 right_there m c t kept is right = subst (λ (o : Option KeptPlanes). IfSome o (AreRight m c)) is right
 
-pub keeps_there : {D : Type 0} (g : Ghosts D) (tree : Tree D g) (c : Corner) → HasPlane tree.chart.staged c Levels → IsSure g tree → KeepsThere g tree c
+pub keeps_there : {D : Type 0} (g : Ghosts D) (tree : Tree D g) (c : Corner) → HasPlane tree.page_map.staged c Levels → IsSure g tree → KeepsThere g tree c
 keeps_there g tree c held sure =
     let image = g.seen tree.roots.disk in
     let place : TileLocation = held.0 in
     let tile : StoredTile = tile_in image place in
-    let there : Contains (staged_in g tree) tile = contains-map (tile_in image) tree.chart.staged place held.1.0 in
+    let there : Contains (staged_in g tree) tile = contains-map (tile_in image) tree.page_map.staged place held.1.0 in
     let corner : tile.corner ≡ c = held.1.1.0 in
     let has = ap (kept_in image) held.1.1.1.1.1.0 in
     let right = All-contains (λ (t : StoredTile). IfSome t.kept (AreRight (mosaic_of g tree) t.corner)) (staged_in g tree) tile sure.kept there in

@@ -78,7 +78,7 @@ module _ {D : Type 0} (g : Ghosts D) (touched : Corner) (corners : List Corner) 
 module _ {D : Type 0} (g : Ghosts D) (old new : Tree D g) where
   pub there_listed : (corners : List Corner) → corners ≡ corners_of old → (t : StoredTile) → Contains (staged_in g old) t → Contains corners t.corner
   there_listed corners are t there =
-      subst (λ (cs : List Corner). Contains cs t.corner) (sym (are ∙ corners_kept (g.seen (disk_of old)) old.chart.staged)) (contains-map stored_corner (staged_in g old) t there)
+      subst (λ (cs : List Corner). Contains cs t.corner) (sym (are ∙ corners_kept (g.seen (disk_of old)) old.page_map.staged)) (contains-map stored_corner (staged_in g old) t there)
 
   pub near_all : (touched : Corner) (corners : List Corner) (i : ℕ) → corners ≡ corners_of old → length corners ≤ i → Stales g (near_first touched (take i corners)) old new → Stales g (are_neighbours touched) old new
   near_all touched corners i are done so =

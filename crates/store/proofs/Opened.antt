@@ -21,22 +21,22 @@ module _ {D : Type 0} (g : Ghosts D) (tree : Tree D g) (stored : Stored) (at : I
   works : has_failed tree ≡ false
   works = at.ready.works
 
-  pub each_stores : (image : Image) → g.may (disk_of tree) image → StoresAt (g.size (disk_of tree)) (root_of tree) tree.chart.committed stored image
-  each_stores image may = subst (λ (r : RootValue). StoresAt (g.size (disk_of tree)) r tree.chart.committed stored image) (tree.known works) (at.each image may)
+  pub each_stores : (image : Image) → g.may (disk_of tree) image → StoresAt (g.size (disk_of tree)) (root_of tree) tree.page_map.committed stored image
+  each_stores image may = subst (λ (r : RootValue). StoresAt (g.size (disk_of tree)) r tree.page_map.committed stored image) (tree.known works) (at.each image may)
 
-  seen_stores : StoresAt (g.size (disk_of tree)) (root_of tree) tree.chart.committed stored (g.seen (disk_of tree))
+  seen_stores : StoresAt (g.size (disk_of tree)) (root_of tree) tree.page_map.committed stored (g.seen (disk_of tree))
   seen_stores = each_stores (g.seen (disk_of tree)) seen
 
   pub in_state : sinks_of tree ≡ (root_of tree).sinks → (side capacity : ℕ) (c : Contents) → Holds side capacity stored c → IsInState g tree (working c)
   in_state declared side capacity c holds =
-      at_contents g (disk_of tree) (root_of tree) (has_failed tree) (λ (s : Stored). IsTreeAt g tree s) (staged_in g tree) (sinks_of tree) tree.chart.committed stored c works each_stores seen at clean declared
-      (held_by_root (g.size (disk_of tree)) (root_of tree) tree.chart.committed stored (g.seen (disk_of tree)) seen_stores side capacity c holds)
+      at_contents g (disk_of tree) (root_of tree) (has_failed tree) (λ (s : Stored). IsTreeAt g tree s) (staged_in g tree) (sinks_of tree) tree.page_map.committed stored c works each_stores seen at clean declared
+      (held_by_root (g.size (disk_of tree)) (root_of tree) tree.page_map.committed stored (g.seen (disk_of tree)) seen_stores side capacity c holds)
 
   module _ (side capacity : ℕ) where
     numbers : (a : Contents) → Holds side capacity stored a → ((root_of tree).side ≡ side) × ((root_of tree).capacity ≡ capacity)
     numbers a holds = (
-      sym (root_side (g.size (disk_of tree)) (root_of tree) tree.chart.committed stored (g.seen (disk_of tree)) seen_stores) ∙ holds.stored_side,
-      sym (root_capacity (g.size (disk_of tree)) (root_of tree) tree.chart.committed stored (g.seen (disk_of tree)) seen_stores) ∙ holds.stored_capacity,
+      sym (root_side (g.size (disk_of tree)) (root_of tree) tree.page_map.committed stored (g.seen (disk_of tree)) seen_stores) ∙ holds.stored_side,
+      sym (root_capacity (g.size (disk_of tree)) (root_of tree) tree.page_map.committed stored (g.seen (disk_of tree)) seen_stores) ∙ holds.stored_capacity,
     )
 
     -- at one of two

@@ -9,7 +9,7 @@ use Rattle.roots.specs.Opening.{OpensAs}
 use Rattle.roots.proofs.OneAnswer.{only_root}
 use Rattle.calls.specs.State.{Contents}
 use Rattle.cow_tree.specs.Stored.{Stored}
-use Rattle.charts.specs.TileLocations.{TileLocation}
+use Rattle.page_map.specs.TileLocations.{TileLocation}
 use Rattle.cow_tree.specs.Layout.{IsLaidOut, Stands}
 use Rattle.cow_tree.specs.Trees.{MayRefuse}
 use Rattle.cow_tree.proofs.OneStored.{one_stored}

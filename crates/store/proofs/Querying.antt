@@ -12,12 +12,12 @@ use Rattle.calls.specs.Outcomes.{Stays, StaysFailed, Fails}
 use Rattle.calls.specs.State.{State, failing}
 use Rattle.cow_tree.specs.Reading.{mosaic_of, IsReadable, HasOnlyRead}
 use Rattle.cow_tree.specs.Stored.{StoredTile, Stored, AreWhole, mosaic_of_tiles}
-use Rattle.charts.specs.Charts.{ChartValue, HasFreshHeights}
+use Rattle.page_map.specs.PageMaps.{PageMapValue, HasFreshHeights}
 use Rattle.cow_tree.specs.Staged.{pages_due}
 use Rattle.cow_tree.specs.Trees.{disk_of, root_of, has_failed, sinks_of, staged_in, IsAt as IsTreeAt}
 use Rattle.cow_tree.specs.declared.tree.Tree.{Tree}
 use Rattle.drainage.specs.Between.{IsHeldOf}
-use Rattle.drainage.specs.declared.held.Held.{Held}
+use Rattle.drainage.specs.declared.drainage_cache.DrainageCache.{DrainageCache}
 use Rattle.store.specs.Queried.{IsQueried}
 use Rattle.derived.specs.Clean.{IsClean}
 use Rattle.store.specs.TreeStates.{IsInState}
@@ -43,7 +43,7 @@ module _ {D : Type 0} (g : Ghosts D) (tree : Tree D g) (works : has_failed tree 
   mosaic_at = ap (λ (sinks : List Point). mosaic_of_tiles (root_of tree).side sinks (staged_in g tree)) ((at.sound works).none_declared ∙ (at.sound works).holds.sinks) ∙ sym tiles_at.mosaic
 
   -- what is held is right for the tree's mosaic
-  pub right_at : (held : Held) → IsHeldOf s.contents.mosaic held → IsHeldOf (mosaic_of g tree) held
+  pub right_at : (held : DrainageCache) → IsHeldOf s.contents.mosaic held → IsHeldOf (mosaic_of g tree) held
   right_at held = subst (λ (m : Mosaic). IsHeldOf m held) (sym mosaic_at)
 
   pub readable_at : g.honest (disk_of tree) → IsReadable g tree
@@ -88,8 +88,8 @@ module _ {D : Type 0} (g : Ghosts D) (old new : Tree D g) (works : has_failed ol
   -- nothing is staged still
   pub still_clean : (has_failed old ≡ false → IsClean old) → has_failed new ≡ false → IsClean new
   still_clean clean _ = let was = clean works in record {
-    none_staged = λ c staged. was.none_staged c (subst (λ chart. HasFreshHeights c chart) keeps.chart staged);
-    none_due = ap (λ (chart : ChartValue). length (pages_due chart)) keeps.chart ∙ was.none_due;
+    none_staged = λ c staged. was.none_staged c (subst (λ page_map. HasFreshHeights c page_map) keeps.page_map staged);
+    none_due = ap (λ (page_map : PageMapValue). length (pages_due page_map)) keeps.page_map ∙ was.none_due;
     corners = keeps.corners ∙ was.corners ∙ ap (λ (r : RootValue). map (λ e. e.corner) r.entries) (sym keeps.root);
   }
 
@@ -128,7 +128,7 @@ module _ {D : Type 0} (g : Ghosts D) (old new : Tree D g) (works : has_failed ol
         }
 
     -- the answer of a call that the disk alone refuses, and that leaves what is held
-    pub answered : {T : Type 0} (held : Held) → IsHeldOf s.contents.mosaic held → (Answers : State → Result T Refusal → State → Type 0) (result : Result T Refusal)
+    pub answered : {T : Type 0} (held : DrainageCache) → IsHeldOf s.contents.mosaic held → (Answers : State → Result T Refusal → State → Type 0) (result : Result T Refusal)
         → OnOk result (has_failed new ≡ false) → OnErr result (¬ (has_failed new ≡ false)) → IfErr result (λ r. r ≡ Device)
         → Answers s (Err Device) (failing s None) → IfOk result (λ x. Answers s (Ok x) s)
         → (t : State) × (IsHolding g new held t × Answers s result t)

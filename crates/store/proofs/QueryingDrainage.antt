@@ -22,7 +22,7 @@ use Rattle.cow_tree.specs.Trees.{disk_of, root_of, has_failed, corners_of as cor
 use Rattle.cow_tree.specs.declared.tree.Tree.{Tree}
 use Rattle.drainage.specs.Asking.{IsHeldByNone, may_refuse}
 use Rattle.drainage.specs.Between.{IsHeldOf}
-use Rattle.drainage.specs.declared.held.Held.{Held}
+use Rattle.drainage.specs.declared.drainage_cache.DrainageCache.{DrainageCache}
 use Rattle.drainage.proofs.Answered.{told_of_levels}
 use Rattle.flow_d8.specs.Drainage.{AreFilledLevels}
 use Rattle.watershed.specs.Questions.{IsAnswered, IsUnanswered}
@@ -73,11 +73,11 @@ module _ {D : Type 0} (g : Ghosts D) (old new : Tree D g) (works : has_failed ol
       may
 
   -- what is held then is right for the state's mosaic
-  pub right_here : (held : Held) → IsHeldOf (mosaic_of g new) held → IsHeldOf here held
+  pub right_here : (held : DrainageCache) → IsHeldOf (mosaic_of g new) held → IsHeldOf here held
   right_here held = subst (λ (m : Mosaic). IsHeldOf m held) (same_mosaic_read g old new works keeps honest ∙ mosaic_at g old works s at)
 
   -- the answer of a question whose reads the disk alone refuses
-  pub read_answered : {T : Type 0} (held : Held) → IsHeldOf here held → (Answers : State → Result T Refusal → State → Type 0) (result : Result T Refusal) (read : Result (Unit {0}) Refusal) → IfErr read (λ r. result ≡ Err r)
+  pub read_answered : {T : Type 0} (held : DrainageCache) → IsHeldOf here held → (Answers : State → Result T Refusal → State → Type 0) (result : Result T Refusal) (read : Result (Unit {0}) Refusal) → IfErr read (λ r. result ≡ Err r)
       → OnOk read (has_failed new ≡ false) → OnErr read (¬ (has_failed new ≡ false)) → IfErr read (λ r. r ≡ Device)
       → Answers s (Err Device) (failing s None) → (IsOk read → Answers s result s)
       → (t : State) × (IsHolding g new held t × Answers s result t)

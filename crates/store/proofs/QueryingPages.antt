@@ -15,11 +15,11 @@ use Rattle.catalogue.specs.Tiles.{corners_of}
 use Rattle.lattice.proofs.CornerOrder.{before_not_same, same_from}
 use Rattle.catalogue.proofs.Presence.{present_iff, some-samples}
 use Rattle.lattice.proofs.Rising.{Rising}
-use Rattle.charts.specs.TileLocations.{TileLocation}
+use Rattle.page_map.specs.TileLocations.{TileLocation}
 use Rattle.cow_tree.specs.Layout.{tile_in}
 use Rattle.cow_tree.specs.Planes.{HasPage, HasPages}
-use Rattle.charts.specs.declared.plane.Plane.{Plane}
-use Rattle.charts.specs.declared.plane.Plane.TheVariants.{Heights, Levels, Labels}
+use Rattle.page_map.specs.declared.plane.Plane.{Plane}
+use Rattle.page_map.specs.declared.plane.Plane.TheVariants.{Heights, Levels, Labels}
 use Rattle.cow_tree.specs.Stored.{StoredTile, PlanePages, KeptPlanes, plane_bytes}
 use Rattle.cow_tree.specs.Trees.{root_of, has_failed, corners_of as corners_under, staged_in}
 use Rattle.cow_tree.specs.declared.tree.Tree.{Tree}
@@ -131,14 +131,14 @@ module _ {D : Type 0} (g : Ghosts D) (tree : Tree D g) (works : has_failed tree 
       no_samples s.contents.mosaic c (λ has. none (subst (λ (cs : List Corner). Contains cs c) (sym (corners_are g tree works s at)) has))
 
   module _ (present : Contains (corners_under tree) c) where
-    abbrev pub placed : (t : TileLocation) × (Contains tree.chart.staged t × (t.corner ≡ c))
-    placed = located_tile c tree.chart.staged present
+    abbrev pub placed : (t : TileLocation) × (Contains tree.page_map.staged t × (t.corner ≡ c))
+    placed = located_tile c tree.page_map.staged present
 
     abbrev pub tile : StoredTile
     tile = tile_in (g.seen tree.roots.disk) placed.0
 
     tile_there : Contains (staged_in g tree) tile
-    tile_there = contains-map (tile_in (g.seen tree.roots.disk)) tree.chart.staged placed.0 placed.1.0
+    tile_there = contains-map (tile_in (g.seen tree.roots.disk)) tree.page_map.staged placed.0 placed.1.0
 
     pub tile_of : IsTileOf (staged_in g tree) c tile
     tile_of = record {

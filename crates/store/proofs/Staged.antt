@@ -7,4 +7,4 @@ use Rattle.cow_tree.specs.declared.tree.Tree.{Tree}
 use Rattle.cow_tree.proofs.Due.{fresh_due}
 
 pub none_staged : {D : Type 0} (g : Ghosts D) (tree : Tree D g) → records_due tree ≡ 0 → (c : Corner) → ¬ HasStaged tree c
-none_staged g tree none c had = omega (arith, fresh_due tree.chart c had, none)
+none_staged g tree none c had = omega (arith, fresh_due tree.page_map c had, none)

@@ -9,7 +9,7 @@ use Rattle.layout.specs.Formats.{number_of}
 use Rattle.page_codec.specs.Roots.{RootValue}
 use Rattle.calls.specs.State.{Contents, State, failing, working}
 use Rattle.cow_tree.specs.Stored.{StoredTile, Stored}
-use Rattle.charts.specs.TileLocations.{TileLocation}
+use Rattle.page_map.specs.TileLocations.{TileLocation}
 use Rattle.cow_tree.specs.Layout.{StoresAt}
 use Rattle.derived.specs.Kept.{stale_in}
 use Rattle.derived.proofs.RootStored.{root_side, root_version, root_capacity, root_count, root_number, root_sinks, root_stale}

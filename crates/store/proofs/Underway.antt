@@ -14,7 +14,7 @@ use Rattle.lattice.proofs.CornerOrder.{same_says, same_from}
 use Rattle.lattice.proofs.Rising.{AllAfter, Rising}
 use Rattle.catalogue.proofs.Mosaics.{corner_of, rising_tiles}
 use Rattle.edits.specs.Effect.{changed_from, edited}
-use Rattle.charts.specs.declared.plane.Plane.TheVariants.{Heights}
+use Rattle.page_map.specs.declared.plane.Plane.TheVariants.{Heights}
 use Rattle.cow_tree.specs.Planes.{HasPage}
 use Rattle.cow_tree.specs.Stored.{AreWhole, IsPage, PlanePages, KeptPlanes, StoredTile, samples_of_plane, mosaic_of_tiles, with_page_in, with_page}
 use Rattle.store.specs.Staling.{keeper, keepers}

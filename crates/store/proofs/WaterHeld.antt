@@ -14,7 +14,7 @@ use Rattle.calls.specs.Steps.{Steps, StepsNot, Upgrades, UpgradesNot}
 use Rattle.cow_tree.specs.Trees.{disk_of, root_of}
 use Rattle.cow_tree.specs.declared.tree.Tree.{Tree}
 use Rattle.drainage.specs.Between.{IsHeldOf}
-use Rattle.drainage.specs.declared.held.Held.{Held}
+use Rattle.drainage.specs.declared.drainage_cache.DrainageCache.{DrainageCache}
 use Rattle.store.specs.Applied.{IsApplied, command_ending}
 use Rattle.store.specs.Ended.{Ending, EndsAt, HasEnded}
 use Rattle.store.specs.Stepped.{IsStepped, step_ending}
@@ -25,14 +25,14 @@ use Rattle.store.specs.Water.{IsHolding}
 -- ---- commands
 
 -- what is held is right for the mosaic that was, and, where the command was done, for the one that it makes of it
-abbrev pub IsLeftBy : ℕ → Mosaic → Command → Result ℕ Refusal → Held → Type 0
+abbrev pub IsLeftBy : ℕ → Mosaic → Command → Result ℕ Refusal → DrainageCache → Type 0
 IsLeftBy capacity m command result held = IsHeldOf m held × OnOk result ((made : Mosaic) → effect capacity m command ≡ Ok made → IsHeldOf made held)
 
-pub left_by : (capacity : ℕ) (m : Mosaic) (command : Command) (result : Result ℕ Refusal) (held : Held) → IsHeldOf m held → ((made : Mosaic) → effect capacity m command ≡ Ok made → IsHeldOf made held) → IsLeftBy capacity m command result held
+pub left_by : (capacity : ℕ) (m : Mosaic) (command : Command) (result : Result ℕ Refusal) (held : DrainageCache) → IsHeldOf m held → ((made : Mosaic) → effect capacity m command ≡ Ok made → IsHeldOf made held) → IsLeftBy capacity m command result held
 left_by capacity m command (Ok k) held still made = (still, made)
 left_by capacity m command (Err r) held still made = (still, tt)
 
-refused_left : (capacity : ℕ) (m : Mosaic) (command : Command) (result : Result ℕ Refusal) (r : Refusal) (held : Held) → result ≡ Err r → IsHeldOf m held → IsLeftBy capacity m command result held
+refused_left : (capacity : ℕ) (m : Mosaic) (command : Command) (result : Result ℕ Refusal) (r : Refusal) (held : DrainageCache) → result ≡ Err r → IsHeldOf m held → IsLeftBy capacity m command result held
 refused_left capacity m command (Ok k) r held is still = absurd (cc)
 refused_left capacity m command (Err x) r held is still = (still, tt)
 
@@ -44,7 +44,7 @@ refused capacity s c NoMemory t is = ap (λ (z : State). z.contents.mosaic) is.s
 refused capacity s c Worn t is = ap (λ (z : State). z.contents.mosaic) is.stays.same
 refused capacity s c r t is = ap (λ (z : State). z.contents.mosaic) is.stays.same
 
-left_right : (capacity : ℕ) (s t : State) (c : Command) (result : Result ℕ Refusal) (held : Held) → IsLeftBy capacity s.contents.mosaic c result held → Applies capacity s c result t → IsHeldOf t.contents.mosaic held
+left_right : (capacity : ℕ) (s t : State) (c : Command) (result : Result ℕ Refusal) (held : DrainageCache) → IsLeftBy capacity s.contents.mosaic c result held → Applies capacity s c result t → IsHeldOf t.contents.mosaic held
 left_right capacity s t c (Ok k) held left is = subst (λ (z : State). IsHeldOf z.contents.mosaic held) (sym is.effect_is.1.1) (left.1 is.effect_is.0 is.effect_is.1.0)
 left_right capacity s t c (Err r) held left is = subst (λ (m : Mosaic). IsHeldOf m held) (sym (refused capacity s c r t is)) left.0
 
@@ -79,7 +79,7 @@ upgrades room s t (Err r) is = upgrades_not room s r t is
 
 -- ---- an opening, after which nothing is held
 
-module _ {D : Type 0} (g : Ghosts D) (tree : Tree D g) (held : Held) (none : (m : Mosaic) → IsHeldOf m held) where
+module _ {D : Type 0} (g : Ghosts D) (tree : Tree D g) (held : DrainageCache) (none : (m : Mosaic) → IsHeldOf m held) where
   holding_none : (s : State) → IsInState g tree s → IsHolding g tree held s
   holding_none s at = record { in_state = at; right = none s.contents.mosaic }
 
@@ -98,7 +98,7 @@ module _ {D : Type 0} (g : Ghosts D) (tree : Tree D g) (held : Held) (none : (m 
 
 module _ {D : Type 0} (g : Ghosts D) (old new : Tree D g) where
   -- a call that leaves what is held right
-  ended_holding : {T : Type 0} (ending : Ending T) (was now : Held) (result : Result T Refusal)
+  ended_holding : {T : Type 0} (ending : Ending T) (was now : DrainageCache) (result : Result T Refusal)
       → (g.honest (disk_of new) → (s t : State) → IsInState g old s → IsHeldOf s.contents.mosaic was → ending.Happens s result t → IsHeldOf t.contents.mosaic now)
       → HasEnded g ending result old new → EndsAt g ending result old new (λ s. IsHolding g old was s) (λ t. IsHolding g new now t)
   ended_holding ending was now result left is = record {
@@ -122,7 +122,7 @@ module _ {D : Type 0} (g : Ghosts D) (old new : Tree D g) where
   }
 
   -- a command that leaves what is held right
-  pub done_holding : (was now : Held) (c : Command) (result : Result ℕ Refusal)
+  pub done_holding : (was now : DrainageCache) (c : Command) (result : Result ℕ Refusal)
       → (g.honest (disk_of new) → (s : State) → IsInState g old s → IsHeldOf s.contents.mosaic was → IsLeftBy (root_of old).capacity s.contents.mosaic c result now)
       → IsApplied g c result old new → EndsAt g (command_ending (root_of old).capacity c) result old new (λ s. IsHolding g old was s) (λ t. IsHolding g new now t)
   done_holding was now c result left =
@@ -130,19 +130,19 @@ module _ {D : Type 0} (g : Ghosts D) (old new : Tree D g) where
       (λ honest s t at right happens. left_right (root_of old).capacity s t c result now (left honest s at right) happens)
 
   -- a command that is refused, and leaves what is held
-  pub unchanged_holding : (held : Held) (c : Command) (result : Result ℕ Refusal) {r : Refusal} → result ≡ Err r
+  pub unchanged_holding : (held : DrainageCache) (c : Command) (result : Result ℕ Refusal) {r : Refusal} → result ≡ Err r
       → IsApplied g c result old new → EndsAt g (command_ending (root_of old).capacity c) result old new (λ s. IsHolding g old held s) (λ t. IsHolding g new held t)
   unchanged_holding held c result {r} refused = done_holding held held c result (λ honest s at right. refused_left (root_of old).capacity s.contents.mosaic c result r held refused right)
 
   -- a call that leaves the mosaic, and what is held
-  still_holding : {T : Type 0} (ending : Ending T) (held : Held) (result : Result T Refusal) → ((s t : State) → ending.Happens s result t → t.contents.mosaic ≡ s.contents.mosaic)
+  still_holding : {T : Type 0} (ending : Ending T) (held : DrainageCache) (result : Result T Refusal) → ((s t : State) → ending.Happens s result t → t.contents.mosaic ≡ s.contents.mosaic)
       → HasEnded g ending result old new → EndsAt g ending result old new (λ s. IsHolding g old held s) (λ t. IsHolding g new held t)
   still_holding ending held result same =
       ended_holding ending held held result (λ honest s t at right happens. subst (λ (m : Mosaic). IsHeldOf m held) (sym (same s t happens)) right)
 
-  pub stepped_holding : (held : Held) (result : Result (Option Corner) Refusal) → IsStepped g result old new → EndsAt g step_ending result old new (λ s. IsHolding g old held s) (λ t. IsHolding g new held t)
+  pub stepped_holding : (held : DrainageCache) (result : Result (Option Corner) Refusal) → IsStepped g result old new → EndsAt g step_ending result old new (λ s. IsHolding g old held s) (λ t. IsHolding g new held t)
   stepped_holding held result = still_holding step_ending held result (λ s t. steps s t result)
 
-  pub upgraded_holding : (held : Held) (result : Result (Unit {0}) Refusal) → IsUpgraded g result old new
+  pub upgraded_holding : (held : DrainageCache) (result : Result (Unit {0}) Refusal) → IsUpgraded g result old new
       → EndsAt g (upgrade_ending (g.size (disk_of old)) (root_of old)) result old new (λ s. IsHolding g old held s) (λ t. IsHolding g new held t)
   upgraded_holding held result = still_holding (upgrade_ending (g.size (disk_of old)) (root_of old)) held result (λ s t. upgrades _ s t result)

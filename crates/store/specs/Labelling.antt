@@ -1,6 +1,6 @@
 -- What a store's tree reads to flood a tile, or to have its labelling from what is kept (this product's own profile).
 use Rattle.std.specs.Prelude.{◌≡◌, ℕ, List, All, Result, Err, IsOk, IfErr}
-use Rattle.charts.specs.declared.plane.Plane.{Plane}
+use Rattle.page_map.specs.declared.plane.Plane.{Plane}
 use Rattle.disk.specs.declared.disk.Disk.{Ghosts}
 use Rattle.lattice.specs.Corners.{Corner}
 use Rattle.lattice.specs.declared.refusal.Refusal.{Refusal}

@@ -18,7 +18,7 @@ ghost use Rattle.store.specs.Water.{IsHolding};
 use crate::labelling::{Asked, Premise};
 use cow_tree::Tree;
 use disk::Disk;
-use drainage::{Held, direction_held, fill_held, trace_held, watershed_held};
+use drainage::{DrainageCache, direction_held, fill_held, trace_held, watershed_held};
 use lattice::{Point, Refusal};
 use std::alloc::Global;
 use std::marker::PhantomData;
@@ -28,7 +28,7 @@ use watershed::Run;
 pub(crate) fn ask_fill<D: Disk, P: Premise>(
     alloc: Global,
     tree: &mut Tree<D>,
-    held: &mut Held,
+    held: &mut DrainageCache,
     point: Point,
 ) -> Result<i16, Refusal>
     requires works { has_failed tree.old ≡ false }
@@ -50,7 +50,7 @@ pub(crate) fn ask_fill<D: Disk, P: Premise>(
 pub(crate) fn ask_direction<D: Disk, P: Premise>(
     alloc: Global,
     tree: &mut Tree<D>,
-    held: &mut Held,
+    held: &mut DrainageCache,
     point: Point,
 ) -> Result<u8, Refusal>
     requires works { has_failed tree.old ≡ false }
@@ -73,7 +73,7 @@ pub(crate) fn ask_direction<D: Disk, P: Premise>(
 pub(crate) fn ask_trace<D: Disk, P: Premise>(
     alloc: Global,
     tree: &mut Tree<D>,
-    held: &mut Held,
+    held: &mut DrainageCache,
     point: Point,
 ) -> Result<Vec<Point>, Refusal>
     requires works { has_failed tree.old ≡ false }
@@ -96,7 +96,7 @@ pub(crate) fn ask_trace<D: Disk, P: Premise>(
 pub(crate) fn ask_watershed<D: Disk, P: Premise>(
     alloc: Global,
     tree: &mut Tree<D>,
-    held: &mut Held,
+    held: &mut DrainageCache,
     point: Point,
 ) -> Result<Vec<Run>, Refusal>
     requires works { has_failed tree.old ≡ false }

@@ -8,9 +8,9 @@ ghost use Rattle.store.specs.Stores.{disk_of, root_of, has_failed};
 use crate::Store;
 use crate::committing::commit_staged;
 use crate::staging::stage;
-use crate::staling::mark_stale;
+use crate::marking_stale::mark_stale;
 use disk::Disk;
-use drainage::forget_edit;
+use drainage::invalidate_edit;
 use edits::{Command, commands_make_mosaics, edit_of};
 use lattice::Refusal;
 
@@ -39,7 +39,7 @@ impl<D: Disk> Store<D> {
         // By this law what is made is a mosaic.
         commands_make_mosaics();
         // Right for the mosaic as it was and as it becomes, whether the commit is made or not.
-        forget_edit(&mut self.held, &edit);
+        invalidate_edit(&mut self.held, &edit);
         mark_stale(&mut self.tree, &edit);
         let staged = stage(self.alloc, &mut self.tree, &edit);
         commit_staged(&mut self.tree, staged)

@@ -4,9 +4,9 @@ ghost use Rattle.std.proofs.Common.{refl, ◌∙◌};
 ghost use Rattle.lattice.specs.declared.refusal.Refusal.TheVariants.{Damaged, NoMemory};
 ghost use Rattle.catalogue.specs.Endings.{ends_any};
 ghost use Rattle.catalogue.specs.Readers.{reads_of};
-ghost use Rattle.charts.specs.declared.plane.Plane.TheVariants.{Levels, Labels};
+ghost use Rattle.page_map.specs.declared.plane.Plane.TheVariants.{Levels, Labels};
 ghost use Rattle.cow_tree.specs.Reading.{mosaic_of, HasOnlyRead, Reads, read_nothing, read_again, corners_in_mosaic};
-ghost use Rattle.cow_tree.specs.Trees.{disk_of as disk_under, root_of as root_under, chart_of, corners_of, sinks_of, staged_in, has_failed as have_failed, Holds};
+ghost use Rattle.cow_tree.specs.Trees.{disk_of as disk_under, root_of as root_under, page_map_of, corners_of, sinks_of, staged_in, has_failed as have_failed, Holds};
 ghost use Rattle.cow_tree.specs.Stored.{StoredTile, KeptPlanes as KeptPages, plane_bytes};
 ghost use Rattle.tile_labellings.specs.Labellings.{IsFlooded};
 ghost use Rattle.tile_labellings.specs.Spots.{IsLabelledAt};
@@ -66,7 +66,7 @@ impl<'a, D: Disk, P: Premise> Samples for Asked<'a, D, P> {
 
     ghost same_side = { λ _ _. refl };
 
-    ghost same_corners = { λ asked _. corners_in_mosaic (root_under asked.tree.now).side (sinks_of asked.tree.now) (D.seen (disk_under asked.tree.now)) (chart_of asked.tree.now).staged };
+    ghost same_corners = { λ asked _. corners_in_mosaic (root_under asked.tree.now).side (sinks_of asked.tree.now) (D.seen (disk_under asked.tree.now)) (page_map_of asked.tree.now).staged };
 
     ghost same_sinks = { λ _ _. refl };
 

@@ -27,7 +27,7 @@ mod rims;
 mod running;
 mod sessions;
 mod staging;
-mod staling;
+mod marking_stale;
 mod stepping;
 mod store;
 mod store_engine;

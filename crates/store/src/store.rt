@@ -20,7 +20,7 @@ ghost use Rattle.derived.specs.Clean.{IsClean};
 
 use cow_tree::{NotOpened, Tree};
 use disk::Disk;
-use drainage::Held;
+use drainage::DrainageCache;
 use lattice::{Corner, Refusal, Side};
 use page_codec::{Format, Version};
 use std::alloc::Global;
@@ -35,7 +35,7 @@ pub struct Store<D: Disk> {
     pub(crate) alloc: Global,
     pub(crate) tree: Tree<D>,
     // What questions found of the mosaic's water. In each state that the store may be in it is right.
-    pub(crate) held: Held,
+    pub(crate) held: DrainageCache,
     // Between two calls nothing is staged.
     ghost clean: { have_failed tree ≡ false → IsClean tree },
 }
@@ -109,7 +109,7 @@ impl<D: Disk> Store<D> {
             Ok(tree) => Ok(Store {
                 alloc,
                 tree,
-                held: Held::new(),
+                held: DrainageCache::new(),
             }),
             Err(refused) => Err(refused),
         }

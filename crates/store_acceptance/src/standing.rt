@@ -1,7 +1,7 @@
 //! How a store of side 3 stands after changes, as the plain programs say.
 ghost use Rattle.lattice.specs.Ground.{terrain};
 ghost use Rattle.flow_d8.specs.Drainage.{AreFilledLevels};
-ghost use Rattle.plain.specs.Levels.{level_of};
+ghost use Rattle.reference.specs.Levels.{level_of};
 
 use super::change::Change;
 use super::fixtures::at;
@@ -9,7 +9,7 @@ use super::script::command;
 use calls::{Event, Reply};
 use disk::Disk;
 use lattice::{Height, Point, Refusal, Side};
-use plain::{Levels, Plain};
+use reference::{Levels, Plain};
 use std::alloc::Global;
 use std::test::Fail;
 use store::Store;
@@ -55,7 +55,7 @@ impl Model {
         match change {
             Change::Do(asked) => {
                 let command = command(self.alloc, asked)?;
-                self.mosaic = plain::effect(self.alloc, self.capacity, &self.mosaic, &command)?;
+                self.mosaic = reference::effect(self.alloc, self.capacity, &self.mosaic, &command)?;
                 self.count = self.count.saturating_add(1);
                 self.fresh = 0;
             }
@@ -131,11 +131,11 @@ impl Standing {
     }
 
     fn add_points(&mut self, alloc: Global, mosaic: &Plain) -> Result<(), Fail> {
-        let levels = plain::filled_levels(alloc, mosaic)?;
+        let levels = reference::filled_levels(alloc, mosaic)?;
         self.add_water(alloc, mosaic, &levels, at(FOLLOWED.0, FOLLOWED.1))?;
         for (y, x) in POINTS {
             let point = at(y, x);
-            let height = plain::height(mosaic, point);
+            let height = reference::height(mosaic, point);
             let level = match levels.get(point) {
                 Some(level) => Reply::Fill(level),
                 None => Reply::Refused(refusal_of(height)),
@@ -155,20 +155,20 @@ impl Standing {
     ) -> Result<(), Fail>
         requires { AreFilledLevels (terrain mosaic.now) (level_of levels.now) }
     {
-        if !plain::is_ground(mosaic, point) {
-            let refusal = refusal_of(plain::height(mosaic, point));
+        if !reference::is_ground(mosaic, point) {
+            let refusal = refusal_of(reference::height(mosaic, point));
             self.add(Event::Direction(point), Reply::Refused(refusal))?;
             self.add(Event::Trace(point), Reply::Refused(refusal))?;
             return self.add(Event::Watershed(point), Reply::Refused(refusal));
         }
-        let code = match plain::direction(alloc, mosaic, levels, point)? {
+        let code = match reference::direction(alloc, mosaic, levels, point)? {
             Some(direction) => direction.code(),
             None => 0,
         };
         self.add(Event::Direction(point), Reply::Direction(code))?;
-        let path = plain::flow_path(alloc, mosaic, levels, point)?;
+        let path = reference::flow_path(alloc, mosaic, levels, point)?;
         self.add(Event::Trace(point), Reply::Trace(path))?;
-        let runs = plain::watershed(alloc, mosaic, levels, point)?;
+        let runs = reference::watershed(alloc, mosaic, levels, point)?;
         self.add(Event::Watershed(point), Reply::Watershed(runs))
     }
 }

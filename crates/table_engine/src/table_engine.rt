@@ -7,7 +7,7 @@ ghost use Rattle.calls.specs.State.{fresh};
 ghost use Rattle.table_engine.specs.TableState.{stale_among};
 
 use catalogue::{Samples, Table, height};
-use drainage::forget_edit;
+use drainage::invalidate_edit;
 use edits::{Command, Edit, carry_out, commands_make_mosaics, edit_of, leaves_stale};
 use engine::Engine;
 use lattice::{Corner, Height, MOST_TILES, Point, Refusal, Side};
@@ -26,13 +26,13 @@ pub struct TableEngine {
     number: u64,
     fresh: Vec<Corner>,
     // What questions found of the mosaic's water.
-    held: drainage::Held,
+    held: drainage::DrainageCache,
 }
 
 impl Model for TableEngine {
-    ghost use Rattle.table_engine.specs.TableState.{Held, held_of, IsKept};
+    ghost use Rattle.table_engine.specs.TableState.{DrainageCache, held_of, IsKept};
 
-    ghost Value = { Held };
+    ghost Value = { DrainageCache };
 
     ghost view = { λ e. held_of e.capacity e.table e.fresh.items e.count e.number };
 
@@ -53,7 +53,7 @@ impl TableEngine {
             count: 0,
             number: 1,
             fresh: Vec::new(alloc),
-            held: drainage::Held::new(),
+            held: drainage::DrainageCache::new(),
         }
     }
 }
@@ -106,7 +106,7 @@ impl Engine for TableEngine {
             return Err(Refusal::Worn);
         }
         let fresh = still_fresh(self.alloc, &self.table, &edit, &self.fresh)?;
-        forget_edit(&mut self.held, &edit);
+        invalidate_edit(&mut self.held, &edit);
         carry_out(self.alloc, &edit, &mut self.table)?;
         // By this law the capacity is kept.
         commands_make_mosaics();

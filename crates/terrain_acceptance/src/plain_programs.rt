@@ -3,7 +3,7 @@ use crate::asserting::assert_row;
 use crate::script::{A, B, C, D, WIDE, at};
 use edits::{Bytes, Command};
 use lattice::{Corner, Height, Refusal, Side};
-use plain::{Plain, effect, filled_levels, flat_distance, is_adjacent, is_ground, is_outlet};
+use reference::{Plain, effect, filled_levels, flat_distance, is_adjacent, is_ground, is_outlet};
 use std::alloc::{AllocError, Global};
 use std::test::Fail;
 
@@ -56,7 +56,7 @@ const HEIGHTS: [(&[Tile], i32, i32, Height); 16] = [
 fn heights_of_points(rt: HostRuntime) -> Result<(), Fail> {
     for (row, (tiles, y, x, height)) in HEIGHTS.iter().enumerate() {
         let mosaic = mosaic(rt.alloc(), 3, tiles)?;
-        let is_right = plain::height(&mosaic, at(*y, *x)) == *height;
+        let is_right = reference::height(&mosaic, at(*y, *x)) == *height;
         assert_row(&rt, is_right, "the height of row", row as u64);
     }
     Ok(())

@@ -6,7 +6,7 @@ use arrayvec::ArrayVec;
 use catalogue::{Samples, Table};
 use edits::{Bytes, Command, carry_out, edit_of};
 use lattice::{Corner, Height, Point, Refusal, Side};
-use plain::Plain;
+use reference::Plain;
 use std::alloc::{AllocError, Global};
 use std::process::Abort;
 use std::test::Fail;
@@ -327,7 +327,7 @@ struct OnPlain {
 
 // Why a point that isn't ground isn't.
 fn refusal(mosaic: &Plain, point: Point) -> Refusal {
-    match plain::height(mosaic, point) {
+    match reference::height(mosaic, point) {
         Height::Outside => Refusal::Outside,
         _ => Refusal::Void,
     }
@@ -335,41 +335,41 @@ fn refusal(mosaic: &Plain, point: Point) -> Refusal {
 
 impl Mosaic for OnPlain {
     fn apply(&mut self, command: &Command) -> Result<(), Refusal> {
-        self.mosaic = plain::effect(self.alloc, self.capacity, &self.mosaic, command)?;
+        self.mosaic = reference::effect(self.alloc, self.capacity, &self.mosaic, command)?;
         Ok(())
     }
 
     fn elevation(&mut self, point: Point) -> Result<Height, Refusal> {
-        Ok(plain::height(&self.mosaic, point))
+        Ok(reference::height(&self.mosaic, point))
     }
 
     fn fill(&mut self, point: Point) -> Result<i16, Refusal> {
-        let levels = plain::filled_levels(self.alloc, &self.mosaic)?;
+        let levels = reference::filled_levels(self.alloc, &self.mosaic)?;
         levels.get(point).ok_or(refusal(&self.mosaic, point))
     }
 
     fn direction(&mut self, point: Point) -> Result<u8, Refusal> {
-        let levels = plain::filled_levels(self.alloc, &self.mosaic)?;
-        if !plain::is_ground(&self.mosaic, point) {
+        let levels = reference::filled_levels(self.alloc, &self.mosaic)?;
+        if !reference::is_ground(&self.mosaic, point) {
             return Err(refusal(&self.mosaic, point));
         }
-        match plain::direction(self.alloc, &self.mosaic, &levels, point)? {
+        match reference::direction(self.alloc, &self.mosaic, &levels, point)? {
             Some(direction) => Ok(direction.code()),
             None => Ok(0),
         }
     }
 
     fn trace(&mut self, point: Point) -> Result<Vec<Point>, Refusal> {
-        let levels = plain::filled_levels(self.alloc, &self.mosaic)?;
-        if !plain::is_ground(&self.mosaic, point) {
+        let levels = reference::filled_levels(self.alloc, &self.mosaic)?;
+        if !reference::is_ground(&self.mosaic, point) {
             return Err(refusal(&self.mosaic, point));
         }
-        Ok(plain::flow_path(self.alloc, &self.mosaic, &levels, point)?)
+        Ok(reference::flow_path(self.alloc, &self.mosaic, &levels, point)?)
     }
 
     fn watershed(&mut self, point: Point) -> Result<Vec<Run>, Refusal> {
-        let levels = plain::filled_levels(self.alloc, &self.mosaic)?;
-        Ok(plain::watershed(self.alloc, &self.mosaic, &levels, point)?)
+        let levels = reference::filled_levels(self.alloc, &self.mosaic)?;
+        Ok(reference::watershed(self.alloc, &self.mosaic, &levels, point)?)
     }
 
     // Of the points of two tiles, and of those around them.
@@ -377,7 +377,7 @@ impl Mosaic for OnPlain {
         let mut count: u64 = 0;
         for number in 0..48_i32 {
             let point = at(number / 8 - 2, number % 8 - 2);
-            count = count.saturating_add(u64::from(plain::disagrees(&self.mosaic, point)));
+            count = count.saturating_add(u64::from(reference::disagrees(&self.mosaic, point)));
         }
         Ok(count)
     }

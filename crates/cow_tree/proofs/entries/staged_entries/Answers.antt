@@ -3,7 +3,7 @@ use Rattle.std.specs.Prelude.{All}
 use Rattle.std.proofs.lemmas.List.{take_all, length-map}
 use Rattle.page_codec.specs.Entries.{IsEntry}
 use Rattle.page_codec.specs.Roots.{AreInOrder}
-use Rattle.charts.specs.TileLocations.{TileLocation}
+use Rattle.page_map.specs.TileLocations.{TileLocation}
 use Rattle.cow_tree.specs.Entries.{entry_of}
 use Rattle.cow_tree.proofs.EntryTiles.{entries_rules, entries_in_order, one_entry_more}
 use Rattle.cow_tree.proofs.entries.staged_entries.Goals as goal
@@ -12,17 +12,17 @@ use Rattle.cow_tree.proofs.entries.staged_entries.Goals.{After-loop-corner}
 pub loop-corner-preserved : goal.loop-corner-preserved
 loop-corner-preserved c =
     let listed = c.as_slice-corner-items.ensures.value ∙ c.corners-corners.ensures.value in
-    rw c.push.ensures.items (one_entry_more c.args.chart.now.staged c.loop-corner.corner-index c.corner-item.result c.loop-corner.entries.items _
+    rw c.push.ensures.items (one_entry_more c.args.page_map.now.staged c.loop-corner.corner-index c.corner-item.result c.loop-corner.entries.items _
     (rw listed at c.loop-corner-test.true) (rw listed at c.corner-item.is) c.loop-corner.invariant c.entry_at.ensures)
 
-all_listed : (c : After-loop-corner) → c.loop-corner.entries.items ≡ map entry_of c.args.chart.now.staged
+all_listed : (c : After-loop-corner) → c.loop-corner.entries.items ≡ map entry_of c.args.page_map.now.staged
 all_listed c =
-    let all : length c.args.chart.now.staged ≤ c.loop-corner.corner-index =
-    omega (arith, c.loop-corner-test.false, ap length (c.as_slice-corner-items.ensures.value ∙ c.corners-corners.ensures.value), length-map c.args.chart.now.staged (λ (t : TileLocation). t.corner)) in
-    c.loop-corner.invariant ∙ ap (map entry_of) (take_all c.loop-corner.corner-index c.args.chart.now.staged all)
+    let all : length c.args.page_map.now.staged ≤ c.loop-corner.corner-index =
+    omega (arith, c.loop-corner-test.false, ap length (c.as_slice-corner-items.ensures.value ∙ c.corners-corners.ensures.value), length-map c.args.page_map.now.staged (λ (t : TileLocation). t.corner)) in
+    c.loop-corner.invariant ∙ ap (map entry_of) (take_all c.loop-corner.corner-index c.args.page_map.now.staged all)
 
 pub returns-clause-each : goal.returns-clause-each
-returns-clause-each c = subst (All IsEntry) (sym (all_listed (goal.at.returns-clause-each c).After-loop-corner)) (entries_rules c.args.chart.now c.rules.ensures c.requires.fits)
+returns-clause-each c = subst (All IsEntry) (sym (all_listed (goal.at.returns-clause-each c).After-loop-corner)) (entries_rules c.args.page_map.now c.rules.ensures c.requires.fits)
 
 pub returns-clause-in_order : goal.returns-clause-in_order
-returns-clause-in_order c = subst AreInOrder (sym (all_listed (goal.at.returns-clause-in_order c).After-loop-corner)) (entries_in_order c.args.chart.now c.rules.ensures)
+returns-clause-in_order c = subst AreInOrder (sym (all_listed (goal.at.returns-clause-in_order c).After-loop-corner)) (entries_in_order c.args.page_map.now c.rules.ensures)

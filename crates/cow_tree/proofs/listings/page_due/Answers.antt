@@ -1,8 +1,8 @@
 use Rattle.std.proofs.Common.{◌∙◌, sym, ap}
 use Rattle.std.specs.Prelude.{slice_index}
 use Rattle.std.proofs.lemmas.Option.{slice_get-get_or}
-use Rattle.charts.specs.Charts.{is_unreached, page_if}
-use Rattle.charts.specs.Locations.{listing_of}
+use Rattle.page_map.specs.PageMaps.{is_unreached, page_if}
+use Rattle.page_map.specs.Locations.{listing_of}
 use Rattle.cow_tree.specs.declared.listings.Listings.{Listings}
 use Rattle.cow_tree.specs.Listings.{written_before}
 use Rattle.cow_tree.proofs.listings.page_due.Goals as goal
@@ -11,10 +11,10 @@ pub returns-in-All : goal.returns-in-All
 returns-in-All c =
     let plane = c.args.plane.now in
     c.listing_page.ensures ∙ slice_get-get_or (listing_of plane) c.args.i 0 c.requires.index
-    ∙ ap (λ (w : Listings). page_if (is_unreached (written_before w c.args.chart.now) (slice_index (listing_of plane) c.args.i)) (slice_index (listing_of plane) c.args.i)) (sym c.in-All.is)
+    ∙ ap (λ (w : Listings). page_if (is_unreached (written_before w c.args.page_map.now) (slice_index (listing_of plane) c.args.i)) (slice_index (listing_of plane) c.args.i)) (sym c.in-All.is)
 
 pub returns-in-Due : goal.returns-in-Due
 returns-in-Due c =
     let plane = c.args.plane.now in
     c.page_due.ensures plane c.requires.here c.requires.index
-    ∙ ap (λ (w : Listings). page_if (is_unreached (written_before w c.args.chart.now) (slice_index (listing_of plane) c.args.i)) (slice_index (listing_of plane) c.args.i)) (sym c.in-Due.is)
+    ∙ ap (λ (w : Listings). page_if (is_unreached (written_before w c.args.page_map.now) (slice_index (listing_of plane) c.args.i)) (slice_index (listing_of plane) c.args.i)) (sym c.in-Due.is)

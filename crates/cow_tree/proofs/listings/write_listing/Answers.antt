@@ -2,7 +2,7 @@ use Rattle.std.proofs.Common.{◌≡◌, ◌<◌, ◌≤◌, ℕ, List, Result, 
 use Rattle.std.proofs.lemmas.Result.{err_from_is_err_and}
 use Rattle.lattice.specs.declared.refusal.Refusal.{Refusal}
 use Rattle.page_codec.specs.Formats.{Format}
-use Rattle.charts.specs.Locations.{listing_of}
+use Rattle.page_map.specs.Locations.{listing_of}
 use Rattle.cow_tree.specs.Listings.{ListingPage, WritesListing, due_among, listing_bytes, plane_listing, written_before}
 use Rattle.cow_tree.proofs.ListingPages.{none_listed}
 use Rattle.cow_tree.proofs.PageWrites.{one_written}
@@ -12,16 +12,16 @@ use Rattle.cow_tree.proofs.listings.write_listing.Goals.{After-page_due, in-Some
 
 -- the plane, and the page of this turn
 module _ (g : _) (c : After-page_due g) where
-  there : IsPlaneAt c.args.chart.now c.in-Some.plane.now
-  there = plane_there c.args.chart.now c.rules.ensures c.args.corner c.args.name c.in-Some.plane.now c.in-Some.ensures.found
+  there : IsPlaneAt c.args.page_map.now c.in-Some.plane.now
+  there = plane_there c.args.page_map.now c.rules.ensures c.args.corner c.args.name c.in-Some.plane.now c.in-Some.ensures.found
 
   within : c.loop-i.i < length (listing_of c.in-Some.plane.now)
   within = omega (arith, c.loop-i-test.true, c.listing_len-i-end.ensures)
 
 pub returns-in_default : goal.returns-in_default
 returns-in_default g c t among at =
-    subst (λ (l : List ListingPage). WritesListing {T = Unit {0}} g.D.Disk (due_among (written_before c.args.which c.args.chart.now) l) c.args.roots.now c.args.roots.now (Ok tt))
-    (sym (no_plane c.args.chart.now c.rules.ensures c.args.corner c.args.name c.in_default.ensures.none t among at))
+    subst (λ (l : List ListingPage). WritesListing {T = Unit {0}} g.D.Disk (due_among (written_before c.args.which c.args.page_map.now) l) c.args.roots.now c.args.roots.now (Ok tt))
+    (sym (no_plane c.args.page_map.now c.rules.ensures c.args.corner c.args.name c.in_default.ensures.none t among at))
     (none_listed g.D.Disk g.met.D.Disk.only_now c.args.roots.now c.requires.not_failed)
 
 pub loop-i-init : goal.loop-i-init
@@ -30,62 +30,62 @@ loop-i-init g c = none_listed g.D.Disk g.met.D.Disk.only_now c.args.roots.now c.
 pub write-requires-clause-page : goal.write-requires-clause-page
 write-requires-clause-page g c =
     let at = (goal.at.write-requires-clause-page g c).After-page_due in
-    let chart = c.args.chart.now in
+    let page_map = c.args.page_map.now in
     let plane = c.in-Some.plane.now in
-    subst (λ (p : ℕ). 4 ≤ p) (number_is chart c.rules.ensures plane (there g at) (written_before c.args.which chart) c.loop-i.i (within g at) c.in-Some-page_due.page (sym c.in-Some-page_due.ensures))
-    (page_low chart c.rules.ensures plane (there g at) (written_before c.args.which chart) c.loop-i.i (within g at))
+    subst (λ (p : ℕ). 4 ≤ p) (number_is page_map c.rules.ensures plane (there g at) (written_before c.args.which page_map) c.loop-i.i (within g at) c.in-Some-page_due.page (sym c.in-Some-page_due.ensures))
+    (page_low page_map c.rules.ensures plane (there g at) (written_before c.args.which page_map) c.loop-i.i (within g at))
 
 pub write-requires-clause-in_range : goal.write-requires-clause-in_range
 write-requires-clause-in_range g c =
     let at = (goal.at.write-requires-clause-in_range g c).After-page_due in
-    let chart = c.args.chart.now in
+    let page_map = c.args.page_map.now in
     let plane = c.in-Some.plane.now in
-    let high = page_high chart c.rules.ensures plane (there g at) (written_before c.args.which chart) c.loop-i.i (within g at) in
-    let same = number_is chart c.rules.ensures plane (there g at) (written_before c.args.which chart) c.loop-i.i (within g at) c.in-Some-page_due.page (sym c.in-Some-page_due.ensures) in
+    let high = page_high page_map c.rules.ensures plane (there g at) (written_before c.args.which page_map) c.loop-i.i (within g at) in
+    let same = number_is page_map c.rules.ensures plane (there g at) (written_before c.args.which page_map) c.loop-i.i (within g at) c.in-Some-page_due.page (sym c.in-Some-page_due.ensures) in
     omega (arith, high, same, c.requires.sectors, c.loop-i.invariant.pages.size)
 
 pub returns-in_err-write : goal.returns-in_err-write
 returns-in_err-write g c t among at_corner =
     let at = (goal.at.returns-in_err-write g c).After-page_due in
     let d = g.D.Disk in
-    let chart = c.args.chart.now in
+    let page_map = c.args.page_map.now in
     let plane = c.in-Some.plane.now in
-    let before = written_before c.args.which chart in
+    let before = written_before c.args.which page_map in
     let why : Refusal = c.in_err-write.field-0.0 in
     let refused = c.in_err-write.ensures in
     let p = err_from_is_err_and c.from_residual.result c.from_residual.ensures.1 in
     let ended : c.from_residual.result ≡ Err why = p.1 ∙ ap (λ (r : Refusal). Err r) p.2 in
     let wrote = one_written d c.loop-i.roots c.write.new.self c.in-Some-page_due.page (Err why) refused.size refused.cause refused.refused refused.writes refused.begun refused.honest refused.root refused.not_failed refused.failed refused.ready refused.others refused.any_moment in
     subst (λ (l : List ListingPage). WritesListing d (due_among before l) c.args.roots.now c.write.new.self c.from_residual.result)
-    (sym (plane_is chart c.rules.ensures c.args.corner c.args.name plane c.in-Some.ensures.found t among at_corner))
-    (subst (λ (r : Result (Unit {0}) Refusal). WritesListing d (due_among before (plane_listing chart.format plane)) c.args.roots.now c.write.new.self r) (sym ended)
-    (page_refused chart c.rules.ensures plane (there g at) before c.loop-i.i (within g at) d c.args.roots.now c.loop-i.roots c.write.new.self c.in-Some-page_due.page why (sym c.in-Some-page_due.ensures) c.loop-i.invariant wrote))
+    (sym (plane_is page_map c.rules.ensures c.args.corner c.args.name plane c.in-Some.ensures.found t among at_corner))
+    (subst (λ (r : Result (Unit {0}) Refusal). WritesListing d (due_among before (plane_listing page_map.format plane)) c.args.roots.now c.write.new.self r) (sym ended)
+    (page_refused page_map c.rules.ensures plane (there g at) before c.loop-i.i (within g at) d c.args.roots.now c.loop-i.roots c.write.new.self c.in-Some-page_due.page why (sym c.in-Some-page_due.ensures) c.loop-i.invariant wrote))
 
 pub loop-i-preserved : goal.loop-i-preserved
 loop-i-preserved g c =
     let at = (goal.at.loop-i-preserved g c).After-page_due in
     let d = g.D.Disk in
-    let chart = c.args.chart.now in
+    let page_map = c.args.page_map.now in
     let plane = c.in-Some.plane.now in
-    let before = written_before c.args.which chart in
+    let before = written_before c.args.which page_map in
     elim c.match-page_due.branch [
       | in-Some-page_due+in_ok-write w ↦ (
           let done = w.in_ok-write.ensures in
           let wrote = one_written d c.loop-i.roots w.write.new.self w.in-Some-page_due.page (Ok tt) done.size done.cause done.refused done.writes done.begun done.honest done.root done.not_failed done.failed done.ready done.others done.any_moment in
           rw w.roots-is
-          (page_more chart c.rules.ensures plane (there g at) before c.loop-i.i (within g at) d c.args.roots.now c.loop-i.roots w.write.new.self w.in-Some-page_due.page (Ok tt) (sym w.in-Some-page_due.ensures) c.loop-i.invariant wrote
+          (page_more page_map c.rules.ensures plane (there g at) before c.loop-i.i (within g at) d c.args.roots.now c.loop-i.roots w.write.new.self w.in-Some-page_due.page (Ok tt) (sym w.in-Some-page_due.ensures) c.loop-i.invariant wrote
           (λ honest. done.written honest ∙ w.listing_page.ensures ∙ ap (λ (f : Format). listing_bytes f plane c.loop-i.i) w.format.ensures))
           )
       | in_default-page_due w ↦
-          rw w.roots-is (page_passed chart c.rules.ensures plane (there g at) before c.loop-i.i (within g at) d c.args.roots.now c.loop-i.roots (sym w.in_default-page_due.ensures) c.loop-i.invariant)
+          rw w.roots-is (page_passed page_map c.rules.ensures plane (there g at) before c.loop-i.i (within g at) d c.args.roots.now c.loop-i.roots (sym w.in_default-page_due.ensures) c.loop-i.invariant)
     ]
 
 pub returns : goal.returns
 returns g c t among at_corner =
-    let chart = c.args.chart.now in
+    let page_map = c.args.page_map.now in
     let plane = c.in-Some.plane.now in
-    let before = written_before c.args.which chart in
-    let is = plane_there chart c.rules.ensures c.args.corner c.args.name plane c.in-Some.ensures.found in
+    let before = written_before c.args.which page_map in
+    let is = plane_there page_map c.rules.ensures c.args.corner c.args.name plane c.in-Some.ensures.found in
     subst (λ (l : List ListingPage). WritesListing {T = Unit {0}} g.D.Disk (due_among before l) c.args.roots.now c.loop-i.roots (Ok tt))
-    (sym (plane_is chart c.rules.ensures c.args.corner c.args.name plane c.in-Some.ensures.found t among at_corner))
-    (subst (λ (l : List ListingPage). WritesListing {T = Unit {0}} g.D.Disk l c.args.roots.now c.loop-i.roots (Ok tt)) (all_due chart c.rules.ensures plane is before c.loop-i.i (omega (arith, c.loop-i-test.false, c.listing_len-i-end.ensures))) c.loop-i.invariant)
+    (sym (plane_is page_map c.rules.ensures c.args.corner c.args.name plane c.in-Some.ensures.found t among at_corner))
+    (subst (λ (l : List ListingPage). WritesListing {T = Unit {0}} g.D.Disk l c.args.roots.now c.loop-i.roots (Ok tt)) (all_due page_map c.rules.ensures plane is before c.loop-i.i (omega (arith, c.loop-i-test.false, c.listing_len-i-end.ensures))) c.loop-i.invariant)

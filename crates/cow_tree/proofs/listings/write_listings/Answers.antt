@@ -3,8 +3,8 @@ use Rattle.std.proofs.lemmas.List.{length-map}
 use Rattle.std.proofs.lemmas.Result.{err_from_is_err_and}
 use Rattle.lattice.specs.Corners.{Corner}
 use Rattle.lattice.specs.declared.refusal.Refusal.{Refusal}
-use Rattle.charts.specs.Charts.{corners_of_locations}
-use Rattle.charts.specs.TileLocations.{TileLocation}
+use Rattle.page_map.specs.PageMaps.{corners_of_locations}
+use Rattle.page_map.specs.TileLocations.{TileLocation}
 use Rattle.cow_tree.specs.Listings.{ListingPage, WritesListing, due_among, tiles_listing, written_before}
 use Rattle.cow_tree.proofs.EntryTiles.{tile_at, corner_located}
 use Rattle.cow_tree.proofs.ListingPages.{none_listed}
@@ -15,7 +15,7 @@ use Rattle.cow_tree.proofs.listings.write_listings.Goals.{After-write_tile}
 -- the tile of this turn
 module _ (g : _) (c : After-write_tile g) where
   abbrev tiles : List TileLocation
-  tiles = c.args.chart.now.staged
+  tiles = c.args.page_map.now.staged
 
   corners : c.as_slice-corner-items.result.now ≡ corners_of_locations tiles
   corners = c.as_slice-corner-items.ensures.value ∙ c.corners-corners.ensures.value
@@ -28,8 +28,8 @@ module _ (g : _) (c : After-write_tile g) where
 
 pub write_tile-requires-clause-present : goal.write_tile-requires-clause-present
 write_tile-requires-clause-present g c =
-    let corners : c.as_slice-corner-items.result.now ≡ corners_of_locations c.args.chart.now.staged = c.as_slice-corner-items.ensures.value ∙ c.corners-corners.ensures.value in
-    corner_located c.args.chart.now.staged c.loop-corner.corner-index c.corner-item.result (rw corners at c.loop-corner-test.true) (rw corners at c.corner-item.is)
+    let corners : c.as_slice-corner-items.result.now ≡ corners_of_locations c.args.page_map.now.staged = c.as_slice-corner-items.ensures.value ∙ c.corners-corners.ensures.value in
+    corner_located c.args.page_map.now.staged c.loop-corner.corner-index c.corner-item.result (rw corners at c.loop-corner-test.true) (rw corners at c.corner-item.is)
 
 pub loop-corner-init : goal.loop-corner-init
 loop-corner-init g c = none_listed g.D.Disk g.met.D.Disk.only_now c.args.roots.now c.requires.not_failed
@@ -37,27 +37,27 @@ loop-corner-init g c = none_listed g.D.Disk g.met.D.Disk.only_now c.args.roots.n
 pub returns-in_err-write_tile : goal.returns-in_err-write_tile
 returns-in_err-write_tile g c =
     let at = (goal.at.returns-in_err-write_tile g c).After-write_tile in
-    let chart = c.args.chart.now in
-    let before = written_before c.args.which chart in
+    let page_map = c.args.page_map.now in
+    let before = written_before c.args.which page_map in
     let t = next g at in
     let why : Refusal = c.in_err-write_tile.field-0.0 in
     let p = err_from_is_err_and c.from_residual.result c.from_residual.ensures.1 in
     let ended : c.from_residual.result ≡ Err why = p.1 ∙ ap (λ (r : Refusal). Err r) p.2 in
-    subst (λ (r : Result (Unit {0}) Refusal). WritesListing g.D.Disk (due_among before (tiles_listing chart.format chart.staged)) c.args.roots.now c.write_tile.new.roots r) (sym ended)
-    (one_refused g.D.Disk chart c.rules.ensures before c.loop-corner.corner-index t.0 t.1.0 t.1.1.0 c.args.roots.now c.loop-corner.roots c.write_tile.new.roots why c.loop-corner.invariant
+    subst (λ (r : Result (Unit {0}) Refusal). WritesListing g.D.Disk (due_among before (tiles_listing page_map.format page_map.staged)) c.args.roots.now c.write_tile.new.roots r) (sym ended)
+    (one_refused g.D.Disk page_map c.rules.ensures before c.loop-corner.corner-index t.0 t.1.0 t.1.1.0 c.args.roots.now c.loop-corner.roots c.write_tile.new.roots why c.loop-corner.invariant
     (c.in_err-write_tile.ensures t.0 (among g at) t.1.1.1))
 
 pub loop-corner-preserved : goal.loop-corner-preserved
 loop-corner-preserved g c =
     let at = (goal.at.loop-corner-preserved g c).After-write_tile in
-    let chart = c.args.chart.now in
+    let page_map = c.args.page_map.now in
     let t = next g at in
-    one_more g.D.Disk chart c.rules.ensures (written_before c.args.which chart) c.loop-corner.corner-index t.0 t.1.0 t.1.1.0 c.args.roots.now c.loop-corner.roots c.write_tile.new.roots (Ok tt) c.loop-corner.invariant
+    one_more g.D.Disk page_map c.rules.ensures (written_before c.args.which page_map) c.loop-corner.corner-index t.0 t.1.0 t.1.1.0 c.args.roots.now c.loop-corner.roots c.write_tile.new.roots (Ok tt) c.loop-corner.invariant
     (c.in_ok-write_tile.ensures t.0 (among g at) t.1.1.1)
 
 pub returns : goal.returns
 returns g c =
-    let chart = c.args.chart.now in
-    let before = written_before c.args.which chart in
-    let long : length c.as_slice-corner-items.result.now ≡ length chart.staged = ap (λ (cs : List Corner). length cs) (c.as_slice-corner-items.ensures.value ∙ c.corners-corners.ensures.value) ∙ length-map chart.staged (λ (t : TileLocation). t.corner) in
-    subst (λ (l : List ListingPage). WritesListing {T = Unit {0}} g.D.Disk l c.args.roots.now c.loop-corner.roots (Ok tt)) (first_all g.D.Disk chart c.rules.ensures before c.loop-corner.corner-index (omega (arith, c.loop-corner-test.false, long))) c.loop-corner.invariant
+    let page_map = c.args.page_map.now in
+    let before = written_before c.args.which page_map in
+    let long : length c.as_slice-corner-items.result.now ≡ length page_map.staged = ap (λ (cs : List Corner). length cs) (c.as_slice-corner-items.ensures.value ∙ c.corners-corners.ensures.value) ∙ length-map page_map.staged (λ (t : TileLocation). t.corner) in
+    subst (λ (l : List ListingPage). WritesListing {T = Unit {0}} g.D.Disk l c.args.roots.now c.loop-corner.roots (Ok tt)) (first_all g.D.Disk page_map c.rules.ensures before c.loop-corner.corner-index (omega (arith, c.loop-corner-test.false, long))) c.loop-corner.invariant

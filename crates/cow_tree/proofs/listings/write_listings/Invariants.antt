@@ -3,4 +3,4 @@ use Rattle.cow_tree.specs.Listings.{WritesListing, due_among, tiles_listing, wri
 use Rattle.cow_tree.proofs.listings.write_listings.Given as goal
 
 abbrev pub invariant-loop-corner : goal.invariant-loop-corner
-invariant-loop-corner g l = WritesListing {T = Unit {0}} g.D.Disk (due_among (written_before l.fn.which l.fn.chart) (tiles_listing l.fn.chart.format (take l.corner-index l.fn.chart.staged))) l.fn.roots l.roots (Ok tt)
+invariant-loop-corner g l = WritesListing {T = Unit {0}} g.D.Disk (due_among (written_before l.fn.which l.fn.page_map) (tiles_listing l.fn.page_map.format (take l.corner-index l.fn.page_map.staged))) l.fn.roots l.roots (Ok tt)

@@ -8,44 +8,44 @@ use Rattle.cow_tree.proofs.listings.write_tile.Goals as goal
 
 pub write_listing-requires-2-clause-not_failed : goal.write_listing-requires-2-clause-not_failed
 write_listing-requires-2-clause-not_failed g c =
-    let t = located_tile c.args.corner c.args.chart.now.staged c.requires.present in
+    let t = located_tile c.args.corner c.args.page_map.now.staged c.requires.present in
     (c.in_ok-write_listing.ensures t.0 t.1.0 t.1.1).pages.works
 
 pub write_listing-requires-2-clause-sectors : goal.write_listing-requires-2-clause-sectors
 write_listing-requires-2-clause-sectors g c =
-    let t = located_tile c.args.corner c.args.chart.now.staged c.requires.present in
+    let t = located_tile c.args.corner c.args.page_map.now.staged c.requires.present in
     c.requires.sectors ∙ sym (c.in_ok-write_listing.ensures t.0 t.1.0 t.1.1).pages.size
 
 pub write_listing-requires-3-clause-not_failed : goal.write_listing-requires-3-clause-not_failed
 write_listing-requires-3-clause-not_failed g c =
-    let t = located_tile c.args.corner c.args.chart.now.staged c.requires.present in
+    let t = located_tile c.args.corner c.args.page_map.now.staged c.requires.present in
     (c.in_ok-write_listing-2.ensures t.0 t.1.0 t.1.1).pages.works
 
 pub write_listing-requires-3-clause-sectors : goal.write_listing-requires-3-clause-sectors
 write_listing-requires-3-clause-sectors g c =
-    let t = located_tile c.args.corner c.args.chart.now.staged c.requires.present in
+    let t = located_tile c.args.corner c.args.page_map.now.staged c.requires.present in
     c.requires.sectors ∙ sym (c.in_ok-write_listing.ensures t.0 t.1.0 t.1.1).pages.size ∙ sym (c.in_ok-write_listing-2.ensures t.0 t.1.0 t.1.1).pages.size
 
 pub returns-in_err-write_listing : goal.returns-in_err-write_listing
 returns-in_err-write_listing g c t among at =
-    let chart = c.args.chart.now in
+    let page_map = c.args.page_map.now in
     let why : Refusal = c.in_err-write_listing.field-0.0 in
     let p = err_from_is_err_and c.from_residual.result c.from_residual.ensures.1 in
     let ended : c.from_residual.result ≡ Err why = p.1 ∙ ap (λ (r : Refusal). Err r) p.2 in
-    subst (λ (r : Result (Unit {0}) Refusal). WritesListing g.D.Disk (due_among (written_before c.args.which chart) (tile_listing chart.format t)) c.args.roots.now c.write_listing.new.roots r) (sym ended)
-    (first_refused g.D.Disk chart c.rules.ensures (written_before c.args.which chart) t among c.args.roots.now c.write_listing.new.roots why (c.in_err-write_listing.ensures t among at))
+    subst (λ (r : Result (Unit {0}) Refusal). WritesListing g.D.Disk (due_among (written_before c.args.which page_map) (tile_listing page_map.format t)) c.args.roots.now c.write_listing.new.roots r) (sym ended)
+    (first_refused g.D.Disk page_map c.rules.ensures (written_before c.args.which page_map) t among c.args.roots.now c.write_listing.new.roots why (c.in_err-write_listing.ensures t among at))
 
 pub returns-in_err-write_listing-2 : goal.returns-in_err-write_listing-2
 returns-in_err-write_listing-2 g c t among at =
-    let chart = c.args.chart.now in
+    let page_map = c.args.page_map.now in
     let why : Refusal = c.in_err-write_listing-2.field-0.0 in
     let p = err_from_is_err_and c.from_residual-in_err-write_listing-2.result c.from_residual-in_err-write_listing-2.ensures.1 in
     let ended : c.from_residual-in_err-write_listing-2.result ≡ Err why = p.1 ∙ ap (λ (r : Refusal). Err r) p.2 in
-    subst (λ (r : Result (Unit {0}) Refusal). WritesListing g.D.Disk (due_among (written_before c.args.which chart) (tile_listing chart.format t)) c.args.roots.now c.write_listing-2.new.roots r) (sym ended)
-    (second_refused g.D.Disk chart c.rules.ensures (written_before c.args.which chart) t among c.args.roots.now c.write_listing.new.roots c.write_listing-2.new.roots why (c.in_ok-write_listing.ensures t among at) (c.in_err-write_listing-2.ensures t among at))
+    subst (λ (r : Result (Unit {0}) Refusal). WritesListing g.D.Disk (due_among (written_before c.args.which page_map) (tile_listing page_map.format t)) c.args.roots.now c.write_listing-2.new.roots r) (sym ended)
+    (second_refused g.D.Disk page_map c.rules.ensures (written_before c.args.which page_map) t among c.args.roots.now c.write_listing.new.roots c.write_listing-2.new.roots why (c.in_ok-write_listing.ensures t among at) (c.in_err-write_listing-2.ensures t among at))
 
 pub returns : goal.returns
 returns g c t among at =
-    let chart = c.args.chart.now in
-    tile_written g.D.Disk chart c.rules.ensures (written_before c.args.which chart) t among c.args.roots.now c.write_listing.new.roots c.write_listing-2.new.roots c.write_listing-3.new.roots c.write_listing-3.result
+    let page_map = c.args.page_map.now in
+    tile_written g.D.Disk page_map c.rules.ensures (written_before c.args.which page_map) t among c.args.roots.now c.write_listing.new.roots c.write_listing-2.new.roots c.write_listing-3.new.roots c.write_listing-3.result
     (c.in_ok-write_listing.ensures t among at) (c.in_ok-write_listing-2.ensures t among at) (c.write_listing-3.ensures t among at)

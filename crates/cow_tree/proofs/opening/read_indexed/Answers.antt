@@ -7,7 +7,7 @@ use Rattle.lattice.specs.declared.refusal.Refusal.{Refusal}
 use Rattle.lattice.specs.declared.refusal.Refusal.TheVariants.{Device}
 use Rattle.page_codec.specs.Records.{IsRecord, part_of, record_bytes}
 use Rattle.page_codec.specs.Sizes.{pages_of, index_pages_by}
-use Rattle.charts.specs.Locations.{PlaneLocation}
+use Rattle.page_map.specs.Locations.{PlaneLocation}
 use Rattle.cow_tree.specs.Found.{NoneListed, NoneIndexed}
 use Rattle.cow_tree.specs.OverRoots.{IsRefusedFor}
 use Rattle.cow_tree.proofs.Indexed.{AreReadTo, within as index_within, read_more, part_same, part_read, none_indexed}

@@ -7,7 +7,7 @@ use Rattle.cow_tree.proofs.samples.read_part.Goals as goal
 
 pub scan_page-requires-clause-held : goal.scan_page-requires-clause-held
 scan_page-requires-clause-held g c =
-    let found = located_tile c.args.c c.args.tree.now.chart.staged c.requires.present in
+    let found = located_tile c.args.c c.args.tree.now.page_map.staged c.requires.present in
     (found.0, (found.1.0, (found.1.1, (found.0.heights, refl))))
 
 pub returns-clause-samples : goal.returns-clause-samples

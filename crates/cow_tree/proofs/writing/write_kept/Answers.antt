@@ -3,8 +3,8 @@ use Rattle.std.specs.Prelude.{Some}
 use Rattle.std.proofs.lemmas.List.{length-append}
 use Rattle.std.proofs.lemmas.Result.{err_from_is_err_and}
 use Rattle.lattice.specs.declared.refusal.Refusal.{Refusal}
-use Rattle.charts.specs.Locations.{times}
-use Rattle.charts.proofs.Occurrences.{times-append}
+use Rattle.page_map.specs.Locations.{times}
+use Rattle.page_map.proofs.Occurrences.{times-append}
 use Rattle.cow_tree.specs.OverRoots.{WritesPages}
 use Rattle.cow_tree.specs.Stored.{PlanePages, pages_of_bytes}
 use Rattle.cow_tree.proofs.Counting.{all_at_times, at_times}

@@ -4,7 +4,7 @@ use Rattle.std.proofs.lemmas.Result.{err_from_is_err_and}
 use Rattle.lattice.specs.declared.refusal.Refusal.{Refusal}
 use Rattle.page_codec.specs.Numbers.{padded}
 use Rattle.roots.specs.Roots.{disk_of}
-use Rattle.charts.proofs.Occurrences.{once_apart}
+use Rattle.page_map.proofs.Occurrences.{once_apart}
 use Rattle.cow_tree.specs.OverRoots.{WritesPages}
 use Rattle.cow_tree.proofs.Counting.{take_few, times_first}
 use Rattle.cow_tree.proofs.PageWrites.{HasWritten, one_written, then_written, refused_within}

@@ -49,12 +49,12 @@ returns-in_err-stage_kept-clause-stepped g c =
     (λ memory.
     let is : ◌≡◌ {A = Result (Unit {0}) Refusal} (Err r) (Err NoMemory) = ap (λ (x : Refusal). Err x) memory in
     let disk = refused.unchanged is in
-    let chart = refused.same is in
+    let page_map = refused.same is in
     subst (λ (x : Refusal). HasStepped d old mid (Err x)) (sym memory)
     (no_memory d seen old mid (Err r) any
     (⊎_elim (λ works. works) (λ device. absurd (let e : Err NoMemory ≡ Err Device = sym is ∙ device in cc)) refused.works)
-    (still_clean d old mid chart does.root does.corners c.requires.clean) (ap d.writes disk)
-    (λ honest s at. let was = settled_at d old s c.requires.unstaged c.requires.declared at (seen (disk_of old) (does.honest honest)) in (staged_same d old mid disk chart ∙ was.tiles, does.sinks ∙ was.sinks))))
+    (still_clean d old mid page_map does.root does.corners c.requires.clean) (ap d.writes disk)
+    (λ honest s at. let was = settled_at d old s c.requires.unstaged c.requires.declared at (seen (disk_of old) (does.honest honest)) in (staged_same d old mid disk page_map ∙ was.tiles, does.sinks ∙ was.sinks))))
     refused.refused)
 
 pub returns-in_err-commit-clause-stepped : goal.returns-in_err-commit-clause-stepped

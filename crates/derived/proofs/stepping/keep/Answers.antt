@@ -6,7 +6,7 @@ use Rattle.lattice.specs.declared.refusal.Refusal.{Refusal}
 use Rattle.lattice.specs.declared.refusal.Refusal.TheVariants.{Device}
 use Rattle.layout.specs.Sizes.{plane_pages_of}
 use Rattle.page_codec.specs.Roots.{RootValue, format_of}
-use Rattle.charts.specs.Charts.{ChartValue, IsClean as IsCleanChart}
+use Rattle.page_map.specs.PageMaps.{PageMapValue, IsClean as IsCleanPageMap}
 use Rattle.tile_flood.specs.Kept.{AreKeptOf}
 use Rattle.tile_labellings.specs.declared.planes.KeptPlanes.{KeptPlanes}
 use Rattle.cow_tree.specs.Reading.{mosaic_of}
@@ -28,10 +28,10 @@ read_planes-requires-clause-present g c =
 pub commit_planes-requires-clause-clean : goal.commit_planes-requires-clause-clean
 commit_planes-requires-clause-clean g c =
     let keeps = c.read_planes.ensures.reads in
-    still_clean g.D.Disk c.args.tree.now c.read_planes.new.tree keeps.chart keeps.root keeps.corners c.requires.clean
+    still_clean g.D.Disk c.args.tree.now c.read_planes.new.tree keeps.page_map keeps.root keeps.corners c.requires.clean
 
 pub commit_planes-requires-clause-unstaged : goal.commit_planes-requires-clause-unstaged
-commit_planes-requires-clause-unstaged g c = subst (λ (chart : ChartValue). IsCleanChart chart) (sym c.read_planes.ensures.reads.chart) c.requires.unstaged
+commit_planes-requires-clause-unstaged g c = subst (λ (page_map : PageMapValue). IsCleanPageMap page_map) (sym c.read_planes.ensures.reads.page_map) c.requires.unstaged
 
 pub commit_planes-requires-clause-declared : goal.commit_planes-requires-clause-declared
 commit_planes-requires-clause-declared g c =
@@ -93,7 +93,7 @@ returns-in_err-planes-clause-stepped g c =
     (fails_before d seen old mid c.args.corner c.requires.stale c.requires.number (subst (λ (x : Refusal). CommitsNothing {T = KeptPlanes} d old mid (Err x)) device any)))
     (λ memory.
     subst (λ (x : Refusal). HasStepped d old mid (Err x)) (sym memory.0)
-    (no_memory d seen old mid (Err r) any memory.1 (still_clean d old mid keeps.chart keeps.root keeps.corners c.requires.clean) keeps.writes
+    (no_memory d seen old mid (Err r) any memory.1 (still_clean d old mid keeps.page_map keeps.root keeps.corners c.requires.clean) keeps.writes
     (λ honest s at. let was = settled_at d old s c.requires.unstaged c.requires.declared at (seen (disk_of old) (keeps.honest honest)) in (keeps.staged honest ∙ was.tiles, keeps.sinks ∙ was.sinks))))
     refused.refusal)
 

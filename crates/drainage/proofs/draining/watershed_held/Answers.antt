@@ -23,8 +23,8 @@ pub returns-clause-runs : goal.returns-clause-runs
 returns-clause-runs g c honest =
     let checked = c.in_ok-check_ground.ensures in
     let mid = c.watershed.ensures.asks.honest honest in
-    let told = subst (λ (m : Mosaic). IfOk c.watershed.result (λ runs. OnLevels m (λ level. AreRuns (IsInWatershed (terrain m) level c.args.point) runs.items))) (checked.asked.reads.mosaic mid) (c.watershed.ensures.runs honest) in
-    told
+    let loaded = subst (λ (m : Mosaic). IfOk c.watershed.result (λ runs. OnLevels m (λ level. AreRuns (IsInWatershed (terrain m) level c.args.point) runs.items))) (checked.asked.reads.mosaic mid) (c.watershed.ensures.runs honest) in
+    loaded
 
 pub returns-clause-asked : goal.returns-clause-asked
 returns-clause-asked g c =

@@ -22,7 +22,7 @@ use Rattle.border_graph.specs.Linking.{node_number}
 use Rattle.drainage.specs.Asking.{IsHeldByNone}
 use Rattle.drainage.specs.Holding.{Known, IsRimLevel, IsGroundNode, IsRight, IsGrown}
 use Rattle.drainage.specs.Kept.{right_still}
-use Rattle.drainage.specs.Waters.{known_of}
+use Rattle.drainage.specs.TileCaches.{known_of}
 use Rattle.drainage.proofs.Filled.{void_there, no_height_there, level_inside, rim_there, level_over}
 use Rattle.drainage.proofs.Holders.{no_ground}
 use Rattle.drainage.proofs.Questioned.{answered, asked_reads, stopped}
@@ -31,7 +31,7 @@ use Rattle.drainage.proofs.filling.level_in.Goals as goal
 pub returns-in_default-clause-level : goal.returns-in_default-clause-level
 returns-in_default-clause-level g c honest =
     let m = g.S.Samples.mosaic c.args.samples.now in
-    let w = known_of c.args.waters.now in
+    let w = known_of c.args.tile_cache.now in
     let right = c.requires.right honest in
     no_ground m c.args.point (g.met.S.Samples.is_mosaic c.args.samples.now honest)
     (subst (λ n. IsHeldByNone n (corners_of m) c.args.point) right.ready.same_side
@@ -58,7 +58,7 @@ pub returns-then-not-branch-clause-right : goal.returns-then-not-branch-clause-r
 returns-then-not-branch-clause-right g c honest =
     let spotted = c.in_ok-level.ensures in
     let seen = c.in_ok-is_height.ensures.reads in
-    right_read g.S.Samples c.args.samples.now c.spot.new.samples c.is_height.new.samples (known_of c.args.waters.now) (known_of c.spot.new.self) (Ok c.in_ok-is_height.field-0) spotted.grown seen honest
+    right_read g.S.Samples c.args.samples.now c.spot.new.samples c.is_height.new.samples (known_of c.args.tile_cache.now) (known_of c.spot.new.self) (Ok c.in_ok-is_height.field-0) spotted.grown seen honest
     (c.requires.right (spotted.reads.honest (seen.honest honest)))
 
 pub returns-then-not-branch-clause-asked : goal.returns-then-not-branch-clause-asked
@@ -71,7 +71,7 @@ returns-then-not-branch-clause-asked g c =
     stopped g.S.Samples a d (reads_on g.S.Samples g.met.S.Samples.keeps_on a b d tt (Ok tt) spotted.reads (reads_as g.S.Samples b d c.in_ok-is_height.field-0 tt seen.reads)) (λ honest.
     let mid = seen.reads.honest honest in
     let before = spotted.reads.honest mid in
-    let none = no_height_there (g.S.Samples.mosaic a) (g.met.S.Samples.is_mosaic a before) c.args.point (known_of c.args.waters.now) (c.requires.right before) c.deref.result.now c.deref.ensures.value c.in-Some.t c.in-Some.index c.in-Some.ensures.some
+    let none = no_height_there (g.S.Samples.mosaic a) (g.met.S.Samples.is_mosaic a before) c.args.point (known_of c.args.tile_cache.now) (c.requires.right before) c.deref.result.now c.deref.ensures.value c.in-Some.t c.in-Some.index c.in-Some.ensures.some
     c.index-corner.result.now c.index-corner.ensures c.in_ok-level.level c.in_ok-level.label (spotted.spot mid (c.requires.right before)) c.if-label.true in
     let same : metres (height_of (g.S.Samples.mosaic b) c.args.point) ≡ void = ap (λ (m : Mosaic). metres (height_of m c.args.point)) (spotted.reads.mosaic mid) ∙ none in
     false≢true (sym c.if-not-branch.true ∙ (seen.value honest ∙ (Decides-int_eq void _).1 (sym same))))
@@ -82,14 +82,14 @@ returns-then-label-clause-level g c honest =
     let spotted = c.in_ok-level.ensures in
     let mid = c.in_ok-is_height.ensures.reads.honest honest in
     let before = spotted.reads.honest mid in
-    void_there (g.S.Samples.mosaic a) (g.met.S.Samples.is_mosaic a before) c.args.point (known_of c.args.waters.now) (c.requires.right before) c.deref.result.now c.deref.ensures.value c.in-Some.t c.in-Some.index c.in-Some.ensures.some
+    void_there (g.S.Samples.mosaic a) (g.met.S.Samples.is_mosaic a before) c.args.point (known_of c.args.tile_cache.now) (c.requires.right before) c.deref.result.now c.deref.ensures.value c.in-Some.t c.in-Some.index c.in-Some.ensures.some
     c.index-corner.result.now c.index-corner.ensures c.in_ok-level.level c.in_ok-level.label (spotted.spot mid (c.requires.right before)) c.if-label.true
 
 pub returns-then-label-clause-right : goal.returns-then-label-clause-right
 returns-then-label-clause-right g c honest =
     let spotted = c.in_ok-level.ensures in
     let seen = c.in_ok-is_height.ensures.reads in
-    right_read g.S.Samples c.args.samples.now c.spot.new.samples c.is_height.new.samples (known_of c.args.waters.now) (known_of c.spot.new.self) (Ok c.in_ok-is_height.field-0) spotted.grown seen honest
+    right_read g.S.Samples c.args.samples.now c.spot.new.samples c.is_height.new.samples (known_of c.args.tile_cache.now) (known_of c.spot.new.self) (Ok c.in_ok-is_height.field-0) spotted.grown seen honest
     (c.requires.right (spotted.reads.honest (seen.honest honest)))
 
 pub returns-then-label-clause-asked : goal.returns-then-label-clause-asked
@@ -107,7 +107,7 @@ returns-then-label-2-clause-level g c honest =
     let before = spotted.reads.honest honest in
     let in_range : SFits w16 c.in_ok-level.level = search rules in
     subst (IsFilledLevel (terrain m) c.args.point) (sym (to_z-of_z w16 c.in_ok-level.level in_range))
-    (level_inside m (g.met.S.Samples.is_mosaic a before) c.args.point (known_of c.args.waters.now) (c.requires.right before) c.deref.result.now c.deref.ensures.value c.in-Some.t c.in-Some.index c.in-Some.ensures.some
+    (level_inside m (g.met.S.Samples.is_mosaic a before) c.args.point (known_of c.args.tile_cache.now) (c.requires.right before) c.deref.result.now c.deref.ensures.value c.in-Some.t c.in-Some.index c.in-Some.ensures.some
     c.index-corner.result.now c.index-corner.ensures c.in_ok-level.level c.in_ok-level.label (spotted.spot honest (c.requires.right before)) c.if-label.false c.if-label-2.true)
 
 pub returns-then-label-2-clause-asked : goal.returns-then-label-2-clause-asked
@@ -118,9 +118,9 @@ rim_level-requires-clause-there g c honest =
     let a = c.args.samples.now in
     let spotted = c.in_ok-level.ensures in
     let before = spotted.reads.honest honest in
-    subst (λ (m : Mosaic). IsGroundNode m c.spot.new.self.shores.corners.items c.in-Some.t c.in_ok-level.label) (sym (spotted.reads.mosaic honest))
+    subst (λ (m : Mosaic). IsGroundNode m c.spot.new.self.rim_graph.corners.items c.in-Some.t c.in_ok-level.label) (sym (spotted.reads.mosaic honest))
     (subst (λ (cs : List Corner). IsGroundNode (g.S.Samples.mosaic a) cs c.in-Some.t c.in_ok-level.label) (sym spotted.grown.kept.same_corners)
-    (rim_there (g.S.Samples.mosaic a) (g.met.S.Samples.is_mosaic a before) c.args.point (known_of c.args.waters.now) (c.requires.right before) c.deref.result.now c.deref.ensures.value c.in-Some.t c.in-Some.index c.in-Some.ensures.some
+    (rim_there (g.S.Samples.mosaic a) (g.met.S.Samples.is_mosaic a before) c.args.point (known_of c.args.tile_cache.now) (c.requires.right before) c.deref.result.now c.deref.ensures.value c.in-Some.t c.in-Some.index c.in-Some.ensures.some
     c.index-corner.result.now c.index-corner.ensures c.in_ok-level.level c.in_ok-level.label (spotted.spot honest (c.requires.right before)) c.if-label.false c.if-label-2.false))
 
 pub returns-in_err-over-clause-asked : goal.returns-in_err-over-clause-asked
@@ -137,7 +137,7 @@ pub returns-clause-level : goal.returns-clause-level
 returns-clause-level g c honest =
     let a = c.args.samples.now in
     let m = g.S.Samples.mosaic a in
-    let w = known_of c.args.waters.now in
+    let w = known_of c.args.tile_cache.now in
     let spotted = c.in_ok-level.ensures in
     let mid = c.in_ok-over.ensures.asked.reads.honest honest in
     let before = spotted.reads.honest mid in

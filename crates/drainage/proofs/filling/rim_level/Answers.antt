@@ -8,7 +8,7 @@ use Rattle.border_graph.specs.Links.{IsJoinedLevel, IsWayBelow}
 use Rattle.border_graph.specs.Placed.{IsPlacedLink}
 use Rattle.drainage.specs.Holding.{IsRight, IsRimLevel, level_of}
 use Rattle.drainage.specs.Kept.{right_still}
-use Rattle.drainage.specs.Waters.{known_of}
+use Rattle.drainage.specs.TileCaches.{known_of}
 use Rattle.drainage.proofs.Found.{right_more, right_all, reached_later, start_is, found, found_later, never}
 use Rattle.drainage.proofs.Questioned.{answered, stopped}
 use Rattle.drainage.proofs.RimNodes.{node_there}
@@ -17,17 +17,17 @@ use Rattle.drainage.proofs.filling.rim_level.Goals as goal
 pub returns-in_default-clause-asked : goal.returns-in_default-clause-asked
 returns-in_default-clause-asked g c =
     let a = c.args.samples.now in
-    let w = known_of c.args.waters.now in
+    let w = known_of c.args.tile_cache.now in
     stopped g.S.Samples a a (reads_nothing g.S.Samples g.met.S.Samples.keeps_itself a (tt {0})) (λ honest.
     let right = c.requires.right honest in
     let ground = c.requires.there honest in
-    node_there (g.S.Samples.mosaic a) (g.met.S.Samples.is_mosaic a honest) w.side w.corners w.told right.ready c.args.t c.args.number ground.index c.requires.place ground.rim ground.on_ground
+    node_there (g.S.Samples.mosaic a) (g.met.S.Samples.is_mosaic a honest) w.side w.corners w.loaded right.ready c.args.t c.args.number ground.index c.requires.place ground.rim ground.on_ground
     (subst (λ k. 2 ^ 32 ≤ 1 + c.args.t * (4 * (w.side - 1)) + k) c.from.ensures c.in_default.ensures.none))
 
 pub returns-in-Some-level-clause-level : goal.returns-in-Some-level-clause-level
 returns-in-Some-level-clause-level g c honest =
     let m = g.S.Samples.mosaic c.args.samples.now in
-    let w = known_of c.args.waters.now in
+    let w = known_of c.args.tile_cache.now in
     let right = c.requires.right honest in
     let in_range : SFits w16 c.in-Some-level.level = search rules in
     let at = start_is m w c.args.t c.args.number c.in-Some.start right (c.in-Some.ensures.some ∙ ap (λ k. 1 + c.args.t * (4 * (w.side - 1)) + k) c.from.ensures) in
@@ -41,7 +41,7 @@ pub returns-in_default-2-clause-asked : goal.returns-in_default-2-clause-asked
 returns-in_default-2-clause-asked g c =
     let a = c.args.samples.now in
     let d = c.lowest_pass.new.source in
-    let w = known_of c.args.waters.now in
+    let w = known_of c.args.tile_cache.now in
     let carried = c.in_ok-level.ensures.keeps in
     stopped g.S.Samples a d carried.reads (λ honest.
     let before = carried.reads.honest honest in
@@ -54,7 +54,7 @@ returns-clause-level g c honest =
     let a = c.args.samples.now in
     let d = c.lowest_pass.new.source in
     let m = g.S.Samples.mosaic a in
-    let w = known_of c.args.waters.now in
+    let w = known_of c.args.tile_cache.now in
     let carried = c.in_ok-level.ensures.keeps in
     let before = carried.reads.honest honest in
     let in_range : SFits w16 c.in-Some-2.level = search rules in
@@ -67,20 +67,20 @@ pub returns-clause-right : goal.returns-clause-right
 returns-clause-right g c honest =
     let a = c.args.samples.now in
     let d = c.lowest_pass.new.source in
-    let w = known_of c.args.waters.now in
+    let w = known_of c.args.tile_cache.now in
     let carried = c.in_ok-level.ensures.keeps in
     let before = carried.reads.honest honest in
     let known = known_of c.lowest_pass.new.graph in
     let in_range : SFits w16 c.in-Some-2.level = search rules in
     let same = to_z-of_z w16 c.in-Some-2.level in_range in
-    let started : IsRight (g.S.Samples.mosaic d) (record { side = known.side; corners = known.corners; told = known.told; entered = known.entered; levels = c.know.new.self }) =
+    let started : IsRight (g.S.Samples.mosaic d) (record { side = known.side; corners = known.corners; loaded = known.loaded; labellings = known.labellings; levels = c.know.new.self }) =
     right_more (g.S.Samples.mosaic d) known c.know.new.self c.in-Some.start c.in-Some-2.level
     (λ x. subst (λ (v : ℤ). level_of c.know.new.self x ≡ cond (c.in-Some.start == x) (Some v) (level_of known.levels x)) same (c.in_ok-know.ensures.known x))
     (found_later g.S.Samples a d (g.met.S.Samples.is_mosaic a before) w known carried.grown honest (c.requires.right before) c.args.t c.args.number c.requires.place (c.requires.there before) c.in-Some.start
     (c.in-Some.ensures.some ∙ ap (λ k. 1 + c.args.t * (4 * (w.side - 1)) + k) c.from.ensures) c.in-Some-2.level
     (λ n all agrees. subst (λ found. IfSome found (IsJoinedLevel (IsPlacedLink n all) 0 c.in-Some.start)) c.in-Some-2.is (c.in_ok-level.ensures.joined n all agrees)))
     (right_still g.S.Samples a d w known carried.grown honest (c.requires.right before)) in
-    right_all (g.S.Samples.mosaic d) (record { side = known.side; corners = known.corners; told = known.told; entered = known.entered; levels = c.know.new.self }) c.know_all.new.self c.deref.result.now c.in-Some-2.level
+    right_all (g.S.Samples.mosaic d) (record { side = known.side; corners = known.corners; loaded = known.loaded; labellings = known.labellings; levels = c.know.new.self }) c.know_all.new.self c.deref.result.now c.in-Some-2.level
     (λ x found is. subst (λ (v : ℤ). (level_of c.know.new.self x ≡ Some found) ⊎ (Contains c.deref.result.now x × (found ≡ v))) same (c.in_ok-know_all.ensures.only x found is))
     (λ x has. reached_later g.S.Samples a d (g.met.S.Samples.is_mosaic a before) w known carried.grown honest (c.requires.right before) x c.in-Some-2.level
     (λ n all agrees. subst (λ found. IfSome found (λ level. (y : ℕ) → Contains c.lowest_pass.new.alike.items y → (0 < y) × IsJoinedLevel (IsPlacedLink n all) 0 y level)) c.in-Some-2.is (c.in_ok-level.ensures.alike n all agrees) x
@@ -91,20 +91,20 @@ pub returns-in_err-know_all-clause-right : goal.returns-in_err-know_all-clause-r
 returns-in_err-know_all-clause-right g c honest =
     let a = c.args.samples.now in
     let d = c.lowest_pass.new.source in
-    let w = known_of c.args.waters.now in
+    let w = known_of c.args.tile_cache.now in
     let carried = c.in_ok-level.ensures.keeps in
     let before = carried.reads.honest honest in
     let known = known_of c.lowest_pass.new.graph in
     let in_range : SFits w16 c.in-Some-2.level = search rules in
     let same = to_z-of_z w16 c.in-Some-2.level in_range in
-    let started : IsRight (g.S.Samples.mosaic d) (record { side = known.side; corners = known.corners; told = known.told; entered = known.entered; levels = c.know.new.self }) =
+    let started : IsRight (g.S.Samples.mosaic d) (record { side = known.side; corners = known.corners; loaded = known.loaded; labellings = known.labellings; levels = c.know.new.self }) =
     right_more (g.S.Samples.mosaic d) known c.know.new.self c.in-Some.start c.in-Some-2.level
     (λ x. subst (λ (v : ℤ). level_of c.know.new.self x ≡ cond (c.in-Some.start == x) (Some v) (level_of known.levels x)) same (c.in_ok-know.ensures.known x))
     (found_later g.S.Samples a d (g.met.S.Samples.is_mosaic a before) w known carried.grown honest (c.requires.right before) c.args.t c.args.number c.requires.place (c.requires.there before) c.in-Some.start
     (c.in-Some.ensures.some ∙ ap (λ k. 1 + c.args.t * (4 * (w.side - 1)) + k) c.from.ensures) c.in-Some-2.level
     (λ n all agrees. subst (λ found. IfSome found (IsJoinedLevel (IsPlacedLink n all) 0 c.in-Some.start)) c.in-Some-2.is (c.in_ok-level.ensures.joined n all agrees)))
     (right_still g.S.Samples a d w known carried.grown honest (c.requires.right before)) in
-    right_all (g.S.Samples.mosaic d) (record { side = known.side; corners = known.corners; told = known.told; entered = known.entered; levels = c.know.new.self }) c.know_all.new.self c.deref.result.now c.in-Some-2.level
+    right_all (g.S.Samples.mosaic d) (record { side = known.side; corners = known.corners; loaded = known.loaded; labellings = known.labellings; levels = c.know.new.self }) c.know_all.new.self c.deref.result.now c.in-Some-2.level
     (λ x found is. subst (λ (v : ℤ). (level_of c.know.new.self x ≡ Some found) ⊎ (Contains c.deref.result.now x × (found ≡ v))) same (c.in_err-know_all.ensures.only x found is))
     (λ x has. reached_later g.S.Samples a d (g.met.S.Samples.is_mosaic a before) w known carried.grown honest (c.requires.right before) x c.in-Some-2.level
     (λ n all agrees. subst (λ found. IfSome found (λ level. (y : ℕ) → Contains c.lowest_pass.new.alike.items y → (0 < y) × IsJoinedLevel (IsPlacedLink n all) 0 y level)) c.in-Some-2.is (c.in_ok-level.ensures.alike n all agrees) x

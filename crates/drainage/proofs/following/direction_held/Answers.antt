@@ -32,8 +32,8 @@ returns-clause-direction g c honest level filled =
     let checked = c.in_ok-check_ground.ensures in
     let found = c.in_ok-direction.direction in
     let mid = c.in_ok-direction.ensures.asks.honest honest in
-    let told = subst (λ (m : Mosaic). IsWay m c.args.point found) (checked.asked.reads.mosaic mid) (c.in_ok-direction.ensures.way honest) in
-    (found, (told.drains (checked.on_ground mid refl) level filled, c.code.ensures))
+    let loaded = subst (λ (m : Mosaic). IsWay m c.args.point found) (checked.asked.reads.mosaic mid) (c.in_ok-direction.ensures.way honest) in
+    (found, (loaded.drains (checked.on_ground mid refl) level filled, c.code.ensures))
 
 pub returns-clause-asked : goal.returns-clause-asked
 returns-clause-asked g c =

@@ -23,9 +23,9 @@ pub returns-clause-path : goal.returns-clause-path
 returns-clause-path g c honest =
     let checked = c.in_ok-check_ground.ensures in
     let mid = c.trace.ensures.asks.honest honest in
-    let told = subst (λ (m : Mosaic). IfOk c.trace.result (λ path. IsTrue (is_ground m c.args.point) → OnLevels m (λ level. IsFlowPath (terrain m) level c.args.point path.items))) (checked.asked.reads.mosaic mid)
+    let loaded = subst (λ (m : Mosaic). IfOk c.trace.result (λ path. IsTrue (is_ground m c.args.point) → OnLevels m (λ level. IsFlowPath (terrain m) level c.args.point path.items))) (checked.asked.reads.mosaic mid)
     (c.trace.ensures.path honest) in
-    IfOk-weaker c.trace.result _ _ (λ path traced level filled. traced (checked.on_ground mid refl) level filled) told
+    IfOk-weaker c.trace.result _ _ (λ path traced level filled. traced (checked.on_ground mid refl) level filled) loaded
 
 pub returns-clause-asked : goal.returns-clause-asked
 returns-clause-asked g c =

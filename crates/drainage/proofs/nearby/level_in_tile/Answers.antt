@@ -2,13 +2,13 @@ use Rattle.std.proofs.Common.{rules, ◌≡◌, ◌+◌, ◌*◌, ◌-◌, ℤ, 
 use Rattle.std.specs.Int.{int_max}
 use Rattle.std.proofs.lemmas.Int.{to_z-of_z}
 use Rattle.drainage.specs.Nearby.{IsToldOf}
-use Rattle.drainage.specs.Waters.{known_of}
+use Rattle.drainage.specs.TileCaches.{known_of}
 use Rattle.drainage.proofs.Around.{told_out, told_over}
 use Rattle.drainage.proofs.nearby.level_in_tile.Goals as goal
 
 pub returns-then-label-2 : goal.returns-then-label-2
 returns-then-label-2 c =
-    let known = known_of c.args.waters.now in
+    let known = known_of c.args.tile_cache.now in
     let in_range : SFits w16 c.in_ok-level.level = search rules in
     subst (λ (v : ℤ). IsToldOf known c.args.t c.args.point (Some v)) (sym (to_z-of_z w16 c.in_ok-level.level in_range))
     (told_out known c.args.point c.args.t c.in_ok-index.index c.args.corner c.requires.place c.requires.corner c.in_ok-index.ensures.index c.args.labelled.now c.requires.held
@@ -16,7 +16,7 @@ returns-then-label-2 c =
 
 pub returns : goal.returns
 returns c =
-    let known = known_of c.args.waters.now in
+    let known = known_of c.args.tile_cache.now in
     let in_range : SFits w16 c.max.result = record { sfits = c.max.type_inv } in
     let higher : c.max.result ≡ int_max c.in_ok-level.level c.in_ok-over.over =
     c.max.ensures.value ∙ ap₂ int_max (to_z-of_z w16 c.in_ok-level.level (search rules)) (to_z-of_z w16 c.in_ok-over.over (search rules)) in

@@ -7,22 +7,22 @@ use Rattle.flow_d8.proofs.Compass.{dir_at_place, order_below}
 use Rattle.lattice.specs.Corners.{Corner}
 use Rattle.tile_labellings.specs.TileLabellings.{IsTileLabelling}
 use Rattle.drainage.specs.Nearby.{IsToldOf}
-use Rattle.drainage.specs.Waters.{known_of}
+use Rattle.drainage.specs.TileCaches.{known_of}
 use Rattle.drainage.proofs.Around.{near_is}
 use Rattle.drainage.proofs.nearby.near.Goals as goal
 
 pub level_in_tile-requires-clause-held : goal.level_in_tile-requires-clause-held
 level_in_tile-requires-clause-held c m right =
-    c.in_ok-labelled.ensures m c.in_ok-corner.corner (λ x at. subst (λ (d : Corner). IsTileLabelling m d x) c.in_ok-corner.ensures.some.1 (right.entered c.in_ok-t.t x at))
+    c.in_ok-labelled.ensures m c.in_ok-corner.corner (λ x at. subst (λ (d : Corner). IsTileLabelling m d x) c.in_ok-corner.ensures.some.1 (right.labellings c.in_ok-t.t x at))
 
 pub level_beside-requires-clause-held : goal.level_beside-requires-clause-held
 level_beside-requires-clause-held c m right =
-    c.in_ok-labelled.ensures m c.in_ok-corner.corner (λ x at. subst (λ (d : Corner). IsTileLabelling m d x) c.in_ok-corner.ensures.some.1 (right.entered c.in_ok-t.t x at))
+    c.in_ok-labelled.ensures m c.in_ok-corner.corner (λ x at. subst (λ (d : Corner). IsTileLabelling m d x) c.in_ok-corner.ensures.some.1 (right.labellings c.in_ok-t.t x at))
 
 pub loop-i-preserved : goal.loop-i-preserved
 loop-i-preserved c =
     let i = c.loop-i.i in
-    let known = known_of c.args.waters.now in
+    let known = known_of c.args.tile_cache.now in
     let in_range : SFits w16 c.in_ok-level.level = search rules in
     let v = Some (to_z w16 (of_z w16 c.in_ok-level.level)) in
     let beside = subst (λ (l : ℤ). IsToldOf known c.in_ok-t.t (step (get_or directions i East) c.args.point) (Some l)) (sym (to_z-of_z w16 c.in_ok-level.level in_range)) c.in_ok-level.ensures in
@@ -40,7 +40,7 @@ loop-i-preserved c =
 
 pub returns : goal.returns
 returns c m is right =
-    let known = known_of c.args.waters.now in
+    let known = known_of c.args.tile_cache.now in
     let in_range : SFits w16 c.in_ok-height.height = search rules in
     let here : IsToldOf known c.in_ok-t.t c.args.point (Some c.in_ok-height.height) = c.in_ok-height.ensures in
     near_is m is known right c.in_ok-t.t c.in_ok-corner.ensures.some.0 c.args.point (to_z w16 (of_z w16 c.in_ok-height.height)) c.loop-i.around c.loop-i.invariant.eight

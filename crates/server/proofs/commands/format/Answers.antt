@@ -15,7 +15,7 @@ returns-in-Ok-make g c =
         Ok c.in-Ok-make.disk,
         ap (λ (n : ℕ). Makes c.args.path.now n (Ok c.in-Ok-make.disk) ∷ []) asked,
         c.in-Ok.ensures.taken.0,
-        (c.make_store.result.0, c.ended_on.ensures.disk, c.in-Ok-make.ensures.size ∙ asked, rw c.ended_on.ensures.status c.make_store.ensures),
+        (c.make_store.result.0, c.exit_on.ensures.disk, c.in-Ok-make.ensures.size ∙ asked, rw c.exit_on.ensures.status c.make_store.ensures),
       ),
     )
 

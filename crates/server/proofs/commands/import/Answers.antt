@@ -13,7 +13,7 @@ returns-in-Some g c =
     c.as_bytes-in-Some.ensures.value c.import_tile.ensures in (
       Opens c.args.path.now (Some c.in-Some.disk) ∷ Reads c.args.tile.now c.read-reader.result ∷ [],
       (c.open.new.self, c.in-Some.ensures, (c.read-reader.new.self, c.read-reader.ensures, refl)),
-      inr (c.in-Ok.corner, named, inr (c.in-Some.disk, c.import_tile.result.0, c.read-reader.result, refl, c.ended_on.ensures.disk, rw c.ended_on.ensures.status imports)),
+      inr (c.in-Ok.corner, named, inr (c.in-Some.disk, c.import_tile.result.0, c.read-reader.result, refl, c.exit_on.ensures.disk, rw c.exit_on.ensures.status imports)),
     )
 
 pub returns-in-None : goal.returns-in-None

@@ -6,7 +6,7 @@ pub returns-in-Some : goal.returns-in-Some
 returns-in-Some g c = (
   Opens c.args.path.now (Some c.in-Some.disk) ∷ [],
   (c.open.new.self, c.in-Some.ensures, refl),
-  inr (c.in-Some.disk, c.serve_store.result.0, refl, c.ended_on.ensures.disk, rw c.ended_on.ensures.status c.serve_store.ensures),
+  inr (c.in-Some.disk, c.serve_store.result.0, refl, c.exit_on.ensures.disk, rw c.exit_on.ensures.status c.serve_store.ensures),
 )
 
 pub returns-in-None : goal.returns-in-None

@@ -5,12 +5,12 @@ use Rattle.server.proofs.commands.tell_fault.Goals as goal
 
 pub returns-in-Exists : goal.returns-in-Exists
 returns-in-Exists g c =
-    let told = subst (λ (about : List ℕ). Tells (codes "mosaic: exists " ++ about) (g.O.Write.contents c.args.writer.now) (stream_of g.O.Write.contents g.O.Output.failed c.tell.new.writer) c.tell.result)
-    c.as_bytes.ensures.value c.tell.ensures in
+    let told = subst (λ (about : List ℕ). Tells (codes "mosaic: exists " ++ about) (g.O.Write.contents c.args.writer.now) (stream_of g.O.Write.contents g.O.Output.failed c.write_message.new.writer) c.write_message.result)
+    c.as_bytes.ensures.value c.write_message.ensures in
     rw c.in-Exists.is told
 
 pub returns-in-Closed : goal.returns-in-Closed
 returns-in-Closed g c =
-    let told = subst (λ (about : List ℕ). Tells (codes "mosaic: cannot open " ++ about) (g.O.Write.contents c.args.writer.now) (stream_of g.O.Write.contents g.O.Output.failed c.tell-in-Closed.new.writer) c.tell-in-Closed.result)
-    c.as_bytes-in-Closed.ensures.value c.tell-in-Closed.ensures in
+    let told = subst (λ (about : List ℕ). Tells (codes "mosaic: cannot open " ++ about) (g.O.Write.contents c.args.writer.now) (stream_of g.O.Write.contents g.O.Output.failed c.write_message-in-Closed.new.writer) c.write_message-in-Closed.result)
+    c.as_bytes-in-Closed.ensures.value c.write_message-in-Closed.ensures in
     rw c.in-Closed.is told

@@ -27,7 +27,7 @@ returns-in-Err-Unreadable g c =
       works = c.in-Ok.ensures.works;
       at = c.in-Ok.ensures.at;
     } in
-    inr (inl (subst (λ d. WasRead g.D.Disk c.args.disk d) (sym c.into_disk.ensures) (was_read g.D.Disk c.args.disk c.in-Ok.store opened), c.tell-status.ensures))
+    inr (inl (subst (λ d. WasRead g.D.Disk c.args.disk d) (sym c.into_disk.ensures) (was_read g.D.Disk c.args.disk c.in-Ok.store opened), c.write_message-status.ensures))
 
 pub returns : goal.returns
 returns g c =

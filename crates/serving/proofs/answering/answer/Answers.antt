@@ -10,7 +10,7 @@ use Rattle.serving.proofs.answering.answer.Goals as goal
 pub returns-in-Some-Ask : goal.returns-in-Some-Ask
 returns-in-Some-Ask g c = λ i holds.
     let asked : Some (AskEvent c.in-Some-Ask.event) ≡ i.asked = rw (c.in-Some-Ask.is, c.in-Some-Ask.field-0-is) at holds.asked in
-    (Ask c.in-Some-Ask.event, rw (← asked) refl, (_, c.answer.ensures, c.tell.ensures))
+    (Ask c.in-Some-Ask.event, rw (← asked) refl, (_, c.answer.ensures, c.format_reply.ensures))
 
 pub returns-in-Some-Import : goal.returns-in-Some-Import
 returns-in-Some-Import g c = λ i holds.

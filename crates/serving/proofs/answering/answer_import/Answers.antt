@@ -37,4 +37,4 @@ returns g c = λ bytes stored whole cut.
     let kept : c.in-Some.payload.items ≡ bytes = rw c.in-Some.is at stored in
     let given : c.new-bytes.result ≡ bytes = c.new-bytes.ensures ∙ kept in
     let right = c.if-len-file_bytes.false ∙ c.file_bytes.ensures.value ∙ ap (λ (k : ℕ). 2 * (k * k)) c.side.ensures in
-    (Ask (ask.Do (Import c.in-Ok.corner bytes)), inr (c.in-Ok.corner, c.in-Ok.ensures.ok, inr (right, whole came, inr refl)), (_, rw given at c.answer.ensures, c.tell.ensures))
+    (Ask (ask.Do (Import c.in-Ok.corner bytes)), inr (c.in-Ok.corner, c.in-Ok.ensures.ok, inr (right, whole came, inr refl)), (_, rw given at c.answer.ensures, c.format_reply.ensures))

@@ -19,10 +19,10 @@ returns-then-is_over-clause-calls g c =
     let end : IsAtEnd (g.R.Read.remaining c.read_line.new.reader) = search rules in
     ([], (refl, ([], [], ends_none c.read_line.new.ahead.bytes _ _ (rw (over.1, over.0) at line.3) none end, Appends-nil _, refl)))
 
-pub returns-in_default-hear-clause-calls : goal.returns-in_default-hear-clause-calls
-returns-in_default-hear-clause-calls g c =
+pub returns-in_default-read_item-clause-calls : goal.returns-in_default-read_item-clause-calls
+returns-in_default-read_item-clause-calls g c =
     let line = c.in-Ok.ensures.ok in
-    let fault = c.in_default-hear.ensures.err in
+    let fault = c.in_default-read_item.ensures.err in
     let begun = fault.1 line.0 line.2 in
     ([], (refl, (line.0 ++ (10 ∷ begun.0), inr (line.0, begun.0, begun.1, line.1, begun.2, begun.3, refl), begun_taken _ _ _ line.0 begun.0 (rw fault.0 at line.3) begun.4, Appends-nil _, refl)))
 
@@ -30,14 +30,14 @@ pub answer-reply-requires : goal.answer-reply-requires
 answer-reply-requires g c =
     let line = c.in-Ok.ensures.ok in
     let some : c.in-Ok.fed ≡ Cut → line.0 ≢ [] = λ cut empty. both_ways c.is_over.result c.if-is_over.false ((c.is_over.ensures line.0 line.2).1 (cut, empty)) in
-    let found = c.in-Ok-hear.ensures.ok line.0 line.2 line.1 some in
+    let found = c.in-Ok-read_item.ensures.ok line.0 line.2 line.1 some in
     (found.0, found.1)
 
 pub returns-then-has_failed-clause-calls : goal.returns-then-has_failed-clause-calls
 returns-then-has_failed-clause-calls g c =
     let line = c.in-Ok.ensures.ok in
     let some : c.in-Ok.fed ≡ Cut → line.0 ≢ [] = λ cut empty. both_ways c.is_over.result c.if-is_over.false ((c.is_over.ensures line.0 line.2).1 (cut, empty)) in
-    let found = c.in-Ok-hear.ensures.ok line.0 line.2 line.1 some in
+    let found = c.in-Ok-read_item.ensures.ok line.0 line.2 line.1 some in
     let i = found.0 in
     let taken = item_taken _ _ _ i line.0 c.in-Ok.fed found.2 found.3 line.3 found.4 in
     let engine = c.answer-reply.new.engine in
@@ -49,14 +49,14 @@ returns-then-has_failed-clause-calls g c =
     c.args.engine.now engine i c.answer-reply.result found.1.item.asked (c.answer-reply.ensures i found.1) in
     let wrote = begun (g.O.Write.contents c.args.writer.now) (stream_of g.O.Write.contents g.O.Output.failed c.put_reply.new.self) c.answer-reply.result c.put_reply.ensures.written in (
       engine ∷ [],
-      (refl, (i, c.in-Ok-hear.item.extent, c.answer-reply.result, wrote.0, found.1.item, taken, wrote.1, one_reply (Answers g.E.Engine) c.args.engine.now i c.answer-reply.result engine answered)),
+      (refl, (i, c.in-Ok-read_item.item.extent, c.answer-reply.result, wrote.0, found.1.item, taken, wrote.1, one_reply (Answers g.E.Engine) c.args.engine.now i c.answer-reply.result engine answered)),
     )
 
 pub returns-clause-calls : goal.returns-clause-calls
 returns-clause-calls g c =
     let line = c.in-Ok.ensures.ok in
     let some : c.in-Ok.fed ≡ Cut → line.0 ≢ [] = λ cut empty. both_ways c.is_over.result c.if-is_over.false ((c.is_over.ensures line.0 line.2).1 (cut, empty)) in
-    let found = c.in-Ok-hear.ensures.ok line.0 line.2 line.1 some in
+    let found = c.in-Ok-read_item.ensures.ok line.0 line.2 line.1 some in
     let i = found.0 in
     let taken = item_taken _ _ _ i line.0 c.in-Ok.fed found.2 found.3 line.3 found.4 in
     let engine = c.answer-reply.new.engine in
@@ -72,7 +72,7 @@ returns-clause-calls g c =
       (
         refl,
         elim c.if-is_last.branch [
-          | then-is_last w ↦ rw w.next-is (i ∷ [], c.answer-reply.result, ends_last _ _ _ i _ _ taken found.1.asked found.1.item c.in-Ok-hear.ensures.cut (c.is_last.ensures.0 w.if-is_last.true), wrote, replied)
+          | then-is_last w ↦ rw w.next-is (i ∷ [], c.answer-reply.result, ends_last _ _ _ i _ _ taken found.1.asked found.1.item c.in-Ok-read_item.ensures.cut (c.is_last.ensures.0 w.if-is_last.true), wrote, replied)
           | else-is_last w ↦ rw w.next-is (i, c.answer-reply.result, goes_on i _ _ found.1.asked found.1.item (λ last. both_ways c.is_last.result w.if-is_last.false (c.is_last.ensures.1 last)), taken, wrote, replied)
         ],
       ),

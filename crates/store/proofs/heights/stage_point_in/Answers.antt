@@ -8,8 +8,8 @@ use Rattle.lattice.specs.declared.point.Point.{Point}
 use Rattle.lattice.specs.declared.refusal.Refusal.{Refusal}
 use Rattle.lattice.proofs.Samples.{index_unique, held_at}
 use Rattle.page_codec.specs.Roots.{RootValue}
-use Rattle.charts.specs.Charts.{ChartValue}
-use Rattle.charts.specs.declared.plane.Plane.TheVariants.{Heights}
+use Rattle.page_map.specs.PageMaps.{PageMapValue}
+use Rattle.page_map.specs.declared.plane.Plane.TheVariants.{Heights}
 use Rattle.edits.specs.declared.edit.NewHeight.{NewHeight}
 use Rattle.cow_tree.specs.Planes.{HasPage}
 use Rattle.cow_tree.specs.Staged.{index_page_by, pages_due}
@@ -28,7 +28,7 @@ use Rattle.store.proofs.heights.stage_point_in.Goals as goal
 use Rattle.store.proofs.heights.stage_point_in.Goals.{After-stage}
 
 pub read_page-requires-clause-held : goal.read_page-requires-clause-held
-read_page-requires-clause-held g c = heights_held c.args.corner c.args.tree.now.chart.staged c.requires.present
+read_page-requires-clause-held g c = heights_held c.args.corner c.args.tree.now.page_map.staged c.requires.present
 
 pub returns-then-is_done-clause-set : goal.returns-then-is_done-clause-set
 returns-then-is_done-clause-set g c honest s m at under settled =
@@ -87,7 +87,7 @@ returns-clause-pages g c =
     let due : records_due new ≤ records_due old + (0 + index_pages_due (root_of old).version 1) =
     subst (λ (k : ℕ). records_due new ≤ records_due old + (0 + k)) (one_page_due (root_of old).version)
     (subst (λ (r : RootValue). records_due new ≤ records_due old + (0 + index_page_by r.version)) read.keeps.root
-    (subst (λ (chart : ChartValue). records_due new ≤ length (pages_due chart) + (0 + index_page_by (root_of mid).version)) read.keeps.chart
+    (subst (λ (page_map : PageMapValue). records_due new ≤ length (pages_due page_map) + (0 + index_page_by (root_of mid).version)) read.keeps.page_map
     (let more = is.due_same (prepared g (goal.at.returns-clause-pages g c).After-stage) in omega (arith, more)))) in
     record {
       stages = stages_on d old mid new tt c.stage.result (page_read d old mid ok read)

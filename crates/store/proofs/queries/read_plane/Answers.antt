@@ -1,7 +1,7 @@
 use Rattle.std.proofs.Common.{◌≡◌, ℕ, ◌+◌, ◌-◌, ◌*◌, ◌≤◌, min, List, ◌++◌, length, take, IsOk, Result, Ok, Err, is_ok, if◌then◌else◌, vec_len, sym, ap, ◌∙◌, subst, arith, length-take-le}
 use Rattle.std.proofs.lemmas.Result.{err_from_is_err_and}
-use Rattle.charts.specs.Charts.{ChartValue}
-use Rattle.charts.specs.Planes.{HasPlane}
+use Rattle.page_map.specs.PageMaps.{PageMapValue}
+use Rattle.page_map.specs.Planes.{HasPlane}
 use Rattle.page_codec.specs.Roots.{RootValue}
 use Rattle.page_codec.specs.Sizes.{pages_of}
 use Rattle.cow_tree.specs.Planes.{HasPage}
@@ -13,7 +13,7 @@ use Rattle.lattice.specs.declared.refusal.Refusal.{Refusal}
 use Rattle.store.proofs.queries.read_plane.Goals as goal
 
 pub scan_page-requires-clause-held : goal.scan_page-requires-clause-held
-scan_page-requires-clause-held g c = subst (λ (chart : ChartValue). HasPlane chart.staged c.args.corner c.args.plane) (sym c.loop-i.invariant.keeps.chart) c.requires.held
+scan_page-requires-clause-held g c = subst (λ (page_map : PageMapValue). HasPlane page_map.staged c.args.corner c.args.plane) (sym c.loop-i.invariant.keeps.page_map) c.requires.held
 
 -- a choice by a result that is Ok
 grown_items : {A E B : Type 0} (r : Result A E) (new more same : B) → new ≡ (if is_ok r then more else same) → IsOk r → new ≡ more

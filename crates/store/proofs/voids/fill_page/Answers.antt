@@ -7,7 +7,7 @@ use Rattle.lattice.specs.declared.refusal.Refusal.{Refusal}
 use Rattle.lattice.specs.declared.refusal.Refusal.TheVariants.{Device}
 use Rattle.edits.specs.Effect.{is_in_box, is_void_at}
 use Rattle.page_codec.specs.Roots.{RootValue}
-use Rattle.charts.specs.declared.plane.Plane.TheVariants.{Heights}
+use Rattle.page_map.specs.declared.plane.Plane.TheVariants.{Heights}
 use Rattle.cow_tree.specs.Planes.{HasPage}
 use Rattle.cow_tree.specs.Stored.{StoredTile, with_page}
 use Rattle.cow_tree.specs.Trees.{root_of, staged_in, HasStaged}
@@ -22,7 +22,7 @@ use Rattle.store.proofs.VoidPages.{filled_once}
 use Rattle.store.proofs.voids.fill_page.Goals as goal
 
 pub scan_page-requires-clause-held : goal.scan_page-requires-clause-held
-scan_page-requires-clause-held g c = heights_held c.args.rim.now.corner c.args.tree.now.chart.staged c.requires.present
+scan_page-requires-clause-held g c = heights_held c.args.rim.now.corner c.args.tree.now.page_map.staged c.requires.present
 
 pub returns-in_err-scan_page-clause-stages : goal.returns-in_err-scan_page-clause-stages
 returns-in_err-scan_page-clause-stages g c =

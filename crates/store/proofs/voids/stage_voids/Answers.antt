@@ -11,7 +11,7 @@ use Rattle.lattice.specs.declared.refusal.Refusal.TheVariants.{Device, NoMemory,
 use Rattle.page_codec.specs.Roots.{RootValue}
 use Rattle.catalogue.specs.Endings.{ends_any}
 use Rattle.catalogue.specs.Readers.{reads_of}
-use Rattle.charts.specs.Charts.{ChartValue, HasFreshHeights}
+use Rattle.page_map.specs.PageMaps.{PageMapValue, HasFreshHeights}
 use Rattle.cow_tree.specs.Reading.{HasOnlyRead, IsReadable, mosaic_of}
 use Rattle.cow_tree.specs.Stored.{StoredTile, AreWhole, mosaic_of_tiles}
 use Rattle.cow_tree.specs.Trees.{root_of, has_failed, corners_of, sinks_of, staged_in, HasStaged}
@@ -34,7 +34,7 @@ only_read g old new result keeps read = record {
   uncommitted = read;
   corners = keeps.corners;
   sinks = keeps.sinks;
-  still_staged = λ c staged. subst (λ (chart : ChartValue). HasFreshHeights c chart) (sym keeps.chart) staged;
+  still_staged = λ c staged. subst (λ (page_map : PageMapValue). HasFreshHeights c page_map) (sym keeps.page_map) staged;
 }
 
 ended : {P : Type 0} (r : Refusal) → IsTrue (ends_any r) → IfErr (reads_of {T = Unit {0}} (Err r)) (λ x. x ≡ Device) → OnOk (reads_of {T = Unit {0}} (Err r)) P → (r ≡ Device) ⊎ ((r ≡ NoMemory) × P)

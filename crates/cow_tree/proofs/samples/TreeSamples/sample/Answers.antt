@@ -20,7 +20,7 @@ first_of (x ∷ xs) some = refl
 
 pub read_two-requires-clause-held : goal.read_two-requires-clause-held
 read_two-requires-clause-held g c =
-    let found = located_tile c.args.c c.args.self.now.chart.staged c.requires.present in
+    let found = located_tile c.args.c c.args.self.now.page_map.staged c.requires.present in
     (found.0, (found.1.0, (found.1.1, (found.0.heights, refl))))
 
 pub returns-clause-sample : goal.returns-clause-sample
@@ -28,8 +28,8 @@ returns-clause-sample g c readable =
     let old = c.args.self.now in
     let was = was_readable g.D.Disk old c.read_two.new.self c.in_ok-read_two.ensures.reads.keeps readable in
     let seen = g.D.Disk.seen old.roots.disk in
-    let found = located_tile c.args.c old.chart.staged c.requires.present in
-    let among = contains-map (tile_in seen) old.chart.staged found.0 found.1.0 in
+    let found = located_tile c.args.c old.page_map.staged c.requires.present in
+    let among = contains-map (tile_in seen) old.page_map.staged found.0 found.1.0 in
     let t : StoredTile = tile_in seen found.0 in
     let all = samples_are old.root.side old.sinks.points (staged_in g.D.Disk old) c.args.c t was.valid among found.1.1 in
     let many = as_many old.root.side old.sinks.points (staged_in g.D.Disk old) c.args.c t was.valid among found.1.1 in

@@ -8,7 +8,7 @@ use Rattle.page_codec.specs.Roots.{RootValue, format_of}
 use Rattle.roots.specs.Roots.{IsReady, ready_current}
 use Rattle.roots.specs.Slots.{KeepsAll, HasMoved, SamePages, IsCurrent}
 use Rattle.page_codec.specs.Entries.{EntryValue}
-use Rattle.charts.specs.Charts.{ChartValue, corners_of_locations}
+use Rattle.page_map.specs.PageMaps.{PageMapValue, corners_of_locations}
 use Rattle.cow_tree.specs.Entries.{entry_of}
 use Rattle.cow_tree.specs.Layout.{stored_in, tile_in, StoresAt, Stands}
 use Rattle.cow_tree.specs.Listings.{due_among, numbers_of, tiles_listing}
@@ -30,8 +30,8 @@ with_sinks-root-requires g c =
 
 -- what a commit writes besides its root
 module _ (g : _) (c : After-write_listings g) where
-  abbrev old : ChartValue
-  old = c.args.self.now.chart
+  abbrev old : PageMapValue
+  old = c.args.self.now.page_map
 
   count : length (numbers_of (due_among old.committed (tiles_listing old.format old.staged))) ≡ length (pages_due old)
   count = ap (λ (l : List ℕ). length l) (due_are old.committed old.format old.staged)
@@ -53,10 +53,10 @@ returns-in_err-write_listings-clause-any_moment g c honest s is =
     let d = g.D.Disk in
     let old = c.args.self.now in
     let size = d.size old.roots.disk in
-    let target : Stored = next_commit s old.sinks.points (map (tile_in (d.seen old.roots.disk)) old.chart.staged) c.args.count in
-    weaker d old.roots.disk c.write_listings.new.roots.disk (StoresAt size old.roots.root old.chart.committed s) (λ image. Stands size image s ⊎ Stands size image target)
-    (λ image stores. inl (stands size old.roots.root old.chart.committed s image stores))
-    (c.write_listings.ensures.pages.any_moment honest is.ready old.chart.committed s (due_unreached old.chart.committed (tiles_listing old.chart.format old.chart.staged)) is.each)
+    let target : Stored = next_commit s old.sinks.points (map (tile_in (d.seen old.roots.disk)) old.page_map.staged) c.args.count in
+    weaker d old.roots.disk c.write_listings.new.roots.disk (StoresAt size old.roots.root old.page_map.committed s) (λ image. Stands size image s ⊎ Stands size image target)
+    (λ image stores. inl (stands size old.roots.root old.page_map.committed s image stores))
+    (c.write_listings.ensures.pages.any_moment honest is.ready old.page_map.committed s (due_unreached old.page_map.committed (tiles_listing old.page_map.format old.page_map.staged)) is.each)
 
 -- what lists the planes is written
 module _ (g : _) (c : After-commit g) (honest : g.D.Disk.honest c.commit.new.self.disk) (s : Stored) (is : IsAt g.D.Disk c.args.self.now s) where
@@ -66,35 +66,35 @@ module _ (g : _) (c : After-commit g) (honest : g.D.Disk.honest c.commit.new.sel
   abbrev seen : Image
   seen = g.D.Disk.seen c.args.self.now.roots.disk
 
-  abbrev chart : ChartValue
-  chart = c.args.self.now.chart
+  abbrev page_map : PageMapValue
+  page_map = c.args.self.now.page_map
 
   mid_honest : g.D.Disk.honest c.write_listings.new.roots.disk
   mid_honest = c.commit.ensures.honest honest
 
-  stored : s ≡ stored_in seen c.args.self.now.root chart.committed
+  stored : s ≡ stored_in seen c.args.self.now.root page_map.committed
   stored =
       (is.each seen (g.met.D.Disk.seen_may c.args.self.now.roots.disk (c.write_listings.ensures.pages.honest mid_honest))).stands
-      ∙ ap (λ (r : RootValue). stored_in seen r chart.committed) (c.args.self.now.known c.requires.not_failed)
+      ∙ ap (λ (r : RootValue). stored_in seen r page_map.committed) (c.args.self.now.known c.requires.not_failed)
 
   abbrev target : Stored
-  target = next_commit s c.args.self.now.sinks.points (map (tile_in seen) chart.staged) c.args.count
+  target = next_commit s c.args.self.now.sinks.points (map (tile_in seen) page_map.staged) c.args.count
 
-  is_next : c.with_sinks-root.result ≡ next_root c.args.self.now.root c.args.count c.args.self.now.sinks.points (map entry_of chart.staged)
+  is_next : c.with_sinks-root.result ≡ next_root c.args.self.now.root c.args.count c.args.self.now.sinks.points (map entry_of page_map.staged)
   is_next =
       c.with_sinks-root.ensures
       ∙ ap₂ (λ (r : RootValue) (sinks : List Point). record r { sinks = sinks }) c.next.ensures c.points.ensures.value
       ∙ ap (next_root c.args.self.now.root c.args.count c.args.self.now.sinks.points) c.staged_entries-entries.ensures.value
 
-  staged : AreStaged chart.format chart.committed chart.staged seen
-  staged = subst (λ (f : Format). AreStaged f chart.committed chart.staged seen) (sym c.args.self.now.format) is.staged
+  staged : AreStaged page_map.format page_map.committed page_map.staged seen
+  staged = subst (λ (f : Format). AreStaged f page_map.committed page_map.staged seen) (sym c.args.self.now.format) is.staged
 
-  land : (image : Image) → HasMoved c.with_sinks-root.result (g.D.Disk.seen c.write_listings.new.roots.disk) image → StoresAt size c.with_sinks-root.result chart.staged target image
+  land : (image : Image) → HasMoved c.with_sinks-root.result (g.D.Disk.seen c.write_listings.new.roots.disk) image → StoresAt size c.with_sinks-root.result page_map.staged target image
   land =
-      subst (λ (r : RootValue). (image : Image) → HasMoved r (g.D.Disk.seen c.write_listings.new.roots.disk) image → StoresAt size r chart.staged target image) (sym is_next)
-      (lands chart c.rules.ensures chart.committed seen (g.D.Disk.seen c.write_listings.new.roots.disk) staged (c.in_ok-write_listings.ensures.written mid_honest) (c.in_ok-write_listings.ensures.pages.others mid_honest)
-      size (next_root c.args.self.now.root c.args.count c.args.self.now.sinks.points (map entry_of chart.staged)) chart.staged target c.args.self.now.sectors c.args.self.now.fits c.args.self.now.format refl refl
-      (ap (λ (x : Stored). next_commit x c.args.self.now.sinks.points (map (tile_in seen) chart.staged) c.args.count) stored))
+      subst (λ (r : RootValue). (image : Image) → HasMoved r (g.D.Disk.seen c.write_listings.new.roots.disk) image → StoresAt size r page_map.staged target image) (sym is_next)
+      (lands page_map c.rules.ensures page_map.committed seen (g.D.Disk.seen c.write_listings.new.roots.disk) staged (c.in_ok-write_listings.ensures.written mid_honest) (c.in_ok-write_listings.ensures.pages.others mid_honest)
+      size (next_root c.args.self.now.root c.args.count c.args.self.now.sinks.points (map entry_of page_map.staged)) page_map.staged target c.args.self.now.sectors c.args.self.now.fits c.args.self.now.format refl refl
+      (ap (λ (x : Stored). next_commit x c.args.self.now.sinks.points (map (tile_in seen) page_map.staged) c.args.count) stored))
 
   ready : IsReady g.D.Disk c.write_listings.new.roots
   ready = c.in_ok-write_listings.ensures.pages.ready mid_honest is.ready
@@ -104,8 +104,8 @@ module _ (g : _) (c : After-commit g) (honest : g.D.Disk.honest c.commit.new.sel
       let d = g.D.Disk in
       let old = c.args.self.now in
       let mid = c.write_listings.new.roots in
-      committing d old.roots.disk mid.disk c.commit.new.self.disk size old.roots.root c.with_sinks-root.result chart.committed chart.staged s target
-      (c.write_listings.ensures.pages.any_moment mid_honest is.ready chart.committed s (due_unreached chart.committed (tiles_listing chart.format chart.staged)) is.each) land
+      committing d old.roots.disk mid.disk c.commit.new.self.disk size old.roots.root c.with_sinks-root.result page_map.committed page_map.staged s target
+      (c.write_listings.ensures.pages.any_moment mid_honest is.ready page_map.committed s (due_unreached page_map.committed (tiles_listing page_map.format page_map.staged)) is.each) land
       (subst (λ (r : RootValue). LeavesOnly d mid.disk c.commit.new.self.disk (λ image. KeepsAll r (d.may mid.disk) image ⊎ HasMoved c.with_sinks-root.result (d.seen mid.disk) image))
       c.write_listings.ensures.pages.root (c.commit.ensures.any_moment honest ready))
 
@@ -119,22 +119,22 @@ pub returns-clause-at : goal.returns-clause-at
 returns-clause-at g c honest s is =
     let d = g.D.Disk in
     let after = (goal.at.returns-clause-at g c).After-commit in
-    let chart = c.args.self.now.chart in
+    let page_map = c.args.self.now.page_map in
     let mid = c.write_listings.new.roots in
     let new = c.commit.new.self in
     let n = d.size c.args.self.now.roots.disk in
     let ready_now = c.in_ok-commit.ensures.ready honest (ready g after honest s is) in
-    let each : (image : Image) → d.may new.disk image → StoresAt n c.with_sinks-root.result chart.staged (target g after honest s is) image = λ image may.
+    let each : (image : Image) → d.may new.disk image → StoresAt n c.with_sinks-root.result page_map.staged (target g after honest s is) image = λ image may.
     let current : IsCurrent c.with_sinks-root.result image = subst (λ (r : RootValue). IsCurrent r image) c.in_ok-commit.ensures.root (ready_current d new image ready_now may) in
     let pages : SamePages (d.seen mid.disk) image = subst (λ (i : Image). SamePages (d.seen mid.disk) i) (sym (c.in_ok-commit.ensures.durable honest image may)) (c.in_ok-commit.ensures.pages honest) in
     land g after honest s is image (current, pages) in
     let settled = c.settle.ensures.settled in
     record {
       ready = ready_now;
-      each = λ image may. stores_along n (d.size new.disk) c.with_sinks-root.result new.root chart.staged c.settle.new.self.committed (target g after honest s is) image
-          (c.commit.ensures.size ∙ c.write_listings.ensures.pages.size) c.in_ok-commit.ensures.root (ap (λ (x : ChartValue). x.committed) settled) (each image may);
-      staged = subst (λ (x : ChartValue). AreStaged (format_of c.with_sinks-root.result) x.committed x.staged (d.seen new.disk)) (sym settled)
-          (nothing_staged n c.with_sinks-root.result chart.staged (target g after honest s is) (d.seen new.disk) (each (d.seen new.disk) (g.met.D.Disk.seen_may new.disk honest)));
+      each = λ image may. stores_along n (d.size new.disk) c.with_sinks-root.result new.root page_map.staged c.settle.new.self.committed (target g after honest s is) image
+          (c.commit.ensures.size ∙ c.write_listings.ensures.pages.size) c.in_ok-commit.ensures.root (ap (λ (x : PageMapValue). x.committed) settled) (each image may);
+      staged = subst (λ (x : PageMapValue). AreStaged (format_of c.with_sinks-root.result) x.committed x.staged (d.seen new.disk)) (sym settled)
+          (nothing_staged n c.with_sinks-root.result page_map.staged (target g after honest s is) (d.seen new.disk) (each (d.seen new.disk) (g.met.D.Disk.seen_may new.disk honest)));
     }
 
 pub returns-clause-staged : goal.returns-clause-staged
@@ -142,22 +142,22 @@ returns-clause-staged g c honest s is =
     let d = g.D.Disk in
     let after = (goal.at.returns-clause-staged g c).After-commit in
     let old = c.args.self.now in
-    ap (λ (x : ChartValue). map (tile_in (d.seen c.commit.new.self.disk)) x.staged) c.settle.ensures.settled
-    ∙ sym (same_tiles old.chart c.rules.ensures old.chart.committed (d.seen old.roots.disk) (d.seen c.write_listings.new.roots.disk) (staged g after honest s is)
-    (c.in_ok-write_listings.ensures.written (mid_honest g after honest s is)) (c.in_ok-write_listings.ensures.pages.others (mid_honest g after honest s is)) (d.seen c.commit.new.self.disk) (c.in_ok-commit.ensures.pages honest) old.chart.staged refl)
+    ap (λ (x : PageMapValue). map (tile_in (d.seen c.commit.new.self.disk)) x.staged) c.settle.ensures.settled
+    ∙ sym (same_tiles old.page_map c.rules.ensures old.page_map.committed (d.seen old.roots.disk) (d.seen c.write_listings.new.roots.disk) (staged g after honest s is)
+    (c.in_ok-write_listings.ensures.written (mid_honest g after honest s is)) (c.in_ok-write_listings.ensures.pages.others (mid_honest g after honest s is)) (d.seen c.commit.new.self.disk) (c.in_ok-commit.ensures.pages honest) old.page_map.staged refl)
 
 pub returns-clause-none_staged : goal.returns-clause-none_staged
 returns-clause-none_staged g c =
-    clean_is_committed c.settle.new.self (ap (λ (x : ChartValue). x.staged) c.settle.ensures.settled ∙ sym (ap (λ (x : ChartValue). x.committed) c.settle.ensures.settled))
+    clean_is_committed c.settle.new.self (ap (λ (x : PageMapValue). x.staged) c.settle.ensures.settled ∙ sym (ap (λ (x : PageMapValue). x.committed) c.settle.ensures.settled))
 
 pub returns-clause-none_due : goal.returns-clause-none_due
 returns-clause-none_due g c =
-    none_due c.settle.new.self (ap (λ (x : ChartValue). x.staged) c.settle.ensures.settled ∙ sym (ap (λ (x : ChartValue). x.committed) c.settle.ensures.settled))
+    none_due c.settle.new.self (ap (λ (x : PageMapValue). x.staged) c.settle.ensures.settled ∙ sym (ap (λ (x : PageMapValue). x.committed) c.settle.ensures.settled))
 
 pub returns-clause-entries : goal.returns-clause-entries
 returns-clause-entries g c =
-    ap (λ (x : ChartValue). corners_of_locations x.staged) c.settle.ensures.settled ∙ corners_of_entries c.args.self.now.chart.staged
+    ap (λ (x : PageMapValue). corners_of_locations x.staged) c.settle.ensures.settled ∙ corners_of_entries c.args.self.now.page_map.staged
     ∙ ap (map (λ (e : EntryValue). e.corner)) (sym c.staged_entries-entries.ensures.value) ∙ ap (λ (r : RootValue). map (λ (e : EntryValue). e.corner) r.entries) (sym (c.with_sinks-root.ensures ∙ ap (λ (r : RootValue). record r { sinks = c.points.result.now }) c.next.ensures))
 
 pub returns-clause-unstaged : goal.returns-clause-unstaged
-returns-clause-unstaged g c = ap (λ (x : ChartValue). x.staged) c.settle.ensures.settled ∙ sym (ap (λ (x : ChartValue). x.committed) c.settle.ensures.settled)
+returns-clause-unstaged g c = ap (λ (x : PageMapValue). x.staged) c.settle.ensures.settled ∙ sym (ap (λ (x : PageMapValue). x.committed) c.settle.ensures.settled)

@@ -1,7 +1,7 @@
 use Rattle.std.proofs.Common.{List, None, map, sym, ap, ◌∙◌, subst, arith}
 use Rattle.page_codec.specs.Roots.{format_of}
-use Rattle.charts.specs.Charts.{ChartValue, corners_of_locations}
-use Rattle.charts.specs.TileLocations.{TileLocation}
+use Rattle.page_map.specs.PageMaps.{PageMapValue, corners_of_locations}
+use Rattle.page_map.specs.TileLocations.{TileLocation}
 use Rattle.cow_tree.specs.Layout.{tile_in, StoresAt}
 use Rattle.cow_tree.specs.Staged.{AreStaged}
 use Rattle.cow_tree.proofs.Due.{other_due}
@@ -9,18 +9,18 @@ use Rattle.cow_tree.proofs.KeptDrops.{bared_tiles, other_corners, other_still, o
 use Rattle.cow_tree.proofs.tree.Tree.drop_kept.Goals as goal
 
 pub returns-clause-corners : goal.returns-clause-corners
-returns-clause-corners g c = ap (λ (x : ChartValue). corners_of_locations x.staged) c.drop_kept.ensures.dropped ∙ other_corners c.args.c None c.args.self.now.chart.staged
+returns-clause-corners g c = ap (λ (x : PageMapValue). corners_of_locations x.staged) c.drop_kept.ensures.dropped ∙ other_corners c.args.c None c.args.self.now.page_map.staged
 
 pub returns-clause-staged : goal.returns-clause-staged
 returns-clause-staged g c =
     let seen = g.D.Disk.seen c.args.self.now.roots.disk in
-    ap (λ (x : ChartValue). map (tile_in seen) x.staged) c.drop_kept.ensures.dropped ∙ bared_tiles c.args.c seen c.args.self.now.chart.staged
+    ap (λ (x : PageMapValue). map (tile_in seen) x.staged) c.drop_kept.ensures.dropped ∙ bared_tiles c.args.c seen c.args.self.now.page_map.staged
 
 pub returns-clause-due : goal.returns-clause-due
-returns-clause-due g c = let few = other_due c.args.self.now.chart c.drop_kept.new.self c.args.c None c.drop_kept.ensures.dropped c.rules.ensures c.requires in omega (arith, few)
+returns-clause-due g c = let few = other_due c.args.self.now.page_map c.drop_kept.new.self c.args.c None c.drop_kept.ensures.dropped c.rules.ensures c.requires in omega (arith, few)
 
 pub returns-clause-still_staged : goal.returns-clause-still_staged
-returns-clause-still_staged g c other = other_still c.args.c None c.args.self.now.chart c.drop_kept.new.self other c.drop_kept.ensures.dropped
+returns-clause-still_staged g c other = other_still c.args.c None c.args.self.now.page_map c.drop_kept.new.self other c.drop_kept.ensures.dropped
 
 pub returns-clause-at : goal.returns-clause-at
 returns-clause-at g c s is =
@@ -29,7 +29,7 @@ returns-clause-at g c s is =
     let dropped = c.drop_kept.ensures.dropped in
     record {
       ready = is.ready;
-      each = λ image may. subst (λ (tiles : List TileLocation). StoresAt (g.D.Disk.size old.roots.disk) old.roots.root tiles s image) (sym (ap (λ (x : ChartValue). x.committed) dropped)) (is.each image may);
-      staged = subst (λ (x : ChartValue). AreStaged (format_of old.root) x.committed x.staged seen) (sym dropped)
-          (other_stays c.args.c None (format_of old.root) old.chart.committed seen tt old.chart.staged is.staged);
+      each = λ image may. subst (λ (tiles : List TileLocation). StoresAt (g.D.Disk.size old.roots.disk) old.roots.root tiles s image) (sym (ap (λ (x : PageMapValue). x.committed) dropped)) (is.each image may);
+      staged = subst (λ (x : PageMapValue). AreStaged (format_of old.root) x.committed x.staged seen) (sym dropped)
+          (other_stays c.args.c None (format_of old.root) old.page_map.committed seen tt old.page_map.staged is.staged);
     }

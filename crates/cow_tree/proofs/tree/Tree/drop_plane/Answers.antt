@@ -1,8 +1,8 @@
 use Rattle.std.proofs.Common.{not, map, List, sym, ap, ◌∙◌, subst}
 use Rattle.page_codec.specs.Roots.{format_of}
 use Rattle.lattice.specs.Corners.{Corner, same_corner}
-use Rattle.charts.specs.Charts.{ChartValue, corners_of_locations}
-use Rattle.charts.specs.TileLocations.{TileLocation}
+use Rattle.page_map.specs.PageMaps.{PageMapValue, corners_of_locations}
+use Rattle.page_map.specs.TileLocations.{TileLocation}
 use Rattle.cow_tree.specs.Layout.{tile_in, StoresAt}
 use Rattle.cow_tree.specs.Staged.{AreStaged}
 use Rattle.cow_tree.specs.Stored.{StoredTile}
@@ -12,14 +12,14 @@ use Rattle.cow_tree.proofs.tree.Tree.drop_plane.Goals as goal
 
 pub returns-clause-corners : goal.returns-clause-corners
 returns-clause-corners g c =
-    ap (λ (x : ChartValue). corners_of_locations x.staged) c.remove_tile.ensures.removed
-    ∙ filter-map (λ (other : Corner). not (same_corner other c.args.c)) (λ (t : TileLocation). t.corner) c.args.self.now.chart.staged
+    ap (λ (x : PageMapValue). corners_of_locations x.staged) c.remove_tile.ensures.removed
+    ∙ filter-map (λ (other : Corner). not (same_corner other c.args.c)) (λ (t : TileLocation). t.corner) c.args.self.now.page_map.staged
 
 pub returns-clause-staged : goal.returns-clause-staged
 returns-clause-staged g c =
     let seen = g.D.Disk.seen c.args.self.now.roots.disk in
-    ap (λ (x : ChartValue). map (tile_in seen) x.staged) c.remove_tile.ensures.removed
-    ∙ filter-map (λ (t : StoredTile). not (same_corner t.corner c.args.c)) (tile_in seen) c.args.self.now.chart.staged
+    ap (λ (x : PageMapValue). map (tile_in seen) x.staged) c.remove_tile.ensures.removed
+    ∙ filter-map (λ (t : StoredTile). not (same_corner t.corner c.args.c)) (tile_in seen) c.args.self.now.page_map.staged
 
 pub returns-clause-at : goal.returns-clause-at
 returns-clause-at g c s is =
@@ -27,10 +27,10 @@ returns-clause-at g c s is =
     let removed = c.remove_tile.ensures.removed in
     record {
       ready = is.ready;
-      each = λ image may. subst (λ (tiles : List TileLocation). StoresAt (g.D.Disk.size old.roots.disk) old.roots.root tiles s image) (sym (ap (λ (x : ChartValue). x.committed) removed)) (is.each image may);
-      staged = subst (λ (x : ChartValue). AreStaged (format_of old.root) x.committed x.staged (g.D.Disk.seen old.roots.disk)) (sym removed)
-          (staged_without (format_of old.root) old.chart.committed old.chart.staged c.args.c (g.D.Disk.seen old.roots.disk) is.staged);
+      each = λ image may. subst (λ (tiles : List TileLocation). StoresAt (g.D.Disk.size old.roots.disk) old.roots.root tiles s image) (sym (ap (λ (x : PageMapValue). x.committed) removed)) (is.each image may);
+      staged = subst (λ (x : PageMapValue). AreStaged (format_of old.root) x.committed x.staged (g.D.Disk.seen old.roots.disk)) (sym removed)
+          (staged_without (format_of old.root) old.page_map.committed old.page_map.staged c.args.c (g.D.Disk.seen old.roots.disk) is.staged);
     }
 
 pub returns-clause-due : goal.returns-clause-due
-returns-clause-due g c = without_due c.args.self.now.chart c.remove_tile.new.self c.args.c c.remove_tile.ensures.removed
+returns-clause-due g c = without_due c.args.self.now.page_map c.remove_tile.new.self c.args.c c.remove_tile.ensures.removed

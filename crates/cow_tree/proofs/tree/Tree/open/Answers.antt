@@ -2,33 +2,33 @@ use Rattle.std.proofs.Common.{◌≡◌, All, map, ap, ◌∙◌, subst, sym}
 use Rattle.disk.specs.Disk.{Image}
 use Rattle.page_codec.specs.Entries.{EntryValue}
 use Rattle.page_codec.specs.Roots.{format_of}
-use Rattle.charts.specs.Charts.{corners_of_locations}
+use Rattle.page_map.specs.PageMaps.{corners_of_locations}
 use Rattle.cow_tree.specs.Layout.{HasRecords}
 use Rattle.disk.specs.Stops.{AddsNothing, nothing_twice}
 use Rattle.cow_tree.proofs.Dropping.{corners_of_entries, clean_is_committed}
 use Rattle.cow_tree.proofs.Due.{none_due}
-use Rattle.cow_tree.proofs.Opened.{opened, chart_refuses, stands_opens}
+use Rattle.cow_tree.proofs.Opened.{opened, page_map_refuses, stands_opens}
 use Rattle.cow_tree.proofs.ReadOnly.{works_ok}
 use Rattle.cow_tree.proofs.tree.Tree.open.Goals as goal
 
-pub returns-in-Ok-read_chart-clause-at : goal.returns-in-Ok-read_chart-clause-at
-returns-in-Ok-read_chart-clause-at g c honest =
+pub returns-in-Ok-read_page_map-clause-at : goal.returns-in-Ok-read_page_map-clause-at
+returns-in-Ok-read_page_map-clause-at g c honest =
     let d = g.D.Disk in
-    let reads = c.in-Ok-read_chart.ensures.reads in
-    let roots = c.read_chart.new.roots in
+    let reads = c.in-Ok-read_page_map.ensures.reads in
+    let roots = c.read_page_map.new.roots in
     let opening = c.in_ok-roots.ensures in
     let opened_honest = reads.honest honest in
     let seen_is : d.seen roots.disk ≡ d.seen c.args.disk = reads.seen honest ∙ opening.seen opened_honest in
-    opened d _ (d.size c.args.disk) (d.seen c.args.disk) (reads.ready honest (opening.ready opened_honest) (works_ok c.in-Ok-read_chart.chart roots.failed reads.works)) (reads.size ∙ opening.size) seen_is
+    opened d _ (d.size c.args.disk) (d.seen c.args.disk) (reads.ready honest (opening.ready opened_honest) (works_ok c.in-Ok-read_page_map.page_map roots.failed reads.works)) (reads.size ∙ opening.size) seen_is
     (λ image may. opening.durable opened_honest image ((reads.nothing honest).run.now image may) ∙ opening.seen opened_honest)
-    (g.met.D.Disk.seen_may roots.disk honest) c.in-Ok-read_chart.ensures.rules c.in-Ok-read_chart.ensures.clean
-    (subst (λ (i : Image). All (HasRecords (format_of c.copy-root.result) i) c.in-Ok-read_chart.chart.committed) (opening.seen opened_honest) (c.in-Ok-read_chart.ensures.records honest))
+    (g.met.D.Disk.seen_may roots.disk honest) c.in-Ok-read_page_map.ensures.rules c.in-Ok-read_page_map.ensures.clean
+    (subst (λ (i : Image). All (HasRecords (format_of c.copy-root.result) i) c.in-Ok-read_page_map.page_map.committed) (opening.seen opened_honest) (c.in-Ok-read_page_map.ensures.records honest))
 
-pub returns-in-Ok-read_chart-clause-clean : goal.returns-in-Ok-read_chart-clause-clean
-returns-in-Ok-read_chart-clause-clean g c = clean_is_committed c.in-Ok-read_chart.chart c.in-Ok-read_chart.ensures.clean
+pub returns-in-Ok-read_page_map-clause-clean : goal.returns-in-Ok-read_page_map-clause-clean
+returns-in-Ok-read_page_map-clause-clean g c = clean_is_committed c.in-Ok-read_page_map.page_map c.in-Ok-read_page_map.ensures.clean
 
-pub returns-in-Ok-read_chart-clause-corners : goal.returns-in-Ok-read_chart-clause-corners
-returns-in-Ok-read_chart-clause-corners g c = ap corners_of_locations c.in-Ok-read_chart.ensures.clean ∙ corners_of_entries c.in-Ok-read_chart.chart.committed ∙ ap (map (λ (e : EntryValue). e.corner)) c.in-Ok-read_chart.ensures.entries
+pub returns-in-Ok-read_page_map-clause-corners : goal.returns-in-Ok-read_page_map-clause-corners
+returns-in-Ok-read_page_map-clause-corners g c = ap corners_of_locations c.in-Ok-read_page_map.ensures.clean ∙ corners_of_entries c.in-Ok-read_page_map.page_map.committed ∙ ap (map (λ (e : EntryValue). e.corner)) c.in-Ok-read_page_map.ensures.entries
 
 pub returns-in-Err-clause-refused : goal.returns-in-Err-clause-refused
 returns-in-Err-clause-refused g c honest =
@@ -36,22 +36,22 @@ returns-in-Err-clause-refused g c honest =
     let opening = c.in_ok-roots.ensures in
     let now_honest = subst d.honest c.into_disk.ensures honest in
     let opened_honest = c.in-Err.ensures.reads.honest now_honest in
-    chart_refuses (d.size c.args.disk) (d.size c.in_ok-roots.roots.disk) (d.seen c.args.disk) (d.seen c.in_ok-roots.roots.disk) c.copy-root.result c.in_ok-roots.roots.root c.in-Err.refusal _
+    page_map_refuses (d.size c.args.disk) (d.size c.in_ok-roots.roots.disk) (d.seen c.args.disk) (d.seen c.in_ok-roots.roots.disk) c.copy-root.result c.in_ok-roots.roots.root c.in-Err.refusal _
     opening.size (opening.seen opened_honest) (c.copy-root.ensures ∙ c.current.ensures) (λ fault. cc) (opening.opens opened_honest) (c.in-Err.ensures.refused now_honest)
 
-pub returns-in-Ok-read_chart-clause-none_due : goal.returns-in-Ok-read_chart-clause-none_due
-returns-in-Ok-read_chart-clause-none_due g c = none_due c.in-Ok-read_chart.chart c.in-Ok-read_chart.ensures.clean
+pub returns-in-Ok-read_page_map-clause-none_due : goal.returns-in-Ok-read_page_map-clause-none_due
+returns-in-Ok-read_page_map-clause-none_due g c = none_due c.in-Ok-read_page_map.page_map c.in-Ok-read_page_map.ensures.clean
 
 pub returns-in-Err-clause-sure : goal.returns-in-Err-clause-sure
 returns-in-Err-clause-sure g c honest s is = stands_opens (g.D.Disk.size c.args.disk) (g.D.Disk.seen c.args.disk) s c.in-Err.refusal is (returns-in-Err-clause-refused g c honest)
 
-pub returns-in-Ok-read_chart-clause-unstaged : goal.returns-in-Ok-read_chart-clause-unstaged
-returns-in-Ok-read_chart-clause-unstaged g c = c.in-Ok-read_chart.ensures.clean
+pub returns-in-Ok-read_page_map-clause-unstaged : goal.returns-in-Ok-read_page_map-clause-unstaged
+returns-in-Ok-read_page_map-clause-unstaged g c = c.in-Ok-read_page_map.ensures.clean
 
-pub returns-in-Ok-read_chart-clause-nothing : goal.returns-in-Ok-read_chart-clause-nothing
-returns-in-Ok-read_chart-clause-nothing g c honest =
-    let reads = c.in-Ok-read_chart.ensures.reads in
-    nothing_twice g.D.Disk c.args.disk c.in_ok-roots.roots.disk c.read_chart.new.roots.disk (c.in_ok-roots.ensures.nothing (reads.honest honest)) (reads.nothing honest)
+pub returns-in-Ok-read_page_map-clause-nothing : goal.returns-in-Ok-read_page_map-clause-nothing
+returns-in-Ok-read_page_map-clause-nothing g c honest =
+    let reads = c.in-Ok-read_page_map.ensures.reads in
+    nothing_twice g.D.Disk c.args.disk c.in_ok-roots.roots.disk c.read_page_map.new.roots.disk (c.in_ok-roots.ensures.nothing (reads.honest honest)) (reads.nothing honest)
 
 pub returns-in-Err-clause-nothing : goal.returns-in-Err-clause-nothing
 returns-in-Err-clause-nothing g c honest =
@@ -59,9 +59,9 @@ returns-in-Err-clause-nothing g c honest =
     let reads = c.in-Err.ensures.reads in
     let now_honest = subst d.honest c.into_disk.ensures honest in
     subst (AddsNothing d c.args.disk) (sym c.into_disk.ensures)
-    (nothing_twice d c.args.disk c.in_ok-roots.roots.disk c.read_chart.new.roots.disk (c.in_ok-roots.ensures.nothing (reads.honest now_honest)) (reads.nothing now_honest))
+    (nothing_twice d c.args.disk c.in_ok-roots.roots.disk c.read_page_map.new.roots.disk (c.in_ok-roots.ensures.nothing (reads.honest now_honest)) (reads.nothing now_honest))
 
-pub returns-in-Ok-read_chart-clause-durable : goal.returns-in-Ok-read_chart-clause-durable
-returns-in-Ok-read_chart-clause-durable g c honest image may =
-    let reads = c.in-Ok-read_chart.ensures.reads in
+pub returns-in-Ok-read_page_map-clause-durable : goal.returns-in-Ok-read_page_map-clause-durable
+returns-in-Ok-read_page_map-clause-durable g c honest image may =
+    let reads = c.in-Ok-read_page_map.ensures.reads in
     c.in_ok-roots.ensures.durable (reads.honest honest) image ((reads.nothing honest).run.now image may) ∙ sym (reads.seen honest)

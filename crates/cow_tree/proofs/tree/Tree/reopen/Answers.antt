@@ -6,11 +6,11 @@ use Rattle.lattice.specs.declared.refusal.Refusal.{Refusal}
 use Rattle.lattice.specs.declared.refusal.Refusal.TheVariants.{Device}
 use Rattle.page_codec.specs.Entries.{EntryValue}
 use Rattle.page_codec.specs.Roots.{format_of}
-use Rattle.charts.specs.Charts.{corners_of_locations}
+use Rattle.page_map.specs.PageMaps.{corners_of_locations}
 use Rattle.cow_tree.specs.Layout.{HasRecords}
 use Rattle.cow_tree.proofs.Dropping.{corners_of_entries, clean_is_committed}
 use Rattle.cow_tree.proofs.Due.{none_due}
-use Rattle.cow_tree.proofs.Opened.{opened, chart_refuses, stands_opens}
+use Rattle.cow_tree.proofs.Opened.{opened, page_map_refuses, stands_opens}
 use Rattle.cow_tree.proofs.ReadOnly.{works_ok, never_refused, handed_on}
 use Rattle.cow_tree.proofs.tree.Tree.reopen.Goals as goal
 
@@ -19,20 +19,20 @@ returns-in-Ok-clause-at g c honest =
     let d = g.D.Disk in
     let start = c.args.self.now.roots in
     let reads = c.in-Ok.ensures.reads in
-    let roots = c.read_chart.new.roots in
+    let roots = c.read_page_map.new.roots in
     let opening = c.in_ok-reopen.ensures in
     let opened_honest = reads.honest honest in
     let seen_is : d.seen roots.disk ≡ d.seen start.disk = reads.seen honest ∙ opening.seen opened_honest in
-    opened d _ (d.size start.disk) (d.seen start.disk) (reads.ready honest (opening.ready opened_honest) (works_ok c.in-Ok.chart roots.failed reads.works)) (reads.size ∙ c.reopen.ensures.size) seen_is
+    opened d _ (d.size start.disk) (d.seen start.disk) (reads.ready honest (opening.ready opened_honest) (works_ok c.in-Ok.page_map roots.failed reads.works)) (reads.size ∙ c.reopen.ensures.size) seen_is
     (λ image may. opening.durable opened_honest image ((reads.nothing honest).run.now image may) ∙ opening.seen opened_honest)
     (g.met.D.Disk.seen_may roots.disk honest) c.in-Ok.ensures.rules c.in-Ok.ensures.clean
-    (subst (λ (i : Image). All (HasRecords (format_of c.copy-root.result) i) c.in-Ok.chart.committed) (opening.seen opened_honest) (c.in-Ok.ensures.records honest))
+    (subst (λ (i : Image). All (HasRecords (format_of c.copy-root.result) i) c.in-Ok.page_map.committed) (opening.seen opened_honest) (c.in-Ok.ensures.records honest))
 
 pub returns-in-Ok-clause-clean : goal.returns-in-Ok-clause-clean
-returns-in-Ok-clause-clean g c = clean_is_committed c.in-Ok.chart c.in-Ok.ensures.clean
+returns-in-Ok-clause-clean g c = clean_is_committed c.in-Ok.page_map c.in-Ok.ensures.clean
 
 pub returns-in-Ok-clause-corners : goal.returns-in-Ok-clause-corners
-returns-in-Ok-clause-corners g c = ap corners_of_locations c.in-Ok.ensures.clean ∙ corners_of_entries c.in-Ok.chart.committed ∙ ap (map (λ (e : EntryValue). e.corner)) c.in-Ok.ensures.entries
+returns-in-Ok-clause-corners g c = ap corners_of_locations c.in-Ok.ensures.clean ∙ corners_of_entries c.in-Ok.page_map.committed ∙ ap (map (λ (e : EntryValue). e.corner)) c.in-Ok.ensures.entries
 
 pub returns-in-Err-clause-refused : goal.returns-in-Err-clause-refused
 returns-in-Err-clause-refused g c honest =
@@ -41,11 +41,11 @@ returns-in-Err-clause-refused g c honest =
     let opening = c.in_ok-reopen.ensures in
     let now_honest = subst d.honest c.fail.ensures.disk honest in
     let opened_honest = c.in-Err.ensures.reads.honest now_honest in
-    chart_refuses (d.size start.disk) (d.size c.reopen.new.self.disk) (d.seen start.disk) (d.seen c.reopen.new.self.disk) c.copy-root.result c.reopen.new.self.root c.in-Err.refusal _
+    page_map_refuses (d.size start.disk) (d.size c.reopen.new.self.disk) (d.seen start.disk) (d.seen c.reopen.new.self.disk) c.copy-root.result c.reopen.new.self.root c.in-Err.refusal _
     c.reopen.ensures.size (opening.seen opened_honest) (c.copy-root.ensures ∙ c.current.ensures) (never_refused tt Device) (opening.opens opened_honest) (c.in-Err.ensures.refused now_honest)
 
 pub returns-in-Ok-clause-none_due : goal.returns-in-Ok-clause-none_due
-returns-in-Ok-clause-none_due g c = none_due c.in-Ok.chart c.in-Ok.ensures.clean
+returns-in-Ok-clause-none_due g c = none_due c.in-Ok.page_map c.in-Ok.ensures.clean
 
 pub returns-in-Err-clause-sure : goal.returns-in-Err-clause-sure
 returns-in-Err-clause-sure g c honest s is =
@@ -77,7 +77,7 @@ returns-in_err-reopen-clause-sure g c honest s (root, tiles, stores) =
 pub returns-in-Ok-clause-nothing : goal.returns-in-Ok-clause-nothing
 returns-in-Ok-clause-nothing g c honest =
     let reads = c.in-Ok.ensures.reads in
-    nothing_twice g.D.Disk c.args.self.now.roots.disk c.reopen.new.self.disk c.read_chart.new.roots.disk (c.in_ok-reopen.ensures.nothing (reads.honest honest)) (reads.nothing honest)
+    nothing_twice g.D.Disk c.args.self.now.roots.disk c.reopen.new.self.disk c.read_page_map.new.roots.disk (c.in_ok-reopen.ensures.nothing (reads.honest honest)) (reads.nothing honest)
 
 pub returns-in-Err-clause-nothing : goal.returns-in-Err-clause-nothing
 returns-in-Err-clause-nothing g c honest =
@@ -85,7 +85,7 @@ returns-in-Err-clause-nothing g c honest =
     let reads = c.in-Err.ensures.reads in
     let now_honest = subst d.honest c.fail.ensures.disk honest in
     subst (AddsNothing d c.args.self.now.roots.disk) (sym c.fail.ensures.disk)
-    (nothing_twice d c.args.self.now.roots.disk c.reopen.new.self.disk c.read_chart.new.roots.disk (c.in_ok-reopen.ensures.nothing (reads.honest now_honest)) (reads.nothing now_honest))
+    (nothing_twice d c.args.self.now.roots.disk c.reopen.new.self.disk c.read_page_map.new.roots.disk (c.in_ok-reopen.ensures.nothing (reads.honest now_honest)) (reads.nothing now_honest))
 
 pub returns-in-Ok-clause-durable : goal.returns-in-Ok-clause-durable
 returns-in-Ok-clause-durable g c honest image may =

@@ -3,7 +3,7 @@ use Rattle.page_codec.specs.Sizes.{pages_of}
 use Rattle.std.proofs.lemmas.Bool.{false≢true}
 use Rattle.page_codec.specs.Formats.{Format}
 use Rattle.page_codec.specs.Roots.{format_of}
-use Rattle.charts.specs.Charts.{ChartValue, HasFreshHeights, corners_of_locations}
+use Rattle.page_map.specs.PageMaps.{PageMapValue, HasFreshHeights, corners_of_locations}
 use Rattle.cow_tree.specs.Entries.{entry_of}
 use Rattle.cow_tree.specs.Staged.{index_page_by, pages_due}
 use Rattle.cow_tree.proofs.Steps.{corners_same, stage_pages, stage_stays, page_unreached, still_stands, each_still, stores_along, ok_where_works, on_ok_both, ok_where, failed_where, only_device}
@@ -14,36 +14,36 @@ use Rattle.cow_tree.proofs.tree.Tree.stage.Goals as goal
 pub returns-clause-corners : goal.returns-clause-corners
 returns-clause-corners g c =
     let rw = c.in_ok-number.ensures.written in
-    ap (λ (chart : ChartValue). corners_of_locations chart.staged) rw.changed ∙ corners_same c.args.c c.args.i c.in_ok-number.number rw.index_page rw.record_page c.args.self.now.chart.staged
+    ap (λ (page_map : PageMapValue). corners_of_locations page_map.staged) rw.changed ∙ corners_same c.args.c c.args.i c.in_ok-number.number rw.index_page rw.record_page c.args.self.now.page_map.staged
 
 pub returns-clause-staged : goal.returns-clause-staged
 returns-clause-staged g c honest s is =
     let d = g.D.Disk in
     let old = c.args.self.now in
     let rw = c.in_ok-number.ensures.written in
-    let index : c.args.i < pages_of old.chart.format.side = subst (λ (n : ℕ). c.args.i < pages_of n) (sym (ap (λ (f : Format). f.side) old.format)) c.requires.index in
+    let index : c.args.i < pages_of old.page_map.format.side = subst (λ (n : ℕ). c.args.i < pages_of n) (sym (ap (λ (f : Format). f.side) old.format)) c.requires.index in
     on_ok_both c.write.result
-    (stage_pages old.chart c.page_for_writing.new.self c.args.c c.args.i c.in_ok-number.number c.args.page.now (d.seen old.roots.disk) (d.seen c.write.new.self.disk) c.rules.ensures c.in_ok-number.ensures.rules rw c.requires.present index)
+    (stage_pages old.page_map c.page_for_writing.new.self c.args.c c.args.i c.in_ok-number.number c.args.page.now (d.seen old.roots.disk) (d.seen c.write.new.self.disk) c.rules.ensures c.in_ok-number.ensures.rules rw c.requires.present index)
     (c.write.ensures.others honest) (c.write.ensures.written honest)
 
 pub returns-clause-at : goal.returns-clause-at
 returns-clause-at g c honest s is works =
     let d = g.D.Disk in
     let old = c.args.self.now in
-    let new_chart = c.page_for_writing.new.self in
+    let new_page_map = c.page_for_writing.new.self in
     let rw = c.in_ok-number.ensures.written in
-    let index : c.args.i < pages_of old.chart.format.side = subst (λ (n : ℕ). c.args.i < pages_of n) (sym (ap (λ (f : Format). f.side) old.format)) c.requires.index in
+    let index : c.args.i < pages_of old.page_map.format.side = subst (λ (n : ℕ). c.args.i < pages_of n) (sym (ap (λ (f : Format). f.side) old.format)) c.requires.index in
     let failed = c.write.ensures.failed in
     record {
       ready = ok_where_works c.write.result c.write.new.self.failed failed works (c.write.ensures.ready honest is.ready);
-      each = λ image may. stores_along (d.size old.roots.disk) (d.size c.write.new.self.disk) old.roots.root c.write.new.self.root old.chart.committed new_chart.committed s image
-          c.write.ensures.size c.write.ensures.root (ap (λ (chart : ChartValue). chart.committed) rw.changed)
-          (each_still d old.roots.disk c.write.new.self.disk c.in_ok-number.number (d.size old.roots.disk) old.roots.root old.chart.committed s is.each
-          (page_unreached old.chart new_chart c.args.c c.args.i c.in_ok-number.number c.args.page.now (d.seen old.roots.disk) (d.seen c.write.new.self.disk) c.rules.ensures c.in_ok-number.ensures.rules rw)
+      each = λ image may. stores_along (d.size old.roots.disk) (d.size c.write.new.self.disk) old.roots.root c.write.new.self.root old.page_map.committed new_page_map.committed s image
+          c.write.ensures.size c.write.ensures.root (ap (λ (page_map : PageMapValue). page_map.committed) rw.changed)
+          (each_still d old.roots.disk c.write.new.self.disk c.in_ok-number.number (d.size old.roots.disk) old.roots.root old.page_map.committed s is.each
+          (page_unreached old.page_map new_page_map c.args.c c.args.i c.in_ok-number.number c.args.page.now (d.seen old.roots.disk) (d.seen c.write.new.self.disk) c.rules.ensures c.in_ok-number.ensures.rules rw)
           (c.write.ensures.any_moment honest is.ready) image may);
       staged = ok_where_works c.write.result c.write.new.self.failed failed works
           (on_ok_both c.write.result
-          (λ same written. stage_stays old.chart new_chart c.args.c c.args.i c.in_ok-number.number c.args.page.now (d.seen old.roots.disk) (d.seen c.write.new.self.disk) c.rules.ensures c.in_ok-number.ensures.rules rw (format_of old.root) c.requires.present index same written is.staged)
+          (λ same written. stage_stays old.page_map new_page_map c.args.c c.args.i c.in_ok-number.number c.args.page.now (d.seen old.roots.disk) (d.seen c.write.new.self.disk) c.rules.ensures c.in_ok-number.ensures.rules rw (format_of old.root) c.requires.present index same written is.staged)
           (c.write.ensures.others honest) (c.write.ensures.written honest));
     }
 
@@ -52,21 +52,21 @@ returns-clause-any_moment g c honest s is =
     let d = g.D.Disk in
     let old = c.args.self.now in
     let rw = c.in_ok-number.ensures.written in
-    still_stands d old.roots.disk c.write.new.self.disk c.in_ok-number.number (d.size old.roots.disk) old.roots.root old.chart.committed s is.each
-    (page_unreached old.chart c.page_for_writing.new.self c.args.c c.args.i c.in_ok-number.number c.args.page.now (d.seen old.roots.disk) (d.seen c.write.new.self.disk) c.rules.ensures c.in_ok-number.ensures.rules rw)
+    still_stands d old.roots.disk c.write.new.self.disk c.in_ok-number.number (d.size old.roots.disk) old.roots.root old.page_map.committed s is.each
+    (page_unreached old.page_map c.page_for_writing.new.self c.args.c c.args.i c.in_ok-number.number c.args.page.now (d.seen old.roots.disk) (d.seen c.write.new.self.disk) c.rules.ensures c.in_ok-number.ensures.rules rw)
     (c.write.ensures.any_moment honest is.ready)
 
 pub returns-in_err-number-clause-sure : goal.returns-in_err-number-clause-sure
 returns-in_err-number-clause-sure g c had _ = false≢true (c.in_err-number.ensures.sure had)
 
 pub returns-in_err-number-clause-due : goal.returns-in_err-number-clause-due
-returns-in_err-number-clause-due g c = let due = ap (λ (x : ChartValue). length (pages_due x)) c.in_err-number.ensures.unchanged in omega (arith, due)
+returns-in_err-number-clause-due g c = let due = ap (λ (x : PageMapValue). length (pages_due x)) c.in_err-number.ensures.unchanged in omega (arith, due)
 
 pub returns-in_err-number-clause-due_same : goal.returns-in_err-number-clause-due_same
-returns-in_err-number-clause-due_same g c had = let due = ap (λ (x : ChartValue). length (pages_due x)) c.in_err-number.ensures.unchanged in omega (arith, due)
+returns-in_err-number-clause-due_same g c had = let due = ap (λ (x : PageMapValue). length (pages_due x)) c.in_err-number.ensures.unchanged in omega (arith, due)
 
 pub returns-in_err-number-clause-due_before : goal.returns-in_err-number-clause-due_before
-returns-in_err-number-clause-due_before g c = let due = ap (λ (x : ChartValue). length (pages_due x)) c.in_err-number.ensures.unchanged in omega (arith, due)
+returns-in_err-number-clause-due_before g c = let due = ap (λ (x : PageMapValue). length (pages_due x)) c.in_err-number.ensures.unchanged in omega (arith, due)
 
 pub returns-in_err-number-clause-still_staged : goal.returns-in_err-number-clause-still_staged
 returns-in_err-number-clause-still_staged g c other had = subst (HasFreshHeights other) (sym c.in_err-number.ensures.unchanged) had
@@ -80,26 +80,26 @@ returns-clause-sure g c had = only_device c.write.result c.write.ensures.refused
 pub returns-clause-due : goal.returns-clause-due
 returns-clause-due g c =
     let old = c.args.self.now in
-    subst (λ (f : Format). length (pages_due c.page_for_writing.new.self) ≤ length (pages_due old.chart) + (1 + index_page_by f.version)) old.format
-    (written_due old.chart c.page_for_writing.new.self c.args.c c.args.i c.in_ok-number.number c.rules.ensures c.in_ok-number.ensures.written c.requires.present)
+    subst (λ (f : Format). length (pages_due c.page_for_writing.new.self) ≤ length (pages_due old.page_map) + (1 + index_page_by f.version)) old.format
+    (written_due old.page_map c.page_for_writing.new.self c.args.c c.args.i c.in_ok-number.number c.rules.ensures c.in_ok-number.ensures.written c.requires.present)
 
 pub returns-clause-due_same : goal.returns-clause-due_same
 returns-clause-due_same g c had =
     let old = c.args.self.now in
-    subst (λ (f : Format). length (pages_due c.page_for_writing.new.self) ≤ length (pages_due old.chart) + index_page_by f.version) old.format
-    (written_due_same old.chart c.page_for_writing.new.self c.args.c c.args.i c.in_ok-number.number c.rules.ensures c.in_ok-number.ensures.written c.requires.present had)
+    subst (λ (f : Format). length (pages_due c.page_for_writing.new.self) ≤ length (pages_due old.page_map) + index_page_by f.version) old.format
+    (written_due_same old.page_map c.page_for_writing.new.self c.args.c c.args.i c.in_ok-number.number c.rules.ensures c.in_ok-number.ensures.written c.requires.present had)
 
 pub returns-clause-due_before : goal.returns-clause-due_before
-returns-clause-due_before g c = written_due_before c.args.self.now.chart c.page_for_writing.new.self c.args.c c.args.i c.in_ok-number.number c.rules.ensures c.in_ok-number.ensures.written c.requires.present
+returns-clause-due_before g c = written_due_before c.args.self.now.page_map c.page_for_writing.new.self c.args.c c.args.i c.in_ok-number.number c.rules.ensures c.in_ok-number.ensures.written c.requires.present
 
 pub returns-clause-has_staged : goal.returns-clause-has_staged
-returns-clause-has_staged g c = ok_where c.write.result (written_here c.args.self.now.chart c.page_for_writing.new.self c.args.c c.args.i c.in_ok-number.number c.rules.ensures c.in_ok-number.ensures.written c.requires.present)
+returns-clause-has_staged g c = ok_where c.write.result (written_here c.args.self.now.page_map c.page_for_writing.new.self c.args.c c.args.i c.in_ok-number.number c.rules.ensures c.in_ok-number.ensures.written c.requires.present)
 
 pub returns-clause-still_staged : goal.returns-clause-still_staged
-returns-clause-still_staged g c = written_still c.args.self.now.chart c.page_for_writing.new.self c.args.c c.args.i c.in_ok-number.number c.rules.ensures c.in_ok-number.ensures.written
+returns-clause-still_staged g c = written_still c.args.self.now.page_map c.page_for_writing.new.self c.args.c c.args.i c.in_ok-number.number c.rules.ensures c.in_ok-number.ensures.written
 
 pub invariant_of-self-2-clause-entries : goal.invariant_of-self-2-clause-entries
-invariant_of-self-2-clause-entries g c = ap (λ (chart : ChartValue). map entry_of chart.committed) c.in_ok-number.ensures.written.changed ∙ c.args.self.now.entries
+invariant_of-self-2-clause-entries g c = ap (λ (page_map : PageMapValue). map entry_of page_map.committed) c.in_ok-number.ensures.written.changed ∙ c.args.self.now.entries
 
 pub invariant_of-self-2-clause-cached : goal.invariant_of-self-2-clause-cached
 invariant_of-self-2-clause-cached g c honest works =

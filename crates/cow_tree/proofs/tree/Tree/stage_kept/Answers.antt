@@ -4,7 +4,7 @@ use Rattle.disk.specs.Stops.{weaker}
 use Rattle.page_codec.specs.Formats.{Format}
 use Rattle.page_codec.specs.Roots.{format_of}
 use Rattle.page_codec.specs.Sizes.{index_pages_of, pages_of}
-use Rattle.charts.specs.Charts.{ChartValue, AreKept, AreWholeKept, corners_of_locations}
+use Rattle.page_map.specs.PageMaps.{PageMapValue, AreKept, AreWholeKept, corners_of_locations}
 use Rattle.cow_tree.specs.Kept.{planes_of_bytes}
 use Rattle.cow_tree.specs.Layout.{StoresAt, Stands}
 use Rattle.cow_tree.specs.Staged.{pages_due}
@@ -17,10 +17,10 @@ use Rattle.cow_tree.proofs.tree.Tree.stage_kept.Goals.{In-Some}
 
 -- the levels and labels that were given fresh pages
 module _ (g : _) (c : In-Some g) where
-  abbrev old : ChartValue
-  old = c.args.self.now.chart
+  abbrev old : PageMapValue
+  old = c.args.self.now.page_map
 
-  abbrev new : ChartValue
+  abbrev new : PageMapValue
   new = c.keep.new.self
 
   anew : AreKept c.args.c old new
@@ -34,21 +34,21 @@ module _ (g : _) (c : In-Some g) where
 
 pub write_kept-requires-clause-low : goal.write_kept-requires-clause-low
 write_kept-requires-clause-low g c =
-    pages_low c.args.self.now.chart c.keep.new.self c.args.c c.in_ok-keep.ensures.rules c.rules.ensures c.in_ok-keep.ensures.kept c.requires.unstaged c.requires.present c.in-Some.kept.now c.in-Some.ensures.found
+    pages_low c.args.self.now.page_map c.keep.new.self c.args.c c.in_ok-keep.ensures.rules c.rules.ensures c.in_ok-keep.ensures.kept c.requires.unstaged c.requires.present c.in-Some.kept.now c.in-Some.ensures.found
 
 pub write_kept-requires-clause-high : goal.write_kept-requires-clause-high
 write_kept-requires-clause-high g c k d lt =
-    let high = pages_high c.args.self.now.chart c.keep.new.self c.args.c c.in_ok-keep.ensures.rules c.rules.ensures c.in_ok-keep.ensures.kept c.requires.unstaged c.requires.present c.in-Some.kept.now c.in-Some.ensures.found k d lt in
-    let same = ap (λ (x : ChartValue). x.sectors) c.in_ok-keep.ensures.kept.changed in
+    let high = pages_high c.args.self.now.page_map c.keep.new.self c.args.c c.in_ok-keep.ensures.rules c.rules.ensures c.in_ok-keep.ensures.kept c.requires.unstaged c.requires.present c.in-Some.kept.now c.in-Some.ensures.found k d lt in
+    let same = ap (λ (x : PageMapValue). x.sectors) c.in_ok-keep.ensures.kept.changed in
     omega (arith, high, same, c.args.self.now.sectors)
 
 pub write_kept-requires-clause-distinct : goal.write_kept-requires-clause-distinct
 write_kept-requires-clause-distinct g c =
-    pages_once c.args.self.now.chart c.keep.new.self c.args.c c.in_ok-keep.ensures.rules c.rules.ensures c.in_ok-keep.ensures.kept c.requires.unstaged c.requires.present c.in-Some.kept.now c.in-Some.ensures.found
+    pages_once c.args.self.now.page_map c.keep.new.self c.args.c c.in_ok-keep.ensures.rules c.rules.ensures c.in_ok-keep.ensures.kept c.requires.unstaged c.requires.present c.in-Some.kept.now c.in-Some.ensures.found
 
 pub unreachable-requires : goal.unreachable-requires
 unreachable-requires g c =
-    some_kept c.args.self.now.chart c.keep.new.self c.args.c c.in_ok-keep.ensures.rules c.rules.ensures c.in_ok-keep.ensures.kept c.requires.unstaged c.requires.present c.in-None.ensures.none
+    some_kept c.args.self.now.page_map c.keep.new.self c.args.c c.in_ok-keep.ensures.rules c.rules.ensures c.in_ok-keep.ensures.kept c.requires.unstaged c.requires.present c.in-None.ensures.none
 
 pub returns-clause-writes : goal.returns-clause-writes
 returns-clause-writes g c = omega (arith, c.write_kept.ensures.writes.few, few g (goal.at.returns-clause-writes g c).In-Some)
@@ -61,17 +61,17 @@ returns-clause-begun g c =
 pub returns-clause-corners : goal.returns-clause-corners
 returns-clause-corners g c =
     let kept = c.in_ok-keep.ensures.kept in
-    ap (λ (x : ChartValue). corners_of_locations x.staged) kept.changed ∙ other_corners c.args.c (Some kept.locations) c.args.self.now.chart.staged
+    ap (λ (x : PageMapValue). corners_of_locations x.staged) kept.changed ∙ other_corners c.args.c (Some kept.locations) c.args.self.now.page_map.staged
 
 pub returns-clause-due : goal.returns-clause-due
 returns-clause-due g c =
     let new = c.keep.new.self in
     let old = c.args.self.now in
-    subst (λ (f : Format). length (pages_due new) ≤ length (pages_due old.chart) + 2 * (1 + index_pages_of f)) old.format
-    (kept_more old.chart new c.args.c c.in_ok-keep.ensures.kept c.rules.ensures c.requires.present)
+    subst (λ (f : Format). length (pages_due new) ≤ length (pages_due old.page_map) + 2 * (1 + index_pages_of f)) old.format
+    (kept_more old.page_map new c.args.c c.in_ok-keep.ensures.kept c.rules.ensures c.requires.present)
 
 pub returns-in_err-keep-clause-due : goal.returns-in_err-keep-clause-due
-returns-in_err-keep-clause-due g c = let due = ap (λ (x : ChartValue). length (pages_due x)) c.in_err-keep.ensures.unchanged in omega (arith, due)
+returns-in_err-keep-clause-due g c = let due = ap (λ (x : PageMapValue). length (pages_due x)) c.in_err-keep.ensures.unchanged in omega (arith, due)
 
 pub returns-clause-staged : goal.returns-clause-staged
 returns-clause-staged g c honest s is =
@@ -94,9 +94,9 @@ returns-clause-at g c honest s is works =
     let none = pages_unreached (old g here) (new g here) c.args.c c.in_ok-keep.ensures.rules c.rules.ensures (anew g here) c.requires.unstaged c.requires.present c.in-Some.kept.now c.in-Some.ensures.found in
     record {
       ready = ok_where_works c.write_kept.result roots.failed written.failed works (written.ready honest is.ready);
-      each = λ image may. stores_along (d.size before.roots.disk) (d.size roots.disk) before.roots.root roots.root before.chart.committed (new g here).committed s image
-          written.size written.root (ap (λ (x : ChartValue). x.committed) (anew g here).changed)
-          ((written.any_moment honest is.ready before.chart.committed s none is.each).now image may);
+      each = λ image may. stores_along (d.size before.roots.disk) (d.size roots.disk) before.roots.root roots.root before.page_map.committed (new g here).committed s image
+          written.size written.root (ap (λ (x : PageMapValue). x.committed) (anew g here).changed)
+          ((written.any_moment honest is.ready before.page_map.committed s none is.each).now image may);
       staged = ok_where_works c.write_kept.result roots.failed written.failed works
           (on_ok c.write_kept.result
           (λ others. kept_stays (old g here) (new g here) c.args.c c.in_ok-keep.ensures.rules c.rules.ensures (anew g here) c.requires.unstaged c.requires.present c.in-Some.kept.now c.in-Some.ensures.found
@@ -110,7 +110,7 @@ returns-clause-any_moment g c honest s is =
     let d = g.D.Disk in
     let before = c.args.self.now in
     let size = d.size before.roots.disk in
-    weaker d before.roots.disk c.write_kept.new.roots.disk (StoresAt size before.roots.root before.chart.committed s) (λ image. Stands size image s)
-    (λ image stores. stands size before.roots.root before.chart.committed s image stores)
-    (c.write_kept.ensures.writes.any_moment honest is.ready before.chart.committed s
+    weaker d before.roots.disk c.write_kept.new.roots.disk (StoresAt size before.roots.root before.page_map.committed s) (λ image. Stands size image s)
+    (λ image stores. stands size before.roots.root before.page_map.committed s image stores)
+    (c.write_kept.ensures.writes.any_moment honest is.ready before.page_map.committed s
     (pages_unreached (old g here) (new g here) c.args.c c.in_ok-keep.ensures.rules c.rules.ensures (anew g here) c.requires.unstaged c.requires.present c.in-Some.kept.now c.in-Some.ensures.found) is.each)

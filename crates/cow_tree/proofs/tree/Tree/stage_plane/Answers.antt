@@ -3,10 +3,10 @@ use Rattle.page_codec.specs.Formats.{Format}
 use Rattle.page_codec.specs.Roots.{format_of}
 use Rattle.disk.specs.Disk.{Image}
 use Rattle.disk.specs.Stops.{weaker}
-use Rattle.charts.specs.Charts.{ChartValue, IsAdded}
-use Rattle.charts.specs.TileLocations.{reached}
+use Rattle.page_map.specs.PageMaps.{PageMapValue, IsAdded}
+use Rattle.page_map.specs.TileLocations.{reached}
 use Rattle.cow_tree.specs.Layout.{StoresAt, Stands}
-use Rattle.charts.specs.Locations.{times}
+use Rattle.page_map.specs.Locations.{times}
 use Rattle.cow_tree.specs.Staged.{pages_due}
 use Rattle.cow_tree.specs.Stored.{pages_of_bytes}
 use Rattle.page_codec.specs.Sizes.{index_pages_of}
@@ -18,10 +18,10 @@ use Rattle.cow_tree.proofs.tree.Tree.stage_plane.Goals.{After-pages}
 
 -- the pages of the new tile's heights
 module _ (g : _) (c : After-pages g) where
-  abbrev old : ChartValue
-  old = c.args.self.now.chart
+  abbrev old : PageMapValue
+  old = c.args.self.now.page_map
 
-  abbrev new : ChartValue
+  abbrev new : PageMapValue
   new = c.tile_for_writing.new.self
 
   added : IsAdded c.args.c old new
@@ -32,7 +32,7 @@ module _ (g : _) (c : After-pages g) where
 
   high : All (λ p. p < g.D.Disk.size c.args.self.now.roots.disk) c.pages.result.now
   high =
-      subst (λ (n : ℕ). All (λ p. p < n) c.pages.result.now) (ap (λ (x : ChartValue). x.sectors) added.changed ∙ c.args.self.now.sectors)
+      subst (λ (n : ℕ). All (λ p. p < n) c.pages.result.now) (ap (λ (x : PageMapValue). x.sectors) added.changed ∙ c.args.self.now.sectors)
       (subst (All (λ p. p < new.sectors)) (sym c.pages.ensures) (pages_high old new c.args.c c.in_ok-tile_for_writing.ensures.rules added c.in-Some.plane.now c.in-Some.ensures.found))
 
   once : (p : ℕ) → times p c.pages.result.now ≤ 1
@@ -52,7 +52,7 @@ write_plane-requires-clause-distinct g c = once g (goal.at.write_plane-requires-
 
 pub unreachable-requires : goal.unreachable-requires
 unreachable-requires g c =
-    let none = c.in-None.ensures.present.1 (added_located c.args.self.now.chart c.tile_for_writing.new.self c.args.c c.in_ok-tile_for_writing.ensures.rules c.in_ok-tile_for_writing.ensures.added) in
+    let none = c.in-None.ensures.present.1 (added_located c.args.self.now.page_map c.tile_for_writing.new.self c.args.c c.in_ok-tile_for_writing.ensures.rules c.in_ok-tile_for_writing.ensures.added) in
     cc
 
 -- what the disk holds once they are written
@@ -80,9 +80,9 @@ returns-clause-at g c honest s is works =
     let written = c.write_plane.ensures.writes in
     record {
       ready = ok_where_works c.write_plane.result roots.failed written.failed works (written.ready honest is.ready);
-      each = λ image may. stores_along (d.size before.roots.disk) (d.size roots.disk) before.roots.root roots.root before.chart.committed (new g here).committed s image
-          written.size written.root (ap (λ (x : ChartValue). x.committed) (added g here).changed)
-          ((written.any_moment honest is.ready before.chart.committed s (unreached g here) is.each).now image may);
+      each = λ image may. stores_along (d.size before.roots.disk) (d.size roots.disk) before.roots.root roots.root before.page_map.committed (new g here).committed s image
+          written.size written.root (ap (λ (x : PageMapValue). x.committed) (added g here).changed)
+          ((written.any_moment honest is.ready before.page_map.committed s (unreached g here) is.each).now image may);
       staged = ok_where_works c.write_plane.result roots.failed written.failed works
           (on_ok c.write_plane.result
           (λ others. plane_stays (old g here) (new g here) c.args.c c.in_ok-tile_for_writing.ensures.rules (added g here) c.in-Some.plane.now c.in-Some.ensures.found (d.seen before.roots.disk) (d.seen roots.disk) c.args.bytes.now
@@ -95,23 +95,23 @@ returns-clause-any_moment g c honest s is =
     let d = g.D.Disk in
     let before = c.args.self.now in
     let size = d.size before.roots.disk in
-    weaker d before.roots.disk c.write_plane.new.roots.disk (StoresAt size before.roots.root before.chart.committed s) (λ image. Stands size image s)
-    (λ image stores. stands size before.roots.root before.chart.committed s image stores)
-    (c.write_plane.ensures.writes.any_moment honest is.ready before.chart.committed s (unreached g (goal.at.returns-clause-any_moment g c).After-pages) is.each)
+    weaker d before.roots.disk c.write_plane.new.roots.disk (StoresAt size before.roots.root before.page_map.committed s) (λ image. Stands size image s)
+    (λ image stores. stands size before.roots.root before.page_map.committed s image stores)
+    (c.write_plane.ensures.writes.any_moment honest is.ready before.page_map.committed s (unreached g (goal.at.returns-clause-any_moment g c).After-pages) is.each)
 
 pub returns-clause-device : goal.returns-clause-device
 returns-clause-device g c = failed_where c.write_plane.result _ c.write_plane.ensures.writes.failed
 
 pub returns-clause-corners : goal.returns-clause-corners
-returns-clause-corners g c = ok_where c.write_plane.result (added_corners c.args.self.now.chart c.tile_for_writing.new.self c.args.c c.in_ok-tile_for_writing.ensures.added)
+returns-clause-corners g c = ok_where c.write_plane.result (added_corners c.args.self.now.page_map c.tile_for_writing.new.self c.args.c c.in_ok-tile_for_writing.ensures.added)
 
 pub returns-clause-due : goal.returns-clause-due
 returns-clause-due g c =
     let old = c.args.self.now in
     let new = c.tile_for_writing.new.self in
     ok_where c.write_plane.result
-    (subst (λ (f : Format). length (pages_due new) ≡ length (pages_due old.chart) + (1 + index_pages_of f)) old.format
-    (added_due old.chart new c.args.c c.in_ok-tile_for_writing.ensures.added))
+    (subst (λ (f : Format). length (pages_due new) ≡ length (pages_due old.page_map) + (1 + index_pages_of f)) old.format
+    (added_due old.page_map new c.args.c c.in_ok-tile_for_writing.ensures.added))
 
 pub returns-clause-has_staged : goal.returns-clause-has_staged
-returns-clause-has_staged g c = ok_where c.write_plane.result (added_here c.args.self.now.chart c.tile_for_writing.new.self c.args.c c.in_ok-tile_for_writing.ensures.added)
+returns-clause-has_staged g c = ok_where c.write_plane.result (added_here c.args.self.now.page_map c.tile_for_writing.new.self c.args.c c.in_ok-tile_for_writing.ensures.added)

@@ -7,10 +7,10 @@ use Rattle.page_codec.specs.Roots.{RootValue, format_of}
 use Rattle.page_codec.specs.Sizes.{index_pages_of}
 use Rattle.roots.specs.Roots.{IsReady, ready_current}
 use Rattle.roots.specs.Slots.{KeepsAll, HasMoved, SamePages, IsCurrent}
-use Rattle.charts.specs.Charts.{ChartValue, is_unreached}
-use Rattle.charts.specs.Locations.{times}
-use Rattle.charts.specs.TileLocations.{TileLocation, reached}
-use Rattle.charts.specs.Upgraded.{data_of, listings}
+use Rattle.page_map.specs.PageMaps.{PageMapValue, is_unreached}
+use Rattle.page_map.specs.Locations.{times}
+use Rattle.page_map.specs.TileLocations.{TileLocation, reached}
+use Rattle.page_map.specs.Upgraded.{data_of, listings}
 use Rattle.cow_tree.specs.Entries.{entry_of}
 use Rattle.cow_tree.specs.Layout.{stored_in, StoresAt, Stands}
 use Rattle.cow_tree.specs.Listings.{due_among, numbers_of, tiles_listing}
@@ -30,21 +30,21 @@ use Rattle.cow_tree.proofs.tree.Tree.upgrade.Goals.{After-write_listings, After-
 
 -- what lists the planes is not too much
 module _ (g : _) (c : After-write_listings g) where
-  abbrev new : ChartValue
-  new = c.in_ok-chart.chart
+  abbrev new : PageMapValue
+  new = c.in_ok-page_map.page_map
 
   few : length (numbers_of (due_among [] (tiles_listing new.format new.staged))) ≤ 3 * (1 + index_pages_of (upgraded (format_of c.args.self.now.root))) * length c.args.self.now.root.entries
   few =
-      let most = few_listed c.args.self.now.chart new c.in_ok-chart.ensures.rules c.in_ok-chart.ensures.upgraded c.args.self.now.root
-      (c.in_ok-chart.ensures.upgraded.format ∙ ap upgraded c.args.self.now.format) c.args.self.now.entries in
+      let most = few_listed c.args.self.now.page_map new c.in_ok-page_map.ensures.rules c.in_ok-page_map.ensures.upgraded c.args.self.now.root
+      (c.in_ok-page_map.ensures.upgraded.format ∙ ap upgraded c.args.self.now.format) c.args.self.now.entries in
       let same = ap (λ (l : List ℕ). length l) (due_are [] new.format new.staged) in
       omega (arith, most, same, filter_few (is_unreached []) (listings new.staged))
 
   -- where no committed tile was
-  fresh : All (λ q. ¬ Contains (reached c.args.self.now.chart.committed) q) (numbers_of (due_among [] (tiles_listing new.format new.staged)))
+  fresh : All (λ q. ¬ Contains (reached c.args.self.now.page_map.committed) q) (numbers_of (due_among [] (tiles_listing new.format new.staged)))
   fresh =
-      let up = c.in_ok-chart.ensures.upgraded in
-      all_of_fewer (λ q. ¬ Contains (reached c.args.self.now.chart.committed) q) (numbers_of (due_among [] (tiles_listing new.format new.staged))) (listings new.committed)
+      let up = c.in_ok-page_map.ensures.upgraded in
+      all_of_fewer (λ q. ¬ Contains (reached c.args.self.now.page_map.committed) q) (numbers_of (due_among [] (tiles_listing new.format new.staged))) (listings new.committed)
       (λ q. (let same = ap (times q) (tiles_numbers new.format new.staged) in let clean = ap (λ (tiles : List TileLocation). times q (listings tiles)) up.clean in omega (arith, few_due [] (tiles_listing new.format new.staged) q, same, clean)))
       (λ k d lt. (up.fresh k d lt).unreached)
 
@@ -57,8 +57,8 @@ returns-in_err-write_listings-clause-any_moment g c honest s is =
     let d = g.D.Disk in
     let old = c.args.self.now in
     let size = d.size old.roots.disk in
-    weaker d old.roots.disk c.write_listings.new.roots.disk (StoresAt size old.roots.root old.chart.committed s) (λ image. Stands size image s ⊎ Stands size image (upgraded_store s))
-    (λ image stores. inl (stands size old.roots.root old.chart.committed s image stores)) (c.write_listings.ensures.pages.any_moment honest is.ready old.chart.committed s (fresh g (goal.at.returns-in_err-write_listings-clause-any_moment g c).After-write_listings) is.each)
+    weaker d old.roots.disk c.write_listings.new.roots.disk (StoresAt size old.roots.root old.page_map.committed s) (λ image. Stands size image s ⊎ Stands size image (upgraded_store s))
+    (λ image stores. inl (stands size old.roots.root old.page_map.committed s image stores)) (c.write_listings.ensures.pages.any_moment honest is.ready old.page_map.committed s (fresh g (goal.at.returns-in_err-write_listings-clause-any_moment g c).After-write_listings) is.each)
 
 -- what lists the planes is written
 module _ (g : _) (c : After-commit g) (honest : g.D.Disk.honest c.commit.new.self.disk) (s : Stored) (is : IsAt g.D.Disk c.args.self.now s) where
@@ -71,52 +71,52 @@ module _ (g : _) (c : After-commit g) (honest : g.D.Disk.honest c.commit.new.sel
   abbrev between : Image
   between = g.D.Disk.seen c.write_listings.new.roots.disk
 
-  abbrev chart : ChartValue
-  chart = c.in_ok-chart.chart
+  abbrev page_map : PageMapValue
+  page_map = c.in_ok-page_map.page_map
 
   abbrev tiles : List TileLocation
-  tiles = chart.staged
+  tiles = page_map.staged
 
   mid_honest : g.D.Disk.honest c.write_listings.new.roots.disk
   mid_honest = c.commit.ensures.honest honest
 
-  stored : s ≡ stored_in seen c.args.self.now.root c.args.self.now.chart.committed
+  stored : s ≡ stored_in seen c.args.self.now.root c.args.self.now.page_map.committed
   stored =
       (is.each seen (g.met.D.Disk.seen_may c.args.self.now.roots.disk (c.write_listings.ensures.pages.honest mid_honest))).stands
-      ∙ ap (λ (r : RootValue). stored_in seen r c.args.self.now.chart.committed) (c.args.self.now.known c.requires.not_failed)
+      ∙ ap (λ (r : RootValue). stored_in seen r c.args.self.now.page_map.committed) (c.args.self.now.known c.requires.not_failed)
 
   is_next : c.upgraded-root.result ≡ upgraded_root c.args.self.now.root (map entry_of tiles)
   is_next = c.upgraded-root.ensures ∙ ap (upgraded_root c.args.self.now.root) c.staged_entries-entries.ensures.value
 
-  stays : map data_of chart.staged ≡ map data_of c.args.self.now.chart.committed
-  stays = ap (map data_of) c.in_ok-chart.ensures.upgraded.clean ∙ c.in_ok-chart.ensures.upgraded.stays
+  stays : map data_of page_map.staged ≡ map data_of c.args.self.now.page_map.committed
+  stays = ap (map data_of) c.in_ok-page_map.ensures.upgraded.clean ∙ c.in_ok-page_map.ensures.upgraded.stays
 
-  on_disk : c.in_ok-chart.chart.sectors ≡ size
-  on_disk = c.in_ok-chart.ensures.upgraded.sectors ∙ c.args.self.now.sectors
+  on_disk : c.in_ok-page_map.page_map.sectors ≡ size
+  on_disk = c.in_ok-page_map.ensures.upgraded.sectors ∙ c.args.self.now.sectors
 
-  small : c.in_ok-chart.chart.sectors < 2 ^ 32
-  small = subst (λ (n : ℕ). n < 2 ^ 32) (sym c.in_ok-chart.ensures.upgraded.sectors) c.args.self.now.fits
+  small : c.in_ok-page_map.page_map.sectors < 2 ^ 32
+  small = subst (λ (n : ℕ). n < 2 ^ 32) (sym c.in_ok-page_map.ensures.upgraded.sectors) c.args.self.now.fits
 
-  by_two : c.in_ok-chart.chart.format ≡ upgraded (format_of c.args.self.now.root)
-  by_two = c.in_ok-chart.ensures.upgraded.format ∙ ap upgraded c.args.self.now.format
+  by_two : c.in_ok-page_map.page_map.format ≡ upgraded (format_of c.args.self.now.root)
+  by_two = c.in_ok-page_map.ensures.upgraded.format ∙ ap upgraded c.args.self.now.format
 
   land : (image : Image) → HasMoved c.upgraded-root.result between image → StoresAt size c.upgraded-root.result tiles (upgraded_store s) image
   land =
       let old = c.args.self.now in
       subst (λ (r : RootValue). (image : Image) → HasMoved r between image → StoresAt size r tiles (upgraded_store s) image) (sym is_next)
-      (lands chart c.in_ok-chart.ensures.rules [] seen between (none_before chart.format chart.staged seen) (c.in_ok-write_listings.ensures.written mid_honest) (c.in_ok-write_listings.ensures.pages.others mid_honest)
-      size (upgraded_root old.root (map entry_of tiles)) old.chart.committed (upgraded_store s) on_disk small by_two refl stays (ap upgraded_store stored))
+      (lands page_map c.in_ok-page_map.ensures.rules [] seen between (none_before page_map.format page_map.staged seen) (c.in_ok-write_listings.ensures.written mid_honest) (c.in_ok-write_listings.ensures.pages.others mid_honest)
+      size (upgraded_root old.root (map entry_of tiles)) old.page_map.committed (upgraded_store s) on_disk small by_two refl stays (ap upgraded_store stored))
 
   ready : IsReady g.D.Disk c.write_listings.new.roots
   ready = c.in_ok-write_listings.ensures.pages.ready mid_honest is.ready
 
-  leaves : All (λ q. ¬ Contains (reached c.args.self.now.chart.committed) q) (numbers_of (due_among [] (tiles_listing chart.format chart.staged))) → LeavesOnly g.D.Disk c.args.self.now.roots.disk c.commit.new.self.disk (λ image. Stands size image s ⊎ Stands size image (upgraded_store s))
+  leaves : All (λ q. ¬ Contains (reached c.args.self.now.page_map.committed) q) (numbers_of (due_among [] (tiles_listing page_map.format page_map.staged))) → LeavesOnly g.D.Disk c.args.self.now.roots.disk c.commit.new.self.disk (λ image. Stands size image s ⊎ Stands size image (upgraded_store s))
   leaves none =
       let d = g.D.Disk in
       let old = c.args.self.now in
       let mid = c.write_listings.new.roots in
-      committing d old.roots.disk mid.disk c.commit.new.self.disk size old.roots.root c.upgraded-root.result old.chart.committed tiles s (upgraded_store s)
-      (c.write_listings.ensures.pages.any_moment mid_honest is.ready old.chart.committed s none is.each) land
+      committing d old.roots.disk mid.disk c.commit.new.self.disk size old.roots.root c.upgraded-root.result old.page_map.committed tiles s (upgraded_store s)
+      (c.write_listings.ensures.pages.any_moment mid_honest is.ready old.page_map.committed s none is.each) land
       (subst (λ (r : RootValue). LeavesOnly d mid.disk c.commit.new.self.disk (λ image. KeepsAll r (d.may mid.disk) image ⊎ HasMoved c.upgraded-root.result between image))
       c.write_listings.ensures.pages.root (c.commit.ensures.any_moment honest ready))
 
@@ -135,38 +135,38 @@ pub returns-clause-any_moment : goal.returns-clause-any_moment
 returns-clause-any_moment g c honest s is = leaves g (goal.at.returns-clause-any_moment g c).After-commit honest s is (fresh g (goal.at.returns-clause-any_moment g c).After-write_listings)
 
 pub returns-clause-corners : goal.returns-clause-corners
-returns-clause-corners g c = corners_stay c.args.self.now.chart c.in_ok-chart.chart c.in_ok-chart.ensures.rules c.in_ok-chart.ensures.upgraded c.requires.unstaged
+returns-clause-corners g c = corners_stay c.args.self.now.page_map c.in_ok-page_map.page_map c.in_ok-page_map.ensures.rules c.in_ok-page_map.ensures.upgraded c.requires.unstaged
 
 pub returns-clause-none_staged : goal.returns-clause-none_staged
-returns-clause-none_staged g c = clean_is_committed c.in_ok-chart.chart c.in_ok-chart.ensures.upgraded.clean
+returns-clause-none_staged g c = clean_is_committed c.in_ok-page_map.page_map c.in_ok-page_map.ensures.upgraded.clean
 
 pub returns-clause-none_due : goal.returns-clause-none_due
-returns-clause-none_due g c = none_due c.in_ok-chart.chart c.in_ok-chart.ensures.upgraded.clean
+returns-clause-none_due g c = none_due c.in_ok-page_map.page_map c.in_ok-page_map.ensures.upgraded.clean
 
 pub returns-clause-entries : goal.returns-clause-entries
 returns-clause-entries g c =
-    corners_of_entries c.in_ok-chart.chart.staged ∙ ap (map (λ (e : EntryValue). e.corner)) (sym c.staged_entries-entries.ensures.value)
+    corners_of_entries c.in_ok-page_map.page_map.staged ∙ ap (map (λ (e : EntryValue). e.corner)) (sym c.staged_entries-entries.ensures.value)
     ∙ ap (λ (r : RootValue). map (λ (e : EntryValue). e.corner) r.entries) (sym c.upgraded-root.ensures)
 
 pub returns-clause-at : goal.returns-clause-at
 returns-clause-at g c honest s is =
     let d = g.D.Disk in
     let after = (goal.at.returns-clause-at g c).After-commit in
-    let chart = c.in_ok-chart.chart in
+    let page_map = c.in_ok-page_map.page_map in
     let mid = c.write_listings.new.roots in
     let new = c.commit.new.self in
     let root = c.upgraded-root.result in
     let n = d.size c.args.self.now.roots.disk in
     let ready_now = c.in_ok-commit.ensures.ready honest (ready g after honest s is) in
-    let each : (image : Image) → d.may new.disk image → StoresAt n root chart.staged (upgraded_store s) image = λ image may.
+    let each : (image : Image) → d.may new.disk image → StoresAt n root page_map.staged (upgraded_store s) image = λ image may.
     let current : IsCurrent root image = subst (λ (r : RootValue). IsCurrent r image) c.in_ok-commit.ensures.root (ready_current d new image ready_now may) in
     let pages : SamePages (d.seen mid.disk) image = subst (λ (i : Image). SamePages (d.seen mid.disk) i) (sym (c.in_ok-commit.ensures.durable honest image may)) (c.in_ok-commit.ensures.pages honest) in
     land g after honest s is image (current, pages) in
     record {
       ready = ready_now;
-      each = λ image may. stores_along n (d.size new.disk) root new.root chart.staged chart.committed (upgraded_store s) image (c.commit.ensures.size ∙ c.write_listings.ensures.pages.size) c.in_ok-commit.ensures.root (sym c.in_ok-chart.ensures.upgraded.clean) (each image may);
-      staged = subst (λ (ts : List TileLocation). AreStaged (format_of root) ts chart.staged (d.seen new.disk)) c.in_ok-chart.ensures.upgraded.clean
-          (nothing_staged n root chart.staged (upgraded_store s) (d.seen new.disk) (each (d.seen new.disk) (g.met.D.Disk.seen_may new.disk honest)));
+      each = λ image may. stores_along n (d.size new.disk) root new.root page_map.staged page_map.committed (upgraded_store s) image (c.commit.ensures.size ∙ c.write_listings.ensures.pages.size) c.in_ok-commit.ensures.root (sym c.in_ok-page_map.ensures.upgraded.clean) (each image may);
+      staged = subst (λ (ts : List TileLocation). AreStaged (format_of root) ts page_map.staged (d.seen new.disk)) c.in_ok-page_map.ensures.upgraded.clean
+          (nothing_staged n root page_map.staged (upgraded_store s) (d.seen new.disk) (each (d.seen new.disk) (g.met.D.Disk.seen_may new.disk honest)));
     }
 
 pub returns-clause-staged : goal.returns-clause-staged
@@ -174,8 +174,8 @@ returns-clause-staged g c honest s is =
     let d = g.D.Disk in
     let after = (goal.at.returns-clause-staged g c).After-commit in
     let old = c.args.self.now in
-    let chart = c.in_ok-chart.chart in
+    let page_map = c.in_ok-page_map.page_map in
     let a = d.seen old.roots.disk in
     sym (ap (λ (x : Stored). x.tiles) (stored g after honest s is)
-    ∙ same_tiles chart c.in_ok-chart.ensures.rules [] a (d.seen c.write_listings.new.roots.disk) (none_before chart.format chart.staged a)
-    (c.in_ok-write_listings.ensures.written (mid_honest g after honest s is)) (c.in_ok-write_listings.ensures.pages.others (mid_honest g after honest s is)) (d.seen c.commit.new.self.disk) (c.in_ok-commit.ensures.pages honest) old.chart.committed (stays g after honest s is))
+    ∙ same_tiles page_map c.in_ok-page_map.ensures.rules [] a (d.seen c.write_listings.new.roots.disk) (none_before page_map.format page_map.staged a)
+    (c.in_ok-write_listings.ensures.written (mid_honest g after honest s is)) (c.in_ok-write_listings.ensures.pages.others (mid_honest g after honest s is)) (d.seen c.commit.new.self.disk) (c.in_ok-commit.ensures.pages honest) old.page_map.committed (stays g after honest s is))

@@ -158,7 +158,7 @@ returns-clause-applied g c =
     let gives_up : CommitsNothing d old marked (Ok nothing) =
     uncommitted_on d old planned marked made (Ok nothing) (reading d old planned keeps read (λ refused. never_refused made Device refused) (λ refused. absurd (never_refused made Device refused)) now_works)
     (in_memory d planned marked (Ok nothing) g.met.D.Disk.only_now marks.disk marks.root (marks.failed ∙ now_works) marks.at (λ refused. never_refused nothing Device refused)) in
-    done_holding d old c.commit_staged.new.tree c.args.self.now.held c.forget_edit.new.held command result
+    done_holding d old c.commit_staged.new.tree c.args.self.now.held c.invalidate_edit.new.held command result
     (λ honest s at right.
     let sound = at.sound works in
     let m : Mosaic = s.contents.mosaic in
@@ -167,8 +167,8 @@ returns-clause-applied g c =
     let makes : effect (root_of old).capacity m command ≡ Ok (edit_made made m) =
     subst (λ (n : ℕ). effect n m command ≡ Ok (edit_made made m)) capacity
     (subst (λ (x : Mosaic). effect c.capacity-capacity.result x command ≡ Ok (edit_made made x)) same_m (is.made (readable d old planned keeps works s at planned_honest))) in
-    left_by (root_of old).capacity m command result c.forget_edit.new.held (c.forget_edit.ensures.still m sound.holds.valid right)
-    (λ x is_x. subst (λ (y : Mosaic). IsHeldOf y c.forget_edit.new.held) (same_made (edit_made made m) x (sym makes ∙ is_x)) (c.forget_edit.ensures.changed m sound.holds.valid right)))
+    left_by (root_of old).capacity m command result c.invalidate_edit.new.held (c.invalidate_edit.ensures.still m sound.holds.valid right)
+    (λ x is_x. subst (λ (y : Mosaic). IsHeldOf y c.invalidate_edit.new.held) (same_made (edit_made made m) x (sym makes ∙ is_x)) (c.invalidate_edit.ensures.changed m sound.holds.valid right)))
     (c.commit_staged.ensures.command old command (record {
       working = works;
       uncommitted = uncommitted_on d old marked mid nothing c.stage-staged.result gives_up stages.uncommitted;

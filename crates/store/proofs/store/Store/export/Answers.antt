@@ -31,7 +31,7 @@ invariant_of-self g c =
 
 pub read_plane-requires-clause-held : goal.read_plane-requires-clause-held
 read_plane-requires-clause-held g c =
-    let found = located_tile c.args.corner c.args.self.now.tree.chart.staged (c.present.ensures.answer.0 c.if-not-present.false) in
+    let found = located_tile c.args.corner c.args.self.now.tree.page_map.staged (c.present.ensures.answer.0 c.if-not-present.false) in
     (found.0, (found.1.0, (found.1.1, (found.0.heights, refl))))
 
 pub returns-clause-outcome : goal.returns-clause-outcome

@@ -27,7 +27,7 @@ invariant_of-self-in_err-carry_out c =
       above = search rules;
       within = search rules;
       few = search rules;
-      right = subst (λ (m : Mosaic). IsHeldOf m c.forget_edit.new.held) (sym same) (c.forget_edit.ensures.still e.table c.self.invariant.valid c.self.invariant.right);
+      right = subst (λ (m : Mosaic). IsHeldOf m c.invalidate_edit.new.held) (sym same) (c.invalidate_edit.ensures.still e.table c.self.invariant.valid c.self.invariant.right);
     }
 
 pub returns-then-self : goal.returns-then-self
@@ -71,5 +71,5 @@ invariant_of-self-2 c =
       above = search rules;
       within = c.commands_make_mosaics.ensures.capacity e.capacity e.table c.args.command.now new c.self.invariant.within (c.in_ok-edit.ensures.made valid ∙ ap (λ (m : Mosaic). let r : Result Mosaic Refusal = Ok m in r) is);
       few = c.self.invariant.few;
-      right = subst (λ (m : Mosaic). IsHeldOf m c.forget_edit.new.held) is (c.forget_edit.ensures.changed e.table c.self.invariant.valid c.self.invariant.right);
+      right = subst (λ (m : Mosaic). IsHeldOf m c.invalidate_edit.new.held) is (c.invalidate_edit.ensures.changed e.table c.self.invariant.valid c.self.invariant.right);
     }

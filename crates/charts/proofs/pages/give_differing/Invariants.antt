@@ -1,5 +1,0 @@
-use Rattle.charts.proofs.GivenSoFar.{IsGivenTo}
-use Rattle.charts.proofs.pages.give_differing.Given as goal
-
-abbrev pub invariant-loop-i : goal.invariant-loop-i
-invariant-loop-i l = IsGivenTo l.pages l.others l.i l.initial.free l.free

@@ -1,6 +1,0 @@
-use Rattle.std.proofs.Common.{take}
-use Rattle.charts.specs.FreePages.{AreTaken}
-use Rattle.charts.proofs.pages.mark_all.Given as goal
-
-abbrev pub invariant-loop-page : goal.invariant-loop-page
-invariant-loop-page l = AreTaken (take l.page-index l.pages) l.initial.free l.free

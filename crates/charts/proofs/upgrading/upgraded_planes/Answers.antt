@@ -1,8 +1,0 @@
-use Rattle.charts.specs.Locations.{listing_of}
-use Rattle.charts.specs.Upgraded.{listing_of_kept}
-use Rattle.charts.proofs.FreeTimes.{taken-append}
-use Rattle.charts.proofs.upgrading.upgraded_planes.Goals as goal
-
-pub returns-clause-taken : goal.returns-clause-taken
-returns-clause-taken c =
-    taken-append (listing_of c.in_ok-heights.heights) (listing_of_kept c.in_ok-kept.kept) c.args.free.now c.upgraded_plane.new.free c.upgraded_kept.new.free c.in_ok-heights.ensures.taken c.in_ok-kept.ensures.taken

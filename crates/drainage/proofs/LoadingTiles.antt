@@ -1,0 +1,103 @@
+-- What is known of tiles as they are loaded one after another.
+use Rattle.std.proofs.Common.{◌≡◌, ◌≢◌, ℕ, ◌+◌, ◌-◌, ◌<◌, inl, inr, ◌==◌, ℤ, true, false, not, true≢false, List, length, get_or, refl, sym, ap, ◌∙◌, subst, arith, SFits, w16, of_z, to_z}
+use Rattle.std.specs.Prelude.{Option, Some, None, is_some, slice_set}
+use Rattle.std.proofs.lemmas.Bool.{cases_eq}
+use Rattle.std.proofs.lemmas.Bool.Decides.{eqb_tells}
+use Rattle.std.proofs.lemmas.Int.{to_z-of_z}
+use Rattle.std.proofs.lemmas.List.{get_or_default, get_or-set_other, get_or-set_same, length-set}
+use Rattle.lattice.specs.Corners.{Corner}
+use Rattle.lattice.specs.Mosaic.{Mosaic, void}
+use Rattle.catalogue.specs.declared.samples.Samples.{Ghosts}
+use Rattle.border_graph.specs.Summaries.{Summary}
+use Rattle.border_graph.specs.Joining.{Summarizes}
+use Rattle.border_graph.specs.Others.{corner_at}
+use Rattle.border_graph.specs.TileGraph.{TileGraph}
+use Rattle.drainage.specs.RimGraphs.{loaded_at, Fits, AreLoaded, AreKept}
+
+pub fits_before : {S : Type 0} (g : Ghosts S) (a b : S) (side : ℕ) (corners : List Corner) (loaded : List (Option TileGraph)) (side' : ℕ) (corners' : List Corner) (loaded' : List (Option TileGraph)) (n : ℕ) (summaries : List Summary)
+    → AreKept g a b side corners loaded side' corners' loaded' → Fits side' corners' loaded' n summaries → Fits side corners loaded n summaries
+fits_before g a b side corners loaded side' corners' loaded' n summaries kept fits = record {
+  mosaic = fits.mosaic;
+  is = fits.is;
+  all = fits.all;
+  whole = fits.whole;
+  same_side = fits.same_side ∙ kept.same_side;
+  same_corners = fits.same_corners ∙ kept.same_corners;
+  low = fits.low;
+  turns = fits.turns;
+  tells = λ t ways is. fits.tells t ways (kept.still t ways is);
+}
+
+-- a place that is loaded
+pub some_there : (loaded : List (Option TileGraph)) (t : ℕ) (o : Option TileGraph) → t < length loaded → o ≡ get_or loaded t o → is_some o ≡ true → (ways : TileGraph) × (loaded_at loaded t ≡ Some ways)
+some_there loaded t o small is some = by o some (get_or_default loaded t None o small ∙ sym is)
+  where
+    by : (p : Option TileGraph) → is_some p ≡ true → get_or loaded t None ≡ p → (ways : TileGraph) × (loaded_at loaded t ≡ Some ways)
+    by None some is = absurd (true≢false (sym some))
+    by (Some ways) some is = (ways, is)
+
+pub none_there : (loaded : List (Option TileGraph)) (t : ℕ) (o : Option TileGraph) → t < length loaded → o ≡ get_or loaded t o → is_some o ≡ false → loaded_at loaded t ≡ None
+none_there loaded t o small is off = get_or_default loaded t None o small ∙ (sym is ∙ by o off)
+  where
+    by : (p : Option TileGraph) → is_some p ≡ false → p ≡ None
+    by None off = refl
+    by (Some ways) off = absurd (true≢false off)
+
+pub some_is : (a b : TileGraph) → ◌≡◌ {A = Option TileGraph} (Some a) (Some b) → a ≡ b
+some_is a b e = cc
+
+pub not_both : (a : TileGraph) → ◌≡◌ {A = Option TileGraph} None (Some a) → ⊥
+not_both a e = cc
+
+pub none_told : (m : Mosaic) (side : ℕ) (corners : List Corner) (loaded : List (Option TileGraph)) → length loaded ≡ length corners → ((t : ℕ) → loaded_at loaded t ≡ None) → AreLoaded m side corners loaded
+none_told m side corners loaded whole none = record {
+  whole = whole;
+  sides = λ t ways is. absurd (not_both ways (sym (none t) ∙ is));
+  places = λ t ways is. absurd (not_both ways (sym (none t) ∙ is));
+  summaries = λ t ways is. absurd (not_both ways (sym (none t) ∙ is));
+}
+
+-- one tile more
+module _ (side : ℕ) (corners : List Corner) (loaded : List (Option TileGraph)) (t : ℕ) (c : Corner) (ways : TileGraph) (inside : t < length loaded) (was : loaded_at loaded t ≡ None) where
+  other_still : (u : ℕ) (w : TileGraph) → loaded_at loaded u ≡ Some w → u ≢ t
+  other_still u w is equal = not_both w (sym was ∙ (ap (loaded_at loaded) (sym equal) ∙ is))
+
+  this : (u : ℕ) (w : TileGraph) → u ≡ t → loaded_at (slice_set loaded t (Some ways)) u ≡ Some w → ways ≡ w
+  this u w here is = some_is ways w (sym (get_or-set_same loaded t (Some ways) None inside) ∙ (ap (loaded_at (slice_set loaded t (Some ways))) (sym here) ∙ is))
+
+  pub still_told : (u : ℕ) (w : TileGraph) → loaded_at loaded u ≡ Some w → loaded_at (slice_set loaded t (Some ways)) u ≡ Some w
+  still_told u w is = get_or-set_other loaded t u (Some ways) None (other_still u w is) ∙ is
+
+  pub told_more : (m : Mosaic) → corner_at corners t ≡ c → ways.side ≡ side → ways.summary.corner ≡ c → Summarizes m ways.summary → AreLoaded m side corners loaded → AreLoaded m side corners (slice_set loaded t (Some ways))
+  told_more m place same corner summary r = record {
+    whole = length-set loaded t (Some ways) ∙ r.whole;
+    sides = λ u w is. elim (cases_eq u t) [
+      | inl here ↦ ap (λ (x : TileGraph). x.side) (sym (this u w here is)) ∙ same
+      | inr other ↦ r.sides u w (sym (get_or-set_other loaded t u (Some ways) None other) ∙ is)
+    ];
+    places = λ u w is. elim (cases_eq u t) [
+      | inl here ↦ ap (λ (x : TileGraph). x.summary.corner) (sym (this u w here is)) ∙ (corner ∙ (sym place ∙ ap (corner_at corners) (sym here)))
+      | inr other ↦ r.places u w (sym (get_or-set_other loaded t u (Some ways) None other) ∙ is)
+    ];
+    summaries = λ u w is. elim (cases_eq u t) [
+      | inl here ↦ subst (λ (x : TileGraph). Summarizes m x.summary) (this u w here is) summary
+      | inr other ↦ r.summaries u w (sym (get_or-set_other loaded t u (Some ways) None other) ∙ is)
+    ];
+  }
+
+-- numbers and heights as they were computed
+pub same_side : (a b : ℕ) → false ≡ not (a == b) → a ≡ b
+same_side a b h = elim (eqb_tells a b) [
+  | inl same ↦ same.1
+  | inr other ↦ absurd (true≢false (sym (h ∙ ap not other.0)))
+]
+
+pub first_is : (last a r r' s : ℕ) → last ≡ 1 + a + r → r ≡ s → r' ≡ s → (last - 1) - r' ≡ a
+first_is last a r r' s is at at' = omega arith
+
+pub is_gap : (h : ℤ) → SFits w16 h → of_z w16 h ≡ 32768 → h ≡ void
+is_gap h fits is = sym (to_z-of_z w16 h fits) ∙ ap (to_z w16) is
+
+-- no other place is loaded
+pub only_told : (loaded : List (Option TileGraph)) (t : ℕ) (ways : TileGraph) (u : ℕ) (w : TileGraph) → u ≢ t → loaded_at (slice_set loaded t (Some ways)) u ≡ Some w → loaded_at loaded u ≡ Some w
+only_told loaded t ways u w other is = sym (get_or-set_other loaded t u (Some ways) None other) ∙ is

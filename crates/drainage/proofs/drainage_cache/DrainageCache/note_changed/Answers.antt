@@ -1,0 +1,22 @@
+use Rattle.std.proofs.Common.{rules, SFits, w16, ℤ, ◌≡◌, refl, sym, ◌∙◌, subst}
+use Rattle.std.proofs.lemmas.Int.{to_z-of_z}
+use Rattle.drainage.specs.Spared.{IsSetTo}
+use Rattle.std.specs.Prelude.{Option, Some}
+use Rattle.drainage.specs.Between.{are_noted, are_right, drain_right}
+use Rattle.drainage.specs.declared.tile_cache.TileCache.{TileCache}
+use Rattle.drainage.proofs.drainage_cache.DrainageCache.note_changed.Goals as goal
+
+pub returns-clause-left : goal.returns-clause-left
+returns-clause-left c =
+    let left = c.note_changed.new.self in
+    subst (λ (held : Option TileCache). are_noted c.args.point held (Some left)) (c.in-Some.ensures.value ∙ c.invalidate_ways.ensures.tile_cache) (left, refl, c.note_changed.ensures.left)
+
+pub returns-clause-right : goal.returns-clause-right
+returns-clause-right c m new differ set right =
+    let held : Some c.in-Some.tile_cache ≡ c.args.self.now.tile_cache = c.in-Some.ensures.value ∙ c.invalidate_ways.ensures.tile_cache in
+    let fits : SFits w16 c.args.to = search rules in
+    let to = subst (λ (v : ℤ). IsSetTo m new c.args.point v) (sym (to_z-of_z w16 c.args.to fits)) set in
+    record {
+      tile_cache = c.note_changed.ensures.right m new differ to (subst (are_right m) (sym held) right.tile_cache);
+      flows = subst (drain_right new) (sym c.invalidate_ways.ensures.flows) tt;
+    }

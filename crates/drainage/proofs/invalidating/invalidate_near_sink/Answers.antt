@@ -1,0 +1,17 @@
+use Rattle.catalogue.specs.Tiles.{with_sinks}
+use Rattle.edits.specs.Sinks.{with_point, without_point}
+use Rattle.drainage.proofs.Reached.{differ_with, differ_without, unmoved}
+use Rattle.drainage.proofs.invalidating.invalidate_near_sink.Goals as goal
+
+pub returns-clause-still : goal.returns-clause-still
+returns-clause-still c m valid right = c.invalidate_between.ensures.right m m (unmoved m c.args.point c.args.point) right
+
+pub returns-clause-declared : goal.returns-clause-declared
+returns-clause-declared c m valid right =
+    let p = c.args.point in
+    c.invalidate_between.ensures.right m (with_sinks (with_point p m.sinks) m) (differ_with m p) right
+
+pub returns-clause-taken_back : goal.returns-clause-taken_back
+returns-clause-taken_back c m valid right =
+    let p = c.args.point in
+    c.invalidate_between.ensures.right m (with_sinks (without_point p m.sinks) m) (differ_without m p) right

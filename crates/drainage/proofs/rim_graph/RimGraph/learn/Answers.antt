@@ -1,0 +1,23 @@
+use Rattle.std.proofs.Common.{◌∙◌, sym, ap, subst}
+use Rattle.border_graph.specs.Joining.{Summarizes}
+use Rattle.border_graph.specs.TileGraph.{TileGraph}
+use Rattle.drainage.proofs.LoadingTiles.{some_there, none_there, still_told, only_told, told_more}
+use Rattle.drainage.proofs.rim_graph.RimGraph.learn.Goals as goal
+
+pub returns-then-is_some-clause-loaded : goal.returns-then-is_some-clause-loaded
+returns-then-is_some-clause-loaded c = some_there c.args.self.now.loaded.items c.args.t c.index.result.now c.requires.inside c.index.ensures (sym c.is_some.ensures ∙ c.if-is_some.true)
+
+pub returns-clause-only : goal.returns-clause-only
+returns-clause-only c u w other is = only_told c.args.self.now.loaded.items c.args.t c.in_ok-ways.ways u w other is
+
+pub returns-clause-still : goal.returns-clause-still
+returns-clause-still c u w is =
+    let none = none_there c.args.self.now.loaded.items c.args.t c.index.result.now c.requires.inside c.index.ensures (sym c.is_some.ensures ∙ c.if-is_some.false) in
+    still_told c.args.self.now.side c.args.self.now.corners.items c.args.self.now.loaded.items c.args.t c.args.summary.corner c.in_ok-ways.ways c.requires.inside none u w is
+
+pub returns-clause-right : goal.returns-clause-right
+returns-clause-right c m place summary loaded =
+    let none = none_there c.args.self.now.loaded.items c.args.t c.index.result.now c.requires.inside c.index.ensures (sym c.is_some.ensures ∙ c.if-is_some.false) in
+    let value = c.in_ok-ways.ensures.value in
+    told_more c.args.self.now.side c.args.self.now.corners.items c.args.self.now.loaded.items c.args.t c.args.summary.corner c.in_ok-ways.ways c.requires.inside none m place
+    (ap (λ (w : TileGraph). w.side) value) (ap (λ (w : TileGraph). w.summary.corner) value ∙ c.in_ok-less.ensures.corner) (subst (λ (w : TileGraph). Summarizes m w.summary) (sym value) (c.in_ok-less.ensures.right m summary)) loaded

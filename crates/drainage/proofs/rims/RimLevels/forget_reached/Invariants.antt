@@ -1,5 +1,0 @@
-use Rattle.drainage.proofs.SparedLevels.{AreSpared}
-use Rattle.drainage.proofs.rims.RimLevels.forget_reached.Given as goal
-
-abbrev pub invariant-loop-x : goal.invariant-loop-x
-invariant-loop-x l = AreSpared l.was l.is l.fn.self l.x l.self

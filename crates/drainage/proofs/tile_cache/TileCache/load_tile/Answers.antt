@@ -1,0 +1,131 @@
+use Rattle.std.proofs.Common.{◌<◌, ◌≤◌, ◌∙◌, Ok, Err, length, refl, sym, subst, arith, rules}
+use Rattle.std.proofs.lemmas.Result.{err_from_is_err_and}
+use Rattle.lattice.specs.Mosaic.{Mosaic}
+use Rattle.lattice.specs.declared.refusal.Refusal.TheVariants.{NoMemory}
+use Rattle.catalogue.proofs.Asking.{asked_on}
+use Rattle.catalogue.proofs.Reading.{reads_nothing, reads_on}
+use Rattle.border_graph.specs.Joining.{IsSummaryOf}
+use Rattle.tile_labellings.specs.TileLabellings.{IsTileLabelling}
+use Rattle.drainage.specs.Holding.{IsRight}
+use Rattle.drainage.specs.TileCaches.{known_of}
+use Rattle.drainage.proofs.Growing.{grown_by, grown_fewer}
+use Rattle.drainage.proofs.Questioned.{answered, passed_on, refused_by, stopped, wanting}
+use Rattle.drainage.proofs.Renewed.{entered_there, is_there}
+use Rattle.drainage.proofs.LoadingTiles.{some_there}
+use Rattle.drainage.proofs.tile_cache.TileCache.load_tile.Goals as goal
+
+pub returns-then-t-len-clause-asked : goal.returns-then-t-len-clause-asked
+returns-then-t-len-clause-asked g c ready =
+    let a = c.args.samples.now in
+    stopped g.S.Samples a a (reads_nothing g.S.Samples g.met.S.Samples.keeps_itself a (tt {0})) (λ honest.
+    let past : length c.args.self.now.rim_graph.loaded.items ≤ c.args.t = (let size = c.len.ensures in let h = c.if-t-len.true in search rules) in
+    let whole = (ready honest).ready.tiles.whole in
+    let place = c.requires.place in
+    absurd (omega arith))
+
+pub returns-then-is_some-clause-asked : goal.returns-then-is_some-clause-asked
+returns-then-is_some-clause-asked g c ready =
+    let a = c.args.samples.now in
+    answered g.S.Samples a a (tt {0}) (reads_nothing g.S.Samples g.met.S.Samples.keeps_itself a (tt {0}))
+
+pub returns-then-is_some-clause-loaded : goal.returns-then-is_some-clause-loaded
+returns-then-is_some-clause-loaded g c =
+    let inside : c.args.t < length c.args.self.now.rim_graph.loaded.items = (let size = c.len.ensures in search rules) in
+    some_there c.args.self.now.rim_graph.loaded.items c.args.t c.index.result.now inside c.index.ensures (sym c.is_some.ensures ∙ c.if-is_some.true)
+
+pub returns-in_err-labelling-clause-asked : goal.returns-in_err-labelling-clause-asked
+returns-in_err-labelling-clause-asked g c right =
+    let a = c.args.samples.now in
+    let b = c.current_labelling.new.samples in
+    let made = c.in_err-labelling.ensures in
+    let r = c.in_err-labelling.field-0.0 in
+    let p = err_from_is_err_and c.from_residual.result c.from_residual.ensures.1 in
+    refused_by g.S.Samples a b c.from_residual.result p.0 r p.1 p.2
+    (passed_on g.S.Samples a b c.current_labelling.result r c.in_err-labelling.was (c.current_labelling.ensures.asked (λ honest.
+    is_there g.S.Samples a (known_of c.args.self.now) c.args.t c.args.corner c.requires.place c.requires.corner (right honest) (g.met.S.Samples.same_corners a (made.honest honest)))))
+
+pub returns-in_err-summary-clause-grown : goal.returns-in_err-summary-clause-grown
+returns-in_err-summary-clause-grown g c =
+    let made = c.in_ok-labelling.ensures in
+    let summed = c.in_err-summary.ensures in
+    grown_fewer g.S.Samples c.args.samples.now c.summarize.new.samples (known_of c.args.self.now) c.current_labelling.new.labellings
+    (λ honest. made.honest (summed.honest honest)) (λ honest. summed.mosaic honest ∙ made.mosaic (summed.honest honest)) made.left
+
+pub returns-in_err-summary-clause-asked : goal.returns-in_err-summary-clause-asked
+returns-in_err-summary-clause-asked g c right =
+    let a = c.args.samples.now in
+    let b = c.current_labelling.new.samples in
+    let d = c.summarize.new.samples in
+    let made = c.in_ok-labelling.ensures in
+    let summed = c.in_err-summary.ensures in
+    let r = c.in_err-summary.field-0.0 in
+    let p = err_from_is_err_and c.from_residual-in_err-summary.result c.from_residual-in_err-summary.ensures.1 in
+    refused_by g.S.Samples a d c.from_residual-in_err-summary.result p.0 r p.1 p.2
+    (asked_on g.S.Samples g.met.S.Samples.keeps_on a b d (tt {0}) (Err r) made.reads
+    (passed_on g.S.Samples b d c.summarize.result r c.in_err-summary.was (c.summarize.ensures.asked (λ honest.
+    let mid = summed.honest honest in
+    c.labelled.ensures.flooded (g.S.Samples.mosaic b) c.args.corner made.current
+    (subst (λ (m : Mosaic). IsTileLabelling m c.args.corner c.in_ok-labelling.labelling) (sym (made.mosaic mid))
+    (made.valid mid (entered_there g.S.Samples a (known_of c.args.self.now) c.args.t c.args.corner c.requires.place c.requires.corner (right honest))))))))
+
+pub returns-in_err-learn-clause-grown : goal.returns-in_err-learn-clause-grown
+returns-in_err-learn-clause-grown g c =
+    let a = c.args.samples.now in
+    let b = c.current_labelling.new.samples in
+    let d = c.summarize.new.samples in
+    let was = known_of c.args.self.now in
+    let made = c.in_ok-labelling.ensures in
+    let summed = c.in_ok-summary.ensures in
+    let learned = c.in_err-learn.ensures in
+    let labelling = c.in_ok-labelling.labelling in
+    let valid : g.S.Samples.is_honest d → IsRight (g.S.Samples.mosaic a) was → IsTileLabelling (g.S.Samples.mosaic a) c.args.corner labelling =
+    λ honest right. made.valid (summed.honest honest) (entered_there g.S.Samples a was c.args.t c.args.corner c.requires.place c.requires.corner right) in
+    grown_by g.S.Samples a d was (known_of (record { rim_graph = c.learn.new.self; labellings = c.current_labelling.new.labellings; levels = c.args.self.now.levels }))
+    (record { honest = λ honest. made.honest (summed.honest honest); mosaic = λ honest. summed.mosaic honest ∙ made.mosaic (summed.honest honest); same_side = learned.side; same_corners = learned.corners; still = learned.still }) refl
+    c.args.t c.args.corner labelling c.requires.corner valid
+    (λ honest right.
+    let mid = summed.honest honest in
+    learned.right (g.S.Samples.mosaic a) (c.requires.corner ∙ sym summed.corner)
+    (subst (λ (m : Mosaic). IsSummaryOf m c.in_ok-summary.summary) (made.mosaic mid) (summed.border honest
+    (c.labelled.ensures.flooded (g.S.Samples.mosaic b) c.args.corner made.current (subst (λ (m : Mosaic). IsTileLabelling m c.args.corner labelling) (sym (made.mosaic mid)) (valid honest right)))))
+    right.ready.tiles)
+    (λ m e u here labellings. made.left m e u labellings)
+
+pub returns-in_err-learn-clause-asked : goal.returns-in_err-learn-clause-asked
+returns-in_err-learn-clause-asked g c right =
+    let a = c.args.samples.now in
+    let b = c.current_labelling.new.samples in
+    let d = c.summarize.new.samples in
+    let p = err_from_is_err_and c.from_residual-in_err-learn.result c.from_residual-in_err-learn.ensures.1 in
+    refused_by g.S.Samples a d c.from_residual-in_err-learn.result p.0 NoMemory p.1 (p.2 ∙ c.in_err-learn.ensures.refusal)
+    (wanting g.S.Samples a d (reads_on g.S.Samples g.met.S.Samples.keeps_on a b d tt (Ok tt) c.in_ok-labelling.ensures.reads c.in_ok-summary.ensures.reads))
+
+pub returns-clause-grown : goal.returns-clause-grown
+returns-clause-grown g c =
+    let a = c.args.samples.now in
+    let b = c.current_labelling.new.samples in
+    let d = c.summarize.new.samples in
+    let was = known_of c.args.self.now in
+    let made = c.in_ok-labelling.ensures in
+    let summed = c.in_ok-summary.ensures in
+    let learned = c.in_ok-learn.ensures in
+    let labelling = c.in_ok-labelling.labelling in
+    let valid : g.S.Samples.is_honest d → IsRight (g.S.Samples.mosaic a) was → IsTileLabelling (g.S.Samples.mosaic a) c.args.corner labelling =
+    λ honest right. made.valid (summed.honest honest) (entered_there g.S.Samples a was c.args.t c.args.corner c.requires.place c.requires.corner right) in
+    grown_by g.S.Samples a d was (known_of (record { rim_graph = c.learn.new.self; labellings = c.hold.new.self; levels = c.args.self.now.levels }))
+    (record { honest = λ honest. made.honest (summed.honest honest); mosaic = λ honest. summed.mosaic honest ∙ made.mosaic (summed.honest honest); same_side = learned.side; same_corners = learned.corners; still = learned.still }) refl
+    c.args.t c.args.corner labelling c.requires.corner valid
+    (λ honest right.
+    let mid = summed.honest honest in
+    learned.right (g.S.Samples.mosaic a) (c.requires.corner ∙ sym summed.corner)
+    (subst (λ (m : Mosaic). IsSummaryOf m c.in_ok-summary.summary) (made.mosaic mid) (summed.border honest
+    (c.labelled.ensures.flooded (g.S.Samples.mosaic b) c.args.corner made.current (subst (λ (m : Mosaic). IsTileLabelling m c.args.corner labelling) (sym (made.mosaic mid)) (valid honest right)))))
+    right.ready.tiles)
+    (λ m e u here labellings. c.hold.ensures m e u here (made.left m e u labellings))
+
+pub returns-clause-reads : goal.returns-clause-reads
+returns-clause-reads g c =
+    reads_on g.S.Samples g.met.S.Samples.keeps_on c.args.samples.now c.current_labelling.new.samples c.summarize.new.samples tt (Ok tt) c.in_ok-labelling.ensures.reads c.in_ok-summary.ensures.reads
+
+pub returns-clause-asked : goal.returns-clause-asked
+returns-clause-asked g c right = answered g.S.Samples c.args.samples.now c.summarize.new.samples (tt {0}) (returns-clause-reads g c)

@@ -1,0 +1,150 @@
+//! What is found of a mosaic's water, held between two questions.
+ghost use Rattle.std.specs.Prelude.{◌≡◌, None, IfOk, IfErr, IfSome};
+ghost use Rattle.lattice.specs.Mosaic.{Mosaic, IsMosaic};
+ghost use Rattle.downstream.specs.Near.{IsNear};
+ghost use Rattle.downstream.specs.Way.{IsWay};
+ghost use Rattle.lattice.specs.declared.refusal.Refusal.TheVariants.{NoMemory};
+ghost use Rattle.drainage.specs.Holding.{IsRight};
+ghost use Rattle.drainage.specs.Reaching.{DifferAt, DifferBetween};
+ghost use Rattle.drainage.specs.Spared.{IsSetTo};
+
+use crate::flows::Flows;
+use crate::nearby::near;
+use crate::tile_cache::TileCache;
+use catalogue::Samples;
+use downstream::Near;
+use lattice::{Dir, Point, Refusal, Side};
+use std::alloc::Global;
+
+/// What questions about the water of one mosaic found, so that a later question doesn't find it again: the ways of the
+/// tiles that water came to, the labellings of those that were labellings, as many as there is room for, the levels of rim
+/// points, and where points drain.
+#[derive(Drop)]
+pub struct DrainageCache {
+    tile_cache: Option<TileCache>,
+    flows: Option<Flows>,
+}
+
+impl DrainageCache {
+    ghost use Rattle.drainage.specs.Between.{IsHeldOf, IsLeftHeld, IsNotedHeld};
+    ghost use Rattle.drainage.specs.Flows.{AreFlows};
+    ghost use Rattle.drainage.specs.TileCaches.{known_of};
+
+    /// Nothing is held. Takes no memory.
+    pub fn new() -> DrainageCache
+        ensures { (m : Mosaic) → IsHeldOf m result }
+    {
+        DrainageCache {
+            tile_cache: None,
+            flows: None,
+        }
+    }
+
+    /// Nothing is held from then on, as has to be where tiles come or go.
+    pub fn invalidate(&mut self)
+        ensures { (m : Mosaic) → IsHeldOf m self.new }
+    {
+        self.tile_cache = None;
+        self.invalidate_ways();
+    }
+
+    /// Gives up what changes of points from the one to the other, ends included, may make wrong: the ways and the labellings
+    /// of the tiles that hold such a point or one beside it, all levels of rim points, and where points drain. What else is
+    /// held serves on, for the mosaic as it was and as it becomes. Takes no memory.
+    pub fn invalidate_between(&mut self, from: Point, to: Point)
+        ensures left { IsLeftHeld from to self.old self.new }
+        ensures right { (m new : Mosaic) → DifferBetween m new from to → IsHeldOf m self.old → IsHeldOf new self.new }
+    {
+        self.invalidate_ways();
+        let Some(mut tile_cache) = self.tile_cache.take() else {
+            return;
+        };
+        tile_cache.invalidate_between(from, to);
+        self.tile_cache = Some(tile_cache);
+    }
+
+    /// The height of the point may change from then on, to this one, in metres, but no sink comes or goes: the labellings of
+    /// the tiles that hold it are mended when they are asked for; the ways of tiles that hold it or a point beside it are given
+    /// up, and where points drain; and of the levels of rim points those that aren't below both heights of the point, nor above
+    /// both, or all where the height that it has isn't known. What is held serves on, for the mosaic as it was and as it becomes.
+    pub fn note_changed(&mut self, point: Point, to: i16)
+        ensures left { IsNotedHeld point self.old self.new }
+        ensures right { (m new : Mosaic) → DifferAt m new point → IsSetTo m new point to → IsHeldOf m self.old → IsHeldOf new self.new }
+    {
+        self.invalidate_ways();
+        let Some(mut tile_cache) = self.tile_cache.take() else {
+            return;
+        };
+        tile_cache.note_changed(point, to);
+        self.tile_cache = Some(tile_cache);
+    }
+
+    // Nothing is known of where points drain from then on: that depends on levels all over the mosaic.
+    fn invalidate_ways(&mut self)
+        ensures tile_cache { self.new.tile_cache ≡ self.old.tile_cache }
+        ensures flows { self.new.flows ≡ None }
+    {
+        self.flows = None;
+    }
+
+    // The levels at the point and around it, where what is held tells them.
+    pub(crate) fn levels_near(&self, point: Point) -> Option<Near>
+        ensures { (m : Mosaic) → IsMosaic m → IsHeldOf m self.now → IfSome result (IsNear m point) }
+    {
+        let tile_cache = self.tile_cache.as_ref()?;
+        near(tile_cache, point)
+    }
+
+    // Where the point drains, where that was learnt.
+    pub(crate) fn way_of(&self, point: Point) -> Option<Option<Dir>>
+        ensures { (m : Mosaic) → IsHeldOf m self.now → IfSome result (IsWay m point) }
+    {
+        let flows = self.flows.as_ref()?;
+        flows.way(point)
+    }
+
+    // Hands out what is known of where points drain. Nothing is then.
+    fn take_flows(&mut self, alloc: Global, side: Side) -> Flows
+        ensures flows { (m : Mosaic) → IsHeldOf m self.old → AreFlows m result }
+        ensures left { (m : Mosaic) → IsHeldOf m self.old → IsHeldOf m self.new }
+    {
+        match self.flows.take() {
+            Some(flows) => flows,
+            None => Flows::new(alloc, side),
+        }
+    }
+
+    // Learns where the point drains, if there is memory for it.
+    pub(crate) fn learn_way<S: Samples>(
+        &mut self,
+        alloc: Global,
+        samples: &S,
+        point: Point,
+        way: Option<Dir>,
+    )
+        ensures { (m : Mosaic) → IsWay m point way → IsHeldOf m self.old → IsHeldOf m self.new }
+    {
+        let mut flows = self.take_flows(alloc, samples.side());
+        flows.learn(alloc, samples, point, way);
+        self.flows = Some(flows);
+    }
+
+    // Hands out what is held of levels, or that nothing is found yet. None is held then. NoMemory is the only refusal.
+    pub(crate) fn take<S: Samples>(&mut self, alloc: Global, samples: &S) -> Result<TileCache, Refusal>
+        ensures right { S.is_honest samples.now → IsHeldOf (S.mosaic samples.now) self.old → IfOk result (λ w. IsRight (S.mosaic samples.now) (known_of w)) }
+        ensures left { (m : Mosaic) → IsHeldOf m self.old → IsHeldOf m self.new }
+        ensures refusal { IfErr result (λ r. r ≡ NoMemory) }
+    {
+        match self.tile_cache.take() {
+            Some(tile_cache) => Ok(tile_cache),
+            None => TileCache::new(alloc, samples),
+        }
+    }
+
+    // Holds this of levels.
+    pub(crate) fn put(&mut self, tile_cache: TileCache)
+        ensures { (m : Mosaic) → IsRight m (known_of tile_cache) → IsHeldOf m self.old → IsHeldOf m self.new }
+    {
+        self.tile_cache = Some(tile_cache);
+    }
+}

@@ -1,0 +1,154 @@
+//! The ways between rim points, of tiles whose labellings are asked once water comes to their rims.
+ghost use Rattle.std.specs.Prelude.{◌≡◌, ◌≢◌, ◌+◌, ◌-◌, ◌*◌, ◌<◌, ◌≤◌, ◌⊎◌, ◌↔◌, ℕ, IfOk, IfErr, OnOk, IfSome, IfNone, IsTrue, Ok, Some, None, false, length, slice_set};
+ghost use Rattle.border_graph.specs.Joining.{IsSummaryOf};
+ghost use Rattle.lattice.specs.Mosaic.{Mosaic};
+ghost use Rattle.lattice.specs.declared.refusal.Refusal.TheVariants.{NoMemory, Damaged};
+ghost use Rattle.border_graph.specs.TileGraph.{TileGraph as TileGraphOf};
+ghost use Rattle.border_graph.specs.Others.{corner_at, AreTooMany};
+ghost use Rattle.drainage.specs.Reaching.{is_reached};
+ghost use Rattle.drainage.specs.RimGraphs.{loaded_at, AreTileEdges, AreLoaded, AreReady};
+
+use crate::growth::push;
+use crate::reaching::is_reached;
+use border_graph::{Edge, Summary, TileGraph, edges_to_others, node_at, reduced};
+use catalogue::Samples;
+use lattice::{Corner, Point, Refusal, Side, VOID, point_at, rim_index};
+use std::alloc::Global;
+
+/// The corners of a mosaic's tiles, in order, and the ways of those tiles that water has come to.
+#[derive(Drop)]
+pub(crate) struct RimGraph {
+    pub(crate) side: Side,
+    pub(crate) corners: Vec<Corner>,
+    pub(crate) loaded: Vec<Option<TileGraph>>,
+}
+
+impl RimGraph {
+    /// Water has come to none of the tiles. NoMemory is the only refusal.
+    pub(crate) fn new<S: Samples>(alloc: Global, samples: &S) -> Result<RimGraph, Refusal>
+        ensures ready { S.is_honest samples.now → IfOk result (λ s. AreReady (S.mosaic samples.now) s.side s.corners.items s.loaded.items) }
+        ensures refusal { IfErr result (λ r. r ≡ NoMemory) }
+    {
+        let side = samples.side();
+        let corners = samples.present_corners(alloc)?;
+        let Some(_) = node_at(side, corners.len(), 0) else {
+            return Err(Refusal::NoMemory);
+        };
+        let mut loaded = Vec::new(alloc);
+        for _ in 0..corners.len() {
+            push(&mut loaded, None)?;
+        }
+        Ok(RimGraph {
+            side,
+            corners,
+            loaded,
+        })
+    }
+
+    // The corner of the tile with this place.
+    pub(crate) fn corner(&self, t: usize) -> Option<Corner>
+        ensures some { IfSome result (λ c. (t < length self.now.corners.items) × (corner_at self.now.corners.items t ≡ c)) }
+        ensures none { IfNone result (length self.now.corners.items ≤ t) }
+    {
+        let corner = self.corners.get(t)?;
+        Some(*corner)
+    }
+
+    /// Has the ways of the tile with this place and summary from then on, unless it had them: those that decide how low water
+    /// gets out.
+    pub(crate) fn learn(&mut self, alloc: Global, t: usize, summary: Summary) -> Result<(), Refusal>
+        requires inside { t < length self.old.loaded.items }
+        ensures loaded { OnOk result ((ways : TileGraphOf) × (loaded_at self.new.loaded.items t ≡ Some ways)) }
+        ensures only { (u : ℕ) (ways : TileGraphOf) → u ≢ t → loaded_at self.new.loaded.items u ≡ Some ways → loaded_at self.old.loaded.items u ≡ Some ways }
+        ensures side { self.new.side ≡ self.old.side }
+        ensures corners { self.new.corners.items ≡ self.old.corners.items }
+        ensures still { (u : ℕ) (ways : TileGraphOf) → loaded_at self.old.loaded.items u ≡ Some ways → loaded_at self.new.loaded.items u ≡ Some ways }
+        ensures right { (m : Mosaic) → corner_at self.old.corners.items t ≡ summary.corner → IsSummaryOf m summary
+            → AreLoaded m self.old.side self.old.corners.items self.old.loaded.items → AreLoaded m self.old.side self.old.corners.items self.new.loaded.items }
+        ensures refusal { IfErr result (λ r. r ≡ NoMemory) }
+    {
+        if self.loaded[t].is_some() {
+            return Ok(());
+        }
+        let less = reduced(alloc, summary)?;
+        let ways = TileGraph::new(alloc, self.side, less)?;
+        self.loaded[t] = Some(ways);
+        Ok(())
+    }
+
+    /// Gives up the ways of the tiles that changes from the one point to the other reach. Takes no memory.
+    pub(crate) fn invalidate_between(&mut self, from: Point, to: Point)
+        ensures side { self.new.side ≡ self.old.side }
+        ensures corners { self.new.corners.items ≡ self.old.corners.items }
+        ensures whole { length self.new.loaded.items ≡ length self.old.loaded.items }
+        ensures loaded { (t : ℕ) (ways : TileGraphOf) → loaded_at self.new.loaded.items t ≡ Some ways
+            ↔ ((loaded_at self.old.loaded.items t ≡ Some ways) × (is_reached self.old.side self.old.corners.items from to t ≡ false)) }
+    {
+        for t in 0..self.loaded.len() {
+            if is_reached(self.side, &self.corners, from, to, t) {
+                self.invalidate(t);
+            }
+        }
+    }
+
+    // Gives up the ways of the tile with this place.
+    fn invalidate(&mut self, t: usize)
+        requires { t < length self.old.loaded.items }
+        ensures side { self.new.side ≡ self.old.side }
+        ensures corners { self.new.corners.items ≡ self.old.corners.items }
+        ensures loaded { self.new.loaded.items ≡ slice_set self.old.loaded.items t None }
+    {
+        self.loaded[t] = None;
+    }
+
+    // Lists the ways from the rim point with this number in the tile with this place, where the tile is loaded.
+    pub(crate) fn list(&self, t: usize, k: u32, into: &mut Vec<Edge>) -> Result<(), Refusal>
+        requires number { k < 4 * (self.now.side - 1) }
+        requires place { t < length self.now.corners.items }
+        ensures ways { OnOk result ((ways : TileGraphOf) → loaded_at self.now.loaded.items t ≡ Some ways
+            → AreTileEdges self.now.side self.now.corners.items ways t k into.old.items into.new.items) }
+        ensures refusal { IfErr result (λ r. (r ≡ NoMemory) ⊎ ((r ≡ Damaged) × ((ways : TileGraphOf) → loaded_at self.now.loaded.items t ≡ Some ways
+            → (ways.side ≢ self.now.side) ⊎ AreTooMany self.now.side self.now.corners.items))) }
+    {
+        let Some(loaded) = self.loaded.get(t) else {
+            return Err(Refusal::Damaged);
+        };
+        let Some(ways) = loaded else {
+            return Err(Refusal::Damaged);
+        };
+        list_edges(self.side, &self.corners, ways, t, k, into)?;
+        Ok(())
+    }
+}
+
+// Lists the ways from the rim point with this number in the tile with this place.
+fn list_edges(
+    side: Side,
+    corners: &[Corner],
+    ways: &TileGraph,
+    t: usize,
+    k: u32,
+    into: &mut Vec<Edge>,
+) -> Result<(), Refusal>
+    requires number { k < 4 * (side - 1) }
+    requires place { t < length corners.now }
+    ensures ways { OnOk result (AreTileEdges side corners.now ways.now t k into.old.items into.new.items) }
+    ensures refusal { IfErr result (λ r. (r ≡ NoMemory) ⊎ ((r ≡ Damaged) × ((ways.now.side ≢ side) ⊎ AreTooMany side corners.now))) }
+{
+    if ways.side() != side {
+        return Err(Refusal::Damaged);
+    }
+    let Some(last) = node_at(side, t, side.rim()) else {
+        return Err(Refusal::Damaged);
+    };
+    let first = last - 1 - side.rim();
+    ways.edges_out(k, into)?;
+    ways.edges_across(first, k, into)?;
+    let height = ways.height(k);
+    if height == VOID {
+        return Ok(());
+    }
+    let point = point_at(side, corners[t], rim_index(side, k));
+    edges_to_others(side, corners, t, point, height, into)?;
+    Ok(())
+}

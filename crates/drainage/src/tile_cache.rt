@@ -1,0 +1,216 @@
+//! What is found of a mosaic's water: ways, labellings and levels, tile by tile as they are asked for.
+ghost use Rattle.std.specs.Prelude.{◌≡◌, ◌≢◌, ◌-◌, ◌*◌, ◌<◌, ℕ, IfOk, IfErr, OnOk, IsTrue, Ok, Some, length};
+ghost use Rattle.catalogue.specs.Asked.{Asked};
+ghost use Rattle.catalogue.specs.Endings.{ends_any};
+ghost use Rattle.catalogue.specs.Readers.{OnlyReads};
+ghost use Rattle.tile_labellings.specs.Spots.{IsLabelledAt};
+ghost use Rattle.lattice.specs.Mosaic.{Mosaic};
+ghost use Rattle.lattice.specs.declared.refusal.Refusal.TheVariants.{NoMemory};
+ghost use Rattle.border_graph.specs.TileGraph.{TileGraph as TileGraphOf};
+ghost use Rattle.border_graph.specs.Others.{corner_at};
+ghost use Rattle.drainage.specs.RimGraphs.{loaded_at};
+ghost use Rattle.drainage.specs.Invalidating.{IsLeftOf, IsNotedOf};
+ghost use Rattle.drainage.specs.Holding.{IsRight, IsGrown};
+ghost use Rattle.drainage.specs.Reaching.{DifferAt, DifferBetween, is_reached};
+ghost use Rattle.drainage.specs.Spared.{IsSetTo};
+
+use crate::labelling_cache::LabellingCache;
+use crate::filling::spot_of;
+use crate::renewing::{current_labelling, kept_spot};
+use crate::rims::RimLevels;
+use crate::rim_graph::RimGraph;
+use crate::summing::summarize;
+use border_graph::{Edge, EdgeSource};
+use catalogue::Samples;
+use lattice::{Corner, Point, Refusal};
+use std::alloc::Global;
+use tile_labellings::Labellings;
+
+/// The ways of the tiles that water has come to, their labellings, and the levels of rim points that were found.
+#[derive(Drop)]
+pub(crate) struct TileCache {
+    pub(crate) rim_graph: RimGraph,
+    pub(crate) labellings: LabellingCache,
+    pub(crate) levels: RimLevels,
+}
+
+impl TileCache {
+    ghost use Rattle.drainage.specs.TileCaches.{known_of};
+
+    /// Nothing is found yet. NoMemory is the only refusal.
+    pub(crate) fn new<S: Samples>(alloc: Global, samples: &S) -> Result<TileCache, Refusal>
+        ensures right { S.is_honest samples.now → IfOk result (λ w. IsRight (S.mosaic samples.now) (known_of w)) }
+        ensures refusal { IfErr result (λ r. r ≡ NoMemory) }
+    {
+        let rim_graph = RimGraph::new(alloc, samples)?;
+        let labellings = LabellingCache::new(alloc, rim_graph.side, rim_graph.corners.len())?;
+        Ok(TileCache {
+            rim_graph,
+            labellings,
+            levels: RimLevels::new(alloc),
+        })
+    }
+
+    /// Gives up what changes from the one point to the other may make wrong: the ways and the labellings of the tiles that
+    /// they reach, and each level of a rim point, which depends on the water's whole way out. Takes no memory.
+    pub(crate) fn invalidate_between(&mut self, from: Point, to: Point)
+        ensures left { IsLeftOf (is_reached self.old.rim_graph.side self.old.rim_graph.corners.items from to) (known_of self.old) (known_of self.new) }
+        ensures right { (m new : Mosaic) → DifferBetween m new from to → IsRight m (known_of self.old) → IsRight new (known_of self.new) }
+    {
+        self.levels.invalidate();
+        let side = self.rim_graph.side;
+        self.labellings
+            .invalidate_between(side, &self.rim_graph.corners, from, to);
+        self.rim_graph.invalidate_between(from, to);
+    }
+
+    /// The height of the point may change from then on, of ground or of a void, to this one, in metres, and no sink: this is
+    /// noted of the labellings of the tiles that hold it, to be mended; of the levels of rim points those are given up that may
+    /// change. Else as `invalidate_between` does.
+    pub(crate) fn note_changed(&mut self, point: Point, to: i16)
+        ensures left { IsNotedOf (is_reached self.old.rim_graph.side self.old.rim_graph.corners.items point point) point (known_of self.old) (known_of self.new) }
+        ensures right { (m new : Mosaic) → DifferAt m new point → IsSetTo m new point to → IsRight m (known_of self.old) → IsRight new (known_of self.new) }
+    {
+        let side = self.rim_graph.side;
+        let was = self.labellings.known_height(side, &self.rim_graph.corners, point);
+        self.levels.invalidate_reached(was, to);
+        self.labellings.note_changed(side, &self.rim_graph.corners, point);
+        self.rim_graph.invalidate_between(point, point);
+    }
+
+    // Has the ways of the tile with this place and corner from then on, unless it had them.
+    fn load_tile<S: Labellings>(
+        &mut self,
+        alloc: Global,
+        samples: &mut S,
+        t: usize,
+        corner: Corner,
+    ) -> Result<(), Refusal>
+        requires place { t < length self.old.rim_graph.corners.items }
+        requires corner { corner_at self.old.rim_graph.corners.items t ≡ corner }
+        ensures loaded { OnOk result ((ways : TileGraphOf) × (loaded_at self.new.rim_graph.loaded.items t ≡ Some ways)) }
+        ensures only { (u : ℕ) (ways : TileGraphOf) → u ≢ t → loaded_at self.new.rim_graph.loaded.items u ≡ Some ways → loaded_at self.old.rim_graph.loaded.items u ≡ Some ways }
+        ensures grown { IsGrown S.Samples samples.old samples.new (known_of self.old) (known_of self.new) }
+        ensures reads { OnOk result (OnlyReads {T = Unit {0}} S.Samples samples.old samples.new (Ok tt)) }
+        ensures asked { (S.is_honest samples.new → IsRight (S.mosaic samples.old) (known_of self.old)) → Asked S.Samples samples.old samples.new result }
+        ensures causes { IfErr result (λ r. IsTrue (ends_any r)) }
+    {
+        if t >= self.rim_graph.loaded.len() {
+            return Err(Refusal::Damaged);
+        }
+        if self.rim_graph.loaded[t].is_some() {
+            return Ok(());
+        }
+        let labelling = current_labelling(alloc, samples, &mut self.labellings, t, corner)?;
+        let summary = summarize(alloc, samples, corner, labelling.labelled())?;
+        self.rim_graph.learn(alloc, t, summary)?;
+        self.labellings.hold(t, labelling);
+        Ok(())
+    }
+
+    /// The level and the label of the point with this index in the tile with this place and corner: by a labelling that is
+    /// held; as they are kept, by themselves; or by a labelling that is read or made, and held from then on.
+    pub(crate) fn spot<S: Labellings>(
+        &mut self,
+        alloc: Global,
+        samples: &mut S,
+        t: usize,
+        corner: Corner,
+        index: u32,
+    ) -> Result<(i16, u16), Refusal>
+        requires place { t < length self.old.rim_graph.corners.items }
+        requires corner { corner_at self.old.rim_graph.corners.items t ≡ corner }
+        requires index { index < self.old.rim_graph.side * self.old.rim_graph.side }
+        ensures spot { S.is_honest samples.new → IsRight (S.mosaic samples.old) (known_of self.old) → IfOk result (λ spot. IsLabelledAt (S.mosaic samples.old) corner index spot.0 spot.1) }
+        ensures grown { IsGrown S.Samples samples.old samples.new (known_of self.old) (known_of self.new) }
+        ensures reads { OnOk result (OnlyReads {T = Unit {0}} S.Samples samples.old samples.new (Ok tt)) }
+        ensures asked { (S.is_honest samples.new → IsRight (S.mosaic samples.old) (known_of self.old)) → Asked S.Samples samples.old samples.new result }
+        ensures causes { IfErr result (λ r. IsTrue (ends_any r)) }
+    {
+        if let Some(spot) = self.labellings.spot(t, index) {
+            return Ok(spot);
+        }
+        if let Some(spot) = kept_spot(samples, &mut self.labellings, t, corner, index)? {
+            return Ok(spot);
+        }
+        self.cached_spot(alloc, samples, t, corner, index)
+    }
+
+    // The level and the label of the point with this index in the tile with this place and corner, by a labelling that is
+    // held from then on.
+    fn cached_spot<S: Labellings>(
+        &mut self,
+        alloc: Global,
+        samples: &mut S,
+        t: usize,
+        corner: Corner,
+        index: u32,
+    ) -> Result<(i16, u16), Refusal>
+        requires place { t < length self.old.rim_graph.corners.items }
+        requires corner { corner_at self.old.rim_graph.corners.items t ≡ corner }
+        requires index { index < self.old.rim_graph.side * self.old.rim_graph.side }
+        ensures spot { S.is_honest samples.new → IsRight (S.mosaic samples.old) (known_of self.old) → IfOk result (λ spot. IsLabelledAt (S.mosaic samples.old) corner index spot.0 spot.1) }
+        ensures grown { IsGrown S.Samples samples.old samples.new (known_of self.old) (known_of self.new) }
+        ensures reads { OnOk result (OnlyReads {T = Unit {0}} S.Samples samples.old samples.new (Ok tt)) }
+        ensures asked { (S.is_honest samples.new → IsRight (S.mosaic samples.old) (known_of self.old)) → Asked S.Samples samples.old samples.new result }
+        ensures causes { IfErr result (λ r. IsTrue (ends_any r)) }
+    {
+        let labelling = current_labelling(alloc, samples, &mut self.labellings, t, corner)?;
+        let spot = spot_of(labelling.labelled(), index);
+        self.labellings.hold(t, labelling);
+        match spot {
+            Some(spot) => Ok(spot),
+            None => Err(Refusal::Damaged),
+        }
+    }
+}
+
+impl<S: Labellings> EdgeSource<S> for TileCache {
+    ghost use Rattle.std.specs.Prelude.{◌≡◌, Some};
+    ghost use Rattle.border_graph.specs.TileGraph.{TileGraph};
+    ghost use Rattle.drainage.specs.RimGraphs.{loaded_at};
+    ghost use Rattle.drainage.specs.TileCaches.{known_of};
+    ghost use Rattle.drainage.specs.Holding.{Agrees, IsCarried, IsRefused};
+    ghost use Rattle.drainage.specs.Kept.{carried_itself, carried_on, refused_on, ran_out};
+
+    ghost fits = { λ s n summaries. Agrees (known_of s) n summaries };
+
+    ghost keeps = { λ s a s' b. IsCarried S.Samples a b (known_of s) (known_of s') };
+
+    ghost loaded = { λ s t. (ways : TileGraph) × (loaded_at s.rim_graph.loaded.items t ≡ Some ways) };
+
+    ghost refuses = { λ s a s' b r. IsRefused S.Samples a b (known_of s) (known_of s') r };
+
+    ghost levels_fit = { λ s n summaries x y level agrees link. agrees.fits.low x y level link };
+
+    ghost links_turn = { λ s n summaries x y level agrees some link. agrees.fits.turns x y level some link };
+
+    ghost keeps_itself = { λ s a. carried_itself _ S.keeps_itself a (known_of s) };
+
+    ghost keeps_on = { λ s s' s'' a b c one two. carried_on _ S.keeps_on a b (known_of s) (known_of s') one c (known_of s'') two };
+
+    ghost refuses_on = { λ s s' s'' a b c r kept refused. refused_on _ S.keeps_on a b (known_of s) (known_of s') kept c (known_of s'') r refused };
+
+    ghost runs_out = { λ s s' a b kept. ran_out _ S.keeps_on a b (known_of s) (known_of s') kept };
+
+    fn edges_from(
+        &mut self,
+        alloc: Global,
+        source: &mut S,
+        node: u32,
+        into: &mut Vec<Edge>,
+    ) -> Result<Option<i16>, Refusal> {
+        if let Some(level) = self.levels.level(node) {
+            return Ok(Some(level));
+        }
+        let side = self.rim_graph.side;
+        let t = ((node - 1) / side.rim()) as usize;
+        let k = (node - 1) % side.rim();
+        let Some(corner) = self.rim_graph.corner(t) else {
+            return Ok(None);
+        };
+        self.load_tile(alloc, source, t, corner)?;
+        self.rim_graph.list(t, k, into)?;
+        Ok(None)
+    }
+}

@@ -1,0 +1,53 @@
+-- What is read of a named point, and why it may end a point_edit.
+use Rattle.std.proofs.Common.{◌≡◌, ◌≢◌, ℕ, zero, suc, ◌<◌, ℤ, pos, Bool, true, false, IsTrue, List, [], ◌∷◌, length, get_or, refl, ◌∙◌, ap, arith}
+use Rattle.std.specs.Prelude.{Option, Some, if◌then◌else◌}
+use Rattle.std.proofs.lemmas.Bool.{both_ways}
+use Rattle.std.proofs.lemmas.Bool.Decides.{Decides-int_eq}
+use Rattle.lattice.specs.declared.point.Point.{Point}
+use Rattle.lattice.specs.declared.height.Height.{Height}
+use Rattle.lattice.specs.declared.height.Height.TheVariants as height
+use Rattle.lattice.specs.declared.refusal.Refusal.{Refusal}
+use Rattle.lattice.specs.declared.refusal.Refusal.TheVariants.{Outside, Void, Device, Failed, Damaged}
+use Rattle.lattice.specs.Mosaic.{Mosaic, void, is_void}
+use Rattle.lattice.specs.Height.{height_of, first_height, by_seam_rule, samples_at}
+use Rattle.edits.specs.declared.point_edit.PointEdit.{PointEdit}
+use Rattle.edits.specs.declared.point_edit.PointEdit.TheVariants.{Lower, Raise}
+use Rattle.edits.specs.Effect.{fault_at}
+use Rattle.edits.specs.PointEdits.{depth_of, fault_of, is_fault}
+
+-- the point at a place, as the code reads it
+abbrev pub origin : Point
+origin = record { y = pos 0; x = pos 0 }
+
+pub read_anyhow : (ps : List Point) (i : ℕ) (d : Point) → i < length ps → get_or ps i d ≡ get_or ps i (get_or ps i d)
+read_anyhow [] i d within = absurd (omega arith)
+read_anyhow (p ∷ ps) zero d within = refl
+read_anyhow (p ∷ ps) (suc i) d within = read_anyhow ps i d (omega arith)
+
+-- a height isn't void
+first_height_is : (samples : List ℤ) (h : ℤ) → first_height samples ≡ height.At h → h ≢ void
+first_height_is [] h e = absurd (cc)
+first_height_is (s ∷ later) h e = by (is_void s) refl (first_height_is later h) e
+  where
+    by : (b : Bool) → is_void s ≡ b → (first_height later ≡ height.At h → h ≢ void) → (if b then first_height later else height.At s) ≡ height.At h → h ≢ void
+    by true yes_ again e = again e
+    by false no_ again e = λ h_void. let same : s ≡ h = cc in both_ways (is_void s) no_ ((Decides-int_eq s void).1 (same ∙ h_void))
+
+pub height_not_void : (m : Mosaic) (p : Point) (h : ℤ) → height_of m p ≡ height.At h → h ≢ void
+height_not_void m p h e = by (samples_at m p) e
+  where
+    by : (l : List ℤ) → by_seam_rule l ≡ height.At h → h ≢ void
+    by [] e = absurd (cc)
+    by (s ∷ later) e = first_height_is (s ∷ later) h e
+
+-- why a point ends the point_edit
+pub fault_says : (t : PointEdit) (h : Height) (r : Refusal) (later : Option Refusal) → fault_of h r → IsTrue (is_fault t r) → fault_at (depth_of t) h later ≡ Some r
+fault_says t h Outside later why fault = ap (λ v. fault_at (depth_of t) v later) why
+fault_says t h Void later why fault = ap (λ v. fault_at (depth_of t) v later) why
+fault_says (Lower by) h Device later why fault = absurd (both_ways false refl fault)
+fault_says (Raise to) h Device later why fault = absurd (both_ways false refl fault)
+fault_says (Lower by) h Failed later why fault = absurd (both_ways false refl fault)
+fault_says (Raise to) h Failed later why fault = absurd (both_ways false refl fault)
+fault_says (Lower by) h Damaged later why fault = absurd (both_ways false refl fault)
+fault_says (Raise to) h Damaged later why fault = absurd (both_ways false refl fault)
+fault_says t h _ later why fault = absurd why

@@ -1,0 +1,15 @@
+use Rattle.std.proofs.Common.{◌≡◌, ℤ, pos, negsuc, ◌-ℤ◌, true, sym, subst, arith, w32, to_z, of_z}
+use Rattle.std.specs.Prelude.{int_lt}
+use Rattle.std.proofs.lemmas.Int.{ints}
+use Rattle.edits.specs.declared.point_edit.PointEdit.{PointEdit}
+use Rattle.edits.specs.PointEdits.{depth_of}
+use Rattle.edits.proofs.point_edit.PointEdit.of.Goals as goal
+
+pub returns-then-lowered-lt-LOWEST-clause-sample : goal.returns-then-lowered-lt-LOWEST-clause-sample
+returns-then-lowered-lt-LOWEST-clause-sample c = tt
+
+pub returns-then-lowered-lt-LOWEST-clause-deep : goal.returns-then-lowered-lt-LOWEST-clause-deep
+returns-then-lowered-lt-LOWEST-clause-deep c = λ _.
+    let lowered : to_z w32 (of_z w32 (to_z w32 (of_z w32 c.from.result) -ℤ to_z w32 (of_z w32 c.from-in-Lower.result))) ≡ c.args.metres -ℤ pos c.in-Lower.by = omega (arith, ints) in
+    subst (λ (t : PointEdit). int_lt (c.args.metres -ℤ depth_of t) (negsuc 32766) ≡ true) (sym c.in-Lower.is)
+    (subst (λ (z : ℤ). int_lt z (negsuc 32766) ≡ true) lowered c.if-lowered-lt-LOWEST.true)

@@ -1,0 +1,223 @@
+-- A free page is always left: the committed tiles and the fresh pages take fewer than the disk has.
+use Rattle.std.proofs.Common.{◌≡◌, ◌≢◌, ℕ, zero, suc, ◌+◌, ◌-◌, ◌*◌, ◌<◌, ◌≤◌, true, cond, inl, inr, List, [], ◌∷◌, ◌++◌, length, refl, sym, ap, subst, ◌∙◌, arith}
+use Rattle.std.proofs.Math.Nat.{mul-add, mul-le-mul_left, mul_comm, mul_assoc, mul_left_comm}
+use Rattle.std.specs.Prelude.{Option, Some, None, IsSome, IfSome, not, ◌&&◌}
+use Rattle.std.specs.List.{filter_map, flat_map, cons_option, AllByRecursion}
+use Rattle.std.specs.Ordering.{nat_cmp}
+use Rattle.std.specs.FinSet.{FinSet, empty, contains, remove, len, empty_of_len, contains-empty}
+use Rattle.std.proofs.lemmas.Bool.{false≢true, cases_eq, cases_Bool, cases_lt, ne_eqb}
+use Rattle.std.proofs.lemmas.List.{length-append}
+use Rattle.lattice.specs.Corners.{Corner}
+use Rattle.layout.specs.Sizes.{pages_of, index_pages_by, index_pages_of, plane_pages_of, sectors_asked}
+use Rattle.layout.specs.Formats.{Format, upgraded}
+use Rattle.layout.specs.declared.version.Version.TheVariants.{One}
+use Rattle.page_map.specs.declared.locations.KeptLocations.{KeptLocations}
+use Rattle.page_map.specs.declared.locations.TilePlanes.{TilePlanes}
+use Rattle.page_map.specs.declared.tile_entry.TileEntry.{TileEntry}
+use Rattle.page_map.specs.declared.staged.Staged.{Staged}
+use Rattle.page_map.specs.declared.staged.HeightsStaged.TheVariants as of_heights
+use Rattle.page_map.specs.declared.staged.Staged.TheVariants.{Tile, Removed}
+use Rattle.page_map.specs.Locations.{PlaneLocation, IsWholePlane, times, pages_behind, pages_of_plane}
+use Rattle.page_map.specs.FreePages.{FreePages, page_times, heights_pages}
+use Rattle.page_map.specs.TileLocations.{TileLocation, pages_of_tile, pages_of_kept, reached}
+use Rattle.page_map.specs.PageMaps.{IsWholeTile, AreWholeKept}
+use Rattle.page_map.specs.TileEntries.{committed_tile, staged_as, staged_tile, committed_tiles, staged_tiles, fresh_heights_in, fresh_heights, fresh_kept, fresh_pages, pages_of_location, IsSound, IsKept}
+use Rattle.page_map.proofs.Times.{one, one-other, times-append, length-differing}
+use Rattle.page_map.proofs.FreeTimes.{contains-without, free_near, len-without, page_one}
+use Rattle.page_map.proofs.EntryLists.{reached_all}
+
+-- ---- numbers that all stand in a list or a set are no more than these have
+-- the list without a number that stands in it
+pub left_out : (q : ℕ) (xs : List ℕ) → 1 ≤ times q xs → (ys : List ℕ) × ((length xs ≡ suc (length ys)) × ((p : ℕ) → p ≢ q → times p ys ≡ times p xs))
+left_out q [] some = absurd (omega arith)
+left_out q (x ∷ xs) some = elim (cases_eq q x) [
+  | inl same ↦ (xs, (refl, λ p other. (let none = one-other p x (λ e. other (e ∙ sym same)) in omega arith)))
+  | inr apart ↦
+      let none = one-other q x apart in
+      let rest = left_out q xs (omega arith) in
+      (x ∷ rest.0, (ap suc rest.1.0, λ p other. ap (λ n. one p x + n) (rest.1.1 p other)))
+]
+
+some_member : (s : FinSet nat_cmp) (q : ℕ) → contains s q ≡ true → 0 < len s
+some_member s q member =
+    elim (cases_lt 0 (len s)) [
+      | inl some ↦ some
+      | inr none ↦
+          let is_empty : s ≡ empty = empty_of_len s (omega arith) in
+          absurd (false≢true (sym (ap (λ t. contains t q) is_empty ∙ contains-empty nat_cmp q) ∙ member))
+    ]
+
+abbrev in_set : FinSet nat_cmp → ℕ → ℕ
+in_set s p = cond (contains s p) 1 0
+
+pub pages_le : (n : ℕ) (xs : List ℕ) (s : FinSet nat_cmp) → ((p : ℕ) → 4 ≤ p → p < 4 + n → 1 ≤ times p xs + in_set s p) → n ≤ length xs + len s
+pages_le zero xs s each = omega arith
+pages_le (suc n) xs s each = elim (cases_Bool (contains s (4 + n))) [
+  | inl member ↦
+      let q = 4 + n in
+      let some = some_member s q member in
+      let fewer = len-without s q member in
+      let rest = pages_le n xs (remove s q) (λ p low high. (
+      let other : p ≢ q = omega arith in
+      let same : contains (remove s q) p ≡ contains s p = contains-without s q p ∙ ap (λ b. not b && contains s p) (ne_eqb p q other) in
+      rw same (each p low (omega arith)))) in
+      omega arith
+  | inr absent ↦
+      let q = 4 + n in
+      let here : 1 ≤ times q xs + in_set s q = each q (omega arith) (omega arith) in
+      let none : in_set s q ≡ 0 = ap (λ b. cond b 1 0) absent in
+      let out = left_out q xs (omega arith) in
+      let rest = pages_le n out.0 s (λ p low high. (let other : p ≢ q = omega arith in omega (arith, each p low (omega arith), out.1.1 p other))) in
+      omega (arith, out.1.0)
+]
+
+-- ---- how many pages the entries use
+abbrev count : Option TileLocation → ℕ
+count None = 0
+count (Some t) = 1
+
+pages_few : (pages : TileEntry → List ℕ) (tile_of : TileEntry → Option TileLocation) (most : ℕ) (Q : TileEntry → Type 0) → ((s : TileEntry) → Q s → length (pages s) ≤ most * count (tile_of s))
+    → (entries : List TileEntry) → AllByRecursion Q entries → length (flat_map pages entries) ≤ most * length (filter_map tile_of entries)
+pages_few pages tile_of most Q each [] all = omega arith
+pages_few pages tile_of most Q each (s ∷ rest) all = by (tile_of s) (each s all.0) (pages_few pages tile_of most Q each rest all.1)
+  where
+    by : (o : Option TileLocation) → length (pages s) ≤ most * count o → length (flat_map pages rest) ≤ most * length (filter_map tile_of rest)
+        → length (pages s ++ flat_map pages rest) ≤ most * length (cons_option o (filter_map tile_of rest))
+    by None here later = omega (arith, length-append (pages s) (flat_map pages rest))
+    by (Some t) here later = omega (arith, length-append (pages s) (flat_map pages rest), mul-add most 1 (length (filter_map tile_of rest)))
+
+module _ (format : Format) where
+  abbrev plane_size : ℕ
+  plane_size = plane_pages_of format
+
+  pub plane_few : (p : PlaneLocation) → IsWholePlane format p → length (pages_of_plane p) ≡ plane_size
+  plane_few p whole = omega (arith, length-append p.index_pages p.pages, whole.index_pages, whole.pages)
+
+  pub kept_few : (kept : Option KeptLocations) → IfSome kept (AreWholeKept format) → length (pages_of_kept kept) ≤ 2 * plane_size
+  kept_few None whole = omega arith
+  kept_few (Some k) whole = omega (arith, length-append (pages_of_plane k.levels) (pages_of_plane k.labels), plane_few k.levels whole.levels, plane_few k.labels whole.labels)
+
+  tile_few : (t : TileLocation) → IsWholeTile format t → length (pages_of_tile t) ≤ 3 * plane_size
+  tile_few t whole = omega (arith, length-append (pages_of_plane t.heights) (pages_of_kept t.kept), plane_few t.heights whole.heights, kept_few t.kept whole.kept)
+
+  committed_few : (s : TileEntry) → IsSound format s → length (pages_of_location (committed_tile s)) ≤ 3 * plane_size * count (committed_tile s)
+  committed_few s sound = by (committed_tile s) sound.committed
+    where
+      by : (o : Option TileLocation) → IfSome o (IsWholeTile format) → length (pages_of_location o) ≤ 3 * plane_size * count o
+      by None whole = omega arith
+      by (Some t) whole = omega (arith, tile_few t whole)
+
+  heights_few : (s : TileEntry) → IsSound format s → length (fresh_heights s) ≤ plane_size * count (staged_tile s)
+  heights_few s sound = by s.corner s.committed s.staged sound.staged
+    where
+      by : (c : Corner) (o : Option TilePlanes) (g : Staged) → IfSome (staged_as c o g) (IsWholeTile format) → length (fresh_heights_in o g) ≤ plane_size * count (staged_as c o g)
+      by c o (Tile of_heights.AsCommitted k) whole = omega arith
+      by c o (Tile (of_heights.Fresh location) k) whole = omega (arith, length-differing (pages_behind location) (heights_pages o), plane_few location whole.heights)
+      by c o Removed whole = omega arith
+
+  all_heights_few : (entries : List TileEntry) → AllByRecursion (IsSound format) entries → length (flat_map fresh_heights entries) ≤ plane_size * length (staged_tiles entries)
+  all_heights_few = pages_few fresh_heights staged_tile plane_size (IsSound format) heights_few
+
+  -- all but those of one entry's tile
+  other_heights_few : (before : List TileEntry) (s : TileEntry) (after : List TileEntry) → AllByRecursion (IsSound format) (before ++ s ∷ after) → IsSome (staged_tile s)
+      → length (flat_map fresh_heights (before ++ s ∷ after)) + plane_size ≤ plane_size * length (staged_tiles (before ++ s ∷ after)) + length (fresh_heights s)
+  other_heights_few [] s after all some = by (staged_tile s) some
+    where
+      by : (o : Option TileLocation) → IsSome o → length (fresh_heights s ++ flat_map fresh_heights after) + plane_size ≤ plane_size * length (cons_option o (staged_tiles after)) + length (fresh_heights s)
+      by None some = absurd (false≢true some)
+      by (Some t) some = omega (arith, length-append (fresh_heights s) (flat_map fresh_heights after), mul-add plane_size 1 (length (staged_tiles after)), all_heights_few after all.1)
+  other_heights_few (b ∷ before) s after all some = by (staged_tile b) (heights_few b all.0) (other_heights_few before s after all.1 some)
+    where
+      by : (o : Option TileLocation) → length (fresh_heights b) ≤ plane_size * count o
+          → length (flat_map fresh_heights (before ++ s ∷ after)) + plane_size ≤ plane_size * length (staged_tiles (before ++ s ∷ after)) + length (fresh_heights s)
+          → length (fresh_heights b ++ flat_map fresh_heights (before ++ s ∷ after)) + plane_size ≤ plane_size * length (cons_option o (staged_tiles (before ++ s ∷ after))) + length (fresh_heights s)
+      by None here later = omega (arith, length-append (fresh_heights b) (flat_map fresh_heights (before ++ s ∷ after)))
+      by (Some t) here later = omega (arith, length-append (fresh_heights b) (flat_map fresh_heights (before ++ s ∷ after)), mul-add plane_size 1 (length (staged_tiles (before ++ s ∷ after))))
+
+-- the fresh pages are those of heights and those of kept planes
+pub fresh_parts : (entries : List TileEntry) → length (flat_map fresh_pages entries) ≡ length (flat_map fresh_heights entries) + length (flat_map fresh_kept entries)
+fresh_parts [] = refl
+fresh_parts (s ∷ rest) =
+    let parts = fresh_parts rest in
+    let all = length-append (fresh_pages s) (flat_map fresh_pages rest) in
+    let here = length-append (fresh_heights s) (fresh_kept s) in
+    let heights = length-append (fresh_heights s) (flat_map fresh_heights rest) in
+    let kept = length-append (fresh_kept s) (flat_map fresh_kept rest) in
+    omega arith
+
+left_over : (total used left m c nc lc lf : ℕ) → 4 + (4 * c + 2) * m ≤ total → total - 4 ≤ used + left → used ≡ lc + lf → lc ≤ 3 * m * nc → m * nc ≤ m * c → m * c + 2 * m ≤ lf + left
+left_over total used left m c nc lc lf size all joined committed committed_most =
+    let needed : (4 * c + 2) * m ≡ 4 * (m * c) + m * 2 = mul_comm (4 * c + 2) m ∙ (mul-add m (4 * c) 2 ∙ ap (λ n. n + m * 2) (mul_left_comm m 4 c)) in
+    let three : 3 * m * nc ≡ 3 * (m * nc) = mul_assoc 3 m nc in
+    omega arith
+
+module _ (format : Format) (entries : List TileEntry) (free : FreePages) (is : IsKept format entries free) where
+  -- what the committed tiles leave: a plane for each tile that there is room for, and two more
+  all_left : plane_pages_of format * format.capacity + 2 * plane_pages_of format ≤ length (flat_map fresh_pages entries) + len free.free
+  all_left =
+      let used = reached (committed_tiles entries) ++ flat_map fresh_pages entries in
+      let m = plane_pages_of format in
+      let all : free.range.window - 4 ≤ length used + len free.free =
+      pages_le (free.range.window - 4) used free.free (λ p low high. (
+      let near = free_near free p (omega (arith, is.window.enough)) in
+      let page : page_times free.range p ≡ 1 = page_one free.range p (low, omega (arith, is.window.enough, is.window.within)) in
+      omega (arith, is.counted p, near, page, times-append p (reached (committed_tiles entries)) (flat_map fresh_pages entries)))) in
+      let committed : length (reached (committed_tiles entries)) ≤ 3 * m * length (committed_tiles entries) =
+      rw (reached_all committed_tile entries) (pages_few (λ s. pages_of_location (committed_tile s)) committed_tile (3 * m) (IsSound format) (committed_few format) entries is.sound) in
+      let committed_most : m * length (committed_tiles entries) ≤ m * format.capacity = mul-le-mul_left m is.committed_room in
+      let joined = length-append (reached (committed_tiles entries)) (flat_map fresh_pages entries) in
+      left_over free.range.window (length used) (len free.free) m format.capacity (length (committed_tiles entries)) _ _ is.window.enough all joined committed committed_most
+
+  -- where no page is fresh there are two planes
+  pub room_to_keep : flat_map fresh_pages entries ≡ [] → 2 * plane_pages_of format ≤ len free.free
+  room_to_keep none = let nothing = ap length none in omega (arith, all_left, nothing)
+
+  -- for one tile more there is a plane
+  pub room_for_tile : length (staged_tiles entries) < format.capacity → plane_pages_of format ≤ len free.free
+  room_for_tile room =
+      let m = plane_pages_of format in
+      let tiles : m * (length (staged_tiles entries) + 1) ≤ m * format.capacity = mul-le-mul_left m (omega arith) in
+      omega (arith, all_left, fresh_parts entries, all_heights_few format entries is.sound, is.kept_room, tiles, mul-add m (length (staged_tiles entries)) 1)
+
+-- for a staged tile there is one, with those pages of its heights that are fresh already
+pub room_for_heights : (format : Format) (before : List TileEntry) (s : TileEntry) (after : List TileEntry) (free : FreePages) → IsKept format (before ++ s ∷ after) free → IsSome (staged_tile s)
+    → plane_pages_of format ≤ length (fresh_heights s) + len free.free
+room_for_heights format before s after free is some =
+    let entries = before ++ s ∷ after in
+    let m = plane_pages_of format in
+    let tiles : m * length (staged_tiles entries) ≤ m * format.capacity = mul-le-mul_left m is.staged_room in
+    omega (arith, all_left format entries free is, fresh_parts entries, other_heights_few format before s after is.sound some, is.kept_room, tiles)
+
+-- what lists the planes of all committed tiles by the second version finds room, where a store of it does
+upgraded_over : (total used left c n i p : ℕ) → 4 + (4 * c + 2) * (1 + i + p) ≤ total → total - 4 ≤ used + left → used ≤ 3 * (1 + p) * n → n ≤ c → 1 ≤ i → 1 ≤ p → 3 * (1 + i) * n ≤ left
+upgraded_over total used left c n i p size all committed most some_index some_page =
+    let a : ℕ = 1 + i + p in
+    let needed : (4 * c + 2) * a ≡ 4 * (a * c) + a * 2 = mul_comm (4 * c + 2) a ∙ (mul-add a (4 * c) 2 ∙ ap (λ n. n + a * 2) (mul_left_comm a 4 c)) in
+    let more : a * n ≤ a * c = mul-le-mul_left a most in
+    let whole : a * n ≡ n * (1 + i) + n * p = mul_comm a n ∙ mul-add n (1 + i) p in
+    let lists : n * (1 + i) ≡ n * 1 + n * i = mul-add n 1 i in
+    let planes : n * (1 + p) ≡ n * 1 + n * p = mul-add n 1 p in
+    let used_is : 3 * (1 + p) * n ≡ 3 * (n * (1 + p)) = mul_assoc 3 (1 + p) n ∙ ap (λ k. 3 * k) (mul_comm (1 + p) n) in
+    let asked : 3 * (1 + i) * n ≡ 3 * (n * (1 + i)) = mul_assoc 3 (1 + i) n ∙ ap (λ k. 3 * k) (mul_comm (1 + i) n) in
+    let index_least : n * 1 ≤ n * i = mul-le-mul_left n some_index in
+    let page_least : n * 1 ≤ n * p = mul-le-mul_left n some_page in
+    omega arith
+
+pub room_to_upgrade : (format : Format) (entries : List TileEntry) (free : FreePages) → IsKept format entries free → flat_map fresh_pages entries ≡ [] → format.version ≡ One → 3 ≤ format.side → sectors_asked (upgraded format) ≤ free.range.sectors
+    → 3 * (1 + index_pages_of (upgraded format)) * length (committed_tiles entries) ≤ len free.free
+room_to_upgrade format entries free is none first side size =
+    let used = reached (committed_tiles entries) in
+    let none_index : index_pages_of format ≡ 0 = ap (λ v. index_pages_by v (pages_of format.side)) first in
+    let all : free.range.window - 4 ≤ length used + len free.free =
+    pages_le (free.range.window - 4) used free.free (λ p low high. (
+    let near = free_near free p (omega (arith, is.window.enough)) in
+    let page : page_times free.range p ≡ 1 = page_one free.range p (low, omega (arith, is.window.enough, is.window.within)) in
+    let nothing = ap (times p) none in
+    omega (arith, is.counted p, near, page, nothing))) in
+    let committed : length used ≤ 3 * plane_pages_of format * length (committed_tiles entries) =
+    rw (reached_all committed_tile entries) (pages_few (λ s. pages_of_location (committed_tile s)) committed_tile (3 * plane_pages_of format) (IsSound format) (committed_few format) entries is.sound) in
+    let square : format.side * 3 ≤ format.side * format.side = mul-le-mul_left format.side side in
+    let some_page : 1 ≤ pages_of format.side = omega (arith, square, side) in
+    let some_index : 1 ≤ index_pages_of (upgraded format) = omega (arith, some_page) in
+    upgraded_over free.range.window (length used) (len free.free) format.capacity (length (committed_tiles entries)) (index_pages_of (upgraded format)) (pages_of format.side) (is.window.upgrade size) all
+    (subst (λ i. length used ≤ 3 * (1 + i + pages_of format.side) * length (committed_tiles entries)) none_index committed) is.committed_room some_index some_page

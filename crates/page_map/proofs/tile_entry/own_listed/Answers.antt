@@ -1,0 +1,21 @@
+use Rattle.std.proofs.Common.{arith}
+use Rattle.std.proofs.lemmas.List.{length-append}
+use Rattle.page_map.proofs.Owning.{owned_alone, owned_listed}
+use Rattle.page_map.proofs.tile_entry.own_listed.Goals as goal
+use Rattle.page_map.proofs.tile_entry.own_listed.Goals.{then-index_page-count, else-index_page-count}
+
+pub overflow_add-count : goal.overflow_add-count
+overflow_add-count c =
+    omega (arith, c.index_count-count.ensures.value, c.index_count-count.ensures.fits, c.requires.index, length-append c.args.location.now.index_pages c.args.location.now.pages)
+
+pub returns : goal.returns
+returns c = elim c.if-index_page-count.branch [
+  | then-index_page-count w ↦
+      owned_listed c.args.committed.now c.args.i w.make_writable.result c.make_writable-2.result c.args.location.now w.make_writable.new.location c.make_writable-2.new.location c.args.free.now w.make_writable.new.free c.make_writable-2.new.free
+      (omega (arith, w.if-index_page-count.true, c.index_count-count.ensures.value)) w.make_writable.ensures.moved w.make_writable.ensures.owned
+      (rw (w.location-is, c.index_count-count.ensures.value) at c.make_writable-2.ensures.moved) (rw (w.location-is, w.free-is) at c.make_writable-2.ensures.owned)
+  | else-index_page-count w ↦
+      owned_alone c.args.committed.now c.args.i c.make_writable-2.result c.args.location.now c.make_writable-2.new.location c.args.free.now c.make_writable-2.new.free
+      (omega (arith, w.if-index_page-count.false, c.index_count-count.ensures.value))
+      (rw (w.location-is, c.index_count-count.ensures.value) at c.make_writable-2.ensures.moved) (rw (w.location-is, w.free-is) at c.make_writable-2.ensures.owned)
+]

@@ -1,0 +1,99 @@
+-- Pages taken out of the free ones, and given back.
+use Rattle.std.specs.Prelude.{◌≡◌, ◌⊎◌, ℕ, ◌+◌, ◌/◌, ◌≤◌, ◌<◌, ◌&&◌, ◌==◌, not, Bool, nat_le, nat_lt, List, [], ◌∷◌, ◌++◌, length, Option, Some, None, if◌then◌else◌, refl}
+use Rattle.std.specs.Ordering.{nat_cmp}
+use Rattle.std.specs.FinSet.{FinSet, code, contains}
+use Rattle.std.specs.Coded.{Coded, code_by, coded×, coded_list, coded_ℕ}
+use Rattle.std.specs.BTreeSet as tree
+use Rattle.std.specs.BTreeSet.{BTreeSet}
+use Rattle.lattice.specs.declared.refusal.Refusal.{Refusal}
+use Rattle.lattice.specs.declared.refusal.Refusal.TheVariants.{Damaged, NoMemory}
+use Rattle.page_map.specs.declared.locations.TilePlanes.{TilePlanes}
+use Rattle.page_map.specs.declared.locations.KeptLocations.{KeptLocations}
+use Rattle.page_map.specs.Locations.{PlaneLocation, pages_behind, pages_of_plane, moved_plane, times}
+use Rattle.page_map.specs.TileLocations.{pages_of_kept}
+
+-- how many sectors the disk has, and below which number pages are taken: the window
+pub record PageRange : Type 0 where
+  pub sectors : ℕ
+  pub window : ℕ
+
+-- the free pages of the window, and the pages in use behind it
+pub record FreePages : Type 0 where
+  pub range : PageRange
+  pub free : FinSet nat_cmp
+  pub far : BTreeSet ℕ
+
+-- it is stored as its fields, one in the other
+abbrev pub free_pages_code : Coded FreePages
+free_pages_code =
+    code_by (ℕ × (ℕ × (FinSet nat_cmp × List ℕ))) (coded× coded_ℕ (coded× coded_ℕ (coded× (code coded_ℕ) (coded_list coded_ℕ)))) (λ f. (f.range.sectors, (f.range.window, (f.free, f.far.keys))))
+    (λ p. record { range = record { sectors = p.0; window = p.1.0 }; free = p.1.1.0; far = record { keys = p.1.1.1 } }) (λ _. refl)
+
+abbrev pub is_free : FreePages → ℕ → Bool
+is_free pages p = if nat_lt p pages.range.window then contains pages.free p else nat_lt p pages.range.sectors && not (tree.contains nat_cmp pages.far p)
+
+-- 1 for a page that is free, else 0
+abbrev pub free_times : FreePages → ℕ → ℕ
+free_times pages p = if is_free pages p then 1 else 0
+
+-- 1 for the number of a page, else 0
+abbrev pub page_times : PageRange → ℕ → ℕ
+page_times range p = if nat_le 4 p && nat_lt p range.sectors then 1 else 0
+
+-- the listed pages were free, each of them once, and are free no longer
+pub record AreTaken (listed : List ℕ) (old new : FreePages) : Type 0 where
+  pub same_range : new.range ≡ old.range
+  pub each : (p : ℕ) → times p listed + free_times new p ≡ free_times old p
+
+-- the listed pages weren't all free, or not all distinct, or there is no memory to mark them
+abbrev pub IsUnmarked : FreePages → List ℕ → Refusal → Type 0
+IsUnmarked pages listed refusal = (refusal ≡ NoMemory) ⊎ ((refusal ≡ Damaged) × ((p : ℕ) × (free_times pages p < times p listed)))
+
+-- the listed pages are free now
+pub record AreGiven (listed : List ℕ) (old new : FreePages) : Type 0 where
+  pub same_range : new.range ≡ old.range
+  pub each : (p : ℕ) → free_times new p ≡ times p listed + free_times old p
+
+-- the listed numbers are those of pages in use, each once
+abbrev pub AreInUse : List ℕ → FreePages → Type 0
+AreInUse listed pages = (p : ℕ) → times p listed + free_times pages p ≤ page_times pages.range p
+
+-- the pages of the first list that don't stand at the same index in the second
+abbrev pub differing : List ℕ → List ℕ → List ℕ
+differing [] others = []
+differing (p ∷ rest) [] = p ∷ rest
+differing (p ∷ rest) (q ∷ others) = if p == q then differing rest others else p ∷ differing rest others
+
+-- all pages of a tile's planes
+abbrev pub pages_of_planes : TilePlanes → List ℕ
+pages_of_planes planes = pages_of_plane planes.heights ++ pages_of_kept planes.kept
+
+abbrev pub all_pages : Option TilePlanes → List ℕ
+all_pages None = []
+all_pages (Some planes) = pages_of_planes planes
+
+abbrev pub kept_of : Option TilePlanes → Option KeptLocations
+kept_of None = None
+kept_of (Some planes) = planes.kept
+
+-- the pages behind the record of the heights
+abbrev pub heights_pages : Option TilePlanes → List ℕ
+heights_pages None = []
+heights_pages (Some planes) = pages_behind planes.heights
+
+-- a page of a plane is this page now, which the committed plane doesn't have, and the free pages make up for it
+pub record IsOwned (committed : List ℕ) (page : ℕ) (old new : List ℕ) (was now : FreePages) : Type 0 where
+  pub fresh : 1 ≤ times page (differing new committed)
+  pub same_range : now.range ≡ was.range
+  pub fewer : (p : ℕ) → free_times now p ≤ free_times was p
+  pub each : (p : ℕ) → times p (differing new committed) + free_times now p ≡ times p (differing old committed) + free_times was p
+
+-- page i of a plane is this page now, and it and the index page that lists it are pages that the committed plane doesn't
+-- have; the free pages make up for them
+pub record IsOwnedPage (committed : List ℕ) (i page : ℕ) (old new : PlaneLocation) (was now : FreePages) : Type 0 where
+  pub index_page : ℕ
+  pub moved : new ≡ moved_plane i page index_page old.record_page old
+  pub fresh_page : 1 ≤ times page (differing (pages_behind new) committed)
+  pub fresh_index : i / 1024 < length old.index_pages → 1 ≤ times index_page (differing (pages_behind new) committed)
+  pub same_range : now.range ≡ was.range
+  pub each : (p : ℕ) → times p (differing (pages_behind new) committed) + free_times now p ≡ times p (differing (pages_behind old) committed) + free_times was p

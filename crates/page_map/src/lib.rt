@@ -1,0 +1,25 @@
+//! Which pages of a disk hold which planes of which tiles, as committed and as the next commit will have it.
+//!
+//! A [`PageMap`] is held in memory and knows no disk. The layer above rests on this: it gives out pages that no committed
+//! tile reaches, for new content and for the records of planes, and there always is one; what a commit does without is
+//! free only after it. `specs/TileLocations.antt` says which pages tiles reach, `specs/PageMaps.antt` what a page_map knows of
+//! them.
+//!
+//! ```
+//! let page = page_map.page_for_writing(corner, 0)?;         // for new content of the tile's first page
+//! page_map.settle();                                        // what was staged is committed
+//! ```
+#![tactic(auto)]
+
+mod page_map;
+mod free_pages;
+mod locations;
+mod pages;
+mod plane;
+mod tile_entry;
+mod staged;
+mod upgrading;
+
+pub use page_map::PageMap;
+pub use locations::{KeptLocations, PagedPlane, TilePlanes};
+pub use plane::Plane;

@@ -1,0 +1,158 @@
+//! Where the planes of a tile lie.
+ghost use Rattle.std.specs.Prelude.{◌≡◌, ◌<◌, ◌≤◌, ◌^◌, ◌++◌, length, take, drop, IfOk, IfErr, option_copied, slice_get};
+ghost use Rattle.lattice.specs.declared.refusal.Refusal.TheVariants.{NoMemory};
+ghost use Rattle.page_map.specs.Locations.{listing_of, pages_behind, IsMovedBehind};
+ghost use Rattle.page_map.specs.PageMaps.{tile_at};
+ghost use Rattle.page_map.specs.Planes.{plane_of};
+ghost use Rattle.lattice.specs.Corners.{Corner};
+
+use crate::plane::Plane;
+use lattice::Refusal;
+use std::marker::Model;
+
+/// Where a plane lies: the page of its record, its index pages, of which the first version has none, and its pages in order.
+#[derive(Drop)]
+pub struct PagedPlane {
+    record_page: u32,
+    // The index pages, and the pages behind them.
+    behind: Vec<u32>,
+    // How many of them are index pages.
+    index_count: usize,
+}
+
+impl Model for PagedPlane {
+    ghost use Rattle.std.specs.Prelude.{◌≤◌, length, take, drop};
+    ghost use Rattle.page_map.specs.Locations.{PlaneLocation};
+
+    ghost Value = { PlaneLocation };
+
+    ghost view = { λ p. record { record_page = p.record_page; index_pages = take p.index_count p.behind.items; pages = drop p.index_count p.behind.items } };
+
+    ghost invariant = { λ p. p.index_count ≤ length p.behind.items };
+}
+
+/// The levels and the labels of a tile.
+#[derive(Drop)]
+pub struct KeptLocations {
+    pub levels: PagedPlane,
+    pub labels: PagedPlane,
+}
+
+/// The planes of a tile. A tile whose levels and labels aren't kept is stale.
+#[derive(Drop)]
+pub struct TilePlanes {
+    pub heights: PagedPlane,
+    pub kept: Option<KeptLocations>,
+}
+
+impl TilePlanes {
+    /// Where a plane lies, if the tile has it.
+    pub(crate) fn plane(&self, plane: Plane) -> Option<&PagedPlane>
+        ensures { (c : Corner) → option_copied result ≡ plane_of plane (tile_at c self.now) }
+    {
+        match plane {
+            Plane::Heights => Some(&self.heights),
+            Plane::Levels => match &self.kept {
+                Some(kept) => Some(&kept.levels),
+                None => None,
+            },
+            Plane::Labels => match &self.kept {
+                Some(kept) => Some(&kept.labels),
+                None => None,
+            },
+        }
+    }
+}
+
+impl PagedPlane {
+    /// A plane whose record is at this page. So many of the pages behind it are index pages; the others are the plane's.
+    pub fn new(record_page: u32, behind: Vec<u32>, index_count: usize) -> PagedPlane
+        requires { index_count ≤ length behind.items }
+        ensures { result ≡ record { record_page = record_page; index_pages = take index_count behind.items; pages = drop index_count behind.items } }
+    {
+        PagedPlane {
+            record_page,
+            behind,
+            index_count,
+        }
+    }
+
+    /// The plane with these pages behind its own. Refused with NoMemory.
+    pub(crate) fn with_pages(self, pages: &[u32]) -> Result<PagedPlane, Refusal>
+        ensures more { IfOk result (λ plane. plane ≡ record self { pages = self.pages ++ pages.now }) }
+        ensures refused { IfErr result (λ refusal. refusal ≡ NoMemory) }
+    {
+        let PagedPlane {
+            record_page,
+            mut behind,
+            index_count,
+        } = self;
+        behind.extend_from_slice(pages)?;
+        Ok(PagedPlane {
+            record_page,
+            behind,
+            index_count,
+        })
+    }
+
+    /// The page of the plane's record.
+    pub fn record_page(&self) -> u32
+        ensures { result ≡ self.now.record_page }
+    {
+        self.record_page
+    }
+
+    /// The plane's index pages in order.
+    pub fn index_pages(&self) -> &[u32]
+        ensures { result.now ≡ self.now.index_pages }
+    {
+        &self.behind[..self.index_count]
+    }
+
+    /// How many pages list the plane's pages: its record and its index pages.
+    pub fn listing_len(&self) -> usize
+        ensures { result ≡ length (listing_of self.now) }
+    {
+        1 + self.index_count
+    }
+
+    /// A page of those that list the plane's pages, by its number among them: the record is the first.
+    pub fn listing_page(&self, i: usize) -> Option<u32>
+        ensures { result ≡ slice_get (listing_of self.now) i }
+    {
+        if i == 0 {
+            return Some(self.record_page);
+        }
+        self.index_pages().get(i - 1).copied()
+    }
+
+    /// The plane's pages in order.
+    pub fn pages(&self) -> &[u32]
+        ensures { result.now ≡ self.now.pages }
+    {
+        &self.behind[self.index_count..]
+    }
+
+    /// The index pages, and the pages behind them.
+    pub(crate) fn behind(&self) -> &[u32]
+        ensures { result.now ≡ pages_behind self.now }
+    {
+        &self.behind
+    }
+
+    /// How many index pages the plane has.
+    pub(crate) fn index_count(&self) -> usize
+        ensures value { result ≡ length self.now.index_pages }
+        ensures fits { length (pages_behind self.now) < 2 ^ 64 }
+    {
+        self.index_count
+    }
+
+    /// Puts one of the index pages and the pages behind them elsewhere.
+    pub(crate) fn set_behind(&mut self, at: usize, page: u32)
+        requires { at < length (pages_behind self.old) }
+        ensures { IsMovedBehind at page self.old self.new }
+    {
+        self.behind[at] = page;
+    }
+}

@@ -1,0 +1,416 @@
+//! Which pages hold which planes, as committed and as the next commit will have it.
+ghost use Rattle.std.specs.Prelude.{◌≡◌, slice_index, ◌⊎◌, ◌≤◌, ◌<◌, [], ◌∷◌, ◌++◌, All, length, Some, None, Contains, IsOk, IfOk, OnOk, OnErr, IfSome, IfNone, IsSome, IsTrue, ◌↔◌, IfErr};
+ghost use Rattle.lattice.specs.declared.refusal.Refusal.TheVariants.{Damaged, NoMemory};
+ghost use Rattle.layout.specs.Formats.{upgraded};
+ghost use Rattle.layout.specs.Sizes.{pages_of, sectors_asked};
+ghost use Rattle.layout.specs.declared.version.Version.TheVariants.{One};
+ghost use Rattle.std.specs.List.{AllAdjacentBelow};
+ghost use Rattle.lattice.specs.Corners.{is_before, is_corner};
+ghost use Rattle.lattice.specs.Lattice.{IsBefore};
+ghost use Rattle.lattice.specs.Limits.{most_tiles};
+ghost use Rattle.page_map.specs.TileEntries.{IsEntryAt, IsRoomAt, AreCounted, AreEndedAs};
+
+use crate::free_pages::FreePages;
+use crate::locations::{KeptLocations, PagedPlane, TilePlanes};
+use crate::pages::{fresh_plane, mark_planes};
+use crate::plane::Plane;
+use crate::tile_entry::{Ending, TileEntry};
+use crate::staged::{HeightsStaged, KeptStaged, Staged};
+use crate::upgrading::upgraded_planes;
+use arrayvec::ArrayVec;
+use lattice::{Corner, MOST_TILES, Refusal};
+use layout::Format;
+use std::alloc::Global;
+use std::marker::Model;
+
+// The most tiles of a page_map, as a length.
+const TILES: usize = MOST_TILES as usize;
+
+/// Where each plane of a store lies, as committed and as the next commit will have it.
+///
+/// Writing copies: the first write to a page of a committed plane takes a free page for it, and one for a record of the
+/// plane; a page that isn't committed is written in place. The pages that a commit does without are free only after it.
+#[derive(Drop)]
+pub struct PageMap {
+    alloc: Global,
+    format: Format,
+    // In the order of their corners.
+    entries: Vec<TileEntry>,
+    free: FreePages,
+}
+
+impl Model for PageMap {
+    ghost use Rattle.page_map.specs.PageMaps.{PageMapValue};
+    ghost use Rattle.page_map.specs.TileEntries.{IsKept, page_map_of};
+
+    ghost Value = { PageMapValue };
+
+    ghost view = { λ c. page_map_of c.format c.entries.items c.free };
+
+    ghost invariant = { λ c. IsKept c.format c.entries.items c.free };
+}
+
+impl PageMap {
+    ghost use Rattle.page_map.specs.Locations.{PlaneLocation, listing_of};
+    ghost use Rattle.page_map.specs.TileLocations.{TileLocation, KeepsPageRule};
+    ghost use Rattle.page_map.specs.PageMaps.{no_tiles_mapped, IsPageMap, IsClean, IsLocated, HasHeights, HasKept, HasFreshHeights, is_unreached, page_if, IsRewritten, IsPrepared, IsAdded, AreKept, IsWholeTile, tile_at, without_location, without_kept, corners_of_locations};
+    ghost use Rattle.page_map.specs.TileEntries.{ended_page_map};
+    ghost use Rattle.page_map.specs.Planes.{HasPlane, HasPlaneAt};
+    ghost use Rattle.page_map.specs.Upgraded.{IsUpgraded};
+
+    /// A page_map of no tiles for a disk of so many sectors with a store of this format.
+    pub fn new(alloc: Global, sectors: u32, format: Format) -> Result<PageMap, Refusal>
+        requires size { sectors_asked format ≤ sectors }
+        requires capacity { format.capacity ≤ most_tiles }
+        ensures value { IfOk result (λ page_map. page_map ≡ no_tiles_mapped sectors format) }
+        ensures rules { IfOk result IsPageMap }
+        ensures refused { IfErr result (λ refusal. refusal ≡ NoMemory) }
+    {
+        // A store that is upgraded stays in the same window.
+        let window = sectors.min(format.upgraded().sectors());
+        let free = FreePages::new(alloc, sectors, window)?;
+        Ok(PageMap {
+            alloc,
+            format,
+            entries: Vec::new(alloc),
+            free,
+        })
+    }
+
+    /// The page_map with one more committed tile, behind the others. Damaged where its pages break the page rule.
+    pub fn load(self, corner: Corner, planes: TilePlanes) -> Result<PageMap, Refusal>
+        requires clean { IsClean self }
+        requires after { All (λ t. IsBefore t.corner corner) self.committed }
+        requires room { length self.committed < self.format.capacity }
+        requires whole { IsWholeTile self.format (tile_at corner planes) }
+        ensures loaded { IfOk result (λ page_map. page_map ≡ record self { committed = self.committed ++ tile_at corner planes ∷ []; staged = self.committed ++ tile_at corner planes ∷ [] }) }
+        ensures rules { IfOk result IsPageMap }
+        ensures refused { IfErr result (λ refusal. (refusal ≡ NoMemory) ⊎ ((refusal ≡ Damaged) × ¬ KeepsPageRule self.sectors (self.committed ++ tile_at corner planes ∷ []))) }
+    {
+        know_degrees(corner);
+        let PageMap {
+            alloc,
+            format,
+            mut entries,
+            mut free,
+        } = self;
+        mark_planes(&mut free, &planes)?;
+        let entry = TileEntry {
+            corner,
+            committed: Some(planes),
+            staged: Staged::none(),
+        };
+        if entries.push(entry).is_err() {
+            return Err(Refusal::NoMemory);
+        }
+        Ok(PageMap {
+            alloc,
+            format,
+            entries,
+            free,
+        })
+    }
+
+    /// A page_map of the committed tiles by the second version, where nothing is staged. Their pages stay; what lists them,
+    /// records and index pages, gets pages that no committed tile reaches. Refused with NoMemory.
+    pub fn upgraded(&self) -> Result<PageMap, Refusal>
+        requires clean { IsClean self.now }
+        requires first { self.now.format.version ≡ One }
+        requires room { sectors_asked (upgraded self.now.format) ≤ self.now.sectors }
+        ensures upgraded { IfOk result (IsUpgraded self.now) }
+        ensures rules { IfOk result IsPageMap }
+        ensures refused { IfErr result (λ refusal. refusal ≡ NoMemory) }
+    {
+        let format = self.format.upgraded();
+        // That its side keeps the rules is told by it.
+        let _side = format.side();
+        let mut free = self.free.copy(self.alloc)?;
+        let mut page_map = PageMap::new(self.alloc, free.sectors(), format)?;
+        for entry in &self.entries {
+            if let Some(planes) = &entry.committed {
+                let planes = upgraded_planes(self.alloc, planes, format, &mut free)?;
+                page_map = page_map.load(entry.corner, planes)?;
+            }
+        }
+        Ok(page_map)
+    }
+
+    /// The format of the page_map's store.
+    pub fn format(&self) -> Format
+        ensures { result ≡ self.now.format }
+    {
+        self.format
+    }
+
+    /// What is known of every page_map.
+    pub fn rules(&self)
+        ensures { IsPageMap self.now }
+    {
+        let _ = &self.entries;
+    }
+
+    /// Whether the corner's tile is staged.
+    pub fn is_present(&self, c: Corner) -> bool
+        ensures { IsTrue result ↔ IsLocated c self.now.staged }
+    {
+        self.heights(c).is_some()
+    }
+
+    /// Where the heights of the corner's staged tile lie.
+    pub fn heights(&self, c: Corner) -> Option<&PagedPlane>
+        ensures found { IfSome result (λ plane. HasHeights c plane.now self.now.staged) }
+        ensures present { IsSome result ↔ IsLocated c self.now.staged }
+    {
+        match find(&self.entries, c) {
+            Ok(at) => self.entries[at].heights(),
+            Err(_) => None,
+        }
+    }
+
+    /// Where the kept planes of the corner's staged tile lie.
+    pub fn kept(&self, c: Corner) -> Option<&KeptLocations>
+        ensures found { IfSome result (λ kept. HasKept c kept.now self.now.staged) }
+        ensures none { IfNone result ((t : TileLocation) → Contains self.now.staged t → t.corner ≡ c → t.kept ≡ None) }
+    {
+        match find(&self.entries, c) {
+            Ok(at) => self.entries[at].kept(),
+            Err(_) => None,
+        }
+    }
+
+    /// Where a plane of the corner's staged tile lies.
+    pub fn plane(&self, c: Corner, plane: Plane) -> Option<&PagedPlane>
+        ensures found { IfSome result (λ location. HasPlaneAt self.now.staged c plane location.now) }
+        ensures none { IfNone result (¬ HasPlane self.now.staged c plane) }
+    {
+        match plane {
+            Plane::Heights => self.heights(c),
+            Plane::Levels => match self.kept(c) {
+                Some(kept) => Some(&kept.levels),
+                None => None,
+            },
+            Plane::Labels => match self.kept(c) {
+                Some(kept) => Some(&kept.labels),
+                None => None,
+            },
+        }
+    }
+
+    /// The page to which new content of page `i` of the corner's heights may be written. It is free to be written, as
+    /// the index page that lists it and the record of the heights are: no committed tile reaches them. Refused with NoMemory, never where the heights
+    /// have been staged before.
+    pub fn page_for_writing(&mut self, c: Corner, i: u32) -> Result<u32, Refusal>
+        requires present { IsLocated c self.old.staged }
+        requires index { i < pages_of self.old.format.side }
+        ensures written { IfOk result (λ page. IsRewritten c i page self.old self.new) }
+        ensures sure { HasFreshHeights c self.old → IsOk result }
+        ensures refused { IfErr result (λ refusal. refusal ≡ NoMemory) }
+        ensures unchanged { OnErr result (self.new ≡ self.old) }
+        ensures rules { IsPageMap self.new }
+    {
+        match find(&self.entries, c) {
+            Ok(at) => {
+                let entry = &mut self.entries[at];
+                entry.page_for_writing(self.alloc, i as usize, &mut self.free)
+            }
+            Err(_) => unreachable!(),
+        }
+    }
+
+    /// Stages the heights of the corner's tile as they are: their record is to be written, and a page for writing in them
+    /// is never refused from now on.
+    pub fn prepare(&mut self, c: Corner) -> Result<(), Refusal>
+        requires { IsLocated c self.old.staged }
+        ensures prepared { OnOk result (IsPrepared c self.old self.new) }
+        ensures refused { IfErr result (λ refusal. refusal ≡ NoMemory) }
+        ensures unchanged { OnErr result (self.new ≡ self.old) }
+        ensures rules { IsPageMap self.new }
+    {
+        match find(&self.entries, c) {
+            Ok(at) => {
+                let entry = &mut self.entries[at];
+                entry.prepare(self.alloc, &mut self.free)
+            }
+            Err(_) => unreachable!(),
+        }
+    }
+
+    /// A page of what lists a plane of the corner's staged tile, by its number, where it is still to be written: no
+    /// committed tile reaches it.
+    pub fn page_due(&self, c: Corner, plane: Plane, i: usize) -> Option<u32>
+        ensures { (location : PlaneLocation) → HasPlaneAt self.now.staged c plane location → i < length (listing_of location)
+            → result ≡ page_if (is_unreached self.now.committed (slice_index (listing_of location) i)) (slice_index (listing_of location) i) }
+    {
+        match find(&self.entries, c) {
+            Ok(at) => self.entries[at].page_due(plane, i),
+            Err(_) => None,
+        }
+    }
+
+    /// Adds a tile with fresh pages for its heights.
+    pub fn tile_for_writing(&mut self, c: Corner) -> Result<(), Refusal>
+        requires absent { ¬ IsLocated c self.old.staged }
+        requires room { length self.old.staged < self.old.format.capacity }
+        ensures added { OnOk result (IsAdded c self.old self.new) }
+        ensures refused { IfErr result (λ refusal. refusal ≡ NoMemory) }
+        ensures unchanged { OnErr result (self.new ≡ self.old) }
+        ensures rules { IsPageMap self.new }
+    {
+        know_degrees(c);
+        self.entries.reserve(1)?;
+        let location = fresh_plane(
+            self.alloc,
+            &mut self.free,
+            self.format.index_pages(),
+            self.format.data_pages(),
+        )?;
+        let staged = Staged::Tile {
+            heights: HeightsStaged::Fresh(location),
+            kept: KeptStaged::Dropped,
+        };
+        match find(&self.entries, c) {
+            Ok(at) => {
+                let entry = &mut self.entries[at];
+                entry.restage(staged);
+                Ok(())
+            }
+            Err(at) => {
+                let entry = TileEntry {
+                    corner: c,
+                    committed: None,
+                    staged,
+                };
+                if self.entries.insert(at, entry).is_err() {
+                    unreachable!();
+                }
+                Ok(())
+            }
+        }
+    }
+
+    /// Takes the corner's tile out. The pages of the committed one stay in use until the commit.
+    pub fn remove_tile(&mut self, c: Corner)
+        requires present { IsLocated c self.old.staged }
+        requires settled { ¬ HasFreshHeights c self.old }
+        ensures removed { self.new ≡ record (self.old) { staged = without_location c self.old.staged } }
+        ensures rules { IsPageMap self.new }
+    {
+        match find(&self.entries, c) {
+            Ok(at) => {
+                let entry = &mut self.entries[at];
+                entry.remove(&mut self.free);
+            }
+            Err(_) => unreachable!(),
+        }
+    }
+
+    /// Stages fresh pages for the levels and the labels of the corner's tile, where nothing is staged yet. Refused with
+    /// NoMemory.
+    pub fn keep(&mut self, c: Corner) -> Result<(), Refusal>
+        requires clean { IsClean self.old }
+        requires present { IsLocated c self.old.staged }
+        ensures kept { OnOk result (AreKept c self.old self.new) }
+        ensures refused { IfErr result (λ refusal. refusal ≡ NoMemory) }
+        ensures unchanged { OnErr result (self.new ≡ self.old) }
+        ensures rules { IsPageMap self.new }
+    {
+        match find(&self.entries, c) {
+            Ok(at) => {
+                let entry = &mut self.entries[at];
+                entry.keep(self.alloc, self.format, &mut self.free)
+            }
+            Err(_) => unreachable!(),
+        }
+    }
+
+    /// Stages the corner's tile without its kept planes. The pages of committed ones stay in use until the commit. Takes no
+    /// memory.
+    pub fn drop_kept(&mut self, c: Corner)
+        requires { IsLocated c self.old.staged }
+        ensures dropped { self.new ≡ record (self.old) { staged = without_kept c self.old.staged } }
+        ensures rules { IsPageMap self.new }
+    {
+        match find(&self.entries, c) {
+            Ok(at) => {
+                let entry = &mut self.entries[at];
+                entry.drop_kept(&mut self.free);
+            }
+            Err(_) => unreachable!(),
+        }
+    }
+
+    /// The corners of the staged tiles, in order.
+    pub fn corners(&self) -> ArrayVec<Corner, TILES>
+        ensures value { result.items ≡ corners_of_locations self.now.staged }
+        ensures room { length result.items ≤ self.now.format.capacity }
+    {
+        let mut corners = ArrayVec::new();
+        for entry in &self.entries {
+            if entry.heights().is_some() {
+                corners.push(entry.corner);
+            }
+        }
+        corners
+    }
+
+    /// What is staged is committed. Takes no memory.
+    pub fn settle(&mut self)
+        ensures settled { self.new ≡ record (self.old) { committed = self.old.staged } }
+        ensures rules { IsPageMap self.new }
+    {
+        self.end(Ending::Committed);
+    }
+
+    /// What was staged is given up. Takes no memory.
+    pub fn undo(&mut self)
+        ensures undone { self.new ≡ record (self.old) { staged = self.old.committed } }
+        ensures rules { IsPageMap self.new }
+    {
+        self.end(Ending::GivenUp);
+    }
+
+    fn end(&mut self, ending: Ending)
+        ensures ended { self.new ≡ ended_page_map ending self.old }
+        ensures rules { IsPageMap self.new }
+    {
+        end_all(&mut self.entries, ending, &mut self.free);
+        self.entries.retain(|entry| entry.committed.is_some());
+    }
+}
+
+/// Where the entry of a corner is, or where it belongs.
+fn find(entries: &[TileEntry], c: Corner) -> Result<usize, usize>
+    requires { AllAdjacentBelow (λ a b. IsBefore a.corner b.corner) entries.now (length entries.now) }
+    ensures found { IfOk result (λ at. IsEntryAt c at entries.now) }
+    ensures absent { IfErr result (λ at. IsRoomAt c at entries.now) }
+{
+    let at = entries.partition_point(|entry| precedes(entry.corner, c));
+    if at < entries.len() && entries[at].corner == c {
+        Ok(at)
+    } else {
+        Err(at)
+    }
+}
+
+// A corner's degrees are known to be in range once they were read.
+fn know_degrees(c: Corner)
+    ensures { IsTrue (is_corner c) }
+{
+    let _lat = c.lat;
+}
+
+fn precedes(a: Corner, b: Corner) -> bool
+    ensures { result ≡ is_before a b }
+{
+    a < b
+}
+
+/// Commits or gives up what is staged in each entry.
+fn end_all(entries: &mut [TileEntry], ending: Ending, free: &mut FreePages)
+    requires { AreCounted entries.old free.old }
+    ensures { AreEndedAs ending entries.old entries.new free.old free.new }
+{
+    for entry in entries.iter_mut() {
+        entry.end(ending, free);
+    }
+}

@@ -1,7 +1,0 @@
-use Rattle.std.proofs.Common.{◌≡◌, take, map}
-use Rattle.plain.specs.Changes.{change_of}
-use Rattle.plain.proofs.Kept.{edited_tile}
-use Rattle.plain.proofs.change.edited.Given as goal
-
-abbrev pub invariant-loop-tile : goal.invariant-loop-tile
-invariant-loop-tile l = l.tiles.items ≡ map (edited_tile (change_of l.mosaic l.command) l.mosaic.side) (take l.tile-index l.tile-items)

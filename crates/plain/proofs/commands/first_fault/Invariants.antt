@@ -1,6 +1,0 @@
-use Rattle.std.proofs.Common.{◌≡◌, drop}
-use Rattle.edits.specs.Effect.{first_fault}
-use Rattle.plain.proofs.commands.first_fault.Given as goal
-
-abbrev pub invariant-loop-point : goal.invariant-loop-point
-invariant-loop-point l = first_fault l.mosaic l.depth (drop l.point-index l.points) ≡ first_fault l.mosaic l.depth l.points

@@ -1,6 +1,0 @@
-use Rattle.std.proofs.Common.{◌≡◌, drop}
-use Rattle.edits.specs.Effect.{is_repeated}
-use Rattle.plain.proofs.commands.is_repeated.Given as goal
-
-abbrev pub invariant-loop-i : goal.invariant-loop-i
-invariant-loop-i l = is_repeated (drop l.i l.points) ≡ is_repeated l.points

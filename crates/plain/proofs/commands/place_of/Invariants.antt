@@ -1,7 +1,0 @@
-use Rattle.std.proofs.Common.{◌≡◌, ◌<◌, ℕ, false, get_or}
-use Rattle.lattice.specs.Corners.{is_before}
-use Rattle.lattice.specs.Mosaic.{Tile}
-use Rattle.plain.proofs.commands.place_of.Given as goal
-
-abbrev pub invariant-loop-i : goal.invariant-loop-i
-invariant-loop-i l = (k : ℕ) (d : Tile) → k < l.i → is_before l.corner (get_or l.tiles k d).corner ≡ false

@@ -1,6 +1,0 @@
-use Rattle.std.proofs.Common.{◌≡◌, ◌*◌, ◌++◌, drop}
-use Rattle.hgt.specs.Bytes.{samples_in}
-use Rattle.plain.proofs.commands.samples_in.Given as goal
-
-abbrev pub invariant-loop-e : goal.invariant-loop-e
-invariant-loop-e l = l.samples.items ++ samples_in (drop (2 * l.e) l.bytes) ≡ samples_in l.bytes

@@ -1,8 +1,0 @@
-use Rattle.std.specs.List.{AllWithin}
-use Rattle.lattice.specs.Ground.{terrain}
-use Rattle.flow_d8.specs.Drainage.{IsNearer}
-use Rattle.plain.specs.Levels.{level_of}
-use Rattle.plain.proofs.directions.first_nearer_of.Given as goal
-
-abbrev pub invariant-loop-step : goal.invariant-loop-step
-invariant-loop-step l = AllWithin (λ s. IsNearer (terrain l.mosaic) (level_of l.levels) l.point s.to → ⊥) l.around 0 l.step-index

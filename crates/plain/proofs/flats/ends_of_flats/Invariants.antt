@@ -1,6 +1,0 @@
-use Rattle.std.proofs.Common.{◌≡◌, filter, take}
-use Rattle.plain.specs.Flats.{is_end}
-use Rattle.plain.proofs.flats.ends_of_flats.Given as goal
-
-abbrev pub invariant-loop-point : goal.invariant-loop-point
-invariant-loop-point l = l.ends.items ≡ filter (is_end l.mosaic l.levels l.points) (take l.point-index l.points)

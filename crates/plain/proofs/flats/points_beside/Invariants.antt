@@ -1,7 +1,0 @@
-use Rattle.std.proofs.Common.{◌≡◌, filter, take}
-use Rattle.std.specs.List.{list_any}
-use Rattle.plain.specs.Flats.{is_level}
-use Rattle.plain.proofs.flats.points_beside.Given as goal
-
-abbrev pub invariant-loop-point : goal.invariant-loop-point
-invariant-loop-point l = l.beside.items ≡ filter (λ p. list_any (is_level l.mosaic l.levels p) l.others) (take l.point-index l.points)

@@ -1,7 +1,0 @@
-use Rattle.std.proofs.Common.{◌≡◌, None}
-use Rattle.std.specs.List.{All, AllWithin}
-use Rattle.plain.specs.Levels.{level_by}
-use Rattle.plain.proofs.levels.find_lowering.Given as goal
-
-abbrev pub invariant-loop-place : goal.invariant-loop-place
-invariant-loop-place l = AllWithin (λ x. All (λ y. level_by l.mosaic x y ≡ None) l.cells) l.cells 0 l.place

@@ -1,7 +1,0 @@
-use Rattle.std.proofs.Common.{◌≡◌, ◌<◌, ℕ, false, get_or}
-use Rattle.lattice.specs.Points.{is_point_before}
-use Rattle.lattice.specs.declared.point.Point.{Point}
-use Rattle.plain.proofs.sinking.place_of.Given as goal
-
-abbrev pub invariant-loop-i : goal.invariant-loop-i
-invariant-loop-i l = (k : ℕ) (d : Point) → k < l.i → is_point_before l.point (get_or l.points k d) ≡ false

@@ -1,6 +1,0 @@
-use Rattle.std.specs.List.{AllWithin}
-use Rattle.lattice.specs.Mosaic.{IsHeld}
-use Rattle.plain.proofs.sinks.are_held.Given as goal
-
-abbrev pub invariant-loop-point : goal.invariant-loop-point
-invariant-loop-point l = AllWithin (IsHeld l.side) l.points 0 l.point-index

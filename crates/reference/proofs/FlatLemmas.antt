@@ -1,0 +1,121 @@
+-- The points of round k are those that cross their flat in k steps.
+use Rattle.std.proofs.Common.{◌≡◌, ◌∙◌, ℕ, zero, suc, ◌+◌, ◌<◌, ℤ, ◌<ℤ◌, Bool, true, false, cond, IsTrue, List, [], ◌∷◌, filter, inl, inr, ⊎_elim, refl, sym, subst, arith, add-one}
+use Rattle.std.specs.Prelude.{int_lt}
+use Rattle.std.specs.Ordering.{int_eq}
+use Rattle.std.specs.List.{Contains, list_any}
+use Rattle.std.proofs.lemmas.Int.{ints}
+use Rattle.std.proofs.lemmas.Bool.{cases_eq, cases_lt, and_parts, and_from, or_cases, or_left, or_right, false≢true}
+use Rattle.std.proofs.lemmas.List.Elements.{All-contains, All-filter, All-contains_itself, filter_passes, Contains-append_right}
+use Rattle.std.proofs.lemmas.List.Folds.{list_any_at, Any-from_list_any}
+use Rattle.lattice.specs.declared.point.Point.{Point}
+use Rattle.lattice.specs.Mosaic.{Mosaic}
+use Rattle.lattice.specs.Ground.{is_ground, is_adjacent, is_outlet, same_point, terrain}
+use Rattle.flow_d8.specs.Drainage.{IsLower, CrossesFlat, IsFlatDistance}
+use Rattle.edits.specs.Effect.{is_named}
+use Rattle.reference.specs.declared.levels.Cell.{Cell}
+use Rattle.reference.specs.Levels.{level_of}
+use Rattle.reference.specs.Flats.{is_lower, is_level, is_end, crossing}
+use Rattle.reference.proofs.GroundLemmas.{adjacent_parts}
+use Rattle.reference.proofs.Accepted.{same_point_is}
+use Rattle.reference.proofs.LevelLemmas.{same_point_from}
+
+lt_true : (a b : ℤ) → int_lt a b ≡ true → a <ℤ b
+lt_true a b e = grind (arith, ints)
+
+lt_from : (a b : ℤ) → a <ℤ b → int_lt a b ≡ true
+lt_from a b e = grind (arith, ints)
+
+eq_true : (a b : ℤ) → int_eq a b ≡ true → a ≡ b
+eq_true a b e = grind (arith, ints)
+
+eq_from : (a b : ℤ) → a ≡ b → int_eq a b ≡ true
+eq_from a b e = grind (arith, ints)
+
+-- tests of some element
+pub any_has : {X : Type 0} (test : X → Bool) (xs : List X) (x : X) → Contains xs x → test x ≡ true → list_any test xs ≡ true
+any_has test xs x has passes = list_any_at test xs has.0 x has.1 (subst (λ y. test y ≡ true) (sym has.2) passes)
+
+pub any_gives : {X : Type 0} (test : X → Bool) (xs : List X) → list_any test xs ≡ true → (x : X) × (Contains xs x × (test x ≡ true))
+any_gives test xs h = let any = Any-from_list_any test xs h in (any.1, ((any.0, any.2, any.3), any.4))
+
+pub filter_has : {X : Type 0} (test : X → Bool) (xs : List X) (x : X) → Contains xs x → test x ≡ true → Contains (filter test xs) x
+filter_has test [] x has passes = absurd (omega (arith, has.1))
+filter_has test (y ∷ rest) x (zero, lt, is) passes =
+    let here : test y ≡ true = subst (λ v. test v ≡ true) (sym is) passes in
+    subst (λ b. Contains (cond b (y ∷ filter test rest) (filter test rest)) x) (sym here) (0, omega arith, is)
+filter_has test (y ∷ rest) x (suc k, lt, is) passes =
+    let later = filter_has test rest x (k, omega arith, is) passes in
+    elim (test y) as (λ b. Contains (cond b (y ∷ filter test rest) (filter test rest)) x) [ true ↦ Contains-append_right (y ∷ []) (filter test rest) x later | false ↦ later ]
+
+pub filter_within : {X : Type 0} (test : X → Bool) (xs : List X) (x : X) → Contains (filter test xs) x → Contains xs x
+filter_within test xs x has = All-contains (Contains xs) (filter test xs) x (All-filter test (Contains xs) xs (All-contains_itself xs)) has
+
+pub filter_test : {X : Type 0} (test : X → Bool) (xs : List X) (x : X) → Contains (filter test xs) x → test x ≡ true
+filter_test test xs x has = All-contains (λ y. test y ≡ true) (filter test xs) x (filter_passes test xs) has
+
+-- a list names the points that it has
+pub named_is : (points : List Point) (p : Point) → is_named points p ≡ true → Contains points p
+named_is points p h = let any = any_gives (same_point p) points h in subst (λ q. Contains points q) (sym (same_point_is p any.0 any.1.1)) any.1.0
+
+pub named_from : (points : List Point) (p : Point) → Contains points p → is_named points p ≡ true
+named_from points p has = any_has (same_point p) points p has (same_point_from p p refl)
+
+module _ (m : Mosaic) (cells : List Cell) where
+  pub lower_is : (p q : Point) → is_lower m cells p q ≡ true → IsLower (terrain m) (level_of cells) p q
+  lower_is p q h =
+      let parts = and_parts (is_adjacent m p q) (int_lt (level_of cells q) (level_of cells p)) h in
+      record { beside = parts.0; below = lt_true (level_of cells q) (level_of cells p) parts.1 }
+
+  pub lower_from : (p q : Point) → IsLower (terrain m) (level_of cells) p q → is_lower m cells p q ≡ true
+  lower_from p q h = and_from (is_adjacent m p q) (int_lt (level_of cells q) (level_of cells p)) h.beside (lt_from (level_of cells q) (level_of cells p) h.below)
+
+  pub level_is : (p q : Point) → is_level m cells p q ≡ true → (is_adjacent m p q ≡ true) × (level_of cells q ≡ level_of cells p)
+  level_is p q h =
+      let parts = and_parts (is_adjacent m p q) (int_eq (level_of cells q) (level_of cells p)) h in
+      (parts.0, eq_true (level_of cells q) (level_of cells p) parts.1)
+
+  pub level_from : (p q : Point) → is_adjacent m p q ≡ true → level_of cells q ≡ level_of cells p → is_level m cells p q ≡ true
+  level_from p q beside same = and_from (is_adjacent m p q) (int_eq (level_of cells q) (level_of cells p)) beside (eq_from (level_of cells q) (level_of cells p) same)
+
+  module _ (points : List Point) where
+    pub crossing_is : (k : ℕ) (p : Point) → Contains (crossing m cells points k) p → CrossesFlat (terrain m) (level_of cells) p k
+    crossing_is zero p has =
+        ⊎_elim (λ low. let any = any_gives (is_lower m cells p) points low in inl (any.0, lower_is p any.0 any.1.1)) (λ out. inr out)
+        (or_cases (list_any (is_lower m cells p) points) (is_outlet m p) (filter_test (is_end m cells points) points p has))
+    crossing_is (suc k) p has =
+        let any = any_gives (is_level m cells p) (crossing m cells points k) (filter_test (λ q. list_any (is_level m cells q) (crossing m cells points k)) points p has) in
+        let next = level_is p any.0 any.1.1 in
+        (any.0, (next.0, next.1, crossing_is k any.0 any.1.0))
+
+    module _ (every : (p : Point) → IsTrue (is_ground m p) → Contains points p) where
+      pub crossing_from : (k : ℕ) (p : Point) → IsTrue (is_ground m p) → CrossesFlat (terrain m) (level_of cells) p k → Contains (crossing m cells points k) p
+      crossing_from zero p on (inl low) =
+          filter_has (is_end m cells points) points p (every p on)
+          (or_left (list_any (is_lower m cells p) points) (is_outlet m p)
+          (any_has (is_lower m cells p) points low.0 (every low.0 (adjacent_parts m p low.0 low.1.beside).to_ground) (lower_from p low.0 low.1)))
+      crossing_from zero p on (inr out) =
+          filter_has (is_end m cells points) points p (every p on) (or_right (list_any (is_lower m cells p) points) (is_outlet m p) out)
+      crossing_from (suc k) p on (q, (beside, same, crosses)) =
+          filter_has (λ r. list_any (is_level m cells r) (crossing m cells points k)) points p (every p on)
+          (any_has (is_level m cells p) (crossing m cells points k) q (crossing_from k q (adjacent_parts m p q beside).to_ground crosses) (level_from p q beside same))
+
+      -- the first round that has a point tells its flat distance
+      pub first_round : (k : ℕ) (p : Point) → IsTrue (is_ground m p) → Contains (crossing m cells points k) p →
+          ((j : ℕ) → j < k → Contains (crossing m cells points j) p → ⊥) → IsFlatDistance (terrain m) (level_of cells) p k
+      first_round k p on has none = record {
+        crosses = crossing_is k p has;
+        least = λ j crosses. elim (cases_lt j k) [ inl before ↦ absurd (none j before (crossing_from j p on crosses)) | inr after ↦ after ];
+      }
+
+  pub crossing_more : (points : List Point) (k : ℕ) → filter (λ p. list_any (is_level m cells p) (crossing m cells points k)) points ≡ crossing m cells points (k + 1)
+  crossing_more points k = rw add-one refl
+
+  -- no round so far has the point
+  pub missed_more : (points here : List Point) (k : ℕ) (p : Point) → here ≡ crossing m cells points k → is_named here p ≡ false →
+      ((j : ℕ) → j < k → Contains (crossing m cells points j) p → ⊥) → (j : ℕ) → j < k + 1 → Contains (crossing m cells points j) p → ⊥
+  missed_more points here k p is missed before j lt has = elim (cases_eq j k) [
+    | inl same ↦
+        let there : Contains here p = subst (λ (xs : List Point). Contains xs p) (sym is) (subst (λ n. Contains (crossing m cells points n) p) same has) in
+        false≢true (sym missed ∙ named_from here p there)
+    | inr other ↦ before j (omega arith) has
+  ]

@@ -1,0 +1,6 @@
+use Rattle.std.proofs.Common.{◌≡◌, drop}
+use Rattle.edits.specs.Effect.{first_fault}
+use Rattle.reference.proofs.commands.first_fault.Given as goal
+
+abbrev pub invariant-loop-point : goal.invariant-loop-point
+invariant-loop-point l = first_fault l.mosaic l.depth (drop l.point-index l.points) ≡ first_fault l.mosaic l.depth l.points

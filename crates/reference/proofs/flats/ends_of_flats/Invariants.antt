@@ -1,0 +1,6 @@
+use Rattle.std.proofs.Common.{◌≡◌, filter, take}
+use Rattle.reference.specs.Flats.{is_end}
+use Rattle.reference.proofs.flats.ends_of_flats.Given as goal
+
+abbrev pub invariant-loop-point : goal.invariant-loop-point
+invariant-loop-point l = l.ends.items ≡ filter (is_end l.mosaic l.levels l.points) (take l.point-index l.points)

@@ -1,0 +1,72 @@
+use Rattle.std.proofs.Common.{◌≡◌, ◌∙◌, ◌<◌, List, Some, length, get_or, map, sym, ap, subst, w16, to_z, of_z}
+use Rattle.std.proofs.lemmas.Int.{to_z-of_z}
+use Rattle.std.specs.List.{All, Contains, sum_by}
+use Rattle.reference.specs.declared.levels.Cell.{Cell}
+use Rattle.reference.specs.Levels.{level_by, starting_cell}
+use Rattle.reference.proofs.CommandLemmas.{sample_fits}
+use Rattle.reference.proofs.LevelLemmas.{Lists, HasWay, IsLowOutlet, IsSettled, weight, lists_start, outlets_start, ways_start, way_lowered, outlet_lowered, lists_lowered, weight_lowered, same_lowered, none_from, match_none, filled, on_ground, are_filled}
+use Rattle.reference.proofs.levels.filled_levels.Goals as goal
+
+pub loop-found-init : goal.loop-found-init
+loop-found-init c =
+    let m = c.args.mosaic.now in
+    let points = c.in_ok-points.points.items in
+    let items = c.in_ok-cells.ensures ∙ ap (map (starting_cell m)) c.deref.ensures.value in
+    record {
+      lists = subst (Lists m) (sym items) (lists_start m points c.in_ok-points.ensures.every);
+      outlets = subst (All (IsLowOutlet m)) (sym items) (outlets_start m points);
+      ways = subst (All (HasWay m)) (sym items) (ways_start m points);
+    }
+
+pub loop-found-smaller : goal.loop-found-smaller
+loop-found-smaller c =
+    let m = c.args.mosaic.now in
+    let cells = c.loop-found.cells.items in
+    let i = c.in-Some.found.place in
+    let l = c.in-Some.found.level in
+    let x = c.index_mut-cell.result.now in
+    let here = c.deref-in-loop-found.ensures.value in
+    let found = c.in-Some.ensures.settled in
+    let y = found.1.0 in
+    let inside = subst (λ (xs : List Cell). i < length xs) here found.0 in
+    let seen = subst (λ (xs : List Cell). Contains xs y) here found.1.1.0 in
+    let by = subst (λ (xs : List Cell). level_by m (get_or xs i x) y ≡ Some l) here (found.1.1.1 x) in
+    let same = same_lowered cells i (get_or cells i x) x l (to_z w16 (of_z w16 l)) (sym c.index_mut-cell.ensures.value) (sym (to_z-of_z w16 l (sample_fits l c.in-Some.ensures.fits))) in
+    subst (λ (xs : List Cell). sum_by weight xs < sum_by weight cells) same (weight_lowered m cells i x y l inside seen by c.in-Some.ensures.fits)
+
+pub loop-found-preserved : goal.loop-found-preserved
+loop-found-preserved c =
+    let m = c.args.mosaic.now in
+    let cells = c.loop-found.cells.items in
+    let i = c.in-Some.found.place in
+    let l = c.in-Some.found.level in
+    let x = c.index_mut-cell.result.now in
+    let here = c.deref-in-loop-found.ensures.value in
+    let found = c.in-Some.ensures.settled in
+    let y = found.1.0 in
+    let inside = subst (λ (xs : List Cell). i < length xs) here found.0 in
+    let seen = subst (λ (xs : List Cell). Contains xs y) here found.1.1.0 in
+    let by = subst (λ (xs : List Cell). level_by m (get_or xs i x) y ≡ Some l) here (found.1.1.1 x) in
+    let same = same_lowered cells i (get_or cells i x) x l (to_z w16 (of_z w16 l)) (sym c.index_mut-cell.ensures.value) (sym (to_z-of_z w16 l (sample_fits l c.in-Some.ensures.fits))) in
+    record {
+      lists = subst (Lists m) same (lists_lowered m cells i x y l inside seen by c.loop-found.invariant.lists);
+      outlets = subst (All (IsLowOutlet m)) same (outlet_lowered m cells i x y l inside seen by c.loop-found.invariant.outlets);
+      ways = subst (All (HasWay m)) same (way_lowered m cells i x y l inside seen by c.loop-found.invariant.ways);
+    }
+
+pub returns-clause-level : goal.returns-clause-level
+returns-clause-level c =
+    let m = c.args.mosaic.now in
+    let none = none_from c.find_lowering.result c.in_default.not-Some in
+    let settled = subst (IsSettled m) c.deref-in-loop-found.ensures.value (match_none c.find_lowering.result _ _ none c.find_lowering.ensures.settled) in
+    on_ground m c.loop-found.cells.items c.side-side.ensures.whole
+    (filled m c.loop-found.cells.items c.loop-found.invariant.lists c.loop-found.invariant.outlets c.loop-found.invariant.ways settled)
+
+pub returns-clause-filled : goal.returns-clause-filled
+returns-clause-filled c =
+    let m = c.args.mosaic.now in
+    let none = none_from c.find_lowering.result c.in_default.not-Some in
+    let settled = subst (IsSettled m) c.deref-in-loop-found.ensures.value (match_none c.find_lowering.result _ _ none c.find_lowering.ensures.settled) in
+    are_filled m c.loop-found.cells.items
+    (on_ground m c.loop-found.cells.items c.side-side.ensures.whole
+    (filled m c.loop-found.cells.items c.loop-found.invariant.lists c.loop-found.invariant.outlets c.loop-found.invariant.ways settled))

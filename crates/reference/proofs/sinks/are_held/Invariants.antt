@@ -1,0 +1,6 @@
+use Rattle.std.specs.List.{AllWithin}
+use Rattle.lattice.specs.Mosaic.{IsHeld}
+use Rattle.reference.proofs.sinks.are_held.Given as goal
+
+abbrev pub invariant-loop-point : goal.invariant-loop-point
+invariant-loop-point l = AllWithin (IsHeld l.side) l.points 0 l.point-index

@@ -1,0 +1,128 @@
+//! How the program ends: what it writes, and its exit status.
+ghost use Rattle.std.specs.Prelude.{◌≡◌, ◌++◌, Err, IfOk, true};
+ghost use Rattle.calls.specs.Engines.{items_in};
+ghost use Rattle.lines.specs.Replies.{line_of};
+ghost use Rattle.server.specs.Endings.{EndsAnswering, EndsReplying, EndsSession, Tells, TellsRefusal, count_line, fault_line};
+ghost use Rattle.serving.specs.Outputs.{Puts, stream_of};
+
+use lattice::Refusal;
+use lines::Text;
+use serving::{Output, ServeFault};
+use std::alloc::{AllocError, Global};
+
+/// The exit statuses: done; refused, or a stream failed; other words than the program takes.
+const DONE: u8 = 0;
+
+pub const REFUSED: u8 = 1;
+
+pub const BAD_WORDS: u8 = 2;
+
+/// Ends a session, and answers the exit status.
+pub(crate) fn end_session<O: Output>(writer: &mut O, served: Result<(), ServeFault>) -> u8
+    ensures { (served ≡ Err ServeFault.Output → O.failed writer.old ≡ true)
+        → EndsSession served (O.contents writer.old) (stream_of O.contents O.failed writer.new) result }
+{
+    match served {
+        Ok(()) => reply_text(writer, b""),
+        Err(fault) => end_with(writer, fault_line(fault), REFUSED),
+    }
+}
+
+/// Tells that a store was made, or why it wasn't, and answers the exit status.
+pub(crate) fn end_format<O: Output>(writer: &mut O, answer: Result<(), Refusal>) -> u8
+    ensures { EndsAnswering (λ _. count_line 0) answer (O.contents writer.old) (stream_of O.contents O.failed writer.new) result }
+{
+    match answer {
+        Ok(()) => reply(writer, Text::number(0_u64)),
+        Err(refusal) => refuse(writer, refusal),
+    }
+}
+
+/// Tells how many commands were accepted, or a refusal, and answers the exit status.
+pub(crate) fn end_command<O: Output>(writer: &mut O, answer: Result<u64, Refusal>) -> u8
+    ensures { EndsAnswering count_line answer (O.contents writer.old) (stream_of O.contents O.failed writer.new) result }
+{
+    match answer {
+        Ok(count) => reply(writer, Text::number(count)),
+        Err(refusal) => refuse(writer, refusal),
+    }
+}
+
+/// Tells a report, or why there is none, and answers the exit status.
+pub(crate) fn end_report<O: Output>(writer: &mut O, answer: Result<Vec<u8>, Refusal>) -> u8
+    ensures { EndsAnswering (λ text. text) (items_in answer) (O.contents writer.old) (stream_of O.contents O.failed writer.new) result }
+{
+    match answer {
+        Ok(text) => reply_text(writer, text.as_slice()),
+        Err(refusal) => refuse(writer, refusal),
+    }
+}
+
+/// Writes a reply, and answers the exit status.
+pub(crate) fn reply<O: Output>(writer: &mut O, reply: Text) -> u8
+    ensures { EndsReplying reply (O.contents writer.old) (stream_of O.contents O.failed writer.new) result }
+{
+    writer.put_reply(&reply);
+    if writer.has_failed() {
+        return end_with(writer, fault_line(ServeFault::Output), REFUSED);
+    }
+    DONE
+}
+
+/// Writes a reply of any number of lines, and answers the exit status.
+pub(crate) fn reply_text<O: Output>(writer: &mut O, text: &[u8]) -> u8
+    ensures { EndsReplying text.now (O.contents writer.old) (stream_of O.contents O.failed writer.new) result }
+{
+    writer.put(text);
+    if writer.has_failed() {
+        return end_with(writer, fault_line(ServeFault::Output), REFUSED);
+    }
+    DONE
+}
+
+/// The line that tells which stream failed.
+pub(crate) fn fault_line(fault: ServeFault) -> &'static [u8]
+    ensures { result.now ≡ fault_line fault }
+{
+    match fault {
+        ServeFault::Input => b"mosaic: input fault\n",
+        ServeFault::Output => b"mosaic: output fault\n",
+    }
+}
+
+/// Tells of a refusal, and answers the exit status.
+pub(crate) fn refuse<O: Output>(writer: &mut O, refusal: Refusal) -> u8
+    ensures { TellsRefusal refusal (O.contents writer.old) (stream_of O.contents O.failed writer.new) result }
+{
+    writer.put_reply(&Text::refused(refusal));
+    REFUSED
+}
+
+/// Ends with a line of the program's own.
+pub(crate) fn end_with<O: Output>(writer: &mut O, line: &[u8], status: u8) -> u8
+    ensures status { result ≡ status }
+    ensures line { Puts (O.contents writer.old) (stream_of O.contents O.failed writer.new) line.now }
+    ensures stays { O.failed writer.old ≡ true → O.failed writer.new ≡ true }
+{
+    writer.put(line);
+    status
+}
+
+/// Tells in one line what is wrong, and with what, and answers the exit status.
+pub(crate) fn write_message<O: Output>(alloc: Global, writer: &mut O, words: &[u8], about: &[u8]) -> u8
+    ensures { Tells (words.now ++ about.now) (O.contents writer.old) (stream_of O.contents O.failed writer.new) result }
+{
+    match line_about(alloc, words, about) {
+        Ok(line) => end_with(writer, line.as_slice(), REFUSED),
+        Err(_) => refuse(writer, Refusal::NoMemory),
+    }
+}
+
+fn line_about(alloc: Global, words: &[u8], about: &[u8]) -> Result<Vec<u8>, AllocError>
+    ensures { IfOk result (λ line. line.items ≡ line_of (words.now ++ about.now)) }
+{
+    let mut line = Vec::from_slice(alloc, words)?;
+    line.extend_from_slice(about)?;
+    line.push(b'\n')?;
+    Ok(line)
+}

@@ -1,0 +1,111 @@
+//! Hears items, one after another: a line, or an import line with its payload.
+ghost use Rattle.std.specs.Prelude.{◌≡◌, ◌≢◌, ◌≤◌, ◌<◌, ◌⊎◌, ℕ, List, [], length, OnOk, OnErr, IfOk, Option, Some, option_map, IsTrue, ◌↔◌};
+ghost use Rattle.std.specs.Io.KnownBytes.{IsAtEnd};
+ghost use Rattle.lines.specs.Ahead.{Taken, weight};
+ghost use Rattle.lines.specs.Grammar.{Asked, AskQuit};
+ghost use Rattle.serving.specs.Items.{Item, AsksFor, payload_len};
+ghost use Rattle.lines.specs.Lines.{IsLine, kept, Reaches};
+ghost use Rattle.lines.specs.Requests.{asked};
+ghost use Rattle.serving.specs.Session.{Stored, Holds};
+
+use lines::{Ahead, Extent, Line, ReadFault, Request, read_payload, request_of, skip_payload};
+use std::alloc::Global;
+use std::io::Read;
+
+/// A line and its payload, as far as they came. A payload isn't kept where a tile's has another length, or room for it
+/// was refused.
+#[derive(Drop)]
+pub struct KeptItem<'a> {
+    pub request: Option<Request<'a>>,
+    pub payload: Option<Vec<u8>>,
+    pub extent: Extent,
+}
+
+/// What the line asks for, if it is in the grammar and not too long.
+fn request_in(line: &Line) -> Option<Request<'_>>
+    ensures { (text : List ℕ) → line.now ≡ kept text → AsksFor text (option_map asked result) }
+{
+    request_of(line.bytes()?)
+}
+
+/// How many bytes of payload follow the line.
+fn payload_len(request: &Option<Request<'_>>) -> u32
+    ensures { result ≡ payload_len (option_map asked request.now) }
+{
+    match request {
+        Some(Request::Import { len, .. }) => *len,
+        _ => 0,
+    }
+}
+
+/// Reads a payload, and keeps it where it has a tile's length and there is room.
+fn hear_payload<R: Read>(
+    alloc: Global,
+    tile_len: u32,
+    len: u32,
+    ahead: &mut Ahead,
+    reader: &mut R,
+) -> Result<(Option<Vec<u8>>, Extent), ReadFault>
+    ensures ok { IfOk result (λ p. (bytes : List ℕ) × Stored p.0 bytes × Reaches p.1 (length bytes) len
+        × Taken ahead.old (R.remaining reader.old) ahead.new (R.remaining reader.new) bytes) }
+    ensures cut { IfOk result (λ p. p.1 ≡ Extent.Cut → (ahead.new.bytes ≡ []) × IsAtEnd (R.remaining reader.new)) }
+    ensures spent { OnOk result (weight ahead.new ≤ weight ahead.old) }
+    ensures err { OnErr result ((bytes : List ℕ) × (length bytes < len)
+        × Taken ahead.old (R.remaining reader.old) ahead.new (R.remaining reader.new) bytes) }
+    ensures none_ahead { OnErr result (ahead.new.bytes ≡ []) }
+{
+    if len == tile_len {
+        if let Ok(mut payload) = Vec::with_capacity(alloc, len as usize) {
+            let extent = read_payload(ahead, reader, len as usize, &mut payload)?;
+            return Ok((Some(payload), extent));
+        }
+    }
+    let extent = skip_payload(ahead, reader, len as usize)?;
+    Ok((None, extent))
+}
+
+/// The item that begins with this line, which an LF ended or the end of the input.
+pub(crate) fn read_item<'a, R: Read>(
+    alloc: Global,
+    tile_len: u32,
+    fed: Extent,
+    line: &'a Line,
+    ahead: &mut Ahead,
+    reader: &mut R,
+) -> Result<KeptItem<'a>, ReadFault>
+    requires { fed ≡ Extent.Cut → (ahead.old.bytes ≡ []) × IsAtEnd (R.remaining reader.old) }
+    ensures ok { IfOk result (λ item. (text : List ℕ) → line.now ≡ kept text → IsLine text → (fed ≡ Extent.Cut → text ≢ [])
+        → (i : Item) × Holds item i × (i.line ≡ text) × (i.fed ≡ fed)
+        × Taken ahead.old (R.remaining reader.old) ahead.new (R.remaining reader.new) i.payload) }
+    ensures cut { IfOk result (λ item. item.extent ≡ Extent.Cut → (ahead.new.bytes ≡ []) × IsAtEnd (R.remaining reader.new)) }
+    ensures spent { OnOk result (weight ahead.new ≤ weight ahead.old) }
+    ensures err { OnErr result ((fed ≡ Extent.Whole) × ((text : List ℕ) → line.now ≡ kept text
+        → (bytes : List ℕ) × (a : Option Asked) × AsksFor text a × (length bytes < payload_len a)
+        × Taken ahead.old (R.remaining reader.old) ahead.new (R.remaining reader.new) bytes)) }
+    ensures none_ahead { OnErr result (ahead.new.bytes ≡ []) }
+{
+    let request = request_in(line);
+    let (payload, extent) = match fed {
+        Extent::Whole => hear_payload(alloc, tile_len, payload_len(&request), ahead, reader)?,
+        Extent::Cut => (None, Extent::Cut),
+    };
+    Ok(KeptItem {
+        request,
+        payload,
+        extent,
+    })
+}
+
+/// Whether the input ended before this line began.
+pub(crate) fn is_over(fed: Extent, line: &Line) -> bool
+    ensures { (text : List ℕ) → line.now ≡ kept text → IsTrue result ↔ ((fed ≡ Extent.Cut) × (text ≡ [])) }
+{
+    fed == Extent::Cut && line.is_empty()
+}
+
+/// Whether no further item is heard after this one.
+pub fn is_last(item: &KeptItem<'_>) -> bool
+    ensures { IsTrue result ↔ ((item.now.extent ≡ Extent.Cut) ⊎ (option_map asked item.now.request ≡ Some AskQuit)) }
+{
+    item.extent == Extent::Cut || matches!(item.request, Some(Request::Quit))
+}
