@@ -5,11 +5,11 @@ pub mod Answered
 pub mod LevelFunctions
 pub mod Asked
 pub mod Followed
-pub mod Telling
+pub mod LoadingTiles
 pub mod Lowest
 pub mod Turned
 pub mod Around
-pub mod Ashore
+pub mod OnRims
 pub mod Numbered
 pub mod Placed
 pub mod Whole
@@ -19,9 +19,9 @@ pub mod RimNodes
 pub mod Agreeing
 pub mod Growing
 pub mod Found
-pub mod Entering
+pub mod Caching
 pub mod Unreached
-pub mod Forgotten
+pub mod Invalidated
 pub mod Reached
 pub mod TileOutlets
 mod Noted

@@ -2,13 +2,13 @@ pub mod Flooded
 pub mod Asking
 pub mod Draining
 pub mod Following
-pub mod RimGraph
+pub mod RimGraphs
 pub mod Kept
 pub mod Holding
-pub mod TileCache
+pub mod TileCaches
 pub mod Between
 pub mod Reaching
-pub mod Forgetting
+pub mod Invalidating
 pub mod Nearby
 pub mod Ring
 pub mod Beyond

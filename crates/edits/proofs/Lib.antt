@@ -19,7 +19,7 @@ mod Setting
 pub mod SinkLists
 mod TilesFound
 mod TouchedTiles
-mod Treating
+mod PointEditing
 mod Untouched
 mod Voids
 mod VoidsPut
