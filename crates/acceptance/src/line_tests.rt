@@ -1,7 +1,7 @@
 //! Lines and payloads as they are read, the event that a line asks for, and the text of an answer.
 use crate::asserting::assert_row;
 use crate::counting::Counting;
-use calls::Event;
+use engine::Event;
 use edits::Command;
 use lattice::{Corner, Point, Refusal};
 use lines::{

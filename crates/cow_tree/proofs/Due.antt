@@ -6,8 +6,8 @@ use Rattle.std.proofs.lemmas.Bool.Decides.{nat_tests}
 use Rattle.std.proofs.lemmas.List.{length-append}
 use Rattle.std.proofs.lemmas.List.Folds.{list_any_at}
 use Rattle.std.proofs.lemmas.List.Elements.{All-head, All-tail, All-contains, All-weaker, All-contains_itself, filter-append}
-use Rattle.layout.specs.declared.version.Version.{Version}
-use Rattle.layout.specs.declared.version.Version.TheVariants.{One, Two}
+use Rattle.page_codec.specs.declared.version.Version.{Version}
+use Rattle.page_codec.specs.declared.version.Version.TheVariants.{One, Two}
 use Rattle.lattice.specs.Corners.{Corner, is_before}
 use Rattle.lattice.proofs.CornerOrder.{same_says, after_not_same}
 use Rattle.lattice.proofs.Rising.{AllAfter, Rising, rising_from}

@@ -10,8 +10,8 @@ use Rattle.page_codec.specs.Formats.{Format}
 use Rattle.page_codec.specs.Entries.{EntryValue}
 use Rattle.page_codec.specs.declared.entry.Kept.{Kept}
 use Rattle.page_codec.specs.Roots.{RootValue, format_of}
-use Rattle.layout.specs.declared.version.Version.{Version}
-use Rattle.layout.specs.declared.version.Version.TheVariants.{One, Two}
+use Rattle.page_codec.specs.declared.version.Version.{Version}
+use Rattle.page_codec.specs.declared.version.Version.TheVariants.{One, Two}
 use Rattle.page_codec.specs.Records.{part_of, record_bytes}
 use Rattle.page_codec.specs.Sizes.{pages_of, index_pages_by}
 use Rattle.page_codec.proofs.RecordPages.{same_records}

@@ -3,8 +3,8 @@ use Rattle.std.proofs.Common.{◌≡◌, ℕ, ◌<◌, ◌≤◌, ◌^◌, All, 
 use Rattle.std.proofs.lemmas.List.Elements.{All-head}
 use Rattle.disk.specs.Disk.{Image}
 use Rattle.page_codec.specs.Formats.{Format}
-use Rattle.layout.specs.declared.version.Version.{Version}
-use Rattle.layout.specs.declared.version.Version.TheVariants.{One, Two}
+use Rattle.page_codec.specs.declared.version.Version.{Version}
+use Rattle.page_codec.specs.declared.version.Version.TheVariants.{One, Two}
 use Rattle.page_codec.specs.Entries.{EntryValue}
 use Rattle.page_codec.specs.Records.{IsRecord}
 use Rattle.page_codec.specs.Sizes.{pages_of, index_pages_by, listed_in, listed_by as count_listed}

@@ -18,9 +18,9 @@ use Rattle.hgt.proofs.BytesLemmas.{get_or-samples_in}
 use Rattle.lattice.proofs.CornerOrder.{same_from, before_not_same}
 use Rattle.lattice.proofs.Rising.{AllAfter, Rising, rising_from}
 use Rattle.page_map.specs.declared.plane.Plane.TheVariants.{Heights}
-use Rattle.layout.specs.Formats.{largest_side_of}
-use Rattle.layout.specs.declared.version.Version.{Version}
-use Rattle.layout.specs.declared.version.Version.TheVariants.{One, Two}
+use Rattle.page_codec.specs.Formats.{largest_side_of}
+use Rattle.page_codec.specs.declared.version.Version.{Version}
+use Rattle.page_codec.specs.declared.version.Version.TheVariants.{One, Two}
 use Rattle.cow_tree.specs.Planes.{HasPage}
 use Rattle.cow_tree.specs.Stored.{StoredTile, PlanePages, IsPage, AreWhole, plane_bytes, samples_of_plane, mosaic_of_tiles}
 use Rattle.cow_tree.proofs.Adding.{contains-map}

@@ -5,8 +5,8 @@ use Rattle.std.proofs.Math.Nat.{mul-add}
 use Rattle.std.proofs.lemmas.List.{length-append, length-map}
 use Rattle.std.proofs.lemmas.List.Elements.{All-head, All-tail}
 use Rattle.lattice.specs.Corners.{Corner}
-use Rattle.layout.specs.Formats.{upgraded}
-use Rattle.layout.specs.declared.version.Version.TheVariants.{Two}
+use Rattle.page_codec.specs.Formats.{upgraded}
+use Rattle.page_codec.specs.declared.version.Version.TheVariants.{Two}
 use Rattle.page_codec.specs.Entries.{EntryValue}
 use Rattle.page_codec.specs.Formats.{Format}
 use Rattle.page_codec.specs.Roots.{RootValue, format_of}

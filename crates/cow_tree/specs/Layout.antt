@@ -5,8 +5,8 @@ use Rattle.page_codec.specs.Formats.{Format, IsFormat, IsKnown}
 use Rattle.page_codec.specs.Records.{part_of, record_bytes}
 use Rattle.page_codec.specs.Roots.{RootValue, format_of}
 use Rattle.page_codec.specs.Sizes.{sectors_asked}
-use Rattle.layout.specs.declared.version.Version.{Version}
-use Rattle.layout.specs.declared.version.Version.TheVariants.{One, Two}
+use Rattle.page_codec.specs.declared.version.Version.{Version}
+use Rattle.page_codec.specs.declared.version.Version.TheVariants.{One, Two}
 use Rattle.roots.specs.Opening.{HoldsStore}
 use Rattle.page_map.specs.declared.locations.KeptLocations.{KeptLocations}
 use Rattle.page_map.specs.Locations.{PlaneLocation, IsWholePlane, pages_behind}

@@ -1,8 +1,8 @@
 -- What of the staged tiles stands on the disk already.
 use Rattle.std.specs.Prelude.{◌≡◌, ℕ, ◌*◌, ◌<◌, false, List, All, IfSome, length, slice_index, take, drop, filter}
 use Rattle.disk.specs.Disk.{Image}
-use Rattle.layout.specs.declared.version.Version.{Version}
-use Rattle.layout.specs.declared.version.Version.TheVariants.{One, Two}
+use Rattle.page_codec.specs.declared.version.Version.{Version}
+use Rattle.page_codec.specs.declared.version.Version.TheVariants.{One, Two}
 use Rattle.page_codec.specs.Formats.{Format}
 use Rattle.page_codec.specs.Numbers.{padded}
 use Rattle.page_codec.specs.Records.{record_bytes}

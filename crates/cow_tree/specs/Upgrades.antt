@@ -2,9 +2,9 @@
 use Rattle.std.specs.Prelude.{◌≡◌, ℕ, ◌+◌, ◌*◌, ◌<◌, ◌≤◌, ◌^◌, length}
 use Rattle.lattice.specs.declared.refusal.Refusal.{Refusal}
 use Rattle.lattice.specs.declared.refusal.Refusal.TheVariants.{Device, NoMemory, Worn, TooSmall, NotOld}
-use Rattle.layout.specs.Formats.{upgraded}
-use Rattle.layout.specs.Sizes.{index_pages_of, sectors_asked}
-use Rattle.layout.specs.declared.version.Version.TheVariants.{One, Two}
+use Rattle.page_codec.specs.Formats.{upgraded}
+use Rattle.page_codec.specs.Sizes.{index_pages_of, sectors_asked}
+use Rattle.page_codec.specs.declared.version.Version.TheVariants.{One, Two}
 use Rattle.page_codec.specs.Roots.{RootValue, format_of}
 use Rattle.cow_tree.specs.Stored.{Stored}
 

@@ -1,7 +1,7 @@
 //! The page_map of a disk, from its records.
 ghost use Rattle.std.specs.Prelude.{◌≡◌, ◌≤◌, ◌<◌, ◌⊎◌, ◌^◌, ℕ, List, All, length, map, IfSome, false, Ok, Err, IfOk, IfErr, Some, None};
 ghost use Rattle.lattice.specs.declared.refusal.Refusal.TheVariants.{Damaged};
-ghost use Rattle.layout.specs.declared.version.Version.TheVariants.{Two};
+ghost use Rattle.page_codec.specs.declared.version.Version.TheVariants.{Two};
 ghost use Rattle.page_codec.specs.Records.{IsRecord, record_bytes};
 ghost use Rattle.page_codec.specs.Roots.{format_of};
 ghost use Rattle.page_codec.specs.Sizes.{pages_of, index_pages_of, sectors_asked};

@@ -20,7 +20,7 @@ ghost use Rattle.cow_tree.specs.OverRoots.{IsRefusalOfTree};
 ghost use Rattle.cow_tree.specs.Planes.{HasPage};
 ghost use Rattle.cow_tree.specs.Staged.{index_page_by};
 ghost use Rattle.cow_tree.specs.Upgrades.{MayUpgrade, UpgradesNot, most_upgrade_writes, upgraded_store};
-ghost use Rattle.layout.specs.declared.version.Version.TheVariants.{Two};
+ghost use Rattle.page_codec.specs.declared.version.Version.TheVariants.{Two};
 ghost use Rattle.cow_tree.specs.Stored.{Stored, made_stale, no_tiles, next_commit, pages_of_bytes, stale_tile, with_corner, with_page, with_tile, without_tile};
 
 use crate::cache::PageCache;

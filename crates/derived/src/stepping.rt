@@ -2,7 +2,7 @@
 ghost use Rattle.std.specs.Prelude.{◌≡◌, ◌≤◌, ◌<◌, ◌+◌, ◌*◌, ◌^◌, ◌⊎◌, false, true, [], Err, All, Contains, IfOk, IfErr, OnOk, IsErrOf, MatchOption, length, vec_len};
 ghost use Rattle.disk.specs.Disk.{HasRisen};
 ghost use Rattle.lattice.specs.declared.refusal.Refusal.TheVariants.{Device, NoMemory, Failed};
-ghost use Rattle.layout.specs.Sizes.{plane_pages_of};
+ghost use Rattle.page_codec.specs.Sizes.{plane_pages_of};
 ghost use Rattle.page_codec.specs.Roots.{format_of};
 ghost use Rattle.tile_flood.specs.Kept.{AreKeptOf};
 ghost use Rattle.cow_tree.specs.Reading.{mosaic_of, HasOnlyRead, IsReadable};

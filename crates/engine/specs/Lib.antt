@@ -1,1 +1,9 @@
 pub mod Members
+pub mod CommandLaws
+pub mod Engines
+pub mod Events
+pub mod Outcomes
+pub mod Runs
+pub mod State
+pub mod Steps
+pub mod Told

@@ -1,7 +1,7 @@
 -- The trait of an engine as the laws of calls see it (this product's own profile).
 use Rattle.std.specs.Prelude.{◌≡◌}
-use Rattle.calls.specs.Engines.{Members, Laws}
-use Rattle.calls.specs.State.{State}
+use Rattle.engine.specs.Engines.{Members, Laws}
+use Rattle.engine.specs.State.{State}
 use Rattle.engine.specs.declared.engine.Engine.{Ghosts}
 
 module _ {E : Type 0} (g : Ghosts E) where

@@ -1,14 +1,14 @@
 //! What lines need of a store.
 ghost use Rattle.std.specs.Prelude.{◌≡◌, ℕ, List, [], ◌∷◌, ◌++◌, Contains, Bool};
-ghost use Rattle.calls.specs.Engines.{IsCall, answered};
-ghost use Rattle.calls.specs.State.{State};
-ghost use Rattle.calls.specs.Told.{Known};
-ghost use Rattle.calls.specs.declared.event.Event.{Event};
-ghost use Rattle.calls.specs.declared.event.Event.TheVariants as ask;
-ghost use Rattle.calls.specs.declared.event.Reply.{Reply};
-ghost use Rattle.calls.specs.declared.event.Reply.TheVariants as reply;
+ghost use Rattle.engine.specs.Engines.{IsCall, answered};
+ghost use Rattle.engine.specs.State.{State};
+ghost use Rattle.engine.specs.Told.{Known};
+ghost use Rattle.engine.specs.declared.event.Event.{Event};
+ghost use Rattle.engine.specs.declared.event.Event.TheVariants as ask;
+ghost use Rattle.engine.specs.declared.event.Reply.{Reply};
+ghost use Rattle.engine.specs.declared.event.Reply.TheVariants as reply;
 
-use calls::{Event, Reply};
+use crate::{Event, Reply};
 use edits::Command;
 use lattice::{Corner, Height, Point, Refusal, Side};
 use watershed::Run;

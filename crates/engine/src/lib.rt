@@ -1,13 +1,19 @@
-//! What lines need of a store: the trait that an elevation store meets, in memory or on a disk.
+//! What a store is asked and what it answers, and the trait that lines need of one, in memory or on a disk.
 //!
-//! The layers above rest on this: each call answers what the relation of calls asks of the state that the engine was in,
-//! and leaves the state that goes with the answer; and what a power cut may leave is known of an engine on a disk.
+//! The layers above rest on this: `specs/State.antt` is the state of a store, `specs/Outcomes.antt` says of each call what
+//! it may answer and which state it leaves, `specs/Events.antt` the same of events, `specs/Told.antt` what an answer tells
+//! on any disk, and `specs/Engines.antt` all of this as one relation of a call, and chains of calls. Each call of an
+//! [`Engine`] meets that relation; what a power cut may leave is known of an engine on a disk.
 //!
 //! ```
-//! let reply = engine.answer(&Event::Elevation(point));   // the call of the event, and what it answered
+//! let reply = engine.answer(&Event::Fill(point));        // the call of the event, and what it answered
 //! ```
 #![tactic(auto)]
 
 mod engine;
+mod event;
+mod laws;
 
 pub use engine::Engine;
+pub use event::{Event, Reply};
+pub use laws::commands_come_to_their_effects;

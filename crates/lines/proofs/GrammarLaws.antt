@@ -6,8 +6,8 @@ use Rattle.std.specs.Prelude.{Option, Some, None, IfSome, ◌⊎◌}
 use Rattle.lattice.specs.Corners.{Corner}
 use Rattle.hgt.specs.Names.{IsName}
 use Rattle.hgt.proofs.NameLemmas.{IsName-same}
-use Rattle.calls.specs.declared.event.Event.{Event}
-use Rattle.calls.specs.declared.event.Event.TheVariants as ask
+use Rattle.engine.specs.declared.event.Event.{Event}
+use Rattle.engine.specs.declared.event.Event.TheVariants as ask
 use Rattle.lines.specs.declared.keyword.Keyword.{Keyword}
 use Rattle.lines.specs.declared.keyword.Keyword.TheVariants.{Import, Remove, Patch, Burn, Wall, Sink, Unsink, Elev, Fill, Dir, Trace, Watershed, Export, Tiles, Sinks, Step, Count, Quit}
 use Rattle.lines.specs.Grammar.{Asked, AskImport, AskEvent, AskNoTile, NamesNone, AsksImport, AsksOf, AsksBox, AsksAlong, AsksAt, AsksAlone, Takes, AreInts, IsNat, IsInt, coordinates, spelling, LineAsks}

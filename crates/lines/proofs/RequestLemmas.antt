@@ -8,7 +8,7 @@ use Rattle.lines.specs.declared.keyword.Keyword.{Keyword}
 use Rattle.lines.specs.declared.keyword.Keyword.TheVariants.{Import, Remove, Patch, Burn, Wall, Sink, Unsink, Elev, Fill, Dir, Trace, Watershed, Export, Tiles, Sinks, Step, Count, Quit}
 use Rattle.lines.specs.declared.request.Request.{Request}
 use Rattle.lattice.specs.Corners.{Corner}
-use Rattle.calls.specs.declared.event.Event.{Event}
+use Rattle.engine.specs.declared.event.Event.{Event}
 use Rattle.lines.specs.Grammar.{Asked, AsksImport, AsksOf, AsksBox, AsksAlong, AsksAt, AsksAlone, Takes, AreInts, IsNat, IsInt, IsWord, spelling, IsTextOf, LineAsks, coordinates, spaced}
 use Rattle.lines.specs.Requests.{IsRequest, IsRequestOf}
 use Rattle.lines.specs.Words.{cut, HasNoSpace}

@@ -6,8 +6,8 @@ use Rattle.lattice.specs.Corners.{Corner}
 use Rattle.lattice.specs.declared.point.Point.{Point}
 use Rattle.hgt.specs.Names.{IsName}
 use Rattle.edits.specs.declared.command.Command.TheVariants as command
-use Rattle.calls.specs.declared.event.Event.{Event}
-use Rattle.calls.specs.declared.event.Event.TheVariants as ask
+use Rattle.engine.specs.declared.event.Event.{Event}
+use Rattle.engine.specs.declared.event.Event.TheVariants as ask
 use Rattle.lines.specs.declared.keyword.Keyword.{Keyword}
 use Rattle.lines.specs.declared.keyword.Keyword.TheVariants.{Import, Remove, Patch, Burn, Wall, Sink, Unsink, Elev, Fill, Dir, Trace, Watershed, Export, Tiles, Sinks, Step, Count, Quit}
 

@@ -3,7 +3,7 @@ ghost use Rattle.std.specs.Prelude.{◌≡◌, ◌≢◌, ◌≤◌, ◌*◌, �
 ghost use Rattle.lattice.specs.declared.point.Point.{Point};
 ghost use Rattle.hgt.specs.Names.{IsName};
 ghost use Rattle.edits.specs.declared.command.Command.TheVariants.{Patch};
-ghost use Rattle.calls.specs.declared.event.Event.TheVariants as ask;
+ghost use Rattle.engine.specs.declared.event.Event.TheVariants as ask;
 ghost use Rattle.lines.specs.Grammar.{IsWord, NamesNone, AreInts, IsPointCount, coordinates, IsTextOf, Asked, LineAsks};
 ghost use Rattle.lines.specs.Requests.{IsRequest, IsRequestOf, asked};
 
@@ -12,7 +12,7 @@ use crate::number::{integers, natural};
 use crate::request::{MOST_POINTS, Request};
 use crate::words::{Words, first_word};
 use arrayvec::ArrayVec;
-use calls::Event;
+use engine::Event;
 use edits::Command;
 use hgt::name_of;
 use lattice::{Corner, Point};

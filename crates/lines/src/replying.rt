@@ -1,11 +1,11 @@
 //! The text that tells an answer.
 ghost use Rattle.std.specs.Prelude.{◌≡◌, MatchResult};
-ghost use Rattle.calls.specs.declared.event.Reply.TheVariants as answers;
+ghost use Rattle.engine.specs.declared.event.Reply.TheVariants as answers;
 ghost use Rattle.lines.specs.Replies.{refusal_text};
 ghost use Rattle.lines.specs.Telling.{Tells, text_of};
 
 use crate::text::Text;
-use calls::Reply;
+use engine::Reply;
 use lattice::{Corner, Height, Refusal};
 use std::alloc::{AllocError, Global};
 

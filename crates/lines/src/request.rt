@@ -1,5 +1,5 @@
 //! What lines ask for.
-use calls::Event;
+use engine::Event;
 
 /// The most points that a burn or a wall names.
 pub const MOST_POINTS: usize = 64;

@@ -3,12 +3,12 @@ use Rattle.std.proofs.Common.{◌≡◌, ◌⊎◌, inl, inr, ℕ, List, [], ◌
 use Rattle.std.specs.Prelude.{Option, Some, None, unwrap_or, Result, Ok, Err, IfOk}
 use Rattle.disk.specs.Disk.{Image}
 use Rattle.disk.specs.declared.disk.Disk.{Ghosts}
-use Rattle.calls.specs.Engines.{Members, AreAt}
-use Rattle.calls.specs.Events.{Happens}
-use Rattle.calls.specs.Runs.{last_of, Through}
-use Rattle.calls.specs.State.{Contents, State, working}
-use Rattle.calls.specs.declared.event.Event.{Event}
-use Rattle.calls.specs.declared.event.Reply.{Reply}
+use Rattle.engine.specs.Engines.{Members, AreAt}
+use Rattle.engine.specs.Events.{Happens}
+use Rattle.engine.specs.Runs.{last_of, Through}
+use Rattle.engine.specs.State.{Contents, State, working}
+use Rattle.engine.specs.declared.event.Event.{Event}
+use Rattle.engine.specs.declared.event.Reply.{Reply}
 use Rattle.store.specs.Calls.{Runs}
 use Rattle.memory_store.specs.PowerCuts.{ComesBackTo}
 use Rattle.store.specs.Standing.{StandsFor}

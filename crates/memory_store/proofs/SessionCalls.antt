@@ -9,10 +9,10 @@ use Rattle.disk.specs.Memory.{MayLeave as MayBeLeft}
 use Rattle.disk.specs.declared.disk.Disk.{Ghosts}
 use Rattle.disk.specs.declared.memory.MemDisk.{MemDisk}
 use Rattle.disk.specs.declared.torn.Torn.{Torn}
-use Rattle.calls.specs.Engines.{IsCall}
-use Rattle.calls.specs.Runs.{last_of, Through}
-use Rattle.calls.specs.declared.event.Event.{Event}
-use Rattle.calls.specs.declared.event.Reply.{Reply}
+use Rattle.engine.specs.Engines.{IsCall}
+use Rattle.engine.specs.Runs.{last_of, Through}
+use Rattle.engine.specs.declared.event.Event.{Event}
+use Rattle.engine.specs.declared.event.Reply.{Reply}
 use Rattle.store.specs.Fates.{Fate}
 use Rattle.store.specs.Sessions.{Made, Asked, AreMade, IsOpening, Session, Unopened, Ended, Stopped, IsSession, first_disk, last_disk, last_store, MayLeave, TakesOver, HasAccepted, fates_of, fates_of_calls, fates_of_session}
 use Rattle.store.specs.Standing.{StandsFor}
@@ -22,7 +22,7 @@ use Rattle.store.proofs.SessionsInTurn.{sessions_compose}
 use Rattle.store.specs.declared.store.Store.{Store}
 use Rattle.roots.specs.declared.roots.NotOpened.{NotOpened}
 use Rattle.lattice.specs.declared.refusal.Refusal.TheVariants.{Device, NoMemory}
-use Rattle.calls.specs.State.{Contents}
+use Rattle.engine.specs.State.{Contents}
 use Rattle.memory_store.specs.TwoSessions.{CutDisk, HoldsOnly, AreCallsOf, AsksEvents, fates_told, WasCutOff}
 
 module _ (g : Ghosts CutDisk) where

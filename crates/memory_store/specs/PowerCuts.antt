@@ -1,11 +1,11 @@
 -- A store through a power cut (this product's own profile).
 use Rattle.std.specs.Prelude.{◌≡◌, ◌⊎◌, ℕ, List, Some}
 use Rattle.disk.specs.declared.disk.Disk.{Ghosts}
-use Rattle.calls.specs.Events.{Happens}
-use Rattle.calls.specs.Runs.{last_of, Through}
-use Rattle.calls.specs.State.{Contents, State, working}
-use Rattle.calls.specs.declared.event.Event.{Event}
-use Rattle.calls.specs.declared.event.Reply.{Reply}
+use Rattle.engine.specs.Events.{Happens}
+use Rattle.engine.specs.Runs.{last_of, Through}
+use Rattle.engine.specs.State.{Contents, State, working}
+use Rattle.engine.specs.declared.event.Event.{Event}
+use Rattle.engine.specs.declared.event.Reply.{Reply}
 use Rattle.disk.specs.Faulty.{inner_of}
 use Rattle.disk.specs.Disk.{Image, NoneNew, Only}
 use Rattle.disk.specs.MemDisk.{state_of, sectors_of}

@@ -1,8 +1,8 @@
 -- Two sessions of a store with a power cut after each (this product's own profile).
 use Rattle.std.specs.Prelude.{◌≡◌, ◌≢◌, ℕ, List, [], ◌∷◌, ◌++◌, Result, Ok, Err}
-use Rattle.calls.specs.State.{Contents}
-use Rattle.calls.specs.declared.event.Event.{Event}
-use Rattle.calls.specs.declared.event.Reply.{Reply}
+use Rattle.engine.specs.State.{Contents}
+use Rattle.engine.specs.declared.event.Event.{Event}
+use Rattle.engine.specs.declared.event.Reply.{Reply}
 use Rattle.disk.specs.Disk.{Image, HasRisen}
 use Rattle.disk.specs.Faulty.{inner_of, faults_of}
 use Rattle.disk.specs.MemDisk.{state_of, sectors_of}

@@ -3,8 +3,8 @@ ghost use Rattle.std.specs.Prelude.{◌≡◌, ◌≤◌, ◌⊎◌, IfOk, IfErr
 ghost use Rattle.disk.specs.MemDisk.{sectors_of};
 ghost use Rattle.lattice.specs.Limits.{largest_side, most_tiles};
 ghost use Rattle.lattice.specs.declared.refusal.Refusal.TheVariants.{Device, NoMemory};
-ghost use Rattle.layout.specs.Sizes.{sectors_asked};
-ghost use Rattle.calls.specs.State.{fresh, working};
+ghost use Rattle.page_codec.specs.Sizes.{sectors_asked};
+ghost use Rattle.engine.specs.State.{fresh, working};
 ghost use Rattle.store.specs.Formatted.{format_2};
 ghost use Rattle.store.specs.Stores.{disk_of, side_of, capacity_of, IsAt};
 

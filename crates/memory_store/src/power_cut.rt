@@ -1,14 +1,14 @@
 //! A store through a power cut.
 ghost use Rattle.std.specs.Prelude.{◌≡◌, ◌++◌, ◌⊎◌, ℕ, List, IfOk, IfErr};
 ghost use Rattle.lattice.specs.declared.refusal.Refusal.TheVariants.{Device, NoMemory};
-ghost use Rattle.calls.specs.State.{Contents, State, working};
-ghost use Rattle.calls.specs.declared.event.Reply.{Reply};
+ghost use Rattle.engine.specs.State.{Contents, State, working};
+ghost use Rattle.engine.specs.declared.event.Reply.{Reply};
 ghost use Rattle.disk.specs.MemDisk.{state_of};
 ghost use Rattle.disk.specs.Memory.{left_by};
 ghost use Rattle.memory_store.specs.PowerCuts.{IsCut, LeavesEither, SurvivesPowerCut, WasCut};
 ghost use Rattle.store.specs.Stores.{disk_of, side_of, capacity_of, IsAt};
 
-use calls::{Event, Reply};
+use engine::{Event, Reply};
 use disk::{Disk, FuseDisk, MemDisk, Torn};
 use lattice::Refusal;
 use std::alloc::Global;

@@ -1,14 +1,14 @@
 //! Two sessions of a store, each ended by a power cut.
 ghost use Rattle.std.specs.Prelude.{◌≡◌, ◌++◌, ◌⊎◌, ℕ, List, IfOk, IfErr};
-ghost use Rattle.calls.specs.State.{Contents};
-ghost use Rattle.calls.specs.declared.event.Reply.{Reply};
+ghost use Rattle.engine.specs.State.{Contents};
+ghost use Rattle.engine.specs.declared.event.Reply.{Reply};
 ghost use Rattle.disk.specs.declared.memory.MemDisk.{MemDisk};
 ghost use Rattle.lattice.specs.declared.refusal.Refusal.TheVariants.{Device, NoMemory};
 ghost use Rattle.memory_store.specs.TwoSessions.{AsksEvents, FindsAccepted, HoldsOnly, WasCutOff, fates_told};
 ghost use Rattle.store.specs.Sessions.{IsSession, Session, first_disk, last_disk};
 
 use crate::power_cut::cut;
-use calls::{Event, Reply};
+use engine::{Event, Reply};
 use disk::{Disk, FuseDisk, MemDisk, Torn};
 use lattice::Refusal;
 use std::alloc::Global;

@@ -6,10 +6,10 @@ use Rattle.std.proofs.lemmas.List.{length-append, length-take, take-append-drop}
 use Rattle.lattice.specs.declared.point.Point.{Point}
 use Rattle.lattice.specs.Limits.{IsSide, largest_side}
 use Rattle.lattice.specs.Mosaic.{AreSinks, IsHeld}
-use Rattle.layout.specs.declared.version.Version.{Version}
-use Rattle.layout.specs.declared.version.Version.TheVariants.{One, Two}
+use Rattle.page_codec.specs.declared.version.Version.{Version}
+use Rattle.page_codec.specs.declared.version.Version.TheVariants.{One, Two}
 use Rattle.page_codec.specs.Numbers.{zeros, padded, is_all_zero}
-use Rattle.layout.specs.Formats.{Format, IsFormat, largest_side_of}
+use Rattle.page_codec.specs.Formats.{Format, IsFormat, largest_side_of}
 use Rattle.page_codec.specs.Entries.{EntryValue, IsEntry, entry_bytes}
 use Rattle.page_codec.specs.Sinks.{sink_bytes}
 use Rattle.page_codec.specs.Roots.{RootValue, format_of, AreNumbers, AreInOrder, IsRoot}

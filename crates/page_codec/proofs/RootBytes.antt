@@ -6,9 +6,9 @@ use Rattle.std.specs.List.{flat_map}
 use Rattle.std.proofs.lemmas.List.{append-nil, length-append, append_cancel_left}
 use Rattle.std.proofs.Math.Seq.{take-append_seam, drop-append_seam}
 use Rattle.page_codec.specs.Numbers.{u32_bytes, u64_bytes, zeros, padded}
-use Rattle.layout.specs.declared.version.Version.{Version}
-use Rattle.layout.specs.declared.version.Version.TheVariants.{One, Two}
-use Rattle.layout.specs.Formats.{Format, IsKnown, number_of}
+use Rattle.page_codec.specs.declared.version.Version.{Version}
+use Rattle.page_codec.specs.declared.version.Version.TheVariants.{One, Two}
+use Rattle.page_codec.specs.Formats.{Format, IsKnown, number_of}
 use Rattle.page_codec.specs.Entries.{entry_bytes}
 use Rattle.page_codec.specs.Sinks.{sink_bytes}
 use Rattle.page_codec.specs.Roots.{RootValue, format_of, IsRoot, magic, header_bytes, root_bytes, HasMagic, HasVersion, HasKnownVersion}

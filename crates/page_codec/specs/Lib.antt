@@ -1,5 +1,5 @@
-pub use Rattle.layout.specs.Formats
-pub use Rattle.layout.specs.Sizes
+pub mod Formats
+pub mod Sizes
 pub mod Numbers
 pub mod Entries
 pub mod Fields

@@ -5,8 +5,8 @@ use Rattle.lattice.specs.Corners.{is_before}
 use Rattle.lattice.specs.Limits.{most_sinks}
 use Rattle.lattice.specs.Mosaic.{AreSinks}
 use Rattle.lattice.specs.declared.point.Point.{Point}
-use Rattle.layout.specs.declared.version.Version.{Version}
-use Rattle.layout.specs.Formats.{Format, IsFormat, IsKnown, number_of}
+use Rattle.page_codec.specs.declared.version.Version.{Version}
+use Rattle.page_codec.specs.Formats.{Format, IsFormat, IsKnown, number_of}
 use Rattle.page_codec.specs.Numbers.{u32_bytes, u64_bytes, zeros, padded}
 use Rattle.page_codec.specs.Entries.{EntryValue, IsEntry, entry_bytes}
 use Rattle.page_codec.specs.Sinks.{sink_bytes}

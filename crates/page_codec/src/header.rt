@@ -1,6 +1,6 @@
 //! The numbers of a root.
 ghost use Rattle.std.specs.Prelude.{◌≡◌, ◌+◌, ◌≤◌, ◌++◌, length, SomeIff};
-ghost use Rattle.layout.specs.Formats.{IsKnown};
+ghost use Rattle.page_codec.specs.Formats.{IsKnown};
 ghost use Rattle.page_codec.specs.Roots.{AreNumbers};
 ghost use Rattle.page_codec.specs.Headers.{number_bytes};
 

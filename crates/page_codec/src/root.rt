@@ -1,10 +1,10 @@
 //! The root of a store.
 ghost use Rattle.std.specs.Prelude.{◌≡◌, ◌≢◌, ◌+◌, ◌<◌, ◌≤◌, ◌^◌, ◌↔◌, ◌++◌, length, take, All, IfOk, IfErr, IfSome, IfNone, IsErrOf, Ok};
 ghost use Rattle.page_codec.specs.declared.damaged.Damaged.TheVariants as reason;
-ghost use Rattle.layout.specs.declared.version.Version.{Version};
-ghost use Rattle.layout.specs.declared.version.Version.TheVariants.{Two};
+ghost use Rattle.page_codec.specs.declared.version.Version.{Version};
+ghost use Rattle.page_codec.specs.declared.version.Version.TheVariants.{Two};
 ghost use Rattle.page_codec.specs.Numbers.{u32_bytes};
-ghost use Rattle.layout.specs.Formats.{IsKnown, largest_side_of, number_of};
+ghost use Rattle.page_codec.specs.Formats.{IsKnown, largest_side_of, number_of};
 ghost use Rattle.page_codec.specs.Entries.{IsEntry};
 ghost use Rattle.lattice.specs.Mosaic.{AreSinks};
 ghost use Rattle.page_codec.specs.Roots.{RootValue, AreInOrder, IsRoot, empty_root, format_of, magic, header_bytes, root_bytes, HasMagic, HasKnownVersion};

@@ -8,8 +8,8 @@ use Rattle.lattice.specs.declared.refusal.Refusal.{Refusal}
 use Rattle.lattice.proofs.Rising.{Rising, rising_from}
 use Rattle.page_map.specs.FreePages.{FreePages}
 use Rattle.std.specs.FinSet.{len}
-use Rattle.layout.specs.Sizes.{pages_of, plane_pages_of}
-use Rattle.layout.specs.Formats.{Format}
+use Rattle.page_codec.specs.Sizes.{pages_of, plane_pages_of}
+use Rattle.page_codec.specs.Formats.{Format}
 use Rattle.page_map.specs.declared.locations.TilePlanes.{TilePlanes}
 use Rattle.page_map.specs.declared.tile_entry.TileEntry.{TileEntry}
 use Rattle.page_map.specs.declared.staged.Staged.{Staged}

@@ -6,7 +6,7 @@ use Rattle.std.proofs.lemmas.Grind.{flat_map-append}
 use Rattle.std.proofs.lemmas.Bool.{false≢true}
 use Rattle.lattice.specs.Corners.{Corner}
 use Rattle.page_map.specs.FreePages.{FreePages}
-use Rattle.layout.specs.Formats.{Format}
+use Rattle.page_codec.specs.Formats.{Format}
 use Rattle.page_map.specs.declared.locations.TilePlanes.{TilePlanes}
 use Rattle.page_map.specs.declared.tile_entry.TileEntry.{TileEntry}
 use Rattle.page_map.specs.declared.staged.Staged.{Staged}

@@ -5,7 +5,7 @@ use Rattle.std.proofs.lemmas.Bool.{cases_eq}
 use Rattle.std.proofs.lemmas.List.{get_or_append_left, length-append}
 use Rattle.std.proofs.lemmas.Option.{same_Some, slice_get_within, slice_get-get_or, get_or_from_slice_get}
 use Rattle.lattice.specs.Corners.{Corner}
-use Rattle.layout.specs.Formats.{Format}
+use Rattle.page_codec.specs.Formats.{Format}
 use Rattle.page_map.specs.FreePages.{FreePages, differing, heights_pages}
 use Rattle.page_map.specs.declared.locations.KeptLocations.{KeptLocations}
 use Rattle.page_map.specs.declared.locations.TilePlanes.{TilePlanes}

@@ -8,8 +8,8 @@ use Rattle.lattice.specs.Corners.{Corner, same_corner, is_corner}
 use Rattle.lattice.proofs.CornerOrder.{before_not_same, after_not_same, same_from}
 use Rattle.lattice.proofs.Rising.{AllAfter, Rising, rising_from, adjacent_from}
 use Rattle.page_map.specs.FreePages.{FreePages, PageRange}
-use Rattle.layout.specs.Formats.{Format}
-use Rattle.layout.specs.Sizes.{plane_pages_of}
+use Rattle.page_codec.specs.Formats.{Format}
+use Rattle.page_codec.specs.Sizes.{plane_pages_of}
 use Rattle.page_map.specs.declared.locations.TilePlanes.{TilePlanes}
 use Rattle.page_map.specs.declared.tile_entry.TileEntry.{TileEntry}
 use Rattle.page_map.specs.declared.staged.Staged.{Staged}

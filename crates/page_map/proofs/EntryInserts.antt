@@ -10,7 +10,7 @@ use Rattle.lattice.specs.Corners.{Corner, is_before, is_corner}
 use Rattle.lattice.proofs.CornerOrder.{before_not_back}
 use Rattle.lattice.proofs.Rising.{AllAfter, Rising, rising_from, adjacent_from}
 use Rattle.page_map.specs.FreePages.{FreePages}
-use Rattle.layout.specs.Formats.{Format}
+use Rattle.page_codec.specs.Formats.{Format}
 use Rattle.page_map.specs.declared.locations.TilePlanes.{TilePlanes}
 use Rattle.page_map.specs.declared.tile_entry.TileEntry.{TileEntry}
 use Rattle.page_map.specs.declared.staged.Staged.{Staged}

@@ -7,7 +7,7 @@ use Rattle.std.proofs.lemmas.List.{append_assoc}
 use Rattle.std.proofs.lemmas.List.Elements.{filter_map-append, All-nil, All-cons, Contains-append_right}
 use Rattle.lattice.specs.Corners.{Corner, is_corner}
 use Rattle.lattice.proofs.Rising.{Rising, rising_from, adjacent_from}
-use Rattle.layout.specs.Formats.{Format}
+use Rattle.page_codec.specs.Formats.{Format}
 use Rattle.page_map.specs.declared.locations.TilePlanes.{TilePlanes}
 use Rattle.page_map.specs.declared.tile_entry.TileEntry.{TileEntry}
 use Rattle.page_map.specs.declared.staged.Staged.{Staged}

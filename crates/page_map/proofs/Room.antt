@@ -8,9 +8,9 @@ use Rattle.std.specs.FinSet.{FinSet, empty, contains, remove, len, empty_of_len,
 use Rattle.std.proofs.lemmas.Bool.{false≢true, cases_eq, cases_Bool, cases_lt, ne_eqb}
 use Rattle.std.proofs.lemmas.List.{length-append}
 use Rattle.lattice.specs.Corners.{Corner}
-use Rattle.layout.specs.Sizes.{pages_of, index_pages_by, index_pages_of, plane_pages_of, sectors_asked}
-use Rattle.layout.specs.Formats.{Format, upgraded}
-use Rattle.layout.specs.declared.version.Version.TheVariants.{One}
+use Rattle.page_codec.specs.Sizes.{pages_of, index_pages_by, index_pages_of, plane_pages_of, sectors_asked}
+use Rattle.page_codec.specs.Formats.{Format, upgraded}
+use Rattle.page_codec.specs.declared.version.Version.TheVariants.{One}
 use Rattle.page_map.specs.declared.locations.KeptLocations.{KeptLocations}
 use Rattle.page_map.specs.declared.locations.TilePlanes.{TilePlanes}
 use Rattle.page_map.specs.declared.tile_entry.TileEntry.{TileEntry}

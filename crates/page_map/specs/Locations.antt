@@ -1,7 +1,7 @@
 -- Where a plane lies on a disk (this product's own profile).
 use Rattle.std.specs.Prelude.{◌≡◌, ℕ, ◌+◌, ◌/◌, ◌==◌, List, [], ◌∷◌, ◌++◌, length, if◌then◌else◌, slice_set}
-use Rattle.layout.specs.Formats.{Format}
-use Rattle.layout.specs.Sizes.{pages_of, index_pages_of}
+use Rattle.page_codec.specs.Formats.{Format}
+use Rattle.page_codec.specs.Sizes.{pages_of, index_pages_of}
 
 -- the page of a plane's record, the index pages, of which the first version has none, and the plane's pages in order
 pub record PlaneLocation : Type 0 where

@@ -3,8 +3,8 @@ use Rattle.std.specs.Prelude.{◌≡◌, ◌⊎◌, ℕ, ◌≤◌, ◌<◌, ◌
 use Rattle.std.specs.List.{AllAdjacentBelow, list_any}
 use Rattle.lattice.specs.Corners.{Corner, same_corner, is_before, is_corner}
 use Rattle.lattice.specs.Lattice.{IsBefore}
-use Rattle.layout.specs.Formats.{Format}
-use Rattle.layout.specs.Sizes.{index_pages_of, sectors_asked}
+use Rattle.page_codec.specs.Formats.{Format}
+use Rattle.page_codec.specs.Sizes.{index_pages_of, sectors_asked}
 use Rattle.page_map.specs.declared.locations.KeptLocations.{KeptLocations}
 use Rattle.page_map.specs.declared.locations.TilePlanes.{TilePlanes}
 use Rattle.page_map.specs.Locations.{PlaneLocation, IsWholePlane, moved_plane, pages_of_plane}

@@ -5,8 +5,8 @@ use Rattle.std.specs.List.{HoldsAt, AllWithin, filter_map, flat_map, AllByRecurs
 use Rattle.lattice.specs.Corners.{Corner, is_corner}
 use Rattle.lattice.specs.Lattice.{IsBefore}
 use Rattle.lattice.specs.Limits.{most_tiles}
-use Rattle.layout.specs.Formats.{Format, upgraded}
-use Rattle.layout.specs.Sizes.{plane_pages_of, sectors_asked}
+use Rattle.page_codec.specs.Formats.{Format, upgraded}
+use Rattle.page_codec.specs.Sizes.{plane_pages_of, sectors_asked}
 use Rattle.page_map.specs.declared.locations.KeptLocations.{KeptLocations}
 use Rattle.page_map.specs.declared.locations.TilePlanes.{TilePlanes}
 use Rattle.page_map.specs.declared.tile_entry.TileEntry.{TileEntry}

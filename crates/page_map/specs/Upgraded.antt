@@ -2,8 +2,8 @@
 use Rattle.std.specs.Prelude.{◌≡◌, ℕ, List, [], ◌++◌, All, length, map, Option, Some, None, IfSome}
 use Rattle.std.specs.List.{flat_map}
 use Rattle.lattice.specs.Corners.{Corner}
-use Rattle.layout.specs.Formats.{upgraded}
-use Rattle.layout.specs.Sizes.{pages_of}
+use Rattle.page_codec.specs.Formats.{upgraded}
+use Rattle.page_codec.specs.Sizes.{pages_of}
 use Rattle.page_map.specs.declared.locations.KeptLocations.{KeptLocations}
 use Rattle.page_map.specs.declared.locations.TilePlanes.{TilePlanes}
 use Rattle.page_map.specs.PageMaps.{PageMapValue, IsClean, IsFresh}

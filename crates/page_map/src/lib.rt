@@ -11,15 +11,15 @@
 //! ```
 #![tactic(auto)]
 
-mod page_map;
 mod free_pages;
 mod locations;
+mod page_map;
 mod pages;
 mod plane;
-mod tile_entry;
 mod staged;
+mod tile_entry;
 mod upgrading;
 
-pub use page_map::PageMap;
 pub use locations::{KeptLocations, PagedPlane, TilePlanes};
+pub use page_map::PageMap;
 pub use plane::Plane;

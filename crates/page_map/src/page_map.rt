@@ -1,9 +1,9 @@
 //! Which pages hold which planes, as committed and as the next commit will have it.
 ghost use Rattle.std.specs.Prelude.{◌≡◌, slice_index, ◌⊎◌, ◌≤◌, ◌<◌, [], ◌∷◌, ◌++◌, All, length, Some, None, Contains, IsOk, IfOk, OnOk, OnErr, IfSome, IfNone, IsSome, IsTrue, ◌↔◌, IfErr};
 ghost use Rattle.lattice.specs.declared.refusal.Refusal.TheVariants.{Damaged, NoMemory};
-ghost use Rattle.layout.specs.Formats.{upgraded};
-ghost use Rattle.layout.specs.Sizes.{pages_of, sectors_asked};
-ghost use Rattle.layout.specs.declared.version.Version.TheVariants.{One};
+ghost use Rattle.page_codec.specs.Formats.{upgraded};
+ghost use Rattle.page_codec.specs.Sizes.{pages_of, sectors_asked};
+ghost use Rattle.page_codec.specs.declared.version.Version.TheVariants.{One};
 ghost use Rattle.std.specs.List.{AllAdjacentBelow};
 ghost use Rattle.lattice.specs.Corners.{is_before, is_corner};
 ghost use Rattle.lattice.specs.Lattice.{IsBefore};
@@ -14,12 +14,12 @@ use crate::free_pages::FreePages;
 use crate::locations::{KeptLocations, PagedPlane, TilePlanes};
 use crate::pages::{fresh_plane, mark_planes};
 use crate::plane::Plane;
-use crate::tile_entry::{Ending, TileEntry};
 use crate::staged::{HeightsStaged, KeptStaged, Staged};
+use crate::tile_entry::{Ending, TileEntry};
 use crate::upgrading::upgraded_planes;
 use arrayvec::ArrayVec;
 use lattice::{Corner, MOST_TILES, Refusal};
-use layout::Format;
+use page_codec::Format;
 use std::alloc::Global;
 use std::marker::Model;
 

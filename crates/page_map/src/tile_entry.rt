@@ -1,7 +1,7 @@
 //! One tile of a page_map.
 ghost use Rattle.std.specs.Prelude.{◌≡◌, ◌≢◌, ◌+◌, ◌*◌, ◌<◌, ◌≤◌, ℕ, [], ◌∷◌, length, take, true, IsSome, IsOk, IfOk, IfErr, IfSome, OnOk, OnErr, None, option_map, option_copied, option_and_then, slice_get};
 ghost use Rattle.std.specs.FinSet as set;
-ghost use Rattle.layout.specs.Sizes.{plane_pages_of};
+ghost use Rattle.page_codec.specs.Sizes.{plane_pages_of};
 ghost use Rattle.page_map.specs.declared.staged.Staged.TheVariants.{Removed};
 ghost use Rattle.lattice.specs.declared.refusal.Refusal.TheVariants.{NoMemory};
 ghost use Rattle.page_map.specs.Locations.{times, listing_of, pages_behind, IsMovedBehind};
@@ -16,7 +16,7 @@ use crate::pages::{fresh_kept, give_differing, give_kept, give_plane, stands_at}
 use crate::plane::Plane;
 use crate::staged::{HeightsStaged, KeptStaged, Staged};
 use lattice::{Corner, Refusal};
-use layout::{Format, RECORD_PAGES};
+use page_codec::{Format, RECORD_PAGES};
 use std::alloc::Global;
 use std::mem;
 
@@ -358,7 +358,12 @@ fn own_listed(location: &mut PagedPlane, committed: &[u32], i: usize, free: &mut
 }
 
 /// One of the pages behind a record, which is moved to a free page where the committed plane has it at the same index.
-fn make_writable(location: &mut PagedPlane, committed: &[u32], at: usize, free: &mut FreePages) -> u32
+fn make_writable(
+    location: &mut PagedPlane,
+    committed: &[u32],
+    at: usize,
+    free: &mut FreePages,
+) -> u32
     requires room { length (pages_behind location.old) ≤ length (differing (pages_behind location.old) committed.now) + set.len free.old.free }
     requires index { at < length (pages_behind location.old) }
     requires apart { (p : ℕ) → times p committed.now + free_times free.old p ≤ 1 }

@@ -3,7 +3,7 @@ ghost use Rattle.std.specs.Prelude.{◌≡◌, ◌+◌, ◌*◌, ◌≤◌, ◌+
 ghost use Rattle.std.specs.FinSet as set;
 ghost use Rattle.lattice.specs.Corners.{Corner};
 ghost use Rattle.lattice.specs.declared.refusal.Refusal.TheVariants.{NoMemory};
-ghost use Rattle.layout.specs.Sizes.{index_pages_of};
+ghost use Rattle.page_codec.specs.Sizes.{index_pages_of};
 ghost use Rattle.page_map.specs.PageMaps.{AreWholeKept, IsWholeTile, tile_at};
 ghost use Rattle.page_map.specs.FreePages.{AreTaken};
 ghost use Rattle.page_map.specs.Locations.{IsWholePlane, listing_of};
@@ -13,7 +13,7 @@ use crate::free_pages::FreePages;
 use crate::locations::{KeptLocations, PagedPlane, TilePlanes};
 use crate::pages::fresh_plane;
 use lattice::Refusal;
-use layout::Format;
+use page_codec::Format;
 use std::alloc::Global;
 
 /// The planes of a tile with the same pages, by a format with index pages: records and index pages are on free pages.

@@ -3,3 +3,4 @@ pub mod OnStores
 pub mod ProgramLemmas
 pub mod ServedSessions
 pub mod Sessions
+pub mod CommandLineLemmas

@@ -7,15 +7,15 @@ use Rattle.disk.specs.declared.disk.Disk.{Ghosts}
 use Rattle.lattice.specs.declared.refusal.Refusal.{Refusal}
 use Rattle.lattice.specs.declared.refusal.Refusal.TheVariants.{Device}
 use Rattle.edits.specs.declared.command.Command.{Command}
-use Rattle.calls.specs.declared.event.Event.TheVariants as ask
-use Rattle.calls.specs.declared.event.Reply.TheVariants as reply
-use Rattle.calls.specs.Engines.{IsCall, LeaveLater, answered, items_in}
-use Rattle.calls.specs.Events.{Happens}
-use Rattle.calls.specs.Outcomes.{Applies}
-use Rattle.calls.specs.Steps.{Upgrades}
-use Rattle.calls.specs.Told.{IsTold}
-use Rattle.calls.specs.Runs.{last_of}
-use Rattle.calls.specs.State.{Contents, State, working}
+use Rattle.engine.specs.declared.event.Event.TheVariants as ask
+use Rattle.engine.specs.declared.event.Reply.TheVariants as reply
+use Rattle.engine.specs.Engines.{IsCall, LeaveLater, answered, items_in}
+use Rattle.engine.specs.Events.{Happens}
+use Rattle.engine.specs.Outcomes.{Applies}
+use Rattle.engine.specs.Steps.{Upgrades}
+use Rattle.engine.specs.Told.{IsTold}
+use Rattle.engine.specs.Runs.{last_of}
+use Rattle.engine.specs.State.{Contents, State, working}
 use Rattle.page_codec.specs.Sizes.{sectors_asked}
 use Rattle.store.specs.Ended.{LeavesOr, HasEndedAt}
 use Rattle.store.specs.Formatted.{format_2}

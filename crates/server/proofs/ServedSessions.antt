@@ -1,8 +1,8 @@
 -- The calls that a session's items come to.
 use Rattle.std.proofs.Common.{◌≡◌, ℕ, List, [], ◌∷◌, ◌++◌, Result, Ok, Err, refl, sym, ap, ◌∙◌, subst}
 use Rattle.disk.specs.declared.disk.Disk.{Ghosts}
-use Rattle.calls.specs.Runs.{last_of}
-use Rattle.calls.specs.Engines.{IsCall}
+use Rattle.engine.specs.Runs.{last_of}
+use Rattle.engine.specs.Engines.{IsCall}
 use Rattle.serving.specs.Answers.{Replied, Turn, Ask, Refuse, End, ComesTo, Turns}
 use Rattle.serving.specs.Items.{Item}
 use Rattle.serving.specs.Served.{Outcome, Replies}

@@ -2,7 +2,7 @@
 use Rattle.std.specs.Prelude.{◌≡◌, ◌⊎◌, ◌≤◌, ℕ, List, ◌∷◌, Contains, Some}
 use Rattle.disk.specs.Disk.{Image, Only}
 use Rattle.disk.specs.declared.disk.Disk.{Ghosts}
-use Rattle.calls.specs.State.{Contents, State, working}
+use Rattle.engine.specs.State.{Contents, State, working}
 use Rattle.store.specs.Standing.{StandsFor}
 use Rattle.server.specs.OnDisks.{HoldsEither, GoesFrom}
 

@@ -8,3 +8,4 @@ pub mod Report
 pub mod ServedSessions
 pub mod Sessions
 pub mod Sizes
+pub mod CommandLine

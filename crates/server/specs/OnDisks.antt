@@ -9,12 +9,12 @@ use Rattle.lattice.specs.declared.refusal.Refusal.{Refusal}
 use Rattle.lattice.specs.declared.refusal.Refusal.TheVariants.{Device, NoMemory}
 use Rattle.edits.specs.declared.command.Command.{Command}
 use Rattle.edits.specs.declared.command.Command.TheVariants.{Import}
-use Rattle.calls.specs.Events.{Happens}
-use Rattle.calls.specs.Outcomes.{Applies}
-use Rattle.calls.specs.Runs.{last_of}
-use Rattle.calls.specs.State.{Contents, State, working, fresh}
-use Rattle.calls.specs.Steps.{Upgrades}
-use Rattle.calls.specs.Told.{IsTold}
+use Rattle.engine.specs.Events.{Happens}
+use Rattle.engine.specs.Outcomes.{Applies}
+use Rattle.engine.specs.Runs.{last_of}
+use Rattle.engine.specs.State.{Contents, State, working, fresh}
+use Rattle.engine.specs.Steps.{Upgrades}
+use Rattle.engine.specs.Told.{IsTold}
 use Rattle.page_codec.specs.Sizes.{sectors_asked}
 use Rattle.cow_tree.specs.Trees.{MayRefuse}
 use Rattle.serving.specs.Answers.{Replied}

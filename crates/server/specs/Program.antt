@@ -13,22 +13,22 @@ use Rattle.lattice.specs.declared.refusal.Refusal.{Refusal}
 use Rattle.lattice.specs.declared.refusal.Refusal.TheVariants.{NoMemory, BadName, BadSide, BadCapacity}
 use Rattle.hgt.specs.Names.{IsFileName}
 use Rattle.page_codec.specs.Sizes.{sectors_asked}
-use Rattle.calls.specs.Events.{Happens}
-use Rattle.calls.specs.State.{State, fresh, working}
+use Rattle.engine.specs.Events.{Happens}
+use Rattle.engine.specs.State.{State, fresh, working}
 use Rattle.serving.specs.Answers.{Replied}
 use Rattle.serving.specs.Promises.{side_in}
 use Rattle.serving.specs.Served.{Outcome}
 use Rattle.serving.specs.declared.session.ServeFault.{ServeFault}
 use Rattle.store.specs.Formatted.{format_2}
-use Rattle.command_line.specs.CommandLine.{AskedBy, AskNothing}
+use Rattle.server.specs.CommandLine.{AskedBy, AskNothing}
 use Rattle.server.specs.Endings.{EndsSession, Tells, TellsRefusal, bad_words}
 use Rattle.server.specs.Files.{GivesUntouched}
 use Rattle.server.specs.OnDisks.{ServesLines, ImportsTile, MakesStore, ChecksStore, GrowsAndUpgrades}
 use Rattle.serving.specs.Outputs.{Puts, Stream}
 use Rattle.server.specs.Places.{Access, Makes, Opens, Reads}
 use Rattle.server.specs.Sizes.{IsTaken, IsRefusedFor}
-use Rattle.command_line.specs.declared.arguments.Arguments.{Arguments}
-use Rattle.command_line.specs.declared.arguments.Arguments.TheVariants.{Format, Import, Serve, Table, Check, Upgrade}
+use Rattle.server.specs.declared.arguments.Arguments.{Arguments}
+use Rattle.server.specs.declared.arguments.Arguments.TheVariants.{Format, Import, Serve, Table, Check, Upgrade}
 use Rattle.server.specs.declared.places.MakeFault.{MakeFault}
 use Rattle.server.specs.declared.places.MakeFault.TheVariants.{Exists, Closed}
 

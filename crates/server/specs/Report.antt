@@ -6,8 +6,8 @@ use Rattle.lattice.specs.declared.refusal.Refusal.TheVariants.{Device, NoMemory,
 use Rattle.hgt.specs.Names.{name_bytes}
 use Rattle.catalogue.specs.Seams.{IsSeamCount}
 use Rattle.catalogue.specs.Tiles.{corners_of, is_listed}
-use Rattle.calls.specs.Outcomes.{Stays, StaysFailed, Fails}
-use Rattle.calls.specs.State.{Contents, State}
+use Rattle.engine.specs.Outcomes.{Stays, StaysFailed, Fails}
+use Rattle.engine.specs.State.{Contents, State}
 use Rattle.lines.specs.Replies.{line_of}
 
 -- how many commands were accepted, and how many commits were made

@@ -4,9 +4,9 @@ use Rattle.disk.specs.Disk.{HasRisen}
 use Rattle.disk.specs.declared.disk.Disk.{Ghosts}
 use Rattle.lattice.specs.declared.refusal.Refusal.TheVariants.{Device}
 use Rattle.edits.specs.declared.command.Command.{Command}
-use Rattle.calls.specs.Engines.{IsCall}
-use Rattle.calls.specs.declared.event.Event.TheVariants as ask
-use Rattle.calls.specs.declared.event.Reply.TheVariants as reply
+use Rattle.engine.specs.Engines.{IsCall}
+use Rattle.engine.specs.declared.event.Event.TheVariants as ask
+use Rattle.engine.specs.declared.event.Reply.TheVariants as reply
 use Rattle.lines.specs.Replies.{ok_line, refusal_text}
 use Rattle.serving.specs.Answers.{Replied}
 use Rattle.serving.specs.Items.{Item}

@@ -12,7 +12,7 @@ use crate::disks::{check_store, grow_and_upgrade, import_tile, make_store, serve
 use crate::exit::{BAD_WORDS, end_session, end_with, refuse, write_message};
 use crate::files::FilePlaces;
 use crate::places::{MakeFault, Places};
-use command_line::{ArgumentFault, Arguments};
+use crate::{ArgumentFault, Arguments};
 use disk::{FileDisk, World};
 use hgt::file_name;
 use lattice::{MOST_TILES, Refusal, Side};

@@ -1,6 +1,6 @@
 //! How the program ends: what it writes, and its exit status.
 ghost use Rattle.std.specs.Prelude.{◌≡◌, ◌++◌, Err, IfOk, true};
-ghost use Rattle.calls.specs.Engines.{items_in};
+ghost use Rattle.engine.specs.Engines.{items_in};
 ghost use Rattle.lines.specs.Replies.{line_of};
 ghost use Rattle.server.specs.Endings.{EndsAnswering, EndsReplying, EndsSession, Tells, TellsRefusal, count_line, fault_line};
 ghost use Rattle.serving.specs.Outputs.{Puts, stream_of};
@@ -109,7 +109,12 @@ pub(crate) fn end_with<O: Output>(writer: &mut O, line: &[u8], status: u8) -> u8
 }
 
 /// Tells in one line what is wrong, and with what, and answers the exit status.
-pub(crate) fn write_message<O: Output>(alloc: Global, writer: &mut O, words: &[u8], about: &[u8]) -> u8
+pub(crate) fn write_message<O: Output>(
+    alloc: Global,
+    writer: &mut O,
+    words: &[u8],
+    about: &[u8],
+) -> u8
     ensures { Tells (words.now ++ about.now) (O.contents writer.old) (stream_of O.contents O.failed writer.new) result }
 {
     match line_about(alloc, words, about) {

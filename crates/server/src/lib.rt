@@ -1,7 +1,8 @@
 //! The program on files: its words, what each subcommand does, and how it ends.
 //!
 //! The layer above rests on this: `carry_out` opens, reads and makes what the words ask for and nothing else, does it to
-//! the store on the disk, and writes and answers what goes with it (`specs/Program.antt`).
+//! the store on the disk, and writes and answers what goes with it (`specs/Program.antt`). [`Arguments::parse`] answers
+//! what the words ask for, and tells bad words exactly where they ask for nothing.
 //!
 //! It hands out what serves any engine, too: `serve`, `Engine` and `TableEngine`.
 //!
@@ -10,6 +11,7 @@
 //! ```
 #![tactic(auto)]
 
+mod arguments;
 mod commands;
 mod disks;
 mod exit;
@@ -18,6 +20,7 @@ mod following;
 mod places;
 mod reporting;
 
+pub use arguments::{ArgumentFault, Arguments};
 pub use commands::{Exit, carry_out, no_room, program};
 pub use disks::{
     check_store, grow_and_upgrade, import_tile, make_store, measure_store, serve_store,

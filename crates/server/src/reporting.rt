@@ -1,9 +1,9 @@
 //! What there is to report on a store.
 ghost use Rattle.std.specs.Prelude.{◌≡◌, ◌++◌, IfOk, OnOk, codes, decimal, flat_map, if◌then◌else◌};
-ghost use Rattle.calls.specs.State.{State};
+ghost use Rattle.engine.specs.State.{State};
 ghost use Rattle.derived.specs.Kept.{stale_in};
 ghost use Rattle.store.specs.Queried.{Queries};
-ghost use Rattle.calls.specs.Engines.{items_in};
+ghost use Rattle.engine.specs.Engines.{items_in};
 ghost use Rattle.store.specs.Stores.{disk_of, root_of, IsAt};
 ghost use Rattle.server.specs.Report.{IsReportText, Reports, report_text, tile_line};
 

@@ -1,11 +1,11 @@
 -- What follows from the replies to items, one after another.
 use Rattle.std.proofs.Common.{◌≡◌, ℕ, List, [], ◌∷◌, ◌++◌, refl, ◌∙◌, subst, arith}
 use Rattle.std.specs.Prelude.{map, Option, Result, Ok, Err}
-use Rattle.calls.specs.Engines.{AreAt, LeaveLater}
-use Rattle.calls.specs.Events.{Happens}
-use Rattle.calls.specs.Runs.{last_of}
-use Rattle.calls.specs.State.{State}
-use Rattle.calls.specs.Told.{IsTold}
+use Rattle.engine.specs.Engines.{AreAt, LeaveLater}
+use Rattle.engine.specs.Events.{Happens}
+use Rattle.engine.specs.Runs.{last_of}
+use Rattle.engine.specs.State.{State}
+use Rattle.engine.specs.Told.{IsTold}
 use Rattle.engine.specs.Members.{IsEngine, members}
 use Rattle.engine.specs.declared.engine.Engine.{Ghosts}
 use Rattle.serving.specs.declared.session.ServeFault.{ServeFault}

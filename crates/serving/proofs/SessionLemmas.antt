@@ -18,7 +18,7 @@ use Rattle.lines.specs.Grammar.{Asked, AskQuit}
 use Rattle.lines.specs.Lines.{IsLine, line_feed, kept, Reaches}
 use Rattle.lines.specs.Requests.{asked, IsRequestOf}
 use Rattle.serving.specs.Items.{Item, spelled, AsksFor, payload_len, Came, IsItem, GoesOn}
-use Rattle.calls.specs.Runs.{last_of}
+use Rattle.engine.specs.Runs.{last_of}
 use Rattle.serving.specs.Served.{Replies, Ends, AreItemsOf, Outcome}
 use Rattle.serving.specs.Session.{Stored, Holds, Steps, SoFar}
 use Rattle.lines.proofs.WriteLemmas.{Appends-second}

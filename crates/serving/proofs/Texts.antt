@@ -5,8 +5,8 @@ use Rattle.std.specs.Prelude.{◌==◌, ◌&&◌, Some, None, Result, Ok, Err, M
 use Rattle.lattice.specs.declared.height.Height.TheVariants as height
 use Rattle.lattice.specs.declared.refusal.Refusal.{Refusal}
 use Rattle.lattice.specs.declared.refusal.Refusal.TheVariants.{Device, NoMemory}
-use Rattle.calls.specs.declared.event.Reply.{Reply}
-use Rattle.calls.specs.declared.event.Reply.TheVariants as reply
+use Rattle.engine.specs.declared.event.Reply.{Reply}
+use Rattle.engine.specs.declared.event.Reply.TheVariants as reply
 use Rattle.lines.specs.Replies.{done_text, refusal_text}
 use Rattle.lines.specs.Telling.{Tells, text_of, takes_memory}
 use Rattle.serving.specs.Promises.{IsOkText}

@@ -5,15 +5,15 @@ use Rattle.std.proofs.lemmas.Bool.{both_ways}
 use Rattle.std.proofs.lemmas.List.Elements.{Contains-append_left}
 use Rattle.lattice.specs.declared.refusal.Refusal.TheVariants.{Device}
 use Rattle.edits.specs.declared.command.Command.{Command}
-use Rattle.calls.specs.declared.event.Event.{Event}
-use Rattle.calls.specs.declared.event.Event.TheVariants as ask
-use Rattle.calls.specs.declared.event.Reply.{Reply}
-use Rattle.calls.specs.declared.event.Reply.TheVariants as reply
-use Rattle.calls.proofs.Chains.{not_reopened}
-use Rattle.calls.specs.Engines.{IsCall}
-use Rattle.calls.specs.Events.{Happens, fails_after}
-use Rattle.calls.specs.State.{State}
-use Rattle.calls.specs.Told.{Matches, IsTold}
+use Rattle.engine.specs.declared.event.Event.{Event}
+use Rattle.engine.specs.declared.event.Event.TheVariants as ask
+use Rattle.engine.specs.declared.event.Reply.{Reply}
+use Rattle.engine.specs.declared.event.Reply.TheVariants as reply
+use Rattle.engine.proofs.Chains.{not_reopened}
+use Rattle.engine.specs.Engines.{IsCall}
+use Rattle.engine.specs.Events.{Happens, fails_after}
+use Rattle.engine.specs.State.{State}
+use Rattle.engine.specs.Told.{Matches, IsTold}
 use Rattle.engine.specs.Members.{IsEngine, members}
 use Rattle.engine.specs.declared.engine.Engine.{Ghosts}
 use Rattle.lines.specs.Grammar.{Asked, AskImport, AskEvent, AskNoTile, AskQuit}

@@ -5,9 +5,9 @@ use Rattle.lattice.specs.declared.refusal.Refusal.{Refusal}
 use Rattle.lattice.specs.declared.refusal.Refusal.TheVariants.{BadLine, BadName, BadLength, NoMemory}
 use Rattle.hgt.specs.Names.{IsName}
 use Rattle.edits.specs.declared.command.Command.TheVariants.{Import}
-use Rattle.calls.specs.declared.event.Event.{Event}
-use Rattle.calls.specs.declared.event.Event.TheVariants as ask
-use Rattle.calls.specs.declared.event.Reply.{Reply}
+use Rattle.engine.specs.declared.event.Event.{Event}
+use Rattle.engine.specs.declared.event.Event.TheVariants as ask
+use Rattle.engine.specs.declared.event.Reply.{Reply}
 use Rattle.lines.specs.Grammar.{Asked, AskImport, AskEvent, AskNoTile, AskQuit, NamesNone}
 use Rattle.lines.specs.Replies.{done_text, refusal_text}
 use Rattle.lines.specs.Telling.{Tells}

@@ -3,13 +3,13 @@ use Rattle.std.specs.Prelude.{◌≡◌, ◌≤◌, ℕ, Bool, true, false, IsTr
 use Rattle.lattice.specs.declared.refusal.Refusal.TheVariants.{Device}
 use Rattle.catalogue.specs.Reading.{HasRisen}
 use Rattle.edits.specs.declared.command.Command.{Command}
-use Rattle.calls.specs.declared.event.Event.TheVariants as ask
-use Rattle.calls.specs.declared.event.Reply.TheVariants as reply
-use Rattle.calls.specs.Engines.{AreAt, LeaveLater}
-use Rattle.calls.specs.Events.{Happens}
-use Rattle.calls.specs.Runs.{last_of}
-use Rattle.calls.specs.State.{State}
-use Rattle.calls.specs.Told.{IsTold}
+use Rattle.engine.specs.declared.event.Event.TheVariants as ask
+use Rattle.engine.specs.declared.event.Reply.TheVariants as reply
+use Rattle.engine.specs.Engines.{AreAt, LeaveLater}
+use Rattle.engine.specs.Events.{Happens}
+use Rattle.engine.specs.Runs.{last_of}
+use Rattle.engine.specs.State.{State}
+use Rattle.engine.specs.Told.{IsTold}
 use Rattle.engine.specs.Members.{members}
 use Rattle.engine.specs.declared.engine.Engine.{Ghosts}
 use Rattle.lines.specs.Grammar.{Asked, AskImport, AskEvent}

@@ -5,9 +5,8 @@ ghost use Rattle.serving.specs.Items.{Item};
 ghost use Rattle.serving.specs.Session.{Holds, Stored};
 
 use crate::reading::KeptItem;
-use calls::Event;
 use edits::{Bytes, Command};
-use engine::Engine;
+use engine::{Engine, Event};
 use hgt::name_of;
 use lattice::Refusal;
 use lines::{Extent, Request, Text, format_reply};

@@ -1,6 +1,6 @@
 //! Serves items, one after another: each is heard, answered, and its reply written.
 ghost use Rattle.std.specs.Prelude.{◌≡◌, ◌<◌, List, [], Ok, Err};
-ghost use Rattle.calls.specs.Runs.{last_of};
+ghost use Rattle.engine.specs.Runs.{last_of};
 ghost use Rattle.lines.specs.Ahead.{to_come, weight};
 ghost use Rattle.serving.specs.Outputs.{TellsFailure};
 ghost use Rattle.serving.specs.Promises.{Answers, Serves};

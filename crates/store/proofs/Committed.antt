@@ -13,9 +13,9 @@ use Rattle.catalogue.specs.Endings.{ends_any}
 use Rattle.edits.specs.Effect.{effect, unless_refused}
 use Rattle.edits.specs.Plans.{is_own, may_end}
 use Rattle.edits.specs.declared.command.Command.{Command}
-use Rattle.calls.specs.Outcomes.{AppliesNot}
-use Rattle.calls.specs.State.{Contents, State, last_number, made_by, in_doubt, working}
-use Rattle.calls.specs.Told.{may_refuse_command}
+use Rattle.engine.specs.Outcomes.{AppliesNot}
+use Rattle.engine.specs.State.{Contents, State, last_number, made_by, in_doubt, working}
+use Rattle.engine.specs.Told.{may_refuse_command}
 use Rattle.cow_tree.specs.Layout.{Stands}
 use Rattle.cow_tree.specs.Stored.{Stored, next_commit}
 use Rattle.cow_tree.specs.Trees.{disk_of, root_of, has_failed, sinks_of, staged_in, IsAt as IsTreeAt}
@@ -27,7 +27,7 @@ use Rattle.store.specs.Standing.{Holds}
 use Rattle.store.specs.TreeStates.{IsInState}
 use Rattle.store.proofs.Ended as ended
 use Rattle.store.proofs.InMemory.{is_working}
-use Rattle.calls.proofs.Applying.{fails, doubt_is, no_memory}
+use Rattle.engine.proofs.Applying.{fails, doubt_is, no_memory}
 
 -- what may end any command may end this one
 pub ends_command : (command : Command) (r : Refusal) → IsTrue (ends_any r) → IsTrue (may_refuse_command command r)

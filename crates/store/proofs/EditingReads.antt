@@ -14,9 +14,9 @@ use Rattle.catalogue.specs.Reading.{MayRefuse}
 use Rattle.edits.specs.declared.command.Command.{Command}
 use Rattle.edits.specs.Effect.{effect}
 use Rattle.edits.specs.Plans.{is_own, may_end}
-use Rattle.calls.specs.Outcomes.{AppliesNot}
-use Rattle.calls.specs.State.{State}
-use Rattle.calls.proofs.Applying.{plan_refused}
+use Rattle.engine.specs.Outcomes.{AppliesNot}
+use Rattle.engine.specs.State.{State}
+use Rattle.engine.proofs.Applying.{plan_refused}
 use Rattle.page_map.specs.PageMaps.{PageMapValue, HasFreshHeights, corners_of_locations}
 use Rattle.page_map.specs.TileLocations.{TileLocation}
 use Rattle.page_map.specs.Planes.{HasPlane}

@@ -5,8 +5,8 @@ use Rattle.std.proofs.lemmas.List.{length-map}
 use Rattle.disk.specs.declared.disk.Disk.{Ghosts}
 use Rattle.lattice.specs.declared.point.Point.{Point}
 use Rattle.lattice.specs.declared.refusal.Refusal.{Refusal}
-use Rattle.layout.specs.declared.version.Version.{Version}
-use Rattle.layout.specs.declared.version.Version.TheVariants.{One, Two}
+use Rattle.page_codec.specs.declared.version.Version.{Version}
+use Rattle.page_codec.specs.declared.version.Version.TheVariants.{One, Two}
 use Rattle.page_codec.specs.Sizes.{most_writes}
 use Rattle.edits.specs.declared.command.Command.{Command}
 use Rattle.edits.specs.declared.command.Command.TheVariants.{Import, Remove, Patch, Burn, Wall, Sink, Unsink}

@@ -8,8 +8,8 @@ use Rattle.disk.specs.declared.disk.Disk.{Ghosts}
 use Rattle.lattice.specs.declared.refusal.Refusal.{Refusal}
 use Rattle.lattice.specs.declared.refusal.Refusal.TheVariants.{Device, Failed}
 use Rattle.page_codec.specs.Roots.{RootValue}
-use Rattle.calls.specs.State.{Contents, State, last_number, if_numbered, failing, working}
-use Rattle.calls.specs.Steps.{Commits}
+use Rattle.engine.specs.State.{Contents, State, last_number, if_numbered, failing, working}
+use Rattle.engine.specs.Steps.{Commits}
 use Rattle.cow_tree.specs.Layout.{Stands}
 use Rattle.cow_tree.specs.Stored.{Stored}
 use Rattle.cow_tree.specs.Trees.{disk_of, root_of, has_failed, sinks_of, staged_in, IsAt as IsTreeAt}

@@ -5,7 +5,7 @@ use Rattle.std.proofs.lemmas.List.{length-append}
 use Rattle.lattice.specs.Mosaic.{Mosaic}
 use Rattle.edits.specs.declared.command.Command.{Command}
 use Rattle.edits.specs.Effect.{effect, unless_refused, after, accepted}
-use Rattle.calls.specs.State.{Contents, made_by}
+use Rattle.engine.specs.State.{Contents, made_by}
 use Rattle.store.specs.Fates.{Fate, Acknowledged, InDoubt, AreAccepted, ComesBy, IsMadeOf}
 
 kept_both : (first more : List Fate) (xs ys : List Command) → AreAccepted first xs → AreAccepted more ys → AreAccepted (first ++ more) (xs ++ ys)

@@ -2,13 +2,13 @@
 use Rattle.std.proofs.Common.{◌≡◌, ℕ, ◌+◌, List, All, refl, sym, ap, ap₂, ◌∙◌, subst}
 use Rattle.std.specs.Prelude.{Ok}
 use Rattle.std.specs.List.{AllZip}
-use Rattle.layout.specs.Formats.{number_of}
+use Rattle.page_codec.specs.Formats.{number_of}
 use Rattle.lattice.specs.Corners.{Corner}
 use Rattle.lattice.specs.declared.point.Point.{Point}
 use Rattle.lattice.specs.Mosaic.{Tile, Mosaic, IsTile, IsMosaic}
 use Rattle.edits.specs.declared.command.Command.{Command}
 use Rattle.edits.specs.Effect.{effect}
-use Rattle.calls.specs.State.{Contents, made_by}
+use Rattle.engine.specs.State.{Contents, made_by}
 use Rattle.edits.specs.Touched.{stale_after}
 use Rattle.cow_tree.specs.Stored.{StoredTile, Stored, next_commit, mosaic_of_tiles}
 use Rattle.cow_tree.proofs.OneStored.{one_stored}

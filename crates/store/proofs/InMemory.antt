@@ -16,8 +16,8 @@ use Rattle.edits.specs.declared.command.Command.TheVariants.{Import, Remove}
 use Rattle.edits.specs.Effect.{effect}
 use Rattle.edits.specs.Plans.{is_own}
 use Rattle.edits.specs.Touched.{are_neighbours}
-use Rattle.calls.specs.Outcomes.{AppliesNot, Refuses, IsWorn}
-use Rattle.calls.specs.State.{State, last_number, made_by}
+use Rattle.engine.specs.Outcomes.{AppliesNot, Refuses, IsWorn}
+use Rattle.engine.specs.State.{State, last_number, made_by}
 use Rattle.edits.specs.EffectLaws.{CommandsMakeMosaics}
 use Rattle.page_map.specs.TileLocations.{TileLocation}
 use Rattle.cow_tree.specs.Layout.{tile_in}

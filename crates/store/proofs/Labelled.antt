@@ -18,7 +18,7 @@ use Rattle.tile_flood.specs.Blocks.{LabelledGround}
 use Rattle.tile_flood.specs.Kept.{AreKeptOf, labels_in, levels_in}
 use Rattle.tile_flood.specs.Labelling.{IsLabelling}
 use Rattle.tile_flood.proofs.Raised.{lowest_height}
-use Rattle.calls.specs.State.{State}
+use Rattle.engine.specs.State.{State}
 use Rattle.cow_tree.specs.Layout.{tile_in, kept_in}
 use Rattle.cow_tree.specs.Reading.{mosaic_of, HasOnlyRead, Reads, read_nothing, read_again}
 use Rattle.cow_tree.specs.Stored.{StoredTile, KeptPlanes}

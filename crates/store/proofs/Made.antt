@@ -11,7 +11,7 @@ use Rattle.edits.specs.declared.edit.Edit.{Edit}
 use Rattle.edits.specs.Edits.{edit_made}
 use Rattle.edits.specs.Effect.{effect}
 use Rattle.edits.specs.Touched.{goes_stale}
-use Rattle.calls.specs.State.{State}
+use Rattle.engine.specs.State.{State}
 use Rattle.cow_tree.specs.Stored.{KeptPlanes, StoredTile, pages_of_bytes, stale_tile, with_tile, without_tile}
 use Rattle.cow_tree.specs.Trees.{root_of, has_failed, sinks_of, staged_in}
 use Rattle.cow_tree.specs.declared.tree.Tree.{Tree}

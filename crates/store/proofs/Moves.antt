@@ -8,14 +8,14 @@ use Rattle.lattice.specs.declared.refusal.Refusal.{Refusal}
 use Rattle.lattice.specs.declared.refusal.Refusal.TheVariants.{NoTile, Outside, Void, Device, NoMemory, Failed, Worn, TooSmall, NotOld}
 use Rattle.edits.specs.declared.command.Command.{Command}
 use Rattle.edits.specs.Effect.{effect}
-use Rattle.calls.specs.State.{Contents, State, working, failing, made_by, would_make, if_numbered, in_doubt, last_number}
-use Rattle.calls.specs.Outcomes.{Fails, AppliesNot, ElevatesNot, ExportsNot, ListsNot, AnswersNot}
-use Rattle.calls.specs.Steps.{Commits, stepped, step_in_doubt, StepsNot, Steps, upgraded, Upgrades, UpgradesNot}
-use Rattle.calls.specs.Events.{Happens, Reopens, ReopensNot}
-use Rattle.calls.specs.declared.event.Event.{Event}
-use Rattle.calls.specs.declared.event.Event.TheVariants as ask
-use Rattle.calls.specs.declared.event.Reply.{Reply}
-use Rattle.calls.specs.declared.event.Reply.TheVariants as reply
+use Rattle.engine.specs.State.{Contents, State, working, failing, made_by, would_make, if_numbered, in_doubt, last_number}
+use Rattle.engine.specs.Outcomes.{Fails, AppliesNot, ElevatesNot, ExportsNot, ListsNot, AnswersNot}
+use Rattle.engine.specs.Steps.{Commits, stepped, step_in_doubt, StepsNot, Steps, upgraded, Upgrades, UpgradesNot}
+use Rattle.engine.specs.Events.{Happens, Reopens, ReopensNot}
+use Rattle.engine.specs.declared.event.Event.{Event}
+use Rattle.engine.specs.declared.event.Event.TheVariants as ask
+use Rattle.engine.specs.declared.event.Reply.{Reply}
+use Rattle.engine.specs.declared.event.Reply.TheVariants as reply
 use Rattle.store.specs.Fates.{Fate, Acknowledged, InDoubt, AreAccepted, IsMadeOf, known_by, doubted_of}
 use Rattle.store.proofs.FatesInTurn.{by_none, acknowledged_made, doubted_made}
 

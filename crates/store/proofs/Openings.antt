@@ -7,7 +7,7 @@ use Rattle.lattice.specs.declared.refusal.Refusal.TheVariants.{Device, NoMemory}
 use Rattle.page_codec.specs.Roots.{RootValue}
 use Rattle.roots.specs.Opening.{OpensAs}
 use Rattle.roots.proofs.OneAnswer.{only_root}
-use Rattle.calls.specs.State.{Contents}
+use Rattle.engine.specs.State.{Contents}
 use Rattle.cow_tree.specs.Stored.{Stored}
 use Rattle.page_map.specs.TileLocations.{TileLocation}
 use Rattle.cow_tree.specs.Layout.{IsLaidOut, Stands}

@@ -8,8 +8,8 @@ use Rattle.lattice.specs.declared.point.Point.{Point}
 use Rattle.lattice.specs.declared.refusal.Refusal.{Refusal}
 use Rattle.lattice.specs.declared.refusal.Refusal.TheVariants.{Device, Failed}
 use Rattle.page_codec.specs.Roots.{RootValue}
-use Rattle.calls.specs.Outcomes.{Stays, StaysFailed, Fails}
-use Rattle.calls.specs.State.{State, failing}
+use Rattle.engine.specs.Outcomes.{Stays, StaysFailed, Fails}
+use Rattle.engine.specs.State.{State, failing}
 use Rattle.cow_tree.specs.Reading.{mosaic_of, IsReadable, HasOnlyRead}
 use Rattle.cow_tree.specs.Stored.{StoredTile, Stored, AreWhole, mosaic_of_tiles}
 use Rattle.page_map.specs.PageMaps.{PageMapValue, HasFreshHeights}

@@ -16,7 +16,7 @@ use Rattle.page_codec.specs.Entries.{EntryValue}
 use Rattle.page_codec.specs.Roots.{RootValue, IsRoot}
 use Rattle.catalogue.specs.Asked.{IsOwnRefusal}
 use Rattle.catalogue.specs.Tiles.{corners_of}
-use Rattle.calls.specs.State.{State, failing}
+use Rattle.engine.specs.State.{State, failing}
 use Rattle.cow_tree.specs.Reading.{mosaic_of, HasOnlyRead}
 use Rattle.cow_tree.specs.Trees.{disk_of, root_of, has_failed, corners_of as corners_under}
 use Rattle.cow_tree.specs.declared.tree.Tree.{Tree}
@@ -26,7 +26,7 @@ use Rattle.drainage.specs.declared.drainage_cache.DrainageCache.{DrainageCache}
 use Rattle.drainage.proofs.Answered.{told_of_levels}
 use Rattle.flow_d8.specs.Drainage.{AreFilledLevels}
 use Rattle.watershed.specs.Questions.{IsAnswered, IsUnanswered}
-use Rattle.calls.specs.Engines.{items_in}
+use Rattle.engine.specs.Engines.{items_in}
 use Rattle.store.specs.TreeStates.{IsInState}
 use Rattle.store.proofs.InMemory.{corners_are}
 use Rattle.store.specs.Water.{IsHolding}

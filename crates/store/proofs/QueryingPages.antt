@@ -25,7 +25,7 @@ use Rattle.cow_tree.specs.Trees.{root_of, has_failed, corners_of as corners_unde
 use Rattle.cow_tree.specs.declared.tree.Tree.{Tree}
 use Rattle.cow_tree.proofs.Adding.{contains-map}
 use Rattle.cow_tree.proofs.Due.{located_tile}
-use Rattle.calls.specs.State.{State}
+use Rattle.engine.specs.State.{State}
 use Rattle.store.specs.Queried.{IsTileOf}
 use Rattle.store.specs.TreeStates.{IsInState}
 use Rattle.store.proofs.Finding.{stored_corner, after_contained, rising_stored, bytes_stored}

@@ -9,13 +9,13 @@ use Rattle.lattice.specs.declared.refusal.Refusal.{Refusal}
 use Rattle.lattice.specs.declared.refusal.Refusal.TheVariants.{Device, NoMemory, Failed}
 use Rattle.page_codec.specs.Roots.{RootValue}
 use Rattle.cow_tree.specs.OverRoots.{IsRefusalOfTree}
-use Rattle.calls.specs.Engines.{answered, IsCall}
-use Rattle.calls.specs.Events.{Happens}
-use Rattle.calls.specs.State.{Contents, State, working}
-use Rattle.calls.specs.Told.{IsTold, Knows, may_refuse_reopening}
-use Rattle.calls.specs.declared.event.Event.TheVariants as ask
-use Rattle.calls.specs.declared.event.Reply.{Reply}
-use Rattle.calls.specs.declared.event.Reply.TheVariants as reply
+use Rattle.engine.specs.Engines.{answered, IsCall}
+use Rattle.engine.specs.Events.{Happens}
+use Rattle.engine.specs.State.{Contents, State, working}
+use Rattle.engine.specs.Told.{IsTold, Knows, may_refuse_reopening}
+use Rattle.engine.specs.declared.event.Event.TheVariants as ask
+use Rattle.engine.specs.declared.event.Reply.{Reply}
+use Rattle.engine.specs.declared.event.Reply.TheVariants as reply
 use Rattle.store.specs.StoreRuns.{allowed}
 use Rattle.store.specs.StoreState.{StandsForOne, known_by, members}
 use Rattle.store.specs.Stores.{IsAt, disk_of, root_of, side_of, capacity_of, has_failed}

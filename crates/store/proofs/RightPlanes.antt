@@ -5,9 +5,9 @@ use Rattle.disk.specs.Disk.{Image}
 use Rattle.disk.specs.declared.disk.Disk.{Ghosts}
 use Rattle.lattice.specs.Corners.{Corner}
 use Rattle.lattice.specs.Mosaic.{Tile}
-use Rattle.calls.specs.Engines.{Members, AreAt}
-use Rattle.calls.specs.Runs.{last_of}
-use Rattle.calls.specs.State.{Contents, State}
+use Rattle.engine.specs.Engines.{Members, AreAt}
+use Rattle.engine.specs.Runs.{last_of}
+use Rattle.engine.specs.State.{Contents, State}
 use Rattle.cow_tree.specs.Stored.{StoredTile, corners_of_stored}
 use Rattle.store.specs.KeptRight.{KeepsPlanesOf, KeepsPlanes, PlanesStayRight}
 use Rattle.store.specs.Standing.{HoldsTile, StandsFor}

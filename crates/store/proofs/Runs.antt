@@ -2,10 +2,10 @@
 use Rattle.std.proofs.Common.{◌≡◌, ◌≤◌, List, [], subst}
 use Rattle.disk.specs.Disk.{Image}
 use Rattle.disk.specs.declared.disk.Disk.{Ghosts}
-use Rattle.calls.specs.Engines.{IsCall, Calls, Laws}
-use Rattle.calls.specs.declared.event.Event.{Event}
-use Rattle.calls.specs.declared.event.Reply.{Reply}
-use Rattle.calls.proofs.Chains.{keeps, runs}
+use Rattle.engine.specs.Engines.{IsCall, Calls, Laws}
+use Rattle.engine.specs.declared.event.Event.{Event}
+use Rattle.engine.specs.declared.event.Reply.{Reply}
+use Rattle.engine.proofs.Chains.{keeps, runs}
 use Rattle.store.specs.Calls.{Runs}
 use Rattle.store.specs.StoreRuns.{nothing_done, one_by_one, among_more}
 use Rattle.store.specs.StoreState.{members}

@@ -6,8 +6,8 @@ use Rattle.disk.specs.Disk.{Image}
 use Rattle.disk.specs.Stops.{LeavesOnly}
 use Rattle.disk.specs.declared.disk.Disk.{Ghosts}
 use Rattle.lattice.specs.declared.refusal.Refusal.TheVariants.{Device, NoMemory}
-use Rattle.calls.specs.State.{Contents, State, working}
-use Rattle.calls.specs.Events.{Happens}
+use Rattle.engine.specs.State.{Contents, State, working}
+use Rattle.engine.specs.Events.{Happens}
 use Rattle.cow_tree.specs.Longer.{AgreesBelow}
 use Rattle.cow_tree.proofs.LongerDisks.{stands_where_longer}
 use Rattle.roots.specs.declared.roots.NotOpened.{NotOpened}

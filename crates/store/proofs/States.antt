@@ -5,9 +5,9 @@ use Rattle.std.proofs.lemmas.Option.{none-some}
 use Rattle.disk.specs.Disk.{Image}
 use Rattle.disk.specs.declared.disk.Disk.{Ghosts}
 use Rattle.lattice.specs.declared.point.Point.{Point}
-use Rattle.layout.specs.Formats.{number_of}
+use Rattle.page_codec.specs.Formats.{number_of}
 use Rattle.page_codec.specs.Roots.{RootValue}
-use Rattle.calls.specs.State.{Contents, State, failing, working}
+use Rattle.engine.specs.State.{Contents, State, failing, working}
 use Rattle.cow_tree.specs.Stored.{StoredTile, Stored}
 use Rattle.page_map.specs.TileLocations.{TileLocation}
 use Rattle.cow_tree.specs.Layout.{StoresAt}

@@ -5,8 +5,8 @@ use Rattle.std.specs.List.{AllZip}
 use Rattle.lattice.specs.Corners.{Corner, same_corner}
 use Rattle.lattice.specs.Mosaic.{Tile, Mosaic, IsMosaic}
 use Rattle.lattice.specs.declared.point.Point.{Point}
-use Rattle.calls.specs.State.{Contents}
-use Rattle.calls.specs.Steps.{stepped}
+use Rattle.engine.specs.State.{Contents}
+use Rattle.engine.specs.Steps.{stepped}
 use Rattle.cow_tree.specs.Kept.{with_kept_in, with_kept}
 use Rattle.cow_tree.specs.Stored.{KeptPlanes, StoredTile, Stored, next_commit, mosaic_of_tiles}
 use Rattle.derived.specs.Kept.{AreRight, KeepRight, KeepsRight, mosaic_stored}

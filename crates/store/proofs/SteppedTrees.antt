@@ -8,9 +8,9 @@ use Rattle.lattice.specs.Corners.{Corner}
 use Rattle.lattice.specs.declared.refusal.Refusal.{Refusal}
 use Rattle.lattice.specs.declared.refusal.Refusal.TheVariants.{Device, NoMemory, Failed, Worn}
 use Rattle.page_codec.specs.Roots.{RootValue}
-use Rattle.calls.specs.State.{Contents, State, last_number, failing, working}
-use Rattle.calls.specs.Steps.{Steps, stepped, step_in_doubt}
-use Rattle.calls.specs.Told.{may_refuse_step}
+use Rattle.engine.specs.State.{Contents, State, last_number, failing, working}
+use Rattle.engine.specs.Steps.{Steps, stepped, step_in_doubt}
+use Rattle.engine.specs.Told.{may_refuse_step}
 use Rattle.cow_tree.specs.Layout.{Stands}
 use Rattle.cow_tree.specs.Stored.{Stored}
 use Rattle.cow_tree.specs.Trees.{disk_of, root_of, has_failed, sinks_of, staged_in, IsAt as IsTreeAt}

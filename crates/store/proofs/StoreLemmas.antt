@@ -8,23 +8,23 @@ use Rattle.disk.specs.declared.disk.Disk.{Ghosts}
 use Rattle.lattice.specs.Corners.{Corner}
 use Rattle.lattice.specs.declared.refusal.Refusal.{Refusal}
 use Rattle.lattice.specs.declared.refusal.Refusal.TheVariants.{Device, NoMemory, Failed}
-use Rattle.layout.specs.declared.version.Version.{Version}
-use Rattle.layout.specs.declared.version.Version.TheVariants.{One, Two}
+use Rattle.page_codec.specs.declared.version.Version.{Version}
+use Rattle.page_codec.specs.declared.version.Version.TheVariants.{One, Two}
 use Rattle.page_codec.specs.Formats.{number_of}
 use Rattle.page_codec.specs.Roots.{RootValue}
 use Rattle.edits.specs.declared.command.Command.{Command}
 use Rattle.edits.specs.declared.command.Command.TheVariants.{Import, Remove, Patch, Burn, Wall, Sink, Unsink}
-use Rattle.calls.specs.Engines.{answered, IsCall}
-use Rattle.calls.specs.Events.{fails_after, Happens}
-use Rattle.calls.specs.Outcomes.{Applies}
-use Rattle.calls.specs.State.{State}
-use Rattle.calls.specs.Steps.{Steps}
-use Rattle.calls.specs.Told.{may_refuse, Knows, WritesFew as FewWrites, writes_a_step}
-use Rattle.calls.specs.declared.event.Event.{Event}
-use Rattle.calls.specs.declared.event.Event.TheVariants as ask
-use Rattle.calls.specs.declared.event.Reply.{Reply}
-use Rattle.calls.specs.declared.event.Reply.TheVariants as reply
-use Rattle.calls.proofs.Questions.{IsAnswered, IsQuestion, answers_so, knows_as, right_as, few_as, told, counted_so, written_so}
+use Rattle.engine.specs.Engines.{answered, IsCall}
+use Rattle.engine.specs.Events.{fails_after, Happens}
+use Rattle.engine.specs.Outcomes.{Applies}
+use Rattle.engine.specs.State.{State}
+use Rattle.engine.specs.Steps.{Steps}
+use Rattle.engine.specs.Told.{may_refuse, Knows, WritesFew as FewWrites, writes_a_step}
+use Rattle.engine.specs.declared.event.Event.{Event}
+use Rattle.engine.specs.declared.event.Event.TheVariants as ask
+use Rattle.engine.specs.declared.event.Reply.{Reply}
+use Rattle.engine.specs.declared.event.Reply.TheVariants as reply
+use Rattle.engine.proofs.Questions.{IsAnswered, IsQuestion, answers_so, knows_as, right_as, few_as, told, counted_so, written_so}
 use Rattle.store.specs.Applied.{AppliesOn, HasApplied}
 use Rattle.store.specs.Editing.{WritesFew}
 use Rattle.store.specs.Queried.{Queries}

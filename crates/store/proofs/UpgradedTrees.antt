@@ -9,14 +9,14 @@ use Rattle.disk.specs.declared.disk.Disk.{Ghosts}
 use Rattle.lattice.specs.Corners.{Corner}
 use Rattle.lattice.specs.declared.refusal.Refusal.{Refusal}
 use Rattle.lattice.specs.declared.refusal.Refusal.TheVariants.{Device, NoMemory, Failed, Worn, TooSmall, NotOld}
-use Rattle.layout.specs.Formats.{number_of, upgraded as upgraded_format}
-use Rattle.layout.specs.Sizes.{sectors_asked}
-use Rattle.layout.specs.declared.version.Version.{Version}
-use Rattle.layout.specs.declared.version.Version.TheVariants.{One, Two}
+use Rattle.page_codec.specs.Formats.{number_of, upgraded as upgraded_format}
+use Rattle.page_codec.specs.Sizes.{sectors_asked}
+use Rattle.page_codec.specs.declared.version.Version.{Version}
+use Rattle.page_codec.specs.declared.version.Version.TheVariants.{One, Two}
 use Rattle.page_codec.specs.Roots.{RootValue, format_of}
-use Rattle.calls.specs.Outcomes.{Stays}
-use Rattle.calls.specs.State.{Contents, State, last_number, if_numbered}
-use Rattle.calls.specs.Steps.{IsOld, UpgradesNot as AnswersNot, upgraded}
+use Rattle.engine.specs.Outcomes.{Stays}
+use Rattle.engine.specs.State.{Contents, State, last_number, if_numbered}
+use Rattle.engine.specs.Steps.{IsOld, UpgradesNot as AnswersNot, upgraded}
 use Rattle.cow_tree.specs.Layout.{Stands}
 use Rattle.cow_tree.specs.Stored.{Stored}
 use Rattle.cow_tree.specs.Trees.{disk_of, root_of, has_failed, corners_of, sinks_of, records_due, HasStaged, staged_in, IsAt as IsTreeAt}

@@ -8,9 +8,9 @@ use Rattle.lattice.specs.declared.refusal.Refusal.{Refusal}
 use Rattle.lattice.specs.declared.refusal.Refusal.TheVariants.{Device, NoMemory, Failed, Worn, TooSmall, NotOld}
 use Rattle.edits.specs.declared.command.Command.{Command}
 use Rattle.edits.specs.Effect.{effect}
-use Rattle.calls.specs.Outcomes.{Applies, AppliesNot}
-use Rattle.calls.specs.State.{Contents, State, working}
-use Rattle.calls.specs.Steps.{Steps, StepsNot, Upgrades, UpgradesNot}
+use Rattle.engine.specs.Outcomes.{Applies, AppliesNot}
+use Rattle.engine.specs.State.{Contents, State, working}
+use Rattle.engine.specs.Steps.{Steps, StepsNot, Upgrades, UpgradesNot}
 use Rattle.cow_tree.specs.Trees.{disk_of, root_of}
 use Rattle.cow_tree.specs.declared.tree.Tree.{Tree}
 use Rattle.drainage.specs.Between.{IsHeldOf}

@@ -4,8 +4,8 @@ use Rattle.disk.specs.declared.disk.Disk.{Ghosts}
 use Rattle.lattice.specs.declared.refusal.Refusal.{Refusal}
 use Rattle.page_codec.specs.Roots.{RootValue}
 use Rattle.edits.specs.declared.command.Command.{Command}
-use Rattle.calls.specs.Outcomes.{Applies}
-use Rattle.calls.specs.Told.{may_refuse_command}
+use Rattle.engine.specs.Outcomes.{Applies}
+use Rattle.engine.specs.Told.{may_refuse_command}
 use Rattle.cow_tree.specs.Trees.{root_of}
 use Rattle.cow_tree.specs.declared.tree.Tree.{Tree}
 use Rattle.store.specs.Ended.{Ending, HasEnded, HasEndedAt}

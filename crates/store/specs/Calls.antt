@@ -1,11 +1,11 @@
 -- Events that a store answers, one after another (this product's own profile).
 use Rattle.std.specs.Prelude.{◌≡◌, List}
 use Rattle.disk.specs.declared.disk.Disk.{Ghosts}
-use Rattle.calls.specs.Engines.{IsCall, IsRunOf, Keeps}
-use Rattle.calls.specs.Runs.{last_of, Through}
-use Rattle.calls.specs.State.{State}
-use Rattle.calls.specs.declared.event.Event.{Event}
-use Rattle.calls.specs.declared.event.Reply.{Reply}
+use Rattle.engine.specs.Engines.{IsCall, IsRunOf, Keeps}
+use Rattle.engine.specs.Runs.{last_of, Through}
+use Rattle.engine.specs.State.{State}
+use Rattle.engine.specs.declared.event.Event.{Event}
+use Rattle.engine.specs.declared.event.Reply.{Reply}
 use Rattle.store.specs.Stores.{disk_of}
 use Rattle.store.specs.StoreState.{IsStoreAt, members}
 use Rattle.store.specs.declared.store.Store.{Store}

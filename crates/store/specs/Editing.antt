@@ -1,8 +1,8 @@
 -- What an edit makes of a tree before its commit (this product's own profile).
 use Rattle.std.specs.Prelude.{◌≡◌, ◌⊎◌, ◌≤◌, ◌<◌, ◌+◌, ◌*◌, ℕ, IsTrue, List, length, All, Contains, Result, OnOk, IfErr, false, None, if◌then◌else◌}
 use Rattle.disk.specs.declared.disk.Disk.{Ghosts}
-use Rattle.layout.specs.declared.version.Version.{Version}
-use Rattle.layout.specs.declared.version.Version.TheVariants.{One, Two}
+use Rattle.page_codec.specs.declared.version.Version.{Version}
+use Rattle.page_codec.specs.declared.version.Version.TheVariants.{One, Two}
 use Rattle.lattice.specs.Corners.{Corner, is_corner}
 use Rattle.lattice.specs.Lattice.{Holds}
 use Rattle.lattice.specs.Mosaic.{Mosaic}

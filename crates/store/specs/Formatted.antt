@@ -1,8 +1,8 @@
 -- The formats of new stores (this product's own profile).
 use Rattle.std.specs.Prelude.{ℕ}
-use Rattle.layout.specs.Formats.{Format}
-use Rattle.layout.specs.declared.version.Version.{Version}
-use Rattle.layout.specs.declared.version.Version.TheVariants.{Two}
+use Rattle.page_codec.specs.Formats.{Format}
+use Rattle.page_codec.specs.declared.version.Version.{Version}
+use Rattle.page_codec.specs.declared.version.Version.TheVariants.{Two}
 
 -- of this version, side and capacity
 abbrev pub format_by : Version → (side capacity : ℕ) → Format

@@ -3,11 +3,11 @@ use Rattle.std.specs.Prelude.{◌≡◌, ◌⊎◌, ℕ, List, Some}
 use Rattle.disk.specs.Disk.{Image}
 use Rattle.disk.specs.declared.disk.Disk.{Ghosts}
 use Rattle.catalogue.specs.Tiles.{corners_of}
-use Rattle.calls.specs.Events.{Happens}
-use Rattle.calls.specs.Runs.{last_of, Through}
-use Rattle.calls.specs.State.{Contents, State}
-use Rattle.calls.specs.declared.event.Event.{Event}
-use Rattle.calls.specs.declared.event.Reply.{Reply}
+use Rattle.engine.specs.Events.{Happens}
+use Rattle.engine.specs.Runs.{last_of, Through}
+use Rattle.engine.specs.State.{Contents, State}
+use Rattle.engine.specs.declared.event.Event.{Event}
+use Rattle.engine.specs.declared.event.Reply.{Reply}
 use Rattle.cow_tree.specs.Layout.{Stands}
 use Rattle.cow_tree.specs.Stored.{Stored, corners_of_stored}
 use Rattle.store.specs.Calls.{Runs}

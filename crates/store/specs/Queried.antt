@@ -7,8 +7,8 @@ use Rattle.lattice.specs.Corners.{Corner}
 use Rattle.lattice.specs.declared.refusal.Refusal.{Refusal}
 use Rattle.lattice.specs.declared.refusal.Refusal.TheVariants.{Device, Failed}
 use Rattle.catalogue.specs.Seams.{IsSeamCount}
-use Rattle.calls.specs.Outcomes.{Stays, ElevatesNot}
-use Rattle.calls.specs.State.{State}
+use Rattle.engine.specs.Outcomes.{Stays, ElevatesNot}
+use Rattle.engine.specs.State.{State}
 use Rattle.cow_tree.specs.Stored.{StoredTile}
 use Rattle.cow_tree.specs.Trees.{disk_of, root_of, has_failed}
 use Rattle.cow_tree.specs.declared.tree.Tree.{Tree}

@@ -7,10 +7,10 @@ use Rattle.disk.specs.declared.disk.Disk.{Ghosts}
 use Rattle.lattice.specs.declared.refusal.Refusal.{Refusal}
 use Rattle.lattice.specs.declared.refusal.Refusal.TheVariants.{Device, NoMemory}
 use Rattle.edits.specs.declared.command.Command.{Command}
-use Rattle.calls.specs.Engines.{IsCall}
-use Rattle.calls.specs.State.{Contents, working}
-use Rattle.calls.specs.declared.event.Event.{Event}
-use Rattle.calls.specs.declared.event.Reply.{Reply}
+use Rattle.engine.specs.Engines.{IsCall}
+use Rattle.engine.specs.State.{Contents, working}
+use Rattle.engine.specs.declared.event.Event.{Event}
+use Rattle.engine.specs.declared.event.Reply.{Reply}
 use Rattle.cow_tree.specs.Longer.{AgreesBelow}
 use Rattle.roots.specs.declared.roots.NotOpened.{NotOpened}
 use Rattle.store.specs.Fates.{Fate, AreAccepted, ComesBy, known_by, doubted_of}

@@ -3,9 +3,9 @@ use Rattle.std.specs.Prelude.{◌≡◌, ◌*◌, ◌≤◌, ℕ, List, All, len
 use Rattle.std.specs.List.{AllZip}
 use Rattle.disk.specs.Disk.{Image}
 use Rattle.lattice.specs.Mosaic.{Tile, Mosaic, IsMosaic}
-use Rattle.layout.specs.Formats.{number_of}
+use Rattle.page_codec.specs.Formats.{number_of}
 use Rattle.hgt.specs.Bytes.{AreHgtBytes}
-use Rattle.calls.specs.State.{Contents}
+use Rattle.engine.specs.State.{Contents}
 use Rattle.cow_tree.specs.Stored.{IsPage, plane_bytes, mosaic_of_tiles, StoredTile, Stored}
 use Rattle.cow_tree.specs.Layout.{Stands}
 use Rattle.derived.specs.Kept.{KeepRight, stale_corners}

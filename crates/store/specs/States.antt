@@ -4,9 +4,9 @@ use Rattle.std.specs.Prelude.{◌≡◌, ◌⊎◌, ℕ, Bool, false, List, Some
 use Rattle.disk.specs.Disk.{Image}
 use Rattle.disk.specs.declared.disk.Disk.{Ghosts}
 use Rattle.lattice.specs.declared.point.Point.{Point}
-use Rattle.layout.specs.Formats.{number_of}
+use Rattle.page_codec.specs.Formats.{number_of}
 use Rattle.page_codec.specs.Roots.{RootValue}
-use Rattle.calls.specs.State.{Contents, State}
+use Rattle.engine.specs.State.{Contents, State}
 use Rattle.cow_tree.specs.Stored.{StoredTile, Stored}
 use Rattle.derived.specs.Kept.{stale_in}
 use Rattle.store.specs.Standing.{Holds, StandsFor}

@@ -4,8 +4,8 @@ use Rattle.std.specs.Option.{is_none}
 use Rattle.disk.specs.declared.disk.Disk.{Ghosts}
 use Rattle.lattice.specs.Corners.{Corner}
 use Rattle.lattice.specs.declared.refusal.Refusal.{Refusal}
-use Rattle.calls.specs.Steps.{Steps}
-use Rattle.calls.specs.Told.{may_refuse_step}
+use Rattle.engine.specs.Steps.{Steps}
+use Rattle.engine.specs.Told.{may_refuse_step}
 use Rattle.cow_tree.specs.declared.tree.Tree.{Tree}
 use Rattle.derived.specs.Steps.{StepsOn}
 use Rattle.store.specs.Ended.{Ending, HasEnded, HasEndedAt}

@@ -5,7 +5,7 @@ use Rattle.std.proofs.lemmas.List.Elements.{Contains-append_left, Contains-appen
 use Rattle.disk.specs.Disk.{Image}
 use Rattle.disk.specs.Stops.{in_turn, weaker, nothing_done as no_call}
 use Rattle.disk.specs.declared.disk.Disk.{Ghosts}
-use Rattle.calls.specs.State.{State}
+use Rattle.engine.specs.State.{State}
 use Rattle.store.specs.States.{StandsForState}
 use Rattle.store.specs.Stores.{disk_of, side_of, capacity_of}
 use Rattle.store.specs.declared.store.Store.{Store}

@@ -6,9 +6,9 @@ use Rattle.disk.specs.Stops.{LeavesOnly}
 use Rattle.disk.specs.declared.disk.Disk.{Ghosts}
 use Rattle.page_codec.specs.Formats.{number_of}
 use Rattle.page_codec.specs.Roots.{RootValue}
-use Rattle.calls.specs.Engines.{Members}
-use Rattle.calls.specs.State.{State}
-use Rattle.calls.specs.Told.{Known}
+use Rattle.engine.specs.Engines.{Members}
+use Rattle.engine.specs.State.{State}
+use Rattle.engine.specs.Told.{Known}
 use Rattle.store.specs.States.{StandsForState}
 use Rattle.store.specs.Stores.{IsAt, disk_of, root_of, side_of, capacity_of, has_failed}
 use Rattle.store.specs.declared.store.Store.{Store}

@@ -3,11 +3,11 @@ use Rattle.std.specs.Prelude.{◌≡◌, ◌+◌, ℕ, nat_le, Bool, true, false
 use Rattle.disk.specs.declared.disk.Disk.{Ghosts}
 use Rattle.lattice.specs.declared.refusal.Refusal.{Refusal}
 use Rattle.lattice.specs.declared.refusal.Refusal.TheVariants.{Device, NoMemory, Failed, Worn, TooSmall, NotOld}
-use Rattle.layout.specs.Formats.{upgraded}
-use Rattle.layout.specs.Sizes.{sectors_asked}
-use Rattle.layout.specs.declared.version.Version.TheVariants.{Two}
+use Rattle.page_codec.specs.Formats.{upgraded}
+use Rattle.page_codec.specs.Sizes.{sectors_asked}
+use Rattle.page_codec.specs.declared.version.Version.TheVariants.{Two}
 use Rattle.page_codec.specs.Roots.{RootValue, format_of}
-use Rattle.calls.specs.Steps.{Upgrades}
+use Rattle.engine.specs.Steps.{Upgrades}
 use Rattle.cow_tree.specs.Trees.{disk_of, root_of}
 use Rattle.cow_tree.specs.declared.tree.Tree.{Tree}
 use Rattle.store.specs.Ended.{Ending, HasEnded, HasEndedAt}

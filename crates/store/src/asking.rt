@@ -3,11 +3,11 @@
 //! Each is asked over any premise. `Store` asks at `Brand`, and picks as the premise that what it holds then is right.
 ghost use Rattle.std.specs.Prelude.{◌≡◌, ◌≤◌, length, false, IsTrue, IfErr};
 ghost use Rattle.lattice.specs.Limits.{most_tiles};
-ghost use Rattle.calls.specs.Engines.{items_in};
-ghost use Rattle.calls.specs.Outcomes.{Fills, Directs, Traces, Sheds};
-ghost use Rattle.calls.specs.State.{State};
-ghost use Rattle.calls.specs.Told.{may_refuse};
-ghost use Rattle.calls.specs.declared.event.Event.TheVariants as ask;
+ghost use Rattle.engine.specs.Engines.{items_in};
+ghost use Rattle.engine.specs.Outcomes.{Fills, Directs, Traces, Sheds};
+ghost use Rattle.engine.specs.State.{State};
+ghost use Rattle.engine.specs.Told.{may_refuse};
+ghost use Rattle.engine.specs.declared.event.Event.TheVariants as ask;
 ghost use Rattle.cow_tree.specs.Reading.{mosaic_of};
 ghost use Rattle.cow_tree.specs.Trees.{disk_of, has_failed, corners_of};
 ghost use Rattle.drainage.specs.Between.{IsHeldOf};

@@ -34,7 +34,7 @@ mod store_engine;
 mod upgrading;
 mod voids;
 
-pub use calls::{Event, Reply};
+pub use engine::{Event, Reply};
 pub use kept_right::planes_stay_right;
 pub use laws::images_stand_for_one_contents;
 pub use sessions::sessions_compose;

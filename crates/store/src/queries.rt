@@ -2,16 +2,16 @@
 ghost use Rattle.std.specs.Prelude.{◌≡◌, ◌≢◌, ◌≤◌, ◌*◌, ◌⊎◌, Contains, IsTrue, length, false, true, Err, OnOk, IfErr, vec_len, vec_capacity};
 ghost use Rattle.lattice.specs.Limits.{most_tiles};
 ghost use Rattle.lattice.specs.declared.refusal.Refusal.TheVariants.{Device, NoMemory, Failed};
-ghost use Rattle.calls.specs.State.{State};
-ghost use Rattle.calls.specs.Told.{may_refuse};
-ghost use Rattle.calls.specs.declared.event.Event.TheVariants as ask;
-ghost use Rattle.calls.specs.Outcomes.{Elevates, Exports, Lists, ListsSinks, Fills, Directs, Traces, Sheds};
+ghost use Rattle.engine.specs.State.{State};
+ghost use Rattle.engine.specs.Told.{may_refuse};
+ghost use Rattle.engine.specs.declared.event.Event.TheVariants as ask;
+ghost use Rattle.engine.specs.Outcomes.{Elevates, Exports, Lists, ListsSinks, Fills, Directs, Traces, Sheds};
 ghost use Rattle.cow_tree.specs.Reading.{Reads};
 ghost use Rattle.cow_tree.specs.Planes.{HasPages};
 ghost use Rattle.cow_tree.specs.Stored.{PlanePages, StoredTile, plane_bytes};
 ghost use Rattle.cow_tree.specs.Trees.{disk_of as disk_under, root_of as root_under, corners_of, has_failed as have_failed, staged_in, Holds};
 ghost use Rattle.store.specs.Queried.{Queries, IsTileOf, CountsSeams};
-ghost use Rattle.calls.specs.Engines.{items_in};
+ghost use Rattle.engine.specs.Engines.{items_in};
 ghost use Rattle.store.specs.Stores.{disk_of, has_failed, IsAt};
 
 use crate::Store;

@@ -3,12 +3,11 @@ ghost use Rattle.std.specs.Prelude.{◌≡◌, ◌≤◌, ◌++◌, List, IfErr,
 ghost use Rattle.lattice.specs.declared.refusal.Refusal.TheVariants.{NoMemory};
 ghost use Rattle.store.specs.Calls.{Runs};
 ghost use Rattle.store.specs.Stores.{disk_of};
-ghost use Rattle.calls.specs.declared.event.Reply.{Reply};
+ghost use Rattle.engine.specs.declared.event.Reply.{Reply};
 
 use crate::Store;
-use calls::{Event, Reply};
 use disk::Disk;
-use engine::Engine;
+use engine::{Engine, Event, Reply};
 use lattice::Refusal;
 
 impl<D: Disk> Store<D> {

@@ -2,7 +2,7 @@
 ghost use Rattle.std.specs.Prelude.{◌≡◌, ◌≤◌, ◌+◌, true, Err};
 ghost use Rattle.lattice.specs.declared.refusal.Refusal.TheVariants.{Failed};
 ghost use Rattle.page_codec.specs.Formats.{number_of};
-ghost use Rattle.calls.specs.Told.{writes_a_step};
+ghost use Rattle.engine.specs.Told.{writes_a_step};
 ghost use Rattle.store.specs.Stepped.{HasStepped};
 ghost use Rattle.store.specs.Stores.{disk_of, root_of, has_failed};
 

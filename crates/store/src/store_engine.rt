@@ -14,7 +14,7 @@ use lattice::{Corner, Height, Point, Refusal, Side};
 use watershed::Run;
 
 impl<D: Disk> Engine for Store<D> {
-    ghost use Rattle.calls.specs.Engines.{IsCall};
+    ghost use Rattle.engine.specs.Engines.{IsCall};
     ghost use Rattle.store.specs.Stores.{disk_of, side_of, capacity_of, root_of, has_failed};
     ghost use Rattle.store.specs.StoreState.{IsStoreAt, LeavesStates, known_by, members};
     ghost use Rattle.store.specs.StoreRuns.{nothing_done, one_by_one, among_more};

@@ -6,7 +6,7 @@ ghost use Rattle.reference.specs.Levels.{level_of};
 use super::change::Change;
 use super::fixtures::at;
 use super::script::command;
-use calls::{Event, Reply};
+use engine::{Event, Reply};
 use disk::Disk;
 use lattice::{Height, Point, Refusal, Side};
 use reference::{Levels, Plain};

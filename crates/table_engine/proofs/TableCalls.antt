@@ -22,17 +22,17 @@ use Rattle.flow_d8.specs.FlowPath.{IsFlowPath, IsInWatershed}
 use Rattle.watershed.specs.declared.runs.Run.{Run}
 use Rattle.watershed.specs.Runs.{AreRuns}
 use Rattle.watershed.specs.Questions.{DrainsBy, IsAnswered, IsUnanswered}
-use Rattle.calls.specs.declared.event.Event.{Event}
-use Rattle.calls.specs.declared.event.Event.TheVariants as ask
-use Rattle.calls.specs.declared.event.Reply.{Reply}
-use Rattle.calls.specs.declared.event.Reply.TheVariants as reply
-use Rattle.calls.specs.Engines.{IsCall, answered}
-use Rattle.calls.specs.Events.{Happens, fails_after}
-use Rattle.calls.specs.Outcomes.{Stays, AnswersNot, Accepts, Applies, AppliesNot}
-use Rattle.calls.specs.State.{State, last_number, working}
-use Rattle.calls.specs.Steps.{Commits, Steps, stepped}
-use Rattle.calls.specs.Told.{Matches, Knows, WritesFew, may_refuse, may_refuse_question}
-use Rattle.calls.proofs.Applying.{plan_refused}
+use Rattle.engine.specs.declared.event.Event.{Event}
+use Rattle.engine.specs.declared.event.Event.TheVariants as ask
+use Rattle.engine.specs.declared.event.Reply.{Reply}
+use Rattle.engine.specs.declared.event.Reply.TheVariants as reply
+use Rattle.engine.specs.Engines.{IsCall, answered}
+use Rattle.engine.specs.Events.{Happens, fails_after}
+use Rattle.engine.specs.Outcomes.{Stays, AnswersNot, Accepts, Applies, AppliesNot}
+use Rattle.engine.specs.State.{State, last_number, working}
+use Rattle.engine.specs.Steps.{Commits, Steps, stepped}
+use Rattle.engine.specs.Told.{Matches, Knows, WritesFew, may_refuse, may_refuse_question}
+use Rattle.engine.proofs.Applying.{plan_refused}
 use Rattle.edits.specs.Touched.{stale_after}
 use Rattle.table_engine.specs.TableState.{DrainageCache, held_of, contents_of, stale_among, table}
 use Rattle.table_engine.proofs.FreshTiles.{one_less}

@@ -4,8 +4,8 @@ use Rattle.lattice.specs.Corners.{Corner}
 use Rattle.lattice.specs.Limits.{most_tiles}
 use Rattle.lattice.specs.Mosaic.{Mosaic, IsMosaic}
 use Rattle.catalogue.specs.Tiles.{corners_of, is_listed}
-use Rattle.calls.specs.Engines.{Members}
-use Rattle.calls.specs.State.{Contents, working}
+use Rattle.engine.specs.Engines.{Members}
+use Rattle.engine.specs.State.{Contents, working}
 use Rattle.drainage.specs.Between.{IsHeldOf}
 use Rattle.drainage.specs.declared.drainage_cache.DrainageCache as water
 

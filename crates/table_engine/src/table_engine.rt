@@ -3,7 +3,7 @@ ghost use Rattle.std.specs.Prelude.{◌≡◌, ◌≤◌, [], ◌∷◌, ◌++�
 ghost use Rattle.lattice.specs.declared.refusal.Refusal.TheVariants.{NoMemory};
 ghost use Rattle.catalogue.specs.Tiles.{corners_of};
 ghost use Rattle.edits.specs.Edits.{goes_stale_by};
-ghost use Rattle.calls.specs.State.{fresh};
+ghost use Rattle.engine.specs.State.{fresh};
 ghost use Rattle.table_engine.specs.TableState.{stale_among};
 
 use catalogue::{Samples, Table, height};
@@ -60,8 +60,8 @@ impl TableEngine {
 
 impl Engine for TableEngine {
     ghost use Rattle.std.proofs.Common.{ap};
-    ghost use Rattle.calls.specs.Engines.{IsCall};
-    ghost use Rattle.calls.specs.State.{State};
+    ghost use Rattle.engine.specs.Engines.{IsCall};
+    ghost use Rattle.engine.specs.State.{State};
     ghost use Rattle.table_engine.specs.TableState.{table};
 
     ghost called = { IsCall table };

@@ -2,7 +2,7 @@ use Rattle.std.proofs.Common.{◌≡◌, ◌<◌, ℕ, List, Err, IfOk, length, 
 use Rattle.std.proofs.lemmas.Result.{err_from_is_err_and}
 use Rattle.lattice.specs.declared.refusal.Refusal.{Refusal}
 use Rattle.disk.specs.Disk.{Image}
-use Rattle.layout.specs.declared.version.Version.TheVariants.{Two}
+use Rattle.page_codec.specs.declared.version.Version.TheVariants.{Two}
 use Rattle.page_codec.specs.Records.{IsRecord, record_bytes}
 use Rattle.page_codec.specs.Sizes.{listed_in}
 use Rattle.cow_tree.specs.Found.{NoneListed, NoneIndexed, NonePlane}

@@ -4,7 +4,7 @@ use Rattle.lattice.specs.Corners.{Corner}
 use Rattle.lattice.specs.Mosaic.{Mosaic}
 use Rattle.lattice.specs.declared.refusal.Refusal.{Refusal}
 use Rattle.lattice.specs.declared.refusal.Refusal.TheVariants.{Device}
-use Rattle.layout.specs.Sizes.{plane_pages_of}
+use Rattle.page_codec.specs.Sizes.{plane_pages_of}
 use Rattle.page_codec.specs.Roots.{RootValue, format_of}
 use Rattle.page_map.specs.PageMaps.{PageMapValue, IsClean as IsCleanPageMap}
 use Rattle.tile_flood.specs.Kept.{AreKeptOf}

@@ -1,5 +1,5 @@
 use Rattle.std.proofs.Common.{inl, ⊎_elim}
-use Rattle.calls.specs.State.{fresh}
+use Rattle.engine.specs.State.{fresh}
 use Rattle.memory_store.proofs.in_memory.store_in_memory.Goals as goal
 
 pub returns-in-Ok-open-clause-fresh : goal.returns-in-Ok-open-clause-fresh

@@ -2,8 +2,8 @@ use Rattle.std.proofs.Common.{◌≡◌, ap, ◌∙◌, subst}
 use Rattle.disk.specs.Memory.{MayLeave, left_by}
 use Rattle.disk.specs.MemDisk.{state_of, sectors_of}
 use Rattle.disk.specs.declared.memory.MemDisk.{MemDisk}
-use Rattle.calls.specs.Runs.{last_of}
-use Rattle.calls.specs.State.{State}
+use Rattle.engine.specs.Runs.{last_of}
+use Rattle.engine.specs.State.{State}
 use Rattle.store.specs.Stores.{disk_of, side_of, capacity_of}
 use Rattle.memory_store.proofs.Cuts.{ends_in, left_by_cut, comes_back, doubted_or_known, if_ok}
 use Rattle.memory_store.proofs.power_cut.run_through_power_cut.Goals as goal

@@ -4,7 +4,7 @@ use Rattle.disk.specs.MemDisk.{state_of, calls_of}
 use Rattle.disk.specs.Memory.{MayLeave}
 use Rattle.disk.specs.Record.{seen_left, now_left, only_left}
 use Rattle.disk.specs.declared.memory.MemDisk.{MemDisk}
-use Rattle.calls.specs.declared.event.Reply.{Reply}
+use Rattle.engine.specs.declared.event.Reply.{Reply}
 use Rattle.store.specs.Stores.{disk_of}
 use Rattle.memory_store.proofs.SessionCalls.{two_sessions}
 use Rattle.memory_store.proofs.two_sessions.run_two_sessions.Goals as goal

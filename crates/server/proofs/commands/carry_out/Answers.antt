@@ -1,5 +1,5 @@
 use Rattle.std.proofs.Common.{rules, map, [], inl, refl}
-use Rattle.command_line.specs.CommandLine.{AskNothing}
+use Rattle.server.specs.CommandLine.{AskNothing}
 use Rattle.server.proofs.commands.carry_out.Goals as goal
 
 pub returns-in-Err-Bad : goal.returns-in-Err-Bad

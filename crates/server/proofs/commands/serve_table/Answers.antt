@@ -1,6 +1,6 @@
 use Rattle.std.proofs.Common.{ap, sym, subst, ℕ}
-use Rattle.calls.specs.Events.{Happens}
-use Rattle.calls.specs.State.{fresh, working}
+use Rattle.engine.specs.Events.{Happens}
+use Rattle.engine.specs.State.{fresh, working}
 use Rattle.serving.specs.Answers.{Replied}
 use Rattle.serving.specs.Promises.{side_in}
 use Rattle.serving.specs.Served.{Outcome}

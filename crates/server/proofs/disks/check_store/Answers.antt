@@ -1,5 +1,5 @@
 use Rattle.std.proofs.Common.{inl, inr, sym, subst}
-use Rattle.calls.specs.Engines.{items_in}
+use Rattle.engine.specs.Engines.{items_in}
 use Rattle.server.specs.OnDisks.{HasReported}
 use Rattle.server.proofs.OnStores.{IsOpened, has_reported}
 use Rattle.server.proofs.disks.check_store.Goals as goal

@@ -2,7 +2,7 @@ use Rattle.std.proofs.Common.{◌≡◌, ◌⊎◌, inl, inr, ⊎_elim, ℕ, ref
 use Rattle.std.specs.Prelude.{Some}
 use Rattle.disk.specs.Disk.{Image, Only}
 use Rattle.disk.specs.declared.disk.Disk.{Ghosts}
-use Rattle.calls.specs.State.{Contents, State}
+use Rattle.engine.specs.State.{Contents, State}
 use Rattle.store.specs.Standing.{StandsFor}
 use Rattle.store.specs.States.{StandsForState}
 use Rattle.server.specs.OnDisks.{HoldsEither}

@@ -2,7 +2,7 @@ use Rattle.std.proofs.Common.{rules, ◌≡◌, ◌≢◌, ◌⊎◌, ⊎_elim, 
 use Rattle.std.proofs.Math.Nat.{le-mul_of_pos_right}
 use Rattle.lattice.specs.declared.refusal.Refusal.TheVariants.{BadName, BadLength, NoMemory}
 use Rattle.edits.specs.declared.command.Command.TheVariants.{Import}
-use Rattle.calls.specs.declared.event.Event.TheVariants as ask
+use Rattle.engine.specs.declared.event.Event.TheVariants as ask
 use Rattle.lines.specs.declared.source.Extent.TheVariants.{Whole, Cut}
 use Rattle.serving.specs.Answers.{Ask, Refuse}
 use Rattle.serving.proofs.answering.answer_import.Goals as goal

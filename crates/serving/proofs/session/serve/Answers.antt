@@ -1,6 +1,6 @@
 use Rattle.std.proofs.Common.{rules, refl, ap, ◌∙◌, ◌≡◌, [], ◌++◌, ⊎_elim, inl, inr}
 use Rattle.std.specs.Prelude.{Ok, Err}
-use Rattle.calls.specs.Runs.{last_of}
+use Rattle.engine.specs.Runs.{last_of}
 use Rattle.lines.specs.Ahead.{to_come}
 use Rattle.serving.specs.Promises.{Answers}
 use Rattle.serving.specs.declared.session.Next.TheVariants.{More, End}

@@ -1,5 +1,5 @@
 use Rattle.std.proofs.Common.{◌≡◌, List, true}
-use Rattle.calls.specs.Runs.{last_of}
+use Rattle.engine.specs.Runs.{last_of}
 use Rattle.lines.specs.Ahead.{to_come, weight}
 use Rattle.serving.specs.Promises.{Answers}
 use Rattle.serving.specs.Session.{SoFar}

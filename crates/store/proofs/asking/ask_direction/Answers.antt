@@ -2,10 +2,10 @@ use Rattle.std.proofs.Common.{rules, false, ◌≡◌, ℕ, Result}
 use Rattle.lattice.specs.Ground.{terrain}
 use Rattle.lattice.specs.Mosaic.{Mosaic}
 use Rattle.lattice.specs.declared.refusal.Refusal.{Refusal}
-use Rattle.calls.specs.State.{State}
+use Rattle.engine.specs.State.{State}
 use Rattle.watershed.specs.Questions.{DrainsBy}
-use Rattle.calls.specs.Outcomes.{Directs}
-use Rattle.calls.proofs.Answered.{directs}
+use Rattle.engine.specs.Outcomes.{Directs}
+use Rattle.engine.proofs.Answered.{directs}
 use Rattle.catalogue.proofs.Asking.{asked_risen, asked_works, asked_fails, asked_quiet}
 use Rattle.cow_tree.specs.Trees.{disk_of, has_failed}
 use Rattle.store.specs.Labelling.{IsSure}

@@ -7,9 +7,9 @@ use Rattle.lattice.specs.Terrain.{IsFilledLevel}
 use Rattle.lattice.specs.declared.height.Height.TheVariants as height
 use Rattle.lattice.specs.declared.refusal.Refusal.{Refusal}
 use Rattle.lattice.specs.declared.refusal.Refusal.TheVariants.{Outside, Void}
-use Rattle.calls.specs.State.{State}
-use Rattle.calls.specs.Outcomes.{Fills}
-use Rattle.calls.proofs.Answered.{fills}
+use Rattle.engine.specs.State.{State}
+use Rattle.engine.specs.Outcomes.{Fills}
+use Rattle.engine.proofs.Answered.{fills}
 use Rattle.catalogue.proofs.Asking.{asked_risen, asked_works, asked_fails, asked_quiet}
 use Rattle.drainage.proofs.Answered.{told}
 use Rattle.cow_tree.specs.Trees.{disk_of, has_failed}

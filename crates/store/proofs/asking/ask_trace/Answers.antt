@@ -4,12 +4,12 @@ use Rattle.lattice.specs.Ground.{terrain}
 use Rattle.lattice.specs.Mosaic.{Mosaic}
 use Rattle.lattice.specs.declared.point.Point.{Point}
 use Rattle.lattice.specs.declared.refusal.Refusal.{Refusal}
-use Rattle.calls.specs.State.{State}
+use Rattle.engine.specs.State.{State}
 use Rattle.flow_d8.specs.FlowPath.{IsFlowPath}
-use Rattle.calls.specs.Outcomes.{Traces}
-use Rattle.calls.proofs.Answered.{traces}
+use Rattle.engine.specs.Outcomes.{Traces}
+use Rattle.engine.proofs.Answered.{traces}
 use Rattle.catalogue.proofs.Asking.{asked_risen, asked_works, asked_fails, asked_quiet}
-use Rattle.calls.specs.Engines.{items_in}
+use Rattle.engine.specs.Engines.{items_in}
 use Rattle.cow_tree.specs.Trees.{disk_of, has_failed}
 use Rattle.store.specs.Labelling.{IsSure}
 use Rattle.store.specs.Queried.{IsQueried}

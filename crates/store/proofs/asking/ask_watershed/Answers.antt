@@ -3,14 +3,14 @@ use Rattle.std.specs.Global.{Vec}
 use Rattle.lattice.specs.Ground.{terrain}
 use Rattle.lattice.specs.Mosaic.{Mosaic}
 use Rattle.lattice.specs.declared.refusal.Refusal.{Refusal}
-use Rattle.calls.specs.State.{State}
+use Rattle.engine.specs.State.{State}
 use Rattle.flow_d8.specs.FlowPath.{IsInWatershed}
 use Rattle.watershed.specs.Runs.{AreRuns}
 use Rattle.watershed.specs.declared.runs.Run.{Run}
-use Rattle.calls.specs.Outcomes.{Sheds}
-use Rattle.calls.proofs.Answered.{sheds}
+use Rattle.engine.specs.Outcomes.{Sheds}
+use Rattle.engine.proofs.Answered.{sheds}
 use Rattle.catalogue.proofs.Asking.{asked_risen, asked_works, asked_fails, asked_quiet}
-use Rattle.calls.specs.Engines.{items_in}
+use Rattle.engine.specs.Engines.{items_in}
 use Rattle.cow_tree.specs.Trees.{disk_of, has_failed}
 use Rattle.store.specs.Labelling.{IsSure}
 use Rattle.store.specs.Queried.{IsQueried}

@@ -2,7 +2,7 @@ use Rattle.std.proofs.Common.{◌≡◌, ℕ, ℤ, ◌+◌, ◌*◌, ◌≤◌, 
 use Rattle.std.specs.Prelude.{IsSomeAnd, slice_range}
 use Rattle.std.proofs.lemmas.List.{take_all}
 use Rattle.lattice.specs.Mosaic.{Mosaic, samples_of}
-use Rattle.layout.specs.Formats.{largest_side_of}
+use Rattle.page_codec.specs.Formats.{largest_side_of}
 use Rattle.page_codec.specs.Roots.{RootValue}
 use Rattle.cow_tree.specs.Layout.{tile_in}
 use Rattle.cow_tree.specs.Reading.{read_again}

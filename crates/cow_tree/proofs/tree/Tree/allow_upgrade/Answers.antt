@@ -1,7 +1,7 @@
 use Rattle.std.proofs.Common.{◌≡◌, ap, ◌∙◌, arith}
-use Rattle.layout.specs.Formats.{upgraded}
-use Rattle.layout.specs.Sizes.{sectors_asked}
-use Rattle.layout.specs.declared.version.Version.TheVariants.{One}
+use Rattle.page_codec.specs.Formats.{upgraded}
+use Rattle.page_codec.specs.Sizes.{sectors_asked}
+use Rattle.page_codec.specs.declared.version.Version.TheVariants.{One}
 use Rattle.cow_tree.proofs.tree.Tree.allow_upgrade.Goals as goal
 
 pub returns-then-number-clause-refused : goal.returns-then-number-clause-refused

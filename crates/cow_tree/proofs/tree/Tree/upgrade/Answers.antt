@@ -1,7 +1,7 @@
 use Rattle.std.proofs.Common.{◌≡◌, ◌≤◌, ◌<◌, ◌+◌, ◌*◌, ◌^◌, ◌⊎◌, inl, ℕ, List, [], All, Contains, length, map, refl, sym, ap, ◌∙◌, subst, arith}
 use Rattle.disk.specs.Disk.{Image}
 use Rattle.disk.specs.Stops.{LeavesOnly, weaker}
-use Rattle.layout.specs.Formats.{upgraded}
+use Rattle.page_codec.specs.Formats.{upgraded}
 use Rattle.page_codec.specs.Entries.{EntryValue}
 use Rattle.page_codec.specs.Roots.{RootValue, format_of}
 use Rattle.page_codec.specs.Sizes.{index_pages_of}

@@ -3,9 +3,9 @@ use Rattle.std.specs.FinSet.{len}
 use Rattle.std.proofs.lemmas.List.{take_all}
 use Rattle.std.proofs.lemmas.Result.{err_from_is_err_and}
 use Rattle.lattice.specs.declared.refusal.Refusal.{Refusal}
-use Rattle.layout.specs.Formats.{Format, upgraded}
-use Rattle.layout.specs.Sizes.{index_pages_of, sectors_asked}
-use Rattle.layout.specs.declared.version.Version.TheVariants.{One}
+use Rattle.page_codec.specs.Formats.{Format, upgraded}
+use Rattle.page_codec.specs.Sizes.{index_pages_of, sectors_asked}
+use Rattle.page_codec.specs.declared.version.Version.TheVariants.{One}
 use Rattle.page_map.specs.declared.tile_entry.TileEntry.{TileEntry}
 use Rattle.page_map.specs.PageMaps.{PageMapValue, IsWholeTile, tile_at}
 use Rattle.page_map.specs.FreePages.{AreTaken}

@@ -1,6 +1,6 @@
 use Rattle.std.proofs.Common.{◌≡◌, ◌+◌, ◌*◌, ◌≤◌, length, map, take}
 use Rattle.std.specs.FinSet as set
-use Rattle.layout.specs.Sizes.{index_pages_of}
+use Rattle.page_codec.specs.Sizes.{index_pages_of}
 use Rattle.page_map.specs.PageMaps.{IsPageMap, IsClean}
 use Rattle.page_map.specs.FreePages.{AreTaken}
 use Rattle.page_map.specs.TileEntries.{committed_tiles}

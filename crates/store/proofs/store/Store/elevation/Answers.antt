@@ -4,8 +4,8 @@ use Rattle.lattice.specs.Height.{height_of}
 use Rattle.lattice.specs.Mosaic.{Mosaic}
 use Rattle.lattice.specs.declared.height.Height.{Height}
 use Rattle.lattice.specs.declared.refusal.Refusal.{Refusal}
-use Rattle.calls.specs.Outcomes.{Elevates}
-use Rattle.calls.specs.State.{State}
+use Rattle.engine.specs.Outcomes.{Elevates}
+use Rattle.engine.specs.State.{State}
 use Rattle.store.proofs.Querying.{mosaic_at, stays_at, still_clean, still_readable, fails_so, answered}
 use Rattle.store.proofs.store.Store.elevation.Goals as goal
 

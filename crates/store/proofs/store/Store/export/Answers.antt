@@ -5,9 +5,9 @@ use Rattle.std.specs.Prelude.{None, Err}
 use Rattle.std.specs.Global.{Vec}
 use Rattle.std.proofs.lemmas.Bool.{both_ways}
 use Rattle.lattice.specs.declared.refusal.Refusal.{Refusal}
-use Rattle.calls.specs.Outcomes.{Exports}
-use Rattle.calls.specs.State.{failing}
-use Rattle.calls.specs.Engines.{items_in}
+use Rattle.engine.specs.Outcomes.{Exports}
+use Rattle.engine.specs.State.{failing}
+use Rattle.engine.specs.Engines.{items_in}
 use Rattle.cow_tree.proofs.Due.{located_tile}
 use Rattle.store.proofs.EditingSteps.{refused_as}
 use Rattle.store.proofs.Querying.{queried, stays_at, still_clean, still_at, failing_at, fails_so}

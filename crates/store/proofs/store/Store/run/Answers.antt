@@ -3,10 +3,10 @@ use Rattle.std.proofs.lemmas.List.{append-nil, append_assoc}
 use Rattle.std.specs.Result.{is_ok}
 use Rattle.disk.specs.Disk.{Image}
 use Rattle.disk.specs.declared.disk.Disk.{Ghosts}
-use Rattle.calls.specs.Engines.{Calls, IsCall}
-use Rattle.calls.specs.declared.event.Event.{Event}
-use Rattle.calls.specs.declared.event.Reply.{Reply}
-use Rattle.calls.proofs.Chains.{asked_more, last_more, step_more}
+use Rattle.engine.specs.Engines.{Calls, IsCall}
+use Rattle.engine.specs.declared.event.Event.{Event}
+use Rattle.engine.specs.declared.event.Reply.{Reply}
+use Rattle.engine.proofs.Chains.{asked_more, last_more, step_more}
 use Rattle.store.specs.Calls.{Runs}
 use Rattle.store.specs.StoreState.{members}
 use Rattle.store.specs.declared.store.Store.{Store}

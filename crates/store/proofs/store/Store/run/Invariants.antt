@@ -1,6 +1,6 @@
 use Rattle.std.proofs.Common.{◌≡◌, ◌≤◌, ◌+◌, ◌++◌, List, length, take, vec_len, vec_capacity}
-use Rattle.calls.specs.Engines.{Calls, IsCall}
-use Rattle.calls.specs.declared.event.Reply.{Reply}
+use Rattle.engine.specs.Engines.{Calls, IsCall}
+use Rattle.engine.specs.declared.event.Reply.{Reply}
 use Rattle.store.specs.StoreState.{members}
 use Rattle.store.proofs.store.Store.run.Given as goal
 

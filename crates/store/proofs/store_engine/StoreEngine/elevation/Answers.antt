@@ -1,11 +1,11 @@
 use Rattle.lattice.specs.declared.height.Height.{Height}
 use Rattle.std.specs.Prelude.{Result}
 use Rattle.lattice.specs.declared.refusal.Refusal.{Refusal}
-use Rattle.calls.specs.Outcomes.{Elevates}
-use Rattle.calls.specs.State.{State}
-use Rattle.calls.specs.declared.event.Event.TheVariants as ask
-use Rattle.calls.specs.declared.event.Reply.TheVariants as reply
-use Rattle.calls.proofs.Questions.{elevation_asked}
+use Rattle.engine.specs.Outcomes.{Elevates}
+use Rattle.engine.specs.State.{State}
+use Rattle.engine.specs.declared.event.Event.TheVariants as ask
+use Rattle.engine.specs.declared.event.Reply.TheVariants as reply
+use Rattle.engine.proofs.Questions.{elevation_asked}
 use Rattle.store.proofs.StoreLemmas.{asked}
 use Rattle.store.proofs.store_engine.StoreEngine.elevation.Goals as goal
 

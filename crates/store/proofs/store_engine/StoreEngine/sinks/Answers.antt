@@ -2,12 +2,12 @@ use Rattle.std.specs.Prelude.{Result}
 use Rattle.std.specs.Global.{Vec}
 use Rattle.lattice.specs.declared.point.Point.{Point}
 use Rattle.lattice.specs.declared.refusal.Refusal.{Refusal}
-use Rattle.calls.specs.Engines.{items_in}
-use Rattle.calls.specs.Outcomes.{ListsSinks}
-use Rattle.calls.specs.State.{State}
-use Rattle.calls.specs.declared.event.Event.TheVariants as ask
-use Rattle.calls.specs.declared.event.Reply.TheVariants as reply
-use Rattle.calls.proofs.Questions.{sinks_asked}
+use Rattle.engine.specs.Engines.{items_in}
+use Rattle.engine.specs.Outcomes.{ListsSinks}
+use Rattle.engine.specs.State.{State}
+use Rattle.engine.specs.declared.event.Event.TheVariants as ask
+use Rattle.engine.specs.declared.event.Reply.TheVariants as reply
+use Rattle.engine.proofs.Questions.{sinks_asked}
 use Rattle.store.proofs.StoreLemmas.{asked, unread}
 use Rattle.store.proofs.store_engine.StoreEngine.sinks.Goals as goal
 

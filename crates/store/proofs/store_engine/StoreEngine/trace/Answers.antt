@@ -1,13 +1,13 @@
 use Rattle.std.specs.Global.{Vec}
 use Rattle.lattice.specs.declared.point.Point.{Point}
-use Rattle.calls.specs.Engines.{items_in}
+use Rattle.engine.specs.Engines.{items_in}
 use Rattle.std.specs.Prelude.{Result}
 use Rattle.lattice.specs.declared.refusal.Refusal.{Refusal}
-use Rattle.calls.specs.Outcomes.{Traces}
-use Rattle.calls.specs.State.{State}
-use Rattle.calls.specs.declared.event.Event.TheVariants as ask
-use Rattle.calls.specs.declared.event.Reply.TheVariants as reply
-use Rattle.calls.proofs.Questions.{trace_asked}
+use Rattle.engine.specs.Outcomes.{Traces}
+use Rattle.engine.specs.State.{State}
+use Rattle.engine.specs.declared.event.Event.TheVariants as ask
+use Rattle.engine.specs.declared.event.Reply.TheVariants as reply
+use Rattle.engine.proofs.Questions.{trace_asked}
 use Rattle.store.proofs.StoreLemmas.{asked}
 use Rattle.store.proofs.store_engine.StoreEngine.trace.Goals as goal
 

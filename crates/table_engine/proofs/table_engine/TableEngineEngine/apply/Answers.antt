@@ -6,7 +6,7 @@ use Rattle.catalogue.specs.Tiles.{corners_of}
 use Rattle.lattice.specs.Corners.{Corner}
 use Rattle.edits.specs.Edits.{FitsIn, edit_made, goes_stale_by}
 use Rattle.edits.specs.Effect.{effect}
-use Rattle.calls.specs.declared.event.Event.TheVariants as ask
+use Rattle.engine.specs.declared.event.Event.TheVariants as ask
 use Rattle.table_engine.specs.TableState.{stale_among}
 use Rattle.drainage.specs.Between.{IsHeldOf}
 use Rattle.table_engine.proofs.FreshTiles.{stale_then}

@@ -2,9 +2,9 @@ use Rattle.std.proofs.Common.{rules, ◌<◌, ◌+◌, List, ap₂, sym, ◌∙�
 use Rattle.lattice.specs.Corners.{Corner}
 use Rattle.std.specs.Prelude.{Contains, Some}
 use Rattle.catalogue.specs.Tiles.{corners_of}
-use Rattle.calls.specs.Engines.{IsCall}
-use Rattle.calls.specs.declared.event.Event.TheVariants as ask
-use Rattle.calls.specs.declared.event.Reply.TheVariants as reply
+use Rattle.engine.specs.Engines.{IsCall}
+use Rattle.engine.specs.declared.event.Event.TheVariants as ask
+use Rattle.engine.specs.declared.event.Reply.TheVariants as reply
 use Rattle.table_engine.specs.TableState.{stale_among, held_of, table}
 use Rattle.table_engine.proofs.TableCalls.{called, stepped_to, old}
 use Rattle.table_engine.proofs.table_engine.TableEngineEngine.step.Goals as goal

@@ -1,5 +1,0 @@
-use Rattle.calls.proofs.Decided.{come_to_their_effects}
-use Rattle.calls.proofs.laws.commands_come_to_their_effects.Goals as goal
-
-pub returns : goal.returns
-returns c = come_to_their_effects

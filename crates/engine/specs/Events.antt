@@ -1,0 +1,61 @@
+-- What may happen to a store by an event, and what its reply tells of failures (this product's own profile).
+use Rattle.std.specs.Prelude.{◌≡◌, ◌⊎◌, ℕ, Bool, true, false, Some, Ok, Err}
+use Rattle.lattice.specs.declared.refusal.Refusal.{Refusal}
+use Rattle.lattice.specs.declared.refusal.Refusal.TheVariants.{Device, NoMemory, Failed}
+use Rattle.engine.specs.Outcomes.{Applies, Elevates, Exports, Lists, ListsSinks, Fills, Directs, Traces, Sheds}
+use Rattle.engine.specs.State.{Contents, State, working}
+use Rattle.engine.specs.Steps.{Steps}
+use Rattle.engine.specs.declared.event.Event.{Event}
+use Rattle.engine.specs.declared.event.Event.TheVariants as ask
+use Rattle.engine.specs.declared.event.Reply.{Reply}
+use Rattle.engine.specs.declared.event.Reply.TheVariants as reply
+
+-- a reopening comes to the contents known last, or to those of the commit in doubt
+abbrev pub Reopens : State → State → Type 0
+Reopens s t = (t ≡ working s.contents) ⊎ ((doubted : Contents) × (s.doubt ≡ Some doubted) × (t ≡ working doubted))
+
+-- refused, for the disk or for memory, it leaves the state but for the failure
+abbrev pub ReopensNot : State → Refusal → State → Type 0
+ReopensNot s Device t = t ≡ record s { failed = true }
+ReopensNot s NoMemory t = t ≡ record s { failed = true }
+ReopensNot s r t = ⊥
+
+-- in the state s the event may have this reply and leave the state t; each other reply is wrong
+abbrev pub Happens : ℕ → State → Event → Reply → State → Type 0
+Happens capacity s (ask.Do command) (reply.Done count) t = Applies capacity s command (Ok count) t
+Happens capacity s (ask.Do command) (reply.Refused r) t = Applies capacity s command (Err r) t
+Happens capacity s (ask.Elevation p) (reply.Elevation height) t = Elevates s p (Ok height) t
+Happens capacity s (ask.Elevation p) (reply.Refused r) t = Elevates s p (Err r) t
+Happens capacity s (ask.Fill p) (reply.Fill level) t = Fills s p (Ok level) t
+Happens capacity s (ask.Fill p) (reply.Refused r) t = Fills s p (Err r) t
+Happens capacity s (ask.Direction p) (reply.Direction code) t = Directs s p (Ok code) t
+Happens capacity s (ask.Direction p) (reply.Refused r) t = Directs s p (Err r) t
+Happens capacity s (ask.Trace p) (reply.Trace path) t = Traces s p (Ok path.items) t
+Happens capacity s (ask.Trace p) (reply.Refused r) t = Traces s p (Err r) t
+Happens capacity s (ask.Watershed p) (reply.Watershed runs) t = Sheds s p (Ok runs.items) t
+Happens capacity s (ask.Watershed p) (reply.Refused r) t = Sheds s p (Err r) t
+Happens capacity s (ask.Export c) (reply.Export bytes) t = Exports s c (Ok bytes.items) t
+Happens capacity s (ask.Export c) (reply.Refused r) t = Exports s c (Err r) t
+Happens capacity s ask.Tiles (reply.Tiles corners) t = Lists s (Ok corners.items) t
+Happens capacity s ask.Tiles (reply.Refused r) t = Lists s (Err r) t
+Happens capacity s ask.Sinks (reply.Sinks points) t = ListsSinks s (Ok points.items) t
+Happens capacity s ask.Sinks (reply.Refused r) t = ListsSinks s (Err r) t
+Happens capacity s ask.Step (reply.Stepped tile) t = Steps s (Ok tile) t
+Happens capacity s ask.Step (reply.Refused r) t = Steps s (Err r) t
+Happens capacity s ask.Count (reply.Count count) t = (count ≡ s.contents.count) × (t ≡ s)
+Happens capacity s ask.Reopen reply.Reopened t = Reopens s t
+Happens capacity s ask.Reopen (reply.Refused r) t = ReopensNot s r t
+Happens capacity s asked replied t = ⊥
+
+-- what a store that failed says: the count, and else that it failed, but it may open again
+abbrev pub SaysFailed : Event → Reply → Type 0
+SaysFailed ask.Count replied = (count : ℕ) × (replied ≡ reply.Count count)
+SaysFailed ask.Reopen replied = Unit {0}
+SaysFailed asked replied = replied ≡ reply.Refused Failed
+
+-- whether it has failed after an event with this reply, by what it had before
+abbrev pub fails_after : Bool → Event → Reply → Bool
+fails_after failed ask.Reopen (reply.Refused r) = true
+fails_after failed asked (reply.Refused Device) = true
+fails_after failed asked reply.Reopened = false
+fails_after failed asked replied = failed

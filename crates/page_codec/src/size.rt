@@ -1,0 +1,20 @@
+//! How much room planes and stores take.
+ghost use Rattle.std.specs.Prelude.{◌≡◌};
+ghost use Rattle.page_codec.specs.Sizes.{pages_of, AreLeastPages};
+
+use crate::PAGE_BYTES;
+use lattice::Side;
+
+// Bytes of a point in a plane.
+const POINT_BYTES: u32 = 2;
+
+// Sectors of the gates and the roots.
+pub(crate) const FIXED_SECTORS: u32 = 4;
+
+/// How many pages the plane of a tile fills, at two bytes a point.
+pub fn pages_in_plane(side: Side) -> u32
+    ensures value { result ≡ pages_of side }
+    ensures least { AreLeastPages side result }
+{
+    (POINT_BYTES * side.area()).div_ceil(PAGE_BYTES as u32)
+}
