@@ -29,16 +29,16 @@ module _ (m : Mosaic) (is : IsMosaic m) (p : Point) where
 
   -- of the results of all four calls
   module _ {T : Type 0} where
-    pub loaded : (Says : T → Type 0) (result : Result T Refusal) → IfErr result IsOwnRefusal → result ≢ Err Damaged → IfOk result Says → (IsErrOf result Outside ↔ IsHeldByNone m.side (corners_of m) p)
+    pub told : (Says : T → Type 0) (result : Result T Refusal) → IfErr result IsOwnRefusal → result ≢ Err Damaged → IfOk result Says → (IsErrOf result Outside ↔ IsHeldByNone m.side (corners_of m) p)
         → (IsErrOf result Void → height_of m p ≡ height.Void) → IfErr result (λ r. IsTrue (may_refuse r)) → MatchResult result Says (IsUnanswered m p)
-    loaded Says (Ok x) own sound found outside void may = found
-    loaded Says (Err r) own sound found outside void may = unanswered r may own (λ e. sound (ap (λ (x : Refusal). Err x) e)) (λ e. outside.0 (ap (λ (x : Refusal). Err x) e)) (λ e. void (ap (λ (x : Refusal). Err x) e))
+    told Says (Ok x) own sound found outside void may = found
+    told Says (Err r) own sound found outside void may = unanswered r may own (λ e. sound (ap (λ (x : Refusal). Err x) e)) (λ e. outside.0 (ap (λ (x : Refusal). Err x) e)) (λ e. void (ap (λ (x : Refusal). Err x) e))
 
     -- .. what is said of every function that gives the filled levels
     pub told_of_levels : (Says : T → (Point → ℤ) → Type 0) (result : Result T Refusal) → IfErr result IsOwnRefusal → result ≢ Err Damaged → IfOk result (λ x. (level : Point → ℤ) → AreFilledLevels (terrain m) level → Says x level)
         → (IsOk result → IsTrue (is_ground m p)) → (IsErrOf result Outside ↔ IsHeldByNone m.side (corners_of m) p) → (IsErrOf result Void → height_of m p ≡ height.Void)
         → IfErr result (λ r. IsTrue (may_refuse r)) → MatchResult result (λ x. IsAnswered m p (Says x)) (IsUnanswered m p)
-    told_of_levels Says result own sound found on outside void may = loaded (λ x. IsAnswered m p (Says x)) result own sound (both result found on) outside void may
+    told_of_levels Says result own sound found on outside void may = told (λ x. IsAnswered m p (Says x)) result own sound (both result found on) outside void may
       where
         both : (result : Result T Refusal) → IfOk result (λ x. (level : Point → ℤ) → AreFilledLevels (terrain m) level → Says x level) → (IsOk result → IsTrue (is_ground m p)) → IfOk result (λ x. IsAnswered m p (Says x))
         both (Ok x) found on = record { on_ground = on refl; says = found }

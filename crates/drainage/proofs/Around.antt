@@ -14,7 +14,7 @@ use Rattle.lattice.proofs.Levels.{level_is_unique}
 use Rattle.catalogue.specs.Tiles.{corners_of}
 use Rattle.catalogue.proofs.Sharing.{shared_from}
 use Rattle.downstream.specs.Near.{IsNear}
-use Rattle.downstream.proofs.Nearby.{all_around, level_ground, loaded}
+use Rattle.downstream.proofs.Nearby.{all_around, level_ground, told}
 use Rattle.tile_labellings.specs.Labellings.{IsFlooded}
 use Rattle.border_graph.specs.Others.{corner_at}
 use Rattle.tile_flood.specs.Blocks.{LabelledGround}
@@ -68,5 +68,5 @@ near_is m is known right t small p height around eight here each =
     record {
       solid = solid;
       here = λ level filled. level_is_unique (terrain m) p (level p) height (filled p solid) filled_here;
-      around_it = λ level filled. all_around (terrain m) level p around eight (λ d. loaded m level p is d filled solid (share d) (get_or around (order_of d) None) ((each d).level m is right));
+      around_it = λ level filled. all_around (terrain m) level p around eight (λ d. told m level p is d filled solid (share d) (get_or around (order_of d) None) ((each d).level m is right));
     }

@@ -1,4 +1,4 @@
--- What is known of a mosaic's water grows as tiles are loaded and labellings.
+-- What is known of a mosaic's water grows as tiles are loaded and their labellings held.
 use Rattle.std.proofs.Common.{◌≡◌, ℕ, ℤ, List, refl, sym, ap, ◌∙◌, subst}
 use Rattle.std.specs.Prelude.{Option, Some}
 use Rattle.lattice.specs.Corners.{Corner}

@@ -22,7 +22,7 @@ use Rattle.border_graph.specs.Placed.{IsPlacedLink}
 use Rattle.border_graph.specs.TileGraph.{TileGraph}
 use Rattle.drainage.specs.RimGraphs.{Fits, AreReady, AreKept}
 
--- the side, the corners of all tiles in order, what is loaded of the ways of each, the labellings of those that were labellings,
+-- the side, the corners of all tiles in order, what is loaded of the ways of each, the labellings of those that were asked,
 -- and the levels of rim points, by the numbers of their nodes
 pub record Known : Type 0 where
   pub side : ℕ

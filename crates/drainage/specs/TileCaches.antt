@@ -1,4 +1,4 @@
--- What is known by the tile_cache that were found.
+-- What is known by what was found of tiles.
 use Rattle.drainage.specs.Holding.{Known}
 use Rattle.drainage.specs.declared.tile_cache.TileCache.{TileCache}
 

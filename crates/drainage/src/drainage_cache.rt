@@ -17,7 +17,7 @@ use lattice::{Dir, Point, Refusal, Side};
 use std::alloc::Global;
 
 /// What questions about the water of one mosaic found, so that a later question doesn't find it again: the ways of the
-/// tiles that water came to, the labellings of those that were labellings, as many as there is room for, the levels of rim
+/// tiles that water came to, the labellings of those that were asked, as many as there is room for, the levels of rim
 /// points, and where points drain.
 #[derive(Drop)]
 pub struct DrainageCache {

@@ -1,4 +1,4 @@
-//! The labellings of the tiles that were labellings.
+//! The labellings of the tiles that were asked.
 ghost use Rattle.std.specs.Prelude.{◌≡◌, ◌≢◌, ◌<◌, ◌↔◌, ℕ, Some, None, false, true, IfOk, IfErr, IfSome, IfNone, IsTrue, length, slice_set};
 ghost use Rattle.lattice.specs.Corners.{Corner};
 ghost use Rattle.lattice.specs.Lattice.{IsIndexOf, holds};
@@ -353,7 +353,7 @@ fn index_held(side: Side, corner: Corner, point: Point) -> Option<u32>
     ensures some { IfSome result (λ e. IsIndexOf side corner point e × (holds side corner point ≡ true)) }
     ensures none { IfNone result (holds side corner point ≡ false) }
 {
-    // That these are a side and a corner is loaded by their fields.
+    // That these are a side and a corner is told by their fields.
     let _edge = side.edge();
     let _lat = corner.lat;
     index_in(side, corner, point)

@@ -8,7 +8,7 @@ use lattice::{Corner, Point, Side, point_at};
 /// tile is there.
 ///
 /// A tile's block is the heights of its own points and the sinks among them. Whether a point of its rim is an outlet of the
-/// mosaic is loaded by the points around it too, so that one step more is looked at.
+/// mosaic is told by the points around it too, so that one step more is looked at.
 pub(crate) fn is_reached(side: Side, corners: &[Corner], from: Point, to: Point, t: usize) -> bool
     ensures { result ≡ is_reached side corners.now from to t }
 {

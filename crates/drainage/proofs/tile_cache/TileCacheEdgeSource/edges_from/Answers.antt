@@ -23,20 +23,20 @@ returns-clause-answer g c n summaries agrees =
     (subst (λ s. 3 ≤ s) same c.rim.ensures.low) (c.rim.ensures.value ∙ ap (λ s. 4 * (s - 1)) same) (c.rim-2.ensures.value ∙ ap (λ s. 4 * (s - 1)) same)
     loaded.0 loaded.1 (subst (λ (cs : List Corner). (c.args.node - 1) / c.rim.result < length cs) (sym kept.same_corners) at.0) c.args.into.now.items c.list.new.into.items c.requires.empty (c.in_ok-list.ensures.ways loaded.0 loaded.1)
 
-pub returns-in_err-load_tile-clause-loaded : goal.returns-in_err-load_tile-clause-loaded
-returns-in_err-load_tile-clause-loaded g c n summaries agrees =
+pub returns-in_err-load_tile-clause-told : goal.returns-in_err-load_tile-clause-told
+returns-in_err-load_tile-clause-told g c n summaries agrees =
     let same = sym c.in_err-load_tile.ensures.grown.kept.same_side in
     told_of c.load_tile.new.self.rim_graph.side c.load_tile.new.self.rim_graph.corners.items c.load_tile.new.self.rim_graph.loaded.items n summaries agrees.fits c.args.node c.rim.result c.rim-2.result c.requires.node
     (subst (λ s. 3 ≤ s) same c.rim.ensures.low) (c.rim.ensures.value ∙ ap (λ s. 4 * (s - 1)) same) (c.rim-2.ensures.value ∙ ap (λ s. 4 * (s - 1)) same) c.args.self.now.rim_graph.loaded.items c.in_err-load_tile.ensures.only
 
-pub returns-in_err-list-clause-loaded : goal.returns-in_err-list-clause-loaded
-returns-in_err-list-clause-loaded g c n summaries agrees =
+pub returns-in_err-list-clause-told : goal.returns-in_err-list-clause-told
+returns-in_err-list-clause-told g c n summaries agrees =
     let same = sym c.in_ok-load_tile.ensures.grown.kept.same_side in
     told_of c.load_tile.new.self.rim_graph.side c.load_tile.new.self.rim_graph.corners.items c.load_tile.new.self.rim_graph.loaded.items n summaries agrees.fits c.args.node c.rim.result c.rim-2.result c.requires.node
     (subst (λ s. 3 ≤ s) same c.rim.ensures.low) (c.rim.ensures.value ∙ ap (λ s. 4 * (s - 1)) same) (c.rim-2.ensures.value ∙ ap (λ s. 4 * (s - 1)) same) c.args.self.now.rim_graph.loaded.items c.in_ok-load_tile.ensures.only
 
-pub returns-clause-loaded : goal.returns-clause-loaded
-returns-clause-loaded g c n summaries agrees =
+pub returns-clause-told : goal.returns-clause-told
+returns-clause-told g c n summaries agrees =
     let same = sym c.in_ok-load_tile.ensures.grown.kept.same_side in
     told_of c.load_tile.new.self.rim_graph.side c.load_tile.new.self.rim_graph.corners.items c.load_tile.new.self.rim_graph.loaded.items n summaries agrees.fits c.args.node c.rim.result c.rim-2.result c.requires.node
     (subst (λ s. 3 ≤ s) same c.rim.ensures.low) (c.rim.ensures.value ∙ ap (λ s. 4 * (s - 1)) same) (c.rim-2.ensures.value ∙ ap (λ s. 4 * (s - 1)) same) c.args.self.now.rim_graph.loaded.items c.in_ok-load_tile.ensures.only
