@@ -10,7 +10,7 @@ ghost use Rattle.border_graph.specs.Sharing.{AreInOrder, IsOfRim, IsSharedListed
 use crate::linking::{add, ground_rim_point, node_number};
 use crate::summary::Summary;
 use crate::waiting::Link;
-use lattice::{Corner, Point, Side, holders, index_in, point_at, rim_index, rim_number};
+use lattice::{Corner, Point, Side, holders, index_in, is_before, point_at, rim_index, rim_number};
 use std::alloc::AllocError;
 
 // Lists the links from a rim point to the same point of other tiles.
@@ -124,11 +124,4 @@ fn tile_at(summaries: &[Summary], corner: Corner) -> Option<usize>
     } else {
         None
     }
-}
-
-// Whether a corner is before another in the order of tiles.
-fn is_before(a: Corner, b: Corner) -> bool
-    ensures { result ≡ is_before a b }
-{
-    a.lat < b.lat || (a.lat == b.lat && a.lon < b.lon)
 }

@@ -130,7 +130,11 @@ impl DrainageCache {
     }
 
     // Hands out what is held of levels, or that nothing is found yet. None is held then. NoMemory is the only refusal.
-    pub(crate) fn take<S: Samples>(&mut self, alloc: Global, samples: &S) -> Result<TileCache, Refusal>
+    pub(crate) fn take<S: Samples>(
+        &mut self,
+        alloc: Global,
+        samples: &S,
+    ) -> Result<TileCache, Refusal>
         ensures right { S.is_honest samples.now → IsHeldOf (S.mosaic samples.now) self.old → IfOk result (λ w. IsRight (S.mosaic samples.now) (known_of w)) }
         ensures left { (m : Mosaic) → IsHeldOf m self.old → IsHeldOf m self.new }
         ensures refusal { IfErr result (λ r. r ≡ NoMemory) }

@@ -18,8 +18,8 @@ ghost use Rattle.drainage.specs.Holding.{IsRight, IsRimLevel, IsGroundNode};
 ghost use Rattle.drainage.specs.TileCaches.{known_of};
 
 use crate::asking::check_ground;
-use crate::heights::is_height;
 use crate::drainage_cache::DrainageCache;
+use crate::heights::is_height;
 use crate::tile_cache::TileCache;
 use border_graph::{lowest_pass, node_at};
 use lattice::{Corner, Point, Refusal, Side, VOID, index_in};

@@ -14,8 +14,8 @@ ghost use Rattle.drainage.specs.Asking.{IsHeldByNone, may_refuse};
 ghost use Rattle.drainage.specs.Between.{IsHeldFor};
 
 use crate::asking::check_ground;
-use crate::filling::level;
 use crate::drainage_cache::DrainageCache;
+use crate::filling::level;
 use catalogue::share_tile;
 use downstream::{FilledLevels, Near, direction_at};
 use lattice::{Dir, Point, Refusal};

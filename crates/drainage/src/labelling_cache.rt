@@ -15,9 +15,8 @@ ghost use Rattle.drainage.specs.Holding.{IsEntered, labelling_at};
 ghost use Rattle.drainage.specs.Reaching.{DifferAt, is_reached};
 
 use crate::filling::spot_of;
-use crate::growth::push;
 use crate::reaching::is_reached;
-use lattice::{Corner, Point, Refusal, Side, index_in};
+use lattice::{Corner, Point, Refusal, Side, index_in, push};
 use std::alloc::Global;
 use std::marker::Model;
 use tile_flood::Labelled;
@@ -208,7 +207,13 @@ impl LabellingCache {
     }
 
     /// Gives up the labellings of the tiles that changes from the one point to the other reach. Takes no memory.
-    pub(crate) fn invalidate_between(&mut self, side: Side, corners: &[Corner], from: Point, to: Point)
+    pub(crate) fn invalidate_between(
+        &mut self,
+        side: Side,
+        corners: &[Corner],
+        from: Point,
+        to: Point,
+    )
         ensures { (t : ℕ) (l : TileLabelling) → labelling_at self.new t ≡ Some l ↔ ((labelling_at self.old t ≡ Some l) × (is_reached side corners.now from to t ≡ false)) }
     {
         for t in 0..self.tiles.len() {

@@ -14,29 +14,28 @@
 #![tactic(auto)]
 
 mod asking;
+mod drainage_cache;
 mod draining;
-mod labelling_cache;
 mod filling;
 mod flows;
 mod following;
-mod growth;
 mod heights;
-mod drainage_cache;
 mod invalidating;
+mod labelling_cache;
 mod laws;
 mod nearby;
 mod outlets;
 mod reaching;
 mod renewing;
+mod rim_graph;
 mod rims;
 mod ring;
-mod rim_graph;
 mod summing;
 mod tile_cache;
 
+pub use drainage_cache::DrainageCache;
 pub use draining::{watershed, watershed_held};
 pub use filling::{fill, fill_held, level};
 pub use following::{direction, direction_held, trace, trace_held};
-pub use drainage_cache::DrainageCache;
 pub use invalidating::invalidate_edit;
 pub use laws::level_functions_exist;

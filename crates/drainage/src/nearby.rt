@@ -23,7 +23,9 @@ pub(crate) fn near(tile_cache: &TileCache, point: Point) -> Option<Near>
     ensures { (m : Mosaic) → IsMosaic m → IsRight m (known_of tile_cache.now) → IfSome result (IsNear m point) }
 {
     let side = tile_cache.rim_graph.side;
-    let t = tile_cache.labellings.holder(side, &tile_cache.rim_graph.corners, point)?;
+    let t = tile_cache
+        .labellings
+        .holder(side, &tile_cache.rim_graph.corners, point)?;
     let corner = tile_cache.rim_graph.corner(t)?;
     let labelled = tile_cache.labellings.labelling(t)?;
     let height = level_in_tile(tile_cache, t, corner, labelled, point)?;

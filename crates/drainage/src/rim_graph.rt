@@ -8,11 +8,10 @@ ghost use Rattle.border_graph.specs.Others.{corner_at, AreTooMany};
 ghost use Rattle.drainage.specs.Reaching.{is_reached};
 ghost use Rattle.drainage.specs.RimGraphs.{loaded_at, AreTileEdges, AreLoaded, AreReady};
 
-use crate::growth::push;
 use crate::reaching::is_reached;
 use border_graph::{Edge, Summary, TileGraph, edges_to_others, node_at, reduced};
 use catalogue::Samples;
-use lattice::{Corner, Point, Refusal, Side, VOID, point_at, rim_index};
+use lattice::{Corner, Point, Refusal, Side, VOID, point_at, push, rim_index};
 use std::alloc::Global;
 
 /// The corners of a mosaic's tiles, in order, and the ways of those tiles that water has come to.

@@ -10,13 +10,12 @@ ghost use Rattle.tile_labellings.specs.Labellings.{IsFlooded};
 ghost use Rattle.drainage.specs.Flooded.{IsRimPointIn, HasOtherRimHeight, AreRimPointsIn};
 ghost use Rattle.drainage.specs.Ring.{AreRemembered};
 
-use crate::growth::push;
 use crate::heights::is_height;
 use crate::outlets::is_tile_outlet;
 use crate::ring::Ring;
 use border_graph::{RimPoint, Summary};
 use catalogue::Samples;
-use lattice::{Corner, Refusal, point_at, rim_index};
+use lattice::{Corner, Refusal, point_at, push, rim_index};
 use std::alloc::Global;
 use tile_flood::{Labelled, spills};
 

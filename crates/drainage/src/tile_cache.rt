@@ -14,11 +14,11 @@ ghost use Rattle.drainage.specs.Holding.{IsRight, IsGrown};
 ghost use Rattle.drainage.specs.Reaching.{DifferAt, DifferBetween, is_reached};
 ghost use Rattle.drainage.specs.Spared.{IsSetTo};
 
-use crate::labelling_cache::LabellingCache;
 use crate::filling::spot_of;
+use crate::labelling_cache::LabellingCache;
 use crate::renewing::{current_labelling, kept_spot};
-use crate::rims::RimLevels;
 use crate::rim_graph::RimGraph;
+use crate::rims::RimLevels;
 use crate::summing::summarize;
 use border_graph::{Edge, EdgeSource};
 use catalogue::Samples;
@@ -72,9 +72,12 @@ impl TileCache {
         ensures right { (m new : Mosaic) → DifferAt m new point → IsSetTo m new point to → IsRight m (known_of self.old) → IsRight new (known_of self.new) }
     {
         let side = self.rim_graph.side;
-        let was = self.labellings.known_height(side, &self.rim_graph.corners, point);
+        let was = self
+            .labellings
+            .known_height(side, &self.rim_graph.corners, point);
         self.levels.invalidate_reached(was, to);
-        self.labellings.note_changed(side, &self.rim_graph.corners, point);
+        self.labellings
+            .note_changed(side, &self.rim_graph.corners, point);
         self.rim_graph.invalidate_between(point, point);
     }
 

@@ -11,11 +11,10 @@ ghost use Rattle.edits.specs.Effect.{is_box, is_in_box, is_void_at};
 ghost use Rattle.edits.specs.Plans.{AreFewOf};
 
 use crate::boxes::{east_of, north_of, size_of_box};
-use crate::growth::push;
 use crate::places::places_of;
 use crate::{Change, Edit, NewHeight, TileSamples};
 use catalogue::{Samples, height};
-use lattice::{Height, Point, Refusal};
+use lattice::{Height, Point, Refusal, push};
 use std::alloc::Global;
 
 /// The changes that the edit comes to, one after another.

@@ -11,7 +11,7 @@ ghost use Rattle.flow_d8.specs.Places.{IsInner};
 ghost use Rattle.flow_d8.specs.Surface.{number_in, has_level, is_declared, beside_of, around_of};
 
 use crate::numbering::{number_of, share_tile};
-use lattice::{Corner, Dir, MOST_TILES, Point, Side, VOID, neighbour, point_at};
+use lattice::{Corner, Dir, MOST_TILES, Point, Side, VOID, is_before, neighbour, point_at};
 use std::alloc::Global;
 use std::marker::Model;
 
@@ -213,15 +213,9 @@ fn are_rising(corners: &[Corner]) -> bool
     ensures { IsTrue result ↔ AllAdjacentBelow IsBefore corners.now (length corners.now) }
 {
     for i in 1..corners.len() {
-        if !comes_before(corners[i - 1], corners[i]) {
+        if !is_before(corners[i - 1], corners[i]) {
             return false;
         }
     }
     true
-}
-
-fn comes_before(first: Corner, second: Corner) -> bool
-    ensures { result ≡ is_before first second }
-{
-    first.lat < second.lat || (first.lat == second.lat && first.lon < second.lon)
 }

@@ -16,10 +16,12 @@
 mod corner;
 mod direction;
 mod ground_laws;
+mod growth;
 mod height;
 mod holding;
 mod laws;
 mod limits;
+mod order;
 mod point;
 mod refusal;
 mod rim;
@@ -32,6 +34,7 @@ pub use ground_laws::{
     blocks_are_lawful, filled_levels_are_unique, filled_levels_exist, heights_make_a_block,
     terrains_are_lawful, ways_out_exist,
 };
+pub use growth::push;
 pub use height::{Height, VOID};
 pub use holding::{holders, index_in, point_at};
 pub use laws::{
@@ -39,6 +42,7 @@ pub use laws::{
     rim_points_are_numbered,
 };
 pub use limits::{LARGEST_SIDE, MOST_SINKS, MOST_TILES};
+pub use order::{is_before, is_point_before};
 pub use point::Point;
 pub use refusal::Refusal;
 pub use rim::{rim_index, rim_number};

@@ -11,7 +11,7 @@ use crate::numbers::is_zero;
 use crate::writer::Writer;
 use crate::{ENTRY_BYTES, Entry, ROOT_ENTRIES};
 use arrayvec::ArrayVec;
-use lattice::Corner;
+use lattice::{Corner, is_before};
 
 /// Bytes of the room for entries.
 pub(crate) const ENTRIES_BYTES: usize = ENTRY_BYTES * ROOT_ENTRIES;
@@ -61,12 +61,6 @@ fn follows(entries: &[Entry], entry: &Entry) -> bool
         Some(last) => is_before(last.corner, entry.corner),
         None => true,
     }
-}
-
-fn is_before(first: Corner, second: Corner) -> bool
-    ensures { result ≡ is_before first second }
-{
-    first < second
 }
 
 /// The entries one after another, and zeros behind them.

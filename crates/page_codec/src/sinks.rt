@@ -12,7 +12,7 @@ ghost use Rattle.page_codec.specs.Headers.{Follows};
 use crate::numbers::{is_zero, split_i32};
 use crate::writer::Writer;
 use arrayvec::ArrayVec;
-use lattice::{MOST_SINKS, Point, Side, is_held};
+use lattice::{MOST_SINKS, Point, Side, is_held, is_point_before};
 
 // Bytes of a sink.
 const SINK_BYTES: usize = 8;
@@ -83,15 +83,9 @@ fn follows(sinks: &[Point], sink: Point) -> bool
     ensures { IsTrue result ↔ Follows SinkIsBefore sinks.now sink }
 {
     match sinks.last() {
-        Some(last) => is_before(*last, sink),
+        Some(last) => is_point_before(*last, sink),
         None => true,
     }
-}
-
-fn is_before(first: Point, second: Point) -> bool
-    ensures { result ≡ is_point_before first second }
-{
-    first < second
 }
 
 /// The sinks one after another, and zeros behind them.

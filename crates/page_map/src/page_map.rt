@@ -18,7 +18,7 @@ use crate::staged::{HeightsStaged, KeptStaged, Staged};
 use crate::tile_entry::{Ending, TileEntry};
 use crate::upgrading::upgraded_planes;
 use arrayvec::ArrayVec;
-use lattice::{Corner, MOST_TILES, Refusal};
+use lattice::{Corner, MOST_TILES, Refusal, is_before};
 use page_codec::Format;
 use std::alloc::Global;
 use std::marker::Model;
@@ -384,7 +384,7 @@ fn find(entries: &[TileEntry], c: Corner) -> Result<usize, usize>
     ensures found { IfOk result (λ at. IsEntryAt c at entries.now) }
     ensures absent { IfErr result (λ at. IsRoomAt c at entries.now) }
 {
-    let at = entries.partition_point(|entry| precedes(entry.corner, c));
+    let at = entries.partition_point(|entry| is_before(entry.corner, c));
     if at < entries.len() && entries[at].corner == c {
         Ok(at)
     } else {
@@ -397,12 +397,6 @@ fn know_degrees(c: Corner)
     ensures { IsTrue (is_corner c) }
 {
     let _lat = c.lat;
-}
-
-fn precedes(a: Corner, b: Corner) -> bool
-    ensures { result ≡ is_before a b }
-{
-    a < b
 }
 
 /// Commits or gives up what is staged in each entry.

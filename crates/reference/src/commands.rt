@@ -15,7 +15,7 @@ use crate::seam::height;
 use crate::sinking::{refusal_of_sink, refusal_of_unsink, sunk, unsunk};
 use crate::{Plain, PlainTile};
 use edits::Command;
-use lattice::{Corner, Height, Point, Refusal, point_at};
+use lattice::{Corner, Height, Point, Refusal, is_before, point_at};
 use std::alloc::{AllocError, Global};
 
 /// The mosaic that the command makes, or the first refusal that applies; at most so many tiles may be present.
@@ -241,12 +241,6 @@ fn is_same_corner(corner: Corner, other: Corner) -> bool
     ensures { result ≡ same_corner corner other }
 {
     corner.lat == other.lat && corner.lon == other.lon
-}
-
-fn is_before(corner: Corner, other: Corner) -> bool
-    ensures { result ≡ is_before corner other }
-{
-    corner.lat < other.lat || (corner.lat == other.lat && corner.lon < other.lon)
 }
 
 // From -32767 to 32767.

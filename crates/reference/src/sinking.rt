@@ -8,8 +8,7 @@ ghost use Rattle.reference.specs.Answers.{refusal_of};
 use crate::Plain;
 use crate::adjacency::{is_same, is_sink};
 use crate::seam::height;
-use crate::sinks::is_before;
-use lattice::{Height, MOST_SINKS, Point, Refusal};
+use lattice::{Height, MOST_SINKS, Point, Refusal, is_point_before};
 use std::alloc::{AllocError, Global};
 
 // The first refusal that applies to a sink at the point.
@@ -78,7 +77,7 @@ fn place_of(points: &[Point], point: Point) -> usize
     ensures inside { result ≤ length points.now }
 {
     for (i, other) in points.iter().enumerate() {
-        if is_before(point, *other) {
+        if is_point_before(point, *other) {
             return i;
         }
     }

@@ -4,7 +4,7 @@ ghost use Rattle.std.specs.List.{AllAdjacentBelow};
 ghost use Rattle.lattice.specs.Mosaic.{AreSinks, IsHeld};
 ghost use Rattle.lattice.specs.Points.{is_point_before};
 
-use lattice::{MOST_SINKS, Point, Side, is_held};
+use lattice::{MOST_SINKS, Point, Side, is_held, is_point_before};
 
 // Whether these can be the sinks of a mosaic: in order, no point twice, at most 16, each in the tile of some corner.
 pub(crate) fn are_sinks(side: Side, sinks: &[Point]) -> bool
@@ -17,17 +17,11 @@ fn are_in_order(sinks: &[Point]) -> bool
     ensures { IsTrue result ↔ AllAdjacentBelow (λ p q. IsTrue (is_point_before p q)) sinks.now (length sinks.now) }
 {
     for i in 1..sinks.len() {
-        if !is_before(sinks[i - 1], sinks[i]) {
+        if !is_point_before(sinks[i - 1], sinks[i]) {
             return false;
         }
     }
     true
-}
-
-pub(crate) fn is_before(point: Point, other: Point) -> bool
-    ensures { result ≡ is_point_before point other }
-{
-    point.y < other.y || (point.y == other.y && point.x < other.x)
 }
 
 fn are_held(side: Side, points: &[Point]) -> bool

@@ -10,7 +10,7 @@ use catalogue::{Samples, Table, height};
 use drainage::invalidate_edit;
 use edits::{Command, Edit, carry_out, commands_make_mosaics, edit_of, leaves_stale};
 use engine::Engine;
-use lattice::{Corner, Height, MOST_TILES, Point, Refusal, Side};
+use lattice::{Corner, Height, MOST_TILES, Point, Refusal, Side, push};
 use std::alloc::Global;
 use std::marker::Model;
 use watershed::Run;
@@ -203,15 +203,4 @@ fn first_stale(corners: &[Corner], fresh: &[Corner]) -> Option<Corner>
         }
     }
     None
-}
-
-fn push(corners: &mut Vec<Corner>, corner: Corner) -> Result<(), Refusal>
-    ensures pushed { OnOk result (corners.new.items ≡ corners.old.items ++ corner ∷ []) }
-    ensures refusal { IfErr result (λ r. r ≡ NoMemory) }
-    ensures unchanged { OnErr result (corners.new.items ≡ corners.old.items) }
-{
-    match corners.push(corner) {
-        Ok(()) => Ok(()),
-        Err(_) => Err(Refusal::NoMemory),
-    }
 }

@@ -1,13 +1,14 @@
 //! Lists that grow.
-ghost use Rattle.std.specs.Prelude.{◌≡◌, ◌++◌, [], ◌∷◌, IfErr, OnOk};
+ghost use Rattle.std.specs.Prelude.{◌≡◌, ◌++◌, [], ◌∷◌, IfErr, OnOk, OnErr};
 ghost use Rattle.lattice.specs.declared.refusal.Refusal.TheVariants.{NoMemory};
 
-use lattice::Refusal;
+use crate::Refusal;
 
-/// One item more.
-pub(crate) fn push<T: Drop>(items: &mut Vec<T>, item: T) -> Result<(), Refusal>
+/// Appends an item. NoMemory is the only refusal, and leaves the list as it was.
+pub fn push<T: Drop>(items: &mut Vec<T>, item: T) -> Result<(), Refusal>
     ensures pushed { OnOk result (items.new.items ≡ items.old.items ++ item ∷ []) }
     ensures refusal { IfErr result (λ r. r ≡ NoMemory) }
+    ensures unchanged { OnErr result (items.new.items ≡ items.old.items) }
 {
     match items.push(item) {
         Ok(()) => Ok(()),
