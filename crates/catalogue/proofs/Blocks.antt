@@ -17,7 +17,7 @@ use Rattle.lattice.proofs.Interior.{inner_only}
 use Rattle.lattice.proofs.RimNumbers.{one_index, number_below}
 use Rattle.lattice.proofs.Samples.{index_of_point}
 use Rattle.catalogue.specs.Reading.{AreSamplesOf}
-use Rattle.catalogue.specs.Sealed.{IsOwnOrHeight, is_held_elsewhere}
+use Rattle.catalogue.specs.Elsewhere.{IsOwnOrHeight, is_held_elsewhere}
 use Rattle.catalogue.specs.Tiles.{corners_of}
 use Rattle.catalogue.proofs.OneTile.{corner_is}
 use Rattle.catalogue.proofs.OwnHeights.{own_height, whole_tile}

@@ -8,7 +8,7 @@ use Rattle.lattice.specs.Mosaic.{Mosaic, IsMosaic}
 use Rattle.lattice.specs.declared.point.Point.{Point}
 use Rattle.lattice.proofs.Samples.{holds_is}
 use Rattle.catalogue.specs.Tiles.{corners_of}
-use Rattle.catalogue.specs.Sealed.{is_held_elsewhere}
+use Rattle.catalogue.specs.Elsewhere.{is_held_elsewhere}
 use Rattle.lattice.proofs.CornerOrder.{same_says}
 use Rattle.catalogue.proofs.Presence.{any_from, any_says}
 use Rattle.catalogue.proofs.OneTile.{corner_is}

@@ -16,7 +16,6 @@ pub mod PresentHolders
 pub mod Reading
 pub mod Rows
 pub mod Sampled
-pub mod SealedHeights
 pub mod SeamCounts
 pub mod Sharing
 pub mod Sought

@@ -17,7 +17,7 @@ use Rattle.lattice.specs.Lattice.{is_along, holds, point_of}
 use Rattle.lattice.specs.Mosaic.{Tile, Mosaic, IsMosaic, samples_among, samples_of}
 use Rattle.lattice.proofs.Along.{steps}
 use Rattle.lattice.proofs.Samples.{holds_is, point_of_held}
-use Rattle.catalogue.specs.SealingLaws.{SameNearby, SameSinksIn}
+use Rattle.catalogue.specs.Locality.{SameNearby, SameSinksIn}
 use Rattle.lattice.proofs.CornerOrder.{same_says, same_from, after_from}
 use Rattle.lattice.proofs.Rising.{AllAfter, Rising, rising-filter, after_later}
 use Rattle.catalogue.proofs.Holders.{none_after}

@@ -1,10 +1,10 @@
-pub mod Reading
-pub mod Entries
-pub mod Readers
 pub mod Asked
-pub mod Sealed
-pub mod SealingLaws
+pub mod Elsewhere
+pub mod Endings
+pub mod Entries
+pub mod Locality
+pub mod Readers
+pub mod Reading
 pub mod SeamRule
 pub mod Seams
 pub mod Tiles
-pub mod Endings

@@ -12,19 +12,19 @@
 
 mod adjacency;
 mod listing;
+mod locality;
 mod samples;
-mod sealing;
-mod sealing_laws;
 mod seam_rule;
 mod seams_between;
 mod table;
+mod tile_block;
 
 pub use adjacency::{adjacent, degree, outlet, share_tile};
 pub use lattice::Height;
 pub use listing::tiles;
+pub use locality::blocks_are_local;
 pub use samples::Samples;
-pub use sealing::{block_heights, sealed};
-pub use sealing_laws::{blocks_are_local, sealed_tiles_agree, sealing_keeps_the_terrain};
 pub use seam_rule::height;
 pub use seams_between::seams;
 pub use table::Table;
+pub use tile_block::block_heights;

@@ -8,10 +8,9 @@ ghost use Rattle.catalogue.specs.Tiles.{corners_of, is_listed, AreCorners};
 
 use crate::Samples;
 use lattice::{Corner, Refusal};
-use std::alloc::Global;
 
 /// The corners of the present tiles, in order. NoMemory is the only refusal.
-pub fn tiles<S: Samples>(alloc: Global, samples: &S) -> Result<Vec<Corner>, Refusal>
+pub fn tiles<S: Samples>(samples: &S) -> Result<Vec<Corner>, Refusal>
     ensures corners { S.is_honest samples.now → IfOk result (λ found. found.items ≡ corners_of (S.mosaic samples.now)) }
 
     // The same on any disk.
@@ -19,7 +18,7 @@ pub fn tiles<S: Samples>(alloc: Global, samples: &S) -> Result<Vec<Corner>, Refu
     ensures in_order { IfOk result (λ found. AllAdjacentBelow IsBefore found.items (length found.items)) }
     ensures refusal { IfErr result (λ r. r ≡ NoMemory) }
 {
-    samples.present_corners(alloc)
+    samples.present_corners()
 }
 
 // The corner at this latitude and longitude, where its tile is present.

@@ -10,7 +10,6 @@ ghost use Rattle.catalogue.specs.Reading.{IsSampleOf, AreSamplesOf, MayRefuse};
 ghost use Rattle.catalogue.specs.Tiles.{corners_of, AreCorners};
 
 use lattice::{Corner, Point, Refusal, Side};
-use std::alloc::Global;
 
 /// Tiles whose samples can be read, one by one or many at once: in memory, or from a disk.
 ///
@@ -61,7 +60,7 @@ pub trait Samples {
         ensures { result ≡ length (corners self.now) };
 
     /// The corners of the present tiles, in order. NoMemory is the only refusal.
-    fn present_corners(&self, alloc: Global) -> Result<Vec<Corner>, Refusal>
+    fn present_corners(&self) -> Result<Vec<Corner>, Refusal>
         ensures corners { IfOk result (λ found. found.items ≡ corners self.now) }
         ensures in_order { AllAdjacentBelow IsBefore (corners self.now) (length (corners self.now)) }
         ensures refusal { IfErr result (λ r. r ≡ NoMemory) };

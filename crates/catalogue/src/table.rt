@@ -12,6 +12,7 @@ use std::marker::Model;
 /// A mosaic in memory. Reading from it is never refused.
 #[derive(Drop)]
 pub struct Table {
+    alloc: Global,
     side: Side,
     tiles: BTreeMap<Corner, Vec<i16>>,
     sinks: ArrayVec<Point, MOST_SINKS>,
@@ -40,6 +41,7 @@ impl Table {
         ensures valid { IsMosaic result }
     {
         Table {
+            alloc,
             side,
             tiles: BTreeMap::new(alloc),
             sinks: ArrayVec::new(),
@@ -107,12 +109,12 @@ impl Table {
     }
 
     /// The corners of the present tiles, in order.
-    pub fn corners(&self, alloc: Global) -> Result<Vec<Corner>, Refusal>
+    pub fn corners(&self) -> Result<Vec<Corner>, Refusal>
         ensures corners { IfOk result (λ v. v.items ≡ corners_of self.now) }
         ensures refusal { IfErr result (λ r. r ≡ NoMemory) }
         ensures valid { IsMosaic self.now }
     {
-        Ok(self.tiles.keys().copied().collect(alloc)?)
+        Ok(self.tiles.keys().copied().collect(self.alloc)?)
     }
 }
 
@@ -183,8 +185,8 @@ impl Samples for Table {
         self.tiles.len()
     }
 
-    fn present_corners(&self, alloc: Global) -> Result<Vec<Corner>, Refusal> {
-        self.corners(alloc)
+    fn present_corners(&self) -> Result<Vec<Corner>, Refusal> {
+        self.corners()
     }
 
     fn sinks(&self) -> &[Point] {

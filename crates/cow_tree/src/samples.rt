@@ -6,11 +6,10 @@ ghost use Rattle.cow_tree.specs.Trees.{disk_of, root_of, has_failed, corners_of,
 
 use crate::tree::Tree;
 use catalogue::Samples;
-use page_map::Plane;
 use disk::Disk;
 use lattice::{Corner, Point, Refusal, Side};
 use page_codec::PAGE_BYTES;
-use std::alloc::Global;
+use page_map::Plane;
 
 const SAMPLES_IN_PAGE: u32 = 2048;
 
@@ -82,8 +81,8 @@ impl<D: Disk> Samples for Tree<D> {
         self.corners().len()
     }
 
-    fn present_corners(&self, alloc: Global) -> Result<Vec<Corner>, Refusal> {
-        Ok(Vec::from_slice(alloc, self.corners().as_slice())?)
+    fn present_corners(&self) -> Result<Vec<Corner>, Refusal> {
+        Ok(Vec::from_slice(self.alloc, self.corners().as_slice())?)
     }
 
     fn sinks(&self) -> &[Point] {

@@ -30,10 +30,10 @@ use crate::opening::read_page_map;
 use crate::sinks::Sinks;
 use crate::writing::{write_kept, write_plane};
 use arrayvec::ArrayVec;
-use page_map::{PageMap, Plane};
 use disk::Disk;
 use lattice::{Corner, MOST_TILES, Point, Refusal};
 use page_codec::{Format, PAGE_BYTES, Root, Version};
+use page_map::{PageMap, Plane};
 use roots::{NotOpened, Roots};
 use std::alloc::Global;
 
@@ -45,7 +45,7 @@ const TILES: usize = MOST_TILES as usize;
 /// from then on, and after a refused reopening, only reopening helps.
 #[derive(Drop)]
 pub struct Tree<D: Disk> {
-    alloc: Global,
+    pub(crate) alloc: Global,
     roots: Roots<D>,
     page_map: PageMap,
     root: Root,

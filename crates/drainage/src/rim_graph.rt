@@ -29,7 +29,7 @@ impl RimGraph {
         ensures refusal { IfErr result (λ r. r ≡ NoMemory) }
     {
         let side = samples.side();
-        let corners = samples.present_corners(alloc)?;
+        let corners = samples.present_corners()?;
         let Some(_) = node_at(side, corners.len(), 0) else {
             return Err(Refusal::NoMemory);
         };

@@ -88,8 +88,8 @@ impl<'a, D: Disk, P: Premise> Samples for Asked<'a, D, P> {
         Samples::count(&*self.tree)
     }
 
-    fn present_corners(&self, alloc: Global) -> Result<Vec<Corner>, Refusal> {
-        self.tree.present_corners(alloc)
+    fn present_corners(&self) -> Result<Vec<Corner>, Refusal> {
+        self.tree.present_corners()
     }
 
     fn sinks(&self) -> &[Point] {

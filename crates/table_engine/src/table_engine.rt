@@ -144,7 +144,7 @@ impl Engine for TableEngine {
     }
 
     fn tiles(&self) -> Result<Vec<Corner>, Refusal> {
-        self.table.corners(self.alloc)
+        self.table.corners()
     }
 
     fn sinks(&self) -> Result<Vec<Point>, Refusal> {
@@ -152,7 +152,7 @@ impl Engine for TableEngine {
     }
 
     fn step(&mut self) -> Result<Option<Corner>, Refusal> {
-        let corners = self.table.corners(self.alloc)?;
+        let corners = self.table.corners()?;
         let Some(corner) = first_stale(&corners, &self.fresh) else {
             return Ok(None);
         };

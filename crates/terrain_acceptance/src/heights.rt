@@ -3,7 +3,7 @@ use crate::asserting::{assert_named, assert_row};
 use crate::script::Asked::{Import, Remove};
 use crate::script::Step::{Done, Elevation, Seams};
 use crate::script::{A, G, H, K, Script, V, at, follow};
-use catalogue::{Samples, Table, adjacent, degree, outlet, sealed, seams, tiles};
+use catalogue::{Samples, Table, adjacent, degree, outlet, seams, tiles};
 use lattice::{Corner, Height, Refusal, Side};
 use std::alloc::Global;
 use std::process::Abort;
@@ -184,8 +184,8 @@ fn a_table_keeps_its_tiles_in_order(rt: HostRuntime) -> Result<(), Fail> {
     let alloc = rt.alloc();
     let table = table(alloc, &[(N00E001, H), (S01W001, A), (N00E000, G)])?;
     let order = [S01W001, N00E000, N00E001];
-    assert!(rt; table.corners(alloc)?.as_slice() == order.as_slice());
-    assert!(rt; tiles(alloc, &table)?.as_slice() == order.as_slice());
+    assert!(rt; table.corners()?.as_slice() == order.as_slice());
+    assert!(rt; tiles(&table)?.as_slice() == order.as_slice());
     assert!(rt; has_tile(&table, N00E000, &G));
     assert!(rt; table.samples(N01E001).is_none());
     Ok(())
@@ -223,49 +223,5 @@ fn samples_are_read_from_an_index_on(rt: HostRuntime) -> Result<(), Fail> {
         assert!(rt; table.read_samples(N00E000, 4, &mut some) == Ok(()));
     }
     assert!(rt; some == [1, 9, 9]);
-    Ok(())
-}
-
-/// Two tiles with their samples.
-type Pair = [(Corner, [i16; 9]); 2];
-
-// What is shown, two tiles that disagree in one point, and the same sealed.
-const SEALED: [(&str, Pair, Pair); 3] = [
-    (
-        "a shared point has the height of its first tile",
-        [(N00E000, G), (N00E001, H)],
-        [(N00E000, G), (N00E001, [9, 9, 9, 7, 9, 9, 9, 9, 9])],
-    ),
-    (
-        "a shared void has the other tile's height",
-        [(N00E000, K), (N00E001, H)],
-        [(N00E000, [9, 9, 9, 9, 9, 8, 9, 9, 9]), (N00E001, H)],
-    ),
-    (
-        "what no other tile holds stays as it is",
-        [(N00E000, V), (N01E001, [1; 9])],
-        [(N00E000, V), (N01E001, [1, 1, 1, 1, 1, 1, 9, 1, 1])],
-    ),
-];
-
-fn agrees(alloc: Global, table: &mut Table, tiles: &Pair) -> Result<bool, Refusal> {
-    let [(first, samples), (second, others)] = tiles;
-    let corners = table.corners(alloc)?;
-    let has_corners = corners.as_slice() == [*first, *second].as_slice();
-    let has_tiles = has_tile(table, *first, samples) && has_tile(table, *second, others);
-    Ok(has_corners && has_tiles && seams(table) == Ok(0))
-}
-
-fn is_sealed(alloc: Global, before: &Pair, after: &Pair) -> Result<bool, Refusal> {
-    let mut table = table(alloc, before)?;
-    let mut agreeing = sealed(alloc, &mut table)?;
-    Ok(agrees(alloc, &mut agreeing, after)? && seams(&mut table) == Ok(1))
-}
-
-#[test]
-fn sealed_tiles_have_one_height_at_a_shared_point(rt: HostRuntime) -> Result<(), Fail> {
-    for (shows, before, after) in SEALED.iter() {
-        assert_named(&rt, is_sealed(rt.alloc(), before, after)?, shows);
-    }
     Ok(())
 }

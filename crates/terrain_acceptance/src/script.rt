@@ -269,10 +269,10 @@ struct OnTable {
 }
 
 // Directions are asked of so few tiles alone.
-fn check_few(alloc: Global, table: &Table) -> Result<(), Refusal>
+fn check_few(table: &Table) -> Result<(), Refusal>
     ensures { OnOk result (length (corners_of table.now) ≤ 240) }
 {
-    let corners = table.corners(alloc)?;
+    let corners = table.corners()?;
     if corners.len() > 240 {
         return Err(Refusal::Full);
     }
@@ -294,17 +294,17 @@ impl Mosaic for OnTable {
     }
 
     fn direction(&mut self, point: Point) -> Result<u8, Refusal> {
-        check_few(self.alloc, &self.table)?;
+        check_few(&self.table)?;
         drainage::direction(self.alloc, &mut self.table, point)
     }
 
     fn trace(&mut self, point: Point) -> Result<Vec<Point>, Refusal> {
-        check_few(self.alloc, &self.table)?;
+        check_few(&self.table)?;
         drainage::trace(self.alloc, &mut self.table, point)
     }
 
     fn watershed(&mut self, point: Point) -> Result<Vec<Run>, Refusal> {
-        check_few(self.alloc, &self.table)?;
+        check_few(&self.table)?;
         drainage::watershed(self.alloc, &mut self.table, point)
     }
 

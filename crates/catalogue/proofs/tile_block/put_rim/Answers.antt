@@ -4,7 +4,7 @@ use Rattle.lattice.specs.Corners.{Corner}
 use Rattle.lattice.specs.RimPoints.{IsRimPoint}
 use Rattle.catalogue.proofs.Blocks.{IsPartly, partly_none, partly_step, partly_all}
 use Rattle.catalogue.proofs.Reading.{reads_nothing, reads_on}
-use Rattle.catalogue.proofs.sealing.seal_rim.Goals as goal
+use Rattle.catalogue.proofs.tile_block.put_rim.Goals as goal
 
 pub loop-number-init : goal.loop-number-init
 loop-number-init g c =
@@ -22,16 +22,16 @@ loop-number-preserved g c =
     let now = c.args.samples.now in
     let m = g.S.Samples.mosaic now in
     let so = c.loop-number.invariant in
-    let read = c.in_ok-seal_at.ensures.reads in
+    let read = c.in_ok-put_at.ensures.reads in
     record {
-      reads = reads_on g.S.Samples laws.keeps_on now c.loop-number.samples c.seal_at.new.samples tt (Ok tt) so.reads read;
-      whole = c.seal_at.auto.heights ∙ so.whole;
+      reads = reads_on g.S.Samples laws.keeps_on now c.loop-number.samples c.put_at.new.samples tt (Ok tt) so.reads read;
+      whole = c.put_at.auto.heights ∙ so.whole;
       partly = λ honest own.
           let honest_mid = read.honest honest in
           let side = laws.same_side now (so.reads.honest honest_mid) in
           let at : IsRimPoint m.side c.loop-number.number c.rim_index.result = subst (λ n. IsRimPoint n c.loop-number.number c.rim_index.result) (c.side-side.ensures ∙ sym side) c.rim_index.ensures in
-          partly_step m c.args.corner (g.S.Samples.mosaic c.loop-number.samples) (g.S.Samples.side_of c.loop-number.samples) c.rim_index.result c.loop-number.number c.loop-number.heights c.seal_at.new.heights
-          (so.reads.mosaic honest_mid) (so.reads.side ∙ sym side) (laws.is_mosaic now (so.reads.honest honest_mid)).side_low at (so.partly honest_mid own) (c.in_ok-seal_at.ensures.height honest);
+          partly_step m c.args.corner (g.S.Samples.mosaic c.loop-number.samples) (g.S.Samples.side_of c.loop-number.samples) c.rim_index.result c.loop-number.number c.loop-number.heights c.put_at.new.heights
+          (so.reads.mosaic honest_mid) (so.reads.side ∙ sym side) (laws.is_mosaic now (so.reads.honest honest_mid)).side_low at (so.partly honest_mid own) (c.in_ok-put_at.ensures.height honest);
     }
 
 pub returns-clause-heights : goal.returns-clause-heights

@@ -1,7 +1,7 @@
 use Rattle.std.proofs.Common.{◌≡◌, ℕ, ◌<◌, false, get_or}
 use Rattle.std.specs.Prelude.{Contains}
 use Rattle.lattice.specs.Corners.{Corner, same_corner}
-use Rattle.catalogue.proofs.sealing.is_held_elsewhere.Given as goal
+use Rattle.catalogue.proofs.tile_block.is_held_elsewhere.Given as goal
 
 abbrev pub invariant-loop-holder : goal.invariant-loop-holder
 invariant-loop-holder g l =

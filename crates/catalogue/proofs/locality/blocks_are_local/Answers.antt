@@ -1,5 +1,5 @@
 use Rattle.catalogue.proofs.Nearby.{near_height, near_block, near_adjacent, near_outlet}
-use Rattle.catalogue.proofs.sealing_laws.blocks_are_local.Goals as goal
+use Rattle.catalogue.proofs.locality.blocks_are_local.Goals as goal
 
 pub returns-clause-heights : goal.returns-clause-heights
 returns-clause-heights c = near_height

@@ -1,37 +1,12 @@
--- Laws of sealing: what a sealed mosaic keeps, and what a block and its surroundings depend on.
-use Rattle.std.specs.Prelude.{◌≡◌, ◌<◌, ◌-ℤ◌, nat_abs, IsTrue, IsFalse}
+-- What a block and its surroundings depend on.
+use Rattle.std.specs.Prelude.{◌≡◌, ◌<◌, ◌-ℤ◌, nat_abs, IsTrue}
 use Rattle.lattice.specs.Corners.{Corner, is_corner}
 use Rattle.lattice.specs.Lattice.{holds}
 use Rattle.lattice.specs.Mosaic.{Mosaic, IsMosaic, samples_of}
-use Rattle.lattice.specs.Height.{height_of, disagrees}
-use Rattle.lattice.specs.Ground.{is_ground, is_adjacent, degree_of, is_sink, is_outlet, terrain}
+use Rattle.lattice.specs.Height.{height_of}
+use Rattle.lattice.specs.Ground.{is_adjacent, is_sink, is_outlet}
 use Rattle.lattice.specs.Block.{Block, IsBlockOf}
 use Rattle.lattice.specs.declared.point.Point.{Point}
-use Rattle.catalogue.specs.Sealed.{IsSealed}
-
--- each point keeps its height
-abbrev pub SealingKeepsHeights : Type 0
-SealingKeepsHeights = (m s : Mosaic) → IsMosaic m → IsMosaic s → IsSealed m s → (p : Point) → height_of s p ≡ height_of m p
-
-abbrev pub SealingKeepsGround : Type 0
-SealingKeepsGround = (m s : Mosaic) → IsMosaic m → IsMosaic s → IsSealed m s → (p : Point) → is_ground s p ≡ is_ground m p
-
-abbrev pub SealingKeepsAdjacency : Type 0
-SealingKeepsAdjacency = (m s : Mosaic) → IsMosaic m → IsMosaic s → IsSealed m s → (p q : Point) → is_adjacent s p q ≡ is_adjacent m p q
-
-abbrev pub SealingKeepsDegrees : Type 0
-SealingKeepsDegrees = (m s : Mosaic) → IsMosaic m → IsMosaic s → IsSealed m s → (p : Point) → degree_of s p ≡ degree_of m p
-
-abbrev pub SealingKeepsOutlets : Type 0
-SealingKeepsOutlets = (m s : Mosaic) → IsMosaic m → IsMosaic s → IsSealed m s → (p : Point) → is_outlet s p ≡ is_outlet m p
-
--- so both are one terrain
-abbrev pub SealingKeepsTheTerrain : Type 0
-SealingKeepsTheTerrain = (m s : Mosaic) → IsMosaic m → IsMosaic s → IsSealed m s → terrain s ≡ terrain m
-
--- no point of a sealed mosaic disagrees
-abbrev pub SealedTilesAgree : Type 0
-SealedTilesAgree = (m s : Mosaic) → IsMosaic m → IsMosaic s → IsSealed m s → (p : Point) → IsFalse (disagrees s p)
 
 -- the same tiles at most one degree of latitude and one of longitude from the corner: the tile itself and its neighbours
 abbrev pub SameNearby : Mosaic → Mosaic → Corner → Type 0

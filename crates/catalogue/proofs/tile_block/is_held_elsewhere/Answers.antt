@@ -5,8 +5,8 @@ use Rattle.std.proofs.lemmas.Bool.{cases_eq, false≢true, false_from_ne_true}
 use Rattle.lattice.specs.Corners.{Corner, same_corner}
 use Rattle.lattice.specs.Lattice.{Holds}
 use Rattle.catalogue.proofs.Elsewhere.{elsewhere_from, not_elsewhere}
-use Rattle.catalogue.proofs.sealing.is_held_elsewhere.Goals as goal
-use Rattle.catalogue.proofs.sealing.is_held_elsewhere.Goals.{else-ne-via-then-ne+else-present, else-ne-via-else-ne}
+use Rattle.catalogue.proofs.tile_block.is_held_elsewhere.Goals as goal
+use Rattle.catalogue.proofs.tile_block.is_held_elsewhere.Goals.{else-ne-via-then-ne+else-present, else-ne-via-else-ne}
 
 pub returns-then-present : goal.returns-then-present
 returns-then-present g c honest =

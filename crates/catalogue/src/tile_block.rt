@@ -1,47 +1,20 @@
-//! The mosaic sealed by the seam rule.
+//! The heights of a tile's block, by the seam rule.
 ghost use Rattle.std.specs.Prelude.{◌≡◌, ◌<◌, ◌*◌, ◌-◌, ◌⊎◌, IfOk, IfErr, OnOk, length, vec_len, slice_index_or, slice_set, Contains, All};
 ghost use Rattle.lattice.specs.Block.{AreHeightsOf};
 ghost use Rattle.lattice.specs.Ground.{metres as metres_of};
 ghost use Rattle.lattice.specs.Height.{height_of};
 ghost use Rattle.lattice.specs.Lattice.{point_of};
-ghost use Rattle.lattice.specs.Mosaic.{IsMosaic, IsSample, void};
+ghost use Rattle.lattice.specs.Mosaic.{IsSample, void};
 ghost use Rattle.lattice.specs.declared.refusal.Refusal.TheVariants.{NoMemory};
 ghost use Rattle.catalogue.specs.Readers.{OnlyReads, reads_of};
 ghost use Rattle.catalogue.specs.Reading.{AreSamplesOf, MayRefuse};
-ghost use Rattle.catalogue.specs.Sealed.{IsSealed, IsOwnOrHeight, is_held_elsewhere as held_elsewhere};
-ghost use Rattle.catalogue.specs.Tiles.{corners_of};
+ghost use Rattle.catalogue.specs.Elsewhere.{IsOwnOrHeight, is_held_elsewhere as held_elsewhere};
 
-use crate::listing::tiles;
+use crate::Samples;
 use crate::seam_rule::height;
 use crate::table::read_all;
-use crate::{Samples, Table};
 use lattice::{Corner, Height, Point, Refusal, VOID, holders, point_at, rim_index};
 use std::alloc::Global;
-
-/// The mosaic with each tile's samples replaced by the heights of its points by the seam rule, void where a point has
-/// none, and with the same sinks. Its tiles agree wherever they meet, and each point keeps its height.
-///
-/// It takes memory for all tiles at once. Of each tile it reads the samples in one read, and further ones only for the
-/// points of the rim that another tile holds too. It is refused with NoMemory, or as a read of samples is.
-pub fn sealed<S: Samples>(alloc: Global, samples: &mut S) -> Result<Table, Refusal>
-    ensures sealed { S.is_honest samples.new → IfOk result (λ table. IsSealed (S.mosaic samples.old) table) }
-
-    // On any disk it is a mosaic with the side and the corners that were there.
-    ensures valid { IfOk result (λ table. IsMosaic table) }
-    ensures side { IfOk result (λ table. table.side ≡ S.side_of samples.old) }
-    ensures corners { IfOk result (λ table. corners_of table ≡ S.corners samples.old) }
-    ensures refusal { IfErr result (λ r. (r ≡ NoMemory) ⊎ MayRefuse (S.failures samples.old) (S.failures samples.new) r) }
-    ensures reads { OnlyReads S.Samples samples.old samples.new (reads_of result) }
-{
-    let corners = tiles(alloc, samples)?;
-    let mut table = Table::new(alloc, samples.side());
-    table.declare(samples.sinks());
-    for corner in corners.as_slice() {
-        let heights = block_heights(alloc, samples, *corner)?;
-        table.add(*corner, heights)?;
-    }
-    Ok(table)
-}
 
 /// The heights of the points of the corner's tile by the seam rule, by index, void where a point has none.
 ///
@@ -61,14 +34,14 @@ pub fn block_heights<S: Samples>(
 {
     let mut heights = vec![in alloc; 0; samples.side().area() as usize]?;
     samples.read_samples(corner, 0, heights.as_mut_slice())?;
-    seal_rim(samples, corner, heights.as_mut_slice())?;
+    put_rim(samples, corner, heights.as_mut_slice())?;
     // Each height is known to be a number of 16 bits once it was read.
     read_all(&heights);
     Ok(heights)
 }
 
 // Puts the heights by the seam rule in place of the samples of the rim. No other tile holds a point inside.
-fn seal_rim<S: Samples>(samples: &mut S, corner: Corner, heights: &mut [i16]) -> Result<(), Refusal>
+fn put_rim<S: Samples>(samples: &mut S, corner: Corner, heights: &mut [i16]) -> Result<(), Refusal>
     requires present { Contains (S.corners samples.old) corner }
     requires whole { length heights.old ≡ S.side_of samples.old * S.side_of samples.old }
     ensures heights { S.is_honest samples.new
@@ -78,13 +51,13 @@ fn seal_rim<S: Samples>(samples: &mut S, corner: Corner, heights: &mut [i16]) ->
 {
     let side = samples.side();
     for number in 0..side.rim() {
-        seal_at(samples, corner, rim_index(side, number), heights)?;
+        put_at(samples, corner, rim_index(side, number), heights)?;
     }
     Ok(())
 }
 
 // Puts the height of the sample's point by the seam rule at the index, where the tile's own sample may stand.
-fn seal_at<S: Samples>(
+fn put_at<S: Samples>(
     samples: &mut S,
     corner: Corner,
     index: u32,

@@ -4,12 +4,12 @@ use Rattle.lattice.specs.Corners.{Corner}
 use Rattle.lattice.specs.Lattice.{point_of}
 use Rattle.lattice.specs.Height.{height_of}
 use Rattle.lattice.specs.Ground.{metres}
-use Rattle.catalogue.specs.Sealed.{is_held_elsewhere}
+use Rattle.catalogue.specs.Elsewhere.{is_held_elsewhere}
 use Rattle.catalogue.proofs.Blocks.{alone_set}
 use Rattle.std.proofs.lemmas.Result.{err_from_is_err_and}
 use Rattle.lattice.specs.declared.refusal.Refusal.{Refusal}
 use Rattle.catalogue.proofs.Reading.{reads_nothing, reads_as, reads_refused}
-use Rattle.catalogue.proofs.sealing.seal_at.Goals as goal
+use Rattle.catalogue.proofs.tile_block.put_at.Goals as goal
 
 pub returns-else-is_held_elsewhere-clause-height : goal.returns-else-is_held_elsewhere-clause-height
 returns-else-is_held_elsewhere-clause-height g c honest either =

@@ -3,7 +3,7 @@ use Rattle.std.specs.Prelude.{Ok}
 use Rattle.catalogue.specs.Readers.{OnlyReads}
 use Rattle.catalogue.specs.Reading.{AreSamplesOf}
 use Rattle.catalogue.proofs.Blocks.{IsPartly}
-use Rattle.catalogue.proofs.sealing.seal_rim.Given as goal
+use Rattle.catalogue.proofs.tile_block.put_rim.Given as goal
 
 abbrev pub invariant-loop-number : goal.invariant-loop-number
 invariant-loop-number g l = record {

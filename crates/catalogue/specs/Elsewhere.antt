@@ -1,23 +1,13 @@
--- The mosaic sealed: each tile with the heights of its points by the seam rule in place of its own samples (this
--- product's own profile).
-use Rattle.std.specs.Prelude.{◌≡◌, ◌⊎◌, ℕ, ℤ, Bool, ◌&&◌, not, All}
+-- What the rim of a tile takes from other tiles (this product's own profile).
+use Rattle.std.specs.Prelude.{◌≡◌, ◌⊎◌, ℕ, ℤ, Bool, ◌&&◌, not}
 use Rattle.std.specs.List.{list_any}
 use Rattle.lattice.specs.Corners.{Corner, same_corner}
 use Rattle.lattice.specs.Lattice.{holds, point_of}
 use Rattle.lattice.specs.Mosaic.{Mosaic}
 use Rattle.lattice.specs.Height.{height_of}
 use Rattle.lattice.specs.Ground.{metres}
-use Rattle.lattice.specs.Block.{AreHeightsOf}
 use Rattle.lattice.specs.declared.point.Point.{Point}
 use Rattle.catalogue.specs.Reading.{IsSampleOf}
-use Rattle.catalogue.specs.Tiles.{corners_of}
-
--- each tile's samples are the heights of its points by the seam rule, void where a point has none; the sinks stay
-pub record IsSealed (m sealed : Mosaic) : Type 0 where
-  pub side : sealed.side ≡ m.side
-  pub corners : corners_of sealed ≡ corners_of m
-  pub sinks : sealed.sinks ≡ m.sinks
-  pub heights : All (λ t. AreHeightsOf m t.corner t.samples) sealed.tiles
 
 -- a present tile other than the corner's holds the point
 abbrev pub is_held_elsewhere : Mosaic → Corner → Point → Bool
