@@ -141,7 +141,7 @@ impl<D: Disk> Store<D> {
         ensures sure { D.honest (disk_of self.new) → (s : State) → IsAt D.Disk self.old s
             → IfErr result (λ r. (r ≡ Device) ⊎ (r ≡ NoMemory)) }
     {
-        self.held.forget();
+        self.held.invalidate();
         self.tree.reopen()
     }
 

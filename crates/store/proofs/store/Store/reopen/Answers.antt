@@ -29,7 +29,7 @@ returns-clause-at g c honest s at =
     let seen = d.seen old.roots.disk in
     let was_honest = (c.reopen.ensures.nothing honest).honest in
     on_ok_both c.reopen.result
-    (λ is declared. known_holding d new c.forget.new.self c.forget.ensures s (in_known d new is.0 is.1.1.0 is.1.1.1 (g.met.D.Disk.seen_may new.roots.disk honest) old.root.side old.root.capacity declared (d.size old.roots.disk) seen s is.1.0
+    (λ is declared. known_holding d new c.invalidate.new.self c.invalidate.ensures s (in_known d new is.0 is.1.1.0 is.1.1.1 (g.met.D.Disk.seen_may new.roots.disk honest) old.root.side old.root.capacity declared (d.size old.roots.disk) seen s is.1.0
     (at.in_state.images seen (g.met.D.Disk.seen_may old.roots.disk was_honest))))
     (c.reopen.ensures.at honest) c.reopen.ensures.sinks
 
@@ -79,5 +79,5 @@ returns-clause-stays g c honest s at =
     (λ fails same. record {
       in_state = stays_failed d (disk_of old) (disk_of new) c.reopen.ensures.size (c.reopen.ensures.nothing honest).run.now (root_of old) (root_of new) same (has_failed old) (has_failed new) (λ (stored : Stored). IsTreeAt d old stored)
           (λ (stored : Stored). IsTreeAt d new stored) (staged_in d old) (staged_in d new) (sinks_of old) (sinks_of new) s at.in_state fails;
-      right = c.forget.ensures s.contents.mosaic;
+      right = c.invalidate.ensures s.contents.mosaic;
     })
