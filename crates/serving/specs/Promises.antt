@@ -64,11 +64,11 @@ module _ {E : Type 0} (g : Ghosts E) where
 
   -- All that is known of what serve makes of an engine, one engine after each item.
   pub record Serves (before after written new : Option (List ℕ)) (old : E) (engines : List E) (result : Result (Unit {0}) ServeFault) : Type 0 where
-    -- the calls, and what the replies format_reply of them
+    -- the calls, and what the replies tell of them
     pub answers : Outcome Answers before after written new old engines result
     -- on an honest disk: the run of states
     pub states : g.is_honest (last_of old engines) → (s : State) → g.is_at old s → (states : List State) × GoesThrough before after written new old engines result s states
-    -- on any disk, honest or not: what the replies format_reply of whether the engine has failed
+    -- on any disk, honest or not: what the replies tell of whether the engine has failed
     pub told : Outcome (Replied IsTold (λ _. g.side_of old)) before after written new (g.has_failed old) (map g.has_failed engines) result
     pub side : g.side_of (last_of old engines) ≡ g.side_of old
     pub capacity : g.capacity_of (last_of old engines) ≡ g.capacity_of old

@@ -14,8 +14,8 @@
 #![tactic(auto)]
 
 mod answering;
-mod reading;
 mod output;
+mod reading;
 mod session;
 
 pub use output::{CheckedWriter, Output};

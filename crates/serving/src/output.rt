@@ -1,7 +1,8 @@
 //! Where replies are written.
 ghost use Rattle.std.specs.Prelude.{◌≡◌, Bool, IsErr, false, true};
-ghost use Rattle.std.specs.Io.KnownBytes.{Keeps};
-ghost use Rattle.serving.specs.Outputs.{Puts, stream_of};
+ghost use Rattle.std.specs.Io.{WritesAtMost};
+ghost use Rattle.std.specs.Io.KnownBytes.{Keeps, WriteAppends};
+ghost use Rattle.serving.specs.Outputs.{FailsToWrite, Notes, Puts, stream_of};
 
 use lines::{Text, WriteFault, write_bytes};
 use std::io::{self, Write};
@@ -70,7 +71,11 @@ impl<W: Write> CheckedWriter<W> {
 impl<W: Write> Write for CheckedWriter<W> {
     ghost contents = { λ checked. W.contents checked.writer };
 
-    fn write(&mut self, buf: &[u8]) -> io::Result<usize> {
+    fn write(&mut self, buf: &[u8]) -> io::Result<usize>
+        ensures bound { WritesAtMost result buf.now }
+        ensures bytes { WriteAppends (W.contents self.old.writer) (W.contents self.new.writer) result buf.now }
+        ensures noted { Notes (FailsToWrite result buf.now) self.old.failed self.new.failed }
+    {
         let answer = self.writer.write(buf);
         if !matches!(&answer, Ok(count) if *count > 0 || buf.is_empty()) {
             self.failed = true;
@@ -78,7 +83,10 @@ impl<W: Write> Write for CheckedWriter<W> {
         answer
     }
 
-    fn flush(&mut self) -> io::Result<()> {
+    fn flush(&mut self) -> io::Result<()>
+        ensures bytes { Keeps (W.contents self.old.writer) (W.contents self.new.writer) }
+        ensures noted { Notes (IsErr result) self.old.failed self.new.failed }
+    {
         let answer = self.writer.flush();
         if answer.is_err() {
             self.failed = true;

@@ -7,8 +7,8 @@ ghost use Rattle.serving.specs.Promises.{Answers, Serves};
 ghost use Rattle.serving.specs.Session.{Steps};
 
 use crate::answering::answer;
-use crate::reading::{read_item, is_last, is_over};
 use crate::output::Output;
+use crate::reading::{is_last, is_over, read_item};
 use engine::Engine;
 use lines::{Ahead, Line, read_line};
 use std::alloc::Global;
