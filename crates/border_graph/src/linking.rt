@@ -231,14 +231,29 @@ fn link_tile(
     Ok(())
 }
 
-// No links, for so many nodes.
-fn no_links(alloc: Global, nodes: usize) -> Result<Vec<Vec<Link>>, AllocError>
-    ensures whole { IfOk result (λ links. length links.items ≡ nodes) }
+// So many nodes more, without links.
+fn add_nodes(alloc: Global, count: usize, links: &mut Vec<Vec<Link>>) -> Result<(), AllocError>
+    requires none { (y : ℕ) → slice_index_or (map (λ v. v.items) links.old.items) y [] ≡ [] }
+    ensures whole { OnOk result (vec_len links.new ≡ vec_len links.old + count) }
+    ensures none { OnOk result ((y : ℕ) → slice_index_or (map (λ v. v.items) links.new.items) y [] ≡ []) }
+{
+    links.reserve(count)?;
+    for _ in 0..count {
+        links.push(Vec::new(alloc))?;
+    }
+    Ok(())
+}
+
+// No links, for the outlet node and so many rim points of each of so many tiles. Tile by tile, since their product may be no
+// number: the growth that has no room is refused.
+fn no_links(alloc: Global, tiles: usize, size: usize) -> Result<Vec<Vec<Link>>, AllocError>
+    ensures whole { IfOk result (λ links. length links.items ≡ 1 + tiles * size) }
     ensures none { IfOk result (λ links. (y : ℕ) → slice_index_or (map (λ v. v.items) links.items) y [] ≡ []) }
 {
-    let mut links = Vec::with_capacity(alloc, nodes)?;
-    for _ in 0..nodes {
-        links.push(Vec::new(alloc))?;
+    let mut links = Vec::new(alloc);
+    add_nodes(alloc, 1, &mut links)?;
+    for _ in 0..tiles {
+        add_nodes(alloc, size, &mut links)?;
     }
     Ok(links)
 }
@@ -255,13 +270,7 @@ pub fn links_between(
     ensures refusal { IfErr result (λ refusal. refusal ≡ NoMemory) }
 {
     let size = 4 * side.edge() as usize;
-    let Some(points) = summaries.len().checked_mul(size) else {
-        return Err(Refusal::NoMemory);
-    };
-    let Some(nodes) = points.checked_add(1) else {
-        return Err(Refusal::NoMemory);
-    };
-    let mut links = no_links(alloc, nodes)?;
+    let mut links = no_links(alloc, summaries.len(), size)?;
     for t in 0..summaries.len() {
         link_tile(side, summaries, t, &mut links)?;
     }
