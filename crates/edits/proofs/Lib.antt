@@ -9,8 +9,10 @@ mod FreshBlocks
 pub mod FreshSinks
 mod NewHeights
 mod NewMosaics
+mod Once
 mod Overlapping
 mod PlaceLemmas
+mod Planned
 mod Placing
 mod Repeats
 mod SamePoints

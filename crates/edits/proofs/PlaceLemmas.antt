@@ -1,8 +1,13 @@
 -- Where the samples of a point lie, holder by holder.
-use Rattle.std.proofs.Common.{◌≡◌, ℕ, zero, suc, ◌*◌, ◌<◌, ◌≤◌, ◌⊎◌, inl, inr, ◌↔◌, IsTrue, List, [], ◌∷◌, ◌++◌, length, sym, ◌∙◌, ap, ap₂, subst, length-append, arith}
-use Rattle.std.specs.List.{All, Contains}
-use Rattle.std.proofs.lemmas.List.Elements.{All-nil, All-push, Contains-append_left, Contains-push, Contains-push_cases}
-use Rattle.lattice.specs.Corners.{Corner, is_corner}
+use Rattle.std.proofs.Common.{◌≡◌, ℕ, zero, suc, ◌*◌, ◌<◌, ◌≤◌, ◌⊎◌, inl, inr, ◌↔◌, false, IsTrue, List, [], ◌∷◌, ◌++◌, length, get_or, take, sym, ◌∙◌, ap, ap₂, subst, length-append, arith}
+use Rattle.std.specs.Prelude.{IsFalse}
+use Rattle.std.specs.List.{All, AllPairs, Contains}
+use Rattle.std.proofs.lemmas.Bool.{false_from_ne_true}
+use Rattle.std.proofs.lemmas.List.Elements.{All-nil, All-push, All-weaker, Contains-append_left, Contains-push, Contains-push_cases}
+use Rattle.std.proofs.lemmas.List.Quantifiers.{all_pairs_push}
+use Rattle.lattice.proofs.CornerOrder.{before_apart, same_says}
+use Rattle.lattice.proofs.Rising.{Rising, after_at}
+use Rattle.lattice.specs.Corners.{Corner, is_corner, same_corner}
 use Rattle.lattice.specs.declared.point.Point.{Point}
 use Rattle.lattice.specs.Lattice.{Holds, IsIndexOf, point_of, index_of}
 use Rattle.lattice.proofs.Samples.{index_is, index_below, index_of_point_is, point_of_held, point_at_index}
@@ -13,7 +18,16 @@ use Rattle.edits.specs.Places.{IsPlace, ArePlaces}
 pub record PlacesAmong (n : ℕ) (cs among : List Corner) (p : Point) (places : List Place) : Type 0 where
   pub each : All (IsPlace n cs p) places
   pub complete : (c : Corner) (e : ℕ) → IsTrue (is_corner c) → Contains cs c → Contains among c → e < n * n → point_of n c e ≡ p → Contains places (record { corner = c; index = e })
+  pub once : AllPairs (λ x y. IsFalse (same_corner x.corner y.corner)) places
+  pub among_them : All (λ x. Contains among x.corner) places
   pub few : length places ≤ length among
+
+-- a corner of a rising list isn't among those before it
+pub not_earlier : (hs : List Corner) (i : ℕ) (d : Corner) → Rising (λ p. p) hs → i < length hs → Contains (take i hs) (get_or hs i d) → ⊥
+not_earlier [] i d rising below there = omega arith
+not_earlier (h ∷ hs) zero d rising below (k, small, here) = omega arith
+not_earlier (h ∷ hs) (suc i) d rising below (zero, small, here) = before_apart h (get_or hs i d) (after_at (λ p. p) h hs i d rising.0 (omega arith)) here
+not_earlier (h ∷ hs) (suc i) d rising below (suc k, small, here) = not_earlier hs i d rising.1 (omega arith) (k, omega arith, here)
 
 some_side : (n e : ℕ) → e < n * n → 0 < n
 some_side zero e within = absurd (omega arith)
@@ -24,6 +38,8 @@ module _ (n : ℕ) (cs : List Corner) (p : Point) where
   places_none = record {
     each = All-nil (IsPlace n cs p);
     complete = λ c e corner present (k, below, here) within at. absurd (omega arith);
+    once = λ i j d less below. absurd (omega arith);
+    among_them = All-nil (λ (x : Place). Contains [] x.corner);
     few = omega arith;
   }
 
@@ -32,6 +48,8 @@ module _ (n : ℕ) (cs : List Corner) (p : Point) where
   places_skip hs c places none so = record {
     each = so.each;
     complete = λ d e corner present listed within at. by d e corner present within at (Contains-push_cases hs c d listed);
+    once = so.once;
+    among_them = All-weaker (λ (x : Place). Contains hs x.corner) (λ (x : Place). Contains (hs ++ c ∷ []) x.corner) (λ x there. Contains-append_left hs (c ∷ []) x.corner there) places so.among_them;
     few = let more = length-append hs (c ∷ []) in omega (arith, so.few, more);
   }
     where
@@ -42,10 +60,14 @@ module _ (n : ℕ) (cs : List Corner) (p : Point) where
           absurd (none (subst (λ (q : Corner). Contains cs q) (sym same) present) (subst (λ (q : Corner). Holds n q p) (sym same) held))
 
   -- a present tile that holds it
-  pub places_push : (hs : List Corner) (c : Corner) (i : ℕ) (places : List Place) → Contains cs c → IsIndexOf n c p i → PlacesAmong n cs hs p places → PlacesAmong n cs (hs ++ c ∷ []) p (places ++ record { corner = c; index = i } ∷ [])
-  places_push hs c i places there index so = record {
+  pub places_push : (hs : List Corner) (c : Corner) (i : ℕ) (places : List Place) → (Contains hs c → ⊥) → Contains cs c → IsIndexOf n c p i → PlacesAmong n cs hs p places → PlacesAmong n cs (hs ++ c ∷ []) p (places ++ record { corner = c; index = i } ∷ [])
+  places_push hs c i places fresh there index so = record {
     each = All-push (IsPlace n cs p) places x so.each (record { present = there; within = index_below n c p i index; here = point_at_index n c p i index });
     complete = λ d e corner present listed within at. by d e corner present within at (Contains-push_cases hs c d listed);
+    once = all_pairs_push (λ (y z : Place). same_corner y.corner z.corner ≡ false) places x so.once
+        (λ k d below. let y = get_or places k d in false_from_ne_true (same_corner y.corner c) (λ same. fresh (subst (Contains hs) (same_says y.corner c same) (so.among_them k d below))));
+    among_them = All-push (λ (y : Place). Contains (hs ++ c ∷ []) y.corner) places x
+        (All-weaker (λ (y : Place). Contains hs y.corner) (λ (y : Place). Contains (hs ++ c ∷ []) y.corner) (λ y there. Contains-append_left hs (c ∷ []) y.corner there) places so.among_them) (Contains-push hs c);
     few = let more = length-append hs (c ∷ []) in let pushed = length-append places (x ∷ []) in omega (arith, so.few, more, pushed);
   }
     where
@@ -65,5 +87,6 @@ module _ (n : ℕ) (cs : List Corner) (p : Point) where
     each = so.each;
     complete = λ c e corner present within at.
         so.complete c e corner present ((exactly c).1 (subst (λ (q : Point). Holds n c q) at (point_of_held n c e (some_side n e within) corner within))) within at;
+    once = so.once;
     few = omega (arith, so.few, four);
   }

@@ -1,5 +1,5 @@
 -- Changes that put a sample at void points, part by part.
-use Rattle.std.proofs.Common.{◌≡◌, Bool, false, ◌||◌, ℤ, List, subst}
+use Rattle.std.proofs.Common.{◌≡◌, Bool, true, false, ◌||◌, ℤ, List, subst}
 use Rattle.std.specs.Prelude.{Ok}
 use Rattle.std.specs.List.{All}
 use Rattle.lattice.specs.declared.point.Point.{Point}
@@ -25,14 +25,14 @@ module _ {S : Type 0} (g : Ghosts S) (s : ℤ) where
     sets = λ _. sets_none (g.side_of old) (g.corners old) (test (g.mosaic old)) s (none (g.mosaic old)) changes;
   }
 
-  pub put_on : ((a b c : S) → g.keeps a b → g.keeps b c → g.keeps a c) → (first second both : Mosaic → Point → Bool) → ((m : Mosaic) (p : Point) → both m p ≡ (first m p || second m p)) →
+  pub put_on : ((a b c : S) → g.keeps a b → g.keeps b c → g.keeps a c) → (first second both : Mosaic → Point → Bool) → ((m : Mosaic) (p : Point) → both m p ≡ (first m p || second m p)) → ((m : Mosaic) (p : Point) → first m p ≡ true → second m p ≡ true → ⊥) →
       (old mid now : S) (a b c : List Change) → ArePut g first s old mid a b → OnlyReads {T = Unit {0}} g mid now (Ok tt) →
       (All (CanBeSet (g.side_of mid) (g.corners mid)) b → All (CanBeSet (g.side_of mid) (g.corners mid)) c) →
       (g.is_honest now → Sets (g.side_of mid) (g.corners mid) (second (g.mosaic mid)) s b c) → ArePut g both s old now a c
-  put_on keeps_on first second both joined old mid now a b c so read fit sets = record {
+  put_on keeps_on first second both joined disjoint old mid now a b c so read fit sets = record {
     reads = reads_on g keeps_on old mid now tt (Ok tt) so.reads read;
     fits = λ before. fits_kept (g.side_of mid) (g.side_of old) (g.corners mid) (g.corners old) b c so.reads.side so.reads.corners fit (so.fits before);
-    sets = λ honest. sets_on (g.side_of old) (g.corners old) (first (g.mosaic old)) (second (g.mosaic old)) (both (g.mosaic old)) s (joined (g.mosaic old)) a b c (so.sets (read.honest honest))
+    sets = λ honest. sets_on (g.side_of old) (g.corners old) (first (g.mosaic old)) (second (g.mosaic old)) (both (g.mosaic old)) s (joined (g.mosaic old)) (disjoint (g.mosaic old)) a b c (so.sets (read.honest honest))
         (sets_kept (second (g.mosaic old)) s (g.side_of mid) (g.side_of old) (g.corners mid) (g.corners old) b c so.reads.side so.reads.corners
         (subst (λ (m : Mosaic). Sets (g.side_of mid) (g.corners mid) (second m) s b c) (so.reads.mosaic (read.honest honest)) (sets honest)));
   }

@@ -1,6 +1,7 @@
 -- What a change makes of a mosaic, and where it can be made (this product's own profile).
-use Rattle.std.specs.Prelude.{◌≡◌, ℕ, ◌*◌, ◌<◌, ℤ, Bool, if◌then◌else◌, List, [], ◌∷◌, length, Contains}
-use Rattle.lattice.specs.Corners.{Corner}
+use Rattle.std.specs.Prelude.{◌≡◌, ℕ, ◌*◌, ◌<◌, ℤ, Bool, true, false, ◌&&◌, ◌||◌, IsTrue, IsFalse, if◌then◌else◌, nat_eq, List, [], ◌∷◌, length, All, AllPairs, Contains}
+use Rattle.lattice.specs.Corners.{Corner, same_corner}
+use Rattle.lattice.specs.Lattice.{point_of}
 use Rattle.lattice.specs.declared.point.Point.{Point}
 use Rattle.lattice.specs.Mosaic.{Mosaic, IsMosaic, AreSinks}
 use Rattle.catalogue.specs.Tiles.{added, corners_of, without, with_sample, with_sinks}
@@ -35,8 +36,24 @@ abbrev pub CanBeSet : ℕ → List Corner → Change → Type 0
 CanBeSet n corners (Set c i s) = Contains corners c × (i < n * n)
 CanBeSet n corners _ = ⊥
 
--- The new changes are the old and some that set samples: those of the present tiles at the points that pass the test, to this
--- one.
-abbrev pub Sets : ℕ → List Corner → (Point → Bool) → ℤ → List Change → List Change → Type 0
-Sets n corners test s old new = (m : Mosaic) (f : Point → ℤ → ℤ) → IsMosaic m → m.side ≡ n → corners_of m ≡ corners → all_changed old m ≡ edited f m
-    → all_changed new m ≡ edited (λ p v. if test p then s else f p v) m
+-- the change sets a sample at a point that passes the test
+abbrev pub IsSetAt : ℕ → (Point → Bool) → Change → Type 0
+IsSetAt n test (Set c i s) = IsTrue (test (point_of n c i))
+IsSetAt n test _ = ⊥
+
+-- both changes set the same sample
+abbrev pub set_same : Change → Change → Bool
+set_same (Set c i s) (Set d j t) = same_corner c d && nat_eq i j
+set_same _ _ = false
+
+-- the changes set samples at points that pass the test, and none of them twice
+pub record SetOnce (n : ℕ) (test : Point → Bool) (changes : List Change) : Type 0 where
+  pub each : All (IsSetAt n test) changes
+  pub once : AllPairs (λ x y. IsFalse (set_same x y)) changes
+
+-- The new changes are the old and some that set samples, each once: those of the present tiles at the points that pass the
+-- test, to this one.
+pub record Sets (n : ℕ) (corners : List Corner) (test : Point → Bool) (s : ℤ) (old new : List Change) : Type 0 where
+  pub makes : (m : Mosaic) (f : Point → ℤ → ℤ) → IsMosaic m → m.side ≡ n → corners_of m ≡ corners → all_changed old m ≡ edited f m
+      → all_changed new m ≡ edited (λ p v. if test p then s else f p v) m
+  pub once : (before : Point → Bool) → ((p : Point) → before p ≡ true → test p ≡ true → ⊥) → SetOnce n before old → SetOnce n (λ p. before p || test p) new

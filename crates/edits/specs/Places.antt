@@ -1,6 +1,6 @@
 -- Where the samples of a point lie (this product's own profile).
-use Rattle.std.specs.Prelude.{◌≡◌, ℕ, ◌*◌, ◌<◌, ◌≤◌, IsTrue, List, length, All, Contains}
-use Rattle.lattice.specs.Corners.{Corner, is_corner}
+use Rattle.std.specs.Prelude.{◌≡◌, ℕ, ◌*◌, ◌<◌, ◌≤◌, IsTrue, IsFalse, List, length, All, AllPairs, Contains}
+use Rattle.lattice.specs.Corners.{Corner, is_corner, same_corner}
 use Rattle.lattice.specs.declared.point.Point.{Point}
 use Rattle.lattice.specs.Lattice.{point_of}
 use Rattle.edits.specs.declared.places.Place.{Place}
@@ -11,8 +11,9 @@ pub record IsPlace (n : ℕ) (corners : List Corner) (p : Point) (place : Place)
   pub within : place.index < n * n
   pub here : point_of n place.corner place.index ≡ p
 
--- all of them, which are no more than four
+-- all of them, each once, which are no more than four
 pub record ArePlaces (n : ℕ) (corners : List Corner) (p : Point) (places : List Place) : Type 0 where
   pub each : All (IsPlace n corners p) places
   pub complete : (c : Corner) (e : ℕ) → IsTrue (is_corner c) → Contains corners c → e < n * n → point_of n c e ≡ p → Contains places (record { corner = c; index = e })
+  pub once : AllPairs (λ x y. IsFalse (same_corner x.corner y.corner)) places
   pub few : length places ≤ 4

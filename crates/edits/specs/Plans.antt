@@ -1,5 +1,5 @@
 -- How planning a command may be refused (this product's own profile).
-use Rattle.std.specs.Prelude.{◌≡◌, ◌≤◌, ◌*◌, ℕ, length, Bool, true, false, ◌||◌}
+use Rattle.std.specs.Prelude.{◌≡◌, ◌≤◌, ◌*◌, ℕ, List, length, Bool, true, false, ◌&&◌, ◌||◌}
 use Rattle.lattice.specs.declared.refusal.Refusal.{Refusal}
 use Rattle.lattice.specs.declared.refusal.Refusal.TheVariants.{BadLength, TileThere, NoTile, Full, Outside, Void, NothingVoid, BadHeight, BadDepth, BadBox, Repeated, TooDeep, NoSink}
 use Rattle.catalogue.specs.Endings.{ends_any}
@@ -7,7 +7,12 @@ use Rattle.edits.specs.declared.command.Command.{Command}
 use Rattle.edits.specs.declared.command.Command.TheVariants.{Import, Remove, Patch, Burn, Wall, Sink, Unsink}
 use Rattle.edits.specs.declared.edit.Edit.{Edit}
 use Rattle.edits.specs.declared.edit.Edit.TheVariants.{Voids, Heights}
+use Rattle.lattice.specs.Mosaic.{Mosaic}
+use Rattle.edits.specs.Changes.{SetOnce}
+use Rattle.edits.specs.Edits.{points_of}
+use Rattle.edits.specs.Effect.{is_in_box, is_named, is_repeated, is_void_at}
 use Rattle.edits.specs.Sinks.{refuses_sink}
+use Rattle.edits.specs.declared.change.Change.{Change}
 
 -- the refusals of a command's own tests
 abbrev pub is_own : Command → Refusal → Bool
@@ -45,7 +50,20 @@ IsFew (Wall h points) changes = changes ≤ 4 * length points.items
 IsFew (Sink p) changes = changes ≡ 1
 IsFew (Unsink p) changes = changes ≡ 1
 
--- .. an edit
+-- a patch, a burn and a wall come to samples at their points, each once
+abbrev pub SetsOnce : Mosaic → Command → List Change → Type 0
+SetsOnce m (Patch from to h) changes = SetOnce m.side (λ p. is_in_box from to p && is_void_at m p) changes
+SetsOnce m (Burn depth points) changes = SetOnce m.side (is_named points.items) changes
+SetsOnce m (Wall h points) changes = SetOnce m.side (is_named points.items) changes
+SetsOnce m command changes = Unit {0}
+
+-- .. and so do the edits, where no point is named twice
+abbrev pub AreSetOnce : Mosaic → Edit → List Change → Type 0
+AreSetOnce m (Voids from to h tiles) changes = SetOnce m.side (λ p. is_in_box from to p && is_void_at m p) changes
+AreSetOnce m (Heights heights) changes = is_repeated (points_of heights.items) ≡ false → SetOnce m.side (is_named (points_of heights.items)) changes
+AreSetOnce m edit changes = Unit {0}
+
+-- how many changes an edit comes to
 abbrev pub AreFewOf : Edit → ℕ → Type 0
 AreFewOf (Voids from to h tiles) changes = Unit {0}
 AreFewOf (Heights heights) changes = changes ≤ 4 * length heights.items

@@ -1,14 +1,14 @@
 //! The changes that an edit comes to.
-ghost use Rattle.std.specs.Prelude.{◌≡◌, ◌≤◌, ◌+◌, ◌*◌, ◌^◌, ◌≤ℤ◌, ◌+ℤ◌, pos, [], ◌∷◌, All, IsTrue, IfOk, IfErr, OnOk, length, vec_len, ◌&&◌};
+ghost use Rattle.std.specs.Prelude.{◌≡◌, ◌≤◌, ◌+◌, ◌*◌, ◌^◌, ◌≤ℤ◌, ◌+ℤ◌, pos, false, [], ◌∷◌, All, IsTrue, IfOk, IfErr, OnOk, length, vec_len, ◌&&◌};
 ghost use Rattle.lattice.specs.Ground.{same_point};
 ghost use Rattle.lattice.specs.declared.refusal.Refusal.TheVariants.{NoMemory};
 ghost use Rattle.catalogue.specs.Endings.{ends_any};
 ghost use Rattle.catalogue.specs.Readers.{OnlyReads, reads_of};
 ghost use Rattle.edits.specs.Boxes.{is_void_in_row, is_void_in_rows};
-ghost use Rattle.edits.specs.Changes.{CanBeMade, CanBeSet, Sets, all_changed};
-ghost use Rattle.edits.specs.Edits.{FitsIn, edit_made, with_heights};
-ghost use Rattle.edits.specs.Effect.{is_box, is_in_box, is_void_at};
-ghost use Rattle.edits.specs.Plans.{AreFewOf};
+ghost use Rattle.edits.specs.Changes.{CanBeMade, CanBeSet, SetOnce, Sets, all_changed};
+ghost use Rattle.edits.specs.Edits.{FitsIn, edit_made, points_of, with_heights};
+ghost use Rattle.edits.specs.Effect.{is_box, is_in_box, is_named, is_repeated, is_void_at};
+ghost use Rattle.edits.specs.Plans.{AreFewOf, AreSetOnce};
 
 use crate::boxes::{east_of, north_of, size_of_box};
 use crate::places::places_of;
@@ -25,6 +25,7 @@ pub(crate) fn changes_of<S: Samples>(
 ) -> Result<Vec<Change>, Refusal>
     requires { FitsIn (S.side_of samples.old) (S.corners samples.old) (S.sinks_of samples.old) edit.now }
     ensures changes { S.is_honest samples.new → IfOk result (λ changes. all_changed changes.items (S.mosaic samples.old) ≡ edit_made edit.now (S.mosaic samples.old)) }
+    ensures once { S.is_honest samples.new → IfOk result (λ changes. AreSetOnce (S.mosaic samples.old) edit.now changes.items) }
     ensures causes { IfErr result (λ r. IsTrue (ends_any r)) }
     ensures fits { IfOk result (λ changes. All (CanBeMade (S.side_of samples.old) (S.corners samples.old) (S.sinks_of samples.old)) changes.items) }
     ensures few { IfOk result (λ changes. AreFewOf edit.now (vec_len changes)) }
@@ -73,6 +74,7 @@ fn put_heights<S: Samples>(
     heights: &[NewHeight],
 ) -> Result<Vec<Change>, Refusal>
     ensures changes { S.is_honest samples.now → IfOk result (λ changes. all_changed changes.items (S.mosaic samples.now) ≡ with_heights heights.now (S.mosaic samples.now)) }
+    ensures once { is_repeated (points_of heights.now) ≡ false → IfOk result (λ changes. SetOnce (S.side_of samples.now) (is_named (points_of heights.now)) changes.items) }
     ensures refusal { IfErr result (λ r. r ≡ NoMemory) }
     ensures fits { IfOk result (λ changes. All (CanBeSet (S.side_of samples.now) (S.corners samples.now)) changes.items) }
     ensures few { IfOk result (λ changes. vec_len changes ≤ 4 * length heights.now) }

@@ -3,7 +3,7 @@ ghost use Rattle.std.specs.Prelude.{◌≡◌, All, IsTrue, Ok, Err, IfOk, IfErr
 ghost use Rattle.catalogue.specs.Readers.{OnlyReads, reads_of};
 ghost use Rattle.edits.specs.Changes.{CanBeMade, all_changed};
 ghost use Rattle.edits.specs.Effect.{effect};
-ghost use Rattle.edits.specs.Plans.{IsFew, is_own, may_end};
+ghost use Rattle.edits.specs.Plans.{IsFew, SetsOnce, is_own, may_end};
 
 use crate::listing::changes_of;
 use crate::{Change, Command, edit_of};
@@ -22,6 +22,9 @@ pub fn plan<S: Samples>(
     command: &Command,
 ) -> Result<Vec<Change>, Refusal>
     ensures changes { S.is_honest samples.new → IfOk result (λ changes. effect capacity (S.mosaic samples.old) command.now ≡ Ok (all_changed changes.items (S.mosaic samples.old))) }
+
+    // No sample is listed twice, and none but those that the command sets.
+    ensures once { S.is_honest samples.new → IfOk result (λ changes. SetsOnce (S.mosaic samples.old) command.now changes.items) }
 
     // A refusal of the command's own tests is the one that the effect gives.
     ensures refused { S.is_honest samples.new → IfErr result (λ r. IsTrue (is_own command.now r) → effect capacity (S.mosaic samples.old) command.now ≡ Err r) }

@@ -1,12 +1,18 @@
-use Rattle.std.proofs.Common.{◌∙◌, ◌&&◌, ap, sym, rules, to_z, of_z}
+use Rattle.std.proofs.Common.{◌≡◌, ◌∙◌, ◌&&◌, ℕ, false, List, ap, sym, subst, rules, to_z, of_z}
+use Rattle.std.specs.Prelude.{IfOk}
 use Rattle.std.proofs.lemmas.Int.{to_z-of_z}
 use Rattle.std.proofs.lemmas.Result.{IfOk-weaker}
 use mir.Syntax.{w16}
 use mir.Val.{SFits}
+use Rattle.lattice.specs.declared.point.Point.{Point}
+use Rattle.edits.specs.Changes.{SetOnce}
 use Rattle.edits.specs.declared.edit.Edit.{Edit}
-use Rattle.edits.specs.Edits.{edit_made}
-use Rattle.edits.specs.Effect.{is_in_box, is_void_at, patched}
-use Rattle.edits.proofs.Setting.{sets_all}
+use Rattle.edits.specs.declared.edit.NewHeight.{NewHeight}
+use Rattle.edits.specs.Edits.{edit_made, points_of}
+use Rattle.edits.specs.Effect.{is_in_box, is_named, is_repeated, is_void_at, patched}
+use Rattle.edits.specs.Plans.{AreSetOnce}
+use Rattle.edits.proofs.Planned.{where_ok}
+use Rattle.edits.proofs.Setting.{once_all, sets_all}
 use Rattle.edits.proofs.listing.changes_of.Goals as goal
 
 pub returns-in-Voids-clause-changes : goal.returns-in-Voids-clause-changes
@@ -25,3 +31,27 @@ returns-in-Voids-clause-changes g c = λ honest.
     (λ changes sets. sets_all n cs (λ p. is_in_box from to p && is_void_at m p) (to_z w16 (of_z w16 h)) changes.items sets m (laws.is_mosaic old was) (laws.same_side old was) (laws.same_corners old was)
     ∙ ap (λ v. patched from to v m) (to_z-of_z w16 h fits) ∙ ap (λ (e : Edit). edit_made e m) (sym c.in-Voids.is))
     (c.put_in_voids.ensures.sets honest)
+
+pub returns-in-Voids-clause-once : goal.returns-in-Voids-clause-once
+returns-in-Voids-clause-once g c = λ honest.
+    let laws = g.met.S.Samples in
+    let old = c.args.samples.now in
+    let n = g.S.Samples.side_of old in
+    let m = g.S.Samples.mosaic old in
+    let test = λ (p : Point). is_in_box c.in-Voids.from c.in-Voids.to p && is_void_at m p in
+    subst (λ (e : Edit). IfOk c.put_in_voids.result (λ changes. AreSetOnce m e changes.items)) (sym c.in-Voids.is)
+    (IfOk-weaker c.put_in_voids.result _ _
+    (λ changes sets. subst (λ (k : ℕ). SetOnce k test changes.items) (sym (laws.same_side old (c.put_in_voids.ensures.reads.honest honest))) (once_all n (g.S.Samples.corners old) test _ changes.items sets))
+    (c.put_in_voids.ensures.sets honest))
+
+pub returns-in-Heights-clause-once : goal.returns-in-Heights-clause-once
+returns-in-Heights-clause-once g c = λ honest.
+    let laws = g.met.S.Samples in
+    let old = c.args.samples.now in
+    let m = g.S.Samples.mosaic old in
+    let hs : List NewHeight = c.in-Heights.heights.items in
+    let result = c.put_heights.result in
+    let says = subst (λ (l : List NewHeight). is_repeated (points_of l) ≡ false → IfOk result (λ changes. SetOnce (g.S.Samples.side_of old) (is_named (points_of l)) changes.items)) c.as_slice.ensures.value c.put_heights.ensures.once in
+    subst (λ (e : Edit). IfOk result (λ changes. AreSetOnce m e changes.items)) (sym c.in-Heights.is)
+    (where_ok result (is_repeated (points_of hs) ≡ false) (λ changes. SetOnce m.side (is_named (points_of hs)) changes.items)
+    (λ apart. IfOk-weaker result _ _ (λ changes once. subst (λ (k : ℕ). SetOnce k (is_named (points_of hs)) changes.items) (sym (laws.same_side old honest)) once) (says apart)))

@@ -6,7 +6,7 @@ use Rattle.lattice.specs.Ground.{same_point}
 use Rattle.edits.specs.Changes.{Sets}
 use Rattle.edits.specs.declared.edit.NewHeight.{NewHeight}
 use Rattle.edits.proofs.EditStale.{read_within}
-use Rattle.edits.proofs.Setting.{heights_more}
+use Rattle.edits.proofs.Setting.{heights_more, heights_once}
 use Rattle.edits.proofs.listing.put_heights.Goals as goal
 
 abbrev none : NewHeight
@@ -24,9 +24,11 @@ loop-height-preserved g c =
     let fits : SFits w16 h.metres = search rules in
     let was = c.loop-height.invariant in
     let put = c.in_ok-put.ensures in
+    let sets = subst (λ v. Sets n cs (λ q. same_point q h.point) v a b) (to_z-of_z w16 h.metres fits) put.sets in
+    let read = read_within heights i none h c.loop-height-test.true in
     record {
-      given = heights_more n cs heights i h a b c.loop-height-test.true (read_within heights i none h c.loop-height-test.true) was.given
-          (subst (λ v. Sets n cs (λ q. same_point q h.point) v a b) (to_z-of_z w16 h.metres fits) put.sets);
+      given = heights_more n cs heights i h a b c.loop-height-test.true read was.given sets;
+      once = λ apart. heights_once n cs heights i h a b c.loop-height-test.true read apart (was.once apart) sets;
       fits = put.fits was.fits;
       few = let more = put.few in let few = was.few in omega (arith, more, few);
     }

@@ -1,5 +1,6 @@
 use Rattle.std.proofs.Common.{◌≡◌, ◌∙◌, ◌+◌, ◌&&◌, ap, subst, arith, to_z, of_z}
 use Rattle.std.specs.Prelude.{Err}
+use Rattle.std.proofs.lemmas.Bool.{and_parts}
 use Rattle.std.proofs.lemmas.Int.{to_z-of_z}
 use Rattle.std.proofs.lemmas.Result.{err_from_is_err_and}
 use mir.Syntax.{w16}
@@ -7,10 +8,10 @@ use Rattle.lattice.specs.declared.refusal.Refusal.{Refusal}
 use Rattle.lattice.specs.Ground.{same_point}
 use Rattle.catalogue.proofs.Reading.{reads_on}
 use Rattle.catalogue.specs.Readers.{reads_of}
-use Rattle.edits.specs.Boxes.{is_void_in_row}
+use Rattle.edits.specs.Boxes.{is_in_row, is_void_in_row}
 use Rattle.edits.specs.Changes.{Sets}
 use Rattle.edits.specs.Effect.{is_void_at}
-use Rattle.edits.proofs.BoxRows.{in_row_none, row_more}
+use Rattle.edits.proofs.BoxRows.{in_row_none, not_in_row, row_more}
 use Rattle.edits.proofs.VoidsPut.{none_put, put_on}
 use Rattle.edits.proofs.listing.put_in_row.Goals as goal
 
@@ -26,6 +27,7 @@ loop-column-preserved g c =
     let put = c.in_ok-put_if_void.ensures in
     put_on g.S.Samples (to_z w16 (of_z w16 c.args.sample)) g.met.S.Samples.keeps_on (λ m. is_void_in_row m start k) (λ m q. same_point q p && is_void_at m q) (λ m. is_void_in_row m start (k + 1))
     (λ m q. row_more start p k c.east_of-point.ensures m q)
+    (λ m q inside here. not_in_row start p k c.east_of-point.ensures q (and_parts (is_in_row start k q) (is_void_at m q) inside).0 (and_parts (same_point q p) (is_void_at m q) here).0)
     c.args.samples.now c.loop-column.samples c.put_if_void.new.samples c.args.changes.now.items c.loop-column.changes.items c.put_if_void.new.changes.items c.loop-column.invariant put.reads put.fits put.sets
 
 pub returns-in_err-put_if_void-clause-reads : goal.returns-in_err-put_if_void-clause-reads

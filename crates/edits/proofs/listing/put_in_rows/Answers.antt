@@ -1,5 +1,6 @@
 use Rattle.std.proofs.Common.{◌≡◌, ◌∙◌, ◌+◌, ◌&&◌, List, [], ap, sym, subst, arith, to_z, of_z}
 use Rattle.std.specs.Prelude.{Err}
+use Rattle.std.proofs.lemmas.Bool.{and_parts}
 use Rattle.std.proofs.lemmas.Int.{to_z-of_z}
 use Rattle.std.proofs.lemmas.Result.{err_from_is_err_and}
 use mir.Syntax.{w16}
@@ -7,10 +8,10 @@ use Rattle.lattice.specs.declared.refusal.Refusal.{Refusal}
 use Rattle.catalogue.proofs.Reading.{reads_on}
 use Rattle.catalogue.specs.Readers.{reads_of}
 use Rattle.edits.specs.declared.change.Change.{Change}
-use Rattle.edits.specs.Boxes.{is_void_in_row, is_void_in_rows}
+use Rattle.edits.specs.Boxes.{is_in_row, is_in_rows, is_void_in_row, is_void_in_rows}
 use Rattle.edits.specs.Changes.{Sets}
 use Rattle.edits.specs.Effect.{is_void_at}
-use Rattle.edits.proofs.BoxRows.{in_rows_none, rows_more}
+use Rattle.edits.proofs.BoxRows.{in_rows_none, not_in_rows, rows_more}
 use Rattle.edits.proofs.VoidsPut.{ArePut, none_put, put_on}
 use Rattle.edits.proofs.listing.put_in_rows.Goals as goal
 
@@ -30,6 +31,7 @@ loop-row-preserved g c =
     let put = c.in_ok-put_in_row.ensures in
     put_on g.S.Samples (to_z w16 (of_z w16 c.args.sample)) g.met.S.Samples.keeps_on (λ m. is_void_in_rows m from k columns) (λ m. is_void_in_row m start columns) (λ m. is_void_in_rows m from (k + 1) columns)
     (λ m q. rows_more from start k columns c.north_of-start.ensures m q)
+    (λ m q inside here. not_in_rows from start k columns c.north_of-start.ensures q (and_parts (is_in_rows from k columns q) (is_void_at m q) inside).0 (and_parts (is_in_row start columns q) (is_void_at m q) here).0)
     c.args.samples.now c.loop-row.samples c.put_in_row.new.samples [] c.loop-row.changes.items c.put_in_row.new.changes.items c.loop-row.invariant put.reads put.fits put.sets
 
 pub returns-in_err-put_in_row-clause-reads : goal.returns-in_err-put_in_row-clause-reads

@@ -5,7 +5,8 @@ use Rattle.arrayvec.specs.ArrayVec.{ArrayVec}
 use Rattle.lattice.specs.Corners.{Corner}
 use Rattle.lattice.specs.Lattice.{Holds}
 use Rattle.edits.specs.declared.places.Place.{Place}
-use Rattle.edits.proofs.PlaceLemmas.{PlacesAmong, places_skip, places_push, places_all}
+use Rattle.lattice.proofs.Rising.{Rising, rising_from}
+use Rattle.edits.proofs.PlaceLemmas.{PlacesAmong, not_earlier, places_skip, places_push, places_all}
 use Rattle.edits.proofs.places.places_of.Goals as goal
 use Rattle.edits.proofs.places.places_of.Goals.{in-Some, in_default}
 
@@ -18,13 +19,15 @@ loop-corner-preserved g c =
     let i = c.loop-corner.corner-index in
     let corner : Corner = c.corner-item.result in
     let was : List Place = c.loop-corner.places.items in
+    let rising : Rising (λ h. h) hs = subst (Rising (λ h. h)) (sym c.as_slice-corner-items.ensures.value) (rising_from (λ h. h) c.holders-corners.result.items c.holders-corners.ensures.in_order) in
+    let fresh : Contains (take i hs) corner → ⊥ = λ there. not_earlier hs i corner rising c.loop-corner-test.true (subst (Contains (take i hs)) c.corner-item.is there) in
     let next : take i hs ++ corner ∷ [] ≡ take (i + 1) hs = ap (λ (d : Corner). take i hs ++ d ∷ []) c.corner-item.is ∙ sym (take_more hs i corner c.loop-corner-test.true) in
     subst (λ (l : List Corner). PlacesAmong n cs l p c.match-index_among.places.items) next
     (elim c.match-index_among.branch [
       | in-Some w ↦
           let there = w.in-Some.ensures.held in
           let added : c.match-index_among.places.items ≡ was ++ record { corner = corner; index = w.in-Some.index } ∷ [] = ap (λ (v : ArrayVec Place). v.items) w.places-is ∙ w.push.ensures.items in
-          subst (λ (l : List Place). PlacesAmong n cs (take i hs ++ corner ∷ []) p l) (sym added) (places_push n cs p (take i hs) corner w.in-Some.index was there.0 there.1 c.loop-corner.invariant)
+          subst (λ (l : List Place). PlacesAmong n cs (take i hs ++ corner ∷ []) p l) (sym added) (places_push n cs p (take i hs) corner w.in-Some.index was fresh there.0 there.1 c.loop-corner.invariant)
       | in_default w ↦
           subst (λ (l : List Place). PlacesAmong n cs (take i hs ++ corner ∷ []) p l) (sym (ap (λ (v : ArrayVec Place). v.items) w.places-is)) (places_skip n cs p (take i hs) corner was w.in_default.ensures.none c.loop-corner.invariant)
     ])
