@@ -1,5 +1,5 @@
 //! The line language: what is read as a line, the event that it asks for, and the text of an answer. It speaks of bytes,
-//! texts and lines alone: what an event does is said by the crate `calls`.
+//! texts and lines alone: what an event does is said by the crate `engine`.
 //!
 //! The layer above rests on this: a line is read up to its LF however the reader cuts the bytes, and asks for an event
 //! exactly where the grammar (`specs/Grammar.antt`) has it.
