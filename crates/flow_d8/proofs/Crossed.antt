@@ -8,21 +8,19 @@ use Rattle.std.proofs.lemmas.List.{get_or_past}
 use Rattle.std.proofs.lemmas.Map.Steps.{le-length_from_below}
 use Rattle.lattice.specs.declared.point.Point.{Point}
 use Rattle.lattice.specs.Steps.{step}
-use Rattle.lattice.specs.Mosaic.{void}
 use Rattle.flow_d8.specs.declared.local_flow.LocalFlow.{LocalFlow}
 use Rattle.flow_d8.specs.declared.local_flow.LocalFlow.TheVariants.{NoGround, Edge, Flat, Seam, Drains}
 use Rattle.flow_d8.specs.Drainage.{IsFlatDistance}
 use Rattle.flow_d8.specs.Filled.{Filled}
 use Rattle.flow_d8.specs.FlatCertificate.{AreMeasured, AreExact, IsClosed}
 use Rattle.flow_d8.specs.Surface.{number_in, level_at, has_level, adjoins, surface}
-use Rattle.flow_d8.specs.Places.{place_by}
-use Rattle.flow_d8.specs.Propagation.{unknown, distance_at, DrainsAtOnce, AreRelaxed}
-use Rattle.flow_d8.specs.Crossing.{Crosses, DrainsLike, HasSite, AreLocalFlows, AreBounds, AreSeamsRelaxed, AreDistances, IsAcross}
+use Rattle.flow_d8.specs.Propagation.{unknown, distance_at, DrainsAtOnce}
+use Rattle.flow_d8.specs.Crossing.{Crosses, DrainsLike, HasSite, AreLocalFlows, AreBounds, AreRelaxed, AreDistances, IsAcross}
 use Rattle.flow_d8.proofs.FlatCertificate.{exact}
 use Rattle.flow_d8.proofs.Unique.{one_distance}
 use Rattle.flow_d8.proofs.Numbers.{few_samples}
-use Rattle.flow_d8.proofs.Surfaces.{surface_lawful, surface_steps, level_within, at_level}
-use Rattle.flow_d8.proofs.SampleFlows.{deep_beside, sample_is}
+use Rattle.flow_d8.proofs.Surfaces.{surface_lawful, level_within}
+use Rattle.flow_d8.proofs.SampleFlows.{sample_is}
 
 lt-true : (a b : ℕ) → a < b → nat_lt a b ≡ true
 lt-true a b h = grind (arith, nat_tests)
@@ -59,7 +57,7 @@ module _ (f : Filled) (flows : List LocalFlow) (are : AreLocalFlows f flows) whe
   pub like_at : (p : Point) → IsTrue (has_level f p) → DrainsLike f p (flow_at p)
   like_at p level = (are.each (number_in f p) (level_within f are.valid p level)).right p level refl
 
-  module _ (distances : List ℕ) (bounds : AreBounds f flows distances) (relaxed : AreRelaxed f.levels flows f.side distances) (seams : AreSeamsRelaxed f flows distances (length flows)) where
+  module _ (distances : List ℕ) (bounds : AreBounds f flows distances) (relaxed : AreRelaxed f distances) where
     abbrev dist : Point → ℕ
     dist p = distance_at distances (number_in f p)
 
@@ -99,32 +97,8 @@ module _ (f : Filled) (flows : List LocalFlow) (are : AreLocalFlows f flows) whe
     end_zero p level crosses = bounds.ends (number_in f p) (end_of f p (flow_at p) (like_at p level) crosses)
 
     -- no step across saves more than one
-    module _ (p q : Point) (level : IsTrue (has_level f p)) (across : IsAcross f p q) (known : dist q < unknown) where
-      small : number_in f p < length flows
-      small = let within = level_within f are.valid p level in omega (arith, are.whole)
-
-      over_flat : flow_at p ≡ Flat → dist p ≤ dist q + 1
-      over_flat is =
-          let away = surface_steps f p q across.beside in
-          let d = away.0 in
-          let test = (are.each (number_in f p) (level_within f are.valid p level)).deep is in
-          let there = deep_beside f p are.valid (number_in f p) refl test level d in
-          let at : place_by f.side (number_in f p) d ≡ number_in f q = sym there.numbered ∙ ap (number_in f) (sym away.1) in
-          let same : slice_index_or f.levels (place_by f.side (number_in f p) d) void ≡ slice_index_or f.levels (number_in f p) void =
-          ap (λ g. slice_index_or f.levels g void) at ∙ at_level f q ∙ across.same_level ∙ sym (at_level f p) in
-          let far : distance_at distances (place_by f.side (number_in f p) d) ≡ dist q = ap (distance_at distances) at in
-          let le = relaxed (number_in f p) is d same (omega (arith, far)) in
-          omega (arith, far)
-
-      over : (flow : LocalFlow) → flow_at p ≡ flow → DrainsLike f p flow → dist p ≤ dist q + 1
-      over NoGround is like = absurd like
-      over Edge is like = let none = bounds.ends (number_in f p) (subst DrainsAtOnce (sym is) tt) in omega arith
-      over Flat is like = over_flat is
-      over Seam is like = seams (number_in f p) small is p q level refl across known
-      over (Drains d) is like = let none = bounds.ends (number_in f p) (subst DrainsAtOnce (sym is) tt) in omega arith
-
-      pub step_saves_one : dist p ≤ dist q + 1
-      step_saves_one = over (flow_at p) refl (like_at p level)
+    step_saves_one : (p q : Point) → IsAcross f p q → dist q < unknown → dist p ≤ dist q + 1
+    step_saves_one p q across known = relaxed (number_in f p) (number_in f q) (record { from = p; to = q; across = across; start = refl; end = refl }) known
 
     closed : IsClosed (surface f) (level_at f) (has_level f)
     closed x y level across = (surface_lawful f).to_ground x y across.beside
@@ -136,7 +110,7 @@ module _ (f : Filled) (flows : List LocalFlow) (are : AreLocalFlows f flows) whe
       relaxed = λ x y d level across is near.
           let s = some_is y d is in
           let at = s.at in
-          let le = step_saves_one x y level across (omega (arith, s.small)) in
+          let le = step_saves_one x y across (omega (arith, s.small)) in
           (dist x, (some_from x level (omega arith), omega arith));
     }
 
@@ -193,7 +167,7 @@ module _ (f : Filled) (flows : List LocalFlow) (are : AreLocalFlows f flows) whe
         let y = crosses.0 in
         let on = (surface_lawful f).to_ground p y crosses.1.0 in
         let known = all_known j y on crosses.1.2 in
-        let le = step_saves_one p y level (record { beside = crosses.1.0; same_level = crosses.1.1 }) known in
+        let le = step_saves_one p y (record { beside = crosses.1.0; same_level = crosses.1.1 }) known in
         elim (cases_eq (dist y) 4294967294) [ inl far ↦ absurd (no_room y on far) | inr other ↦ omega arith ]
 
     site_of : (g : ℕ) → distance_at distances g < unknown → HasSite f g

@@ -5,30 +5,21 @@ use Rattle.std.proofs.lemmas.Bool.{cases_eq}
 use Rattle.lattice.specs.declared.point.Point.{Point}
 use Rattle.lattice.specs.declared.direction.Dir.{Dir}
 use Rattle.flow_d8.specs.declared.local_flow.LocalFlow.{LocalFlow}
-use Rattle.flow_d8.specs.declared.local_flow.LocalFlow.TheVariants.{NoGround, Edge, Flat, Seam, Drains}
+use Rattle.flow_d8.specs.declared.local_flow.LocalFlow.TheVariants.{NoGround, Edge, Drains}
 use Rattle.flow_d8.specs.Drainage.{IsFirstNearer, IsDirection}
 use Rattle.flow_d8.specs.Filled.{Filled, AreLevels, IsOfNoMosaic}
 use Rattle.flow_d8.specs.Surface.{number_in, level_at, has_level, surface}
-use Rattle.flow_d8.specs.Propagation.{unknown, distance_at, DrainsAtOnce}
-use Rattle.flow_d8.specs.Crossing.{Crosses, DrainsLike, HasSite, AreLocalFlows, AreDistances, IsDrainOf, AreDrainedTo, AreDrained}
+use Rattle.flow_d8.specs.Propagation.{unknown, distance_at, DrainsAtOnce, IsEnd}
+use Rattle.flow_d8.specs.Crossing.{Crosses, DrainsLike, AreLocalFlows, AreDistances, IsDrainOf, AreDrainedTo, AreDrained}
 use Rattle.flow_d8.proofs.Surfaces.{level_within, same_site}
 use Rattle.flow_d8.proofs.Nearest.{known_is, across_flat}
 use Rattle.flow_d8.proofs.Crossed.{end_of, crosses_end, like_at}
 use Rattle.flow_d8.proofs.Found.{nowhere_in_no_mosaic}
 
-pub flat_some : ◌≡◌ {A = LocalFlow} Flat NoGround → ⊥
-flat_some e = cc
-
-pub seam_some : ◌≡◌ {A = LocalFlow} Seam NoGround → ⊥
-seam_some e = cc
-
 module _ (f : Filled) (flows : List LocalFlow) (are : AreLocalFlows f flows) (distances : List ℕ) (is : AreDistances f distances) where
   -- the flow of a point's sample, which is this one
   pub like_of : (p : Point) (g : ℕ) (flow : LocalFlow) → IsTrue (has_level f p) → number_in f p ≡ g → slice_index_or flows g NoGround ≡ flow → DrainsLike f p flow
   like_of p g flow level at same = subst (DrainsLike f p) (ap (λ n. slice_index_or flows n NoGround) at ∙ same) (like_at f flows are p level)
-
-  pub site_of : (g : ℕ) (flow : LocalFlow) → g < length f.levels → slice_index_or flows g NoGround ≡ flow → (flow ≡ NoGround → ⊥) → HasSite f g
-  site_of g flow small same other = (are.each g small).site (λ none. other (sym same ∙ none))
 
   -- what drains at once
   pub known_end : (p : Point) (g : ℕ) (flow : LocalFlow) → IsTrue (has_level f p) → number_in f p ≡ g → slice_index_or flows g NoGround ≡ flow → DrainsAtOnce flow → distance_at distances g < unknown
@@ -44,13 +35,13 @@ module _ (f : Filled) (flows : List LocalFlow) (are : AreLocalFlows f flows) (di
   down_drains g d same p level at = inl (like_of p g (Drains d) level at same)
 
   -- a point on a flat
-  module _ (p : Point) (g : ℕ) (flow : LocalFlow) (level : IsTrue (has_level f p)) (at : number_in f p ≡ g) (same : slice_index_or flows g NoGround ≡ flow) (no_end : DrainsAtOnce flow → ⊥) where
+  module _ (p : Point) (g : ℕ) (level : IsTrue (has_level f p)) (at : number_in f p ≡ g) (no_end : IsEnd flows g → ⊥) where
     pub some_way : distance_at distances g < unknown → 0 < distance_at distances g
     some_way known = elim (cases_eq (distance_at distances g) 0) [
       | inl none ↦
           let here : distance_at distances (number_in f p) ≡ 0 = ap (distance_at distances) at ∙ none in
           let exact = known_is f is.valid distances is p level (omega arith) in
-          absurd (no_end (end_of f p flow (like_of p g flow level at same) (subst (Crosses f p) here exact.crosses)))
+          absurd (no_end (subst (IsEnd flows) at (end_of f p (slice_index_or flows (number_in f p) NoGround) (like_at f flows are p level) (subst (Crosses f p) here exact.crosses))))
       | inr some ↦ omega arith
     ]
 

@@ -4,8 +4,7 @@ pub mod Exists
 pub mod FlowPaths
 pub mod FlatCertificate
 pub mod SteepestStep
-pub mod Relaxing
-pub mod Seeds
+pub mod Spreading
 pub mod MosaicGrid
 pub mod Numbers
 pub mod Surfaces
@@ -13,7 +12,6 @@ pub mod Inside
 pub mod SampleFlows
 pub mod Nearest
 pub mod Crossed
-pub mod SeamDistances
 pub mod Tiles
 pub mod Beginning
 pub mod Transport

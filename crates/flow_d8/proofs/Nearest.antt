@@ -1,17 +1,16 @@
 -- The first step to a point nearer to the way out of a flat.
-use Rattle.std.proofs.Common.{◌≡◌, ℕ, ℤ, zero, suc, ◌-◌, ◌*◌, ◌%◌, ◌<◌, ◌≤◌, Bool, true, false, IsTrue, IsFalse, Option, Some, None, List, inl, inr, refl, sym, ap, ◌∙◌, subst, arith}
+use Rattle.std.proofs.Common.{◌≡◌, ℕ, ℤ, zero, suc, ◌-◌, ◌<◌, ◌≤◌, Bool, true, false, IsTrue, IsFalse, Option, Some, None, List, inl, inr, refl, sym, ap, ◌∙◌, subst, arith}
 use Rattle.lattice.specs.declared.point.Point.{Point}
 use Rattle.lattice.specs.declared.direction.Dir.{Dir}
 use Rattle.std.specs.Prelude.{IfSome, IfNone, MatchOption, slice_index_or}
 use Rattle.lattice.specs.Mosaic.{void}
 use Rattle.lattice.specs.Steps.{step, order_of}
 use Rattle.flow_d8.specs.Drainage.{IsFlatDistance, IsNearer, IsFirstNearer, IsDirection}
-use Rattle.flow_d8.specs.Filled.{Filled, AreLevels, is_deep}
+use Rattle.flow_d8.specs.Filled.{Filled, AreLevels}
 use Rattle.flow_d8.specs.Surface.{number_in, level_at, has_level, adjoins, leads_off, surface}
-use Rattle.flow_d8.specs.Crossing.{AreDistances}
+use Rattle.flow_d8.specs.Crossing.{AreDistances, AreAround}
 use Rattle.flow_d8.specs.Propagation.{unknown, distance_at, IsCloser}
 use Rattle.flow_d8.proofs.Surfaces.{surface_lawful, surface_steps, same_site, at_level}
-use Rattle.flow_d8.proofs.SampleFlows.{deep_beside, deep_adjoins}
 use Rattle.flow_d8.proofs.Unique.{one_distance}
 
 module _ (f : Filled) (whole : AreLevels f) (distances : List ℕ) (is : AreDistances f distances) where
@@ -77,39 +76,41 @@ module _ (f : Filled) (whole : AreLevels f) (distances : List ℕ) (is : AreDist
             inner true out = absurd (omega (arith, here.least 0 (inr out)))
             inner false out = refl
 
-    -- where all around the sample lies in its own tile
-    module _ (test : is_deep f.side (number_in f p % (f.side * f.side)) ≡ true) (some : 0 < k) where
+    -- by the numbers around it
+    module _ (around : List (Option ℕ)) (are_around : AreAround f p around) (some : 0 < k) where
       abbrev closer : Dir → Type 0
-      closer d = IsCloser f.levels distances f.side (number_in f p) d
+      closer d = IsCloser f.levels distances around (number_in f p) d
 
       pub nearer_of : (d : Dir) → closer d → IsNearer (surface f) (level_at f) p (step d p)
       nearer_of d is =
-          let there = deep_beside f p whole (number_in f p) refl test level d in
-          let same : level_at f (step d p) ≡ level_at f p = sym (at_level f (step d p)) ∙ ap (λ g. slice_index_or f.levels g void) there.numbered ∙ is.0 ∙ at_level f p in
-          let on : IsTrue (adjoins f p (step d p)) = deep_adjoins f p whole (number_in f p) refl test level d (is.0 ∙ at_level f p) in
-          let less : distance_at distances (number_in f (step d p)) < k = omega (arith, ap (distance_at distances) there.numbered, is.1) in
-          let q_dist = known_is (step d p) ((surface_lawful f).to_ground p (step d p) on) (omega arith) in
-          let far : k ≤ suc (distance_at distances (number_in f (step d p))) = here.least (suc (distance_at distances (number_in f (step d p)))) (step d p, (on, same, q_dist.crosses)) in
-          nearer_from (step d p) some on same (omega arith)
+          let there = are_around.each d is.0 is.1.0 in
+          let same : slice_index_or f.levels is.0 void ≡ level_at f p = is.1.1.0 ∙ at_level f p in
+          let across = there.across same in
+          let less : distance_at distances (number_in f (step d p)) < k = omega (arith, ap (distance_at distances) (there.numbered same), is.1.1.1) in
+          let q_dist = known_is (step d p) ((surface_lawful f).to_ground p (step d p) across.beside) (omega arith) in
+          let far : k ≤ suc (distance_at distances (number_in f (step d p))) = here.least (suc (distance_at distances (number_in f (step d p)))) (step d p, (across.beside, across.same_level, q_dist.crosses)) in
+          nearer_from (step d p) some across.beside across.same_level (omega arith)
 
       pub closer_of : (e : Dir) → IsNearer (surface f) (level_at f) p (step e p) → closer e
       closer_of e near =
-          let there = deep_beside f p whole (number_in f p) refl test level e in
           let less = nearer_said (step e p) near in (
-            ap (λ g. slice_index_or f.levels g void) (sym there.numbered) ∙ at_level f (step e p) ∙ near.same_level ∙ sym (at_level f p),
-            omega (arith, ap (distance_at distances) there.numbered),
+            number_in f (step e p),
+            (
+              are_around.all e (record { beside = near.beside; same_level = near.same_level }),
+              (at_level f (step e p) ∙ near.same_level ∙ sym (at_level f p), omega arith),
+            ),
           )
 
-      -- what the kernel finds is the first nearer step
+      -- what is found is the first nearer step
       pub first_is : (r : Option Dir) → IfNone r ((d : Dir) → closer d → ⊥) → IfSome r closer → IfSome r (λ d. (e : Dir) → closer e → order_of d ≤ order_of e)
           → MatchOption r ⊥ (λ d. IsFirstNearer (surface f) (level_at f) p d)
       first_is None none is first = some_nearer some (λ e near. none e (closer_of e near))
       first_is (Some d) none is first = record { nearer = nearer_of d is; first = λ e near. first e (closer_of e near) }
 
-      -- as read of lists that hold the levels, at a number that is the point's
-      abbrev IsFirstOf : ℕ → List ℤ → ℕ → Type 0
-      IsFirstOf g xs n = (r : Option Dir) → IfNone r ((d : Dir) → IsCloser xs distances n g d → ⊥) → IfSome r (λ d. IsCloser xs distances n g d)
-          → IfSome r (λ d. (e : Dir) → IsCloser xs distances n g e → order_of d ≤ order_of e) → MatchOption r ⊥ (λ d. IsFirstNearer (surface f) (level_at f) p d)
+      -- as read of a list that holds the levels, at a number that is the point's
+      abbrev IsFirstOf : ℕ → List ℤ → Type 0
+      IsFirstOf g xs = (r : Option Dir) → IfNone r ((d : Dir) → IsCloser xs distances around g d → ⊥) → IfSome r (λ d. IsCloser xs distances around g d)
+          → IfSome r (λ d. (e : Dir) → IsCloser xs distances around g e → order_of d ≤ order_of e) → MatchOption r ⊥ (λ d. IsFirstNearer (surface f) (level_at f) p d)
 
-      pub first_at : (g : ℕ) (xs : List ℤ) (n : ℕ) → number_in f p ≡ g → f.levels ≡ xs → f.side ≡ n → IsFirstOf g xs n
-      first_at g xs n numbered same side = subst (λ h. IsFirstOf h xs n) numbered (subst (λ ys. IsFirstOf (number_in f p) ys n) same (subst (λ m. IsFirstOf (number_in f p) f.levels m) side first_is))
+      pub first_at : (g : ℕ) (xs : List ℤ) → number_in f p ≡ g → f.levels ≡ xs → IsFirstOf g xs
+      first_at g xs numbered same = subst (λ h. IsFirstOf h xs) numbered (subst (λ ys. IsFirstOf (number_in f p) ys) same first_is)

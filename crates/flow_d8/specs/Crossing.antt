@@ -1,23 +1,17 @@
 -- What is known of the samples of filled levels: where each point drains, and how far it is across its flat.
-use Rattle.std.specs.Prelude.{◌≡◌, ℕ, ◌+◌, ◌*◌, ◌/◌, ◌%◌, ◌<◌, ◌≤◌, pos, true, IsTrue, IsFalse, Option, None, List, length, slice_index_or}
+use Rattle.std.specs.Prelude.{◌≡◌, ℕ, ◌+◌, ◌*◌, ◌/◌, ◌%◌, ◌<◌, ◌≤◌, ◌⊎◌, pos, true, IsTrue, IsFalse, Option, Some, None, List, length, slice_index_or}
 use Rattle.lattice.specs.declared.point.Point.{Point}
 use Rattle.lattice.specs.declared.direction.Dir.{Dir}
 use Rattle.lattice.specs.Steps.{step, order_of}
 use Rattle.lattice.specs.Lattice.{point_of}
+use Rattle.lattice.specs.Mosaic.{void}
 use Rattle.flow_d8.specs.declared.local_flow.LocalFlow.{LocalFlow}
 use Rattle.flow_d8.specs.declared.local_flow.LocalFlow.TheVariants.{NoGround, Edge, Flat, Seam, Drains}
 use Rattle.flow_d8.specs.Drainage.{HasLower, IsSteepest, CrossesFlat, IsFlatDistance, IsDirection}
 use Rattle.flow_d8.specs.FlatCertificate as certificate
 use Rattle.flow_d8.specs.Filled.{Filled, AreLevels, is_deep}
-use Rattle.flow_d8.specs.Propagation.{unknown, distance_at, IsEnd}
+use Rattle.flow_d8.specs.Propagation.{unknown, distance_at, IsEnd, IsOnFlat, IsWaiting}
 use Rattle.flow_d8.specs.Surface.{number_in, level_at, has_level, leads_off, surface}
-
-abbrev pub IsSeam : List LocalFlow → ℕ → Type 0
-IsSeam flows g = slice_index_or flows g NoGround ≡ Seam
-
--- samples that aren't on seams keep their distances
-abbrev pub AreKeptOffSeams : List LocalFlow → List ℕ → List ℕ → Type 0
-AreKeptOffSeams flows old new = (g : ℕ) → (IsSeam flows g → ⊥) → distance_at new g ≡ distance_at old g
 
 module _ (f : Filled) where
   abbrev pub Crosses : Point → ℕ → Type 0
@@ -59,20 +53,30 @@ module _ (f : Filled) where
   abbrev pub IsAcross : Point → Point → Type 0
   IsAcross p q = certificate.IsAcross (surface f) (level_at f) p q
 
-  -- no point across in the first k directions has a less distance
-  abbrev pub IsLeastTo : Point → List ℕ → ℕ → ℕ → Type 0
-  IsLeastTo p distances k least = (d : Dir) → order_of d < k → IsAcross p (step d p) → least ≤ distance_at distances (number_in f (step d p))
+  -- the points across lie at these numbers, by direction in the order of codes; a sample of another level may stand there too
+  pub record IsBeside (p : Point) (d : Dir) (g : ℕ) : Type 0 where
+    pub within : g < length f.levels
+    pub across : slice_index_or f.levels g void ≡ level_at f p → IsAcross p (step d p)
+    pub numbered : slice_index_or f.levels g void ≡ level_at f p → number_in f (step d p) ≡ g
 
-  -- a distance that is known is that of a point across
-  abbrev pub IsOneAcross : Point → List ℕ → ℕ → Type 0
-  IsOneAcross p distances least = least < unknown → (q : Point) × (IsAcross p q × (distance_at distances (number_in f q) ≡ least))
+  pub record AreAround (p : Point) (around : List (Option ℕ)) : Type 0 where
+    pub all : (d : Dir) → IsAcross p (step d p) → slice_index_or around (order_of d) None ≡ Some (number_in f (step d p))
+    pub each : (d : Dir) (g : ℕ) → slice_index_or around (order_of d) None ≡ Some g → IsBeside p d g
 
-  -- no step across from the point with this number saves more than one
-  abbrev pub IsSeamRelaxed : List ℕ → ℕ → Type 0
-  IsSeamRelaxed distances g = (p q : Point) → IsTrue (has_level f p) → number_in f p ≡ g → IsAcross p q → distance_at distances (number_in f q) < unknown → distance_at distances g ≤ distance_at distances (number_in f q) + 1
+  -- a step across leads from the point with the number g to that with the number k
+  pub record IsStepAcross (g k : ℕ) : Type 0 where
+    pub from : Point
+    pub to : Point
+    pub across : IsAcross from to
+    pub start : number_in f from ≡ g
+    pub end : number_in f to ≡ k
 
-  abbrev pub AreSeamsRelaxed : List LocalFlow → List ℕ → ℕ → Type 0
-  AreSeamsRelaxed flows distances k = (g : ℕ) → g < k → IsSeam flows g → IsSeamRelaxed distances g
+  -- it saves at most one
+  abbrev pub IsRelaxed : List ℕ → ℕ → ℕ → Type 0
+  IsRelaxed distances g k = distance_at distances k < unknown → distance_at distances g ≤ distance_at distances k + 1
+
+  abbrev pub AreRelaxed : List ℕ → Type 0
+  AreRelaxed distances = (g k : ℕ) → IsStepAcross g k → IsRelaxed distances g k
 
   -- each known distance was walked
   abbrev pub AreWalkedOver : List ℕ → Type 0
@@ -84,6 +88,33 @@ module _ (f : Filled) where
     pub ends : (g : ℕ) → IsEnd flows g → distance_at distances g ≡ 0
     pub nowhere : (g : ℕ) → slice_index_or flows g NoGround ≡ NoGround → distance_at distances g ≡ unknown
     pub walked : AreWalkedOver distances
+
+  -- what waits lies on a flat, and has a distance
+  abbrev pub AreWaiting : List LocalFlow → List ℕ → List ℕ → Type 0
+  AreWaiting flows distances queue = (i : ℕ) → i < length queue → IsOnFlat flows (slice_index_or queue i 0) × (distance_at distances (slice_index_or queue i 0) < unknown)
+
+  -- the points with numbers below k have the distances that those that drain at once give them, and wait
+  pub record IsSeeding (flows : List LocalFlow) (distances queue : List ℕ) (k : ℕ) : Type 0 where
+    pub bounds : AreBounds flows distances
+    pub waiting : AreWaiting flows distances queue
+    pub near : (g e : ℕ) → g < k → IsStepAcross g e → IsEnd flows e → distance_at distances g ≤ 1
+    pub known : (g : ℕ) → distance_at distances g < unknown → IsEnd flows g ⊎ IsWaiting queue 0 g
+
+  -- no step saves more than one, but for steps to what waits from the head on
+  pub record IsPropagating (flows : List LocalFlow) (distances queue : List ℕ) (head : ℕ) : Type 0 where
+    pub bounds : AreBounds flows distances
+    pub waiting : AreWaiting flows distances queue
+    pub relaxed : (g k : ℕ) → IsStepAcross g k → IsRelaxed distances g k ⊎ IsWaiting queue head k
+
+  -- .. and for the steps to the point from the one beside it in the i-th direction and the later ones
+  abbrev pub IsToCome : Point → ℕ → ℕ → ℕ → Type 0
+  IsToCome p i g k = (k ≡ number_in f p) × ((d : Dir) × ((i ≤ order_of d) × (IsAcross p (step d p) × (number_in f (step d p) ≡ g))))
+
+  pub record IsRelaxing (flows : List LocalFlow) (distances queue : List ℕ) (head : ℕ) (p : Point) (i : ℕ) : Type 0 where
+    pub bounds : AreBounds flows distances
+    pub waiting : AreWaiting flows distances queue
+    pub taken : head < length queue
+    pub relaxed : (g k : ℕ) → IsStepAcross g k → (IsRelaxed distances g k ⊎ IsWaiting queue (head + 1) k) ⊎ IsToCome p i g k
 
   -- a point with a level has this number, and this flat distance
   pub record IsNumberOf (g distance : ℕ) : Type 0 where

@@ -1,16 +1,12 @@
--- Distances over flats on their way: what holds while they are propagated from place to place, in any order.
-use Rattle.std.specs.Prelude.{◌≡◌, ℕ, ◌+◌, ◌<◌, ◌≤◌, ◌⊎◌, ℤ, IsTrue, List, length, slice_index_or}
-use Rattle.lattice.specs.declared.point.Point.{Point}
+-- Distances over flats on their way: what holds of numbers of samples while they are propagated, in any order.
+use Rattle.std.specs.Prelude.{◌≡◌, ℕ, ◌<◌, ◌≤◌, ◌⊎◌, ℤ, Option, Some, None, List, [], ◌∷◌, ◌++◌, length, slice_index_or, slice_set}
 use Rattle.lattice.specs.declared.direction.Dir.{Dir}
-use Rattle.lattice.specs.Steps.{step, order_of}
-use Rattle.lattice.specs.Terrain.{Terrain}
+use Rattle.lattice.specs.Steps.{order_of}
 use Rattle.lattice.specs.Mosaic.{void}
-use Rattle.flow_d8.specs.Drainage.{CrossesFlat}
 use Rattle.flow_d8.specs.declared.local_flow.LocalFlow.{LocalFlow}
 use Rattle.flow_d8.specs.declared.local_flow.LocalFlow.TheVariants.{NoGround, Edge, Flat, Seam, Drains}
-use Rattle.flow_d8.specs.Places.{place_by, back_of, IsInner, IsShown}
 
--- the distance of a place whose distance isn't known
+-- the distance of a sample whose distance isn't known
 abbrev pub unknown : ℕ
 unknown = 4294967295
 
@@ -20,61 +16,13 @@ distance_at distances k = slice_index_or distances k unknown
 abbrev pub IsFlat : List LocalFlow → ℕ → Type 0
 IsFlat flows k = slice_index_or flows k NoGround ≡ Flat
 
--- each place on a flat has places all around it
-abbrev pub AreInner : List LocalFlow → ℕ → Type 0
-AreInner flows width = (k : ℕ) → IsFlat flows k → IsInner width (length flows) k
+abbrev pub IsSeam : List LocalFlow → ℕ → Type 0
+IsSeam flows k = slice_index_or flows k NoGround ≡ Seam
 
--- the place stands in the queue, at the head or after it
-pub record IsWaiting (queue : List ℕ) (head k : ℕ) : Type 0 where
-  pub index : ℕ
-  pub after : head ≤ index
-  pub within : index < length queue
-  pub here : slice_index_or queue index 0 ≡ k
+abbrev pub IsOnFlat : List LocalFlow → ℕ → Type 0
+IsOnFlat flows k = IsFlat flows k ⊎ IsSeam flows k
 
-module _ (levels : List ℤ) (flows : List LocalFlow) (width : ℕ) where
-  -- a step across from the place saves at most one
-  abbrev pub IsRelaxed : List ℕ → ℕ → Dir → Type 0
-  IsRelaxed distances k d = slice_index_or levels (place_by width k d) void ≡ slice_index_or levels k void → distance_at distances (place_by width k d) < unknown
-      → distance_at distances k ≤ distance_at distances (place_by width k d) + 1
-
-  -- at each place on a flat
-  abbrev pub AreRelaxed : List ℕ → Type 0
-  AreRelaxed distances = (k : ℕ) → IsFlat flows k → (d : Dir) → IsRelaxed distances k d
-
-  -- but for steps to places that wait
-  abbrev pub AreRelaxedBut : List ℕ → List ℕ → ℕ → Type 0
-  AreRelaxedBut distances queue head = (k : ℕ) → IsFlat flows k → (d : Dir) → IsRelaxed distances k d ⊎ IsWaiting queue head (place_by width k d)
-
-  abbrev pub AllFlat : List ℕ → Type 0
-  AllFlat queue = (i : ℕ) → i < length queue → IsFlat flows (slice_index_or queue i 0)
-
-  -- distances are being propagated
-  pub record IsPropagating (distances queue : List ℕ) (head : ℕ) : Type 0 where
-    pub whole : length distances ≡ length flows
-    pub flat : AllFlat queue
-    pub relaxed : AreRelaxedBut distances queue head
-
-  -- .. and from one place in the first i directions
-  pub record IsRelaxing (distances queue : List ℕ) (head from i : ℕ) : Type 0 where
-    pub whole : length distances ≡ length flows
-    pub flat : AllFlat queue
-    pub taken : head < length queue
-    pub relaxed : (k : ℕ) → IsFlat flows k → (d : Dir) → (IsRelaxed distances k d ⊎ IsWaiting queue (head + 1) (place_by width k d)) ⊎ ((place_by width k d ≡ from) × (i ≤ order_of (back_of d)))
-
-  -- the place is the point's: steps from it are the point's steps, and the levels tell of it
-  pub record IsPlaced (t : Terrain Point) (level : Point → ℤ) (place : ℕ → Point) (k : ℕ) : Type 0 where
-    pub solid : IsTrue (t.is_ground (place k))
-    pub steps : (d : Dir) → place (place_by width k d) ≡ step d (place k)
-    pub shown : IsShown t level levels width (place k) k
-
-  abbrev pub ArePlaced : Terrain Point → (Point → ℤ) → (ℕ → Point) → Type 0
-  ArePlaced t level place = (k : ℕ) → IsFlat flows k → IsPlaced t level place k
-
--- each known distance was walked
-abbrev pub AreWalked : Terrain Point → (Point → ℤ) → (ℕ → Point) → List ℕ → Type 0
-AreWalked t level place distances = (k : ℕ) → distance_at distances k < unknown → CrossesFlat t level (place k) (distance_at distances k)
-
--- some step down leads from the place, or off the mosaic
+-- some step down leads from the sample, or off the mosaic
 abbrev pub DrainsAtOnce : LocalFlow → Type 0
 DrainsAtOnce NoGround = ⊥
 DrainsAtOnce Flat = ⊥
@@ -85,22 +33,32 @@ DrainsAtOnce (Drains d) = Unit
 abbrev pub IsEnd : List LocalFlow → ℕ → Type 0
 IsEnd flows k = DrainsAtOnce (slice_index_or flows k NoGround)
 
-module _ (levels : List ℤ) (flows : List LocalFlow) (width : ℕ) where
-  -- between places on flats no step saves more than one
-  abbrev pub AreRelaxedAmongFlats : List ℕ → Type 0
-  AreRelaxedAmongFlats distances = (k : ℕ) → IsFlat flows k → (d : Dir) → IsFlat flows (place_by width k d) → IsRelaxed levels flows width distances k d
+-- the sample stands in the queue, at the head or after it
+pub record IsWaiting (queue : List ℕ) (head k : ℕ) : Type 0 where
+  pub index : ℕ
+  pub after : head ≤ index
+  pub within : index < length queue
+  pub here : slice_index_or queue index 0 ≡ k
 
-  -- the places before k, and k in its first i directions, have what those that aren't on flats give them
-  pub record IsSeeding (distances queue : List ℕ) (k i : ℕ) : Type 0 where
-    pub whole : length distances ≡ length flows
-    pub flat : AllFlat levels flows width queue
-    pub relaxed : (j : ℕ) → IsFlat flows j → (d : Dir) → (j < k) ⊎ (((j ≡ k) × (order_of d < i)) ⊎ IsFlat flows (place_by width j d))
-        → IsRelaxed levels flows width distances j d ⊎ IsWaiting queue 0 (place_by width j d)
+-- a sample of the level of `from` gets the distance `far` where that is less than what it has, and waits then
+module _ (levels : List ℤ) (distances queue : List ℕ) (from far : ℕ) (to : Option ℕ) (new longer : List ℕ) where
+  pub record IsKept : Type 0 where
+    pub unchanged : new ≡ distances
+    pub as_long : longer ≡ queue
+    pub near : (g : ℕ) → to ≡ Some g → slice_index_or levels g void ≡ slice_index_or levels from void → distance_at distances g ≤ far
 
--- places that aren't on a flat keep their distances
-abbrev pub AreKeptOutside : List LocalFlow → List ℕ → List ℕ → Type 0
-AreKeptOutside flows old new = (k : ℕ) → (IsFlat flows k → ⊥) → distance_at new k ≡ distance_at old k
+  pub record IsLowered : Type 0 where
+    pub number : ℕ
+    pub is : to ≡ Some number
+    pub level : slice_index_or levels number void ≡ slice_index_or levels from void
+    pub less : far < distance_at distances number
+    pub known : far < unknown
+    pub lowered : new ≡ slice_set distances number far
+    pub waits : longer ≡ queue ++ (number ∷ [])
 
--- the step leads across to a place with a less distance
-abbrev pub IsCloser : List ℤ → List ℕ → ℕ → ℕ → Dir → Type 0
-IsCloser levels distances width k d = (slice_index_or levels (place_by width k d) void ≡ slice_index_or levels k void) × (distance_at distances (place_by width k d) < distance_at distances k)
+  abbrev pub IsRelaxStep : Type 0
+  IsRelaxStep = IsKept ⊎ IsLowered
+
+-- by the numbers around it, the step leads across to a sample with a less distance
+abbrev pub IsCloser : List ℤ → List ℕ → List (Option ℕ) → ℕ → Dir → Type 0
+IsCloser levels distances around k d = (g : ℕ) × ((slice_index_or around (order_of d) None ≡ Some g) × ((slice_index_or levels g void ≡ slice_index_or levels k void) × (distance_at distances g < distance_at distances k)))

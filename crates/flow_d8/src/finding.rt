@@ -7,14 +7,14 @@ ghost use Rattle.lattice.specs.Ground.{terrain};
 ghost use Rattle.flow_d8.specs.Drainage.{AreFilledLevels};
 ghost use Rattle.flow_d8.specs.Filled.{IsFilledOf, IsOfNoMosaic};
 ghost use Rattle.flow_d8.specs.Surface.{number_in, has_level};
-ghost use Rattle.flow_d8.specs.Propagation.{unknown, distance_at, IsFlat};
-ghost use Rattle.flow_d8.specs.Crossing.{AreLocalFlows, AreDistances, AreDrained, IsDrainOf, IsSeam};
+ghost use Rattle.flow_d8.specs.Propagation.{unknown, distance_at, IsOnFlat};
+ghost use Rattle.flow_d8.specs.Crossing.{AreLocalFlows, AreDistances, AreDrained, IsDrainOf};
 ghost use Rattle.flow_d8.specs.Directions.{AreDirectionsOf};
 
+use crate::around::numbers_around;
 use crate::crossing::flat_distances;
 use crate::directions::Directions;
 use crate::filled::Filled;
-use crate::flats::nearer;
 use crate::flows::local_flows;
 use crate::local_flow::LocalFlow;
 use crate::nearer::first_nearer;
@@ -77,14 +77,13 @@ fn drain_of(
         LocalFlow::NoGround => Ok(None),
         LocalFlow::Edge => Ok(None),
         LocalFlow::Drains(direction) => Ok(Some(direction)),
-        LocalFlow::Flat => drain_inside(filled, flows, distances, number),
-        LocalFlow::Seam => drain_seam(filled, flows, distances, number),
+        LocalFlow::Flat | LocalFlow::Seam => drain_across(filled, flows, distances, number),
     }
 }
 
-// Across a flat, where all around the sample lies in its own tile.
+// Across a flat.
 #[inline(always)]
-fn drain_inside(
+fn drain_across(
     filled: &Filled,
     flows: &[LocalFlow],
     distances: &[u32],
@@ -93,7 +92,7 @@ fn drain_inside(
     requires flows { AreLocalFlows filled.now flows.now }
     requires distances { AreDistances filled.now distances.now }
     requires number { number < length filled.now.levels }
-    requires flat { IsFlat flows.now number }
+    requires flat { IsOnFlat flows.now number }
     ensures drained { IfOk result (IsDrainOf filled.now number) }
     ensures known { OnOk result (distance_at distances.now number < unknown) }
     ensures damaged { IfErr result (λ r. (r ≡ Damaged) × IsOfNoMosaic filled.now) }
@@ -101,29 +100,6 @@ fn drain_inside(
     if distances[number] == UNKNOWN {
         return Err(Refusal::Damaged);
     }
-    let width = filled.row_length(number);
-    Ok(first_nearer(filled.levels(), distances, width, number))
-}
-
-// Across a flat, at the edge of the sample's tile.
-fn drain_seam(
-    filled: &Filled,
-    flows: &[LocalFlow],
-    distances: &[u32],
-    number: usize,
-) -> Result<Option<Dir>, Refusal>
-    requires flows { AreLocalFlows filled.now flows.now }
-    requires distances { AreDistances filled.now distances.now }
-    requires number { number < length filled.now.levels }
-    requires seam { IsSeam flows.now number }
-    ensures drained { IfOk result (IsDrainOf filled.now number) }
-    ensures known { OnOk result (distance_at distances.now number < unknown) }
-    ensures damaged { IfErr result (λ r. (r ≡ Damaged) × IsOfNoMosaic filled.now) }
-{
-    let distance = distances[number];
-    if distance == UNKNOWN {
-        return Err(Refusal::Damaged);
-    }
-    let point = filled.point(number);
-    Ok(nearer(filled, distances, point, number, distance))
+    let around = numbers_around(filled, flows, number);
+    Ok(first_nearer(filled.levels(), distances, number, around))
 }

@@ -11,11 +11,11 @@
 //! ```
 #![tactic(auto)]
 
+mod around;
 mod crossing;
 mod directions;
 mod filled;
 mod finding;
-mod flats;
 mod flow;
 mod flows;
 mod laws;

@@ -3,6 +3,7 @@ ghost use Rattle.std.specs.Prelude.{◌≡◌, ℕ, ◌+◌, ◌<◌, ◌≤◌,
 ghost use Rattle.lattice.specs.declared.direction.Dir.{Dir};
 ghost use Rattle.lattice.specs.Mosaic.{void};
 ghost use Rattle.flow_d8.specs.Places.{place_by, IsInner, IsFlowAt, IsBestAt};
+ghost use Rattle.flow_d8.specs.Propagation.{IsFlat, IsOnFlat, IsEnd};
 
 use crate::slopes::{Best, at, better};
 use lattice::{Dir, VOID};
@@ -20,6 +21,36 @@ pub(crate) enum LocalFlow {
     Seam,
     /// This step is the steepest down.
     Drains(Dir),
+}
+
+/// Whether the sample with this number lies on a flat, all around it in its own tile.
+#[inline(always)]
+pub(crate) fn is_flat(flows: &[LocalFlow], number: usize) -> bool
+    requires { number < length flows.now }
+    ensures { IsTrue result ↔ IsFlat flows.now number }
+{
+    matches!(flows[number], LocalFlow::Flat)
+}
+
+/// Whether the sample lies on a flat.
+#[inline(always)]
+pub(crate) fn is_on_flat(flows: &[LocalFlow], number: usize) -> bool
+    requires { number < length flows.now }
+    ensures { IsTrue result ↔ IsOnFlat flows.now number }
+{
+    matches!(flows[number], LocalFlow::Flat | LocalFlow::Seam)
+}
+
+/// Whether the sample's point drains at once: downhill or off the mosaic.
+#[inline(always)]
+pub(crate) fn is_end(flows: &[LocalFlow], number: usize) -> bool
+    requires { number < length flows.now }
+    ensures { IsTrue result ↔ IsEnd flows.now number }
+{
+    match flows[number] {
+        LocalFlow::Edge | LocalFlow::Drains(_) => true,
+        LocalFlow::NoGround | LocalFlow::Flat | LocalFlow::Seam => false,
+    }
 }
 
 /// Where the point at this place drains, over levels in rows of this width. Edge where some direction has no level.

@@ -1,138 +1,93 @@
-//! The distances that places on flats have from those that aren't: what drains at once, and what lies on a seam.
-ghost use Rattle.std.specs.Prelude.{◌≡◌, ℕ, ℤ, ◌+◌, ◌<◌, ◌≤◌, ◌⊎◌, [], OnOk, IsTrue, IsFalse, length, slice_index_or, sum};
-ghost use Rattle.lattice.specs.declared.point.Point.{Point};
-ghost use Rattle.lattice.specs.Terrain.{Terrain};
-ghost use Rattle.lattice.specs.Steps.{order_of};
+//! The first distances of flats: 1 beside what drains at once.
+ghost use Rattle.std.specs.Prelude.{◌≡◌, ℕ, ◌+◌, ◌<◌, OnOk, IsTrue, IsFalse, IfSome, Some, ◌↔◌, length, slice_index_or};
 ghost use Rattle.lattice.specs.Mosaic.{void};
-ghost use Rattle.flow_d8.specs.LevelGrid.{IsLevelGrid};
-ghost use Rattle.flow_d8.specs.Places.{place_by, IsInner};
-ghost use Rattle.flow_d8.specs.Propagation.{unknown, distance_at, IsFlat, AreInner, AreRelaxedAmongFlats, IsPropagating, IsSeeding, ArePlaced, AreWalked, AreKeptOutside};
+ghost use Rattle.flow_d8.specs.Propagation.{IsEnd, IsOnFlat};
+ghost use Rattle.flow_d8.specs.Crossing.{AreLocalFlows, IsStepAcross, IsSeeding, IsPropagating};
 
-use crate::local_flow::LocalFlow;
-use crate::propagating::{UNKNOWN, is_flat, place};
+use crate::around::numbers_around;
+use crate::filled::Filled;
+use crate::local_flow::{LocalFlow, is_end, is_on_flat};
 use crate::slopes::at;
-use lattice::{DIRECTIONS, Dir};
 use std::alloc::AllocError;
 
-/// Gives each place on a flat one more than the least distance across among places that aren't on one. Those that get it
-/// wait in the queue.
+/// Gives the points of flats beside which a point of the same level drains at once their distance. They wait in the queue.
 pub(crate) fn seed(
-    levels: &[i16],
+    filled: &Filled,
     flows: &[LocalFlow],
-    width: usize,
     distances: &mut [u32],
     queue: &mut Vec<u32>,
 ) -> Result<(), AllocError>
-    requires same { length levels.now ≡ length flows.now }
-    requires whole { length distances.old ≡ length flows.now }
-    requires small { length flows.now < unknown }
-    requires wide { 2 ≤ width }
-    requires inner { AreInner flows.now width }
-    requires empty { queue.old.items ≡ [] }
-    requires relaxed { AreRelaxedAmongFlats levels.now flows.now width distances.old }
-    ensures propagating { OnOk result (IsPropagating levels.now flows.now width distances.new queue.new.items 0) }
-    ensures whole { length distances.new ≡ length distances.old }
-    ensures kept { AreKeptOutside flows.now distances.old distances.new }
-    ensures less { sum distances.new ≤ sum distances.old }
-    ensures walked { (t : Terrain Point) (level : Point → ℤ) (place : ℕ → Point) → IsLevelGrid t level → ArePlaced levels.now flows.now width t level place
-        → AreWalked t level place distances.old → AreWalked t level place distances.new }
+    requires flows { AreLocalFlows filled.now flows.now }
+    requires seeding { IsSeeding filled.now flows.now distances.old queue.old.items 0 }
+    ensures { OnOk result (IsPropagating filled.now flows.now distances.new queue.new.items 0) }
 {
-    for k in 0..flows.len() {
-        seed_place(levels, flows, width, distances, queue, k)?;
+    for number in 0..flows.len() {
+        seed_at(filled, flows, distances, queue, number)?;
     }
     Ok(())
 }
 
-fn seed_place(
-    levels: &[i16],
+// The same for the point with this number.
+#[inline(always)]
+fn seed_at(
+    filled: &Filled,
     flows: &[LocalFlow],
-    width: usize,
     distances: &mut [u32],
     queue: &mut Vec<u32>,
-    k: usize,
+    number: usize,
 ) -> Result<(), AllocError>
-    requires same { length levels.now ≡ length flows.now }
-    requires small { length flows.now < unknown }
-    requires wide { 2 ≤ width }
-    requires inner { AreInner flows.now width }
-    requires k { k < length flows.now }
-    requires seeding { IsSeeding levels.now flows.now width distances.old queue.old.items k 0 }
-    ensures seeding { OnOk result (IsSeeding levels.now flows.now width distances.new queue.new.items k 8) }
-    ensures whole { length distances.new ≡ length distances.old }
-    ensures kept { AreKeptOutside flows.now distances.old distances.new }
-    ensures less { sum distances.new ≤ sum distances.old }
-    ensures walked { (t : Terrain Point) (level : Point → ℤ) (place : ℕ → Point) → IsLevelGrid t level → ArePlaced levels.now flows.now width t level place
-        → AreWalked t level place distances.old → AreWalked t level place distances.new }
+    requires flows { AreLocalFlows filled.now flows.now }
+    requires number { number < length flows.now }
+    requires seeding { IsSeeding filled.now flows.now distances.old queue.old.items number }
+    ensures { OnOk result (IsSeeding filled.now flows.now distances.new queue.new.items (number + 1)) }
 {
-    if !is_flat(flows, k) {
+    let _levels = filled.levels();
+    if !touches_end(filled, flows, number) {
         return Ok(());
     }
+    queue.push(number as u32)?;
+    distances[number] = 1;
+    Ok(())
+}
+
+// Whether the point with this number lies on a flat, and a step across leads from it to one that drains at once.
+#[inline(always)]
+fn touches_end(filled: &Filled, flows: &[LocalFlow], number: usize) -> bool
+    requires flows { AreLocalFlows filled.now flows.now }
+    requires number { number < length flows.now }
+    ensures flat { IsTrue result → IsOnFlat flows.now number }
+    ensures end { IsTrue result → (k : ℕ) × (IsStepAcross filled.now number k × IsEnd flows.now k) }
+    ensures none { IsFalse result → IsOnFlat flows.now number → (k : ℕ) → IsStepAcross filled.now number k → IsEnd flows.now k → ⊥ }
+{
+    is_on_flat(flows, number) && has_end_across(filled, flows, number)
+}
+
+fn has_end_across(filled: &Filled, flows: &[LocalFlow], number: usize) -> bool
+    requires flows { AreLocalFlows filled.now flows.now }
+    requires number { number < length flows.now }
+    requires flat { IsOnFlat flows.now number }
+    ensures { IsTrue result ↔ ((k : ℕ) × (IsStepAcross filled.now number k × IsEnd flows.now k)) }
+{
+    let levels = filled.levels();
+    let around = numbers_around(filled, flows, number);
     for i in 0..8 {
-        take_from(levels, flows, width, distances, queue, k, DIRECTIONS[i])?;
+        if is_end_across(levels, flows, number, around[i]) {
+            return true;
+        }
     }
-    Ok(())
+    false
 }
 
-// Gives the place one more than the distance of the next one across, where that isn't on a flat and this saves.
+// Whether there is a second sample, of the level of the first, and it drains at once.
 #[inline(always)]
-fn take_from(
-    levels: &[i16],
-    flows: &[LocalFlow],
-    width: usize,
-    distances: &mut [u32],
-    queue: &mut Vec<u32>,
-    k: usize,
-    direction: Dir,
-) -> Result<(), AllocError>
+fn is_end_across(levels: &[i16], flows: &[LocalFlow], number: usize, to: Option<usize>) -> bool
     requires same { length levels.now ≡ length flows.now }
-    requires whole { length distances.old ≡ length flows.now }
-    requires small { length flows.now < unknown }
-    requires wide { 2 ≤ width }
-    requires inside { IsFlat flows.now k }
-    requires within { IsInner width (length flows.now) k }
-    ensures seeding { OnOk result (IsSeeding levels.now flows.now width distances.old queue.old.items k (order_of direction)
-        → IsSeeding levels.now flows.now width distances.new queue.new.items k (order_of direction + 1)) }
-    ensures whole { length distances.new ≡ length distances.old }
-    ensures kept { AreKeptOutside flows.now distances.old distances.new }
-    ensures less { sum distances.new ≤ sum distances.old }
-    ensures walked { (t : Terrain Point) (level : Point → ℤ) (place : ℕ → Point) → IsLevelGrid t level → ArePlaced levels.now flows.now width t level place
-        → AreWalked t level place distances.old → AreWalked t level place distances.new }
+    requires number { number < length flows.now }
+    requires to { IfSome to (λ g. g < length flows.now) }
+    ensures { IsTrue result ↔ ((g : ℕ) × ((to ≡ Some g) × ((slice_index_or levels.now g void ≡ slice_index_or levels.now number void) × IsEnd flows.now g))) }
 {
-    let to = place(width, k, direction, flows.len());
-    if gives(levels, flows, distances, k, to) {
-        let far = distance_of(distances, to) + 1;
-        queue.push(k as u32)?;
-        distances[k] = far;
+    match to {
+        Some(to) => is_end(flows, to) && at(levels, to) == at(levels, number),
+        None => false,
     }
-    Ok(())
-}
-
-// Whether the place `to` isn't on a flat, has the level of k and a known distance, and one more is less than that of k.
-#[inline(always)]
-fn gives(levels: &[i16], flows: &[LocalFlow], distances: &[u32], k: usize, to: usize) -> bool
-    requires same { length levels.now ≡ length flows.now }
-    requires whole { length distances.now ≡ length flows.now }
-    requires k { k < length flows.now }
-    requires to { to < length flows.now }
-    ensures yes { IsTrue result → (slice_index_or levels.now k void ≡ slice_index_or levels.now to void) × (distance_at distances.now to < unknown) × (distance_at distances.now to + 1 < distance_at distances.now k) }
-    ensures not_so { IsFalse result → IsFlat flows.now to ⊎ (slice_index_or levels.now to void ≡ slice_index_or levels.now k void → distance_at distances.now to < unknown → distance_at distances.now k ≤ distance_at distances.now to + 1) }
-{
-    if is_flat(flows, to) {
-        return false;
-    }
-    if distances[to] == UNKNOWN {
-        return false;
-    }
-    if at(levels, k) != at(levels, to) {
-        return false;
-    }
-    distances[k] > distances[to] + 1
-}
-
-#[inline(always)]
-fn distance_of(distances: &[u32], place: usize) -> u32
-    requires { place < length distances.now }
-    ensures { result ≡ distance_at distances.now place }
-{
-    distances[place]
 }

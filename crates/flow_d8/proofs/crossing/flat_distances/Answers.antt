@@ -1,10 +1,12 @@
-use Rattle.std.proofs.Common.{sym, subst}
-use Rattle.flow_d8.specs.Crossing.{AreBounds}
-use Rattle.flow_d8.proofs.SeamDistances.{bounds_first}
+use Rattle.std.proofs.Common.{[], sym, subst}
+use Rattle.flow_d8.specs.Crossing.{IsSeeding}
+use Rattle.flow_d8.proofs.Spreading.{seeding_first}
 use Rattle.flow_d8.proofs.crossing.flat_distances.Goals as goal
 
-pub cross-requires-clause-bounds : goal.cross-requires-clause-bounds
-cross-requires-clause-bounds c =
+pub seed-requires-clause-seeding : goal.seed-requires-clause-seeding
+seed-requires-clause-seeding c =
+    let f = c.args.filled.now in
+    let flows = c.args.flows.now in
     let first = c.in_ok-distances.ensures in
-    subst (AreBounds c.args.filled.now c.args.flows.now) (sym c.deref_mut.ensures.value)
-    (bounds_first c.args.filled.now c.args.flows.now c.requires c.in_ok-distances.distances.items first.whole first.ends first.others)
+    subst (λ queue. IsSeeding f flows c.deref_mut.result.now queue 0) (sym c.new-queue.ensures.items)
+    (subst (λ distances. IsSeeding f flows distances [] 0) (sym c.deref_mut.ensures.value) (seeding_first f flows c.requires c.in_ok-distances.distances.items first.whole first.ends first.others))

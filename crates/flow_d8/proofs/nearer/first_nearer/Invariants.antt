@@ -5,4 +5,4 @@ use Rattle.flow_d8.specs.Propagation.{IsCloser}
 use Rattle.flow_d8.proofs.nearer.first_nearer.Given as goal
 
 abbrev pub invariant-loop-i : goal.invariant-loop-i
-invariant-loop-i l = (d : Dir) → order_of d < l.i → IsCloser l.levels l.distances l.width l.k d → ⊥
+invariant-loop-i l = (d : Dir) → order_of d < l.i → IsCloser l.levels l.distances l.around l.number d → ⊥
