@@ -1,5 +1,5 @@
 -- What an edit of points of a box leaves as it was.
-use Rattle.std.proofs.Common.{◌≡◌, ◌≢◌, ℕ, ◌+◌, ◌<◌, ◌≤◌, ℤ, true, false, ◌&&◌, List, length, get_or, take, refl, sym, ap, subst}
+use Rattle.std.proofs.Common.{◌≡◌, ◌≢◌, ℕ, zero, suc, ◌+◌, ◌<◌, ◌≤◌, ℤ, true, false, ◌&&◌, List, [], ◌∷◌, length, get_or, take, refl, sym, ap, subst, arith}
 use Rattle.std.specs.Prelude.{if◌then◌else◌}
 use Rattle.std.proofs.lemmas.Bool.{and_left}
 use Rattle.lattice.specs.declared.point.Point.{Point}
@@ -8,7 +8,7 @@ use Rattle.lattice.specs.Mosaic.{Mosaic, IsMosaic, void}
 use Rattle.catalogue.specs.Tiles.{AreCorners, corners_of}
 use Rattle.catalogue.proofs.OneTile.{corners_are}
 use Rattle.edits.specs.declared.edit.NewHeight.{NewHeight}
-use Rattle.edits.specs.Edits.{with_height, with_heights}
+use Rattle.edits.specs.Edits.{AreEarlier, with_height, with_heights}
 use Rattle.edits.specs.Effect.{edited, is_in_box, is_void_at, patched}
 use Rattle.edits.proofs.Edited.{heights_corners, heights_next, heights_side}
 use Rattle.edits.proofs.EditedHeights.{edited_corners, height_stays}
@@ -50,3 +50,9 @@ set_more hs i h m valid below is full ground =
     let mid : Mosaic = with_heights (take i hs) m in
     subst (λ (y : Mosaic). height_of y h.point ≡ At h.metres) (sym (heights_next hs i h m below is))
     (height_set h.point h.metres full mid (subst (λ n. 3 ≤ n) (sym (heights_side (take i hs) m)) valid.side_low) (subst AreCorners (sym (heights_corners (take i hs) m)) (corners_are m valid)) ground)
+
+-- until then the point has the height that is told
+pub earlier_at : (hs : List NewHeight) (i : ℕ) (h : NewHeight) (m : Mosaic) → i < length hs → h ≡ get_or hs i h → AreEarlier hs m → height_of (with_heights (take i hs) m) h.point ≡ At h.was
+earlier_at [] i h m below is earlier = absurd (omega arith)
+earlier_at (k ∷ hs) zero h m below is earlier = subst (λ (x : NewHeight). height_of m x.point ≡ At x.was) (sym is) earlier.0
+earlier_at (k ∷ hs) (suc i) h m below is earlier = earlier_at hs i h (with_height k.point k.metres m) (omega arith) is earlier.1

@@ -1,5 +1,5 @@
 -- A level below both heights of a point that changes, or above both, stays.
-use Rattle.std.proofs.Common.{◌≡◌, ◌≢◌, inl, inr, ℕ, ◌+◌, ◌*◌, ◌<◌, ◌≤◌, ℤ, pos, ◌-ℤ◌, ◌≤ℤ◌, ◌<ℤ◌, ◌⊎◌, Bool, true, false, ◌&&◌, ◌||◌, not, IsTrue, List, [], ◌∷◌, length, get_or, cond, refl, sym, ap, ap₂, ◌∙◌, subst, arith}
+use Rattle.std.proofs.Common.{◌≡◌, inl, inr, ℕ, ◌+◌, ◌<◌, ◌≤◌, ℤ, pos, ◌-ℤ◌, ◌≤ℤ◌, ◌<ℤ◌, ◌⊎◌, Bool, true, false, ◌&&◌, ◌||◌, not, IsTrue, List, [], ◌∷◌, length, get_or, cond, refl, sym, ap, ap₂, ◌∙◌, subst, arith}
 use Rattle.std.specs.Prelude.{Option, Some, None, IfSome, slice_set, nat_lt, count_by, int_le}
 use Rattle.std.specs.Int.{int_max}
 use Rattle.std.proofs.Math.Path.{fun_ext}
@@ -9,12 +9,12 @@ use Rattle.std.proofs.lemmas.List.{get_or-set_same, get_or-set_other, get_or_pas
 use Rattle.lattice.specs.Corners.{Corner}
 use Rattle.lattice.specs.declared.direction.Dir.{Dir}
 use Rattle.lattice.specs.declared.height.Height.{Height}
-use Rattle.lattice.specs.declared.height.Height.TheVariants.{Outside, Void, At}
+use Rattle.lattice.specs.declared.height.Height.TheVariants.{At}
 use Rattle.lattice.specs.declared.point.Point.{Point}
 use Rattle.lattice.specs.Ground.{is_height, metres, is_ground, same_point, is_near, share_tile, is_adjacent, degree_of, is_sink, is_outlet, terrain}
 use Rattle.lattice.specs.Height.{height_of}
-use Rattle.lattice.specs.Lattice.{IsIndexOf, point_of}
-use Rattle.lattice.specs.Mosaic.{Mosaic, void}
+use Rattle.lattice.specs.Lattice.{point_of}
+use Rattle.lattice.specs.Mosaic.{Mosaic}
 use Rattle.lattice.specs.RimPoints.{IsRimPoint}
 use Rattle.lattice.specs.Steps.{step, directions}
 use Rattle.lattice.specs.Terrain.{Terrain, IsPath, LeadsOut, IsFilledLevel, crest, end_of}
@@ -23,12 +23,9 @@ use Rattle.lattice.proofs.Levels.{≤ℤ_same, ≤ℤ_antisym}
 use Rattle.border_graph.specs.Joining.{Rim}
 use Rattle.border_graph.specs.Linking.{node_number}
 use Rattle.border_graph.specs.Others.{corner_at}
-use Rattle.tile_labellings.specs.TileLabellings.{IsTileLabelling}
-use Rattle.tile_labellings.specs.declared.tile_labelling.TileLabelling.{TileLabelling}
-use Rattle.drainage.specs.Holding.{IsEntered, IsRimLevel, labelling_at, level_of}
+use Rattle.drainage.specs.Holding.{IsRimLevel, level_of}
 use Rattle.drainage.specs.Reaching.{is_between, DifferAt}
 use Rattle.drainage.specs.Spared.{IsSpared, IsSetTo}
-use Rattle.drainage.proofs.Asked.{is_at}
 use Rattle.drainage.proofs.Reached.{between_itself}
 use Rattle.drainage.proofs.Unreached.{shared_still}
 
@@ -155,12 +152,6 @@ module _ (m new : Mosaic) (p : Point) (differ : DifferAt m new p) (was is : ℤ)
   pub filled_still : (q : Point) → IsFilledLevel (terrain m) q v → IsFilledLevel (terrain new) q v
   filled_still = level_stays (terrain m) (terrain new) ground_still adjacent_still outlet_still v low_still under_still
 
--- a point that has a height in metres is ground
-ground_at : (h : Height) (was : ℤ) → metres h ≡ was → was ≢ void → h ≡ At was
-ground_at (At x) was is some = ap At is
-ground_at Outside was is some = absurd (some (sym is))
-ground_at Void was is some = absurd (some (sym is))
-
 -- the level of a rim point that is known, and spared
 module _ (m new : Mosaic) (p : Point) (differ : DifferAt m new p) where
   rim_still : (was is : ℤ) → height_of m p ≡ At was → height_of new p ≡ At is → (corners : List Corner) (x : ℕ) (v : ℤ) → ((v <ℤ was) × (v <ℤ is)) ⊎ ((was <ℤ v) × (is <ℤ v)) → IsRimLevel m corners x v → IsRimLevel new corners x v
@@ -185,18 +176,13 @@ module _ (m new : Mosaic) (p : Point) (differ : DifferAt m new p) where
   spared_twice was is v (inl below) = inl (below.0, below.0)
   spared_twice was is v (inr above) = inr (above.0, above.0)
 
-  pub spared_level : (known : Option ℤ) (is : ℤ) → IfSome known (λ h. (h ≢ void) × (metres (height_of m p) ≡ h)) → IsSetTo m new p is → (corners : List Corner) (x : ℕ) (v : ℤ) → IsSpared known is v → IsRimLevel m corners x v → IsRimLevel new corners x v
-  spared_level None is known set corners x v spared r = absurd spared
-  spared_level (Some was) is known (inl same) corners x v spared r =
-      let before = ground_at (height_of m p) was known.1 known.0 in
-      rim_still was was before (same ∙ before) corners x v (spared_twice was is v spared.1) r
-  spared_level (Some was) is known (inr set) corners x v spared r =
-      let before = ground_at (height_of m p) was known.1 known.0 in
-      rim_still was is before (set spared.0 (ap is_height before)) corners x v spared.1 r
+  pub spared_level : (was is : ℤ) → height_of m p ≡ At was → IsSetTo m new p is → (corners : List Corner) (x : ℕ) (v : ℤ) → IsSpared was is v → IsRimLevel m corners x v → IsRimLevel new corners x v
+  spared_level was is before (inl same) corners x v spared r = rim_still was was before (same ∙ before) corners x v (spared_twice was is v spared.1) r
+  spared_level was is before (inr set) corners x v spared r = rim_still was is before (set spared.0 (ap is_height before)) corners x v spared.1 r
 
 -- ---- levels given up one by one
 
-pub record AreSpared (was : Option ℤ) (is : ℤ) (before : List (Option ℤ)) (k : ℕ) (now : List (Option ℤ)) : Type 0 where
+pub record AreSpared (was is : ℤ) (before : List (Option ℤ)) (k : ℕ) (now : List (Option ℤ)) : Type 0 where
   pub whole : length now ≡ length before
   pub left : (x : ℕ) (level : ℤ) → level_of now x ≡ Some level → (level_of before x ≡ Some level) × (x < k → IsSpared was is level)
   pub kept : (x : ℕ) (level : ℤ) → level_of before x ≡ Some level → IsSpared was is level → level_of now x ≡ Some level
@@ -204,7 +190,7 @@ pub record AreSpared (was : Option ℤ) (is : ℤ) (before : List (Option ℤ)) 
 none_is : (a : ℤ) → ◌≡◌ {A = Option ℤ} None (Some a) → ⊥
 none_is a e = cc
 
-module _ (was : Option ℤ) (is : ℤ) (before : List (Option ℤ)) where
+module _ (was is : ℤ) (before : List (Option ℤ)) where
   pub none_seen : AreSpared was is before 0 before
   none_seen = record { whole = refl; left = λ x level at. (at, λ below. absurd (omega arith)); kept = λ x level at _. at }
 
@@ -244,25 +230,3 @@ module _ (was : Option ℤ) (is : ℤ) (before : List (Option ℤ)) where
     | inl below ↦ let seen = so.left x level there in (seen.0, seen.1 (omega arith))
     | inr past ↦ absurd (none_is level (sym (get_or_past now x None past) ∙ there))
   ]
-
--- ---- heights that are known
-
-known_by : (o : Option ℤ) (A B : ℤ → Type 0) → ((h : ℤ) → A h → B h) → IfSome o (λ h. (h ≢ void) × A h) → IfSome o (λ h. (h ≢ void) × B h)
-known_by None A B then_ known = tt
-known_by (Some h) A B then_ known = (known.0, then_ h known.1)
-
--- by the block of a tile that holds the point
-pub height_in_tile : (n : ℕ) (c d : Corner) → c ≡ d → (p : Point) (e : ℕ) → IsIndexOf n d p e → (labellings : List (Option TileLabelling)) (t : ℕ) (labelling : TileLabelling) → labelling_at labellings t ≡ Some labelling → (o : Option ℤ)
-    → IfSome o (λ h. (h ≢ void) × ((m : Mosaic) (x : Corner) → e < m.side * m.side → IsTileLabelling m x labelling → metres (height_of m (point_of m.side x e)) ≡ h))
-    → IfSome o (λ h. (h ≢ void) × ((m : Mosaic) → m.side ≡ n → IsEntered m c labellings t → metres (height_of m p) ≡ h))
-height_in_tile n c d same p e index labellings t labelling at o known =
-    known_by o (λ h. (m : Mosaic) (x : Corner) → e < m.side * m.side → IsTileLabelling m x labelling → metres (height_of m (point_of m.side x e)) ≡ h) (λ h. (m : Mosaic) → m.side ≡ n → IsEntered m c labellings t → metres (height_of m p) ≡ h)
-    (λ h says m side right.
-    let here = is_at m c n p e (sym side) (subst (λ x. IsIndexOf n x p e) (sym same) index) in
-    subst (λ (q : Point). metres (height_of m q) ≡ h) here.point (says m c here.below (right labelling at))) known
-
--- .. of one of the tiles that are held
-pub known_here : (m : Mosaic) (p : Point) (side : ℕ) (corners : List Corner) (labellings : List (Option TileLabelling)) (o : Option ℤ) → m.side ≡ side → ((t : ℕ) → IsEntered m (corner_at corners t) labellings t)
-    → IfSome o (λ h. (h ≢ void) × ((x : Mosaic) → x.side ≡ side → ((t : ℕ) → IsEntered x (corner_at corners t) labellings t) → metres (height_of x p) ≡ h)) → IfSome o (λ h. (h ≢ void) × (metres (height_of m p) ≡ h))
-known_here m p side corners labellings o same right known =
-    known_by o (λ h. (x : Mosaic) → x.side ≡ side → ((t : ℕ) → IsEntered x (corner_at corners t) labellings t) → metres (height_of x p) ≡ h) (λ h. metres (height_of m p) ≡ h) (λ h says. says m same right) known

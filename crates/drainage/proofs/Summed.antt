@@ -8,6 +8,7 @@ use Rattle.std.specs.Ordering.{int_eq}
 use Rattle.std.specs.Prelude.{slice_index, slice_index_or}
 use Rattle.lattice.specs.Corners.{Corner}
 use Rattle.lattice.specs.Lattice.{point_of}
+use Rattle.lattice.specs.RimPoints.{IsRimPoint}
 use Rattle.lattice.specs.Mosaic.{Mosaic, IsMosaic, void}
 use Rattle.lattice.specs.Ground.{is_outlet, metres}
 use Rattle.lattice.specs.Height.{height_of}
@@ -75,13 +76,16 @@ rim_level n heights sinks levels labels is e small on = elim (cases_Bool (is_sol
     ]
 
 -- .. and the height of its point, void for void
-pub rim_holds : (m : Mosaic) (c : Corner) (labelled : LabelledGround) → IsFlooded m c labelled → HasOtherRimHeight m c labelled.levels → ⊥
-rim_holds m c labelled flooded other =
+pub rim_height : (m : Mosaic) (c : Corner) (labelled : LabelledGround) → IsFlooded m c labelled → (k e : ℕ) → IsRimPoint m.side k e → slice_index_or labelled.levels e void ≡ metres (height_of m (point_of m.side c e))
+rim_height m c labelled flooded k e on =
     let block = flooded.valid.0 in
     let given = flooded.valid.1.0 in
     let here : IsLabelling (block_of m.side block.heights block.sinks) labelled.levels labelled.labels =
     subst (λ n. IsLabelling (block_of n block.heights block.sinks) labelled.levels labelled.labels) given.side flooded.valid.1.1 in
-    other.differs (rim_level m.side block.heights block.sinks labelled.levels labelled.labels here other.index other.rim.small other.rim.rim ∙ given.heights.values other.index other.rim.small)
+    rim_level m.side block.heights block.sinks labelled.levels labelled.labels here e on.small on.rim ∙ given.heights.values e on.small
+
+pub rim_holds : (m : Mosaic) (c : Corner) (labelled : LabelledGround) → IsFlooded m c labelled → HasOtherRimHeight m c labelled.levels → ⊥
+rim_holds m c labelled flooded other = other.differs (rim_height m c labelled flooded other.number other.index other.rim)
 
 -- the summary of a labelling: its rim points, and its spills
 pub summary_is : (m : Mosaic) → IsMosaic m → (c : Corner) (labelled : LabelledGround) → IsFlooded m c labelled → (rim : List RimPoint) → AreRimPointsIn m c labelled.labels rim (4 * (m.side - 1))

@@ -1,6 +1,8 @@
 //! What is found of a mosaic's water, held between two questions.
 ghost use Rattle.std.specs.Prelude.{◌≡◌, None, IfOk, IfErr, IfSome};
+ghost use Rattle.lattice.specs.Height.{height_of};
 ghost use Rattle.lattice.specs.Mosaic.{Mosaic, IsMosaic};
+ghost use Rattle.lattice.specs.declared.height.Height.TheVariants.{At};
 ghost use Rattle.downstream.specs.Near.{IsNear};
 ghost use Rattle.downstream.specs.Way.{IsWay};
 ghost use Rattle.lattice.specs.declared.refusal.Refusal.TheVariants.{NoMemory};
@@ -63,19 +65,20 @@ impl DrainageCache {
         self.tile_cache = Some(tile_cache);
     }
 
-    /// The height of the point may change from then on, to this one, in metres, but no sink comes or goes: the labellings of
-    /// the tiles that hold it are mended when they are asked for; the ways of tiles that hold it or a point beside it are given
-    /// up, and where points drain; and of the levels of rim points those that aren't below both heights of the point, nor above
-    /// both, or all where the height that it has isn't known. What is held serves on, for the mosaic as it was and as it becomes.
-    pub fn note_changed(&mut self, point: Point, to: i16)
+    /// The height of the ground point may change from then on, from the one to the other, in metres, but no sink comes or goes:
+    /// the labellings of the tiles that hold it are mended when they are asked for; the ways of tiles that hold it or a point
+    /// beside it are given up, and where points drain; and of the levels of rim points those that aren't below both heights of
+    /// the point, nor above both. What is held serves on, for the mosaic as it was and as it becomes.
+    pub fn note_changed(&mut self, point: Point, was: i16, to: i16)
         ensures left { IsNotedHeld point self.old self.new }
-        ensures right { (m new : Mosaic) → DifferAt m new point → IsSetTo m new point to → IsHeldOf m self.old → IsHeldOf new self.new }
+        ensures still { (m : Mosaic) → IsHeldOf m self.old → IsHeldOf m self.new }
+        ensures right { (m new : Mosaic) → DifferAt m new point → height_of m point ≡ At was → IsSetTo m new point to → IsHeldOf m self.old → IsHeldOf new self.new }
     {
         self.invalidate_ways();
         let Some(mut tile_cache) = self.tile_cache.take() else {
             return;
         };
-        tile_cache.note_changed(point, to);
+        tile_cache.note_changed(point, was, to);
         self.tile_cache = Some(tile_cache);
     }
 

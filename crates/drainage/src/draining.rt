@@ -22,27 +22,8 @@ use watershed::Run;
 
 /// The watershed of the point: the ground points whose flow path contains it, as maximal runs, north first, west first.
 /// Only the tiles on the water's ways out from its points and from those around them, and around those of their flats, are
-/// read. It is refused as a direction is.
+/// read. What was held for the samples serves, and it is refused, as a direction is.
 pub fn watershed<S: Labellings>(
-    alloc: Global,
-    samples: &mut S,
-    point: Point,
-) -> Result<Vec<Run>, Refusal>
-    requires few { length (S.corners samples.old) ≤ most_tiles }
-    ensures runs { S.is_honest samples.new → IfOk result (λ runs. (level : Point → ℤ) → AreFilledLevels (terrain (S.mosaic samples.old)) level
-        → AreRuns (IsInWatershed (terrain (S.mosaic samples.old)) level point) runs.items) }
-    ensures on_ground { S.is_honest samples.new → IsOk result → IsTrue (is_ground (S.mosaic samples.old) point) }
-    ensures outside { IsErrOf result Outside ↔ IsHeldByNone (S.side_of samples.old) (S.corners samples.old) point }
-    ensures void { S.is_honest samples.new → IsErrOf result Void → height_of (S.mosaic samples.old) point ≡ height_is.Void }
-    ensures causes { IfErr result (λ r. IsTrue (may_refuse r)) }
-    ensures asked { Asked S.Samples samples.old samples.new result }
-{
-    let mut held = DrainageCache::new();
-    watershed_held(alloc, samples, &mut held, point)
-}
-
-/// The watershed, and refused, as `watershed` has it. What was held for the samples serves, and what is found is held then.
-pub fn watershed_held<S: Labellings>(
     alloc: Global,
     samples: &mut S,
     held: &mut DrainageCache,

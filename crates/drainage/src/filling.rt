@@ -28,24 +28,11 @@ use tile_flood::{Labelled, NO_LABEL, OUT};
 use tile_labellings::Labellings;
 
 /// The filled level of the point, in metres: the least, over all paths to an outlet, of the greatest height on the path.
-/// Only the tiles on the water's way out are read.
+/// Only the tiles on the water's way out are read. What was held for the samples serves, and what is found is held then.
 ///
 /// Outside where no present tile holds the point, then Void where its height is void. Otherwise it is refused only for
 /// want of memory, as a read or a labelling may be, or with Damaged where what was read is no mosaic's.
-pub fn fill<S: Labellings>(alloc: Global, samples: &mut S, point: Point) -> Result<i16, Refusal>
-    ensures level { S.is_honest samples.new → IfOk result (λ level. IsFilledLevel (terrain (S.mosaic samples.old)) point level) }
-    ensures outside { IsErrOf result Outside ↔ IsHeldByNone (S.side_of samples.old) (S.corners samples.old) point }
-    ensures void { S.is_honest samples.new → IsErrOf result Void → height_of (S.mosaic samples.old) point ≡ height_is.Void }
-    ensures causes { IfErr result (λ r. IsTrue (may_refuse r)) }
-    ensures asked { Asked S.Samples samples.old samples.new result }
-{
-    let mut held = DrainageCache::new();
-    fill_held(alloc, samples, &mut held, point)
-}
-
-/// The filled level of the point, in metres, and refused, as `fill` has it. What was held for the samples serves, and what
-/// is found is held then.
-pub fn fill_held<S: Labellings>(
+pub fn fill<S: Labellings>(
     alloc: Global,
     samples: &mut S,
     held: &mut DrainageCache,

@@ -24,27 +24,11 @@ use tile_labellings::Labellings;
 
 /// The code of the direction in which water leaves the point: east is 1, and each next one clockwise twice as much; 0
 /// where it leaves the mosaic. Only the tiles on the water's ways out from the points around it, and around those of its
-/// flat, are read.
+/// flat, are read. What was held for the samples serves, and what is found is held then.
 ///
 /// Outside where no present tile holds the point, then Void where its height is void. Otherwise it is refused only for
 /// want of memory, as a read or a labelling may be, or with Damaged where what was read is no mosaic's.
-pub fn direction<S: Labellings>(alloc: Global, samples: &mut S, point: Point) -> Result<u8, Refusal>
-    requires few { length (S.corners samples.old) ≤ most_tiles }
-    ensures direction { S.is_honest samples.new → IfOk result (λ code. (level : Point → ℤ) → AreFilledLevels (terrain (S.mosaic samples.old)) level
-        → DrainsBy (terrain (S.mosaic samples.old)) level point code) }
-    ensures on_ground { S.is_honest samples.new → IsOk result → IsTrue (is_ground (S.mosaic samples.old) point) }
-    ensures outside { IsErrOf result Outside ↔ IsHeldByNone (S.side_of samples.old) (S.corners samples.old) point }
-    ensures void { S.is_honest samples.new → IsErrOf result Void → height_of (S.mosaic samples.old) point ≡ height_is.Void }
-    ensures causes { IfErr result (λ r. IsTrue (may_refuse r)) }
-    ensures asked { Asked S.Samples samples.old samples.new result }
-{
-    let mut held = DrainageCache::new();
-    direction_held(alloc, samples, &mut held, point)
-}
-
-/// The code of the direction, and refused, as `direction` has it. What was held for the samples serves, and what is found
-/// is held then.
-pub fn direction_held<S: Labellings>(
+pub fn direction<S: Labellings>(
     alloc: Global,
     samples: &mut S,
     held: &mut DrainageCache,
@@ -67,27 +51,8 @@ pub fn direction_held<S: Labellings>(
 }
 
 /// The flow path of the point: the point, then the one that its direction leads to, and so on, to one where water
-/// leaves the mosaic. It is refused as a direction is.
+/// leaves the mosaic. What was held for the samples serves, and it is refused, as a direction is.
 pub fn trace<S: Labellings>(
-    alloc: Global,
-    samples: &mut S,
-    point: Point,
-) -> Result<Vec<Point>, Refusal>
-    requires few { length (S.corners samples.old) ≤ most_tiles }
-    ensures path { S.is_honest samples.new → IfOk result (λ path. (level : Point → ℤ) → AreFilledLevels (terrain (S.mosaic samples.old)) level
-        → IsFlowPath (terrain (S.mosaic samples.old)) level point path.items) }
-    ensures on_ground { S.is_honest samples.new → IsOk result → IsTrue (is_ground (S.mosaic samples.old) point) }
-    ensures outside { IsErrOf result Outside ↔ IsHeldByNone (S.side_of samples.old) (S.corners samples.old) point }
-    ensures void { S.is_honest samples.new → IsErrOf result Void → height_of (S.mosaic samples.old) point ≡ height_is.Void }
-    ensures causes { IfErr result (λ r. IsTrue (may_refuse r)) }
-    ensures asked { Asked S.Samples samples.old samples.new result }
-{
-    let mut held = DrainageCache::new();
-    trace_held(alloc, samples, &mut held, point)
-}
-
-/// The flow path, and refused, as `trace` has it. What was held for the samples serves, and what is found is held then.
-pub fn trace_held<S: Labellings>(
     alloc: Global,
     samples: &mut S,
     held: &mut DrainageCache,

@@ -1,7 +1,7 @@
 //! Drops what an edit of a mosaic may make wrong of what is held of its water.
 ghost use Rattle.lattice.specs.Mosaic.{Mosaic, IsMosaic};
 ghost use Rattle.catalogue.specs.Tiles.{with_sinks};
-ghost use Rattle.edits.specs.Edits.{edit_made, with_heights};
+ghost use Rattle.edits.specs.Edits.{AreEarlier, TellsHeights, edit_made, with_heights};
 ghost use Rattle.edits.specs.Sinks.{with_point, without_point};
 ghost use Rattle.drainage.specs.Between.{IsHeldOf, IsLeftHeld};
 ghost use Rattle.drainage.specs.Beyond.{IsKeptBeyondEdit, IsKeptBeyondHeights};
@@ -13,10 +13,10 @@ use lattice::Point;
 /// What the edit may make wrong of what is held isn't used any more: where heights are set, the labellings of the tiles that
 /// hold them are mended when they are asked for; of the tiles that hold a point that changes, or one beside it, the ways are
 /// given up, and the levels of rim points that may change; everything where a tile comes or goes. What is held then is right
-/// for the mosaic before and after the edit alike.
+/// for the mosaic before the edit and, where this has the heights that the edit tells, after it alike.
 pub fn invalidate_edit(held: &mut DrainageCache, edit: &Edit)
     ensures still { (m : Mosaic) → IsMosaic m → IsHeldOf m held.old → IsHeldOf m held.new }
-    ensures changed { (m : Mosaic) → IsMosaic m → IsHeldOf m held.old → IsHeldOf (edit_made edit.now m) held.new }
+    ensures changed { (m : Mosaic) → IsMosaic m → TellsHeights m edit.now → IsHeldOf m held.old → IsHeldOf (edit_made edit.now m) held.new }
 
     // What is held of a tile that the edit doesn't reach is kept.
     ensures kept { IsKeptBeyondEdit edit.now held.old held.new }
@@ -34,11 +34,11 @@ pub fn invalidate_edit(held: &mut DrainageCache, edit: &Edit)
 // Notes that these points get new heights.
 fn invalidate_heights(held: &mut DrainageCache, heights: &[NewHeight])
     ensures still { (m : Mosaic) → IsMosaic m → IsHeldOf m held.old → IsHeldOf m held.new }
-    ensures changed { (m : Mosaic) → IsMosaic m → IsHeldOf m held.old → IsHeldOf (with_heights heights.now m) held.new }
+    ensures changed { (m : Mosaic) → IsMosaic m → AreEarlier heights.now m → IsHeldOf m held.old → IsHeldOf (with_heights heights.now m) held.new }
     ensures kept { IsKeptBeyondHeights heights.now held.old held.new }
 {
     for height in heights {
-        held.note_changed(height.point, height.metres);
+        held.note_changed(height.point, height.was, height.metres);
     }
 }
 

@@ -1,10 +1,8 @@
 //! The labellings of the tiles that were asked.
-ghost use Rattle.std.specs.Prelude.{◌≡◌, ◌≢◌, ◌<◌, ◌↔◌, ℕ, Some, None, false, true, IfOk, IfErr, IfSome, IfNone, IsTrue, length, slice_set};
+ghost use Rattle.std.specs.Prelude.{◌≡◌, ◌<◌, ◌↔◌, ℕ, Some, None, false, true, IfOk, IfErr, IfSome, IfNone, IsTrue, length, slice_set};
 ghost use Rattle.lattice.specs.Corners.{Corner};
 ghost use Rattle.lattice.specs.Lattice.{IsIndexOf, holds};
-ghost use Rattle.lattice.specs.Ground.{metres};
-ghost use Rattle.lattice.specs.Height.{height_of};
-ghost use Rattle.lattice.specs.Mosaic.{Mosaic, void};
+ghost use Rattle.lattice.specs.Mosaic.{Mosaic};
 ghost use Rattle.lattice.specs.declared.refusal.Refusal.TheVariants.{NoMemory};
 ghost use Rattle.border_graph.specs.Others.{corner_at};
 ghost use Rattle.tile_labellings.specs.Labellings.{IsFlooded};
@@ -133,28 +131,6 @@ impl LabellingCache {
             Some(Some(labelling)) => Some(labelling),
             _ => None,
         }
-    }
-
-    /// The height of the point, where it is ground and its height is known by the block of a tile that is held.
-    pub(crate) fn known_height(&self, side: Side, corners: &[Corner], point: Point) -> Option<i16>
-        ensures { IfSome result (λ h. (h ≢ void) × ((m : Mosaic) → m.side ≡ side → ((t : ℕ) → IsEntered m (corner_at corners.now t) self.now t) → metres (height_of m point) ≡ h)) }
-    {
-        for t in self.by_use.iter().rev() {
-            if let Some(height) = self.height_in(side, corners, *t, point) {
-                return Some(height);
-            }
-        }
-        None
-    }
-
-    // The height of the point, where it is ground and its height is known by the block of the tile with this place.
-    fn height_in(&self, side: Side, corners: &[Corner], t: usize, point: Point) -> Option<i16>
-        ensures { IfSome result (λ h. (h ≢ void) × ((m : Mosaic) → m.side ≡ side → IsEntered m (corner_at corners.now t) self.now t → metres (height_of m point) ≡ h)) }
-    {
-        let corner = corner_of(corners, t)?;
-        let index = index_held(side, corner, point)?;
-        let labelling = self.held(t)?;
-        labelling.height_at(index)
     }
 
     /// The place of a tile that holds the point, of those whose labellings are held. The ones that were used last are tried
@@ -362,14 +338,6 @@ fn index_held(side: Side, corner: Corner, point: Point) -> Option<u32>
     let _edge = side.edge();
     let _lat = corner.lat;
     index_in(side, corner, point)
-}
-
-// The corner with this place.
-fn corner_of(corners: &[Corner], t: usize) -> Option<Corner>
-    ensures { IfSome result (λ c. corner_at corners.now t ≡ c) }
-{
-    let corner = corners.get(t)?;
-    Some(*corner)
 }
 
 // Whether the tile with this place holds the point.

@@ -7,9 +7,9 @@
 //! found is held for the next question, and outlasts changes of points out of its reach.
 //!
 //! ```
-//! let level = fill(alloc, &mut table, point)?;           // in metres; Outside or Void where there is none
-//! let mut held = DrainageCache::new();                            // what is found, for the questions to come
-//! let path = trace_held(alloc, &mut table, &mut held, point)?;
+//! let mut held = DrainageCache::new();                      // what is found, for the questions to come
+//! let level = fill(alloc, &mut table, &mut held, point)?;   // in metres; Outside or Void where there is none
+//! let path = trace(alloc, &mut table, &mut held, point)?;
 //! ```
 #![tactic(auto)]
 
@@ -34,8 +34,8 @@ mod summing;
 mod tile_cache;
 
 pub use drainage_cache::DrainageCache;
-pub use draining::{watershed, watershed_held};
-pub use filling::{fill, fill_held, level};
-pub use following::{direction, direction_held, trace, trace_held};
+pub use draining::watershed;
+pub use filling::{fill, level};
+pub use following::{direction, trace};
 pub use invalidating::invalidate_edit;
 pub use laws::level_functions_exist;

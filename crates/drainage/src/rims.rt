@@ -49,9 +49,8 @@ impl RimLevels {
         self.levels.clear();
     }
 
-    /// Gives up the levels that may change as a ground point gets another height, in metres, all where the height that it has
-    /// isn't known. Takes no memory.
-    pub(crate) fn invalidate_reached(&mut self, was: Option<i16>, is: i16)
+    /// Gives up the levels that may change as a ground point gets another height than it had, in metres. Takes no memory.
+    pub(crate) fn invalidate_reached(&mut self, was: i16, is: i16)
         ensures left { (x : ℕ) (level : ℤ) → level_of self.new x ≡ Some level → (level_of self.old x ≡ Some level) × IsSpared was is level }
         ensures kept { (x : ℕ) (level : ℤ) → level_of self.old x ≡ Some level → IsSpared was is level → level_of self.new x ≡ Some level }
     {
@@ -105,15 +104,12 @@ impl RimLevels {
 }
 
 // Whether the level, if there is one, may change as a ground point gets another height.
-fn may_change(was: Option<i16>, is: i16, level: Option<i16>) -> bool
+fn may_change(was: i16, is: i16, level: Option<i16>) -> bool
     ensures yes { IsTrue result → IfSome level (λ l. IsSpared was is l → ⊥) }
     ensures no { IsFalse result → IfSome level (IsSpared was is) }
 {
     let Some(level) = level else {
         return false;
-    };
-    let Some(was) = was else {
-        return true;
     };
     is == VOID || !lies_apart(level, was, is)
 }

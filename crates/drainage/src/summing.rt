@@ -1,5 +1,8 @@
 //! What the tiles around need to know of a tile that was flooded by itself.
-ghost use Rattle.std.specs.Prelude.{◌≡◌, ◌-◌, ◌*◌, ◌<◌, ◌⊎◌, IsTrue, IfOk, IfErr, OnOk, MatchOption, Ok, Contains, length};
+ghost use Rattle.std.specs.Prelude.{◌≡◌, ◌-◌, ◌*◌, ◌<◌, ◌⊎◌, ◌||◌, IsTrue, IfOk, IfErr, OnOk, MatchOption, Ok, Contains, length};
+ghost use Rattle.std.specs.Ordering.{int_eq};
+ghost use Rattle.lattice.specs.Ground.{metres as metres_of};
+ghost use Rattle.lattice.specs.Height.{height_of};
 ghost use Rattle.lattice.specs.declared.refusal.Refusal.TheVariants.{NoMemory};
 ghost use Rattle.border_graph.specs.Joining.{IsSummaryOf};
 ghost use Rattle.catalogue.specs.Asked.{Asked};
@@ -15,11 +18,12 @@ use crate::outlets::is_tile_outlet;
 use crate::ring::Ring;
 use border_graph::{RimPoint, Summary};
 use catalogue::Samples;
-use lattice::{Corner, Refusal, point_at, push, rim_index};
+use lattice::{Corner, Point, Refusal, point_at, push, rim_index};
 use std::alloc::Global;
 use tile_flood::{Labelled, spills};
 
-/// The summary of the corner's tile with this labelling. It reads the points of the tile's rim and those around the tile.
+/// The summary of the corner's tile with this labelling. It reads the points around the tile and, unless the labelling is that
+/// of a flooded block, those of its rim.
 ///
 /// It is refused for want of memory, as a read is, or with Damaged where the level of a rim point isn't its height.
 pub(crate) fn summarize<S: Samples>(
@@ -27,6 +31,7 @@ pub(crate) fn summarize<S: Samples>(
     samples: &mut S,
     corner: Corner,
     labelled: &Labelled,
+    is_flooded: bool,
 ) -> Result<Summary, Refusal>
     requires labelled_side { labelled.now.side ≡ S.side_of samples.old }
     requires present { Contains (S.corners samples.old) corner }
@@ -39,7 +44,7 @@ pub(crate) fn summarize<S: Samples>(
     ensures mosaic { S.is_honest samples.new → S.mosaic samples.new ≡ S.mosaic samples.old }
 {
     let spills = spills(alloc, labelled)?;
-    let Some(rim) = rim_of(alloc, samples, corner, labelled)? else {
+    let Some(rim) = rim_of(alloc, samples, corner, labelled, is_flooded)? else {
         return Err(Refusal::Damaged);
     };
     Ok(Summary::new(corner, rim, spills))
@@ -51,6 +56,7 @@ fn rim_of<S: Samples>(
     samples: &mut S,
     corner: Corner,
     labelled: &Labelled,
+    is_flooded: bool,
 ) -> Result<Option<Vec<RimPoint>>, Refusal>
     requires labelled_side { labelled.now.side ≡ S.side_of samples.old }
     requires present { Contains (S.corners samples.old) corner }
@@ -63,7 +69,8 @@ fn rim_of<S: Samples>(
     let mut ring = Ring::new(alloc)?;
     let mut rim = Vec::new(alloc);
     for number in 0..count {
-        let Some(point) = rim_point(samples, corner, labelled, &mut ring, number)? else {
+        let Some(point) = rim_point(samples, corner, labelled, is_flooded, &mut ring, number)?
+        else {
             return Ok(None);
         };
         push(&mut rim, point)?;
@@ -77,6 +84,7 @@ fn rim_point<S: Samples>(
     samples: &mut S,
     corner: Corner,
     labelled: &Labelled,
+    is_flooded: bool,
     ring: &mut Ring,
     number: u32,
 ) -> Result<Option<RimPoint>, Refusal>
@@ -93,7 +101,7 @@ fn rim_point<S: Samples>(
     let index = rim_index(side, number);
     let point = point_at(side, corner, index);
     let level = labelled.levels()[index as usize];
-    if !is_height(samples, point, level)? {
+    if !is_rim_height(samples, point, level, is_flooded)? {
         return Ok(None);
     }
     let is_outlet = is_tile_outlet(samples, corner, labelled, ring, point, index)?;
@@ -102,4 +110,20 @@ fn rim_point<S: Samples>(
         label: labelled.labels()[index as usize],
         outlet: is_outlet,
     }))
+}
+
+// Whether the level of a rim point is its height. Of a flooded block it is; else the point is read.
+fn is_rim_height<S: Samples>(
+    samples: &mut S,
+    point: Point,
+    level: i16,
+    is_flooded: bool,
+) -> Result<bool, Refusal>
+    ensures value { S.is_honest samples.new → IfOk result (λ answer. answer ≡ (is_flooded || int_eq level (metres_of (height_of (S.mosaic samples.old) point)))) }
+    ensures reads { OnlyReads S.Samples samples.old samples.new result }
+{
+    if is_flooded {
+        return Ok(true);
+    }
+    is_height(samples, point, level)
 }

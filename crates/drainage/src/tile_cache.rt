@@ -4,7 +4,9 @@ ghost use Rattle.catalogue.specs.Asked.{Asked};
 ghost use Rattle.catalogue.specs.Endings.{ends_any};
 ghost use Rattle.catalogue.specs.Readers.{OnlyReads};
 ghost use Rattle.tile_labellings.specs.Spots.{IsLabelledAt};
+ghost use Rattle.lattice.specs.Height.{height_of};
 ghost use Rattle.lattice.specs.Mosaic.{Mosaic};
+ghost use Rattle.lattice.specs.declared.height.Height.TheVariants.{At};
 ghost use Rattle.lattice.specs.declared.refusal.Refusal.TheVariants.{NoMemory};
 ghost use Rattle.border_graph.specs.TileGraph.{TileGraph as TileGraphOf};
 ghost use Rattle.border_graph.specs.Others.{corner_at};
@@ -64,18 +66,16 @@ impl TileCache {
         self.rim_graph.invalidate_between(from, to);
     }
 
-    /// The height of the point may change from then on, of ground or of a void, to this one, in metres, and no sink: this is
-    /// noted of the labellings of the tiles that hold it, to be mended; of the levels of rim points those are given up that may
-    /// change. Else as `invalidate_between` does.
-    pub(crate) fn note_changed(&mut self, point: Point, to: i16)
+    /// The height of the ground point may change from then on, from the one to the other, in metres, and no sink: this is noted
+    /// of the labellings of the tiles that hold it, to be mended; of the levels of rim points those are given up that may change.
+    /// Else as `invalidate_between` does.
+    pub(crate) fn note_changed(&mut self, point: Point, was: i16, to: i16)
         ensures left { IsNotedOf (is_reached self.old.rim_graph.side self.old.rim_graph.corners.items point point) point (known_of self.old) (known_of self.new) }
-        ensures right { (m new : Mosaic) → DifferAt m new point → IsSetTo m new point to → IsRight m (known_of self.old) → IsRight new (known_of self.new) }
+        ensures still { (m : Mosaic) → IsRight m (known_of self.old) → IsRight m (known_of self.new) }
+        ensures right { (m new : Mosaic) → DifferAt m new point → height_of m point ≡ At was → IsSetTo m new point to → IsRight m (known_of self.old) → IsRight new (known_of self.new) }
     {
-        let side = self.rim_graph.side;
-        let was = self
-            .labellings
-            .known_height(side, &self.rim_graph.corners, point);
         self.levels.invalidate_reached(was, to);
+        let side = self.rim_graph.side;
         self.labellings
             .note_changed(side, &self.rim_graph.corners, point);
         self.rim_graph.invalidate_between(point, point);
@@ -105,7 +105,8 @@ impl TileCache {
             return Ok(());
         }
         let labelling = current_labelling(alloc, samples, &mut self.labellings, t, corner)?;
-        let summary = summarize(alloc, samples, corner, labelling.labelled())?;
+        let is_flooded = labelling.is_flooded();
+        let summary = summarize(alloc, samples, corner, labelling.labelled(), is_flooded)?;
         self.rim_graph.learn(alloc, t, summary)?;
         self.labellings.hold(t, labelling);
         Ok(())

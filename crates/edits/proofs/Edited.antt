@@ -44,14 +44,14 @@ edited_twice f g m = ap (λ (ts : List Tile). record m { tiles = ts }) (each m.t
 pub edited_alike : (f g : Point → ℤ → ℤ) → ((p : Point) (s : ℤ) → f p s ≡ g p s) → (m : Mosaic) → edited f m ≡ edited g m
 edited_alike f g same m = ap (λ (h : Point → ℤ → ℤ). edited h m) (λ i p s. same p s i)
 
-abbrev pub height_by : (Point → ℤ) → Point → NewHeight
-height_by f p = record { point = p; metres = f p }
+abbrev pub height_by : (Point → ℤ) → (Point → ℤ) → Point → NewHeight
+height_by w f p = record { point = p; was = w p; metres = f p }
 
 -- the points with what is said of each, one after another
-pub named_heights : (f : Point → ℤ) (points : List Point) (m : Mosaic) → with_heights (map (height_by f) points) m ≡ edited (λ p s. if is_named points p then f p else s) m
-named_heights f [] m = sym (edited_none m)
-named_heights f (q ∷ rest) m =
-    named_heights f rest (with_height q (f q) m)
+pub named_heights : (w f : Point → ℤ) (points : List Point) (m : Mosaic) → with_heights (map (height_by w f) points) m ≡ edited (λ p s. if is_named points p then f p else s) m
+named_heights w f [] m = sym (edited_none m)
+named_heights w f (q ∷ rest) m =
+    named_heights w f rest (with_height q (f q) m)
     ∙ edited_twice (λ p s. if same_point p q then f q else s) (λ p s. if is_named rest p then f p else s) m
     ∙ edited_alike (λ p s. if is_named rest p then f p else (if same_point p q then f q else s)) (λ p s. if is_named (q ∷ rest) p then f p else s) one m
   where

@@ -1,6 +1,7 @@
 mod Accepted
 pub mod AllStale
 mod BoxRows
+mod EarlierHeights
 pub mod EditStale
 pub mod Edited
 pub mod EditedHeights

@@ -1,27 +1,33 @@
 -- Treating the named points one after another.
 use Rattle.std.proofs.Common.{◌≡◌, ◌≢◌, ℕ, ◌+◌, ◌<◌, ◌≤◌, ℤ, pos, negsuc, ◌-ℤ◌, true, false, IsTrue, List, [], ◌∷◌, ◌++◌, map, length, get_or, take, drop, refl, sym, ◌∙◌, ap, ap₂}
-use Rattle.std.specs.Prelude.{Option, Some, Result, Ok, Err, IfOk, int_lt, if◌then◌else◌}
+use Rattle.std.specs.Prelude.{Option, Some, Result, Ok, Err, IfOk, All, int_lt, if◌then◌else◌}
 use Rattle.std.proofs.lemmas.List.{take_more, take_all, at_drop_more, at_drop_all, map-append}
+use Rattle.std.proofs.lemmas.List.Elements.{All-nil, All-push}
 use Rattle.arrayvec.specs.ArrayVec.{ArrayVec}
 use Rattle.lattice.specs.declared.point.Point.{Point}
 use Rattle.lattice.specs.declared.height.Height.TheVariants as height
 use Rattle.lattice.specs.declared.refusal.Refusal.{Refusal}
 use Rattle.lattice.specs.declared.refusal.Refusal.TheVariants.{TooDeep, Repeated}
-use Rattle.lattice.specs.Mosaic.{Mosaic, void}
+use Rattle.lattice.specs.Mosaic.{Mosaic, IsMosaic, void}
 use Rattle.lattice.specs.Height.{height_of}
 use Rattle.lattice.specs.Ground.{metres}
 use Rattle.catalogue.specs.declared.samples.Samples.{Ghosts}
 use Rattle.catalogue.specs.Readers.{OnlyReads}
+use Rattle.catalogue.proofs.OneTile.{corners_are}
 use Rattle.catalogue.proofs.Reading.{reads_on, reads_nothing}
 use Rattle.edits.specs.declared.command.Command.TheVariants.{Burn, Wall}
 use Rattle.edits.specs.declared.edit.NewHeight.{NewHeight}
 use Rattle.edits.specs.declared.point_edit.PointEdit.{PointEdit}
 use Rattle.edits.specs.declared.point_edit.PointEdit.TheVariants.{Lower, Raise}
-use Rattle.edits.specs.Edits.{points_of, with_heights}
+use Rattle.edits.specs.Edits.{AreEarlier, points_of, with_heights}
 use Rattle.edits.specs.Effect.{effect, is_depth, is_height, is_repeated, first_fault, fault_at, edited, unless_fault, burnt, walled}
 use Rattle.edits.specs.PointEdits.{edited_metres, depth_of, treatment_at, fault_of, refuses, treats}
 use Rattle.edits.proofs.Edited.{height_by, named_heights}
+use Rattle.edits.proofs.EarlierHeights.{are_earlier}
 use Rattle.edits.proofs.PointEditing.{height_not_void, fault_says}
+
+abbrev pub metres_at : Mosaic → Point → ℤ
+metres_at m p = metres (height_of m p)
 
 -- the height that a point gets
 abbrev pub edited_at : PointEdit → Mosaic → Point → ℤ
@@ -31,7 +37,8 @@ edited_at t m p = edited_metres t (metres (height_of m p))
 pub record HaveHeights {S : Type 0} (g : Ghosts S) (t : PointEdit) (points : List Point) (i : ℕ) (old now : S) (heights : List NewHeight) : Type 0 where
   pub reads : OnlyReads {T = Unit {0}} g old now (Ok tt)
   pub named : points_of heights ≡ take i points
-  pub values : g.is_honest now → heights ≡ map (height_by (edited_at t (g.mosaic old))) (take i points)
+  pub values : g.is_honest now → heights ≡ map (height_by (metres_at (g.mosaic old)) (edited_at t (g.mosaic old))) (take i points)
+  pub earlier : g.is_honest now → All (λ h. height_of (g.mosaic old) h.point ≡ height.At h.was) heights
   pub faults : g.is_honest now → first_fault (g.mosaic old) (depth_of t) points ≡ first_fault (g.mosaic old) (depth_of t) (drop i points)
 
 module _ {S : Type 0} (g : Ghosts S) (t : PointEdit) (points : List Point) where
@@ -40,6 +47,7 @@ module _ {S : Type 0} (g : Ghosts S) (t : PointEdit) (points : List Point) where
     reads = reads_nothing g keeps_itself s tt;
     named = refl;
     values = λ _. refl;
+    earlier = λ _. All-nil (λ (h : NewHeight). height_of (g.mosaic s) h.point ≡ height.At h.was);
     faults = λ _. refl;
   }
 
@@ -57,22 +65,30 @@ module _ {S : Type 0} (g : Ghosts S) (t : PointEdit) (points : List Point) where
     pub heights_more : (keeps_on : (a b c : S) → g.keeps a b → g.keeps b c → g.keeps a c) (h s : ℤ) → OnlyReads {T = Unit {0}} g mid now (Ok tt) →
         (g.is_honest now → height_of (g.mosaic mid) p ≡ height.At h) → s ≡ edited_metres t h →
         (h ≢ void → int_lt (h -ℤ depth_of t) (negsuc 32766) ≡ false) →
-        HaveHeights g t points (i + 1) old now (heights ++ record { point = p; metres = s } ∷ [])
+        HaveHeights g t points (i + 1) old now (heights ++ record { point = p; was = h; metres = s } ∷ [])
     heights_more keeps_on h s read at value shallow = record {
       reads = reads_on g keeps_on old mid now tt (Ok tt) so.reads read;
-      named = map-append (λ (n : NewHeight). n.point) heights (record { point = p; metres = s } ∷ []) ∙ ap (λ (l : List Point). l ++ p ∷ []) so.named ∙ next;
+      named = map-append (λ (n : NewHeight). n.point) heights (record { point = p; was = h; metres = s } ∷ []) ∙ ap (λ (l : List Point). l ++ p ∷ []) so.named ∙ next;
       values = λ honest.
           let was = read.honest honest in
-          let here : s ≡ f p = value ∙ ap (edited_metres t) (sym (ap metres (ap (λ (m : Mosaic). height_of m p) (sym (so.reads.mosaic was)) ∙ at honest))) in
-          ap₂ (λ (l : List NewHeight) (v : ℤ). l ++ record { point = p; metres = v } ∷ []) (so.values was) here
-          ∙ sym (map-append (height_by f) (take i points) (p ∷ []))
-          ∙ ap (map (height_by f)) next;
+          let same : w p ≡ h = ap metres (there honest) in
+          let here : s ≡ f p = value ∙ ap (edited_metres t) (sym same) in
+          ap₂ (λ (l : List NewHeight) (n : NewHeight). l ++ n ∷ []) (so.values was) (ap₂ (λ (u v : ℤ). record { point = p; was = u; metres = v }) (sym same) here)
+          ∙ sym (map-append (height_by w f) (take i points) (p ∷ []))
+          ∙ ap (map (height_by w f)) next;
+      earlier = λ honest. All-push (λ (n : NewHeight). height_of (g.mosaic old) n.point ≡ height.At n.was) heights (record { point = p; was = h; metres = s }) (so.earlier (read.honest honest)) (there honest);
       faults = λ honest. fault_from (read.honest honest) ∙ ap (λ v. fault_at (depth_of t) v (first_fault (g.mosaic old) (depth_of t) (drop (i + 1) points))) (at honest)
           ∙ ap (λ b. if b then Some TooDeep else first_fault (g.mosaic old) (depth_of t) (drop (i + 1) points)) (shallow (height_not_void (g.mosaic mid) p h (at honest)));
     }
       where
+        w : Point → ℤ
+        w = metres_at (g.mosaic old)
+
         f : Point → ℤ
         f = edited_at t (g.mosaic old)
+
+        there : g.is_honest now → height_of (g.mosaic old) p ≡ height.At h
+        there honest = ap (λ (m : Mosaic). height_of m p) (sym (so.reads.mosaic (read.honest honest))) ∙ at honest
 
     -- without a height, or too deep
     pub heights_end : is_repeated points ≡ false → (r : Refusal) → g.is_honest mid → fault_at (depth_of t) (height_of (g.mosaic mid) p) (first_fault (g.mosaic old) (depth_of t) (drop (i + 1) points)) ≡ Some r →
@@ -93,8 +109,11 @@ module _ {S : Type 0} (g : Ghosts S) (t : PointEdit) (points : List Point) where
         let m = g.mosaic old in
         ap (λ b. if b then Err Repeated else unless_fault (first_fault m (depth_of t) points) (edited (treatment_at t m points) m)) single
         ∙ ap (λ f. unless_fault f (edited (treatment_at t m points) m)) (so.faults honest ∙ at_drop_all (first_fault m (depth_of t)) points i all)
-        ∙ ap (λ (n : Mosaic). Ok n) (sym (ap (λ (l : List NewHeight). with_heights l m) (so.values honest ∙ ap (map (height_by (edited_at t m))) (take_all i points all))
-        ∙ named_heights (edited_at t m) points m))
+        ∙ ap (λ (n : Mosaic). Ok n) (sym (ap (λ (l : List NewHeight). with_heights l m) (so.values honest ∙ ap (map (height_by (metres_at m) (edited_at t m))) (take_all i points all))
+        ∙ named_heights (metres_at m) (edited_at t m) points m))
+
+    pub heights_earlier : IsMosaic (g.mosaic old) → is_repeated points ≡ false → g.is_honest now → AreEarlier heights (g.mosaic old)
+    heights_earlier valid single honest = are_earlier heights (g.mosaic old) valid.side_low (corners_are (g.mosaic old) valid) (ap is_repeated heights_named ∙ single) (so.earlier honest)
 
 -- why a point ends the point_edit
 pub ends_editing : {S : Type 0} (g : Ghosts S) (t : PointEdit) (points : List Point) (i : ℕ) (p : Point) (old mid now : S) (heights : List NewHeight) → i < length points → p ≡ get_or points i p

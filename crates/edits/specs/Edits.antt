@@ -4,7 +4,9 @@ use Rattle.std.specs.List.{list_any}
 use Rattle.lattice.specs.Corners.{Corner, same_corner}
 use Rattle.lattice.specs.declared.point.Point.{Point}
 use Rattle.lattice.specs.Ground.{same_point}
+use Rattle.lattice.specs.Height.{height_of}
 use Rattle.lattice.specs.Lattice.{holds}
+use Rattle.lattice.specs.declared.height.Height.TheVariants.{At}
 use Rattle.lattice.specs.Mosaic.{Tile, Mosaic, AreSinks}
 use Rattle.hgt.specs.Bytes.{samples_in}
 use Rattle.catalogue.specs.Tiles.{added, without, with_sinks, is_listed}
@@ -25,6 +27,11 @@ with_height p h m = edited (λ q s. if same_point q p then h else s) m
 abbrev pub with_heights : List NewHeight → Mosaic → Mosaic
 with_heights [] m = m
 with_heights (h ∷ later) m = with_heights later (with_height h.point h.metres m)
+
+-- the points have these heights, until they get the others one after another
+abbrev pub AreEarlier : List NewHeight → Mosaic → Type 0
+AreEarlier [] m = Unit {0}
+AreEarlier (h ∷ later) m = (height_of m h.point ≡ At h.was) × AreEarlier later (with_height h.point h.metres m)
 
 abbrev pub edit_made : Edit → Mosaic → Mosaic
 edit_made (Add c bytes) m = added (record { corner = c; samples = samples_in bytes.now }) m
@@ -85,6 +92,11 @@ HasRoom capacity corners edit = Unit {0}
 abbrev pub FindsVoids : Mosaic → Edit → Type 0
 FindsVoids m (Voids from to h tiles) = AreVoidTiles m from to tiles.items
 FindsVoids m edit = Unit {0}
+
+-- an edit of heights tells which ones its points have
+abbrev pub TellsHeights : Mosaic → Edit → Type 0
+TellsHeights m (Heights heights) = AreEarlier heights.items m
+TellsHeights m edit = Unit {0}
 
 -- the tile holds one of the points
 abbrev pub holds_any : ℕ → List NewHeight → Corner → Bool

@@ -3,7 +3,7 @@ ghost use Rattle.std.specs.Prelude.{◌≡◌, ◌≢◌, ◌||◌, Ok, Err, IsT
 ghost use Rattle.lattice.specs.Corners.{Corner};
 ghost use Rattle.lattice.specs.declared.refusal.Refusal.TheVariants.{NoMemory};
 ghost use Rattle.catalogue.specs.Readers.{OnlyReads, reads_of};
-ghost use Rattle.edits.specs.Edits.{FitsIn, HasRoom, IsEditOf, FindsVoids, edit_made, goes_stale_by};
+ghost use Rattle.edits.specs.Edits.{FitsIn, HasRoom, IsEditOf, FindsVoids, TellsHeights, edit_made, goes_stale_by};
 ghost use Rattle.edits.specs.Effect.{effect};
 ghost use Rattle.edits.specs.Plans.{is_own, may_end};
 ghost use Rattle.edits.specs.Touched.{goes_stale};
@@ -17,10 +17,11 @@ use arrayvec::ArrayVec;
 use catalogue::Samples;
 use lattice::{Corner, Point, Refusal};
 
-/// A point and the height that it gets, in metres.
+/// A point, the height that it has, and the one that it gets, in metres.
 #[derive(Clone, Copy, Default)]
 pub struct NewHeight {
     pub point: Point,
+    pub was: i16,
     pub metres: i16,
 }
 
@@ -80,6 +81,9 @@ pub fn edit_of<'a, S: Samples>(
 
     // The tiles of a patch are those with a void in the box.
     ensures voids { S.is_honest samples.new → IfOk result (FindsVoids (S.mosaic samples.old)) }
+
+    // The points of a burn or a wall have the heights that are told.
+    ensures heights { S.is_honest samples.new → IfOk result (TellsHeights (S.mosaic samples.old)) }
     ensures stale { S.is_honest samples.new → IfOk result (λ edit. (p : Corner) → goes_stale_by (S.side_of samples.old) (S.corners samples.old) edit p ≡ goes_stale (S.mosaic samples.old) command.now p) }
     ensures reads { OnlyReads S.Samples samples.old samples.new (reads_of result) }
 {

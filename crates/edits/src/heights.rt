@@ -5,7 +5,7 @@ ghost use Rattle.lattice.specs.declared.height.Height.TheVariants as height_is;
 ghost use Rattle.lattice.specs.declared.refusal.Refusal.TheVariants.{NoMemory};
 ghost use Rattle.catalogue.specs.Endings.{ends_any};
 ghost use Rattle.catalogue.specs.Readers.{OnlyReads, reads_of};
-ghost use Rattle.edits.specs.Edits.{points_of, with_heights};
+ghost use Rattle.edits.specs.Edits.{AreEarlier, points_of, with_heights};
 ghost use Rattle.edits.specs.Effect.{effect, is_named, is_repeated};
 ghost use Rattle.edits.specs.Plans.{is_own, may_end};
 ghost use Rattle.edits.specs.PointEdits.{fault_of, is_groundless, refuses, treats};
@@ -28,6 +28,7 @@ pub(crate) fn lowered<S: Samples>(
     ensures causes { IfErr result (λ r. IsTrue (may_end (Burn depth points.now) r)) }
     ensures memory { IfErr result (λ r. r ≢ NoMemory) }
     ensures points { IfOk result (λ heights. points_of heights.items ≡ points.now.items) }
+    ensures earlier { S.is_honest samples.new → IfOk result (λ heights. AreEarlier heights.items (S.mosaic samples.old)) }
     ensures reads { OnlyReads S.Samples samples.old samples.new (reads_of result) }
 {
     if depth < 1 || DEEPEST < depth {
@@ -47,6 +48,7 @@ pub(crate) fn raised<S: Samples>(
     ensures causes { IfErr result (λ r. IsTrue (may_end (Wall height points.now) r)) }
     ensures memory { IfErr result (λ r. r ≢ NoMemory) }
     ensures points { IfOk result (λ heights. points_of heights.items ≡ points.now.items) }
+    ensures earlier { S.is_honest samples.new → IfOk result (λ heights. AreEarlier heights.items (S.mosaic samples.old)) }
     ensures reads { OnlyReads S.Samples samples.old samples.new (reads_of result) }
 {
     if height < LOWEST || HIGHEST < height {
@@ -66,6 +68,7 @@ fn apply_to<S: Samples>(
     ensures causes { IfErr result (λ r. IsTrue (refuses point_edit r || ends_any r)) }
     ensures memory { IfErr result (λ r. r ≢ NoMemory) }
     ensures points { IfOk result (λ heights. points_of heights.items ≡ points.now.items) }
+    ensures earlier { S.is_honest samples.new → IfOk result (λ heights. AreEarlier heights.items (S.mosaic samples.old)) }
     ensures reads { OnlyReads S.Samples samples.old samples.new (reads_of result) }
 {
     let points = points.as_slice();
@@ -78,6 +81,7 @@ fn apply_to<S: Samples>(
         let metres = point_edit.of(height)?;
         heights.push(NewHeight {
             point: *point,
+            was: height,
             metres,
         });
     }

@@ -173,8 +173,8 @@ heights_settled n heights tiles corners settled c i t there corner e inside here
 pub points_still : (n : ℕ) (edit : Point → ℤ → ℤ) (m : Mosaic) (was now : List StoredTile) → Advances n edit m was now → (heights : List NewHeight) (k : ℕ) → k < length heights
     → All (λ h. IsPointSettled n edit was h.point) (take k heights) → ((h : NewHeight) → h ≡ get_or heights k h → IsPointSettled n edit now h.point) → All (λ h. IsPointSettled n edit now h.point) (take (k + 1) heights)
 points_still n edit m was now more heights k within settled here =
-    let h : NewHeight = get_or heights k (record { point = record { y = pos 0; x = pos 0 }; metres = pos 0 }) in
-    let is : h ≡ get_or heights k h = get_or_default heights k (record { point = record { y = pos 0; x = pos 0 }; metres = pos 0 }) h within in
+    let h : NewHeight = get_or heights k (record { point = record { y = pos 0; x = pos 0 }; was = pos 0; metres = pos 0 }) in
+    let is : h ≡ get_or heights k h = get_or_default heights k (record { point = record { y = pos 0; x = pos 0 }; was = pos 0; metres = pos 0 }) h within in
     All-more (λ x. IsPointSettled n edit now x.point) heights k h within
     (All-weaker (λ x. IsPointSettled n edit was x.point) (λ x. IsPointSettled n edit now x.point) (λ x so c e index. more.settled c (e / 2048) (so c e index)) (take k heights) settled)
     (subst (λ (x : NewHeight). IsPointSettled n edit now x.point) is (here h is))

@@ -18,7 +18,7 @@ ghost use Rattle.store.specs.Water.{IsHolding};
 use crate::labelling::{Asked, Premise};
 use cow_tree::Tree;
 use disk::Disk;
-use drainage::{DrainageCache, direction_held, fill_held, trace_held, watershed_held};
+use drainage::DrainageCache;
 use lattice::{Point, Refusal};
 use std::alloc::Global;
 use std::marker::PhantomData;
@@ -43,7 +43,7 @@ pub(crate) fn ask_fill<D: Disk, P: Premise>(
         tree,
         premise: PhantomData,
     };
-    fill_held(alloc, &mut asked, held, point)
+    drainage::fill(alloc, &mut asked, held, point)
 }
 
 // The code of its direction.
@@ -66,7 +66,7 @@ pub(crate) fn ask_direction<D: Disk, P: Premise>(
         tree,
         premise: PhantomData,
     };
-    direction_held(alloc, &mut asked, held, point)
+    drainage::direction(alloc, &mut asked, held, point)
 }
 
 // Its flow path.
@@ -89,7 +89,7 @@ pub(crate) fn ask_trace<D: Disk, P: Premise>(
         tree,
         premise: PhantomData,
     };
-    trace_held(alloc, &mut asked, held, point)
+    drainage::trace(alloc, &mut asked, held, point)
 }
 
 // Its watershed.
@@ -112,5 +112,5 @@ pub(crate) fn ask_watershed<D: Disk, P: Premise>(
         tree,
         premise: PhantomData,
     };
-    watershed_held(alloc, &mut asked, held, point)
+    drainage::watershed(alloc, &mut asked, held, point)
 }

@@ -7,8 +7,8 @@ ghost use Rattle.store.specs.Stores.{disk_of, root_of, has_failed};
 
 use crate::Store;
 use crate::committing::commit_staged;
-use crate::staging::stage;
 use crate::marking_stale::mark_stale;
+use crate::staging::stage;
 use disk::Disk;
 use drainage::invalidate_edit;
 use edits::{Command, commands_make_mosaics, edit_of};

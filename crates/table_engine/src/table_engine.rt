@@ -121,19 +121,19 @@ impl Engine for TableEngine {
     }
 
     fn fill(&mut self, point: Point) -> Result<i16, Refusal> {
-        drainage::fill_held(self.alloc, &mut self.table, &mut self.held, point)
+        drainage::fill(self.alloc, &mut self.table, &mut self.held, point)
     }
 
     fn direction(&mut self, point: Point) -> Result<u8, Refusal> {
-        drainage::direction_held(self.alloc, &mut self.table, &mut self.held, point)
+        drainage::direction(self.alloc, &mut self.table, &mut self.held, point)
     }
 
     fn trace(&mut self, point: Point) -> Result<Vec<Point>, Refusal> {
-        drainage::trace_held(self.alloc, &mut self.table, &mut self.held, point)
+        drainage::trace(self.alloc, &mut self.table, &mut self.held, point)
     }
 
     fn watershed(&mut self, point: Point) -> Result<Vec<Run>, Refusal> {
-        drainage::watershed_held(self.alloc, &mut self.table, &mut self.held, point)
+        drainage::watershed(self.alloc, &mut self.table, &mut self.held, point)
     }
 
     fn export(&mut self, corner: Corner) -> Result<Vec<u8>, Refusal> {

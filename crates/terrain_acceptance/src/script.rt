@@ -4,6 +4,7 @@ ghost use Rattle.catalogue.specs.Tiles.{corners_of};
 
 use arrayvec::ArrayVec;
 use catalogue::{Samples, Table};
+use drainage::DrainageCache;
 use edits::{Bytes, Command, carry_out, edit_of};
 use lattice::{Corner, Height, Point, Refusal, Side};
 use reference::Plain;
@@ -290,22 +291,26 @@ impl Mosaic for OnTable {
     }
 
     fn fill(&mut self, point: Point) -> Result<i16, Refusal> {
-        drainage::fill(self.alloc, &mut self.table, point)
+        let mut held = DrainageCache::new();
+        drainage::fill(self.alloc, &mut self.table, &mut held, point)
     }
 
     fn direction(&mut self, point: Point) -> Result<u8, Refusal> {
         check_few(&self.table)?;
-        drainage::direction(self.alloc, &mut self.table, point)
+        let mut held = DrainageCache::new();
+        drainage::direction(self.alloc, &mut self.table, &mut held, point)
     }
 
     fn trace(&mut self, point: Point) -> Result<Vec<Point>, Refusal> {
         check_few(&self.table)?;
-        drainage::trace(self.alloc, &mut self.table, point)
+        let mut held = DrainageCache::new();
+        drainage::trace(self.alloc, &mut self.table, &mut held, point)
     }
 
     fn watershed(&mut self, point: Point) -> Result<Vec<Run>, Refusal> {
         check_few(&self.table)?;
-        drainage::watershed(self.alloc, &mut self.table, point)
+        let mut held = DrainageCache::new();
+        drainage::watershed(self.alloc, &mut self.table, &mut held, point)
     }
 
     fn seams(&mut self) -> Result<u64, Refusal> {

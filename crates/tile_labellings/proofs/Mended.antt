@@ -1,6 +1,6 @@
 -- A block whose labelling is mended: its heights are read anew one by one, and then it is that of its tile.
 use Rattle.std.proofs.Common.{◌≡◌, ◌≢◌, ℕ, ◌+◌, ◌*◌, ◌<◌, ◌≤◌, ◌⊎◌, inl, inr, ℤ, not, ◌&&◌, IsTrue, List, [], ◌∷◌, length, get_or, set, refl, sym, ap, ◌∙◌, subst, arith, nat_lt, lt-ltb, get_or-set_same, get_or-set_other}
-use Rattle.std.specs.Prelude.{Contains, Option, Some, None, IfSome}
+use Rattle.std.specs.Prelude.{Contains}
 use Rattle.std.proofs.lemmas.Bool.{cases_eq, and_from}
 use Rattle.std.proofs.lemmas.List.{length-set, get_or_default}
 use Rattle.lattice.specs.Block.{Block, IsBlockOf, is_solid, is_sink_at}
@@ -13,10 +13,7 @@ use Rattle.tile_flood.specs.Blocks.{LabelledGround, block_of}
 use Rattle.tile_flood.specs.Flooding.{is_marked}
 use Rattle.tile_flood.specs.Mending.{IsLabelledBefore}
 use Rattle.tile_flood.proofs.Squares.{solid_below, test_if}
-use Rattle.tile_labellings.specs.Labellings.{FloodedGround, IsFlooded, IsFloodOf, IsBlockBut}
-use Rattle.tile_labellings.specs.TileLabellings.{IsTileLabelling}
-use Rattle.tile_labellings.specs.declared.tile_labelling.TileLabelling.{TileLabelling}
-use Rattle.tile_labellings.specs.declared.tile_labelling.TileLabelling.TheVariants.{Flooded}
+use Rattle.tile_labellings.specs.Labellings.{IsFlooded, IsFloodOf, IsBlockBut}
 use Rattle.tile_labellings.specs.Updating.{IsUpdated}
 
 -- ---- what was flooded is labelled before any changes
@@ -138,18 +135,3 @@ flooded_now m c b labelled changed flood none is = record {
   side = flood.side ∙ is.side;
   valid = (b, (block_now m c b (subst (λ (xs : List ℕ). IsBlockBut m c xs b) none is), flood.labelling));
 }
-
--- the height of a point that can't have changed
-height_there : (m : Mosaic) (c : Corner) (changed : List ℕ) (b : Block) (e : ℕ) (h : ℤ) → IsBlockBut m c changed b → e < m.side * m.side → get_or b.heights e void ≡ h → (Contains changed e → ⊥) → metres (height_of m (point_of m.side c e)) ≡ h
-height_there m c changed b e h is small at still = elim (is.heights e small) [
-  | inl right ↦ sym right ∙ at
-  | inr has ↦ absurd (still has)
-]
-
-pub height_known : (o : Option ℤ) (l : TileLabelling) (flooded : FloodedGround) (e : ℕ) → l ≡ Flooded flooded → IfSome o (λ h. (h ≢ void) × ((get_or flooded.block.heights e void ≡ h) × (Contains flooded.changed e → ⊥)))
-    → IfSome o (λ h. (h ≢ void) × ((m : Mosaic) (c : Corner) → e < m.side * m.side → IsTileLabelling m c l → metres (height_of m (point_of m.side c e)) ≡ h))
-height_known None l flooded e is known = tt
-height_known (Some h) l flooded e is known = (
-  known.0,
-  λ m c small right. height_there m c flooded.changed flooded.block e h (subst (λ (x : TileLabelling). IsTileLabelling m c x) is right) small known.1.0 known.1.1,
-)

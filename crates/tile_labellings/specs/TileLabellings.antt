@@ -1,5 +1,5 @@
 -- What is held of a tile's labelling.
-use Rattle.std.specs.Prelude.{◌≡◌, ◌≢◌, ℕ, ◌*◌, ◌<◌, []}
+use Rattle.std.specs.Prelude.{◌≡◌, ◌≢◌, ℕ, ◌*◌, ◌<◌, Bool, true, false, []}
 use Rattle.lattice.specs.Corners.{Corner}
 use Rattle.lattice.specs.Ground.{is_sink}
 use Rattle.lattice.specs.Height.{height_of}
@@ -13,6 +13,10 @@ use Rattle.tile_labellings.specs.declared.tile_labelling.TileLabelling.TheVarian
 abbrev pub labelled_of : TileLabelling → LabelledGround
 labelled_of (Kept labelled) = labelled
 labelled_of (Flooded flooded) = flooded.labelled
+
+abbrev pub is_flooded : TileLabelling → Bool
+is_flooded (Kept labelled) = false
+is_flooded (Flooded flooded) = true
 
 -- no height may have changed since
 abbrev pub IsCurrent : TileLabelling → Type 0

@@ -1,11 +1,11 @@
 //! Blocks that were flooded, whose labellings are mended where heights change.
-ghost use Rattle.std.specs.Prelude.{◌≡◌, ◌≢◌, ◌<◌, ◌*◌, ◌⊎◌, ℕ, ℤ, [], true, false, Contains, IfOk, IfErr, IfSome, OnOk, IsTrue, length, slice_index_or, slice_set};
+ghost use Rattle.std.specs.Prelude.{◌≡◌, ◌<◌, ◌⊎◌, ℕ, ℤ, [], true, false, Contains, IfOk, IfErr, IfSome, OnOk, IsTrue, length, slice_set};
 ghost use Rattle.lattice.specs.Block.{Block, is_solid};
 ghost use Rattle.lattice.specs.Corners.{Corner};
 ghost use Rattle.lattice.specs.Ground.{metres};
 ghost use Rattle.lattice.specs.Height.{height_of};
 ghost use Rattle.lattice.specs.Lattice.{point_of};
-ghost use Rattle.lattice.specs.Mosaic.{Mosaic, void};
+ghost use Rattle.lattice.specs.Mosaic.{Mosaic};
 ghost use Rattle.lattice.specs.declared.refusal.Refusal.TheVariants.{NoMemory};
 ghost use Rattle.catalogue.specs.Readers.{OnlyReads, reads_of};
 ghost use Rattle.catalogue.specs.Reading.{MayRefuse};
@@ -68,17 +68,6 @@ impl FloodedBlock {
         ensures flooded { (m : Mosaic) (c : Corner) → self.changed ≡ [] → IsBlockBut m c self.changed self.block → IsFlooded m c result }
     {
         self.labelled
-    }
-
-    /// The height of the point with this index, where it is ground and its height can't have changed.
-    pub fn height_at(&self, index: u32) -> Option<i16>
-        ensures { IfSome result (λ h. (h ≢ void) × ((slice_index_or self.now.block.heights index void ≡ h) × (Contains self.now.changed index → ⊥))) }
-    {
-        if self.changed.contains(&index) {
-            return None;
-        }
-        let height = *self.block.heights().get(index as usize)?;
-        if height == VOID { None } else { Some(height) }
     }
 
     /// How many points there are whose heights may have changed.

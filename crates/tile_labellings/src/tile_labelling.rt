@@ -1,10 +1,7 @@
 //! What is held of a tile's labelling.
-ghost use Rattle.std.specs.Prelude.{◌≡◌, ◌≢◌, ◌⊎◌, ◌*◌, ◌<◌, IfErr, IfOk, IfSome, IsTrue};
+ghost use Rattle.std.specs.Prelude.{◌≡◌, ◌⊎◌, ◌<◌, IfErr, IfOk, IfSome, IsTrue};
 ghost use Rattle.lattice.specs.Corners.{Corner};
-ghost use Rattle.lattice.specs.Ground.{metres};
-ghost use Rattle.lattice.specs.Height.{height_of};
-ghost use Rattle.lattice.specs.Lattice.{point_of};
-ghost use Rattle.lattice.specs.Mosaic.{Mosaic, void};
+ghost use Rattle.lattice.specs.Mosaic.{Mosaic};
 ghost use Rattle.lattice.specs.declared.refusal.Refusal.TheVariants.{NoMemory};
 ghost use Rattle.catalogue.specs.Readers.{OnlyReads, reads_of};
 ghost use Rattle.catalogue.specs.Reading.{MayRefuse};
@@ -27,7 +24,7 @@ pub enum TileLabelling {
 }
 
 impl TileLabelling {
-    ghost use Rattle.tile_labellings.specs.TileLabellings.{labelled_of, DifferAt, IsCurrent, IsTileLabelling};
+    ghost use Rattle.tile_labellings.specs.TileLabellings.{labelled_of, is_flooded, DifferAt, IsCurrent, IsTileLabelling};
 
     /// The levels and labels; those of the tile where no height may have changed since they were made.
     pub fn labelled(&self) -> &Labelled
@@ -40,13 +37,13 @@ impl TileLabelling {
         }
     }
 
-    /// The height of the tile's point with this index, where it is ground and its height is known.
-    pub fn height_at(&self, index: u32) -> Option<i16>
-        ensures { IfSome result (λ h. (h ≢ void) × ((m : Mosaic) (c : Corner) → index < m.side * m.side → IsTileLabelling m c self.now → metres (height_of m (point_of m.side c index)) ≡ h)) }
+    /// Whether it is that of a block as it was flooded, so that the levels of the rim are its heights.
+    pub fn is_flooded(&self) -> bool
+        ensures { result ≡ is_flooded self.now }
     {
         match self {
-            TileLabelling::Kept(_) => None,
-            TileLabelling::Flooded(flooded) => flooded.height_at(index),
+            TileLabelling::Flooded(_) => true,
+            _ => false,
         }
     }
 

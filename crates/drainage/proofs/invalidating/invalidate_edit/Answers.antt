@@ -1,6 +1,7 @@
-use Rattle.std.proofs.Common.{sym, subst}
+use Rattle.std.proofs.Common.{List, sym, subst}
 use Rattle.edits.specs.declared.edit.Edit.{Edit}
-use Rattle.edits.specs.Edits.{edit_made}
+use Rattle.edits.specs.declared.edit.NewHeight.{NewHeight}
+use Rattle.edits.specs.Edits.{AreEarlier, TellsHeights, edit_made, with_heights}
 use Rattle.edits.specs.Effect.{patched}
 use Rattle.drainage.specs.Between.{IsHeldOf}
 use Rattle.drainage.proofs.EditedBox.{differ_patched}
@@ -11,7 +12,7 @@ pub returns-in-Voids-clause-still : goal.returns-in-Voids-clause-still
 returns-in-Voids-clause-still c m valid right = c.invalidate_between.ensures.right m m (unmoved m c.in-Voids.from c.in-Voids.to) right
 
 pub returns-in-Voids-clause-changed : goal.returns-in-Voids-clause-changed
-returns-in-Voids-clause-changed c m valid right =
+returns-in-Voids-clause-changed c m valid tells right =
     subst (λ (e : Edit). IsHeldOf (edit_made e m) c.invalidate_between.new.self) (sym c.in-Voids.is)
     (c.invalidate_between.ensures.right m (patched c.in-Voids.from c.in-Voids.to c.in-Voids.height m) (differ_patched c.in-Voids.from c.in-Voids.to c.in-Voids.height m valid) right)
 
@@ -19,10 +20,16 @@ pub returns-in-Add-clause-still : goal.returns-in-Add-clause-still
 returns-in-Add-clause-still c m valid right = c.invalidate.ensures m
 
 pub returns-in-Add-clause-changed : goal.returns-in-Add-clause-changed
-returns-in-Add-clause-changed c m valid right = c.invalidate.ensures (edit_made c.args.edit.now m)
+returns-in-Add-clause-changed c m valid tells right = c.invalidate.ensures (edit_made c.args.edit.now m)
 
 pub returns-in-Drop-clause-still : goal.returns-in-Drop-clause-still
 returns-in-Drop-clause-still c m valid right = c.invalidate-in-Drop.ensures m
 
 pub returns-in-Drop-clause-changed : goal.returns-in-Drop-clause-changed
-returns-in-Drop-clause-changed c m valid right = c.invalidate-in-Drop.ensures (edit_made c.args.edit.now m)
+returns-in-Drop-clause-changed c m valid tells right = c.invalidate-in-Drop.ensures (edit_made c.args.edit.now m)
+
+pub returns-in-Heights-clause-changed : goal.returns-in-Heights-clause-changed
+returns-in-Heights-clause-changed c m valid tells right =
+    subst (λ (e : Edit). TellsHeights m e → IsHeldOf (edit_made e m) c.invalidate_heights.new.held) (sym c.in-Heights.is)
+    (subst (λ (l : List NewHeight). AreEarlier l m → IsHeldOf (with_heights l m) c.invalidate_heights.new.held) c.as_slice.ensures.value
+    (λ earlier. c.invalidate_heights.ensures.changed m valid earlier right)) tells

@@ -1,24 +1,25 @@
 use Rattle.std.proofs.lemmas.Int.{to_z-of_z}
 use Rattle.drainage.specs.Spared.{IsSetTo}
-use Rattle.std.proofs.Common.{rules, SFits, w16, ℤ, sym, ◌≡◌, inl, inr, ◌+◌, List, get_or, take, pos, ap, refl, subst}
+use Rattle.std.proofs.Common.{rules, SFits, w16, ℤ, sym, ◌≡◌, inr, ◌+◌, List, get_or, take, pos, refl, subst}
 use Rattle.std.specs.Prelude.{Some}
 use Rattle.std.proofs.lemmas.List.{take_all}
+use Rattle.lattice.specs.declared.height.Height.TheVariants.{At}
+use Rattle.lattice.specs.Height.{height_of}
 use Rattle.edits.specs.declared.edit.NewHeight.{NewHeight}
 use Rattle.edits.specs.Edits.{with_heights}
 use Rattle.edits.proofs.EditStale.{read_within}
 use Rattle.drainage.specs.Between.{IsHeldOf}
 use Rattle.drainage.proofs.Beyond.{all_kept, kept_by_noted, one_kept}
-use Rattle.drainage.proofs.EditedBox.{differ_more, set_more}
-use Rattle.drainage.proofs.Reached.{unmoved}
+use Rattle.drainage.proofs.EditedBox.{differ_more, earlier_at, set_more}
 use Rattle.drainage.proofs.invalidating.invalidate_heights.Goals as goal
 
 abbrev none : NewHeight
-none = record { point = record { y = pos 0; x = pos 0 }; metres = pos 0 }
+none = record { point = record { y = pos 0; x = pos 0 }; was = pos 0; metres = pos 0 }
 
 pub loop-height-init : goal.loop-height-init
 loop-height-init c = record {
   still = λ m valid right. right;
-  changed = λ m valid right. right;
+  changed = λ m valid earlier right. right;
   kept = all_kept (λ (x : NewHeight). Some x.point) c.args.heights.now c.args.held.now.tile_cache;
 }
 
@@ -28,16 +29,19 @@ loop-height-preserved c =
     let i = c.loop-height.height-index in
     let h = get_or heights i none in
     let fits : SFits w16 (get_or c.args.heights.now c.loop-height.height-index none).metres = search rules in
+    let had : SFits w16 (get_or c.args.heights.now c.loop-height.height-index none).was = search rules in
     record {
-      still = λ m valid right. c.note_changed.ensures.right m m (record { around = unmoved m h.point h.point; all_sinks = λ q. refl }) (inl refl) (c.loop-height.invariant.still m valid right);
-      changed = λ m valid right. c.note_changed.ensures.right (with_heights (take i heights) m) (with_heights (take (i + 1) heights) m)
+      still = λ m valid right. c.note_changed.ensures.still m (c.loop-height.invariant.still m valid right);
+      changed = λ m valid earlier right. c.note_changed.ensures.right (with_heights (take i heights) m) (with_heights (take (i + 1) heights) m)
           (differ_more heights i h m valid c.loop-height-test.true (read_within heights i none h c.loop-height-test.true))
+          (subst (λ (v : ℤ). height_of (with_heights (take i heights) m) h.point ≡ At v) (sym (to_z-of_z w16 h.was had))
+          (earlier_at heights i h m c.loop-height-test.true (read_within heights i none h c.loop-height-test.true) earlier))
           (subst (λ (v : ℤ). IsSetTo (with_heights (take i heights) m) (with_heights (take (i + 1) heights) m) h.point v) (sym (to_z-of_z w16 h.metres fits))
-          (inr (set_more heights i h m valid c.loop-height-test.true (read_within heights i none h c.loop-height-test.true)))) (c.loop-height.invariant.changed m valid right);
+          (inr (set_more heights i h m valid c.loop-height-test.true (read_within heights i none h c.loop-height-test.true)))) (c.loop-height.invariant.changed m valid earlier right);
       kept = one_kept (λ (x : NewHeight). Some x.point) heights i h h.point c.args.held.now.tile_cache c.loop-height.held.tile_cache c.note_changed.new.self.tile_cache c.loop-height-test.true (read_within heights i none h c.loop-height-test.true) refl
           (kept_by_noted h.point c.loop-height.held.tile_cache c.note_changed.new.self.tile_cache c.note_changed.ensures.left) c.loop-height.invariant.kept;
     }
 
 pub returns-clause-changed : goal.returns-clause-changed
-returns-clause-changed c m valid right =
-    subst (λ (l : List NewHeight). IsHeldOf (with_heights l m) c.loop-height.held) (take_all c.loop-height.height-index c.args.heights.now c.loop-height-test.false) (c.loop-height.invariant.changed m valid right)
+returns-clause-changed c m valid earlier right =
+    subst (λ (l : List NewHeight). IsHeldOf (with_heights l m) c.loop-height.held) (take_all c.loop-height.height-index c.args.heights.now c.loop-height-test.false) (c.loop-height.invariant.changed m valid earlier right)

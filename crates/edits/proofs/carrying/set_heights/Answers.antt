@@ -9,7 +9,7 @@ use Rattle.edits.proofs.Edited.{heights_next}
 use Rattle.edits.proofs.carrying.set_heights.Goals as goal
 
 abbrev none : NewHeight
-none = record { point = record { y = pos 0; x = pos 0 }; metres = pos 0 }
+none = record { point = record { y = pos 0; x = pos 0 }; was = pos 0; metres = pos 0 }
 
 pub loop-height-preserved : goal.loop-height-preserved
 loop-height-preserved c =

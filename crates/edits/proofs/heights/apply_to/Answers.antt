@@ -1,4 +1,4 @@
-use Rattle.std.proofs.Common.{rules, to_z, of_z, ℤ, negsuc, ◌-ℤ◌, true, false, ◌≢◌, ◌≡◌, ◌∙◌, ◌++◌, ◌∷◌, [], IsTrue, List, ap, sym, subst, get_or, ◌+◌}
+use Rattle.std.proofs.Common.{rules, to_z, of_z, ℤ, negsuc, ◌-ℤ◌, true, false, ◌≢◌, ◌≡◌, ◌∙◌, ◌++◌, ◌∷◌, [], IsTrue, List, ap, ap₂, sym, subst, get_or, ◌+◌}
 use Rattle.std.specs.Prelude.{Result, Ok, Err, IfErr, int_lt}
 use Rattle.std.proofs.lemmas.Result.{err_from_is_err_and}
 use Rattle.std.proofs.lemmas.Int.{to_z-of_z}
@@ -12,7 +12,7 @@ use Rattle.catalogue.proofs.Reading.{reads_on}
 use Rattle.edits.specs.declared.edit.NewHeight.{NewHeight}
 use Rattle.edits.specs.Edits.{with_heights}
 use Rattle.edits.specs.PointEdits.{edited_metres, depth_of, refuses, treats}
-use Rattle.edits.proofs.NewHeights.{HaveHeights, heights_more, heights_made, ends_editing, deep_editing}
+use Rattle.edits.proofs.NewHeights.{HaveHeights, heights_more, heights_made, heights_earlier, ends_editing, deep_editing}
 use Rattle.edits.proofs.PointEditing.{origin, read_anyhow, height_not_void}
 use Rattle.edits.proofs.heights.apply_to.Goals as goal
 
@@ -29,8 +29,8 @@ loop-point-preserved g c =
     let more = heights_more g.S.Samples c.args.point_edit points i p c.args.samples.now c.loop-point.samples c.ground.new.samples c.loop-point.heights.items c.loop-point-test.true (read_anyhow points i origin c.loop-point-test.true) c.loop-point.invariant
     g.met.S.Samples.keeps_on h s c.in_ok-height.ensures.reads c.in_ok-height.ensures.metres (c.in_ok-metres.ensures.sample ∙ ap (edited_metres c.args.point_edit) same)
     (subst (λ v. v ≢ void → int_lt (v -ℤ depth_of c.args.point_edit) (negsuc 32766) ≡ false) same c.in_ok-metres.ensures.deep) in
-    let pushed : c.push.new.self.items ≡ c.loop-point.heights.items ++ record { point = p; metres = s } ∷ [] =
-    c.push.ensures.items ∙ ap (λ (v : ℤ). c.loop-point.heights.items ++ record { point = p; metres = v } ∷ []) (to_z-of_z w16 s whole) in
+    let pushed : c.push.new.self.items ≡ c.loop-point.heights.items ++ record { point = p; was = h; metres = s } ∷ [] =
+    c.push.ensures.items ∙ ap₂ (λ (u v : ℤ). c.loop-point.heights.items ++ record { point = p; was = u; metres = v } ∷ []) same (to_z-of_z w16 s whole) in
     subst (λ (l : List NewHeight). HaveHeights g.S.Samples c.args.point_edit points (i + 1) c.args.samples.now c.ground.new.samples l) (sym pushed) more
 
 pub returns-in_err-height-clause-refused : goal.returns-in_err-height-clause-refused
@@ -75,3 +75,9 @@ returns-clause-made g c = λ honest.
     subst (λ (l : List Point). treats c.args.point_edit m l ≡ Ok (with_heights c.loop-point.heights.items m)) c.as_slice-points.ensures.value
     (heights_made g.S.Samples c.args.point_edit c.as_slice-points.result.now c.loop-point.point-index c.args.samples.now c.loop-point.samples c.loop-point.heights.items c.loop-point-test.false c.loop-point.invariant
     (sym c.is_repeated.ensures ∙ c.if-is_repeated.false) honest)
+
+pub returns-clause-earlier : goal.returns-clause-earlier
+returns-clause-earlier g c = λ honest.
+    let old = c.args.samples.now in
+    heights_earlier g.S.Samples c.args.point_edit c.as_slice-points.result.now c.loop-point.point-index old c.loop-point.samples c.loop-point.heights.items c.loop-point-test.false c.loop-point.invariant
+    (g.met.S.Samples.is_mosaic old (c.loop-point.invariant.reads.honest honest)) (sym c.is_repeated.ensures ∙ c.if-is_repeated.false) honest

@@ -10,7 +10,7 @@ use Rattle.edits.proofs.Setting.{heights_more, heights_once}
 use Rattle.edits.proofs.listing.put_heights.Goals as goal
 
 abbrev none : NewHeight
-none = record { point = record { y = pos 0; x = pos 0 }; metres = pos 0 }
+none = record { point = record { y = pos 0; x = pos 0 }; was = pos 0; metres = pos 0 }
 
 pub loop-height-preserved : goal.loop-height-preserved
 loop-height-preserved g c =

@@ -17,7 +17,7 @@ returns g c =
     sym (sym (any_near n cs c.args.heights.now c.args.corner) ∙ ap (list_any near) (sym (take_all c.loop-height.height-index c.args.heights.now c.loop-height-test.false)) ∙ c.loop-height.invariant)
 
 abbrev none : NewHeight
-none = record { point = record { y = pos 0; x = pos 0 }; metres = pos 0 }
+none = record { point = record { y = pos 0; x = pos 0 }; was = pos 0; metres = pos 0 }
 
 pub returns-then-is_held_near : goal.returns-then-is_held_near
 returns-then-is_held_near g c =

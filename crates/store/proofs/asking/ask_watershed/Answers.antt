@@ -25,10 +25,10 @@ pub returns-clause-reads : goal.returns-clause-reads
 returns-clause-reads g c =
     let old = c.args.tree.now in
     let works = c.requires.works in
-    let after = c.watershed_held.new.samples in
+    let after = c.watershed.new.samples in
     let new = after.tree.now in
-    let result = c.watershed_held.result in
-    let asked = c.watershed_held.ensures.asked in
+    let result = c.watershed.result in
+    let asked = c.watershed.ensures.asked in
     let is : IsQueried g.D.Disk old new result = queried g.D.Disk old new works asked.reads.keeps.1 result (asked_risen _ _ after result asked) (asked_works _ _ after result asked works) (asked_fails _ _ after result asked)
     (asked_quiet _ _ after result asked works) in
     search rules
@@ -36,21 +36,21 @@ returns-clause-reads g c =
 pub returns-clause-clean : goal.returns-clause-clean
 returns-clause-clean g c =
     let old = c.args.tree.now in
-    let new = c.watershed_held.new.samples.tree.now in
-    let is : has_failed new ≡ false → IsClean old → IsClean new = λ works clean. still_clean g.D.Disk old new c.requires.works c.watershed_held.ensures.asked.reads.keeps.1 (λ _. clean) works in
+    let new = c.watershed.new.samples.tree.now in
+    let is : has_failed new ≡ false → IsClean old → IsClean new = λ works clean. still_clean g.D.Disk old new c.requires.works c.watershed.ensures.asked.reads.keeps.1 (λ _. clean) works in
     search rules
 
 pub returns-clause-outcome : goal.returns-clause-outcome
 returns-clause-outcome g c =
     let d = g.D.Disk in
     let old = c.args.tree.now in
-    let new = c.watershed_held.new.samples.tree.now in
-    let held = c.watershed_held.new.held in
+    let new = c.watershed.new.samples.tree.now in
+    let held = c.watershed.new.held in
     let works = c.requires.works in
-    let ensures = c.watershed_held.ensures in
+    let ensures = c.watershed.ensures in
     let asked = ensures.asked in
     let keeps = asked.reads.keeps.1 in
-    let result : Result (Vec Run) Refusal = c.watershed_held.result in
+    let result : Result (Vec Run) Refusal = c.watershed.result in
     let is : g.P.Premise.holds → d.honest (disk_of new) → (s : State) → IsHolding d old c.args.held.now s → (t : State) × (IsHolding d new held t × Sheds s c.args.point (items_in result) t) = λ holds honest s at.
     let in_state = at.in_state in
     let sure : IsSure d new × g.P.Premise.holds = (still_sure d old new works keeps honest s in_state, holds) in

@@ -1,5 +1,7 @@
 use Rattle.std.proofs.Common.{rules, SFits, w16, ℤ, ◌≡◌, refl, sym, ◌∙◌, subst}
 use Rattle.std.proofs.lemmas.Int.{to_z-of_z}
+use Rattle.lattice.specs.declared.height.Height.TheVariants.{At}
+use Rattle.lattice.specs.Height.{height_of}
 use Rattle.drainage.specs.Spared.{IsSetTo}
 use Rattle.std.specs.Prelude.{Option, Some}
 use Rattle.drainage.specs.Between.{are_noted, are_right, drain_right}
@@ -12,11 +14,21 @@ returns-clause-left c =
     subst (λ (held : Option TileCache). are_noted c.args.point held (Some left)) (c.in-Some.ensures.value ∙ c.invalidate_ways.ensures.tile_cache) (left, refl, c.note_changed.ensures.left)
 
 pub returns-clause-right : goal.returns-clause-right
-returns-clause-right c m new differ set right =
+returns-clause-right c m new differ was set right =
     let held : Some c.in-Some.tile_cache ≡ c.args.self.now.tile_cache = c.in-Some.ensures.value ∙ c.invalidate_ways.ensures.tile_cache in
     let fits : SFits w16 c.args.to = search rules in
     let to = subst (λ (v : ℤ). IsSetTo m new c.args.point v) (sym (to_z-of_z w16 c.args.to fits)) set in
+    let had : SFits w16 c.args.was = search rules in
+    let before = subst (λ (v : ℤ). height_of m c.args.point ≡ At v) (sym (to_z-of_z w16 c.args.was had)) was in
     record {
-      tile_cache = c.note_changed.ensures.right m new differ to (subst (are_right m) (sym held) right.tile_cache);
+      tile_cache = c.note_changed.ensures.right m new differ before to (subst (are_right m) (sym held) right.tile_cache);
       flows = subst (drain_right new) (sym c.invalidate_ways.ensures.flows) tt;
+    }
+
+pub returns-clause-still : goal.returns-clause-still
+returns-clause-still c m right =
+    let held : Some c.in-Some.tile_cache ≡ c.args.self.now.tile_cache = c.in-Some.ensures.value ∙ c.invalidate_ways.ensures.tile_cache in
+    record {
+      tile_cache = c.note_changed.ensures.still m (subst (are_right m) (sym held) right.tile_cache);
+      flows = subst (drain_right m) (sym c.invalidate_ways.ensures.flows) tt;
     }

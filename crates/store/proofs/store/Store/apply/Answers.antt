@@ -11,7 +11,7 @@ use Rattle.edits.specs.declared.command.Command.{Command}
 use Rattle.edits.specs.declared.command.Command.TheVariants.{Import, Remove, Patch, Burn, Wall, Sink, Unsink}
 use Rattle.edits.specs.declared.edit.Edit.{Edit}
 use Rattle.edits.specs.declared.edit.Edit.TheVariants as edit
-use Rattle.edits.specs.Edits.{IsEditOf, FitsIn, HasRoom, FindsVoids, edit_made, goes_stale_by}
+use Rattle.edits.specs.Edits.{IsEditOf, FitsIn, HasRoom, FindsVoids, TellsHeights, edit_made, goes_stale_by}
 use Rattle.edits.specs.Effect.{effect}
 use Rattle.edits.specs.EffectLaws.{IsCommand}
 use Rattle.edits.specs.Plans.{is_own}
@@ -167,8 +167,9 @@ returns-clause-applied g c =
     let makes : effect (root_of old).capacity m command ≡ Ok (edit_made made m) =
     subst (λ (n : ℕ). effect n m command ≡ Ok (edit_made made m)) capacity
     (subst (λ (x : Mosaic). effect c.capacity-capacity.result x command ≡ Ok (edit_made made x)) same_m (is.made (readable d old planned keeps works s at planned_honest))) in
+    let tells : TellsHeights m made = subst (λ (x : Mosaic). TellsHeights x made) same_m (is.heights (readable d old planned keeps works s at planned_honest)) in
     left_by (root_of old).capacity m command result c.invalidate_edit.new.held (c.invalidate_edit.ensures.still m sound.holds.valid right)
-    (λ x is_x. subst (λ (y : Mosaic). IsHeldOf y c.invalidate_edit.new.held) (same_made (edit_made made m) x (sym makes ∙ is_x)) (c.invalidate_edit.ensures.changed m sound.holds.valid right)))
+    (λ x is_x. subst (λ (y : Mosaic). IsHeldOf y c.invalidate_edit.new.held) (same_made (edit_made made m) x (sym makes ∙ is_x)) (c.invalidate_edit.ensures.changed m sound.holds.valid tells right)))
     (c.commit_staged.ensures.command old command (record {
       working = works;
       uncommitted = uncommitted_on d old marked mid nothing c.stage-staged.result gives_up stages.uncommitted;

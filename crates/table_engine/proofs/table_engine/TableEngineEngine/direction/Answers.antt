@@ -10,8 +10,8 @@ returns c =
     let e = c.self.inside in
     let p = c.args.point in
     let valid = c.self.invariant.valid in
-    let found = c.direction_held.ensures in
+    let found = c.direction.ensures in
     let new_valid = found.asked.reads.never_refuses valid in
-    called_same e.table e.capacity e.fresh.items e.count e.number c.args.self.now c.self.view_is (ask.Direction p) _ c.direction_held.new.samples found.asked.reads.keeps
-    (directed (old e.table e.capacity e.fresh.items e.count e.number) p c.direction_held.result
-    (told_of_levels e.table valid p (λ code level. DrainsBy (terrain e.table) level p code) c.direction_held.result (found.asked.own (found.asked.reads.answers valid)) (found.asked.sound new_valid valid) (found.direction new_valid) (found.on_ground new_valid) found.outside (found.void new_valid) found.causes))
+    called_same e.table e.capacity e.fresh.items e.count e.number c.args.self.now c.self.view_is (ask.Direction p) _ c.direction.new.samples found.asked.reads.keeps
+    (directed (old e.table e.capacity e.fresh.items e.count e.number) p c.direction.result
+    (told_of_levels e.table valid p (λ code level. DrainsBy (terrain e.table) level p code) c.direction.result (found.asked.own (found.asked.reads.answers valid)) (found.asked.sound new_valid valid) (found.direction new_valid) (found.on_ground new_valid) found.outside (found.void new_valid) found.causes))

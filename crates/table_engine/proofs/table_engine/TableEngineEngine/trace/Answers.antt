@@ -10,8 +10,8 @@ returns c =
     let e = c.self.inside in
     let p = c.args.point in
     let valid = c.self.invariant.valid in
-    let found = c.trace_held.ensures in
+    let found = c.trace.ensures in
     let new_valid = found.asked.reads.never_refuses valid in
-    called_same e.table e.capacity e.fresh.items e.count e.number c.args.self.now c.self.view_is (ask.Trace p) _ c.trace_held.new.samples found.asked.reads.keeps
-    (traced (old e.table e.capacity e.fresh.items e.count e.number) p c.trace_held.result
-    (told_of_levels e.table valid p (λ path level. IsFlowPath (terrain e.table) level p path.items) c.trace_held.result (found.asked.own (found.asked.reads.answers valid)) (found.asked.sound new_valid valid) (found.path new_valid) (found.on_ground new_valid) found.outside (found.void new_valid) found.causes))
+    called_same e.table e.capacity e.fresh.items e.count e.number c.args.self.now c.self.view_is (ask.Trace p) _ c.trace.new.samples found.asked.reads.keeps
+    (traced (old e.table e.capacity e.fresh.items e.count e.number) p c.trace.result
+    (told_of_levels e.table valid p (λ path level. IsFlowPath (terrain e.table) level p path.items) c.trace.result (found.asked.own (found.asked.reads.answers valid)) (found.asked.sound new_valid valid) (found.path new_valid) (found.on_ground new_valid) found.outside (found.void new_valid) found.causes))

@@ -11,8 +11,8 @@ returns c =
     let e = c.self.inside in
     let p = c.args.point in
     let valid = c.self.invariant.valid in
-    let found = c.watershed_held.ensures in
+    let found = c.watershed.ensures in
     let new_valid = found.asked.reads.never_refuses valid in
-    called_same e.table e.capacity e.fresh.items e.count e.number c.args.self.now c.self.view_is (ask.Watershed p) _ c.watershed_held.new.samples found.asked.reads.keeps
-    (shed (old e.table e.capacity e.fresh.items e.count e.number) p c.watershed_held.result
-    (told_of_levels e.table valid p (λ runs level. AreRuns (IsInWatershed (terrain e.table) level p) runs.items) c.watershed_held.result (found.asked.own (found.asked.reads.answers valid)) (found.asked.sound new_valid valid) (found.runs new_valid) (found.on_ground new_valid) found.outside (found.void new_valid) found.causes))
+    called_same e.table e.capacity e.fresh.items e.count e.number c.args.self.now c.self.view_is (ask.Watershed p) _ c.watershed.new.samples found.asked.reads.keeps
+    (shed (old e.table e.capacity e.fresh.items e.count e.number) p c.watershed.result
+    (told_of_levels e.table valid p (λ runs level. AreRuns (IsInWatershed (terrain e.table) level p) runs.items) c.watershed.result (found.asked.own (found.asked.reads.answers valid)) (found.asked.sound new_valid valid) (found.runs new_valid) (found.on_ground new_valid) found.outside (found.void new_valid) found.causes))
