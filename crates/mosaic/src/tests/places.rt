@@ -4,7 +4,7 @@ ghost use Rattle.disk.specs.Disk.{CountsFault, counted};
 
 use super::owned;
 use disk::{Disk, Fault};
-use server::{CheckedWriter, Ended, Lengthen, MakeFault, Places, carry_out};
+use server::{CheckedWriter, Exit, Lengthen, MakeFault, Places, carry_out};
 use std::alloc::{AllocError, Global};
 use std::test::Fail;
 use store::Store;
@@ -343,7 +343,7 @@ fn run_on(
     let mut reader = input;
     let mut writer = CheckedWriter::new(Vec::new(alloc));
     places.accesses.clear();
-    let Ended { status, disk } = carry_out(alloc, places, &words, &mut reader, &mut writer);
+    let Exit { status, disk } = carry_out(alloc, places, &words, &mut reader, &mut writer);
     let left = places.store.take();
     places.store = disk.or(left);
     Ok((status, writer.into_inner()))
