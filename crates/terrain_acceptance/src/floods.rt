@@ -1,12 +1,11 @@
 //! Levels, labels and spills of one block, by blocks worked by hand, row by row from the north.
-use crate::asserting::{assert_named, assert_row};
+use crate::asserting::{assert_found, assert_row};
 use arrayvec::ArrayVec;
-use lattice::{Refusal, Side};
+use lattice::{Refusal, Side, VOID};
 use std::alloc::Global;
+use std::process::Abort;
 use std::test::Fail;
 use tile_flood::{Block, Flood, Labelled, NO_LABEL, OUT, Spill, raise, spills};
-
-const VOID: i16 = i16::MIN;
 
 fn block(alloc: Global, side: u32, heights: &[i16], sinks: &[u32]) -> Result<Block, Refusal> {
     let side = Side::new(side).ok_or(Refusal::BadSide)?;
@@ -27,99 +26,86 @@ fn a_block_is_whole(rt: HostRuntime) -> Result<(), Fail> {
     Ok(())
 }
 
-/// A block's side, heights and sinks, the levels of its flood, and some of its points with their labels.
-type Row<'a> = (u32, &'a [i16], &'a [u32], &'a [i16], &'a [(usize, u16)]);
-
-const FLOODS: [(&str, Row); 4] = [
-    (
-        "a pit drains over the lowest rim point",
-        (
-            3,
-            &[9, 9, 9, 9, 1, 9, 9, 9, 5],
-            &[],
-            &[9, 9, 9, 9, 5, 9, 9, 9, 5],
-            &[(4, 7), (8, 7)],
-        ),
-    ),
-    (
-        "water leaves at a sink",
-        (
-            3,
-            &[9, 9, 9, 9, 1, 9, 9, 9, 5],
-            &[4],
-            &[9, 9, 9, 9, 1, 9, 9, 9, 5],
-            &[(4, OUT), (8, 7)],
-        ),
-    ),
-    (
-        "water leaves beside a void",
-        (
-            5,
-            &[
-                9, 9, 9, 9, 9, 9, 5, VOID, 9, 9, 9, 9, 9, 3, 9, 9, 9, 1, 9, 9, 9, 9, 9, 9, 9,
-            ],
-            &[],
-            &[
-                9, 9, 9, 9, 9, 9, 5, VOID, 9, 9, 9, 9, 9, 3, 9, 9, 9, 3, 9, 9, 9, 9, 9, 9, 9,
-            ],
-            &[(6, OUT), (7, NO_LABEL), (13, OUT), (17, OUT)],
-        ),
-    ),
-    (
-        "voids have no label",
-        (
-            3,
-            &[VOID; 9],
-            &[],
-            &[VOID; 9],
-            &[
-                (0, NO_LABEL),
-                (1, NO_LABEL),
-                (2, NO_LABEL),
-                (3, NO_LABEL),
-                (4, NO_LABEL),
-                (5, NO_LABEL),
-                (6, NO_LABEL),
-                (7, NO_LABEL),
-                (8, NO_LABEL),
-            ],
-        ),
-    ),
-];
-
-fn are_labels(labels: &[u16], points: &[(usize, u16)]) -> bool {
-    for (point, label) in points {
-        if labels.get(*point) != Some(label) {
-            return false;
-        }
-    }
-    true
+/// What is shown, a block, the levels of its flood, and the labels of some of its points.
+struct FloodRow<'a> {
+    shows: &'a str,
+    side: u32,
+    heights: &'a [i16],
+    sinks: &'a [u32],
+    levels: &'a [i16],
+    labels: &'a [(usize, u16)],
 }
+
+const FLOODS: [FloodRow; 4] = [
+    FloodRow {
+        shows: "a pit drains over the lowest rim point",
+        side: 3,
+        heights: &[9, 9, 9, 9, 1, 9, 9, 9, 5],
+        sinks: &[],
+        levels: &[9, 9, 9, 9, 5, 9, 9, 9, 5],
+        labels: &[(4, 7), (8, 7)],
+    },
+    FloodRow {
+        shows: "water leaves at a sink",
+        side: 3,
+        heights: &[9, 9, 9, 9, 1, 9, 9, 9, 5],
+        sinks: &[4],
+        levels: &[9, 9, 9, 9, 1, 9, 9, 9, 5],
+        labels: &[(4, OUT), (8, 7)],
+    },
+    FloodRow {
+        shows: "water leaves beside a void",
+        side: 5,
+        heights: &[
+            9, 9, 9, 9, 9, 9, 5, VOID, 9, 9, 9, 9, 9, 3, 9, 9, 9, 1, 9, 9, 9, 9, 9, 9, 9,
+        ],
+        sinks: &[],
+        levels: &[
+            9, 9, 9, 9, 9, 9, 5, VOID, 9, 9, 9, 9, 9, 3, 9, 9, 9, 3, 9, 9, 9, 9, 9, 9, 9,
+        ],
+        labels: &[(6, OUT), (7, NO_LABEL), (13, OUT), (17, OUT)],
+    },
+    FloodRow {
+        shows: "voids have no label",
+        side: 3,
+        heights: &[VOID; 9],
+        sinks: &[],
+        levels: &[VOID; 9],
+        labels: &[
+            (0, NO_LABEL),
+            (1, NO_LABEL),
+            (2, NO_LABEL),
+            (3, NO_LABEL),
+            (4, NO_LABEL),
+            (5, NO_LABEL),
+            (6, NO_LABEL),
+            (7, NO_LABEL),
+            (8, NO_LABEL),
+        ],
+    },
+];
 
 fn flooded(alloc: Global, side: u32, heights: &[i16], sinks: &[u32]) -> Result<Labelled, Refusal> {
     let whole = block(alloc, side, heights, sinks)?;
     Flood::run(alloc, &whole)
 }
 
-fn is_flood(found: &Labelled, row: &Row) -> bool {
-    let (side, _, _, levels, points) = *row;
-    let has_levels = found.side().samples() == side && found.levels() == levels;
-    let has_labels = found.labels().len() == levels.len();
-    has_levels && has_labels && are_labels(found.labels(), points)
-}
-
-fn floods_so(alloc: Global, row: &Row) -> Result<bool, Refusal> {
-    let (side, heights, sinks, _, _) = *row;
-    let found = flooded(alloc, side, heights, sinks)?;
-    Ok(is_flood(&found, row))
-}
-
 #[test]
 fn blocks_flood_so(rt: HostRuntime) -> Result<(), Fail> {
-    for (what, row) in FLOODS.iter() {
-        assert_named(&rt, floods_so(rt.alloc(), row)?, what);
+    for row in FLOODS.iter() {
+        let found = flooded(rt.alloc(), row.side, row.heights, row.sinks)?;
+        assert_found(&rt, &row.shows, &found.side().samples(), &row.side);
+        assert_found(&rt, &row.shows, &found.levels(), &row.levels);
+        check_labels(&rt, row, found.labels());
     }
     Ok(())
+}
+
+fn check_labels(rt: &impl Abort, row: &FloodRow, labels: &[u16]) {
+    assert_found(rt, &row.shows, &labels.len(), &row.levels.len());
+    for (point, label) in row.labels {
+        assert_found(rt, &(row.shows, *point), &labels.get(*point), &Some(label));
+    }
 }
 
 // Heights with one lowest rim point, its place, and its number, which is the label that it has.
@@ -137,10 +123,11 @@ const RIM: [([i16; 9], usize, u16); 8] = [
 // The levels are the heights, since nothing lies in a pit.
 #[test]
 fn rim_points_have_these_numbers(rt: HostRuntime) -> Result<(), Fail> {
-    for (heights, lowest, number) in RIM.iter() {
-        let row: Row = (3, heights, &[], heights, &[(*lowest, *number)]);
-        let is_right = floods_so(rt.alloc(), &row)?;
-        assert_row(&rt, is_right, "rim point", u64::from(*number));
+    for row in RIM.iter() {
+        let (heights, lowest, number) = row;
+        let found = flooded(rt.alloc(), 3, heights, &[])?;
+        assert_found(&rt, row, &found.levels(), &heights.as_slice());
+        assert_found(&rt, row, &found.labels().get(*lowest), &Some(number));
     }
     Ok(())
 }
@@ -170,11 +157,25 @@ const GAP_LABELS: [u16; 9] = [0, 0, 0, NO_LABEL, OUT, 4, 0, 0, 0];
 
 const GAP_RIM: [i16; 8] = [9, 9, 9, VOID, 5, 9, 9, 9];
 
-// Levels, labels, and the spills between two labels, of whatever order: labels meet at the greater level, and `OUT` is
-// a label too.
-const SPILLS: [(&[i16], &[u16], &[(u16, u16, i16)]); 2] = [
-    (&PIT, &PIT_LABELS, &[(0, 7, 9)]),
-    (&GAP, &GAP_LABELS, &[(0, 4, 9), (0, OUT, 9), (4, OUT, 5)]),
+/// Levels and labels, and the spills between two labels, of whatever order: labels meet at the greater level, and `OUT` is
+/// a label too.
+struct SpillsRow<'a> {
+    levels: &'a [i16],
+    labels: &'a [u16],
+    spills: &'a [(u16, u16, i16)],
+}
+
+const SPILLS: [SpillsRow; 2] = [
+    SpillsRow {
+        levels: &PIT,
+        labels: &PIT_LABELS,
+        spills: &[(0, 7, 9)],
+    },
+    SpillsRow {
+        levels: &GAP,
+        labels: &GAP_LABELS,
+        spills: &[(0, 4, 9), (0, OUT, 9), (4, OUT, 5)],
+    },
 ];
 
 fn are_spills(found: &[Spill], wanted: &[(u16, u16, i16)]) -> bool {
@@ -191,92 +192,130 @@ fn are_spills(found: &[Spill], wanted: &[(u16, u16, i16)]) -> bool {
     found.len() == wanted.len()
 }
 
-fn spills_so(
-    alloc: Global,
-    levels: &[i16],
-    labels: &[u16],
-    wanted: &[(u16, u16, i16)],
-) -> Result<bool, Refusal> {
-    let labelled = labelled(alloc, levels, labels)?;
-    let found = spills(alloc, &labelled)?;
-    Ok(are_spills(&found, wanted))
-}
-
 #[test]
 fn labels_meet_at_the_greater_level(rt: HostRuntime) -> Result<(), Fail> {
-    for (row, (levels, labels, wanted)) in SPILLS.iter().enumerate() {
-        let is_right = spills_so(rt.alloc(), levels, labels, wanted)?;
-        assert_row(&rt, is_right, "spills of row", row as u64);
+    for row in SPILLS.iter() {
+        let found = spills(rt.alloc(), &labelled(rt.alloc(), row.levels, row.labels)?)?;
+        assert_row(
+            &rt,
+            &(row.spills, found.as_slice()),
+            are_spills(&found, row.spills),
+        );
     }
     Ok(())
 }
 
-/// Levels, labels, and the levels of a rim.
-type Raised<'a> = (&'a [i16], &'a [u16], &'a [i16]);
-
 // The filled levels of a labelling over a rim.
-fn raised(alloc: Global, row: &Raised) -> Result<Vec<i16>, Refusal> {
-    let (levels, labels, rim) = *row;
+fn raised(alloc: Global, levels: &[i16], labels: &[u16], rim: &[i16]) -> Result<Vec<i16>, Refusal> {
     let labelled = labelled(alloc, levels, labels)?;
     raise(alloc, &labelled, rim)
 }
 
-// What is raised, and its filled levels. The inner outlet of the gap stays at its level.
-const RAISED: [(Raised, &[i16]); 3] = [
-    ((&PIT, &PIT_LABELS, &[9, 9, 9, 9, 9, 9, 9, 5]), &PIT),
-    (
-        (
-            &[9, 9, 9, 9, 1, 1, 9, 9, 9],
-            &[0, 0, 0, 0, 4, 4, 0, 0, 0],
-            &[9, 9, 9, 9, 3, 9, 9, 9],
-        ),
-        &[9, 9, 9, 9, 3, 3, 9, 9, 9],
-    ),
-    (
-        (&GAP, &GAP_LABELS, &GAP_RIM),
-        &[9, 9, 9, VOID, 5, 5, 9, 9, 9],
-    ),
+/// What is shown, a labelling, the levels of its rim, and its filled levels.
+struct RaiseRow<'a> {
+    shows: &'a str,
+    levels: &'a [i16],
+    labels: &'a [u16],
+    rim: &'a [i16],
+    filled: &'a [i16],
+}
+
+const RAISED: [RaiseRow; 3] = [
+    RaiseRow {
+        shows: "a rim at its own levels raises nothing",
+        levels: &PIT,
+        labels: &PIT_LABELS,
+        rim: &[9, 9, 9, 9, 9, 9, 9, 5],
+        filled: &PIT,
+    },
+    RaiseRow {
+        shows: "a valley rises with its way out",
+        levels: &[9, 9, 9, 9, 1, 1, 9, 9, 9],
+        labels: &[0, 0, 0, 0, 4, 4, 0, 0, 0],
+        rim: &[9, 9, 9, 9, 3, 9, 9, 9],
+        filled: &[9, 9, 9, 9, 3, 3, 9, 9, 9],
+    },
+    RaiseRow {
+        shows: "an inner outlet stays at its level",
+        levels: &GAP,
+        labels: &GAP_LABELS,
+        rim: &GAP_RIM,
+        filled: &[9, 9, 9, VOID, 5, 5, 9, 9, 9],
+    },
 ];
 
 #[test]
 fn a_block_is_raised_by_its_rim(rt: HostRuntime) -> Result<(), Fail> {
-    for (number, (row, wanted)) in RAISED.iter().enumerate() {
-        let filled = raised(rt.alloc(), row)?;
-        assert_row(
-            &rt,
-            filled.as_slice() == *wanted,
-            "levels of row",
-            number as u64,
-        );
+    for row in RAISED.iter() {
+        let filled = raised(rt.alloc(), row.levels, row.labels, row.rim)?;
+        assert_found(&rt, &row.shows, &filled.as_slice(), &row.filled);
     }
     Ok(())
 }
 
-// The gap with another level or label of its inner outlet or its void, and with too short a rim.
-const DAMAGED: [Raised; 8] = [
-    (&GAP, &[0, 0, 0, NO_LABEL, 8, 4, 0, 0, 0], &GAP_RIM),
-    (&GAP, &[0, 0, 0, NO_LABEL, 3, 4, 0, 0, 0], &GAP_RIM),
-    (&GAP, &[0, 0, 0, NO_LABEL, NO_LABEL, 4, 0, 0, 0], &GAP_RIM),
-    (
-        &[9, 9, 9, VOID, VOID, 3, 9, 9, 9],
-        &[0, 0, 0, NO_LABEL, 0, 4, 0, 0, 0],
-        &GAP_RIM,
-    ),
-    (&[9, 9, 9, VOID, VOID, 3, 9, 9, 9], &GAP_LABELS, &GAP_RIM),
-    (&[9, 9, 9, 9, 5, 3, 9, 9, 9], &GAP_LABELS, &GAP_RIM),
-    (&GAP, &[0, 0, 0, 0, OUT, 4, 0, 0, 0], &GAP_RIM),
-    (&GAP, &GAP_LABELS, &[9, 9, 9, VOID, 5, 9, 9]),
+/// What is wrong with a labelling and the levels of its rim.
+struct DamageRow<'a> {
+    shows: &'a str,
+    levels: &'a [i16],
+    labels: &'a [u16],
+    rim: &'a [i16],
+}
+
+const DAMAGED: [DamageRow; 8] = [
+    DamageRow {
+        shows: "a label that no rim point has",
+        levels: &GAP,
+        labels: &[0, 0, 0, NO_LABEL, 8, 4, 0, 0, 0],
+        rim: &GAP_RIM,
+    },
+    DamageRow {
+        shows: "the label of a void",
+        levels: &GAP,
+        labels: &[0, 0, 0, NO_LABEL, 3, 4, 0, 0, 0],
+        rim: &GAP_RIM,
+    },
+    DamageRow {
+        shows: "ground without a label",
+        levels: &GAP,
+        labels: &[0, 0, 0, NO_LABEL, NO_LABEL, 4, 0, 0, 0],
+        rim: &GAP_RIM,
+    },
+    DamageRow {
+        shows: "a void in the middle with a label",
+        levels: &[9, 9, 9, VOID, VOID, 3, 9, 9, 9],
+        labels: &[0, 0, 0, NO_LABEL, 0, 4, 0, 0, 0],
+        rim: &GAP_RIM,
+    },
+    DamageRow {
+        shows: "a void in the middle that is an outlet",
+        levels: &[9, 9, 9, VOID, VOID, 3, 9, 9, 9],
+        labels: &GAP_LABELS,
+        rim: &GAP_RIM,
+    },
+    DamageRow {
+        shows: "ground on the rim without a label",
+        levels: &[9, 9, 9, 9, 5, 3, 9, 9, 9],
+        labels: &GAP_LABELS,
+        rim: &GAP_RIM,
+    },
+    DamageRow {
+        shows: "a void on the rim with a label",
+        levels: &GAP,
+        labels: &[0, 0, 0, 0, OUT, 4, 0, 0, 0],
+        rim: &GAP_RIM,
+    },
+    DamageRow {
+        shows: "a rim that is too short",
+        levels: &GAP,
+        labels: &GAP_LABELS,
+        rim: &[9, 9, 9, VOID, 5, 9, 9],
+    },
 ];
 
 #[test]
 fn damaged_labellings_are_found(rt: HostRuntime) {
-    for (number, row) in DAMAGED.iter().enumerate() {
-        let refused = raised(rt.alloc(), row).err();
-        assert_row(
-            &rt,
-            refused == Some(Refusal::Damaged),
-            "damage of row",
-            number as u64,
-        );
+    for row in DAMAGED.iter() {
+        let refused = raised(rt.alloc(), row.levels, row.labels, row.rim).err();
+        assert_found(&rt, &row.shows, &refused, &Some(Refusal::Damaged));
     }
 }

@@ -1,13 +1,11 @@
 //! Directions over filled levels, by rows worked by hand: levels row by row from the north, tile after tile.
-use crate::asserting::assert_named;
-use crate::script::{are_points, at};
+use crate::asserting::{assert_found, assert_row};
+use crate::written::{are_points, at};
 use flow_d8::{Directions, Filled};
-use lattice::{Corner, Dir, Point, Refusal, Side};
+use lattice::{Corner, Dir, Point, Refusal, Side, VOID};
 use std::alloc::Global;
 use std::process::Abort;
 use std::test::Fail;
-
-const VOID: i16 = i16::MIN;
 
 fn tiles(alloc: Global, corners: &[(i16, i16)]) -> Option<Vec<Corner>> {
     let mut tiles = Vec::new(alloc);
@@ -192,42 +190,34 @@ const FLATS: [Row; 2] = [
     },
 ];
 
-fn leads(directions: &Directions, rows: &[(i32, i32, Option<Dir>)]) -> bool {
-    for (y, x, direction) in rows {
-        if directions.direction(at(*y, *x)) != *direction {
-            return false;
-        }
+fn check_directions(rt: &impl Abort, directions: &Directions, row: &Row) {
+    for (y, x, direction) in row.leads {
+        let found = directions.direction(at(*y, *x));
+        assert_found(rt, &(row.shows, *y, *x), &found, direction);
     }
-    true
 }
 
-fn lies(directions: &Directions, rows: &[(i32, i32, Option<u32>)]) -> bool {
-    for (y, x, distance) in rows {
-        if directions.flat_distance(at(*y, *x)) != *distance {
-            return false;
-        }
+fn check_distances(rt: &impl Abort, directions: &Directions, row: &Row) {
+    for (y, x, distance) in row.lies {
+        let found = directions.flat_distance(at(*y, *x));
+        assert_found(rt, &(row.shows, *y, *x), &found, distance);
     }
-    true
 }
 
-fn has_paths(directions: &Directions, rows: &[(i32, i32, &[(i32, i32)])]) -> Result<bool, Refusal> {
-    for (y, x, path) in rows {
-        if !are_points(&directions.trace(at(*y, *x))?, path) {
-            return Ok(false);
-        }
+fn check_paths(rt: &impl Abort, directions: &Directions, row: &Row) -> Result<(), Refusal> {
+    for (y, x, path) in row.paths {
+        let found = directions.trace(at(*y, *x))?;
+        assert_row(rt, &(row.shows, found.as_slice()), are_points(&found, path));
     }
-    Ok(true)
-}
-
-fn flows_so(alloc: Global, row: &Row) -> Result<bool, Refusal> {
-    let directions = found(alloc, row.side, row.corners, row.levels, row.sinks)?;
-    let has_paths = has_paths(&directions, row.paths)?;
-    Ok(has_paths && leads(&directions, row.leads) && lies(&directions, row.lies))
+    Ok(())
 }
 
 fn check(rt: &impl Abort, alloc: Global, rows: &[Row]) -> Result<(), Fail> {
     for row in rows {
-        assert_named(rt, flows_so(alloc, row)?, row.shows);
+        let directions = found(alloc, row.side, row.corners, row.levels, row.sinks)?;
+        check_directions(rt, &directions, row);
+        check_distances(rt, &directions, row);
+        check_paths(rt, &directions, row)?;
     }
     Ok(())
 }

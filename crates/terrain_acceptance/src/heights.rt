@@ -1,92 +1,13 @@
 //! Heights, adjacent points and seams, by rows worked by hand.
-use crate::asserting::{assert_named, assert_row};
-use crate::script::Asked::{Import, Remove};
-use crate::script::Step::{Done, Elevation, Seams};
-use crate::script::{A, G, H, K, Script, V, at, follow};
+use crate::asserting::assert_found;
+use crate::written::at;
 use catalogue::{Samples, Table, adjacent, degree, outlet, seams, tiles};
-use lattice::{Corner, Height, Refusal, Side};
+use hgt::samples;
+use lattice::{Corner, Refusal, Side};
 use std::alloc::Global;
 use std::process::Abort;
 use std::test::Fail;
-
-const HEIGHTS: [Script; 3] = [
-    (
-        "the first sample that is not void counts",
-        3,
-        4,
-        &[
-            Elevation(1, 2, Height::Outside),
-            Done(Import(0, 1, &H)),
-            Done(Import(0, 0, &G)),
-            Elevation(1, 2, Height::At(7)),
-            Done(Remove(0, 0)),
-            Elevation(1, 2, Height::At(8)),
-            Done(Import(0, 0, &K)),
-            Elevation(1, 2, Height::At(8)),
-        ],
-    ),
-    (
-        "heights of one tile",
-        3,
-        4,
-        &[
-            Done(Import(0, 0, &V)),
-            Elevation(1, 1, Height::Void),
-            Done(Remove(0, 0)),
-            Done(Import(0, 0, &A)),
-            Elevation(0, 2, Height::At(5)),
-            Elevation(2, 0, Height::At(9)),
-            Elevation(1, 1, Height::At(1)),
-            Elevation(0, 3, Height::Outside),
-            Elevation(-1, 0, Height::Outside),
-        ],
-    ),
-    (
-        "four tiles meet at a corner",
-        3,
-        4,
-        &[
-            Done(Import(-1, -1, &A)),
-            Elevation(0, 0, Height::At(9)),
-            Done(Import(1, 1, &[1; 9])),
-            Done(Import(0, 0, &[5; 9])),
-            Elevation(2, 2, Height::At(5)),
-            Elevation(3, 3, Height::At(1)),
-        ],
-    ),
-];
-
-#[test]
-fn heights_of_points(rt: HostRuntime) -> Result<(), Fail> {
-    follow(&rt, rt.alloc(), &HEIGHTS)
-}
-
-const SEAMS: [Script; 2] = [
-    (
-        "each seam point counts once",
-        3,
-        4,
-        &[
-            Seams(0),
-            Done(Import(0, 0, &G)),
-            Done(Import(0, 1, &H)),
-            Seams(1),
-            Done(Remove(0, 0)),
-            Seams(0),
-        ],
-    ),
-    (
-        "a void disagrees with a height",
-        3,
-        4,
-        &[Done(Import(0, 0, &K)), Done(Import(0, 1, &H)), Seams(1)],
-    ),
-];
-
-#[test]
-fn seams_between_tiles(rt: HostRuntime) -> Result<(), Fail> {
-    follow(&rt, rt.alloc(), &SEAMS)
-}
+use test_tiles::{A, F, G, H, K, O, V};
 
 const N00E000: Corner = Corner { lat: 0, lon: 0 };
 
@@ -97,20 +18,20 @@ const N01E001: Corner = Corner { lat: 1, lon: 1 };
 const S01W001: Corner = Corner { lat: -1, lon: -1 };
 
 // The tiles of side 3 at these corners.
-fn table(alloc: Global, tiles: &[(Corner, [i16; 9])]) -> Result<Table, Refusal> {
+fn table(alloc: Global, tiles: &[(Corner, [u8; 18])]) -> Result<Table, Refusal> {
     let side = Side::new(3).ok_or(Refusal::BadSide)?;
     let mut table = Table::new(alloc, side);
-    for (corner, samples) in tiles {
-        add(alloc, &mut table, *corner, samples)?;
+    for (corner, bytes) in tiles {
+        add(alloc, &mut table, *corner, bytes)?;
     }
     Ok(table)
 }
 
-fn add(alloc: Global, table: &mut Table, corner: Corner, samples: &[i16]) -> Result<(), Refusal> {
+fn add(alloc: Global, table: &mut Table, corner: Corner, bytes: &[u8]) -> Result<(), Refusal> {
+    let samples = samples(alloc, bytes, table.side())?;
     if table.present(corner) || samples.len() != table.side().area() as usize {
         return Err(Refusal::TileThere);
     }
-    let samples = Vec::from_slice(alloc, samples)?;
     table.add(corner, samples)
 }
 
@@ -123,15 +44,44 @@ fn has_tile(table: &Table, corner: Corner, samples: &[i16; 9]) -> bool {
 
 // Points with how many others are adjacent to each, and whether water can leave there.
 fn check_points(rt: &impl Abort, table: &mut Table, rows: &[(i32, i32, u32, bool)]) {
-    for (number, (y, x, count, leaves)) in rows.iter().enumerate() {
+    for row in rows {
+        let (y, x, count, leaves) = row;
         let point = at(*y, *x);
-        let is_right = degree(table, point) == Ok(*count) && outlet(table, point) == Ok(*leaves);
-        assert_row(rt, is_right, "the point of row", number as u64);
+        assert_found(rt, row, &degree(table, point), &Ok(*count));
+        assert_found(rt, row, &outlet(table, point), &Ok(*leaves));
     }
 }
 
+// What is shown, two tiles, and how many points disagree.
+const SEAMS: [(&str, [(Corner, [u8; 18]); 2], u64); 3] = [
+    (
+        "a point of two samples counts once",
+        [(N00E000, G), (N00E001, H)],
+        1,
+    ),
+    (
+        "a void disagrees with a height",
+        [(N00E000, K), (N00E001, H)],
+        1,
+    ),
+    (
+        "tiles apart share no point",
+        [(S01W001, G), (N00E001, H)],
+        0,
+    ),
+];
+
+#[test]
+fn seams_between_tiles(rt: HostRuntime) -> Result<(), Fail> {
+    for (shows, tiles, count) in SEAMS.iter() {
+        let mut table = table(rt.alloc(), tiles)?;
+        assert_found(&rt, shows, &seams(&mut table), &Ok(*count));
+    }
+    Ok(())
+}
+
 // Two tiles that meet in the point 2 2 alone.
-const MEETING: [(Corner, [i16; 9]); 2] = [(N00E000, [5; 9]), (N01E001, [1; 9])];
+const MEETING: [(Corner, [u8; 18]); 2] = [(N00E000, F), (N01E001, O)];
 
 const MEETING_POINTS: [(i32, i32, u32, bool); 5] = [
     (2, 2, 6, true),
@@ -160,14 +110,10 @@ const PAIRS: [(i32, i32, i32, i32, bool); 4] = [
 #[test]
 fn adjacent_points_lie_in_one_tile(rt: HostRuntime) -> Result<(), Fail> {
     let mut table = table(rt.alloc(), &MEETING)?;
-    for (number, (y, x, other_y, other_x, answer)) in PAIRS.iter().enumerate() {
+    for row in PAIRS.iter() {
+        let (y, x, other_y, other_x, answer) = row;
         let found = adjacent(&mut table, at(*y, *x), at(*other_y, *other_x));
-        assert_row(
-            &rt,
-            found == Ok(*answer),
-            "the points of row",
-            number as u64,
-        );
+        assert_found(&rt, row, &found, &Ok(*answer));
     }
     Ok(())
 }
@@ -186,7 +132,7 @@ fn a_table_keeps_its_tiles_in_order(rt: HostRuntime) -> Result<(), Fail> {
     let order = [S01W001, N00E000, N00E001];
     assert!(rt; table.corners()?.as_slice() == order.as_slice());
     assert!(rt; tiles(&table)?.as_slice() == order.as_slice());
-    assert!(rt; has_tile(&table, N00E000, &G));
+    assert!(rt; has_tile(&table, N00E000, &[9, 9, 9, 9, 9, 7, 9, 9, 9]));
     assert!(rt; table.samples(N01E001).is_none());
     Ok(())
 }
@@ -209,7 +155,7 @@ fn a_table_takes_samples_and_lets_tiles_go(rt: HostRuntime) -> Result<(), Fail> 
     let mut table = table(rt.alloc(), &[(N00E001, H), (S01W001, A), (N00E000, G)])?;
     put(&mut table, N00E000, 4, -3);
     assert!(rt; has_tile(&table, N00E000, &[9, 9, 9, 9, -3, 7, 9, 9, 9]));
-    assert!(rt; removes(&mut table, S01W001, &A));
+    assert!(rt; removes(&mut table, S01W001, &[9, 9, 9, 9, 1, 9, 9, 9, 5]));
     assert!(rt; table.remove(S01W001).is_none());
     assert!(rt; !table.present(S01W001));
     Ok(())

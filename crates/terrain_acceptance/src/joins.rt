@@ -1,12 +1,12 @@
 //! The levels that two tiles of side 3 give each other along their rims, by rows worked by hand.
-use crate::asserting::assert_named;
+use crate::asserting::assert_found;
 use arrayvec::ArrayVec;
 use border_graph::{RimPoint, Summary, join};
-use lattice::{Corner, Side};
+use lattice::{Corner, Side, VOID};
 use std::alloc::Global;
+use std::process::Abort;
+use std::test::Fail;
 use tile_flood::{Block, Flood, Labelled, spills};
-
-const VOID: i16 = i16::MIN;
 
 // The rim numbers of a tile of side 3, by index; the centre has none.
 const RIM: [usize; 8] = [0, 1, 2, 3, 5, 6, 7, 8];
@@ -48,39 +48,47 @@ fn pair(alloc: Global, west: &[i16], east: &[i16]) -> Option<Vec<Summary>> {
     Some(summaries)
 }
 
-/// What is shown, and of the western tile and the eastern one the heights, and the levels along their rims.
-type Row<'a> = (&'a str, &'a [i16], &'a [i16], &'a [i16], &'a [i16]);
+/// What is shown, the heights of a tile and of one to the east of it, and the levels along their rims.
+struct Row<'a> {
+    shows: &'a str,
+    west: &'a [i16],
+    east: &'a [i16],
+    west_rim: &'a [i16],
+    east_rim: &'a [i16],
+}
 
 const ROWS: [Row; 2] = [
-    (
-        "a valley drains through its neighbour",
-        &[9, 9, 9, 9, 1, 1, 9, 9, 9],
-        &[9, 9, 9, 1, 1, 3, 9, 9, 9],
-        &[9, 9, 9, 9, 3, 9, 9, 9],
-        &[9, 9, 9, 3, 3, 9, 9, 9],
-    ),
-    (
-        "a seam drains over an inner outlet",
-        &[9, 9, 9, VOID, 5, 3, 9, 9, 9],
-        &[9, 9, 9, 3, 9, 9, 9, 9, 9],
-        &[9, 9, 9, VOID, 5, 9, 9, 9],
-        &[9, 9, 9, 5, 9, 9, 9, 9],
-    ),
+    Row {
+        shows: "a valley drains through its neighbour",
+        west: &[9, 9, 9, 9, 1, 1, 9, 9, 9],
+        east: &[9, 9, 9, 1, 1, 3, 9, 9, 9],
+        west_rim: &[9, 9, 9, 9, 3, 9, 9, 9],
+        east_rim: &[9, 9, 9, 3, 3, 9, 9, 9],
+    },
+    Row {
+        shows: "a seam drains over an inner outlet",
+        west: &[9, 9, 9, VOID, 5, 3, 9, 9, 9],
+        east: &[9, 9, 9, 3, 9, 9, 9, 9, 9],
+        west_rim: &[9, 9, 9, VOID, 5, 9, 9, 9],
+        east_rim: &[9, 9, 9, 5, 9, 9, 9, 9],
+    },
 ];
 
-// None for want of memory.
-fn joins_so(alloc: Global, row: &Row) -> Option<bool> {
-    let (_, west, east, west_rim, east_rim) = *row;
-    let levels = join(alloc, &pair(alloc, west, east)?).ok()?;
-    let [first, second] = levels.as_slice() else {
-        return Some(false);
+fn check(rt: &impl Abort, row: &Row, levels: &[Vec<i16>]) {
+    let [west, east] = levels else {
+        assert_found(rt, &row.shows, &levels.len(), &2);
+        return;
     };
-    Some(first.as_slice() == west_rim && second.as_slice() == east_rim)
+    assert_found(rt, &row.shows, &west.as_slice(), &row.west_rim);
+    assert_found(rt, &row.shows, &east.as_slice(), &row.east_rim);
 }
 
 #[test]
-fn tiles_raise_each_other_along_their_rims(rt: HostRuntime) {
+fn tiles_raise_each_other_along_their_rims(rt: HostRuntime) -> Result<(), Fail> {
+    let alloc = rt.alloc();
     for row in ROWS.iter() {
-        assert_named(&rt, joins_so(rt.alloc(), row) == Some(true), row.0);
+        let pair = pair(alloc, row.west, row.east).ok_or("no memory")?;
+        check(&rt, row, &join(alloc, &pair)?);
     }
+    Ok(())
 }

@@ -1,11 +1,9 @@
-//! Tests alone, of the half that knows terrain: points and tiles, heights, commands, floods, directions, watersheds, and
-//! the plain programs.
+//! Tests alone, of the half that knows terrain: points and tiles, heights, floods, directions, watersheds, and the plain
+//! programs. What lines can ask is tested by the rows of `acceptance`.
 #![tactic(auto)]
 
 #[cfg(test)]
 mod asserting;
-#[cfg(test)]
-mod commands;
 #[cfg(test)]
 mod floods;
 #[cfg(test)]
@@ -21,10 +19,8 @@ mod plans;
 #[cfg(test)]
 mod points;
 #[cfg(test)]
-mod questions;
-#[cfg(test)]
 mod runs;
 #[cfg(test)]
-mod script;
-#[cfg(test)]
 mod tile_files;
+#[cfg(test)]
+mod written;

@@ -1,35 +1,36 @@
-//! What the plain programs alone answer, by rows worked by hand; the other modules ask them beside the library.
-use crate::asserting::assert_row;
-use crate::script::{A, B, C, D, WIDE, at};
+//! What the plain programs answer of heights, outlets and flats, by rows worked by hand. `acceptance` asks them what lines ask.
+use crate::asserting::assert_found;
+use crate::written::at;
 use edits::{Bytes, Command};
 use lattice::{Corner, Height, Refusal, Side};
-use reference::{Plain, effect, filled_levels, flat_distance, is_adjacent, is_ground, is_outlet};
+use reference::{
+    Plain, disagrees, effect, filled_levels, flat_distance, is_adjacent, is_ground, is_outlet,
+};
 use std::alloc::{AllocError, Global};
 use std::test::Fail;
+use test_tiles::{A, B, C, D, F, G, H, O, W};
 
-const FLAT: [i16; 9] = [5; 9];
-
-fn import(alloc: Global, lat: i16, lon: i16, samples: &[i16]) -> Result<Command, Refusal> {
+fn import(alloc: Global, lat: i16, lon: i16, bytes: &[u8]) -> Result<Command, Refusal> {
     let corner = Corner::new(lat, lon).ok_or(Refusal::BadName)?;
-    let bytes = Bytes::new(hgt::bytes_of(alloc, samples)?);
+    let bytes = Bytes::new(Vec::from_slice(alloc, bytes)?);
     Ok(Command::Import { corner, bytes })
 }
 
-/// The latitude and longitude of a tile's corner, and its samples.
-type Tile<'a> = (i16, i16, &'a [i16]);
+/// The latitude and longitude of a tile's corner, and its bytes.
+type Tile<'a> = (i16, i16, &'a [u8]);
 
 // A mosaic of these tiles.
 fn mosaic(alloc: Global, side: u32, tiles: &[Tile]) -> Result<Plain, Refusal> {
     let mut mosaic = Plain::new(alloc, Side::new(side).ok_or(Refusal::BadSide)?);
-    for (lat, lon, samples) in tiles {
-        let import = import(alloc, *lat, *lon, samples)?;
+    for (lat, lon, bytes) in tiles {
+        let import = import(alloc, *lat, *lon, bytes)?;
         mosaic = effect(alloc, 4, &mosaic, &import)?;
     }
     Ok(mosaic)
 }
 
 // Two tiles that meet in the point 2 2 alone.
-const MEETING: [Tile; 2] = [(0, 0, &FLAT), (1, 1, &[1; 9])];
+const MEETING: [Tile; 2] = [(0, 0, &F), (1, 1, &O)];
 
 // Tiles of side 3, y and x of a point, and its height. Each tile alone that holds the points 0 0, 1 2 and 1 1, and no
 // other one around, then a seam, a pole, and tiles that meet in one point.
@@ -54,10 +55,11 @@ const HEIGHTS: [(&[Tile], i32, i32, Height); 16] = [
 
 #[test]
 fn heights_of_points(rt: HostRuntime) -> Result<(), Fail> {
-    for (row, (tiles, y, x, height)) in HEIGHTS.iter().enumerate() {
+    for row in HEIGHTS.iter() {
+        let (tiles, y, x, height) = row;
         let mosaic = mosaic(rt.alloc(), 3, tiles)?;
-        let is_right = reference::height(&mosaic, at(*y, *x)) == *height;
-        assert_row(&rt, is_right, "the height of row", row as u64);
+        let found = reference::height(&mosaic, at(*y, *x));
+        assert_found(&rt, row, &found, height);
     }
     Ok(())
 }
@@ -66,17 +68,17 @@ fn heights_of_points(rt: HostRuntime) -> Result<(), Fail> {
 const OUTLETS: [(u32, &[Tile], i32, i32, bool); 5] = [
     (3, &MEETING, 2, 2, true),
     (3, &MEETING, 1, 1, false),
-    (5, &[(0, 0, &WIDE)], 3, 1, true),
-    (5, &[(0, 0, &WIDE)], 2, 3, true),
-    (5, &[(0, 0, &WIDE)], 1, 2, false),
+    (5, &[(0, 0, &W)], 3, 1, true),
+    (5, &[(0, 0, &W)], 2, 3, true),
+    (5, &[(0, 0, &W)], 1, 2, false),
 ];
 
 #[test]
 fn outlets_lie_on_rims_and_around_voids(rt: HostRuntime) -> Result<(), Fail> {
-    for (row, (side, tiles, y, x, leaves)) in OUTLETS.iter().enumerate() {
+    for row in OUTLETS.iter() {
+        let (side, tiles, y, x, leaves) = row;
         let mosaic = mosaic(rt.alloc(), *side, tiles)?;
-        let is_right = is_outlet(&mosaic, at(*y, *x)) == *leaves;
-        assert_row(&rt, is_right, "the outlet of row", row as u64);
+        assert_found(&rt, row, &is_outlet(&mosaic, at(*y, *x)), leaves);
     }
     Ok(())
 }
@@ -86,6 +88,14 @@ fn tiles_are_in_order(rt: HostRuntime) -> Result<(), Fail> {
     let two = mosaic(rt.alloc(), 3, &[(0, 0, &A), (-1, -1, &A)])?;
     assert!(rt; two.tiles().len() == 2);
     assert!(rt; two.tiles()[0].corner() == Corner { lat: -1, lon: -1 });
+    Ok(())
+}
+
+#[test]
+fn points_of_two_samples_disagree(rt: HostRuntime) -> Result<(), Fail> {
+    let two = mosaic(rt.alloc(), 3, &[(0, 0, &G), (0, 1, &H)])?;
+    assert!(rt; disagrees(&two, at(1, 2)));
+    assert!(rt; !disagrees(&two, at(0, 2)));
     Ok(())
 }
 

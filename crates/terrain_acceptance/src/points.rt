@@ -1,4 +1,5 @@
-use crate::asserting::assert_row;
+//! Corners, sides, points, steps and refusals, by rows worked by hand.
+use crate::asserting::{assert_found, assert_row};
 use lattice::{
     Corner, DIRECTIONS, Dir, Point, Refusal, Side, Step, holders, index_in, point_at, sinks_in,
     steeper, steps,
@@ -18,9 +19,9 @@ const CORNERS: [(i16, i16, bool); 6] = [
 
 #[test]
 fn corners_lie_on_the_globe(rt: HostRuntime) {
-    for (row, (lat, lon, lies)) in CORNERS.iter().enumerate() {
-        let is_right = Corner::new(*lat, *lon).is_some() == *lies;
-        assert_row(&rt, is_right, "corner of row", row as u64);
+    for row in CORNERS.iter() {
+        let (lat, lon, lies) = row;
+        assert_found(&rt, row, &Corner::new(*lat, *lon).is_some(), lies);
     }
 }
 
@@ -31,13 +32,14 @@ const SIZES: [(u32, u32); 2] = [(1201, 2_884_802), (3601, 25_934_402)];
 fn sides_measure_tiles(rt: HostRuntime) {
     assert!(rt; Side::new(2).is_none());
     assert!(rt; Side::new(3602).is_none());
-    for (samples, bytes) in SIZES.iter() {
+    for row in SIZES.iter() {
+        let (samples, bytes) = row;
         let side = Side::new(*samples).expect(&rt, "a side");
         let is_right = side.samples() == *samples
             && side.edge() + 1 == *samples
             && side.area() * 2 == *bytes
             && side.file_bytes() == *bytes;
-        assert_row(&rt, is_right, "a side of samples", u64::from(*samples));
+        assert_row(&rt, row, is_right);
     }
 }
 
@@ -63,14 +65,10 @@ const HELD: [(i32, i32, usize, Option<Corner>); 14] = [
 #[test]
 fn points_are_held_by_these_corners(rt: HostRuntime) {
     let side = Side::new(3).expect(&rt, "a side");
-    for (row, (y, x, place, corner)) in HELD.iter().enumerate() {
+    for row in HELD.iter() {
+        let (y, x, place, corner) = row;
         let held = holders(side, Point { y: *y, x: *x });
-        assert_row(
-            &rt,
-            held.get(*place).copied() == *corner,
-            "corner of row",
-            row as u64,
-        );
+        assert_found(&rt, row, &held.get(*place).copied(), corner);
     }
 }
 
@@ -88,9 +86,10 @@ const INDICES: [(i32, i32, Option<u32>); 7] = [
 #[test]
 fn rows_run_from_the_north(rt: HostRuntime) {
     let side = Side::new(3).expect(&rt, "a side");
-    for (row, (y, x, index)) in INDICES.iter().enumerate() {
+    for row in INDICES.iter() {
+        let (y, x, index) = row;
         let found = index_in(side, ORIGIN, Point { y: *y, x: *x });
-        assert_row(&rt, found == *index, "index of row", row as u64);
+        assert_found(&rt, row, &found, index);
     }
     assert!(rt; point_at(side, ORIGIN, 2) == Point { y: 2, x: 2 });
 }
@@ -131,7 +130,7 @@ fn steps_go_clockwise_from_east(rt: HostRuntime) {
     assert!(rt; around.len() == 8);
     for (place, (y, x, code)) in STEPS.iter().enumerate() {
         let is_right = leads(around.get(place), *y, *x, *code);
-        assert_row(&rt, is_right, "the step of code", u64::from(*code));
+        assert_row(&rt, &(y, x, code), is_right);
     }
 }
 
@@ -146,7 +145,7 @@ fn has_code(direction: Option<&Dir>, code: u8) -> bool {
 fn directions_are_in_the_order_of_their_steps(rt: HostRuntime) {
     for (place, (_, _, code)) in STEPS.iter().enumerate() {
         let is_right = has_code(DIRECTIONS.get(place), *code);
-        assert_row(&rt, is_right, "the direction of code", u64::from(*code));
+        assert_row(&rt, code, is_right);
     }
 }
 
@@ -203,8 +202,9 @@ const REFUSALS: [(Refusal, u8, &str); 28] = [
 // The number and the word by which replies name each.
 #[test]
 fn refusals_have_these_numbers_and_words(rt: HostRuntime) {
-    for (refusal, number, word) in REFUSALS.iter() {
-        let is_right = refusal.number() == *number && refusal.word() == *word;
-        assert_row(&rt, is_right, "number", u64::from(*number));
+    for row in REFUSALS.iter() {
+        let (refusal, number, word) = row;
+        assert_found(&rt, row, &refusal.number(), number);
+        assert_found(&rt, row, &refusal.word(), word);
     }
 }

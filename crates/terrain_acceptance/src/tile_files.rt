@@ -1,20 +1,19 @@
 //! Samples as bytes, sides, and the names of tiles and files.
-use crate::asserting::{assert_named, assert_row};
+use crate::asserting::assert_found;
 use hgt::*;
-use lattice::{Corner, Refusal, Side};
+use lattice::{Corner, Refusal, Side, VOID};
 use std::test::Fail;
+use test_tiles::A;
 
-const VALLEY: [i16; 9] = [9, 9, 9, 9, 1, 9, 9, 9, 5];
-
-const VALLEY_BYTES: [u8; 18] = [0, 9, 0, 9, 0, 9, 0, 9, 0, 1, 0, 9, 0, 9, 0, 9, 0, 5];
+const PIT: [i16; 9] = [9, 9, 9, 9, 1, 9, 9, 9, 5];
 
 #[test]
 fn reads_and_writes_samples(rt: HostRuntime) -> Result<(), Fail> {
     let side = Side::new(3).ok_or("no side")?;
-    let read = samples(rt.alloc(), &VALLEY_BYTES, side)?;
-    assert!(rt; read.as_slice() == VALLEY.as_slice());
-    let written = bytes_of(rt.alloc(), &VALLEY)?;
-    assert!(rt; written.as_slice() == VALLEY_BYTES.as_slice());
+    let read = samples(rt.alloc(), &A, side)?;
+    assert!(rt; read.as_slice() == PIT.as_slice());
+    let written = bytes_of(rt.alloc(), &PIT)?;
+    assert!(rt; written.as_slice() == A.as_slice());
     Ok(())
 }
 
@@ -30,8 +29,8 @@ const BAD_LENGTHS: [&[u8]; 4] = [
 fn refuses_other_lengths(rt: HostRuntime) {
     let side = Side::new(3).expect(&rt, "3 is a side");
     for bytes in BAD_LENGTHS.iter() {
-        let is_refused = samples(rt.alloc(), bytes, side).err() == Some(Refusal::BadLength);
-        assert_row(&rt, is_refused, "bytes", bytes.len() as u64);
+        let refused = samples(rt.alloc(), bytes, side).err();
+        assert_found(&rt, bytes, &refused, &Some(Refusal::BadLength));
     }
 }
 
@@ -39,12 +38,12 @@ fn refuses_other_lengths(rt: HostRuntime) {
 #[test]
 fn answers_without_memory(rt: HostRuntime) {
     let side = Side::new(3).expect(&rt, "3 is a side");
-    match samples(rt.alloc(), &VALLEY_BYTES, side) {
-        Ok(read) => assert!(rt; read.as_slice() == VALLEY.as_slice()),
+    match samples(rt.alloc(), &A, side) {
+        Ok(read) => assert!(rt; read.as_slice() == PIT.as_slice()),
         Err(refusal) => assert!(rt; refusal == Refusal::NoMemory),
     }
-    match bytes_of(rt.alloc(), &VALLEY) {
-        Ok(written) => assert!(rt; written.as_slice() == VALLEY_BYTES.as_slice()),
+    match bytes_of(rt.alloc(), &PIT) {
+        Ok(written) => assert!(rt; written.as_slice() == A.as_slice()),
         Err(refused) => assert!(rt; Refusal::from(refused) == Refusal::NoMemory),
     }
 }
@@ -52,17 +51,17 @@ fn answers_without_memory(rt: HostRuntime) {
 #[test]
 fn knows_voids_and_signs(rt: HostRuntime) {
     let bytes = [0x80, 0x00, 0xff, 0xff, 0x00, 0x09];
-    assert_row(&rt, sample(&bytes, 0) == i16::MIN, "sample", 0);
-    assert_row(&rt, sample(&bytes, 1) == -1, "sample", 1);
-    assert_row(&rt, sample(&bytes, 2) == 9, "sample", 2);
+    assert_found(&rt, &"void", &sample(&bytes, 0), &VOID);
+    assert_found(&rt, &"below the sea", &sample(&bytes, 1), &-1);
+    assert_found(&rt, &"above it", &sample(&bytes, 2), &9);
     let mut written = [0; 6];
-    put_sample(&mut written, 0, i16::MIN);
+    put_sample(&mut written, 0, VOID);
     put_sample(&mut written, 1, -1);
     put_sample(&mut written, 2, 9);
     assert!(rt; written == bytes);
     let mut read = [0; 3];
     read_samples(&bytes, &mut read);
-    assert!(rt; read == [i16::MIN, -1, 9]);
+    assert!(rt; read == [VOID, -1, 9]);
     let mut again = [0; 6];
     write_samples(&read, &mut again);
     assert!(rt; again == bytes);
@@ -80,7 +79,7 @@ const SIDES: [(u32, bool); 6] = [
 #[test]
 fn takes_sides(rt: HostRuntime) {
     for (side, is_side) in SIDES.iter() {
-        assert_row(&rt, side_ok(*side) == *is_side, "side", u64::from(*side));
+        assert_found(&rt, side, &side_ok(*side), is_side);
     }
 }
 
@@ -107,15 +106,15 @@ fn reads_names(rt: HostRuntime) {
             lat: *lat,
             lon: *lon,
         };
-        assert_named(&rt, name_of(name.as_bytes()) == Ok(corner), name);
+        assert_found(&rt, name, &name_of(name.as_bytes()), &Ok(corner));
     }
 }
 
 #[test]
 fn refuses_other_names(rt: HostRuntime) {
     for name in BAD_NAMES.iter() {
-        let is_refused = name_of(name.as_bytes()) == Err(Refusal::BadName);
-        assert_named(&rt, is_refused, name);
+        let found = name_of(name.as_bytes());
+        assert_found(&rt, name, &found, &Err(Refusal::BadName));
     }
 }
 
@@ -141,15 +140,15 @@ const BAD_PATHS: [&str; 8] = [
 fn reads_file_names(rt: HostRuntime) {
     let corner = Corner { lat: 37, lon: -105 };
     for path in PATHS.iter() {
-        assert_named(&rt, file_name(path.as_bytes()) == Ok(corner), path);
+        assert_found(&rt, path, &file_name(path.as_bytes()), &Ok(corner));
     }
 }
 
 #[test]
 fn refuses_other_file_names(rt: HostRuntime) {
     for path in BAD_PATHS.iter() {
-        let is_refused = file_name(path.as_bytes()) == Err(Refusal::BadName);
-        assert_named(&rt, is_refused, path);
+        let found = file_name(path.as_bytes());
+        assert_found(&rt, path, &found, &Err(Refusal::BadName));
     }
 }
 
@@ -168,6 +167,6 @@ fn prints_names(rt: HostRuntime) {
             lat: *lat,
             lon: *lon,
         };
-        assert_named(&rt, name_text(corner).as_str() == *name, name);
+        assert_found(&rt, &corner, &name_text(corner).as_str(), name);
     }
 }
