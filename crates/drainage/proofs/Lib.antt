@@ -31,3 +31,4 @@ mod EditedBox
 pub mod Learnt
 mod SparedLevels
 mod HeightSet
+mod FewTiles

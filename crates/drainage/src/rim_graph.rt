@@ -30,9 +30,6 @@ impl RimGraph {
     {
         let side = samples.side();
         let corners = samples.present_corners()?;
-        let Some(_) = node_at(side, corners.len(), 0) else {
-            return Err(Refusal::NoMemory);
-        };
         let mut loaded = Vec::new(alloc);
         for _ in 0..corners.len() {
             push(&mut loaded, None)?;

@@ -1,6 +1,8 @@
-use Rattle.std.proofs.Common.{◌≡◌, ◌+◌, [], ◌∷◌, length, sym, ◌∙◌, ap, length-append, rules}
+use Rattle.std.proofs.Common.{◌≡◌, ◌+◌, ◌-◌, ◌*◌, ◌^◌, ◌<◌, ℕ, [], ◌∷◌, length, List, sym, ◌∙◌, ap, subst, length-append, rules}
 use Rattle.std.specs.Prelude.{None}
+use Rattle.lattice.specs.Corners.{Corner}
 use Rattle.drainage.proofs.Caching.{none_held}
+use Rattle.drainage.proofs.FewTiles.{numbered}
 use Rattle.drainage.proofs.LoadingTiles.{none_told}
 use Rattle.drainage.proofs.rim_graph.RimGraph.new.Goals as goal
 
@@ -14,10 +16,14 @@ pub returns-clause-ready : goal.returns-clause-ready
 returns-clause-ready g c honest =
     let laws = g.met.S.Samples in
     let s = c.args.samples.now in
+    let m = g.S.Samples.mosaic s in
+    let side = c.side-side.ensures ∙ sym (laws.same_side s honest) in
+    let all = c.in_ok-corners.ensures.corners ∙ sym (laws.same_corners s honest) in
     let many : length c.loop.loaded.items ≡ length c.in_ok-corners.corners.items = (let whole = c.loop.invariant.whole in let last = c.loop-test.false in let size = c.len-end.ensures in search rules) in
     record {
-      same_side = c.side-side.ensures ∙ sym (laws.same_side s honest);
-      all = c.in_ok-corners.ensures.corners ∙ sym (laws.same_corners s honest);
-      room = (let some = c.in-Some.ensures.some in let size = c.len.ensures in search rules);
-      tiles = none_told (g.S.Samples.mosaic s) c.side-side.result c.in_ok-corners.corners.items c.loop.loaded.items many c.loop.invariant.none;
+      same_side = side;
+      all = all;
+      room = subst (λ n. 1 + length c.in_ok-corners.corners.items * (4 * (n - 1)) < 2 ^ 32) (sym side)
+          (subst (λ (cs : List Corner). 1 + length cs * (4 * (m.side - 1)) < 2 ^ 32) (sym all) (numbered m (laws.is_mosaic s honest)));
+      tiles = none_told m c.side-side.result c.in_ok-corners.corners.items c.loop.loaded.items many c.loop.invariant.none;
     }
