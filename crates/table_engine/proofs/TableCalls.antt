@@ -34,7 +34,7 @@ use Rattle.engine.specs.Steps.{Commits, Steps, stepped}
 use Rattle.engine.specs.Told.{Matches, Knows, WritesFew, may_refuse, may_refuse_question}
 use Rattle.engine.proofs.Applying.{plan_refused}
 use Rattle.edits.specs.Touched.{stale_after}
-use Rattle.table_engine.specs.TableState.{DrainageCache, held_of, contents_of, stale_among, table}
+use Rattle.table_engine.specs.TableState.{TableState, held_of, contents_of, stale_among, table}
 use Rattle.table_engine.proofs.FreshTiles.{one_less}
 
 few_writes : (side : ℕ) (c : Command) → WritesFew 2 side (ask.Do c) 0 0
@@ -49,7 +49,7 @@ few_writes side (Unsink p) = omega arith
 nothing_within : (c : Corner) → Contains [] c → ⊥
 nothing_within c (k, below, here) = omega (arith, below)
 
-module _ (held : DrainageCache) where
+module _ (held : TableState) where
   abbrev now : State
   now = working held.contents
 
@@ -181,7 +181,7 @@ module _ (held : DrainageCache) where
         may_be_memory (Unsink p) = refl
 
 module _ (m : Mosaic) (capacity : ℕ) (fresh : List Corner) (k g : ℕ) where
-  abbrev pub old : DrainageCache
+  abbrev pub old : TableState
   old = held_of capacity m fresh k g
 
   -- a command that is done
@@ -238,9 +238,9 @@ module _ (m : Mosaic) (capacity : ℕ) (fresh : List Corner) (k g : ℕ) where
       }
 
   -- a call of a table that holds this
-  module _ (held : DrainageCache) (view : old ≡ held) (event : Event) (answer : Reply) where
-    pub called : (next : DrainageCache) → IsCall table old event answer next → IsCall table held event answer next
-    called next call = subst (λ (h : DrainageCache). IsCall table h event answer next) view call
+  module _ (held : TableState) (view : old ≡ held) (event : Event) (answer : Reply) where
+    pub called : (next : TableState) → IsCall table old event answer next → IsCall table held event answer next
+    called next call = subst (λ (h : TableState). IsCall table h event answer next) view call
 
     -- .. and then holds an equal mosaic
     pub called_same : (new : Mosaic) → new ≡ m → IsCall table old event answer old → IsCall table held event answer (held_of capacity new fresh k g)

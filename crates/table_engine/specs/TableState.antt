@@ -7,10 +7,10 @@ use Rattle.catalogue.specs.Tiles.{corners_of, is_listed}
 use Rattle.engine.specs.Engines.{Members}
 use Rattle.engine.specs.State.{Contents, working}
 use Rattle.drainage.specs.Between.{IsHeldOf}
-use Rattle.drainage.specs.declared.drainage_cache.DrainageCache as water
+use Rattle.drainage.specs.declared.drainage_cache.DrainageCache.{DrainageCache}
 
 -- how many tiles it takes, and what it holds
-pub record DrainageCache : Type 0 where
+pub record TableState : Type 0 where
   pub capacity : ℕ
   pub contents : Contents
 
@@ -22,11 +22,11 @@ stale_among corners fresh = filter (λ p. not (is_listed p fresh)) corners
 abbrev pub contents_of : Mosaic → List Corner → ℕ → ℕ → Contents
 contents_of m fresh k g = record { version = 2; mosaic = m; count = k; number = g; stale = stale_among (corners_of m) fresh }
 
-abbrev pub held_of : ℕ → Mosaic → List Corner → ℕ → ℕ → DrainageCache
+abbrev pub held_of : ℕ → Mosaic → List Corner → ℕ → ℕ → TableState
 held_of capacity m fresh k g = record { capacity = capacity; contents = contents_of m fresh k g }
 
 -- It has no disk: it never fails, and a stop leaves nothing.
-abbrev pub table : Members DrainageCache
+abbrev pub table : Members TableState
 table = record {
   is_honest = (λ _. ⊤);
   is_at = (λ held s. s ≡ working held.contents);
@@ -42,7 +42,7 @@ table = record {
 
 -- a mosaic of no more tiles than it takes, of which directions can be found, with what was found of its water; commits come
 -- to one more than commands
-pub record IsKept (capacity : ℕ) (m : Mosaic) (found : water.DrainageCache) (k g : ℕ) : Type 0 where
+pub record IsKept (capacity : ℕ) (m : Mosaic) (found : DrainageCache) (k g : ℕ) : Type 0 where
   pub valid : IsMosaic m
   pub above : k < g
   pub within : length m.tiles ≤ capacity

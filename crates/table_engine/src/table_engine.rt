@@ -7,7 +7,7 @@ ghost use Rattle.engine.specs.State.{fresh};
 ghost use Rattle.table_engine.specs.TableState.{stale_among};
 
 use catalogue::{Samples, Table, height};
-use drainage::invalidate_edit;
+use drainage::{DrainageCache, invalidate_edit};
 use edits::{Command, Edit, carry_out, commands_make_mosaics, edit_of, leaves_stale};
 use engine::Engine;
 use lattice::{Corner, Height, MOST_TILES, Point, Refusal, Side, push};
@@ -26,13 +26,13 @@ pub struct TableEngine {
     number: u64,
     fresh: Vec<Corner>,
     // What questions found of the mosaic's water.
-    held: drainage::DrainageCache,
+    held: DrainageCache,
 }
 
 impl Model for TableEngine {
-    ghost use Rattle.table_engine.specs.TableState.{DrainageCache, held_of, IsKept};
+    ghost use Rattle.table_engine.specs.TableState.{TableState, held_of, IsKept};
 
-    ghost Value = { DrainageCache };
+    ghost Value = { TableState };
 
     ghost view = { λ e. held_of e.capacity e.table e.fresh.items e.count e.number };
 
@@ -53,7 +53,7 @@ impl TableEngine {
             count: 0,
             number: 1,
             fresh: Vec::new(alloc),
-            held: drainage::DrainageCache::new(),
+            held: DrainageCache::new(),
         }
     }
 }
