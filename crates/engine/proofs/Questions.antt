@@ -8,6 +8,7 @@ use Rattle.lattice.specs.declared.point.Point.{Point}
 use Rattle.lattice.specs.declared.refusal.Refusal.{Refusal}
 use Rattle.lattice.specs.declared.refusal.Refusal.TheVariants.{Device, Failed}
 use Rattle.catalogue.specs.Reading.{HasRisen}
+use Rattle.edits.specs.declared.command.Command.{Command}
 use Rattle.watershed.specs.declared.runs.Run.{Run}
 use Rattle.engine.specs.Engines.{answered, items_in}
 use Rattle.engine.specs.Events.{SaysFailed, fails_after, Happens}
@@ -61,12 +62,12 @@ blames_disk : (event : Event) (b : Bool) → fails_after b event (reply.Refused 
 blames_disk ask.Reopen b = refl
 blames_disk event b = refl
 
-passes_on : (event : Event) → asks event ≡ true → (b : Bool) (r : Refusal) → r ≢ Device → fails_after b event (reply.Refused r) ≡ b
-passes_on ask.Reopen asked b r other = absurd (true≢false (sym asked))
-passes_on event asked b Device other = absurd (other refl)
-passes_on event asked b r other = refl
+passes_on : (event : Event) → event ≢ ask.Reopen → (b : Bool) (r : Refusal) → r ≢ Device → fails_after b event (reply.Refused r) ≡ b
+passes_on ask.Reopen opens b r other = absurd (opens refl)
+passes_on event opens b Device other = absurd (other refl)
+passes_on event opens b r other = refl
 
-knows_refused : (before after : Known) (event : Event) (r : Refusal) → after ≡ before → Knows before event (reply.Refused r) after
+pub knows_refused : (before after : Known) (event : Event) (r : Refusal) → after ≡ before → Knows before event (reply.Refused r) after
 knows_refused before after ask.Count r same = same
 knows_refused before after event r same = same
 
@@ -82,7 +83,7 @@ module _ {T : Type 0} (event : Event) (tell : T → Reply) (Answers : State → 
     says = says_failed event is.asks_it;
     goes_on = is.goes_on;
     blames = blames_disk event;
-    passes = passes_on event is.asks_it;
+    passes = passes_on event (λ opens. true≢false (sym is.asks_it ∙ ap asks opens));
     no_refusal = is.no_refusal;
   }
 
@@ -152,6 +153,14 @@ module _ {T : Type 0} (event : Event) (tell : T → Reply) where
   pub written_so : IsAnswered event tell → (version side before now : ℕ) (result : Result T Refusal) → WritesFew version side event before now → IfErr result (λ r. r ≢ Device → now ≡ before)
       → IsWritten version side event (answered tell result) before now
   written_so is version side before now result few none = record { few = few; refused = unwritten_as is result none }
+
+-- ---- commands and steps
+
+pub command_answered : (c : Command) → IsAnswered (ask.Do c) reply.Done
+command_answered c = record { matches = λ k. tt; says = refl; goes_on = λ b k. refl; blames = λ b. refl; passes = passes_on (ask.Do c) (λ e. cc); no_refusal = λ k r e. cc }
+
+pub step_answered : IsAnswered ask.Step reply.Stepped
+step_answered = record { matches = λ tile. tt; says = refl; goes_on = λ b tile. refl; blames = λ b. refl; passes = passes_on ask.Step (λ e. cc); no_refusal = λ tile r e. cc }
 
 -- ---- the questions
 

@@ -20,7 +20,7 @@ use Rattle.cow_tree.specs.Layout.{Stands}
 use Rattle.cow_tree.specs.Stored.{Stored, next_commit}
 use Rattle.cow_tree.specs.Trees.{disk_of, root_of, has_failed, sinks_of, staged_in, IsAt as IsTreeAt}
 use Rattle.cow_tree.specs.declared.tree.Tree.{Tree}
-use Rattle.store.specs.Applied.{IsApplied, command_ending}
+use Rattle.store.specs.Ended.{IsApplied, command_ending}
 use Rattle.derived.specs.Uncommitted.{CommitsNothing}
 use Rattle.store.specs.Staging.{IsStaged}
 use Rattle.store.specs.Standing.{Holds}
@@ -166,13 +166,11 @@ module _ {D : Type 0} (g : Ghosts D) (old mid new : Tree D g) (command : Command
       → IsApplied g command (Ok count) old new
   commits_it works version side capacity new_count new_number seen now clean declared =
       ended.commits_it g (command_ending (root_of old).capacity command) old new staged.working made target (size ∙ staged.uncommitted.size) all_later all_honest run_through holds count works
-      (side ∙ ap (λ (r : RootValue). r.side) staged.uncommitted.root) (capacity ∙ ap (λ (r : RootValue). r.capacity) staged.uncommitted.root)
-      (record {
-        version = version ∙ ap (λ (r : RootValue). r.version) staged.uncommitted.root;
-        accepted = counted ∙ ap (λ (r : RootValue). r.count + 1) staged.uncommitted.root;
-        count = new_count;
-        number = new_number ∙ ap (λ (r : RootValue). r.number + 1) staged.uncommitted.root;
-      })
+      (side ∙ ap (λ (r : RootValue). r.side) staged.uncommitted.root) (capacity ∙ ap (λ (r : RootValue). r.capacity) staged.uncommitted.root) (
+        counted ∙ ap (λ (r : RootValue). r.count + 1) staged.uncommitted.root,
+        ended.known_as (root_of old) (root_of new) count ((root_of old).number + 1) (version ∙ ap (λ (r : RootValue). r.version) staged.uncommitted.root) new_count
+            (new_number ∙ ap (λ (r : RootValue). r.number + 1) staged.uncommitted.root),
+      )
       refl seen
       (λ h s at. subst (λ (k : ℕ). IsTreeAt g new (next_commit (at.sound staged.working).stored (sinks_of mid) (staged_in g mid) k)) (counted_at s at) (now h (at.sound staged.working).stored (mid_at (honest h) s at)))
       (λ h s at. clean h (at.sound staged.working).stored (mid_at (honest h) s at)) declared

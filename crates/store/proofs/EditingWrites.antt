@@ -7,6 +7,7 @@ use Rattle.lattice.specs.declared.point.Point.{Point}
 use Rattle.lattice.specs.declared.refusal.Refusal.{Refusal}
 use Rattle.page_codec.specs.declared.version.Version.{Version}
 use Rattle.page_codec.specs.declared.version.Version.TheVariants.{One, Two}
+use Rattle.page_codec.specs.Formats.{number_of}
 use Rattle.page_codec.specs.Sizes.{most_writes}
 use Rattle.edits.specs.declared.command.Command.{Command}
 use Rattle.edits.specs.declared.command.Command.TheVariants.{Import, Remove, Patch, Burn, Wall, Sink, Unsink}
@@ -14,9 +15,11 @@ use Rattle.edits.specs.declared.edit.Edit.{Edit}
 use Rattle.edits.specs.declared.edit.Edit.TheVariants as edit
 use Rattle.edits.specs.declared.edit.NewHeight.{NewHeight}
 use Rattle.edits.specs.Edits.{IsEditOf, points_of}
+use Rattle.engine.specs.Told.{WritesFew, writes_a_point}
+use Rattle.engine.specs.declared.event.Event.TheVariants as ask
 use Rattle.cow_tree.specs.Trees.{disk_of, root_of, has_begun, records_due}
 use Rattle.cow_tree.specs.declared.tree.Tree.{Tree}
-use Rattle.store.specs.Editing.{StagesFew, StagesPages, WritesFew, index_pages_due}
+use Rattle.store.specs.Editing.{StagesFew, StagesPages, index_pages_due}
 
 -- one page more, which may begin a commit
 pub page_written : (begun : Bool) (before now : ℕ) → now ≤ before + (if begun then 1 else 2) → now ≤ before + (if begun then 0 else 1) + 1
@@ -70,22 +73,42 @@ sink_written g old mid new (Err r) none disk due commits unwritten = let same = 
 as_many : (heights : List NewHeight) (points : List Point) → points_of heights ≡ points → length heights ≡ length points
 as_many heights points same = sym (length-map heights (λ h. h.point)) ∙ ap length same
 
+-- so much of a command's points, as is known of each call
+by_points : (version : Version) (q before now : ℕ) → now ≤ before + most_writes version q → now ≤ before + (writes_a_point (number_of version) * q + 3)
+by_points One q before now few = few
+by_points Two q before now few = few
+
 -- so much is written where staging was refused, and where it wasn't
-pub staged_written : {D T : Type 0} (g : Ghosts D) (version : Version) (command : Command) (made : Edit) → IsEditOf command made → (old mid new : Tree D g) (staged : Result T Refusal) → (root_of old).version ≡ version → records_due old ≡ 0
-    → StagesFew g made old mid staged → OnOk staged (g.writes (disk_of new) ≤ g.writes (disk_of mid) + records_due mid + (if has_begun mid then 2 else 3))
-    → OnErr staged (g.writes (disk_of new) ≡ g.writes (disk_of mid)) → WritesFew version command (g.writes (disk_of old)) (g.writes (disk_of new))
-staged_written g version (Import c bytes) made form old mid new staged is none few commits unwritten = tt
-staged_written g version (Remove c) made form old mid new staged is none few commits unwritten = tt
-staged_written g version (Patch from to h) made form old mid new staged is none few commits unwritten = tt
-staged_written g version (Burn depth points) (edit.Heights heights) form old mid new staged is none few commits unwritten =
-    subst (λ (q : ℕ). g.writes (disk_of new) ≤ g.writes (disk_of old) + most_writes version q) (as_many heights.items points.items form)
-    (heights_written g version (length heights.items) old mid new staged is none few commits unwritten)
-staged_written g version (Wall h points) (edit.Heights heights) form old mid new staged is none few commits unwritten =
-    subst (λ (q : ℕ). g.writes (disk_of new) ≤ g.writes (disk_of old) + most_writes version q) (as_many heights.items points.items form)
-    (heights_written g version (length heights.items) old mid new staged is none few commits unwritten)
-staged_written g version (Sink p) (edit.Sink q) form old mid new staged is none few commits unwritten = sink_written g old mid new staged none few.0 few.2 commits unwritten
-staged_written g version (Unsink p) (edit.Unsink q) form old mid new staged is none few commits unwritten = sink_written g old mid new staged none few.0 few.2 commits unwritten
-staged_written g version (Burn depth points) _ form old mid new staged is none few commits unwritten = absurd form
-staged_written g version (Wall h points) _ form old mid new staged is none few commits unwritten = absurd form
-staged_written g version (Sink p) _ form old mid new staged is none few commits unwritten = absurd form
-staged_written g version (Unsink p) _ form old mid new staged is none few commits unwritten = absurd form
+module _ {D T : Type 0} (g : Ghosts D) (version : Version) (side : ℕ) (old mid new : Tree D g) (staged : Result T Refusal) (is : (root_of old).version ≡ version) (none : records_due old ≡ 0)
+    (commits : OnOk staged (g.writes (disk_of new) ≤ g.writes (disk_of mid) + records_due mid + (if has_begun mid then 2 else 3)))
+    (unwritten : OnErr staged (g.writes (disk_of new) ≡ g.writes (disk_of mid))) where
+  for_points : (heights : List NewHeight) (points : List Point) → points_of heights ≡ points → StagesPages g (4 * length heights) (4 * length heights) old mid staged
+      → g.writes (disk_of new) ≤ g.writes (disk_of old) + (writes_a_point (number_of version) * length points + 3)
+  for_points heights points form few =
+      by_points version (length points) (g.writes (disk_of old)) (g.writes (disk_of new))
+      (subst (λ (q : ℕ). g.writes (disk_of new) ≤ g.writes (disk_of old) + most_writes version q) (as_many heights points form)
+      (heights_written g version (length heights) old mid new staged is none few commits unwritten))
+
+  pub staged_written : (command : Command) (made : Edit) → IsEditOf command made → StagesFew g made old mid staged
+      → WritesFew (number_of version) side (ask.Do command) (g.writes (disk_of old)) (g.writes (disk_of new))
+  staged_written (Import c bytes) made form few = tt
+  staged_written (Remove c) made form few = tt
+  staged_written (Patch from to h) made form few = tt
+  staged_written (Burn depth points) (edit.Heights heights) form few = for_points heights.items points.items form few
+  staged_written (Wall h points) (edit.Heights heights) form few = for_points heights.items points.items form few
+  staged_written (Sink p) (edit.Sink q) form few = sink_written g old mid new staged none few.0 few.2 commits unwritten
+  staged_written (Unsink p) (edit.Unsink q) form few = sink_written g old mid new staged none few.0 few.2 commits unwritten
+  staged_written (Burn depth points) _ form few = absurd form
+  staged_written (Wall h points) _ form few = absurd form
+  staged_written (Sink p) _ form few = absurd form
+  staged_written (Unsink p) _ form few = absurd form
+
+-- what writes nothing writes few
+pub none_written : (version side : ℕ) (command : Command) (before now : ℕ) → now ≡ before → WritesFew version side (ask.Do command) before now
+none_written version side (Import c bytes) before now same = tt
+none_written version side (Remove c) before now same = tt
+none_written version side (Patch from to h) before now same = tt
+none_written version side (Burn depth points) before now same = omega (arith, same)
+none_written version side (Wall h points) before now same = omega (arith, same)
+none_written version side (Sink p) before now same = omega (arith, same)
+none_written version side (Unsink p) before now same = omega (arith, same)

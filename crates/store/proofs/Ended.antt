@@ -7,7 +7,9 @@ use Rattle.disk.specs.Stops.{LeavesOnly, weaker}
 use Rattle.disk.specs.declared.disk.Disk.{Ghosts}
 use Rattle.lattice.specs.declared.refusal.Refusal.{Refusal}
 use Rattle.lattice.specs.declared.refusal.Refusal.TheVariants.{Device, Failed}
+use Rattle.page_codec.specs.Formats.{number_of}
 use Rattle.page_codec.specs.Roots.{RootValue}
+use Rattle.page_codec.specs.declared.version.Version.{Version}
 use Rattle.engine.specs.State.{Contents, State, last_number, if_numbered, failing, working}
 use Rattle.engine.specs.Steps.{Commits}
 use Rattle.cow_tree.specs.Layout.{Stands}
@@ -19,11 +21,20 @@ use Rattle.store.specs.Ended.{LeavesOr, Ending, HasEnded}
 use Rattle.derived.specs.Uncommitted.{CommitsNothing}
 use Rattle.store.specs.Standing.{Holds, StandsFor}
 use Rattle.store.specs.States.{StandsForState, IsStateOf}
+use Rattle.store.specs.StoreState.{known_by}
 use Rattle.store.specs.TreeStates.{IsInState}
 use Rattle.store.proofs.EditingSteps.{in_memory, refusal_is}
 use Rattle.store.proofs.InMemory.{is_working}
 use Rattle.store.proofs.Opened.{in_state}
 use Rattle.store.proofs.States.{at_failure}
+
+-- what is known by a root of the same version
+pub known_as : (was root : RootValue) (count number : ℕ) → root.version ≡ was.version → root.count ≡ count → root.number ≡ number
+    → known_by root ≡ record (known_by was) { count = count; number = number }
+known_as was root count number version counted numbered =
+    ap (λ (v : Version). record { version = number_of v; count = root.count; number = root.number }) version
+    ∙ ap (λ (k : ℕ). record { version = number_of was.version; count = k; number = root.number }) counted
+    ∙ ap (λ (n : ℕ). record { version = number_of was.version; count = count; number = n }) numbered
 
 -- an answer that is no fault
 abbrev pub IsNoFault : {T : Type 0} → Result T Refusal → Type 0

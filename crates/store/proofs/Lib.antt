@@ -33,7 +33,7 @@ pub mod States
 pub mod SteppedTiles
 pub mod SteppedTrees
 pub mod StagingSteps
-pub mod StoreLemmas
+pub mod StoreCalls
 pub mod Underway
 pub mod UpgradedTrees
 pub mod VoidPages

@@ -1,5 +1,5 @@
 -- What a query leaves, by the tree before and after its reads.
-use Rattle.std.proofs.Common.{◌≡◌, ◌≢◌, Bool, true, false, List, length, map, refl, sym, ap, ap₂, ◌∙◌, subst, true≢false}
+use Rattle.std.proofs.Common.{◌≡◌, ◌≢◌, ℕ, Bool, true, false, List, length, map, refl, sym, ap, ap₂, ◌∙◌, subst, true≢false}
 use Rattle.std.specs.Prelude.{None, Result, Ok, Err, IsErrOf, IfOk, IfErr, OnOk, OnErr}
 use Rattle.disk.specs.Disk.{Image, HasRisen}
 use Rattle.disk.specs.declared.disk.Disk.{Ghosts}
@@ -8,8 +8,10 @@ use Rattle.lattice.specs.declared.point.Point.{Point}
 use Rattle.lattice.specs.declared.refusal.Refusal.{Refusal}
 use Rattle.lattice.specs.declared.refusal.Refusal.TheVariants.{Device, Failed}
 use Rattle.page_codec.specs.Roots.{RootValue}
+use Rattle.catalogue.specs.Reading.{MayRefuse}
 use Rattle.engine.specs.Outcomes.{Stays, StaysFailed, Fails}
 use Rattle.engine.specs.State.{State, failing}
+use Rattle.cow_tree.proofs.ReadOnly.{never_refused}
 use Rattle.cow_tree.specs.Reading.{mosaic_of, IsReadable, HasOnlyRead}
 use Rattle.cow_tree.specs.Stored.{StoredTile, Stored, AreWhole, mosaic_of_tiles}
 use Rattle.page_map.specs.PageMaps.{PageMapValue, HasFreshHeights}
@@ -22,6 +24,7 @@ use Rattle.store.specs.Queried.{IsQueried}
 use Rattle.derived.specs.Clean.{IsClean}
 use Rattle.store.specs.TreeStates.{IsInState}
 use Rattle.store.specs.Water.{IsHolding}
+use Rattle.store.proofs.EditingSteps.{refusal_is}
 use Rattle.store.proofs.HeldTiles.{AreTilesOf, whole_filled}
 use Rattle.store.proofs.Holding.{held}
 use Rattle.store.proofs.InMemory.{is_working}
@@ -64,6 +67,10 @@ module _ {D : Type 0} (g : Ghosts D) (tree : Tree D g) (fails : has_failed tree 
 
 -- ---- reads
 
+-- where a read of the disk was refused, its count of failures has risen
+pub risen_for : {T : Type 0} (result : Result T Refusal) (before now : ℕ) → IfErr result (MayRefuse before now) → IsErrOf result Device → HasRisen before now
+risen_for {T} result before now reads is = subst (λ (r : Result T Refusal). IfErr r (MayRefuse before now)) is reads
+
 pub true_where : (b : Bool) → ¬ (b ≡ false) → b ≡ true
 true_where true none = refl
 true_where false none = absurd (none refl)
@@ -84,6 +91,12 @@ module _ {D : Type 0} (g : Ghosts D) (old new : Tree D g) (works : has_failed ol
     failed = λ fails. absurd (true≢false (sym fails ∙ works));
     nothing = keeps.nothing;
   }
+
+  -- .. which only the disk refuses
+  pub queried_by_disk : {T : Type 0} (result : Result T Refusal) → (IsErrOf result Device → HasRisen (g.failures (disk_of old)) (g.failures (disk_of new))) → OnOk result (has_failed new ≡ false)
+      → OnErr result (¬ (has_failed new ≡ false)) → IfErr result (λ r. r ≡ Device) → IsQueried g old new result
+  queried_by_disk (Ok x) risen still fails only = queried (Ok x) risen still (λ is. absurd (never_refused x Device is)) tt
+  queried_by_disk (Err r) risen still fails only = queried (Err r) risen tt (λ _. fails) (λ other. absurd (other only))
 
   -- nothing is staged still
   pub still_clean : (has_failed old ≡ false → IsClean old) → has_failed new ≡ false → IsClean new
@@ -140,3 +153,19 @@ module _ {D : Type 0} (g : Ghosts D) (old new : Tree D g) (works : has_failed ol
         subst (λ (why : Refusal). Answers s (Err why) (failing s None)) (sym device) refused,
       ),
     )
+
+-- what was queried, and then refused for another reason than the disk
+pub refused_after : {D T U : Type 0} (g : Ghosts D) (old new : Tree D g) (x : T) → IsQueried g old new (Ok x) → (r : Refusal) → r ≢ Device → r ≢ Failed → IsQueried {T = U} g old new (Err r)
+refused_after g old new x is r no_device no_failure = record {
+  size = is.size;
+  writes = is.writes;
+  root = is.root;
+  later = is.later;
+  device = λ e. absurd (no_device (refusal_is r e));
+  works = tt;
+  fails = λ e. absurd (no_device (refusal_is r e));
+  quiet = λ _ other. (no_failure, is.works);
+  failed = λ had. absurd (never_refused x Failed (is.failed had).0);
+  still_failed = is.still_failed;
+  nothing = is.nothing;
+}

@@ -73,12 +73,12 @@ module _ {D : Type 0} (g : Ghosts D) (old new : Store D g) where
   pub reopened : (result : Result (Unit {0}) Refusal) → g.size (disk_of new) ≡ g.size (disk_of old) → g.writes (disk_of new) ≡ g.writes (disk_of old) → g.failures (disk_of old) ≤ g.failures (disk_of new)
       → IfErr result IsRefusalOfTree → (IsErrOf result Device → HasRisen (g.failures (disk_of old)) (g.failures (disk_of new))) → (g.honest (disk_of new) → AddsNothing g (disk_of old) (disk_of new))
       → OnOk result (has_failed new ≡ false) → OnErr result (has_failed new ≡ true) → OnErr result (root_of new ≡ root_of old)
-      → (g.honest (disk_of new) → (s : State) → IsAt g old s → side_of new ≡ side_of old) → (g.honest (disk_of new) → (s : State) → IsAt g old s → capacity_of new ≡ capacity_of old)
+      → (g.honest (disk_of new) → (s : State) → IsAt g old s → (side_of new ≡ side_of old) × (capacity_of new ≡ capacity_of old))
       → (g.honest (disk_of new) → (s : State) → IsAt g old s → OnOk result (IsAt g new (working s.contents) ⊎ ((doubted : Contents) × (s.doubt ≡ Some doubted) × IsAt g new (working doubted))))
       → (g.honest (disk_of new) → (s : State) → IsAt g old s → IfErr result (λ r. IsAt g new (record s { failed = true })))
       → (g.honest (disk_of new) → (s : State) → IsAt g old s → IfErr result (λ r. (r ≡ Device) ⊎ (r ≡ NoMemory))) → IsCall (members g) old ask.Reopen (Opened result) new
   unfolding reopens
-  reopened result size writes later refused device nothing works failed last_known side capacity at stays sure = record {
+  reopened result size writes later refused device nothing works failed last_known takes at stays sure = record {
     side = λ other. ap (λ (root : RootValue). root.side) (same_root result last_known other);
     capacity = λ other. ap (λ (root : RootValue). root.capacity) (same_root result last_known other);
     sectors = size;
@@ -87,7 +87,7 @@ module _ {D : Type 0} (g : Ghosts D) (old new : Store D g) where
     writes = record { few = writes; refused = λ r is other. writes };
     known = known_then result last_known;
     honest = λ h. (nothing h).honest;
-    takes = λ h s was. (side h s was.at, capacity h s was.at);
+    takes = λ h s was. takes h s was.at;
     happens = λ h s was.
         let step = reopens result s (at h s was.at) (stays h s was.at) (sure h s was.at) in
         let t : State = step.0 in (
@@ -97,8 +97,8 @@ module _ {D : Type 0} (g : Ghosts D) (old new : Store D g) where
             step.1.1,
             record {
               size = size;
-              side = side h s was.at;
-              capacity = capacity h s was.at;
+              side = (takes h s was.at).0;
+              capacity = (takes h s was.at).1;
               run = weaker g (disk_of old) (disk_of new) (g.may (disk_of old)) (StandsForOne (g.size (disk_of old)) (side_of old) (capacity_of old) (s ∷ t ∷ [])) (allowed old s (t ∷ []) was) (nothing h).run;
             },
           ),

@@ -1,6 +1,7 @@
 -- A step of a store, by that of its tree.
-use Rattle.std.proofs.Common.{◌≡◌, ◌≢◌, ◌⊎◌, inl, inr, ⊎_elim, ℕ, ◌<◌, Bool, true, false, List, refl, sym, ap₂, ◌∙◌, subst}
-use Rattle.std.specs.Prelude.{Option, Some, None, Result, Ok, Err, IfErr, IsTrue, Contains}
+use Rattle.std.proofs.Common.{◌≡◌, ◌≢◌, ◌⊎◌, inl, inr, ⊎_elim, ℕ, ◌<◌, Bool, true, false, List, refl, sym, ap, ap₂, ◌∙◌, subst}
+use Rattle.std.specs.Prelude.{◌+◌, Option, Some, None, Result, Ok, Err, IfErr, IsTrue, Contains}
+use Rattle.std.proofs.lemmas.Result.{IfOk-weaker}
 use Rattle.disk.specs.Disk.{Image}
 use Rattle.disk.specs.Stops.{LeavesOnly, weaker}
 use Rattle.disk.specs.declared.disk.Disk.{Ghosts}
@@ -9,20 +10,24 @@ use Rattle.lattice.specs.declared.refusal.Refusal.{Refusal}
 use Rattle.lattice.specs.declared.refusal.Refusal.TheVariants.{Device, NoMemory, Failed, Worn}
 use Rattle.page_codec.specs.Roots.{RootValue}
 use Rattle.engine.specs.State.{Contents, State, last_number, failing, working}
-use Rattle.engine.specs.Steps.{Steps, stepped, step_in_doubt}
-use Rattle.engine.specs.Told.{may_refuse_step}
+use Rattle.engine.specs.Engines.{answered}
+use Rattle.engine.specs.Events.{Happens}
+use Rattle.engine.specs.Steps.{stepped, step_in_doubt}
+use Rattle.engine.specs.Told.{Knows, may_refuse_step}
+use Rattle.engine.specs.declared.event.Event.TheVariants as ask
+use Rattle.engine.specs.declared.event.Reply.TheVariants as reply
 use Rattle.cow_tree.specs.Layout.{Stands}
 use Rattle.cow_tree.specs.Stored.{Stored}
 use Rattle.cow_tree.specs.Trees.{disk_of, root_of, has_failed, sinks_of, staged_in, IsAt as IsTreeAt}
 use Rattle.cow_tree.specs.declared.tree.Tree.{Tree}
 use Rattle.derived.specs.Clean.{IsSettled}
 use Rattle.derived.specs.Kept.{KeepsRight, stale_corners}
-use Rattle.derived.specs.Steps.{StandsStepped, Stays, MaySteps, Makes, HasStepped}
+use Rattle.derived.specs.Steps.{StandsStepped, Stays, MaySteps, Makes, StepsOn, HasStepped}
 use Rattle.derived.proofs.RootStored.{sinks_at}
-use Rattle.store.specs.Ended.{LeavesOr}
+use Rattle.store.specs.Ended.{LeavesOr, IsStepped, step_ending}
 use Rattle.store.specs.Standing.{Holds, StandsFor}
 use Rattle.store.specs.States.{StandsForState, IsStateOf}
-use Rattle.store.specs.Stepped.{IsStepped, step_ending}
+use Rattle.store.specs.StoreState.{known_by}
 use Rattle.store.specs.TreeStates.{IsInState}
 use Rattle.store.proofs.EditingReads.{device_or_not}
 use Rattle.store.proofs.Ended as ended
@@ -33,13 +38,18 @@ use Rattle.store.proofs.SteppedTiles.{stored_right, stepped_holds}
 
 -- a store that had failed
 pub had_failed : {D : Type 0} (g : Ghosts D) (tree : Tree D g) → has_failed tree ≡ true → IsStepped g (Err Failed) tree tree
-had_failed g tree fails = ended.had_failed g step_ending tree fails refl (λ s at failed. record { failed = failed; same = refl })
+had_failed g tree fails = ended.had_failed g (step_ending (root_of tree).capacity) tree fails refl (λ s at failed. record { failed = failed; same = refl })
 
 -- which refusals it may have
 may_refuse_it : (r : Refusal) → (r ≡ Device) ⊎ ((r ≡ NoMemory) ⊎ (r ≡ Worn)) → IsTrue (may_refuse_step r)
 may_refuse_it r (inl device) = subst (λ (x : Refusal). IsTrue (may_refuse_step x)) (sym device) refl
 may_refuse_it r (inr (inl memory)) = subst (λ (x : Refusal). IsTrue (may_refuse_step x)) (sym memory) refl
 may_refuse_it r (inr (inr worn)) = subst (λ (x : Refusal). IsTrue (may_refuse_step x)) (sym worn) refl
+
+-- what is known then
+known_then : (old new : RootValue) (tile : Option Corner) → StepsOn old tile new → Knows (known_by old) ask.Step (reply.Stepped tile) (known_by new)
+known_then old new None is = ap known_by is
+known_then old new (Some c) is = ended.known_as old new old.count (old.number + 1) is.0 is.1 is.2
 
 had_not_failed : (r : Refusal) → (r ≡ NoMemory) ⊎ (r ≡ Worn) → r ≢ Failed
 had_not_failed r (inl memory) failed = let e : NoMemory ≡ Failed = sym memory ∙ failed in cc
@@ -83,10 +93,13 @@ module _ {D : Type 0} (g : Ghosts D) (seen : (disk : D) → g.honest disk → g.
     is_same : working s.contents ≡ s
     is_same = ap₂ (λ (f : Bool) (d : Option Contents). record { contents = s.contents; failed = f; doubt = d }) (sym (is_working g old works s at)) (sym (at.sound works).no_doubt)
 
-    abbrev Outcome : Result (Option Corner) Refusal → Type 0
-    Outcome result = (t : State) × (IsInState g new t × Steps s result t × (s.failed ≡ false → LeavesOnly g (disk_of old) (disk_of new) (LeavesOr g old s t)))
+    abbrev Answers : Result (Option Corner) Refusal → State → Type 0
+    Answers result t = Happens (root_of old).capacity s ask.Step (answered reply.Stepped result) t
 
-    stays_so : g.honest (disk_of new) → (result : Result (Option Corner) Refusal) → Stays g old new stored → Steps s result s → Outcome result
+    abbrev Outcome : Result (Option Corner) Refusal → Type 0
+    Outcome result = (t : State) × (IsInState g new t × Answers result t × (s.failed ≡ false → LeavesOnly g (disk_of old) (disk_of new) (LeavesOr g old s t)))
+
+    stays_so : g.honest (disk_of new) → (result : Result (Option Corner) Refusal) → Stays g old new stored → Answers result s → Outcome result
     stays_so honest result stays steps = (
       s,
       (
@@ -165,7 +178,7 @@ module _ {D : Type 0} (g : Ghosts D) (seen : (disk : D) → g.honest disk → g.
     fails = λ refused. (is.device refused).1;
     causes = causes result is.quiet;
     quiet = λ _. quiet result is.quiet;
-    known = is.known;
+    known = IfOk-weaker result _ _ (known_then (root_of old) (root_of new)) is.known;
     last_known = is.last_known;
     unwritten = unwritten result is.quiet;
     idle = is.idle;
@@ -187,3 +200,15 @@ module _ {D : Type 0} (g : Ghosts D) (seen : (disk : D) → g.honest disk → g.
       unwritten : (answer : Result (Option Corner) Refusal) → Quiet answer → IfErr answer (λ r. r ≢ Device → g.writes (disk_of new) ≡ g.writes (disk_of old))
       unwritten (Ok tile) says = tt
       unwritten (Err r) says = λ other. (says other).1.1
+
+-- a step of a tree, whether it had failed or not
+pub stepped_by : {D : Type 0} (g : Ghosts D) → ((disk : D) → g.honest disk → g.may disk (g.seen disk)) → (old new : Tree D g) (result : Result (Option Corner) Refusal)
+    → (has_failed old ≡ true → (result ≡ Err Failed) × (new ≡ old)) → (has_failed old ≡ false → HasStepped g old new result) → IsStepped g result old new
+stepped_by g seen old new result failed stepped = by (has_failed old) refl
+  where
+    by : (b : Bool) → has_failed old ≡ b → IsStepped g result old new
+    by true fails =
+        let same = failed fails in
+        subst (λ (t : Tree _ g). IsStepped g result old t) (sym same.1)
+        (subst (λ (answer : Result (Option Corner) Refusal). IsStepped g answer old old) (sym same.0) (had_failed g old fails))
+    by false works = by_tree g seen old new works result (stepped works)

@@ -8,16 +8,14 @@ use Rattle.lattice.specs.declared.refusal.Refusal.{Refusal}
 use Rattle.lattice.specs.declared.refusal.Refusal.TheVariants.{Device, NoMemory, Failed, Worn, TooSmall, NotOld}
 use Rattle.edits.specs.declared.command.Command.{Command}
 use Rattle.edits.specs.Effect.{effect}
-use Rattle.engine.specs.Outcomes.{Applies, AppliesNot}
+use Rattle.engine.specs.Outcomes.{AppliesNot}
 use Rattle.engine.specs.State.{Contents, State, working}
-use Rattle.engine.specs.Steps.{Steps, StepsNot, Upgrades, UpgradesNot}
+use Rattle.engine.specs.Steps.{StepsNot, Upgrades, UpgradesNot}
 use Rattle.cow_tree.specs.Trees.{disk_of, root_of}
 use Rattle.cow_tree.specs.declared.tree.Tree.{Tree}
 use Rattle.drainage.specs.Between.{IsHeldOf}
 use Rattle.drainage.specs.declared.drainage_cache.DrainageCache.{DrainageCache}
-use Rattle.store.specs.Applied.{IsApplied, command_ending}
-use Rattle.store.specs.Ended.{Ending, EndsAt, HasEnded}
-use Rattle.store.specs.Stepped.{IsStepped, step_ending}
+use Rattle.store.specs.Ended.{Ending, EndsAt, HasEnded, IsApplied, IsStepped, command_ending, step_ending}
 use Rattle.store.specs.TreeStates.{IsInState}
 use Rattle.store.specs.Upgraded.{IsUpgraded, upgrade_ending}
 use Rattle.store.specs.Water.{IsHolding}
@@ -44,7 +42,7 @@ refused capacity s c NoMemory t is = ap (λ (z : State). z.contents.mosaic) is.s
 refused capacity s c Worn t is = ap (λ (z : State). z.contents.mosaic) is.stays.same
 refused capacity s c r t is = ap (λ (z : State). z.contents.mosaic) is.stays.same
 
-left_right : (capacity : ℕ) (s t : State) (c : Command) (result : Result ℕ Refusal) (held : DrainageCache) → IsLeftBy capacity s.contents.mosaic c result held → Applies capacity s c result t → IsHeldOf t.contents.mosaic held
+left_right : (capacity : ℕ) (s t : State) (c : Command) (result : Result ℕ Refusal) (held : DrainageCache) → IsLeftBy capacity s.contents.mosaic c result held → (command_ending capacity c).Happens s result t → IsHeldOf t.contents.mosaic held
 left_right capacity s t c (Ok k) held left is = subst (λ (z : State). IsHeldOf z.contents.mosaic held) (sym is.effect_is.1.1) (left.1 is.effect_is.0 is.effect_is.1.0)
 left_right capacity s t c (Err r) held left is = subst (λ (m : Mosaic). IsHeldOf m held) (sym (refused capacity s c r t is)) left.0
 
@@ -58,10 +56,10 @@ steps_not s NoMemory t is = ap (λ (z : State). z.contents.mosaic) is.same
 steps_not s Worn t is = ap (λ (z : State). z.contents.mosaic) is.0.stays.same
 steps_not s r t is = absurd is
 
-steps : (s t : State) (result : Result (Option Corner) Refusal) → Steps s result t → t.contents.mosaic ≡ s.contents.mosaic
-steps s t (Ok None) is = ap (λ (z : State). z.contents.mosaic) is.0.same
-steps s t (Ok (Some c)) is = ap (λ (z : State). z.contents.mosaic) is.1.made_is
-steps s t (Err r) is = steps_not s r t is
+steps : (capacity : ℕ) (s t : State) (result : Result (Option Corner) Refusal) → (step_ending capacity).Happens s result t → t.contents.mosaic ≡ s.contents.mosaic
+steps capacity s t (Ok None) is = ap (λ (z : State). z.contents.mosaic) is.0.same
+steps capacity s t (Ok (Some c)) is = ap (λ (z : State). z.contents.mosaic) is.1.made_is
+steps capacity s t (Err r) is = steps_not s r t is
 
 -- .. and so does an upgrade
 upgrades_not : (room : Bool) (s : State) (r : Refusal) (t : State) → UpgradesNot room s r t → t.contents.mosaic ≡ s.contents.mosaic
@@ -140,8 +138,9 @@ module _ {D : Type 0} (g : Ghosts D) (old new : Tree D g) where
   still_holding ending held result same =
       ended_holding ending held held result (λ honest s t at right happens. subst (λ (m : Mosaic). IsHeldOf m held) (sym (same s t happens)) right)
 
-  pub stepped_holding : (held : DrainageCache) (result : Result (Option Corner) Refusal) → IsStepped g result old new → EndsAt g step_ending result old new (λ s. IsHolding g old held s) (λ t. IsHolding g new held t)
-  stepped_holding held result = still_holding step_ending held result (λ s t. steps s t result)
+  pub stepped_holding : (held : DrainageCache) (result : Result (Option Corner) Refusal) → IsStepped g result old new
+      → EndsAt g (step_ending (root_of old).capacity) result old new (λ s. IsHolding g old held s) (λ t. IsHolding g new held t)
+  stepped_holding held result = still_holding (step_ending (root_of old).capacity) held result (λ s t. steps (root_of old).capacity s t result)
 
   pub upgraded_holding : (held : DrainageCache) (result : Result (Unit {0}) Refusal) → IsUpgraded g result old new
       → EndsAt g (upgrade_ending (g.size (disk_of old)) (root_of old)) result old new (λ s. IsHolding g old held s) (λ t. IsHolding g new held t)

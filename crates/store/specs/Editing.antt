@@ -9,9 +9,6 @@ use Rattle.lattice.specs.Mosaic.{Mosaic}
 use Rattle.lattice.specs.declared.point.Point.{Point}
 use Rattle.lattice.specs.declared.refusal.Refusal.{Refusal}
 use Rattle.lattice.specs.declared.refusal.Refusal.TheVariants.{Device, NoMemory}
-use Rattle.page_codec.specs.Sizes.{most_writes}
-use Rattle.edits.specs.declared.command.Command.{Command}
-use Rattle.edits.specs.declared.command.Command.TheVariants.{Burn, Wall, Sink, Unsink}
 use Rattle.edits.specs.declared.edit.Edit.{Edit}
 use Rattle.edits.specs.declared.edit.Edit.TheVariants as edit
 use Rattle.edits.specs.declared.edit.NewHeight.{NewHeight}
@@ -30,15 +27,6 @@ writes_begun g tree = g.writes (disk_of tree) + (if has_begun tree then 0 else 1
 abbrev pub index_pages_due : Version → ℕ → ℕ
 index_pages_due One pages = 0
 index_pages_due Two pages = pages
-
--- a burn or a wall makes at most four pages and four records a point, by the second version as many index pages, the root,
--- and twice a gate; a sink the last three
-abbrev pub WritesFew : Version → Command → ℕ → ℕ → Type 0
-WritesFew version (Burn depth points) before now = now ≤ before + most_writes version (length points.items)
-WritesFew version (Wall h points) before now = now ≤ before + most_writes version (length points.items)
-WritesFew version (Sink p) before now = now ≤ before + 3
-WritesFew version (Unsink p) before now = now ≤ before + 3
-WritesFew version _ before now = Unit {0}
 
 -- it may have staged pages of tiles that are there, and nothing else
 pub record StagesOnly {D T : Type 0} (g : Ghosts D) (old new : Tree D g) (result : Result T Refusal) : Type 0 where

@@ -1,16 +1,27 @@
 -- How a call that may commit ends, by the store's tree (this product's own profile): a command, a step or an upgrade.
-use Rattle.std.specs.Prelude.{◌≡◌, ◌≢◌, ◌≤◌, ◌⊎◌, Bool, false, true, IsTrue, Result, OnOk, OnErr, IfOk, IfErr, IsErrOf}
+use Rattle.std.specs.Prelude.{◌≡◌, ◌≢◌, ◌≤◌, ◌⊎◌, ℕ, Bool, false, true, IsTrue, Option, Result, OnOk, OnErr, IfOk, IfErr, IsErrOf}
+use Rattle.std.specs.Option.{is_none}
 use Rattle.disk.specs.Disk.{Image, HasRisen}
 use Rattle.disk.specs.Stops.{LeavesOnly}
 use Rattle.disk.specs.declared.disk.Disk.{Ghosts}
+use Rattle.lattice.specs.Corners.{Corner}
 use Rattle.lattice.specs.declared.refusal.Refusal.{Refusal}
 use Rattle.lattice.specs.declared.refusal.Refusal.TheVariants.{Device, Failed}
 use Rattle.page_codec.specs.Roots.{RootValue}
+use Rattle.edits.specs.declared.command.Command.{Command}
+use Rattle.engine.specs.Engines.{answered}
+use Rattle.engine.specs.Events.{Happens}
 use Rattle.engine.specs.State.{Contents, State}
+use Rattle.engine.specs.Told.{Knows, may_refuse}
+use Rattle.engine.specs.declared.event.Event.{Event}
+use Rattle.engine.specs.declared.event.Event.TheVariants as ask
+use Rattle.engine.specs.declared.event.Reply.{Reply}
+use Rattle.engine.specs.declared.event.Reply.TheVariants as reply
 use Rattle.cow_tree.specs.Trees.{disk_of, root_of, has_failed}
 use Rattle.cow_tree.specs.declared.tree.Tree.{Tree}
 use Rattle.store.specs.Standing.{StandsFor}
 use Rattle.store.specs.States.{StandsForState}
+use Rattle.store.specs.StoreState.{known_by}
 use Rattle.store.specs.Stores.{IsAt}
 use Rattle.store.specs.TreeStates.{IsInState}
 use Rattle.store.specs.declared.store.Store.{Store}
@@ -63,3 +74,30 @@ HasEnded g ending result old new = EndsAt g ending result old new (λ s. IsInSta
 -- .. by a store
 abbrev pub HasEndedAt : {D T : Type 0} (g : Ghosts D) → Ending T → Result T Refusal → Store D g → Store D g → Type 0
 HasEndedAt g ending result old new = EndsAt g ending result old.tree new.tree (λ s. IsAt g old s) (λ t. IsAt g new t)
+
+-- ---- the events that may commit
+
+-- how an event ends where at most so many tiles may be present: as is known of each of its calls
+abbrev pub event_ending : {T : Type 0} → ℕ → Event → (T → Reply) → (T → Bool) → Ending T
+event_ending capacity event tell is_idle = record {
+  may_refuse = may_refuse event;
+  is_idle = is_idle;
+  Knows = λ was x root. Knows (known_by was) event (tell x) (known_by root);
+  Happens = λ s result t. Happens capacity s event (answered tell result) t;
+}
+
+-- a command
+abbrev pub command_ending : ℕ → Command → Ending ℕ
+command_ending capacity command = event_ending capacity (ask.Do command) reply.Done (λ count. false)
+
+-- a step, which is idle where it names no tile
+abbrev pub step_ending : ℕ → Ending (Option Corner)
+step_ending capacity = event_ending capacity ask.Step reply.Stepped is_none
+
+-- the command was done, and answered so, by a tree
+abbrev pub IsApplied : {D : Type 0} (g : Ghosts D) → Command → Result ℕ Refusal → Tree D g → Tree D g → Type 0
+IsApplied g command result old new = HasEnded g (command_ending (root_of old).capacity command) result old new
+
+-- the step was made, and answered so, by a tree
+abbrev pub IsStepped : {D : Type 0} (g : Ghosts D) → Result (Option Corner) Refusal → Tree D g → Tree D g → Type 0
+IsStepped g result old new = HasEnded g (step_ending (root_of old).capacity) result old new

@@ -1,4 +1,3 @@
-pub mod Applied
 pub mod Calls
 pub mod Editing
 pub mod Ended
@@ -15,7 +14,6 @@ pub mod Standing
 pub mod States
 pub mod StoreRuns
 pub mod StoreState
-pub mod Stepped
 pub mod Stores
 pub mod TreeStates
 pub mod Underway

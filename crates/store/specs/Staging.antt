@@ -11,7 +11,7 @@ use Rattle.cow_tree.specs.Stored.{Stored, next_commit}
 use Rattle.cow_tree.specs.Trees.{disk_of, root_of, has_failed, sinks_of, staged_in}
 use Rattle.cow_tree.specs.declared.tree.Tree.{Tree}
 use Rattle.derived.specs.Uncommitted.{CommitsNothing}
-use Rattle.store.specs.Applied.{IsApplied}
+use Rattle.store.specs.Ended.{IsApplied}
 use Rattle.store.specs.Standing.{Holds}
 use Rattle.store.specs.TreeStates.{IsInState}
 

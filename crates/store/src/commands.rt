@@ -1,8 +1,9 @@
 //! The commands of a store.
-ghost use Rattle.std.specs.Prelude.{◌≡◌, true, Err};
-ghost use Rattle.lattice.specs.declared.refusal.Refusal.TheVariants.{Failed};
-ghost use Rattle.store.specs.Applied.{HasApplied};
-ghost use Rattle.store.specs.Editing.{WritesFew};
+ghost use Rattle.std.specs.Prelude.{◌≡◌, true, OnErr};
+ghost use Rattle.engine.specs.Engines.{IsCall, answered};
+ghost use Rattle.engine.specs.declared.event.Event.TheVariants as ask;
+ghost use Rattle.engine.specs.declared.event.Reply.TheVariants as reply;
+ghost use Rattle.store.specs.StoreState.{members};
 ghost use Rattle.store.specs.Stores.{disk_of, root_of, has_failed};
 
 use crate::Store;
@@ -16,17 +17,17 @@ use lattice::Refusal;
 
 impl<D: Disk> Store<D> {
     /// Does a command, and answers how many were accepted with it. Refused with Failed, by the command's own tests, with
-    /// Worn where the commit number can't grow, or for the disk or for memory.
+    /// Worn where the commit number can't grow, or for the disk or for memory. A stop at any moment leaves the contents as
+    /// they were, or as the command makes them.
+    ///
+    /// A burn or a wall of q points makes at most 8 q + 3 writes, on any disk, and 12 q + 3 by the second version; a sink that
+    /// comes or goes at most 3.
     pub fn apply(&mut self, command: &Command) -> Result<u64, Refusal>
-        ensures applied { HasApplied D.Disk self.old self.new command.now result }
+        ensures call { IsCall (members D.Disk) self.old (ask.Do command.now) (answered reply.Done result) self.new }
+        ensures last_known { OnErr result (root_of self.new ≡ root_of self.old) }
 
-        // A burn or a wall of q points makes at most 8 q + 3 writes, on any disk, and 12 q + 3 by the second version; a sink that
-        // comes or goes at most 3.
-        ensures writes { WritesFew (root_of self.old).version command.now (D.writes (disk_of self.old)) (D.writes (disk_of self.new)) }
-
-        // A store that failed makes no call of the disk, and stays failed.
-        ensures failed { has_failed self.old ≡ true → (result ≡ Err Failed) × (disk_of self.new ≡ disk_of self.old) }
-        ensures still_failed { has_failed self.old ≡ true → has_failed self.new ≡ true }
+        // A store that failed makes no call of the disk.
+        ensures failed { has_failed self.old ≡ true → disk_of self.new ≡ disk_of self.old }
     {
         if self.tree.has_failed() {
             return Err(Refusal::Failed);

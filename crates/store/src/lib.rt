@@ -3,9 +3,9 @@
 //! The layer above rests on this, where the disk is honest: each call answers what its definition asks of the state that
 //! the store was in, and leaves the state that goes with the answer; a stop at any moment inside a command leaves the
 //! contents as they were or as the command makes them, whole; after an Ok it leaves nothing else. An image stands for at
-//! most one contents. `specs/Standing.antt` says when an image stands for contents, `specs/Kept.antt` when the planes
-//! that it keeps are right, `specs/States.antt` when a store is in a state, and the crate calls has the states and
-//! answers.
+//! most one contents. `specs/Standing.antt` says when an image stands for contents, `specs/States.antt` when a store is in
+//! a state, and `specs/StoreState.antt` what is seen of it as an engine. The crate engine has the states, the answers and
+//! the relation of a call, which each call here ensures.
 //!
 //! ```
 //! Store::format(&mut disk, 3, 4)?;                       // tiles of 3 x 3 samples, at most four

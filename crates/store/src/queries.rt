@@ -1,17 +1,17 @@
 //! The queries of a store: they only read.
-ghost use Rattle.std.specs.Prelude.{◌≡◌, ◌≢◌, ◌≤◌, ◌*◌, ◌⊎◌, Contains, IsTrue, length, false, true, Err, OnOk, IfErr, vec_len, vec_capacity};
+ghost use Rattle.std.specs.Prelude.{◌≡◌, ◌≢◌, ◌≤◌, ◌*◌, length, false, true, Err, OnOk, IfErr, vec_len, vec_capacity};
 ghost use Rattle.lattice.specs.Limits.{most_tiles};
-ghost use Rattle.lattice.specs.declared.refusal.Refusal.TheVariants.{Device, NoMemory, Failed};
+ghost use Rattle.lattice.specs.declared.refusal.Refusal.TheVariants.{NoMemory, Failed};
+ghost use Rattle.engine.specs.Engines.{IsCall, answered};
 ghost use Rattle.engine.specs.State.{State};
-ghost use Rattle.engine.specs.Told.{may_refuse};
 ghost use Rattle.engine.specs.declared.event.Event.TheVariants as ask;
-ghost use Rattle.engine.specs.Outcomes.{Elevates, Exports, Lists, ListsSinks, Fills, Directs, Traces, Sheds};
+ghost use Rattle.engine.specs.declared.event.Reply.TheVariants as reply;
 ghost use Rattle.cow_tree.specs.Reading.{Reads};
 ghost use Rattle.cow_tree.specs.Planes.{HasPages};
 ghost use Rattle.cow_tree.specs.Stored.{PlanePages, StoredTile, plane_bytes};
 ghost use Rattle.cow_tree.specs.Trees.{disk_of as disk_under, root_of as root_under, corners_of, has_failed as have_failed, staged_in, Holds};
-ghost use Rattle.store.specs.Queried.{Queries, IsTileOf, CountsSeams};
-ghost use Rattle.engine.specs.Engines.{items_in};
+ghost use Rattle.store.specs.Queried.{Queries, OnlyReads, IsTileOf, CountsSeams};
+ghost use Rattle.store.specs.StoreState.{members};
 ghost use Rattle.store.specs.Stores.{disk_of, has_failed, IsAt};
 
 use crate::Store;
@@ -26,11 +26,8 @@ use watershed::Run;
 impl<D: Disk> Store<D> {
     /// The height of a point, in metres where it is ground. Refused with Failed or Device.
     pub fn elevation(&mut self, point: Point) -> Result<Height, Refusal>
-        ensures reads { Queries D.Disk self.old self.new result }
-        ensures causes { IfErr result (λ r. IsTrue (may_refuse (ask.Elevation point) r)) }
-        ensures memory { result ≢ Err NoMemory }
-        ensures outcome { D.honest (disk_of self.new) → (s : State) → IsAt D.Disk self.old s
-            → (t : State) × (IsAt D.Disk self.new t × Elevates s point result t) }
+        ensures call { IsCall (members D.Disk) self.old (ask.Elevation point) (answered reply.Elevation result) self.new }
+        ensures reads { OnlyReads D.Disk self.old self.new }
     {
         self.check_working()?;
         catalogue::height(&mut self.tree, point)
@@ -52,10 +49,8 @@ impl<D: Disk> Store<D> {
     /// Refused with Failed, Outside, Void, NoMemory or Device, or with Damaged where what is kept of a tile is seen to be no
     /// labelling of it; the store works on then.
     pub fn fill(&mut self, point: Point) -> Result<i16, Refusal>
-        ensures reads { Queries D.Disk self.old self.new result }
-        ensures causes { IfErr result (λ r. IsTrue (may_refuse (ask.Fill point) r)) }
-        ensures outcome { D.honest (disk_of self.new) → (s : State) → IsAt D.Disk self.old s
-            → (t : State) × (IsAt D.Disk self.new t × Fills s point result t) }
+        ensures call { IsCall (members D.Disk) self.old (ask.Fill point) (answered reply.Fill result) self.new }
+        ensures reads { OnlyReads D.Disk self.old self.new }
     {
         self.check_working()?;
         ask_fill::<D, Brand>(self.alloc, &mut self.tree, &mut self.held, point)
@@ -64,10 +59,8 @@ impl<D: Disk> Store<D> {
     /// The code of the direction in which water leaves a point: east is 1, and each next one clockwise twice as much; 0
     /// where it leaves the mosaic. Refused as `fill` is, Damaged included.
     pub fn direction(&mut self, point: Point) -> Result<u8, Refusal>
-        ensures reads { Queries D.Disk self.old self.new result }
-        ensures causes { IfErr result (λ r. IsTrue (may_refuse (ask.Direction point) r)) }
-        ensures outcome { D.honest (disk_of self.new) → (s : State) → IsAt D.Disk self.old s
-            → (t : State) × (IsAt D.Disk self.new t × Directs s point result t) }
+        ensures call { IsCall (members D.Disk) self.old (ask.Direction point) (answered reply.Direction result) self.new }
+        ensures reads { OnlyReads D.Disk self.old self.new }
     {
         self.check_working()?;
         ask_direction::<D, Brand>(self.alloc, &mut self.tree, &mut self.held, point)
@@ -76,10 +69,8 @@ impl<D: Disk> Store<D> {
     /// The flow path of a point: the point, then the one that its direction leads to, and so on, to one where water leaves
     /// the mosaic. Refused as `fill` is, Damaged included.
     pub fn trace(&mut self, point: Point) -> Result<Vec<Point>, Refusal>
-        ensures reads { Queries D.Disk self.old self.new result }
-        ensures causes { IfErr result (λ r. IsTrue (may_refuse (ask.Trace point) r)) }
-        ensures outcome { D.honest (disk_of self.new) → (s : State) → IsAt D.Disk self.old s
-            → (t : State) × (IsAt D.Disk self.new t × Traces s point (items_in result) t) }
+        ensures call { IsCall (members D.Disk) self.old (ask.Trace point) (answered reply.Trace result) self.new }
+        ensures reads { OnlyReads D.Disk self.old self.new }
     {
         self.check_working()?;
         ask_trace::<D, Brand>(self.alloc, &mut self.tree, &mut self.held, point)
@@ -88,10 +79,8 @@ impl<D: Disk> Store<D> {
     /// The watershed of a point: the ground points whose flow path contains it, as maximal runs, north first, west first.
     /// Refused as `fill` is, Damaged included.
     pub fn watershed(&mut self, point: Point) -> Result<Vec<Run>, Refusal>
-        ensures reads { Queries D.Disk self.old self.new result }
-        ensures causes { IfErr result (λ r. IsTrue (may_refuse (ask.Watershed point) r)) }
-        ensures outcome { D.honest (disk_of self.new) → (s : State) → IsAt D.Disk self.old s
-            → (t : State) × (IsAt D.Disk self.new t × Sheds s point (items_in result) t) }
+        ensures call { IsCall (members D.Disk) self.old (ask.Watershed point) (answered reply.Watershed result) self.new }
+        ensures reads { OnlyReads D.Disk self.old self.new }
     {
         self.check_working()?;
         ask_watershed::<D, Brand>(self.alloc, &mut self.tree, &mut self.held, point)
@@ -100,10 +89,8 @@ impl<D: Disk> Store<D> {
     /// The bytes of the HGT file of a tile's own samples. Refused with Failed, NoTile, NoMemory (before any read) or
     /// Device.
     pub fn export(&mut self, corner: Corner) -> Result<Vec<u8>, Refusal>
-        ensures reads { Queries D.Disk self.old self.new result }
-        ensures causes { IfErr result (λ r. IsTrue (may_refuse (ask.Export corner) r)) }
-        ensures outcome { D.honest (disk_of self.new) → (s : State) → IsAt D.Disk self.old s
-            → (t : State) × (IsAt D.Disk self.new t × Exports s corner (items_in result) t) }
+        ensures call { IsCall (members D.Disk) self.old (ask.Export corner) (answered reply.Export result) self.new }
+        ensures reads { OnlyReads D.Disk self.old self.new }
     {
         self.check_working()?;
         if !self.tree.present(corner) {
@@ -119,11 +106,7 @@ impl<D: Disk> Store<D> {
 
     /// The corners of the present tiles, in order. They are held in memory, so that no disk refuses.
     pub fn tiles(&self) -> Result<Vec<Corner>, Refusal>
-        ensures memory { result ≢ Err Device }
-        ensures causes { IfErr result (λ r. IsTrue (may_refuse ask.Tiles r)) }
-        ensures refused { IfErr result (λ r. (r ≡ NoMemory) ⊎ ((r ≡ Failed) × (has_failed self.now ≡ true))) }
-        ensures failed { has_failed self.now ≡ true → result ≡ Err Failed }
-        ensures outcome { D.honest (disk_of self.now) → (s : State) → IsAt D.Disk self.now s → Lists s (items_in result) s }
+        ensures { IsCall (members D.Disk) self.now ask.Tiles (answered reply.Tiles result) self.now }
     {
         self.check_working()?;
         let mut corners = Vec::new(self.alloc);
@@ -137,11 +120,7 @@ impl<D: Disk> Store<D> {
 
     /// The declared sinks, in the order of points. They are held in memory too.
     pub fn sinks(&self) -> Result<Vec<Point>, Refusal>
-        ensures memory { result ≢ Err Device }
-        ensures causes { IfErr result (λ r. IsTrue (may_refuse ask.Sinks r)) }
-        ensures refused { IfErr result (λ r. (r ≡ NoMemory) ⊎ ((r ≡ Failed) × (has_failed self.now ≡ true))) }
-        ensures failed { has_failed self.now ≡ true → result ≡ Err Failed }
-        ensures outcome { D.honest (disk_of self.now) → (s : State) → IsAt D.Disk self.now s → ListsSinks s (items_in result) s }
+        ensures { IsCall (members D.Disk) self.now ask.Sinks (answered reply.Sinks result) self.now }
     {
         self.check_working()?;
         Ok(Vec::from_slice(self.alloc, self.tree.sinks())?)

@@ -1,5 +1,5 @@
 //! The store.
-ghost use Rattle.std.specs.Prelude.{◌≡◌, ◌≢◌, ◌≤◌, ◌<◌, ◌⊎◌, ◌↔◌, ℕ, true, false, Some, Ok, Err, OnOk, IfOk, IfErr, IsErrOf, Contains};
+ghost use Rattle.std.specs.Prelude.{◌≡◌, ◌≢◌, ◌≤◌, ◌<◌, ◌⊎◌, ◌↔◌, ℕ, false, Ok, Err, OnOk, OnErr, IfOk, IfErr, IsErrOf, Contains};
 ghost use Rattle.disk.specs.Disk.{Image, HasRisen};
 ghost use Rattle.disk.specs.Stops.{AddsNothing};
 ghost use Rattle.lattice.specs.Limits.{largest_side, most_tiles};
@@ -8,9 +8,11 @@ ghost use Rattle.page_codec.specs.Formats.{IsKnown, largest_side_of, number_of};
 ghost use Rattle.page_codec.specs.declared.version.Version.TheVariants.{One};
 ghost use Rattle.page_codec.specs.Sizes.{sectors_asked, sectors_of};
 ghost use Rattle.catalogue.specs.Tiles.{corners_of, is_listed};
+ghost use Rattle.engine.specs.Engines.{IsCall, answered};
 ghost use Rattle.engine.specs.State.{Contents, State, fresh, fresh_1, working};
+ghost use Rattle.engine.specs.declared.event.Event.TheVariants as ask;
+ghost use Rattle.engine.specs.declared.event.Reply.TheVariants as reply;
 ghost use Rattle.cow_tree.specs.Layout.{Stands};
-ghost use Rattle.cow_tree.specs.OverRoots.{IsRefusalOfTree};
 ghost use Rattle.cow_tree.specs.Stored.{no_tiles};
 ghost use Rattle.cow_tree.specs.Trees.{MayRefuse, has_failed as have_failed};
 ghost use Rattle.store.specs.Formatted.{format_2, format_by};
@@ -42,6 +44,7 @@ pub struct Store<D: Disk> {
 
 impl<D: Disk> Store<D> {
     ghost use Rattle.store.specs.Fresh.{KeepsFresh};
+    ghost use Rattle.store.specs.StoreState.{members};
     ghost use Rattle.store.specs.Stores.{disk_of, root_of, side_of, capacity_of, has_failed, disk_after, IsAt};
 
     /// Makes an empty store on a disk, by the second version: of tiles of this side (3 to 3601 samples), with room for so
@@ -115,31 +118,15 @@ impl<D: Disk> Store<D> {
         }
     }
 
-    /// Opens the disk again, as after a fault: all that was held in memory is forgotten. Where it is refused, what was last
-    /// known stays, and the store has failed.
+    /// Opens the disk again, as after a fault: all that was held in memory is forgotten. It comes to the contents that were
+    /// last known, or to those of the commit in doubt. Where it is refused, what was last known stays, and the store has
+    /// failed.
     pub fn reopen(&mut self) -> Result<(), Refusal>
-        ensures size { D.size (disk_of self.new) ≡ D.size (disk_of self.old) }
-        ensures writes { D.writes (disk_of self.new) ≡ D.writes (disk_of self.old) }
-        ensures later { D.failures (disk_of self.old) ≤ D.failures (disk_of self.new) }
-        ensures refusals { IfErr result IsRefusalOfTree }
-        ensures device { IsErrOf result Device → HasRisen (D.failures (disk_of self.old)) (D.failures (disk_of self.new)) }
+        ensures call { IsCall (members D.Disk) self.old ask.Reopen (answered (λ u. reply.Reopened) result) self.new }
+        ensures last_known { OnErr result (root_of self.new ≡ root_of self.old) }
+
+        // Nothing is written, and a stop at any moment leaves nothing new.
         ensures nothing { D.honest (disk_of self.new) → AddsNothing D.Disk (disk_of self.old) (disk_of self.new) }
-        ensures works { OnOk result (has_failed self.new ≡ false) }
-        ensures failed { IfErr result (λ r. has_failed self.new ≡ true) }
-        ensures last_known { IfErr result (λ r. root_of self.new ≡ root_of self.old) }
-
-        // The side and the capacity stay.
-        ensures side { D.honest (disk_of self.new) → (s : State) → IsAt D.Disk self.old s → side_of self.new ≡ side_of self.old }
-        ensures capacity { D.honest (disk_of self.new) → (s : State) → IsAt D.Disk self.old s → capacity_of self.new ≡ capacity_of self.old }
-
-        // It comes to the contents that were last known, or to those of the commit in doubt.
-        ensures at { D.honest (disk_of self.new) → (s : State) → IsAt D.Disk self.old s
-            → OnOk result (IsAt D.Disk self.new (working s.contents)
-            ⊎ ((doubted : Contents) × (s.doubt ≡ Some doubted) × IsAt D.Disk self.new (working doubted))) }
-        ensures stays { D.honest (disk_of self.new) → (s : State) → IsAt D.Disk self.old s
-            → IfErr result (λ r. IsAt D.Disk self.new (record s { failed = true })) }
-        ensures sure { D.honest (disk_of self.new) → (s : State) → IsAt D.Disk self.old s
-            → IfErr result (λ r. (r ≡ Device) ⊎ (r ≡ NoMemory)) }
     {
         self.held.invalidate();
         self.tree.reopen()
@@ -155,8 +142,8 @@ impl<D: Disk> Store<D> {
 
     /// How many commands were accepted since the store was formatted, as last known.
     pub fn count(&self) -> u64
+        ensures call { IsCall (members D.Disk) self.now ask.Count (reply.Count result) self.now }
         ensures value { result ≡ (root_of self.now).count }
-        ensures state { (s : State) → IsAt D.Disk self.now s → result ≡ s.contents.count }
     {
         self.tree.current().count()
     }

@@ -3,7 +3,7 @@ use Rattle.std.specs.Prelude.{Result, Ok, Err, OnOk}
 use Rattle.lattice.specs.declared.refusal.Refusal.{Refusal}
 use Rattle.page_codec.specs.Roots.{RootValue}
 use Rattle.cow_tree.specs.Trees.{root_of}
-use Rattle.store.specs.Applied.{IsApplied}
+use Rattle.store.specs.Ended.{IsApplied}
 use Rattle.store.specs.Staging.{IsStaged}
 use Rattle.store.proofs.Committed.{gives_up, fails_in_commit, commits_it}
 use Rattle.store.proofs.EditingSteps.{given_up, refused_as}

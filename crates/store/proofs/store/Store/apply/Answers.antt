@@ -1,11 +1,15 @@
-use Rattle.std.proofs.Common.{◌≡◌, ⊎_elim, inl, inr, ℕ, ◌<◌, ◌≤◌, ◌+◌, false, true, Bool, if◌then◌else◌, List, All, Contains, map, refl, sym, ap, ap₂, ◌∙◌, subst, arith}
-use Rattle.std.specs.Prelude.{Result, Ok, Err, IfErr, IfOk, IsTrue, OnOk}
+use Rattle.std.proofs.Common.{◌≡◌, ⊎_elim, inl, inr, ℕ, ◌<◌, false, true, List, All, refl, sym, ap, ap₂, ◌∙◌, subst, arith}
+use Rattle.std.specs.Prelude.{Result, Ok, Err, IfErr, IsTrue}
+use Rattle.std.proofs.lemmas.Bool.{both_ways}
 use Rattle.std.proofs.lemmas.Result.{IfErr-weaker}
 use Rattle.lattice.specs.Corners.{Corner, is_corner}
 use Rattle.lattice.specs.Mosaic.{Mosaic, IsMosaic}
 use Rattle.lattice.specs.declared.refusal.Refusal.{Refusal}
 use Rattle.lattice.specs.declared.refusal.Refusal.TheVariants.{Device, Failed, Worn}
+use Rattle.page_codec.specs.Formats.{number_of}
 use Rattle.page_codec.specs.Roots.{RootValue}
+use Rattle.engine.specs.Told.{WritesFew}
+use Rattle.engine.specs.declared.event.Event.TheVariants as ask
 use Rattle.drainage.specs.Between.{IsHeldOf}
 use Rattle.edits.specs.declared.command.Command.{Command}
 use Rattle.edits.specs.declared.command.Command.TheVariants.{Import, Remove, Patch, Burn, Wall, Sink, Unsink}
@@ -21,36 +25,40 @@ use Rattle.cow_tree.specs.Stored.{StoredTile}
 use Rattle.cow_tree.specs.Trees.{disk_of, root_of, has_failed, corners_of, sinks_of, staged_in}
 use Rattle.cow_tree.proofs.ReadOnly.{never_refused}
 use Rattle.cow_tree.proofs.Steps.{on_ok}
-use Rattle.store.specs.Applied.{IsApplied}
-use Rattle.store.specs.Editing.{ComesIn, IsGiven, WritesFew}
+use Rattle.store.specs.Ended.{IsApplied}
+use Rattle.store.specs.Editing.{ComesIn, IsGiven}
 use Rattle.derived.specs.Uncommitted.{CommitsNothing}
 use Rattle.store.specs.Staling.{staled}
 use Rattle.store.specs.Standing.{AreTilesOf}
 use Rattle.store.proofs.Committed.{fails_before, failed_first, quiet, may_end_it}
 use Rattle.store.proofs.EditingReads.{device_or_not, reading, mosaic_is, readable, refused_so, risen_read, works_read, fails_read, quiet_read}
 use Rattle.store.proofs.EditingSteps.{in_memory, uncommitted_on, refused_as}
-use Rattle.store.proofs.EditingWrites.{staged_written}
+use Rattle.store.proofs.EditingWrites.{none_written, staged_written}
 use Rattle.store.proofs.Holding.{held}
 use Rattle.store.proofs.InMemory.{is_working, worn_at}
 use Rattle.store.proofs.Keeping.{staled_held}
 use Rattle.store.proofs.Made.{made_holds}
 use Rattle.store.proofs.Querying.{still_clean, true_where}
 use Rattle.store.proofs.Staged.{none_staged}
+use Rattle.store.proofs.StoreCalls.{commanded}
 use Rattle.store.proofs.Staled.{staled_as}
 use Rattle.store.proofs.WaterHeld.{done_holding, left_by, unchanged_holding}
 use Rattle.store.proofs.store.Store.apply.Goals as goal
 
-pub returns-then-has_failed-clause-applied : goal.returns-then-has_failed-clause-applied
-returns-then-has_failed-clause-applied g c =
-    let tree = c.args.self.now.tree in
+pub returns-then-has_failed-clause-call : goal.returns-then-has_failed-clause-call
+returns-then-has_failed-clause-call g c =
+    let d = g.D.Disk in
+    let store = c.args.self.now in
+    let tree = store.tree in
     let command = c.args.command.now in
-    unchanged_holding g.D.Disk tree tree c.args.self.now.held command (Err Failed) refl
-    (failed_first g.D.Disk tree command (sym c.has_failed.ensures ∙ c.if-has_failed.true))
+    let had : has_failed tree ≡ true = sym c.has_failed.ensures ∙ c.if-has_failed.true in
+    commanded d g.met.D.Disk.only_now store store command (Err Failed) (unchanged_holding d tree tree store.held command (Err Failed) refl (failed_first d tree command had))
+    (none_written (number_of (root_of tree).version) (root_of tree).side command (d.writes (disk_of tree)) (d.writes (disk_of tree)) refl) (λ _. (refl, (refl, had)))
 
 -- ---- a refusal of the command's own tests, or of a read
 
-pub returns-in_err-edit-clause-applied : goal.returns-in_err-edit-clause-applied
-returns-in_err-edit-clause-applied g c =
+pub returns-in_err-edit-clause-call : goal.returns-in_err-edit-clause-call
+returns-in_err-edit-clause-call g c =
     let d = g.D.Disk in
     let old = c.args.self.now.tree in
     let new = c.edit_of.new.samples in
@@ -65,7 +73,8 @@ returns-in_err-edit-clause-applied g c =
     let read : CommitsNothing d old new planned =
     reading d old new keeps planned (risen_read planned _ _ reads.refusal) (λ is. true_where (has_failed new) (fails_read planned _ reads.unready is)) (works_read planned _ (reads.ready works)) in
     let result_is = refused_as c.from_residual.result r c.from_residual.ensures.1 in
-    unchanged_holding d old new c.args.self.now.held command c.from_residual.result result_is
+    commanded d g.met.D.Disk.only_now c.args.self.now _ command c.from_residual.result
+    (unchanged_holding d old new c.args.self.now.held command c.from_residual.result result_is
     (subst (λ (result : Result ℕ Refusal). IsApplied d command result old new) (sym result_is)
     (⊎_elim
     (λ device.
@@ -78,12 +87,13 @@ returns-in_err-edit-clause-applied g c =
     (subst (λ (n : ℕ). IsTrue (is_own command r) → effect n s.contents.mosaic command ≡ Err r) capacity
     (subst (λ (m : Mosaic). IsTrue (is_own command r) → effect c.capacity-capacity.result m command ≡ Err r) (mosaic_is d old new keeps works s at)
     (is.refused (readable d old new keeps works s at honest)))) other))
-    (device_or_not r)))
+    (device_or_not r))))
+    (none_written (number_of (root_of old).version) (root_of old).side command (d.writes (disk_of old)) (d.writes (disk_of new)) keeps.writes) (λ had. absurd (both_ways (has_failed old) works had))
 
 -- ---- the commit number can't grow
 
-pub returns-then-number-clause-applied : goal.returns-then-number-clause-applied
-returns-then-number-clause-applied g c =
+pub returns-then-number-clause-call : goal.returns-then-number-clause-call
+returns-then-number-clause-call g c =
     let d = g.D.Disk in
     let old = c.args.self.now.tree in
     let new = c.edit_of.new.samples in
@@ -95,13 +105,15 @@ returns-then-number-clause-applied g c =
     let now_works : has_failed new ≡ false = is.reads.ready works in
     let capacity : c.capacity-capacity.result ≡ (root_of old).capacity = c.capacity-capacity.ensures.value ∙ ap (λ (x : RootValue). x.capacity) c.current.ensures in
     let planned : Result Edit Refusal = Ok made in
-    unchanged_holding d old new c.args.self.now.held command (Err Worn) refl
+    commanded d g.met.D.Disk.only_now c.args.self.now _ command (Err Worn)
+    (unchanged_holding d old new c.args.self.now.held command (Err Worn) refl
     (quiet d old new command works planned (reading d old new keeps planned (λ refused. never_refused made Device refused) (λ refused. absurd (never_refused made Device refused)) now_works) now_works
     (λ honest s at. (keeps.staged honest, keeps.sinks)) Worn (λ e. cc) (λ e. cc) now_works refl keeps.writes
     (λ honest s at. worn_at d old works s at command (edit_made made s.contents.mosaic)
     (subst (λ (n : ℕ). effect n s.contents.mosaic command ≡ Ok (edit_made made s.contents.mosaic)) capacity
     (subst (λ (m : Mosaic). effect c.capacity-capacity.result m command ≡ Ok (edit_made made m)) (mosaic_is d old new keeps works s at) (is.made (readable d old new keeps works s at honest))))
-    (sym (ap (λ (r : RootValue). r.number) (c.current-2.ensures ∙ keeps.root)) ∙ sym c.number.ensures ∙ c.if-number.true)))
+    (sym (ap (λ (r : RootValue). r.number) (c.current-2.ensures ∙ keeps.root)) ∙ sym c.number.ensures ∙ c.if-number.true))))
+    (none_written (number_of (root_of old).version) (root_of old).side command (d.writes (disk_of old)) (d.writes (disk_of new)) keeps.writes) (λ had. absurd (both_ways (has_failed old) works had))
 
 -- ---- what is staged
 
@@ -136,8 +148,8 @@ comes_stale m (Unsink p) _ corner form comes = absurd form
 same_made : (a b : Mosaic) → ◌≡◌ {A = Result Mosaic Refusal} (Ok a) (Ok b) → a ≡ b
 same_made a b e = cc
 
-pub returns-clause-applied : goal.returns-clause-applied
-returns-clause-applied g c =
+pub returns-clause-call : goal.returns-clause-call
+returns-clause-call g c =
     let d = g.D.Disk in
     let old = c.args.self.now.tree in
     let planned = c.edit_of.new.samples in
@@ -158,7 +170,12 @@ returns-clause-applied g c =
     let gives_up : CommitsNothing d old marked (Ok nothing) =
     uncommitted_on d old planned marked made (Ok nothing) (reading d old planned keeps read (λ refused. never_refused made Device refused) (λ refused. absurd (never_refused made Device refused)) now_works)
     (in_memory d planned marked (Ok nothing) g.met.D.Disk.only_now marks.disk marks.root (marks.failed ∙ now_works) marks.at (λ refused. never_refused nothing Device refused)) in
-    done_holding d old c.commit_staged.new.tree c.args.self.now.held c.invalidate_edit.new.held command result
+    let clean = still_clean d old planned works keeps c.args.self.now.clean now_works in
+    let few =
+    staged_written d (root_of old).version (root_of old).side marked mid c.commit_staged.new.tree c.stage-staged.result (ap (λ (r : RootValue). r.version) (marks.root ∙ keeps.root)) (let due = marks.due in omega (arith, due, clean.none_due))
+    c.commit_staged.ensures.writes c.commit_staged.ensures.unwritten command made is.form stages.few in
+    commanded d g.met.D.Disk.only_now c.args.self.now _ command result
+    (done_holding d old c.commit_staged.new.tree c.args.self.now.held c.invalidate_edit.new.held command result
     (λ honest s at right.
     let sound = at.sound works in
     let m : Mosaic = s.contents.mosaic in
@@ -205,26 +222,9 @@ returns-clause-applied g c =
           on_ok c.stage-staged.result
           (λ so. made_holds d old marked mid works command s at made makes valid side now (λ corner comes. comes_stale m command made corner is.form comes) so)
           (stages.made honest sound.stored m marked_at sound.holds.valid tiles sinks finds);
-    }))
-
-pub returns-clause-writes : goal.returns-clause-writes
-returns-clause-writes g c =
-    let d = g.D.Disk in
-    let old = c.args.self.now.tree in
-    let planned = c.edit_of.new.samples in
-    let marked = c.mark_stale.new.tree in
-    let mid = c.stage-staged.new.tree in
-    let new = c.commit_staged.new.tree in
-    let command = c.args.command.now in
-    let is = c.in_ok-edit.ensures in
-    let keeps = is.reads.keeps in
-    let works : has_failed old ≡ false = sym c.has_failed.ensures ∙ c.if-has_failed.false in
-    let clean = still_clean d old planned works keeps c.args.self.now.clean (is.reads.ready works) in
-    let marks = c.mark_stale.ensures in
-    let writes : d.writes (disk_of marked) ≡ d.writes (disk_of old) = ap d.writes marks.disk ∙ keeps.writes in
-    subst (λ (n : ℕ). WritesFew (root_of old).version command n (d.writes (disk_of new))) writes
-    (staged_written d (root_of old).version command c.in_ok-edit.edit is.form marked mid new c.stage-staged.result (ap (λ (r : RootValue). r.version) (marks.root ∙ keeps.root)) (let due = marks.due in omega (arith, due, clean.none_due))
-    c.stage-staged.ensures.few c.commit_staged.ensures.writes c.commit_staged.ensures.unwritten)
+    })))
+    (subst (λ (n : ℕ). WritesFew (number_of (root_of old).version) (root_of old).side (ask.Do command) n (d.writes (disk_of c.commit_staged.new.tree))) (ap d.writes marks.disk ∙ keeps.writes) few)
+    (λ had. absurd (both_ways (has_failed old) works had))
 
 -- ---- what staging asks
 

@@ -1,4 +1,4 @@
-use Rattle.std.proofs.Common.{Result, ap, ◌∙◌}
+use Rattle.std.proofs.Common.{Result, refl, ap, ◌∙◌}
 use Rattle.std.proofs.lemmas.Result.{IfOk-weaker}
 use Rattle.lattice.specs.Height.{height_of}
 use Rattle.lattice.specs.Mosaic.{Mosaic}
@@ -6,7 +6,11 @@ use Rattle.lattice.specs.declared.height.Height.{Height}
 use Rattle.lattice.specs.declared.refusal.Refusal.{Refusal}
 use Rattle.engine.specs.Outcomes.{Elevates}
 use Rattle.engine.specs.State.{State}
-use Rattle.store.proofs.Querying.{mosaic_at, stays_at, still_clean, still_readable, fails_so, answered}
+use Rattle.engine.specs.declared.event.Event.TheVariants as ask
+use Rattle.engine.proofs.Questions.{elevation_asked}
+use Rattle.store.specs.Queried.{IsQueried}
+use Rattle.store.proofs.Querying.{mosaic_at, stays_at, still_clean, still_readable, fails_so, answered, queried_by_disk, risen_for}
+use Rattle.store.proofs.StoreCalls.{asked, denied, only_device_may}
 use Rattle.store.proofs.store.Store.elevation.Goals as goal
 
 pub invariant_of-self : goal.invariant_of-self
@@ -17,13 +21,22 @@ invariant_of-self g c =
     let keeps = c.height.ensures.reads.keeps in
     record { clean = still_clean d old.tree new c.in_ok-check_working.ensures.works keeps old.clean }
 
-pub returns-clause-outcome : goal.returns-clause-outcome
-returns-clause-outcome g c honest s at =
+pub returns-in_err-check_working-clause-call : goal.returns-in_err-check_working-clause-call
+returns-in_err-check_working-clause-call g c =
+    denied g.D.Disk g.met.D.Disk.only_now c.args.self.now (elevation_asked c.args.point) refl (λ s is. is) c.from_residual.result c.in_err-check_working.field-0.0 c.from_residual.ensures.1 c.in_err-check_working.ensures.failed
+
+pub returns-clause-call : goal.returns-clause-call
+returns-clause-call g c =
     let d = g.D.Disk in
     let old = c.args.self.now.tree in
     let new = c.height.new.samples in
     let works = c.in_ok-check_working.ensures.works in
     let reads = c.height.ensures.reads in
-    let readable = still_readable d old new works reads.keeps honest s at.in_state in
+    let is : IsQueried d old new c.height.result =
+    queried_by_disk d old new works reads.keeps c.height.result (risen_for c.height.result _ _ reads.refusal) (reads.ready works) reads.unready (reads.only_device works) in
+    asked d c.args.self.now _ (elevation_asked c.args.point) c.height.result (only_device_may (ask.Elevation c.args.point) refl c.height.result (reads.only_device works)) is
+    (λ honest s at.
     answered d old new works reads.keeps honest s at.in_state c.args.self.now.held at.right (λ (s : State) (r : Result Height Refusal) (t : State). Elevates s c.args.point r t) c.height.result (reads.ready works) reads.unready (reads.only_device works)
-    (fails_so d old new works reads.keeps honest s at.in_state) (IfOk-weaker c.height.result _ _ (λ h is. (stays_at d old works s at.in_state, is ∙ ap (λ (m : Mosaic). height_of m c.args.point) (mosaic_at d old works s at.in_state))) (c.height.ensures.value readable))
+    (fails_so d old new works reads.keeps honest s at.in_state)
+    (IfOk-weaker c.height.result _ _ (λ h is. (stays_at d old works s at.in_state, is ∙ ap (λ (m : Mosaic). height_of m c.args.point) (mosaic_at d old works s at.in_state)))
+    (c.height.ensures.value (still_readable d old new works reads.keeps honest s at.in_state))))

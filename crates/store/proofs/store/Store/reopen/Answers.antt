@@ -3,11 +3,14 @@ use Rattle.std.specs.Prelude.{Result, Ok, Err, OnErr, IfErr}
 use Rattle.std.proofs.lemmas.Result.{IfErr-weaker}
 use Rattle.lattice.specs.declared.refusal.Refusal.{Refusal}
 use Rattle.page_codec.specs.Roots.{RootValue}
+use Rattle.engine.specs.State.{State}
 use Rattle.cow_tree.specs.Stored.{Stored}
 use Rattle.cow_tree.specs.Trees.{disk_of, root_of, has_failed, sinks_of, staged_in, IsAt as IsTreeAt}
 use Rattle.cow_tree.proofs.Steps.{ok_where_works, either_way, on_ok_both}
+use Rattle.store.specs.Stores.{IsAt}
 use Rattle.store.proofs.Opened.{in_known, sized_as_known}
 use Rattle.store.proofs.Openings.{refused_for}
+use Rattle.store.proofs.Reopening.{reopened}
 use Rattle.store.proofs.States.{stays_failed}
 use Rattle.store.proofs.WaterHeld.{known_holding}
 use Rattle.store.proofs.store.Store.reopen.Goals as goal
@@ -21,63 +24,38 @@ invariant_of-self g c = record {
   };
 }
 
-pub returns-clause-at : goal.returns-clause-at
-returns-clause-at g c honest s at =
-    let d = g.D.Disk in
-    let old = c.args.self.now.tree in
-    let new = c.reopen.new.self in
-    let seen = d.seen old.roots.disk in
-    let was_honest = (c.reopen.ensures.nothing honest).honest in
-    on_ok_both c.reopen.result
-    (λ is declared. known_holding d new c.invalidate.new.self c.invalidate.ensures s (in_known d new is.0 is.1.1.0 is.1.1.1 (g.met.D.Disk.seen_may new.roots.disk honest) old.root.side old.root.capacity declared (d.size old.roots.disk) seen s is.1.0
-    (at.in_state.images seen (g.met.D.Disk.seen_may old.roots.disk was_honest))))
-    (c.reopen.ensures.at honest) c.reopen.ensures.sinks
-
-pub returns-clause-sure : goal.returns-clause-sure
-returns-clause-sure g c honest s at =
-    let d = g.D.Disk in
-    let old = c.args.self.now.tree in
-    let seen = d.seen old.roots.disk in
-    let n = d.size old.roots.disk in
-    let was_honest = (c.reopen.ensures.nothing honest).honest in
-    IfErr-weaker c.reopen.result _ _
-    (λ why refused. ⊎_elim (λ is. refused_for n seen is.0 why is.1 refused) (λ is. refused_for n seen is.2.0 why is.2.1 refused) (at.in_state.images seen (g.met.D.Disk.seen_may old.roots.disk was_honest)))
-    (c.reopen.ensures.refused honest)
-
-pub returns-clause-side : goal.returns-clause-side
-returns-clause-side g c honest s at =
-    let d = g.D.Disk in
-    let old = c.args.self.now.tree in
-    let new = c.reopen.new.self in
-    let seen = d.seen old.roots.disk in
-    let was_honest = (c.reopen.ensures.nothing honest).honest in
-    either_way c.reopen.result (c.reopen.ensures.at honest) c.reopen.ensures.last_known
-    (λ is. (sized_as_known d new is.0 is.1.1.0 is.1.1.1 (g.met.D.Disk.seen_may new.roots.disk honest) old.root.side old.root.capacity (d.size old.roots.disk) seen s is.1.0
-    (at.in_state.images seen (g.met.D.Disk.seen_may old.roots.disk was_honest))).0) (ap (λ (r : RootValue). r.side))
-
-pub returns-clause-capacity : goal.returns-clause-capacity
-returns-clause-capacity g c honest s at =
-    let d = g.D.Disk in
-    let old = c.args.self.now.tree in
-    let new = c.reopen.new.self in
-    let seen = d.seen old.roots.disk in
-    let was_honest = (c.reopen.ensures.nothing honest).honest in
-    either_way c.reopen.result (c.reopen.ensures.at honest) c.reopen.ensures.last_known
-    (λ is. (sized_as_known d new is.0 is.1.1.0 is.1.1.1 (g.met.D.Disk.seen_may new.roots.disk honest) old.root.side old.root.capacity (d.size old.roots.disk) seen s is.1.0
-    (at.in_state.images seen (g.met.D.Disk.seen_may old.roots.disk was_honest))).1) (ap (λ (r : RootValue). r.capacity))
-
 on_err : {T X : Type 0} (result : Result T Refusal) (A B : Type 0) → OnErr result A → OnErr result B → (A → B → X) → IfErr result (λ r. X)
 on_err (Ok x) A B first second both = tt
 on_err (Err r) A B first second both = both first second
 
-pub returns-clause-stays : goal.returns-clause-stays
-returns-clause-stays g c honest s at =
+pub returns-clause-call : goal.returns-clause-call
+returns-clause-call g c =
     let d = g.D.Disk in
-    let old = c.args.self.now.tree in
+    let store = c.args.self.now in
+    let old = store.tree in
     let new = c.reopen.new.self in
-    on_err c.reopen.result (has_failed new ≡ true) (root_of new ≡ root_of old) c.reopen.ensures.failed c.reopen.ensures.last_known
+    let does = c.reopen.ensures in
+    let result = c.reopen.result in
+    let seen = d.seen old.roots.disk in
+    let n = d.size old.roots.disk in
+    let stood = λ (honest : d.honest new.roots.disk) (s : State) (at : IsAt d store s). at.in_state.images seen (g.met.D.Disk.seen_may old.roots.disk (does.nothing honest).honest) in
+    reopened d store _ result does.size does.writes does.later does.refusals does.device does.nothing does.not_failed does.failed does.last_known
+    (λ honest s at.
+    either_way result (does.at honest) does.last_known
+    (λ is. sized_as_known d new is.0 is.1.1.0 is.1.1.1 (g.met.D.Disk.seen_may new.roots.disk honest) old.root.side old.root.capacity n seen s is.1.0 (stood honest s at))
+    (λ same. (ap (λ (r : RootValue). r.side) same, ap (λ (r : RootValue). r.capacity) same)))
+    (λ honest s at.
+    on_ok_both result
+    (λ is declared. known_holding d new c.invalidate.new.self c.invalidate.ensures s (in_known d new is.0 is.1.1.0 is.1.1.1 (g.met.D.Disk.seen_may new.roots.disk honest) old.root.side old.root.capacity declared n seen s is.1.0 (stood honest s at)))
+    (does.at honest) does.sinks)
+    (λ honest s at.
+    on_err result (has_failed new ≡ true) (root_of new ≡ root_of old) does.failed does.last_known
     (λ fails same. record {
-      in_state = stays_failed d (disk_of old) (disk_of new) c.reopen.ensures.size (c.reopen.ensures.nothing honest).run.now (root_of old) (root_of new) same (has_failed old) (has_failed new) (λ (stored : Stored). IsTreeAt d old stored)
+      in_state = stays_failed d (disk_of old) (disk_of new) does.size (does.nothing honest).run.now (root_of old) (root_of new) same (has_failed old) (has_failed new) (λ (stored : Stored). IsTreeAt d old stored)
           (λ (stored : Stored). IsTreeAt d new stored) (staged_in d old) (staged_in d new) (sinks_of old) (sinks_of new) s at.in_state fails;
       right = c.invalidate.ensures s.contents.mosaic;
-    })
+    }))
+    (λ honest s at.
+    IfErr-weaker result _ _
+    (λ why refused. ⊎_elim (λ is. refused_for n seen is.0 why is.1 refused) (λ is. refused_for n seen is.2.0 why is.2.1 refused) (stood honest s at))
+    (does.refused honest))

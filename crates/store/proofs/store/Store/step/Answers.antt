@@ -1,30 +1,49 @@
-use Rattle.std.proofs.Common.{◌≡◌, Bool, true, false, refl, sym, ap, ◌∙◌, subst}
-use Rattle.std.specs.Prelude.{Option, Result}
+use Rattle.std.proofs.Common.{◌≡◌, ◌≤◌, ◌+◌, ◌*◌, if◌then◌else◌, refl, ap, ◌∙◌, subst}
+use Rattle.std.specs.Prelude.{IsTrue, None, Option, Result, Ok, IfOk, nat_eq}
+use Rattle.std.specs.Option.{is_none}
 use Rattle.lattice.specs.Corners.{Corner}
 use Rattle.lattice.specs.declared.refusal.Refusal.{Refusal}
-use Rattle.cow_tree.specs.Trees.{disk_of, has_failed}
+use Rattle.page_codec.specs.Formats.{number_of}
+use Rattle.page_codec.specs.Sizes.{index_pages_by, pages_of}
+use Rattle.page_codec.specs.declared.version.Version.{Version}
+use Rattle.page_codec.specs.declared.version.Version.TheVariants.{One, Two}
+use Rattle.engine.specs.declared.event.Event.TheVariants as ask
+use Rattle.engine.specs.declared.event.Reply.TheVariants as reply
+use Rattle.engine.proofs.Questions.{step_answered}
+use Rattle.cow_tree.specs.Trees.{disk_of, root_of, has_failed}
 use Rattle.cow_tree.specs.declared.tree.Tree.{Tree}
-use Rattle.store.specs.Stepped.{IsStepped}
-use Rattle.store.proofs.SteppedTrees.{had_failed, by_tree}
+use Rattle.store.proofs.StoreCalls.{ended}
+use Rattle.store.proofs.SteppedTrees.{stepped_by}
 use Rattle.store.proofs.WaterHeld.{stepped_holding}
 use Rattle.store.proofs.store.Store.step.Goals as goal
 
-pub returns-clause-stepped : goal.returns-clause-stepped
-returns-clause-stepped g c =
+by_number : (v : Version) → v ≡ (if nat_eq (number_of v) 1 then One else Two)
+by_number One = refl
+by_number Two = refl
+
+pub returns-clause-call : goal.returns-clause-call
+returns-clause-call g c =
     let d = g.D.Disk in
     let old = c.args.self.now.tree in
     let new = c.step.new.tree in
-    stepped_holding d old new c.args.self.now.held c.step.result (by (has_failed old) refl)
-  where
-    by : (b : Bool) → has_failed c.args.self.now.tree ≡ b → IsStepped g.D.Disk c.step.result c.args.self.now.tree c.step.new.tree
-    by true fails =
-        let same = c.step.ensures.failed fails in
-        subst (λ (t : Tree _ g.D.Disk). IsStepped g.D.Disk c.step.result c.args.self.now.tree t) (sym same.1)
-        (subst (λ (answer : Result (Option Corner) Refusal). IsStepped g.D.Disk answer c.args.self.now.tree c.args.self.now.tree) (sym same.0) (had_failed g.D.Disk c.args.self.now.tree fails))
-    by false works = by_tree g.D.Disk g.met.D.Disk.seen_may c.args.self.now.tree c.step.new.tree works c.step.result (c.step.ensures.stepped works)
+    let failed = c.step.ensures.failed in
+    ended d g.met.D.Disk.only_now c.args.self.now _ ask.Step reply.Stepped step_answered is_none c.step.result
+    (stepped_holding d old new c.args.self.now.held c.step.result (stepped_by d g.met.D.Disk.seen_may old new c.step.result failed c.step.ensures.stepped))
+    (subst (λ (v : Version). d.writes (disk_of new) ≤ d.writes (disk_of old) + (2 * (1 + index_pages_by v (pages_of (root_of old).side) + pages_of (root_of old).side) + 3)) (by_number (root_of old).version) c.step.ensures.writes)
+    (λ fails. ((failed fails).0, (ap (λ (t : Tree _ d). disk_of t) (failed fails).1, ap (λ (t : Tree _ d). has_failed t) (failed fails).1 ∙ fails)))
+
+pub returns-clause-last_known : goal.returns-clause-last_known
+returns-clause-last_known g c = (stepped_by g.D.Disk g.met.D.Disk.seen_may c.args.self.now.tree c.step.new.tree c.step.result c.step.ensures.failed c.step.ensures.stepped).last_known
+
+pub returns-clause-idle : goal.returns-clause-idle
+returns-clause-idle g c none =
+    let d = g.D.Disk in
+    let old = c.args.self.now.tree in
+    let new = c.step.new.tree in
+    let is = stepped_by d g.met.D.Disk.seen_may old new c.step.result c.step.ensures.failed c.step.ensures.stepped in
+    let so : IfOk {E = Refusal} (Ok None) (λ (tile : Option Corner). IsTrue (is_none tile) → d.writes (disk_of new) ≡ d.writes (disk_of old)) =
+    subst (λ (answer : Result (Option Corner) Refusal). IfOk answer (λ tile. IsTrue (is_none tile) → d.writes (disk_of new) ≡ d.writes (disk_of old))) none is.idle in
+    so refl
 
 pub returns-clause-failed : goal.returns-clause-failed
-returns-clause-failed g c fails = let same = c.step.ensures.failed fails in (same.0, ap (λ (t : Tree _ g.D.Disk). disk_of t) same.1)
-
-pub returns-clause-still_failed : goal.returns-clause-still_failed
-returns-clause-still_failed g c fails = ap (λ (t : Tree _ g.D.Disk). has_failed t) (c.step.ensures.failed fails).1 ∙ fails
+returns-clause-failed g c fails = ap (λ (t : Tree _ g.D.Disk). disk_of t) (c.step.ensures.failed fails).1

@@ -1,17 +1,33 @@
 use Rattle.std.proofs.Common.{refl, map, sym, ap, ◌∙◌}
 use Rattle.std.proofs.lemmas.List.{take_all}
+use Rattle.lattice.specs.declared.refusal.Refusal.TheVariants.{NoMemory}
 use Rattle.page_codec.specs.Entries.{EntryValue}
 use Rattle.page_codec.specs.Roots.{RootValue}
-use Rattle.store.proofs.InMemory.{is_working, corners_are}
+use Rattle.engine.proofs.Questions.{tiles_asked}
+use Rattle.store.proofs.InMemory.{corners_are}
+use Rattle.store.proofs.Querying.{stays_at}
+use Rattle.store.proofs.StoreCalls.{denied, refused_it, told_it}
 use Rattle.store.proofs.store.Store.tiles.Goals as goal
 
-pub returns-clause-outcome : goal.returns-clause-outcome
-returns-clause-outcome g c honest s at =
+pub returns-in_err-check_working : goal.returns-in_err-check_working
+returns-in_err-check_working g c =
+    denied g.D.Disk g.met.D.Disk.only_now c.args.self.now tiles_asked refl (λ s is. is) c.from_residual.result c.in_err-check_working.field-0.0 c.from_residual.ensures.1 c.in_err-check_working.ensures.failed
+
+pub returns-then-is_err : goal.returns-then-is_err
+returns-then-is_err g c =
+    let store = c.args.self.now in
+    let works = c.in_ok-check_working.ensures.works in
+    refused_it g.D.Disk g.met.D.Disk.only_now store tiles_asked works NoMemory (λ e. cc) (λ e. cc) refl (λ honest s at. stays_at g.D.Disk store.tree works s at.in_state)
+
+pub returns : goal.returns
+returns g c =
     let d = g.D.Disk in
     let store = c.args.self.now in
     let works = c.in_ok-check_working.ensures.works in
-    let entries_are = c.entries-entry-items.ensures.value ∙ ap (λ (r : RootValue). r.entries) c.current.ensures in (
-      record { working = is_working d store.tree works s at.in_state; same = refl },
+    let entries_are = c.entries-entry-items.ensures.value ∙ ap (λ (r : RootValue). r.entries) c.current.ensures in
+    told_it d g.met.D.Disk.only_now store tiles_asked works c.loop-entry.corners
+    (λ honest s at. (
+      stays_at d store.tree works s at.in_state,
       c.loop-entry.invariant ∙ ap (map (λ (e : EntryValue). e.corner)) (take_all c.loop-entry.entry-index c.entries-entry-items.result.now c.loop-entry-test.false ∙ entries_are)
           ∙ sym (store.clean works).corners ∙ corners_are d store.tree works s at.in_state,
-    )
+    ))
