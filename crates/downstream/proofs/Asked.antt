@@ -1,6 +1,6 @@
 -- Calls one after another.
 use Rattle.std.proofs.Common.{◌∙◌, refl, sym, subst, Ok, Err}
-use Rattle.std.specs.Prelude.{Result, IfOk}
+use Rattle.std.specs.Prelude.{Option, Some, None, Result, IfOk, IfSome}
 use Rattle.downstream.specs.declared.levels.FilledLevels.{Ghosts}
 use Rattle.lattice.specs.Mosaic.{Mosaic}
 use Rattle.lattice.specs.Ground.{terrain}
@@ -27,6 +27,8 @@ pub on_ok : {T E : Type 0} (P Q : T → Type 0) (r : Result T E) → ((x : T) �
 on_ok P Q (Ok x) f h = f x h
 on_ok P Q (Err e) f h = h
 
-pub on_some : {T E : Type 0} (P Q R : T → Type 0) (r : Result T E) → ((x : T) → P x → Q x → R x) → IfOk r P → IfOk r Q → IfOk r R
-on_some P Q R (Ok x) f p q = f x p q
-on_some P Q R (Err e) f p q = p
+-- both of what was found, if something was
+pub on_found : {T E : Type 0} (P Q R : T → Type 0) (r : Result (Option T) E) → ((x : T) → P x → Q x → R x) → IfOk r (λ f. IfSome f P) → IfOk r (λ f. IfSome f Q) → IfOk r (λ f. IfSome f R)
+on_found P Q R (Ok (Some x)) f p q = f x p q
+on_found P Q R (Ok None) f p q = p
+on_found P Q R (Err e) f p q = p

@@ -1,5 +1,5 @@
 //! The shortest way across a flat, searched outward from one point.
-ghost use Rattle.std.specs.Prelude.{◌≡◌, ◌+◌, ◌<◌, ℤ, [], ◌∷◌, IsTrue, IsFalse, IfOk, IfErr, OnOk, length};
+ghost use Rattle.std.specs.Prelude.{◌≡◌, ◌+◌, ◌<◌, ℤ, [], ◌∷◌, IsTrue, IsFalse, IfOk, IfErr, IfSome, OnOk, length};
 ghost use Rattle.lattice.specs.declared.point.Point.{Point};
 ghost use Rattle.lattice.specs.Terrain.{Terrain};
 ghost use Rattle.lattice.specs.Ground.{is_ground, terrain};
@@ -29,6 +29,8 @@ pub(crate) struct Lead {
 /// The steps, the last one first, of the way from a point over points of its level to one that drains downhill or off the
 /// mosaic: a shortest one, and of those the first in the order of codes, step for step.
 ///
+/// None where no end is among the first points that are reached, some `most` of them.
+///
 /// Points are reached in the order of their distances, and those of one distance in the order of the ways to them. So the
 /// first of them that drains is at the end of that way.
 pub(crate) fn way_across<S, L: FilledLevels<S>>(
@@ -38,11 +40,12 @@ pub(crate) fn way_across<S, L: FilledLevels<S>>(
     point: Point,
     height: i16,
     around: &[Option<i16>; 8],
-) -> Result<Vec<Dir>, Refusal>
+    most: usize,
+) -> Result<Option<Vec<Dir>>, Refusal>
     requires fits { L.fits levels.old source.old }
     requires flat { L.is_honest levels.old source.old → IsOnFlat (L.mosaic levels.old source.old) point height around.now }
-    ensures way { L.is_honest levels.new source.new → IfOk result (λ steps. OnLevels (L.mosaic levels.old source.old) (λ level. FlowsOn (terrain (L.mosaic levels.old source.old)) level point steps.items)) }
-    ensures some { IfOk result (λ steps. 0 < length steps.items) }
+    ensures way { L.is_honest levels.new source.new → IfOk result (λ found. IfSome found (λ steps. OnLevels (L.mosaic levels.old source.old) (λ level. FlowsOn (terrain (L.mosaic levels.old source.old)) level point steps.items))) }
+    ensures some { IfOk result (λ found. IfSome found (λ steps. 0 < length steps.items)) }
     ensures refusal { IfErr result (L.refuses levels.old source.old levels.new source.new) }
     ensures asks { Asks L.FilledLevels levels.old source.old levels.new source.new }
     ensures keeps { OnOk result (L.keeps levels.old source.old levels.new source.new) }
@@ -54,8 +57,11 @@ pub(crate) fn way_across<S, L: FilledLevels<S>>(
     spread(point, 0, height, around, &mut seen, &mut leads)?;
     let mut head = 1;
     'leads: while head < leads.len() {
+        if leads.len() > most {
+            return Ok(None);
+        }
         if follow(alloc, levels, source, height, head, &mut seen, &mut leads)? {
-            return Ok(steps_to(alloc, &leads, head)?);
+            return Ok(Some(steps_to(alloc, &leads, head)?));
         }
         head += 1;
     }

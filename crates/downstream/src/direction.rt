@@ -1,6 +1,6 @@
 //! The direction of one point.
 ghost use Rattle.std.specs.Option.{option_to_list};
-ghost use Rattle.std.specs.Prelude.{◌≡◌, ◌<◌, IfOk, IfErr, OnOk, length};
+ghost use Rattle.std.specs.Prelude.{◌≡◌, Some, None, MatchOption, IfOk, IfErr, IfSome, OnOk};
 ghost use Rattle.downstream.specs.Asking.{Asks};
 ghost use Rattle.downstream.specs.Flats.{AreFlatsOf};
 ghost use Rattle.downstream.specs.Path.{AreNext};
@@ -54,13 +54,16 @@ pub fn direction_over<S, L: FilledLevels<S>>(
     if let Some(way) = levels.way(source, point) {
         return Ok(way);
     }
-    let way = find_direction(alloc, levels, source, flats, point)?;
-    levels.learn(alloc, source, point, way);
-    Ok(way)
+    let far = levels.far(source);
+    if let Some(way) = find_direction(alloc, levels, source, flats, point, far)? {
+        levels.learn(alloc, source, point, way);
+        return Ok(way);
+    }
+    far_direction(alloc, levels, source, flats, point)
 }
 
-// Where the point drains, which wasn't learnt.
-fn find_direction<S, L: FilledLevels<S>>(
+// Where a point drains that lies inside a wide flat.
+fn far_direction<S, L: FilledLevels<S>>(
     alloc: Global,
     levels: &mut L,
     source: &mut S,
@@ -76,12 +79,50 @@ fn find_direction<S, L: FilledLevels<S>>(
     ensures keeps { OnOk result (L.keeps levels.old source.old levels.new source.new) }
     ensures fits { L.fits levels.new source.new }
 {
+    levels.learn_all(alloc, source)?;
+    if let Some(way) = levels.way(source, point) {
+        return Ok(way);
+    }
+    match find_direction(alloc, levels, source, flats, point, usize::MAX)? {
+        Some(way) => Ok(way),
+        None => Err(Refusal::NoMemory),
+    }
+}
+
+// Where the point drains, which wasn't learnt; None where its flat has more than some `most` points.
+fn find_direction<S, L: FilledLevels<S>>(
+    alloc: Global,
+    levels: &mut L,
+    source: &mut S,
+    flats: &mut Flats,
+    point: Point,
+    most: usize,
+) -> Result<Option<Option<Dir>>, Refusal>
+    requires fits { L.fits levels.old source.old }
+    requires flats { AreFlatsOf L.FilledLevels levels.old source.old flats.old }
+    ensures way { L.is_honest levels.new source.new → IfOk result (λ found. IfSome found (IsWay (L.mosaic levels.old source.old) point)) }
+    ensures flats { OnOk result (AreFlatsOf L.FilledLevels levels.new source.new flats.new) }
+    ensures refusal { IfErr result (L.refuses levels.old source.old levels.new source.new) }
+    ensures asks { Asks L.FilledLevels levels.old source.old levels.new source.new }
+    ensures keeps { OnOk result (L.keeps levels.old source.old levels.new source.new) }
+    ensures fits { L.fits levels.new source.new }
+{
     match lie_of(alloc, levels, source, point)? {
-        Lie::Drains(direction) => Ok(direction),
+        Lie::Drains(direction) => Ok(Some(direction)),
         Lie::Inside { height, around } => {
-            let step = first_nearer(alloc, levels, source, flats, point, height, &around)?;
-            Ok(Some(step))
+            let step = first_nearer(alloc, levels, source, flats, point, height, &around, most)?;
+            Ok(way_by(step))
         }
+    }
+}
+
+// That it is known, where a step is.
+fn way_by(step: Option<Dir>) -> Option<Option<Dir>>
+    ensures { MatchOption step (result ≡ None) (λ d. result ≡ Some (Some d)) }
+{
+    match step {
+        Some(direction) => Some(Some(direction)),
+        None => None,
     }
 }
 
@@ -105,13 +146,16 @@ pub(crate) fn steps_on<S, L: FilledLevels<S>>(
     if let Some(way) = levels.way(source, point) {
         return Ok(one_or_none(alloc, way)?);
     }
-    let steps = find_steps(alloc, levels, source, point)?;
-    learn_along(alloc, levels, source, point, &steps);
-    Ok(steps)
+    let far = levels.far(source);
+    if let Some(steps) = find_steps(alloc, levels, source, point, far)? {
+        learn_along(alloc, levels, source, point, &steps);
+        return Ok(steps);
+    }
+    far_steps(alloc, levels, source, point)
 }
 
-// The next steps on the flow path of a point whose direction wasn't learnt.
-fn find_steps<S, L: FilledLevels<S>>(
+// The next steps of a point that lies inside a wide flat, far from the way out.
+fn far_steps<S, L: FilledLevels<S>>(
     alloc: Global,
     levels: &mut L,
     source: &mut S,
@@ -124,10 +168,36 @@ fn find_steps<S, L: FilledLevels<S>>(
     ensures keeps { OnOk result (L.keeps levels.old source.old levels.new source.new) }
     ensures fits { L.fits levels.new source.new }
 {
+    levels.learn_all(alloc, source)?;
+    if let Some(way) = levels.way(source, point) {
+        return Ok(one_or_none(alloc, way)?);
+    }
+    match find_steps(alloc, levels, source, point, usize::MAX)? {
+        Some(steps) => Ok(steps),
+        None => Err(Refusal::NoMemory),
+    }
+}
+
+// The next steps on the flow path of a point whose direction wasn't learnt; None where the way out of its flat isn't among
+// the first points that a search reaches, some `most` of them.
+fn find_steps<S, L: FilledLevels<S>>(
+    alloc: Global,
+    levels: &mut L,
+    source: &mut S,
+    point: Point,
+    most: usize,
+) -> Result<Option<Vec<Dir>>, Refusal>
+    requires { L.fits levels.old source.old }
+    ensures steps { L.is_honest levels.new source.new → IfOk result (λ found. IfSome found (λ steps. AreNext (L.mosaic levels.old source.old) point steps.items)) }
+    ensures refusal { IfErr result (L.refuses levels.old source.old levels.new source.new) }
+    ensures asks { Asks L.FilledLevels levels.old source.old levels.new source.new }
+    ensures keeps { OnOk result (L.keeps levels.old source.old levels.new source.new) }
+    ensures fits { L.fits levels.new source.new }
+{
     match lie_of(alloc, levels, source, point)? {
-        Lie::Drains(direction) => Ok(one_or_none(alloc, direction)?),
+        Lie::Drains(direction) => Ok(Some(one_or_none(alloc, direction)?)),
         Lie::Inside { height, around } => {
-            way_across(alloc, levels, source, point, height, &around)
+            way_across(alloc, levels, source, point, height, &around, most)
         }
     }
 }

@@ -37,6 +37,13 @@ impl Flats {
         }
     }
 
+    // Nothing is found any more.
+    fn clear(&mut self, alloc: Global)
+        ensures { (t : Terrain Point) (level : Point → ℤ) → AreMeasured t level self.new }
+    {
+        *self = Flats::new(alloc);
+    }
+
     fn found(&self, point: Point) -> Option<Option<u64>>
         ensures { result ≡ found_of self.now point }
     {
@@ -68,7 +75,7 @@ impl Flats {
 }
 
 /// The step that the point takes across its flat, where it lies inside one: the first in the order of codes to a point of
-/// its level that is nearer to the way out.
+/// its level that is nearer to the way out. None where its flat has more than some `most` points.
 pub(crate) fn first_nearer<S, L: FilledLevels<S>>(
     alloc: Global,
     levels: &mut L,
@@ -77,26 +84,29 @@ pub(crate) fn first_nearer<S, L: FilledLevels<S>>(
     point: Point,
     height: i16,
     around: &[Option<i16>; 8],
-) -> Result<Dir, Refusal>
+    most: usize,
+) -> Result<Option<Dir>, Refusal>
     requires fits { L.fits levels.old source.old }
     requires flats { AreFlatsOf L.FilledLevels levels.old source.old flats.old }
     requires flat { L.is_honest levels.old source.old → IsOnFlat (L.mosaic levels.old source.old) point height around.now }
-    ensures nearer { L.is_honest levels.new source.new → IfOk result (λ d. OnLevels (L.mosaic levels.old source.old) (λ level. IsFirstNearer (terrain (L.mosaic levels.old source.old)) level point d)) }
+    ensures nearer { L.is_honest levels.new source.new → IfOk result (λ found. IfSome found (λ d. OnLevels (L.mosaic levels.old source.old) (λ level. IsFirstNearer (terrain (L.mosaic levels.old source.old)) level point d))) }
     ensures flats { OnOk result (AreFlatsOf L.FilledLevels levels.new source.new flats.new) }
     ensures refusal { IfErr result (L.refuses levels.old source.old levels.new source.new) }
     ensures asks { Asks L.FilledLevels levels.old source.old levels.new source.new }
     ensures keeps { OnOk result (L.keeps levels.old source.old levels.new source.new) }
     ensures fits { L.fits levels.new source.new }
 {
-    cross(alloc, levels, source, flats, point, height)?;
+    if !cross(alloc, levels, source, flats, point, height, most)? {
+        return Ok(None);
+    }
     match nearer(flats, point, height, around) {
-        Some(direction) => Ok(direction),
+        Some(direction) => Ok(Some(direction)),
         None => Err(Refusal::Damaged),
     }
 }
 
 // Finds the distances of the point, which lies inside a flat, and of all that it leads to over points inside it, where they
-// aren't found yet.
+// aren't found yet. False where these are more than some `most`: then no flat is found any more.
 fn cross<S, L: FilledLevels<S>>(
     alloc: Global,
     levels: &mut L,
@@ -104,11 +114,12 @@ fn cross<S, L: FilledLevels<S>>(
     flats: &mut Flats,
     point: Point,
     height: i16,
-) -> Result<(), Refusal>
+    most: usize,
+) -> Result<bool, Refusal>
     requires fits { L.fits levels.old source.old }
     requires flats { AreFlatsOf L.FilledLevels levels.old source.old flats.old }
     requires flat { IsInFlat L.FilledLevels levels.old source.old point height }
-    ensures found { L.is_honest levels.new source.new → OnOk result (IsTrue (is_some (found_of flats.new point))) }
+    ensures found { L.is_honest levels.new source.new → IfOk result (λ found. IsTrue found → IsTrue (is_some (found_of flats.new point))) }
     ensures flats { OnOk result (AreFlatsOf L.FilledLevels levels.new source.new flats.new) }
     ensures refusal { IfErr result (L.refuses levels.old source.old levels.new source.new) }
     ensures asks { Asks L.FilledLevels levels.old source.old levels.new source.new }
@@ -116,14 +127,18 @@ fn cross<S, L: FilledLevels<S>>(
     ensures fits { L.fits levels.new source.new }
 {
     if flats.found(point).is_some() {
-        return Ok(());
+        return Ok(true);
     }
-    let ends = find(alloc, levels, source, flats, point, height)?;
-    Ok(measure(levels, source, flats, ends)?)
+    let Some(ends) = find(alloc, levels, source, flats, point, height, most)? else {
+        flats.clear(alloc);
+        return Ok(false);
+    };
+    measure(levels, source, flats, ends)?;
+    Ok(true)
 }
 
 // Finds the points that the point leads to over points inside its flat, and leaves their distances open. The answer has
-// those that drain.
+// those that drain, or is None where more than some `most` are reached.
 fn find<S, L: FilledLevels<S>>(
     alloc: Global,
     levels: &mut L,
@@ -131,11 +146,12 @@ fn find<S, L: FilledLevels<S>>(
     flats: &mut Flats,
     point: Point,
     height: i16,
-) -> Result<Vec<Point>, Refusal>
+    most: usize,
+) -> Result<Option<Vec<Point>>, Refusal>
     requires fits { L.fits levels.old source.old }
     requires flats { AreFlatsOf L.FilledLevels levels.old source.old flats.old }
     requires flat { IsInFlat L.FilledLevels levels.old source.old point height }
-    ensures found { L.is_honest levels.new source.new → IfOk result (λ ends. OnLevels (L.mosaic levels.old source.old) (λ level. IsMeasuring (terrain (L.mosaic levels.old source.old)) level point flats.new ends.items 0)) }
+    ensures found { L.is_honest levels.new source.new → IfOk result (λ found. IfSome found (λ ends. OnLevels (L.mosaic levels.old source.old) (λ level. IsMeasuring (terrain (L.mosaic levels.old source.old)) level point flats.new ends.items 0))) }
     ensures refusal { IfErr result (L.refuses levels.old source.old levels.new source.new) }
     ensures asks { Asks L.FilledLevels levels.old source.old levels.new source.new }
     ensures keeps { OnOk result (L.keeps levels.old source.old levels.new source.new) }
@@ -147,6 +163,9 @@ fn find<S, L: FilledLevels<S>>(
     start(point, &mut seen, &mut leads)?;
     let mut head = 0;
     'leads: while head < leads.len() {
+        if leads.len() > most {
+            return Ok(None);
+        }
         let at = point_of(&leads, head);
         if follow(alloc, levels, source, height, head, &mut seen, &mut leads)? {
             lengthen(&mut ends, at)?;
@@ -155,7 +174,7 @@ fn find<S, L: FilledLevels<S>>(
         }
         head += 1;
     }
-    Ok(ends)
+    Ok(Some(ends))
 }
 
 // Finds the distances that are open, outward from the points that drain, which stand in the queue.

@@ -6,9 +6,12 @@ ghost use Rattle.lattice.specs.Mosaic.{Mosaic, IsMosaic};
 ghost use Rattle.lattice.specs.Ground.{share_tile as shared, is_sink as is_declared};
 ghost use Rattle.downstream.specs.Levels.{IsLevelAt};
 ghost use Rattle.downstream.specs.Near.{IsNear};
+ghost use Rattle.downstream.specs.Around.{OnLevels};
 ghost use Rattle.downstream.specs.Way.{IsWay};
+ghost use Rattle.flow_d8.specs.Directions.{AreDirectionsOf};
 
 use crate::Near;
+use flow_d8::Directions;
 use lattice::{Dir, Point, Refusal};
 use std::alloc::Global;
 
@@ -62,6 +65,23 @@ pub trait FilledLevels<S> {
         ensures honest { is_honest self.new source.now → is_honest self.old source.now }
         ensures mosaic { is_honest self.new source.now → mosaic self.new source.now ≡ mosaic self.old source.now }
         ensures keeps { keeps self.old source.now self.new source.now };
+
+    /// Where all points drain, where that was learnt.
+    fn directions(&self, source: &S) -> Option<&Directions>
+        requires { fits self.now source.now }
+        ensures { is_honest self.now source.now → IfSome result (λ directions. OnLevels (mosaic self.now source.now) (λ level. AreDirectionsOf (mosaic self.now source.now) level directions.now)) };
+
+    /// How many points a search may reach, before it pays to learn where all points drain.
+    fn far(&self, source: &S) -> usize;
+
+    /// Learns where all points drain, where they are few enough.
+    fn learn_all(&mut self, alloc: Global, source: &mut S) -> Result<(), Refusal>
+        requires { fits self.old source.old }
+        ensures fits { fits self.new source.new }
+        ensures refusal { IfErr result (refuses self.old source.old self.new source.new) }
+        ensures honest { is_honest self.new source.new → is_honest self.old source.old }
+        ensures mosaic { is_honest self.new source.new → mosaic self.new source.new ≡ mosaic self.old source.old }
+        ensures keeps { OnOk result (keeps self.old source.old self.new source.new) };
 
     /// Whether some one present tile holds both points.
     fn share_tile(&self, source: &S, point: Point, other: Point) -> bool

@@ -4,7 +4,7 @@
 //! its flow path. A direction looks at the levels around the point and, where that lies on a flat, around the points of
 //! the flat, the nearest first, until one of them drains. A flow path goes on to that point by the way that this search
 //! found. `direction_over` is for many questions: it searches each flat whole, once, and holds the distances of its points
-//! (`Flats`).
+//! (`Flats`). A search that goes far has the directions of all points learnt, where these are few enough.
 //!
 //! ```
 //! let way = direction_at(alloc, &mut levels, &mut source, point)?;  // None where water leaves the mosaic

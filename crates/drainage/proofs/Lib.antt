@@ -32,3 +32,4 @@ pub mod Learnt
 mod SparedLevels
 mod HeightSet
 mod FewTiles
+pub mod AllLevels

@@ -3,6 +3,8 @@ use Rattle.std.specs.Prelude.{◌≡◌, Option, Some, None}
 use Rattle.lattice.specs.Mosaic.{Mosaic}
 use Rattle.lattice.specs.declared.point.Point.{Point}
 use Rattle.catalogue.specs.declared.samples.Samples.{Ghosts}
+use Rattle.flow_d8.specs.Directions.{Directions, AreDirectionsOf}
+use Rattle.downstream.specs.Around.{OnLevels}
 use Rattle.drainage.specs.Flows.{AreFlows}
 use Rattle.drainage.specs.Invalidating.{IsLeftOf, IsNotedOf}
 use Rattle.drainage.specs.Holding.{IsRight}
@@ -20,10 +22,15 @@ abbrev pub drain_right : Mosaic → Option Flows → Type 0
 drain_right m None = Unit {0}
 drain_right m (Some flows) = AreFlows m flows
 
+abbrev pub directions_right : Mosaic → Option Directions → Type 0
+directions_right m None = Unit {0}
+directions_right m (Some directions) = OnLevels m (λ level. AreDirectionsOf m level directions)
+
 -- what is held is right for the mosaic, or nothing is
 pub record IsHeldOf (m : Mosaic) (held : DrainageCache) : Type 0 where
   pub tile_cache : are_right m held.tile_cache
   pub flows : drain_right m held.flows
+  pub directions : directions_right m held.directions
 
 -- what was found is left, but for the tiles that the box reaches, and for the levels
 abbrev pub are_left : Point → Point → Option TileCache → Option TileCache → Type 0

@@ -14,3 +14,4 @@ pub mod Ring
 pub mod Beyond
 pub mod Flows
 pub mod Spared
+pub mod Everywhere

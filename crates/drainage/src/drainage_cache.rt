@@ -4,7 +4,9 @@ ghost use Rattle.lattice.specs.Height.{height_of};
 ghost use Rattle.lattice.specs.Mosaic.{Mosaic, IsMosaic};
 ghost use Rattle.lattice.specs.declared.height.Height.TheVariants.{At};
 ghost use Rattle.downstream.specs.Near.{IsNear};
+ghost use Rattle.downstream.specs.Around.{OnLevels};
 ghost use Rattle.downstream.specs.Way.{IsWay};
+ghost use Rattle.flow_d8.specs.Directions.{AreDirectionsOf};
 ghost use Rattle.lattice.specs.declared.refusal.Refusal.TheVariants.{NoMemory};
 ghost use Rattle.drainage.specs.Holding.{IsRight};
 ghost use Rattle.drainage.specs.Reaching.{DifferAt, DifferBetween};
@@ -15,6 +17,7 @@ use crate::nearby::near;
 use crate::tile_cache::TileCache;
 use catalogue::Samples;
 use downstream::Near;
+use flow_d8::Directions;
 use lattice::{Dir, Point, Refusal, Side};
 use std::alloc::Global;
 
@@ -25,6 +28,8 @@ use std::alloc::Global;
 pub struct DrainageCache {
     tile_cache: Option<TileCache>,
     flows: Option<Flows>,
+    // Of all points, once a search went far.
+    directions: Option<Directions>,
 }
 
 impl DrainageCache {
@@ -39,6 +44,7 @@ impl DrainageCache {
         DrainageCache {
             tile_cache: None,
             flows: None,
+            directions: None,
         }
     }
 
@@ -86,8 +92,10 @@ impl DrainageCache {
     fn invalidate_ways(&mut self)
         ensures tile_cache { self.new.tile_cache ≡ self.old.tile_cache }
         ensures flows { self.new.flows ≡ None }
+        ensures directions { self.new.directions ≡ None }
     {
         self.flows = None;
+        self.directions = None;
     }
 
     // The levels at the point and around it, where what is held tells them.
@@ -100,10 +108,28 @@ impl DrainageCache {
 
     // Where the point drains, where that was learnt.
     pub(crate) fn way_of(&self, point: Point) -> Option<Option<Dir>>
-        ensures { (m : Mosaic) → IsHeldOf m self.now → IfSome result (IsWay m point) }
+        ensures { (m : Mosaic) → IsMosaic m → IsHeldOf m self.now → IfSome result (IsWay m point) }
     {
+        if let Some(directions) = self.all_directions() {
+            return Some(directions.direction(point));
+        }
         let flows = self.flows.as_ref()?;
         flows.way(point)
+    }
+
+    // Where all points drain, where that was learnt.
+    pub(crate) fn all_directions(&self) -> Option<&Directions>
+        ensures { (m : Mosaic) → IsHeldOf m self.now → IfSome result (λ directions. OnLevels m (λ level. AreDirectionsOf m level directions.now)) }
+    {
+        self.directions.as_ref()
+    }
+
+    // Learns where all points drain.
+    pub(crate) fn learn_directions(&mut self, directions: Directions)
+        ensures { (m : Mosaic) → OnLevels m (λ level. AreDirectionsOf m level directions) → IsHeldOf m self.old → IsHeldOf m self.new }
+    {
+        self.invalidate_ways();
+        self.directions = Some(directions);
     }
 
     // Hands out what is known of where points drain. Nothing is then.

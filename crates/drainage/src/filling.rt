@@ -75,10 +75,10 @@ pub fn level<S: Labellings>(
     found
 }
 
-// The filled level of the point: the greater of its level in its own tile and that of the rim point which its label names.
-// Only of the tiles on the water's way out the labelling is asked. Where the label is that of a void, it is seen that the
-// point has no height.
-fn level_in<S: Labellings>(
+/// The filled level of the point: the greater of its level in its own tile and that of the rim point which its label names.
+/// Only of the tiles on the water's way out the labelling is asked. Where the label is that of a void, it is seen that the
+/// point has no height.
+pub(crate) fn level_in<S: Labellings>(
     alloc: Global,
     samples: &mut S,
     tile_cache: &mut TileCache,

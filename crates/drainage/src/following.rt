@@ -15,9 +15,11 @@ ghost use Rattle.drainage.specs.Between.{IsHeldFor};
 
 use crate::asking::check_ground;
 use crate::drainage_cache::DrainageCache;
+use crate::everywhere::{far, learn_all};
 use crate::filling::level;
 use catalogue::share_tile;
 use downstream::{FilledLevels, Near, direction_at};
+use flow_d8::Directions;
 use lattice::{Dir, Point, Refusal};
 use std::alloc::Global;
 use tile_labellings::Labellings;
@@ -108,6 +110,18 @@ impl<S: Labellings> FilledLevels<S> for DrainageCache {
 
     fn learn(&mut self, alloc: Global, source: &S, point: Point, way: Option<Dir>) {
         self.learn_way(alloc, source, point, way);
+    }
+
+    fn directions(&self, _source: &S) -> Option<&Directions> {
+        self.all_directions()
+    }
+
+    fn far(&self, source: &S) -> usize {
+        far(source)
+    }
+
+    fn learn_all(&mut self, alloc: Global, source: &mut S) -> Result<(), Refusal> {
+        learn_all(alloc, source, self)
     }
 
     fn share_tile(&self, source: &S, point: Point, other: Point) -> bool {

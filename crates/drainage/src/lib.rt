@@ -16,6 +16,7 @@
 mod asking;
 mod drainage_cache;
 mod draining;
+mod everywhere;
 mod filling;
 mod flows;
 mod following;

@@ -1,5 +1,5 @@
 //! The search up the flow paths, from the point to those whose direction leads to one that is found.
-ghost use Rattle.std.specs.Prelude.{◌≡◌, ◌↔◌, ◌++◌, [], ◌∷◌, Some, None, if◌then◌else◌, IsTrue, IsFalse, IfOk, IfErr, OnOk};
+ghost use Rattle.std.specs.Prelude.{◌≡◌, ◌↔◌, ◌++◌, [], ◌∷◌, Some, None, if◌then◌else◌, IsTrue, IsFalse, IfOk, IfErr, IfSome, OnOk};
 ghost use Rattle.lattice.specs.declared.direction.Dir.{Dir};
 ghost use Rattle.lattice.specs.Steps.{step};
 ghost use Rattle.lattice.specs.Stepping.{fits_point};
@@ -15,10 +15,14 @@ ghost use Rattle.upstream.specs.Feeding.{IsFeederAdded};
 use downstream::{FilledLevels, Flats, direction_over};
 use lattice::{DIRECTIONS, Dir, Point, Refusal, neighbour};
 use std::alloc::{AllocError, Global};
-use watershed::{Run, runs_of_points};
+use watershed::{Run, runs_of_points, watershed as by_directions};
+
+// Up the flow paths a search may reach so many times the points: a river of a mountain takes less time by points.
+const FARTHER_UP: usize = 4;
 
 /// The watershed of the point: the ground points whose flow path contains it, as maximal runs, from the north down, in
-/// a row from the west. Empty where the point isn't ground.
+/// a row from the west. Empty where the point isn't ground. It is found point by point, or, where it has many, by the
+/// directions of all points, if these can be learnt.
 ///
 /// It is refused as a direction is.
 pub fn watershed<S, L: FilledLevels<S>>(
@@ -35,19 +39,73 @@ pub fn watershed<S, L: FilledLevels<S>>(
     ensures keeps { OnOk result (L.keeps levels.old source.old levels.new source.new) }
     ensures fits { L.fits levels.new source.new }
 {
-    let points = upstream(alloc, levels, source, point)?;
-    Ok(runs_of_points(alloc, points)?)
+    if let Some(directions) = levels.directions(source) {
+        return by_directions(alloc, directions, point);
+    }
+    let far = levels.far(source).saturating_mul(FARTHER_UP);
+    if let Some(runs) = by_search(alloc, levels, source, point, far)? {
+        return Ok(runs);
+    }
+    wide_watershed(alloc, levels, source, point)
 }
 
-// The points whose flow path contains the point, each after the one that it drains to.
+// The watershed of a point that has many.
+fn wide_watershed<S, L: FilledLevels<S>>(
+    alloc: Global,
+    levels: &mut L,
+    source: &mut S,
+    point: Point,
+) -> Result<Vec<Run>, Refusal>
+    requires { L.fits levels.old source.old }
+    ensures runs { L.is_honest levels.new source.new → IfOk result (λ runs. OnLevels (L.mosaic levels.old source.old) (λ level. AreRuns (IsInWatershed (terrain (L.mosaic levels.old source.old)) level point) runs.items)) }
+    ensures elsewhere { L.is_honest levels.new source.new → IfOk result (λ runs. IsFalse (is_ground (L.mosaic levels.old source.old) point) → runs.items ≡ []) }
+    ensures refusal { IfErr result (L.refuses levels.old source.old levels.new source.new) }
+    ensures asks { Asks L.FilledLevels levels.old source.old levels.new source.new }
+    ensures keeps { OnOk result (L.keeps levels.old source.old levels.new source.new) }
+    ensures fits { L.fits levels.new source.new }
+{
+    levels.learn_all(alloc, source)?;
+    if let Some(directions) = levels.directions(source) {
+        return by_directions(alloc, directions, point);
+    }
+    match by_search(alloc, levels, source, point, usize::MAX)? {
+        Some(runs) => Ok(runs),
+        None => Err(Refusal::NoMemory),
+    }
+}
+
+// The watershed, found point by point. None where it has more points than `most`.
+fn by_search<S, L: FilledLevels<S>>(
+    alloc: Global,
+    levels: &mut L,
+    source: &mut S,
+    point: Point,
+    most: usize,
+) -> Result<Option<Vec<Run>>, Refusal>
+    requires { L.fits levels.old source.old }
+    ensures runs { L.is_honest levels.new source.new → IfOk result (λ found. IfSome found (λ runs. OnLevels (L.mosaic levels.old source.old) (λ level. AreRuns (IsInWatershed (terrain (L.mosaic levels.old source.old)) level point) runs.items))) }
+    ensures elsewhere { L.is_honest levels.new source.new → IfOk result (λ found. IfSome found (λ runs. IsFalse (is_ground (L.mosaic levels.old source.old) point) → runs.items ≡ [])) }
+    ensures refusal { IfErr result (L.refuses levels.old source.old levels.new source.new) }
+    ensures asks { Asks L.FilledLevels levels.old source.old levels.new source.new }
+    ensures keeps { OnOk result (L.keeps levels.old source.old levels.new source.new) }
+    ensures fits { L.fits levels.new source.new }
+{
+    let Some(points) = upstream(alloc, levels, source, point, most)? else {
+        return Ok(None);
+    };
+    Ok(Some(runs_of_points(alloc, points)?))
+}
+
+// The points whose flow path contains the point, each after the one that it drains to; None where they are more than `most`.
 fn upstream<S, L: FilledLevels<S>>(
     alloc: Global,
     levels: &mut L,
     source: &mut S,
     point: Point,
-) -> Result<Vec<Point>, Refusal>
+    most: usize,
+) -> Result<Option<Vec<Point>>, Refusal>
     requires { L.fits levels.old source.old }
-    ensures found { L.is_honest levels.new source.new → IfOk result (λ found. OnLevels (L.mosaic levels.old source.old) (λ level. AreUpstream (IsFeeder (terrain (L.mosaic levels.old source.old)) level) (is_ground (L.mosaic levels.old source.old) point) point found.items)) }
+    ensures found { L.is_honest levels.new source.new → IfOk result (λ points. IfSome points (λ found. OnLevels (L.mosaic levels.old source.old) (λ level. AreUpstream (IsFeeder (terrain (L.mosaic levels.old source.old)) level) (is_ground (L.mosaic levels.old source.old) point) point found.items))) }
     ensures refusal { IfErr result (L.refuses levels.old source.old levels.new source.new) }
     ensures asks { Asks L.FilledLevels levels.old source.old levels.new source.new }
     ensures keeps { OnOk result (L.keeps levels.old source.old levels.new source.new) }
@@ -58,11 +116,14 @@ fn upstream<S, L: FilledLevels<S>>(
     start(alloc, levels, source, point, &mut found)?;
     let mut done = 0;
     'search: while done < found.len() {
+        if found.len() > most {
+            return Ok(None);
+        }
         let at = found[done];
         add_feeders(alloc, levels, source, &mut flats, at, &mut found)?;
         done += 1;
     }
-    Ok(found)
+    Ok(Some(found))
 }
 
 // Finds the point, where it is ground.

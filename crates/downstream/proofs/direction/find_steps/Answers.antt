@@ -1,12 +1,12 @@
 use Rattle.std.proofs.Common.{◌≡◌, ◌<◌, List, [], ◌∷◌, length, sym, ◌∙◌, subst, arith, true≢false}
-use Rattle.std.specs.Prelude.{IfOk}
+use Rattle.std.specs.Prelude.{IfOk, IfSome}
 use Rattle.lattice.specs.declared.direction.Dir.{Dir}
 use Rattle.lattice.specs.Mosaic.{Mosaic}
 use Rattle.lattice.specs.Ground.{terrain}
 use Rattle.downstream.specs.Around.{OnLevels}
 use Rattle.downstream.specs.Lie.{IsLie}
 use Rattle.downstream.specs.Path.{FlowsOn, AreNext}
-use Rattle.downstream.proofs.Asked.{on_some}
+use Rattle.downstream.proofs.Asked.{on_found}
 use Rattle.downstream.proofs.Following.{are_steps}
 use Rattle.downstream.proofs.Learning.{next_by}
 use Rattle.downstream.proofs.direction.find_steps.Goals as goal
@@ -27,10 +27,10 @@ returns-in-Inside-clause-steps g c honest =
     let before = c.way_across.ensures.asks.honest honest in
     let same = c.in_ok-direction.ensures.asks.mosaic before in
     let flat = subst (IsLie m p) c.in-Inside.is (c.in_ok-direction.ensures.lie before) in
-    on_some (λ steps. OnLevels m (λ level. FlowsOn (terrain m) level p steps.items)) (λ steps. 0 < length steps.items) (λ steps. AreNext m p steps.items) c.way_across.result
+    on_found (λ steps. OnLevels m (λ level. FlowsOn (terrain m) level p steps.items)) (λ steps. 0 < length steps.items) (λ steps. AreNext m p steps.items) c.way_across.result
     (λ steps flows some. record {
       lead = λ _ level filled. are_steps (terrain m) level p steps.items (λ none. absurd (some_not_none steps.items some none)) (flows level filled);
       elsewhere = λ off. absurd (true≢false (sym flat.solid ∙ off));
     })
-    (subst (λ (n : Mosaic). IfOk c.way_across.result (λ steps. OnLevels n (λ level. FlowsOn (terrain n) level p steps.items))) same (c.way_across.ensures.way honest))
+    (subst (λ (n : Mosaic). IfOk c.way_across.result (λ found. IfSome found (λ steps. OnLevels n (λ level. FlowsOn (terrain n) level p steps.items)))) same (c.way_across.ensures.way honest))
     c.way_across.ensures.some

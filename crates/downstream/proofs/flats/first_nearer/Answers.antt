@@ -27,7 +27,7 @@ returns-in-Some-clause-nearer g c honest level filled =
     let held = c.cross.new.flats in
     let are = subst (λ (n : Mosaic). OnLevels n (λ level. AreMeasured (terrain n) level held)) (asks.mosaic honest) (c.in_ok-cross.ensures.flats honest) in
     let back = sym (to_z-of_z w16 c.args.height (search rules)) in
-    first_is_nearer (terrain m) (mosaic_is_grid m is) level held (are level filled) c.args.point (c.in_ok-cross.ensures.found honest) (ground_fits m is)
+    first_is_nearer (terrain m) (mosaic_is_grid m is) level held (are level filled) c.args.point (c.in_ok-cross.ensures.found honest c.if-not-branch.false) (ground_fits m is)
     (to_z w16 (of_z w16 c.args.height)) (flat.here level filled ∙ back) c.args.around.now (flat.around_it level filled) c.in-Some.direction c.in-Some.ensures.closer c.in-Some.ensures.first
 
 pub returns-in-None-clause-refusal : goal.returns-in-None-clause-refusal
@@ -41,5 +41,5 @@ returns-in-None-clause-refusal g c = g.met.L.FilledLevels.finds_out c.args.level
     let are = subst (λ (n : Mosaic). OnLevels n (λ level. AreMeasured (terrain n) level held)) (asks.mosaic honest) (c.in_ok-cross.ensures.flats honest) in
     let by = level_function m is in
     let back = sym (to_z-of_z w16 c.args.height (search rules)) in
-    some_closer (terrain m) (mosaic_is_grid m is) by.0 held (are by.0 by.1) c.args.point (c.in_ok-cross.ensures.found honest) (ground_fits m is)
+    some_closer (terrain m) (mosaic_is_grid m is) by.0 held (are by.0 by.1) c.args.point (c.in_ok-cross.ensures.found honest c.if-not-branch.false) (ground_fits m is)
     (to_z w16 (of_z w16 c.args.height)) (flat.here by.0 by.1 ∙ back) c.args.around.now (flat.around_it by.0 by.1) c.in-None.ensures.none)

@@ -33,3 +33,11 @@ returns-in-Heights-clause-changed c m valid tells right =
     subst (λ (e : Edit). TellsHeights m e → IsHeldOf (edit_made e m) c.invalidate_heights.new.held) (sym c.in-Heights.is)
     (subst (λ (l : List NewHeight). AreEarlier l m → IsHeldOf (with_heights l m) c.invalidate_heights.new.held) c.as_slice.ensures.value
     (λ earlier. c.invalidate_heights.ensures.changed m valid earlier right)) tells
+
+pub returns-in-Sink-clause-changed : goal.returns-in-Sink-clause-changed
+returns-in-Sink-clause-changed c m valid tells right =
+    subst (λ (e : Edit). IsHeldOf (edit_made e m) c.invalidate_near_sink.new.held) (sym c.in-Sink.is) (c.invalidate_near_sink.ensures.declared m valid right)
+
+pub returns-in-Unsink-clause-changed : goal.returns-in-Unsink-clause-changed
+returns-in-Unsink-clause-changed c m valid tells right =
+    subst (λ (e : Edit). IsHeldOf (edit_made e m) c.invalidate_near_sink-in-Unsink.new.held) (sym c.in-Unsink.is) (c.invalidate_near_sink-in-Unsink.ensures.taken_back m valid right)

@@ -1,10 +1,6 @@
-use Rattle.std.proofs.Common.{◌≡◌, Ok, Err, true≢false, sym, ◌∙◌, subst}
-use Rattle.std.proofs.lemmas.Result.{err_from_is_err_and}
-use Rattle.std.specs.Prelude.{IfOk}
-use Rattle.lattice.specs.Mosaic.{Mosaic}
-use Rattle.catalogue.proofs.Asking.{asked_by_reads}
+use Rattle.std.proofs.Common.{true≢false, sym, ◌∙◌}
 use Rattle.catalogue.proofs.Reading.{reads_nothing}
-use Rattle.drainage.proofs.Questioned.{answered, passed_on, refused_by, stopped}
+use Rattle.drainage.proofs.Questioned.{answered, stopped}
 use Rattle.drainage.proofs.renewing.current_labelling.Goals as goal
 
 pub returns-then-not-present-clause-asked : goal.returns-then-not-present-clause-asked

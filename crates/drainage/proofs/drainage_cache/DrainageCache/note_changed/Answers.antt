@@ -4,7 +4,7 @@ use Rattle.lattice.specs.declared.height.Height.TheVariants.{At}
 use Rattle.lattice.specs.Height.{height_of}
 use Rattle.drainage.specs.Spared.{IsSetTo}
 use Rattle.std.specs.Prelude.{Option, Some}
-use Rattle.drainage.specs.Between.{are_noted, are_right, drain_right}
+use Rattle.drainage.specs.Between.{are_noted, are_right, drain_right, directions_right}
 use Rattle.drainage.specs.declared.tile_cache.TileCache.{TileCache}
 use Rattle.drainage.proofs.drainage_cache.DrainageCache.note_changed.Goals as goal
 
@@ -23,6 +23,7 @@ returns-clause-right c m new differ was set right =
     record {
       tile_cache = c.note_changed.ensures.right m new differ before to (subst (are_right m) (sym held) right.tile_cache);
       flows = subst (drain_right new) (sym c.invalidate_ways.ensures.flows) tt;
+      directions = subst (directions_right new) (sym c.invalidate_ways.ensures.directions) tt;
     }
 
 pub returns-clause-still : goal.returns-clause-still
@@ -31,4 +32,5 @@ returns-clause-still c m right =
     record {
       tile_cache = c.note_changed.ensures.still m (subst (are_right m) (sym held) right.tile_cache);
       flows = subst (drain_right m) (sym c.invalidate_ways.ensures.flows) tt;
+      directions = subst (directions_right m) (sym c.invalidate_ways.ensures.directions) tt;
     }

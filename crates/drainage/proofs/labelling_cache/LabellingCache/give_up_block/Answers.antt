@@ -1,8 +1,8 @@
-use Rattle.std.proofs.Common.{◌≡◌, ◌<◌, ℕ, List, length, sym, ap, ◌∙◌, subst}
+use Rattle.std.proofs.Common.{◌<◌, List, length, sym, ◌∙◌, subst}
 use Rattle.std.specs.Prelude.{Option, Some, None, slice_set}
 use Rattle.std.proofs.lemmas.List.{get_or_default, length-set}
 use Rattle.tile_labellings.specs.declared.tile_labelling.TileLabelling.{TileLabelling}
-use Rattle.drainage.specs.Holding.{IsEntered, labelling_at}
+use Rattle.drainage.specs.Holding.{IsEntered}
 use Rattle.drainage.proofs.Caching.{set_there, none_there, set_any}
 use Rattle.drainage.proofs.labelling_cache.LabellingCache.give_up_block.Goals as goal
 

@@ -1,4 +1,4 @@
-use Rattle.std.proofs.Common.{rules, ◌≡◌, ◌<◌, ℕ, List, length, sym, subst}
+use Rattle.std.proofs.Common.{rules, ◌<◌, List, length, sym, subst}
 use Rattle.std.specs.Prelude.{Option, Some}
 use Rattle.tile_labellings.specs.declared.tile_labelling.TileLabelling.{TileLabelling}
 use Rattle.drainage.specs.Holding.{IsEntered}

@@ -1,4 +1,4 @@
-use Rattle.std.proofs.Common.{◌≡◌, Result, Ok, Err, List, refl, sym, ap, ◌∙◌, subst}
+use Rattle.std.proofs.Common.{◌≡◌, Result, Ok, Err, List, sym, ◌∙◌, subst}
 use Rattle.std.specs.Prelude.{Option, IfOk, OnOk}
 use Rattle.std.proofs.lemmas.Result.{err_from_is_err_and}
 use Rattle.lattice.specs.Mosaic.{Mosaic}
@@ -8,7 +8,7 @@ use Rattle.catalogue.proofs.Reading.{reads_nothing, reads_on}
 use Rattle.catalogue.specs.declared.samples.Samples.{Ghosts}
 use Rattle.tile_labellings.specs.Spots.{IsLabelledAt}
 use Rattle.tile_labellings.specs.declared.tile_labelling.TileLabelling.{TileLabelling}
-use Rattle.drainage.specs.Holding.{Known, IsEntered, IsGrown, IsRight}
+use Rattle.drainage.specs.Holding.{Known, IsEntered, IsGrown}
 use Rattle.drainage.specs.Kept.{grown_on, right_still}
 use Rattle.drainage.specs.TileCaches.{known_of}
 use Rattle.drainage.proofs.Growing.{grown_fewer}

@@ -1,0 +1,13 @@
+use Rattle.std.proofs.Common.{SFits, w16, sym, subst}
+use Rattle.std.proofs.lemmas.Int.{to_z-of_z}
+use Rattle.drainage.specs.Everywhere.{IsLevelOrVoid}
+use Rattle.drainage.proofs.AllLevels.{level_or_void_is}
+use Rattle.drainage.proofs.everywhere.level_of.Goals as goal
+
+pub returns-clause-level : goal.returns-clause-level
+returns-clause-level g c honest =
+    let m = g.S.Samples.mosaic c.args.samples.now in
+    let level = c.level_or_void.result in
+    let fits : SFits w16 level = record { sfits = c.level_or_void.type_inv } in
+    subst (IsLevelOrVoid m c.args.point) (sym (to_z-of_z w16 level fits))
+    (level_or_void_is m c.args.point c.in_ok-found.found level c.level_or_void.ensures (c.in_ok-found.ensures.level honest))
