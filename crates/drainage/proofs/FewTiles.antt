@@ -1,5 +1,5 @@
 -- There are no more tiles than corners, 180 by 360 of them; so each rim point of a mosaic has its number.
-use Rattle.std.proofs.Common.{◌≡◌, ℕ, ◌+◌, ◌-◌, ◌*◌, ◌^◌, ◌<◌, ◌≤◌, inl, inr, ℤ, pos, negsuc, ◌+ℤ◌, ◌*ℤ◌, ◌≤ℤ◌, ◌<ℤ◌, ◌&&◌, List, [], ◌∷◌, length, map, IsTrue, arith, int_le}
+use Rattle.std.proofs.Common.{ℕ, ◌+◌, ◌-◌, ◌*◌, ◌^◌, ◌<◌, ◌≤◌, inl, inr, ℤ, pos, negsuc, ◌+ℤ◌, ◌*ℤ◌, ◌≤ℤ◌, ◌<ℤ◌, ◌&&◌, List, [], ◌∷◌, length, IsTrue, arith, int_le}
 use Rattle.std.specs.Prelude.{All}
 use Rattle.std.proofs.lemmas.Int.{ints}
 use Rattle.std.proofs.lemmas.Bool.{and_parts}
@@ -7,7 +7,6 @@ use Rattle.std.proofs.lemmas.Nat.{mul-le}
 use Rattle.std.proofs.lemmas.List.{length-map}
 use Rattle.std.proofs.lemmas.List.Elements.{All-head, All-tail}
 use Rattle.lattice.specs.Corners.{Corner, is_corner}
-use Rattle.lattice.specs.Limits.{largest_side}
 use Rattle.lattice.specs.Mosaic.{Tile, Mosaic, IsMosaic, IsTile}
 use Rattle.lattice.proofs.CornerOrder.{Below, before_says}
 use Rattle.lattice.proofs.IntTests.{le_true}

@@ -1,4 +1,4 @@
-use Rattle.std.proofs.Common.{◌≡◌, ◌+◌, ◌-◌, ◌*◌, ◌^◌, ◌<◌, ℕ, [], ◌∷◌, length, List, sym, ◌∙◌, ap, subst, length-append, rules}
+use Rattle.std.proofs.Common.{◌≡◌, ◌+◌, ◌-◌, ◌*◌, ◌^◌, ◌<◌, [], ◌∷◌, length, List, sym, ◌∙◌, ap, subst, length-append, rules}
 use Rattle.std.specs.Prelude.{None}
 use Rattle.lattice.specs.Corners.{Corner}
 use Rattle.drainage.proofs.Caching.{none_held}
