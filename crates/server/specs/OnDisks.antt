@@ -30,7 +30,7 @@ use Rattle.store.specs.declared.store.Store.{Store}
 use Rattle.server.specs.Endings.{EndsAnswering, EndsSession, Tells, TellsRefusal, count_line}
 use Rattle.serving.specs.Outputs.{Stream}
 use Rattle.server.specs.Places.{HasGrown, HasNotGrown}
-use Rattle.server.specs.Sizes.{IsTaken}
+use Rattle.server.specs.Sizes.{IsTaken, IsRefusedOn}
 use Rattle.server.specs.Report.{IsReportText, Reports}
 use Rattle.server.specs.Sessions.{TellsCall}
 
@@ -148,8 +148,8 @@ module _ {D : Type 0} (g : Ghosts D) where
       TellsClosed old new written now status
       ⊎ (WasRead old new × Tells (codes "mosaic: cannot read " ++ tile) written now status)
       ⊎ (IsSome reader × WasRead old new × TellsRefusal NoMemory written now status)
-      ⊎ (IsSome reader × (store : Store D g) × (bytes : List ℕ) × (result : Result ℕ Refusal) × WasRead old (disk_of store) × IsTileRead (side_of store) (given_by remaining reader) bytes
-      × HasApplied old new (Import corner bytes) result × EndsAnswering count_line result written now status)
+      ⊎ (IsSome reader × (store : Store D g) × (bytes : List ℕ) × (result : Result ℕ Refusal) × WasRead old (disk_of store) × IsOpening g old (Ok store)
+      × IsTileRead (side_of store) (given_by remaining reader) bytes × HasApplied old new (Import corner bytes) result × EndsAnswering count_line result written now status)
 
   -- ---- an upgrade
 
@@ -199,7 +199,9 @@ module _ {D : Type 0} (g : Ghosts D) where
     pub device : IsErrOf result Device → HasRisen (g.failures old) (g.failures new)
     pub honest : g.honest new → g.honest old
     pub formatted : g.honest new → OnOk result ((image : Image) → g.may new image → StandsFor (g.size new) side capacity image (fresh side))
-    -- where there is room it is refused only for the disk
+    -- where the sizes don't serve, it is refused so and nothing was done
+    pub refused : (r : Refusal) → IsRefusedOn side capacity (g.size old) r → (result ≡ Err r) × (new ≡ old)
+    -- where they do, only for the disk
     pub sure : IsTaken side capacity → sectors_asked (format_2 side capacity) ≤ g.size old → IfErr result (λ r. r ≡ Device)
 
   -- the disk is made a store without tiles

@@ -48,6 +48,7 @@ returns g c =
       bytes,
       c.apply-applied.result,
       was_read g.D.Disk c.args.disk c.in-Ok.store opened,
+      record { size = opened.size; nothing = opened.nothing; at = opened.at; sure = λ h side capacity a b holds. tt; device = tt },
       subst (λ (n : ℕ). IsTileRead n (given_by g.R.Read.remaining c.args.reader) bytes) c.tile_side.ensures read,
       subst (λ d. HasApplied g.D.Disk c.args.disk d (Import c.args.corner bytes) c.apply-applied.result) (sym c.into_disk-2.ensures) applied,
       c.end_command.ensures,
