@@ -7,7 +7,9 @@ use Rattle.page_codec.specs.Formats.{Format}
 use Rattle.page_map.specs.Locations.{PlaneLocation, pages_behind, pages_of_plane, times}
 use Rattle.page_map.specs.TileLocations.{TileLocation, pages_of_kept, pages_of_tile, reached}
 use Rattle.cow_tree.specs.Layout.{tile_in}
-use Rattle.page_map.specs.PageMaps.{PageMapValue, IsPageMap, IsAdded, IsFresh, IsLocated, HasHeights, with_tile_location, is_unreached}
+use Rattle.page_map.specs.declared.plane.Plane.TheVariants.{Heights}
+use Rattle.page_map.specs.Planes.{HasPlane, HasPlaneAt}
+use Rattle.page_map.specs.PageMaps.{PageMapValue, IsPageMap, IsAdded, IsFresh, with_tile_location, is_unreached}
 use Rattle.cow_tree.specs.Stored.{StoredTile, with_tile, stale_tile, pages_of_bytes}
 use Rattle.cow_tree.specs.Staged.{AreStaged, IsListedBy, IsTileListed}
 use Rattle.cow_tree.proofs.Standing.{SameOn, All-front, All-back, tile_same, tiles_same}
@@ -97,13 +99,13 @@ module _ (old new : PageMapValue) (c : Corner) (rules : IsPageMap new) (added : 
   among : Contains new.staged (record { corner = c; heights = added.location; kept = None })
   among = subst (λ (tiles : List TileLocation). Contains tiles (record { corner = c; heights = added.location; kept = None })) (sym staged_is) (added_there (record { corner = c; heights = added.location; kept = None }) old.staged)
 
-  pub added_located : IsLocated c new.staged
-  added_located = contains-map (λ (t : TileLocation). t.corner) new.staged (record { corner = c; heights = added.location; kept = None }) among
+  pub added_heights : HasPlane new.staged c Heights
+  added_heights = (record { corner = c; heights = added.location; kept = None }, (among, (refl, (added.location, refl))))
 
-  pub location_is : (plane : PlaneLocation) → HasHeights c plane new.staged → added.location ≡ plane
-  location_is plane had = ap (λ (t : TileLocation). t.heights) (one_at_corner new.staged (record { corner = c; heights = added.location; kept = None }) had.0 rules.staged.in_order among had.1.0 (sym had.1.1)) ∙ had.1.2
+  pub location_is : (plane : PlaneLocation) → HasPlaneAt new.staged c Heights plane → added.location ≡ plane
+  location_is plane had = ap (λ (t : TileLocation). t.heights) (one_at_corner new.staged (record { corner = c; heights = added.location; kept = None }) had.0 rules.staged.in_order among had.1.0 (sym had.1.1.0)) ∙ had.1.1.1
 
-  fresh_pages : (plane : PlaneLocation) → HasHeights c plane new.staged → All (IsFresh new) plane.pages
+  fresh_pages : (plane : PlaneLocation) → HasPlaneAt new.staged c Heights plane → All (IsFresh new) plane.pages
   fresh_pages plane had = subst (λ (q : PlaneLocation). All (IsFresh new) q.pages) (location_is plane had) (All-back (IsFresh new) added.location.index_pages added.location.pages (All-tail (IsFresh new) added.location.record_page (pages_behind added.location) added.fresh))
 
   index_unreached : (k : ℕ) → k < length added.location.index_pages → ¬ Contains (reached old.committed) (get_or added.location.index_pages k 0)
@@ -111,19 +113,19 @@ module _ (old new : PageMapValue) (c : Corner) (rules : IsPageMap new) (added : 
       subst (λ (tiles : List TileLocation). ¬ Contains (reached tiles) (get_or added.location.index_pages k 0)) committed_is
       (All-front (IsFresh new) added.location.index_pages added.location.pages (All-tail (IsFresh new) added.location.record_page (pages_behind added.location) added.fresh) k 0 lt).unreached
 
-  pub pages_low : (plane : PlaneLocation) → HasHeights c plane new.staged → All (λ p. 4 ≤ p) plane.pages
+  pub pages_low : (plane : PlaneLocation) → HasPlaneAt new.staged c Heights plane → All (λ p. 4 ≤ p) plane.pages
   pages_low plane had k d lt = (fresh_pages plane had k d lt).low
 
-  pub pages_high : (plane : PlaneLocation) → HasHeights c plane new.staged → All (λ p. p < new.sectors) plane.pages
+  pub pages_high : (plane : PlaneLocation) → HasPlaneAt new.staged c Heights plane → All (λ p. p < new.sectors) plane.pages
   pages_high plane had k d lt = (fresh_pages plane had k d lt).high
 
-  pub pages_unreached : (plane : PlaneLocation) → HasHeights c plane new.staged → All (λ p. ¬ Contains (reached old.committed) p) plane.pages
+  pub pages_unreached : (plane : PlaneLocation) → HasPlaneAt new.staged c Heights plane → All (λ p. ¬ Contains (reached old.committed) p) plane.pages
   pages_unreached plane had k d lt = subst (λ (tiles : List TileLocation). ¬ Contains (reached tiles) (get_or plane.pages k d)) committed_is (fresh_pages plane had k d lt).unreached
 
   once_there : (p : ℕ) → times p (reached (with_tile_location (record { corner = c; heights = added.location; kept = None }) old.staged)) ≤ 1
   once_there p = subst (λ (tiles : List TileLocation). times p (reached tiles) ≤ 1) staged_is (rules.staged.page_rule.once p)
 
-  pub pages_once : (plane : PlaneLocation) → HasHeights c plane new.staged → (p : ℕ) → times p plane.pages ≤ 1
+  pub pages_once : (plane : PlaneLocation) → HasPlaneAt new.staged c Heights plane → (p : ℕ) → times p plane.pages ≤ 1
   pages_once plane had p =
       let one = once_there p in
       let split = times_added p (record { corner = c; heights = added.location; kept = None }) old.staged in
@@ -132,7 +134,7 @@ module _ (old new : PageMapValue) (c : Corner) (rules : IsPageMap new) (added : 
       let behind = times-append p added.location.index_pages added.location.pages in
       subst (λ (q : PlaneLocation). times p q.pages ≤ 1) (location_is plane had) (omega (arith, one, split, whole, front, behind))
 
-  module _ (plane : PlaneLocation) (had : HasHeights c plane new.staged) (a b : Image) (bytes : List ℕ) (others : (p : ℕ) → 4 ≤ p → times p plane.pages ≡ 0 → a p ≡ b p) where
+  module _ (plane : PlaneLocation) (had : HasPlaneAt new.staged c Heights plane) (a b : Image) (bytes : List ℕ) (others : (p : ℕ) → 4 ≤ p → times p plane.pages ≡ 0 → a p ≡ b p) where
     unwritten : (p : ℕ) → 4 ≤ p → times p added.location.pages ≡ 0 → a p ≡ b p
     unwritten p low none = others p low (subst (λ (q : PlaneLocation). times p q.pages ≡ 0) (location_is plane had) none)
 

@@ -16,9 +16,8 @@ use Rattle.page_map.specs.declared.locations.KeptLocations.{KeptLocations}
 use Rattle.page_map.specs.Locations.{PlaneLocation, listing_of, moved_plane, pages_behind}
 use Rattle.page_map.specs.TileLocations.{TileLocation, reached}
 use Rattle.page_map.specs.Upgraded.{listing_of_kept, listing_of_tile, listings}
-use Rattle.page_map.proofs.KeptChanging.{other_kept}
 use Rattle.page_map.proofs.UpgradedTiles.{tiles_split}
-use Rattle.page_map.specs.PageMaps.{PageMapValue, IsPageMap, IsFresh, IsLocated, IsRewritten, IsPrepared, IsAdded, HasFreshHeights, AreKept, IsWholeTile, is_at, is_unreached, corners_of_locations, with_tile_location, without_location}
+use Rattle.page_map.specs.PageMaps.{PageMapValue, IsPageMap, IsFresh, IsLocated, IsRewritten, IsPrepared, IsAdded, HasFreshHeights, AreKept, IsWholeTile, is_at, is_unreached, corners_of_locations, other_kept, with_tile_location, without_location}
 use Rattle.cow_tree.specs.Staged.{index_page_by, pages_due}
 use Rattle.cow_tree.specs.Stored.{with_corner}
 use Rattle.cow_tree.proofs.Adding.{added_there}

@@ -9,27 +9,40 @@ use Rattle.page_codec.specs.Roots.{AreInOrder}
 use Rattle.page_map.specs.declared.locations.KeptLocations.{KeptLocations}
 use Rattle.page_map.specs.Locations.{PlaneLocation, pages_behind, pages_of_plane}
 use Rattle.page_map.specs.TileLocations.{TileLocation, pages_of_kept, pages_of_tile, reached}
-use Rattle.page_map.specs.PageMaps.{PageMapValue, IsPageMap, HasHeights, HasKept, IsLocated, corners_of_locations}
+use Rattle.page_map.specs.declared.plane.Plane.{Plane}
+use Rattle.page_map.specs.declared.plane.Plane.TheVariants.{Heights, Levels, Labels}
+use Rattle.page_map.specs.Planes.{HasPlane, HasPlaneAt, plane_of}
+use Rattle.page_map.specs.TileEntries.{kept_of}
+use Rattle.page_map.specs.PageMaps.{PageMapValue, IsPageMap, IsLocated, corners_of_locations}
+use Rattle.page_map.proofs.Loading.{kept_back}
+use Rattle.page_map.proofs.Lookup.{lies, lies_there}
 use Rattle.cow_tree.specs.Entries.{entry_of_kept, entry_of}
 use Rattle.cow_tree.proofs.Standing.{All-back}
 use Rattle.cow_tree.proofs.Tiles.{each_tile, one_at_corner, adjacent_map}
 
 module _ (page_map : PageMapValue) (rules : IsPageMap page_map) where
   -- ---- what a corner's tile is named by
-  pub entry_is : (c : Corner) (heights : PlaneLocation) (kept : Option (Bor KeptLocations)) → HasHeights c heights page_map.staged → IfSome kept (λ k. HasKept c k.now page_map.staged)
-      → IfNone kept ((t : TileLocation) → Contains page_map.staged t → t.corner ≡ c → t.kept ≡ None)
-      → (t : TileLocation) → Contains page_map.staged t → t.corner ≡ c → record { corner = c; heights = heights.record_page; kept = entry_of_kept (option_copied kept) } ≡ entry_of t
-  entry_is c heights kept had some none t has at =
-      ap₂ (λ (h : PlaneLocation) (k : Option KeptLocations). let e : EntryValue = record { corner = c; heights = h.record_page; kept = entry_of_kept k } in e)
-      (sym had.1.2 ∙ ap (λ (u : TileLocation). u.heights) (same had.0 had.1.0 had.1.1)) (kept_is kept some none)
-      ∙ ap (λ (d : Corner). let e : EntryValue = record { corner = d; heights = t.heights.record_page; kept = entry_of_kept t.kept } in e) (sym at)
-    where
-      same : (u : TileLocation) → Contains page_map.staged u → u.corner ≡ c → u ≡ t
-      same u among here = one_at_corner page_map.staged u t rules.staged.in_order among has (here ∙ sym at)
+  module _ (c : Corner) (t : TileLocation) (has : Contains page_map.staged t) (at : t.corner ≡ c) where
+    -- the planes found are the tile's
+    plane_is : (plane : Plane) (r : Option (Bor PlaneLocation)) → IfSome r (λ location. HasPlaneAt page_map.staged c plane location.now) → IfNone r (¬ HasPlane page_map.staged c plane) → option_copied r ≡ plane_of plane t
+    plane_is plane (Some location) (u, (among, (here, lies_at))) none =
+        sym (lies plane u location.now lies_at) ∙ ap (plane_of plane) (one_at_corner page_map.staged u t rules.staged.in_order among has (here ∙ sym at))
+    plane_is plane None found none = by (plane_of plane t) refl
+      where
+        by : (o : Option PlaneLocation) → plane_of plane t ≡ o → None ≡ o
+        by None is = refl
+        by (Some location) is = absurd (none (t, (has, (at, (location, lies_there plane t location (sym is))))))
 
-      kept_is : (k : Option (Bor KeptLocations)) → IfSome k (λ q. HasKept c q.now page_map.staged) → IfNone k ((u : TileLocation) → Contains page_map.staged u → u.corner ≡ c → u.kept ≡ None) → option_copied k ≡ t.kept
-      kept_is None some none = sym (none t has at)
-      kept_is (Some k) (u, (among, here, is)) none = sym is ∙ ap (λ (v : TileLocation). v.kept) (same u among here)
+    pub entry_is : (heights : PlaneLocation) (levels labels : Option (Bor PlaneLocation)) → HasPlaneAt page_map.staged c Heights heights
+        → IfSome levels (λ location. HasPlaneAt page_map.staged c Levels location.now) → IfNone levels (¬ HasPlane page_map.staged c Levels)
+        → IfSome labels (λ location. HasPlaneAt page_map.staged c Labels location.now) → IfNone labels (¬ HasPlane page_map.staged c Labels)
+        → record { corner = c; heights = heights.record_page; kept = entry_of_kept (kept_of (option_copied levels) (option_copied labels)) } ≡ entry_of t
+    entry_is heights levels labels (u, (among, (here, is))) has_levels no_levels has_labels no_labels =
+        let same : u ≡ t = one_at_corner page_map.staged u t rules.staged.in_order among has (here ∙ sym at) in
+        let kept_is : kept_of (option_copied levels) (option_copied labels) ≡ t.kept =
+        ap₂ kept_of (plane_is Levels levels has_levels no_levels) (plane_is Labels labels has_labels no_labels) ∙ kept_back t.kept in
+        ap₂ (λ (h : PlaneLocation) (k : Option KeptLocations). let e : EntryValue = record { corner = c; heights = h.record_page; kept = entry_of_kept k } in e) (sym is ∙ ap (λ (v : TileLocation). v.heights) same) kept_is
+        ∙ ap (λ (d : Corner). let e : EntryValue = record { corner = d; heights = t.heights.record_page; kept = entry_of_kept t.kept } in e) (sym at)
 
   module _ (fits : page_map.sectors < 2 ^ 32) where
     pub entry_rules : (t : TileLocation) → Contains page_map.staged t → IsEntry (entry_of t)

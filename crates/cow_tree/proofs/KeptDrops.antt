@@ -5,15 +5,14 @@ use Rattle.disk.specs.Disk.{Image}
 use Rattle.lattice.specs.Corners.{Corner}
 use Rattle.page_codec.specs.Formats.{Format}
 use Rattle.page_map.specs.TileLocations.{TileLocation}
-use Rattle.page_map.specs.PageMaps.{PageMapValue, HasFreshHeights, is_at, corners_of_locations, without_kept}
+use Rattle.page_map.specs.PageMaps.{PageMapValue, HasFreshHeights, is_at, corners_of_locations, other_kept}
 use Rattle.page_map.specs.declared.locations.KeptLocations.{KeptLocations}
-use Rattle.page_map.proofs.KeptChanging.{other_kept}
 use Rattle.cow_tree.specs.Layout.{tile_in}
 use Rattle.cow_tree.specs.Staged.{AreListedBy, AreStaged, IsTileListed}
 use Rattle.cow_tree.specs.Stored.{StoredTile, stale_tile, made_stale}
 use Rattle.cow_tree.proofs.CornerChanges.{all_changed, corners_still, heights_still}
 
-pub bared_tiles : (c : Corner) (image : Image) (tiles : List TileLocation) → map (tile_in image) (without_kept c tiles) ≡ made_stale c (map (tile_in image) tiles)
+pub bared_tiles : (c : Corner) (image : Image) (tiles : List TileLocation) → map (tile_in image) (other_kept c None tiles) ≡ made_stale c (map (tile_in image) tiles)
 bared_tiles c image [] = refl
 bared_tiles c image (t ∷ rest) = ap₂ (λ (x : StoredTile) (xs : List StoredTile). x ∷ xs) (by_test (is_at c t)) (bared_tiles c image rest)
   where

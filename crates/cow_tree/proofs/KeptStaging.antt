@@ -1,13 +1,18 @@
 -- Levels and labels of a tile that were written whole are staged.
 use Rattle.std.proofs.Common.{◌≡◌, ℕ, ◌<◌, ◌≤◌, Bool, true, false, not, inl, inr, if◌then◌else◌, List, [], ◌∷◌, ◌++◌, All, Contains, get_or, map, refl, sym, ap, ap₂, ◌∙◌, subst, arith}
-use Rattle.std.specs.Prelude.{Option, Some, None}
+use Rattle.std.specs.Prelude.{Option, Some, option_map}
 use Rattle.std.proofs.lemmas.Bool.{cases_eq}
 use Rattle.std.proofs.lemmas.List.Elements.{Contains-get_or}
+use Rattle.std.proofs.lemmas.Option.{same_Some}
 use Rattle.disk.specs.Disk.{Image}
 use Rattle.lattice.specs.Corners.{Corner}
 use Rattle.page_codec.specs.Formats.{Format}
+use Rattle.page_map.specs.declared.plane.Plane.{Plane}
+use Rattle.page_map.specs.declared.plane.Plane.TheVariants.{Levels, Labels}
+use Rattle.page_map.specs.Planes.{HasPlane, HasPlaneAt, plane_of}
+use Rattle.page_map.proofs.Lookup.{lies, lies_there}
 use Rattle.page_map.specs.declared.locations.KeptLocations.{KeptLocations}
-use Rattle.page_map.specs.PageMaps.{PageMapValue, IsPageMap, IsClean, IsFresh, IsLocated, HasKept, AreKept, AreWholeKept, is_at, is_unreached, with_kept_locations}
+use Rattle.page_map.specs.PageMaps.{PageMapValue, IsPageMap, IsClean, IsFresh, IsLocated, AreKept, AreWholeKept, is_at, is_unreached, other_kept}
 use Rattle.page_map.specs.Locations.{PlaneLocation, listing_of, pages_behind, pages_of_plane, times}
 use Rattle.page_map.specs.TileLocations.{TileLocation, pages_of_kept, pages_of_tile, reached}
 use Rattle.page_map.proofs.Occurrences.{times-append, times_here, stands_there}
@@ -25,15 +30,18 @@ use Rattle.cow_tree.proofs.Staging.{unreached_test}
 use Rattle.cow_tree.proofs.Standing.{SameOn, All-front, All-back, tile_same, plane_same}
 use Rattle.cow_tree.proofs.Tiles.{one_at_corner}
 
--- the corner's tile has them
-kept_tile : (c : Corner) (k : KeptLocations) (tiles : List TileLocation) → IsLocated c tiles → HasKept c k (with_kept_locations c k tiles)
+-- the corner's tile has these planes kept there
+abbrev HasKept : Corner → KeptLocations → List TileLocation → Type 0
+HasKept c kept tiles = (t : TileLocation) × (Contains tiles t × (t.corner ≡ c) × (t.kept ≡ Some kept))
+
+kept_tile : (c : Corner) (k : KeptLocations) (tiles : List TileLocation) → IsLocated c tiles → HasKept c k (other_kept c (Some k) tiles)
 kept_tile c k tiles located =
     let found = located_tile c tiles located in
     (record (found.0) { kept = Some k }, (tile_changed c (λ t. record t { kept = Some k }) (λ t. refl) tiles found.0 found.1.0 found.1.1, found.1.1, refl))
 
 -- what stands there
 kept_tiles : (c : Corner) (k : KeptLocations) (planes : KeptPlanes) (a b : Image) (tiles : List TileLocation) → kept_in b (Some k) ≡ Some planes → SameOn (reached tiles) a b
-    → map (tile_in b) (with_kept_locations c k tiles) ≡ with_kept c planes (map (tile_in a) tiles)
+    → map (tile_in b) (other_kept c (Some k) tiles) ≡ with_kept c planes (map (tile_in a) tiles)
 kept_tiles c k planes a b [] wrote same = refl
 kept_tiles c k planes a b (t ∷ rest) wrote same =
     ap₂ (λ (x : StoredTile) (xs : List StoredTile). x ∷ xs) (by_test (is_at c t)) (kept_tiles c k planes a b rest wrote (All-back (λ q. a q ≡ b q) (pages_of_tile t) (reached rest) same))
@@ -46,7 +54,7 @@ kept_tiles c k planes a b (t ∷ rest) wrote same =
     by_test false = sym (tile_same t a b here)
 
 module _ (old new : PageMapValue) (c : Corner) (rules : IsPageMap new) (was : IsPageMap old) (anew : AreKept c old new) (clean : IsClean old) (located : IsLocated c old.staged) where
-  staged_is : new.staged ≡ with_kept_locations c anew.locations old.staged
+  staged_is : new.staged ≡ other_kept c (Some anew.locations) old.staged
   staged_is = ap (λ (x : PageMapValue). x.staged) anew.changed
 
   committed_is : new.committed ≡ old.committed
@@ -55,51 +63,62 @@ module _ (old new : PageMapValue) (c : Corner) (rules : IsPageMap new) (was : Is
   has_kept : HasKept c anew.locations new.staged
   has_kept = subst (HasKept c anew.locations) (sym staged_is) (kept_tile c anew.locations old.staged located)
 
-  pub some_kept : ((t : TileLocation) → Contains new.staged t → t.corner ≡ c → t.kept ≡ None) → ⊥
-  some_kept none = let no : Some anew.locations ≡ None = sym has_kept.1.2 ∙ none has_kept.0 has_kept.1.0 has_kept.1.1 in cc
+  -- it has both planes, and they lie there
+  has_plane : (plane : Plane) (location : PlaneLocation) → plane_of plane has_kept.0 ≡ Some location → HasPlane new.staged c plane
+  has_plane plane location is = (has_kept.0, (has_kept.1.0, (has_kept.1.1, (location, lies_there plane has_kept.0 location (sym is)))))
 
-  pub locations_are : (k : KeptLocations) → HasKept c k new.staged → anew.locations ≡ k
-  locations_are k had =
-      let same : has_kept.0 ≡ had.0 = one_at_corner new.staged has_kept.0 had.0 rules.staged.in_order has_kept.1.0 had.1.0 (has_kept.1.1 ∙ sym had.1.1) in
-      let both : Some anew.locations ≡ Some k = sym has_kept.1.2 ∙ ap (λ (t : TileLocation). t.kept) same ∙ had.1.2 in
-      cc
+  pub no_levels : ¬ HasPlane new.staged c Levels → ⊥
+  no_levels none = none (has_plane Levels anew.locations.levels (ap (option_map (λ (k : KeptLocations). k.levels)) has_kept.1.2))
+
+  pub no_labels : ¬ HasPlane new.staged c Labels → ⊥
+  no_labels none = none (has_plane Labels anew.locations.labels (ap (option_map (λ (k : KeptLocations). k.labels)) has_kept.1.2))
+
+  lies_so : (plane : Plane) (location : PlaneLocation) → HasPlaneAt new.staged c plane location → plane_of plane has_kept.0 ≡ Some location
+  lies_so plane location (t, (there, (at, lies_at))) =
+      ap (plane_of plane) (one_at_corner new.staged has_kept.0 t rules.staged.in_order has_kept.1.0 there (has_kept.1.1 ∙ sym at)) ∙ lies plane t location lies_at
+
+  pub locations_are : (levels labels : PlaneLocation) → HasPlaneAt new.staged c Levels levels → HasPlaneAt new.staged c Labels labels → anew.locations ≡ record { levels = levels; labels = labels }
+  locations_are levels labels has_levels has_labels =
+      let first : Some anew.locations.levels ≡ Some levels = sym (ap (option_map (λ (k : KeptLocations). k.levels)) has_kept.1.2) ∙ lies_so Levels levels has_levels in
+      let second : Some anew.locations.labels ≡ Some labels = sym (ap (option_map (λ (k : KeptLocations). k.labels)) has_kept.1.2) ∙ lies_so Labels labels has_labels in
+      ap₂ (λ (x y : PlaneLocation). let k : KeptLocations = record { levels = x; labels = y } in k) (same_Some anew.locations.levels levels first) (same_Some anew.locations.labels labels second)
 
   -- its planes are whole, on pages that no committed tile reaches
-  pub whole_planes : (k : KeptLocations) → HasKept c k new.staged → AreWholeKept old.format k
-  whole_planes k had = subst (AreWholeKept old.format) (locations_are k had) anew.whole
+  pub whole_planes : (k : KeptLocations) → anew.locations ≡ k → AreWholeKept old.format k
+  whole_planes k had = subst (AreWholeKept old.format) had anew.whole
 
-  kept_within : (k : KeptLocations) → HasKept c k new.staged → (q : ℕ) → times q (pages_of_kept (Some k)) ≤ times q (reached new.staged)
+  kept_within : (k : KeptLocations) → anew.locations ≡ k → (q : ℕ) → times q (pages_of_kept (Some k)) ≤ times q (reached new.staged)
   kept_within k had q =
-      let t : TileLocation = had.0 in
-      let among = times_among pages_of_tile q new.staged t had.1.0 in
+      let t : TileLocation = has_kept.0 in
+      let among = times_among pages_of_tile q new.staged t has_kept.1.0 in
       let split = times-append q (pages_of_plane t.heights) (pages_of_kept t.kept) in
-      let own = ap (λ (o : Option KeptLocations). times q (pages_of_kept o)) had.1.2 in
+      let own = ap (λ (o : Option KeptLocations). times q (pages_of_kept o)) (has_kept.1.2 ∙ ap Some had) in
       omega (arith, among, split, own)
 
-  pages_within : (k : KeptLocations) → HasKept c k new.staged → (q : ℕ) → times q (k.levels.pages ++ k.labels.pages) ≤ times q (pages_of_kept (Some k))
+  pages_within : (k : KeptLocations) → anew.locations ≡ k → (q : ℕ) → times q (k.levels.pages ++ k.labels.pages) ≤ times q (pages_of_kept (Some k))
   pages_within k had q =
       omega (arith, times-append q k.levels.pages k.labels.pages, times-append q (pages_of_plane k.levels) (pages_of_plane k.labels), times-append q (listing_of k.levels) k.levels.pages, times-append q (listing_of k.labels) k.labels.pages)
 
-  pub pages_low : (k : KeptLocations) → HasKept c k new.staged → All (λ q. 4 ≤ q) (k.levels.pages ++ k.labels.pages)
+  pub pages_low : (k : KeptLocations) → anew.locations ≡ k → All (λ q. 4 ≤ q) (k.levels.pages ++ k.labels.pages)
   pages_low k had = all_of_fewer (λ q. 4 ≤ q) (k.levels.pages ++ k.labels.pages) (reached new.staged) (λ q. omega (arith, pages_within k had q, kept_within k had q)) rules.staged.page_rule.low
 
-  pub pages_high : (k : KeptLocations) → HasKept c k new.staged → All (λ q. q < new.sectors) (k.levels.pages ++ k.labels.pages)
+  pub pages_high : (k : KeptLocations) → anew.locations ≡ k → All (λ q. q < new.sectors) (k.levels.pages ++ k.labels.pages)
   pages_high k had = all_of_fewer (λ q. q < new.sectors) (k.levels.pages ++ k.labels.pages) (reached new.staged) (λ q. omega (arith, pages_within k had q, kept_within k had q)) rules.staged.page_rule.high
 
-  pub pages_once : (k : KeptLocations) → HasKept c k new.staged → (q : ℕ) → times q (k.levels.pages ++ k.labels.pages) ≤ 1
+  pub pages_once : (k : KeptLocations) → anew.locations ≡ k → (q : ℕ) → times q (k.levels.pages ++ k.labels.pages) ≤ 1
   pages_once k had q = omega (arith, pages_within k had q, kept_within k had q, rules.staged.page_rule.once q)
 
-  all_fresh : (k : KeptLocations) → HasKept c k new.staged → All (IsFresh new) (pages_of_kept (Some k))
-  all_fresh k had = subst (λ (l : KeptLocations). All (IsFresh new) (pages_of_kept (Some l))) (locations_are k had) anew.fresh
+  all_fresh : (k : KeptLocations) → anew.locations ≡ k → All (IsFresh new) (pages_of_kept (Some k))
+  all_fresh k had = subst (λ (l : KeptLocations). All (IsFresh new) (pages_of_kept (Some l))) had anew.fresh
 
-  unreached : (k : KeptLocations) → HasKept c k new.staged → (q : ℕ) → 1 ≤ times q (pages_of_kept (Some k)) → ¬ Contains (reached old.committed) q
+  unreached : (k : KeptLocations) → anew.locations ≡ k → (q : ℕ) → 1 ≤ times q (pages_of_kept (Some k)) → ¬ Contains (reached old.committed) q
   unreached k had q some = subst (λ (tiles : List TileLocation). ¬ Contains (reached tiles) q) committed_is (at_times (IsFresh new) q (pages_of_kept (Some k)) (all_fresh k had) some).unreached
 
-  pub pages_unreached : (k : KeptLocations) → HasKept c k new.staged → All (λ q. ¬ Contains (reached old.committed) q) (k.levels.pages ++ k.labels.pages)
+  pub pages_unreached : (k : KeptLocations) → anew.locations ≡ k → All (λ q. ¬ Contains (reached old.committed) q) (k.levels.pages ++ k.labels.pages)
   pages_unreached k had = all_at_times (λ q. ¬ Contains (reached old.committed) q) (k.levels.pages ++ k.labels.pages) (λ q some. unreached k had q (omega (arith, some, pages_within k had q)))
 
   -- what lists them isn't written before the commit
-  listed : (k : KeptLocations) → HasKept c k new.staged → (format : Format) (image : Image) → AreListedBy format old.committed image k
+  listed : (k : KeptLocations) → anew.locations ≡ k → (format : Format) (image : Image) → AreListedBy format old.committed image k
   listed k had format image = record { levels = by k.levels (λ q some. omega (arith, some, times-append q (pages_of_plane k.levels) (pages_of_plane k.labels))); labels = by k.labels (λ q some. omega (arith, some, times-append q (pages_of_plane k.levels) (pages_of_plane k.labels))) }
     where
       shared_not : (q : ℕ) → 1 ≤ times q (pages_of_kept (Some k)) → is_unreached old.committed q ≡ false → ⊥
@@ -113,7 +132,7 @@ module _ (old new : PageMapValue) (c : Corner) (rules : IsPageMap new) (was : Is
       }
 
   -- what was staged wasn't written
-  module _ (k : KeptLocations) (had : HasKept c k new.staged) (a b : Image) (others : (q : ℕ) → 4 ≤ q → times q (k.levels.pages ++ k.labels.pages) ≡ 0 → a q ≡ b q) where
+  module _ (k : KeptLocations) (had : anew.locations ≡ k) (a b : Image) (others : (q : ℕ) → 4 ≤ q → times q (k.levels.pages ++ k.labels.pages) ≡ 0 → a q ≡ b q) where
     same : SameOn (reached old.staged) a b
     same =
         all_at_times (λ q. a q ≡ b q) (reached old.staged)
@@ -130,11 +149,11 @@ module _ (old new : PageMapValue) (c : Corner) (rules : IsPageMap new) (was : Is
     pub kept_staged : (planes : KeptPlanes) → kept_in b (Some k) ≡ Some planes → map (tile_in b) new.staged ≡ with_kept c planes (map (tile_in a) old.staged)
     kept_staged planes wrote =
         ap (map (tile_in b)) staged_is
-        ∙ kept_tiles c anew.locations planes a b old.staged (ap (λ (l : KeptLocations). kept_in b (Some l)) (locations_are k had) ∙ wrote) same
+        ∙ kept_tiles c anew.locations planes a b old.staged (ap (λ (l : KeptLocations). kept_in b (Some l)) had ∙ wrote) same
 
     pub kept_stays : (format : Format) → AreStaged format old.committed old.staged a → AreStaged format new.committed new.staged b
     kept_stays format staged =
         subst (λ (tiles : List TileLocation). AreStaged format tiles new.staged b) (sym committed_is)
         (subst (λ (tiles : List TileLocation). AreStaged format old.committed tiles b) (sym staged_is)
-        (other_stays c (Some anew.locations) format old.committed b (subst (λ (l : KeptLocations). AreListedBy format old.committed b l) (sym (locations_are k had)) (listed k had format b)) old.staged
+        (other_stays c (Some anew.locations) format old.committed b (subst (λ (l : KeptLocations). AreListedBy format old.committed b l) (sym had) (listed k had format b)) old.staged
         (still_records format old.committed old.staged a b same staged)))

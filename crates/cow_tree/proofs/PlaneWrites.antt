@@ -1,6 +1,6 @@
 -- What lists the pages of one plane of a tile, written page by page.
 use Rattle.std.proofs.Common.{◌≡◌, ◌+◌, ◌<◌, ◌≤◌, ◌++◌, ◌∷◌, [], ℕ, Bool, true, false, cond, List, Contains, get_or, length, take, drop, Result, Ok, Err, OnOk, refl, sym, ap, ◌∙◌, subst, arith}
-use Rattle.std.specs.Prelude.{Option, Some, None, IfSome, option_map}
+use Rattle.std.specs.Prelude.{Option, Some, None, IfSome}
 use Rattle.std.proofs.lemmas.Option.{same_Some}
 use Rattle.std.proofs.lemmas.List.{append-nil, length-append, take-append-drop, take_all, take_more}
 use Rattle.std.proofs.lemmas.List.Elements.{All-contains, Contains-get_or, filter-append}
@@ -17,7 +17,7 @@ use Rattle.page_map.specs.PageMaps.{AreWholeKept, PageMapValue, IsPageMap, IsWho
 use Rattle.page_map.specs.Locations.{PlaneLocation, IsWholePlane, listing_of, times}
 use Rattle.page_map.specs.Planes.{HasPlane, HasPlaneAt, LiesAt, plane_of}
 use Rattle.page_map.specs.TileLocations.{TileLocation, reached}
-use Rattle.page_map.proofs.DueListings.{lies}
+use Rattle.page_map.proofs.Lookup.{lies, lies_there}
 use Rattle.page_map.proofs.Occurrences.{stands_there, times-append}
 use Rattle.cow_tree.specs.Listings.{ListingPage, WritesListing, due_among, listing_bytes, listing_if, named_listing, numbers_of, plane_listing}
 use Rattle.cow_tree.specs.OverRoots.{WritesPages}
@@ -52,22 +52,9 @@ module _ (page_map : PageMapValue) (rules : IsPageMap page_map) (c : Corner) (na
   pub no_plane : ¬ HasPlane page_map.staged c name → (t : TileLocation) → Contains page_map.staged t → t.corner ≡ c → named_listing page_map.format name t ≡ []
   no_plane none t among corner = by (plane_of name t) refl
     where
-      has : (n : Plane) (p : PlaneLocation) → plane_of n t ≡ Some p → LiesAt n t p
-      has Heights p is = same_Some t.heights p is
-      has Levels p is = by_kept t.kept refl
-        where
-          by_kept : (o : Option KeptLocations) → t.kept ≡ o → LiesAt Levels t p
-          by_kept None no_kept = absurd (let no_levels : None ≡ Some p = sym (ap (option_map (λ (k : KeptLocations). k.levels)) no_kept) ∙ is in cc)
-          by_kept (Some k) some = (k, (some, same_Some k.levels p (sym (ap (option_map (λ (l : KeptLocations). l.levels)) some) ∙ is)))
-      has Labels p is = by_kept t.kept refl
-        where
-          by_kept : (o : Option KeptLocations) → t.kept ≡ o → LiesAt Labels t p
-          by_kept None no_kept = absurd (let no_labels : None ≡ Some p = sym (ap (option_map (λ (k : KeptLocations). k.labels)) no_kept) ∙ is in cc)
-          by_kept (Some k) some = (k, (some, same_Some k.labels p (sym (ap (option_map (λ (l : KeptLocations). l.labels)) some) ∙ is)))
-
       by : (o : Option PlaneLocation) → plane_of name t ≡ o → listing_if page_map.format o ≡ []
       by None is = refl
-      by (Some p) is = absurd (none (t, (among, (corner, (p, has name p is)))))
+      by (Some p) is = absurd (none (t, (among, (corner, (p, lies_there name t p (sym is))))))
 
 -- ---- its pages, one after another
 module _ (page_map : PageMapValue) (rules : IsPageMap page_map) (p : PlaneLocation) (is : IsPlaneAt page_map p) (before : List TileLocation) where

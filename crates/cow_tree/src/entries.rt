@@ -3,13 +3,14 @@ ghost use Rattle.std.specs.Prelude.{◌≡◌, ◌≤◌, ◌<◌, ◌^◌, All,
 ghost use Rattle.page_codec.specs.Entries.{IsEntry};
 ghost use Rattle.page_codec.specs.Roots.{AreInOrder};
 ghost use Rattle.page_map.specs.PageMaps.{IsLocated};
+ghost use Rattle.page_map.specs.TileEntries.{kept_of};
 ghost use Rattle.page_map.specs.TileLocations.{TileLocation};
 ghost use Rattle.cow_tree.specs.Entries.{entry_of, entry_of_kept};
 
 use arrayvec::ArrayVec;
-use page_map::{PageMap, KeptLocations};
 use lattice::Corner;
 use page_codec::{Entry, Kept, ROOT_ENTRIES};
+use page_map::{PageMap, PagedPlane, Plane};
 
 /// The entries of the staged tiles, in the order of tiles.
 pub(crate) fn staged_entries(page_map: &PageMap) -> ArrayVec<Entry, ROOT_ENTRIES>
@@ -35,25 +36,26 @@ fn entry_at(page_map: &PageMap, c: Corner) -> Entry
     ensures { (t : TileLocation) → Contains page_map.now.staged t → t.corner ≡ c → result ≡ entry_of t }
 {
     page_map.rules();
-    let Some(heights) = page_map.heights(c) else {
+    let Some(heights) = page_map.plane(c, Plane::Heights) else {
         unreachable!()
     };
+    let levels = page_map.plane(c, Plane::Levels);
     Entry {
         corner: c,
         heights: heights.record_page(),
-        kept: records_of(page_map.kept(c)),
+        kept: records_of(levels, page_map.plane(c, Plane::Labels)),
     }
 }
 
 // The record pages of kept planes.
-fn records_of(kept: Option<&KeptLocations>) -> Option<Kept>
-    ensures { result ≡ entry_of_kept (option_copied kept.entry) }
+fn records_of(levels: Option<&PagedPlane>, labels: Option<&PagedPlane>) -> Option<Kept>
+    ensures { result ≡ entry_of_kept (kept_of (option_copied levels.entry) (option_copied labels.entry)) }
 {
-    match kept {
-        Some(kept) => Some(Kept {
-            levels: kept.levels.record_page(),
-            labels: kept.labels.record_page(),
+    match (levels, labels) {
+        (Some(levels), Some(labels)) => Some(Kept {
+            levels: levels.record_page(),
+            labels: labels.record_page(),
         }),
-        None => None,
+        _ => None,
     }
 }

@@ -23,8 +23,8 @@ mod sinks;
 mod tree;
 mod writing;
 
-pub use page_map::Plane;
 pub use laws::{images_stand_for_one, no_tiles_stand, planes_read_back};
 pub use longer::stands_where_longer;
+pub use page_map::Plane;
 pub use roots::NotOpened;
 pub use tree::Tree;

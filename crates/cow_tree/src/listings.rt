@@ -10,10 +10,10 @@ ghost use Rattle.cow_tree.specs.Listings.{WritesListing, due_among, listing_byte
 ghost use Rattle.roots.specs.Roots.{disk_of, has_failed};
 
 use arrayvec::ArrayVec;
-use page_map::{PageMap, PagedPlane, Plane};
 use disk::Disk;
 use lattice::{Corner, Refusal};
 use page_codec::{Format, IndexPage, RECORD_PAGES, Record, Version};
+use page_map::{PageMap, PagedPlane, Plane};
 use roots::Roots;
 
 /// Which of the pages that list planes are written.

@@ -15,10 +15,10 @@ ghost use Rattle.roots.specs.Roots.{disk_of, has_failed};
 ghost use Rattle.cow_tree.specs.OverRoots.{OnlyReads, IsRefusedFor, IsRefusalOfTree};
 
 use arrayvec::ArrayVec;
-use page_map::{PageMap, KeptLocations, PagedPlane, TilePlanes};
 use disk::Disk;
 use lattice::Refusal;
 use page_codec::{Entry, Format, Kept, PAGE_BYTES, RECORD_PAGES, Record, Root, Version};
+use page_map::{KeptLocations, PageMap, PagedPlane, TilePlanes};
 use roots::Roots;
 use std::alloc::Global;
 

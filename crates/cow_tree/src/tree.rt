@@ -205,10 +205,7 @@ impl<D: Disk> Tree<D> {
         ensures levels { IsTrue result ↔ Holds self.now c Levels }
         ensures labels { IsTrue result ↔ Holds self.now c Labels }
     {
-        match self.page_map.kept(c) {
-            Some(_) => true,
-            None => false,
-        }
+        self.page_map.plane(c, Plane::Levels).is_some()
     }
 
     /// The corners of the tiles, in order, as the next commit will have them.
@@ -478,7 +475,7 @@ impl<D: Disk> Tree<D> {
         prove!(plane == Plane::Heights);
         self.page_map.tile_for_writing(c)?;
         self.cache.clear();
-        match self.page_map.heights(c) {
+        match self.page_map.plane(c, Plane::Heights) {
             Some(plane) => write_plane(&mut self.roots, plane.pages(), bytes),
             None => unreachable!(),
         }
@@ -523,10 +520,13 @@ impl<D: Disk> Tree<D> {
         self.page_map.rules();
         self.page_map.keep(c)?;
         self.cache.clear();
-        match self.page_map.kept(c) {
-            Some(kept) => write_kept(&mut self.roots, kept, levels, labels),
-            None => unreachable!(),
-        }
+        let Some(levels_at) = self.page_map.plane(c, Plane::Levels) else {
+            unreachable!()
+        };
+        let Some(labels_at) = self.page_map.plane(c, Plane::Labels) else {
+            unreachable!()
+        };
+        write_kept(&mut self.roots, levels_at, labels_at, levels, labels)
     }
 
     /// Makes all that was staged current, at this count of accepted commands, with the commit number raised by one. A stop

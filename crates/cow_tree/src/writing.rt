@@ -9,10 +9,10 @@ ghost use Rattle.cow_tree.specs.Stored.{pages_of_bytes};
 ghost use Rattle.roots.specs.Roots.{disk_of, has_failed};
 ghost use Rattle.cow_tree.specs.OverRoots.{WritesPages};
 
-use page_map::KeptLocations;
 use disk::Disk;
 use lattice::Refusal;
 use page_codec::PAGE_BYTES;
+use page_map::PagedPlane;
 use roots::Roots;
 
 // A page that begins with these bytes, and zeros behind them.
@@ -61,18 +61,19 @@ pub(crate) fn write_plane<D: Disk>(
 /// Writes the bytes of levels and of labels to their pages, which are all distinct.
 pub(crate) fn write_kept<D: Disk>(
     roots: &mut Roots<D>,
-    kept: &KeptLocations,
+    levels_at: &PagedPlane,
+    labels_at: &PagedPlane,
     levels: &[u8],
     labels: &[u8],
 ) -> Result<(), Refusal>
     requires not_failed { has_failed roots.old ≡ false }
-    requires low { All (λ p. 4 ≤ p) (kept.now.levels.pages ++ kept.now.labels.pages) }
-    requires high { All (λ p. p < D.size (disk_of roots.old)) (kept.now.levels.pages ++ kept.now.labels.pages) }
-    requires distinct { (p : ℕ) → times p (kept.now.levels.pages ++ kept.now.labels.pages) ≤ 1 }
-    ensures writes { WritesPages D.Disk (kept.now.levels.pages ++ kept.now.labels.pages) roots.old roots.new result }
-    ensures written { D.honest (disk_of roots.new) → (n : ℕ) → length kept.now.levels.pages ≡ pages_of n → length kept.now.labels.pages ≡ pages_of n
-        → OnOk result (kept_in (D.seen (disk_of roots.new)) (Some kept.now) ≡ Some (planes_of_bytes n levels.now labels.now)) }
+    requires low { All (λ p. 4 ≤ p) (levels_at.now.pages ++ labels_at.now.pages) }
+    requires high { All (λ p. p < D.size (disk_of roots.old)) (levels_at.now.pages ++ labels_at.now.pages) }
+    requires distinct { (p : ℕ) → times p (levels_at.now.pages ++ labels_at.now.pages) ≤ 1 }
+    ensures writes { WritesPages D.Disk (levels_at.now.pages ++ labels_at.now.pages) roots.old roots.new result }
+    ensures written { D.honest (disk_of roots.new) → (n : ℕ) → length levels_at.now.pages ≡ pages_of n → length labels_at.now.pages ≡ pages_of n
+        → OnOk result (kept_in (D.seen (disk_of roots.new)) (Some (record { levels = levels_at.now; labels = labels_at.now })) ≡ Some (planes_of_bytes n levels.now labels.now)) }
 {
-    write_plane(roots, kept.levels.pages(), levels)?;
-    write_plane(roots, kept.labels.pages(), labels)
+    write_plane(roots, levels_at.pages(), levels)?;
+    write_plane(roots, labels_at.pages(), labels)
 }

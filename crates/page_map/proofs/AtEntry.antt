@@ -1,40 +1,40 @@
 -- A page_map whose entry at an index changes.
-use Rattle.std.proofs.Common.{◌≡◌, ℕ, suc, ◌+◌, ◌<◌, ◌≤◌, Bool, true, false, cond, List, [], ◌∷◌, ◌++◌, length, take, drop, get_or, set, refl, sym, ap, subst, ◌∙◌, arith}
-use Rattle.std.specs.Prelude.{Option, Some, None, IsSome, is_some, IfSome, Contains, filter, not, option_map, Result, Ok, Err, IfOk, OnErr}
-use Rattle.std.proofs.lemmas.List.{set_split}
-use Rattle.std.proofs.lemmas.Bool.{false≢true}
+use Rattle.std.proofs.Common.{◌≡◌, ℕ, suc, ◌+◌, ◌/◌, ◌<◌, ◌≤◌, true, List, [], ◌∷◌, ◌++◌, length, take, drop, get_or, set, map, if◌then◌else◌, refl, sym, ap, subst, ◌∙◌, arith}
+use Rattle.std.specs.Prelude.{◌||◌, Option, Some, None, IsSome, is_some, IfSome, Contains, Result, Ok, Err, IfOk, OnOk, OnErr}
+use Rattle.std.proofs.lemmas.List.{length-set, set_split}
 use Rattle.lattice.specs.Corners.{Corner}
 use Rattle.lattice.specs.declared.refusal.Refusal.{Refusal}
 use Rattle.lattice.proofs.Rising.{Rising, rising_from}
-use Rattle.page_map.specs.FreePages.{FreePages}
-use Rattle.std.specs.FinSet.{len}
-use Rattle.page_codec.specs.Sizes.{pages_of, plane_pages_of}
+use Rattle.page_codec.specs.Sizes.{pages_of}
 use Rattle.page_codec.specs.Formats.{Format}
-use Rattle.page_map.specs.declared.locations.TilePlanes.{TilePlanes}
+use Rattle.std.specs.FinSet.{len}
+use Rattle.page_map.specs.FreePages.{FreePages, free_times, AreBalanced, AreInUse}
+use Rattle.page_map.specs.declared.plane_entry.PlaneEntry.{PlaneEntry}
+use Rattle.page_map.specs.declared.plane_entry.Staged.{Staged}
+use Rattle.page_map.specs.declared.plane_entry.Staged.TheVariants.{AsCommitted, Dropped, Fresh}
 use Rattle.page_map.specs.declared.tile_entry.TileEntry.{TileEntry}
-use Rattle.page_map.specs.declared.staged.Staged.{Staged}
-use Rattle.page_map.specs.declared.staged.HeightsStaged.TheVariants as of_heights
-use Rattle.page_map.specs.declared.staged.Staged.TheVariants.{Tile, Removed}
-use Rattle.page_map.specs.Locations.{times, pages_behind, pages_of_plane}
-use Rattle.page_map.specs.FreePages.{free_times, heights_pages, AreInUse}
-use Rattle.page_map.specs.TileLocations.{TileLocation, reached, pages_of_kept}
-use Rattle.page_map.specs.PageMaps.{PageMapValue, IsLocated, HasFreshHeights, IsFresh, IsWholeTile, IsRewritten, tile_at, is_at, without_location}
-use Rattle.page_map.specs.TileEntries.{committed_tile, staged_as, staged_tile, committed_tiles, staged_tiles, fresh_heights, fresh_kept, fresh_pages, used_pages, pages_of_location, is_filled_as, stages_heights, stages_heights_as, fresh_as, HasRoom, IsSound, IsEntryAt, IsRoomAt, IsKept, page_map_of, IsRestaged, IsPageRestaged}
-use Rattle.page_map.specs.StagedPlanes.{kept_as}
+use Rattle.page_map.specs.Locations.{PlaneLocation, IsWholePlane, moved_plane, times}
+use Rattle.page_map.specs.PlaneEntries.{behind_at, fresh_as, fresh_in, is_fresh, is_fresh_as, staged_as, staged_plane, used_in, HasRoom, IsPageRestaged, IsRecordRestaged}
+use Rattle.page_map.specs.TileLocations.{TileLocation, reached}
+use Rattle.page_map.specs.PageMaps.{PageMapValue, IsFresh, IsLocated, HasFreshHeights, IsPrepared, IsRewritten, is_at, tile_at}
+use Rattle.page_map.specs.TileEntries.{committed_tile, committed_tiles, fresh_kept, page_map_of, staged_tile, staged_tiles, tile_of, tile_planes, used_pages, AreTogether, IsEntryAt, IsKept, IsRoomAt, IsSound}
 use Rattle.page_map.proofs.Times.{one-self, times-append, member_of_times}
-use Rattle.page_map.proofs.FreeTimes.{page_le}
-use Rattle.page_map.proofs.Room.{plane_few, room_for_heights}
-use Rattle.page_map.proofs.EntryLists.{corner_of, times-split, reached_all, entry_in_use}
-use Rattle.page_map.proofs.EntryChanges.{all_middle, kept_change, page_map_changed, staged_without, entry_fresh, kept_unchanged, rewritten, rewritten_kept}
-use Rattle.page_map.proofs.Lookup.{split_of, not_located, located_here, tile_is, tile_here, room_other}
+use Rattle.page_map.proofs.FreeTimes.{balanced-append, balanced_same, page_le}
+use Rattle.page_map.proofs.PlaneChanges.{behind_le, used_balanced, used_split}
+use Rattle.page_map.proofs.Room.{room_for_heights}
+use Rattle.page_map.proofs.EntryLists.{corner_of, entry_in_use, pages_of_location, reached_all, times-split, used_parts}
+use Rattle.page_map.proofs.EntryChanges.{all_middle, entry_fresh, kept_unchanged, made_kept, made_page_map, no_more_kept}
+use Rattle.page_map.proofs.Lookup.{split_of, not_located, located_here, tile_is, room_other}
 
-pub heights_le : (p : ℕ) (c : Corner) (o : Option TilePlanes) → times p (heights_pages o) ≤ times p (pages_of_location (option_map (tile_at c) o))
-heights_le p c None = omega arith
-heights_le p c (Some planes) = omega (arith, times-append p (pages_behind planes.heights) (pages_of_kept planes.kept))
+pub some_heights : (c : Corner) (h l m : Option PlaneLocation) → IsSome (tile_of c h l m) → IsSome h
+some_heights c None l m some = some
+some_heights c (Some h) l m some = refl
 
-length-filter-le : (p : TileLocation → Bool) (tiles : List TileLocation) → length (filter p tiles) ≤ length tiles
-length-filter-le p [] = omega arith
-length-filter-le p (t ∷ rest) = let later = length-filter-le p rest in elim (p t) as (λ b. length (cond b (t ∷ filter p rest) (filter p rest)) ≤ suc (length rest)) [ true ↦ omega arith | false ↦ omega arith ]
+together_some : (a b : PlaneLocation) (l m : Option PlaneLocation) → AreTogether (Some a) l m → AreTogether (Some b) l m
+together_some a b None None together = tt
+together_some a b None (Some m) together = absurd together
+together_some a b (Some l) None together = absurd together
+together_some a b (Some l) (Some m) together = tt
 
 pub no_entry : (c : Corner) (at : ℕ) (entries : List TileEntry) → IsRoomAt c at entries → IsLocated c (staged_tiles entries) → ⊥
 no_entry c at entries room located = not_located c (staged_tiles entries) (room_other c at entries room) located
@@ -64,55 +64,49 @@ module _ (format : Format) (entries : List TileEntry) (free : FreePages) (kept :
   pub present : IsLocated c (staged_tiles entries) → IsSome (staged_tile s)
   present located = located_here before s after rising_there (present_there located)
 
-  sound : IsSound format s
+  pub sound : IsSound format s
   sound = all_middle (IsSound format) before s after kept_there.sound
-
-  pub index_within : (i : ℕ) → i < pages_of format.side → IfSome (staged_tile s) (λ t. i < length t.heights.pages)
-  index_within i below = by (staged_tile s) sound.staged
-    where
-      by : (o : Option TileLocation) → IfSome o (IsWholeTile format) → IfSome o (λ t. i < length t.heights.pages)
-      by None whole = tt
-      by (Some t) whole = omega (arith, whole.heights.pages)
-
-  pub apart : (p : ℕ) → times p (heights_pages s.committed) + free_times free p ≤ 1
-  apart p =
-      let in_use = entry_in_use before s after free kept_there.counted p in
-      omega (arith, in_use, page_le free.range p, heights_le p s.corner s.committed, times-append p (pages_of_location (committed_tile s)) (fresh_pages s))
-
-  pub staged_before : HasFreshHeights c (page_map_of format entries free) → stages_heights s ≡ true
-  staged_before (t, there) =
-      let among : Contains (staged_tiles (before ++ s ∷ after)) t = subst (λ (l : List TileEntry). Contains (staged_tiles l) t) split there.0 in
-      by s.corner s.committed s.staged (tile_is before s after rising_there t among (there.1 ∙ sym corner)) there.2.unreached
-      (λ planes (here : s.committed ≡ Some planes). member_of_times (reached (committed_tiles entries)) planes.heights.record_page (
-      let r = planes.heights.record_page in
-      let whole = ap (λ (l : List TileEntry). times r (reached (committed_tiles l))) split ∙ ap (times r) (reached_all committed_tile (before ++ s ∷ after)) in
-      let own = ap (λ (o : Option TilePlanes). times r (pages_of_location (option_map (tile_at s.corner) o))) here in
-      omega (arith, whole, own, times-split (λ (x : TileEntry). pages_of_location (committed_tile x)) r before s after, one-self r)))
-    where
-      by : (d : Corner) (o : Option TilePlanes) (g : Staged) → staged_as d o g ≡ Some t → ¬ Contains (reached (committed_tiles entries)) t.heights.record_page
-          → ((planes : TilePlanes) → o ≡ Some planes → Contains (reached (committed_tiles entries)) planes.heights.record_page) → stages_heights_as g ≡ true
-      by d None (Tile of_heights.AsCommitted k) had unreached reaches = cc
-      by d (Some planes) (Tile of_heights.AsCommitted k) had unreached reaches =
-          let record_is : planes.heights.record_page ≡ t.heights.record_page = ap (λ (u : TileLocation). u.heights.record_page) (let same : record { corner = d; heights = planes.heights; kept = kept_as (Some planes) k } ≡ t = cc in same) in
-          absurd (unreached (subst (Contains (reached (committed_tiles entries))) record_is (reaches planes refl)))
-      by d o (Tile (of_heights.Fresh location) k) had unreached reaches = refl
-      by d o Removed had unreached reaches = cc
-
-  pub filled : is_filled_as s.committed s.staged ≡ true
-  filled = sound.filled
-
-  pub room : HasRoom s (len free.free)
-  room = by (staged_tile s) sound.staged (room_for_heights format before s after free kept_there)
-    where
-      by : (o : Option TileLocation) → IfSome o (IsWholeTile format) → (IsSome o → plane_pages_of format ≤ length (fresh_heights s) + len free.free)
-          → IfSome o (λ t. length (pages_of_plane t.heights) ≤ length (fresh_heights s) + len free.free)
-      by None whole left = tt
-      by (Some t) whole left = omega (arith, plane_few format t.heights whole.heights, left refl)
 
   pub in_use : AreInUse (used_pages s) free
   in_use = entry_in_use before s after free kept_there.counted
 
-  -- ---- a page that may be written
+  -- ---- its heights
+  pub heights_present : IsLocated c (staged_tiles entries) → IsSome (staged_plane s.heights)
+  heights_present located = some_heights s.corner (staged_plane s.heights) (staged_plane s.levels) (staged_plane s.labels) (present located)
+
+  pub index_within : (i : ℕ) → i < pages_of format.side → IfSome (staged_plane s.heights) (λ l. i < length l.pages)
+  index_within i below = by (staged_plane s.heights) sound.heights.staged
+    where
+      by : (o : Option PlaneLocation) → IfSome o (IsWholePlane format) → IfSome o (λ l. i < length l.pages)
+      by None whole = tt
+      by (Some l) whole = omega (arith, below, whole.pages)
+
+  pub apart : (p : ℕ) → times p (behind_at s.heights.committed) + free_times free p ≤ 1
+  apart p = omega (arith, in_use p, page_le free.range p, behind_le p s.heights.committed, used_split p s.heights, used_parts p s)
+
+  pub room : HasRoom s.heights (len free.free)
+  room = room_for_heights format before s after free kept_there sound
+
+  pub staged_before : HasFreshHeights c (page_map_of format entries free) → is_fresh s.heights ≡ true
+  staged_before (t, there) =
+      let among : Contains (staged_tiles (before ++ s ∷ after)) t = subst (λ (l : List TileEntry). Contains (staged_tiles l) t) split there.0 in
+      by s.heights.committed s.heights.staged (tile_is before s after rising_there t among (there.1 ∙ sym corner))
+      (λ h (here : s.heights.committed ≡ Some h). member_of_times (reached (committed_tiles entries)) h.record_page (
+      let r = h.record_page in
+      let whole = ap (λ (l : List TileEntry). times r (reached (committed_tiles l))) split ∙ ap (times r) (reached_all committed_tile (before ++ s ∷ after)) in
+      let own = ap (λ (o : Option PlaneLocation). times r (pages_of_location (tile_of s.corner o s.levels.committed s.labels.committed))) here in
+      omega (arith, whole, own, times-split (λ (x : TileEntry). pages_of_location (committed_tile x)) r before s after, one-self r)))
+    where
+      by : (o : Option PlaneLocation) (g : Staged) → tile_of s.corner (staged_as o g) (staged_plane s.levels) (staged_plane s.labels) ≡ Some t
+          → ((h : PlaneLocation) → o ≡ Some h → Contains (reached (committed_tiles entries)) h.record_page) → is_fresh_as g ≡ true
+      by None AsCommitted had reaches = cc
+      by (Some h) AsCommitted had reaches =
+          let same : tile_at s.corner (tile_planes h (staged_plane s.levels) (staged_plane s.labels)) ≡ t = cc in
+          absurd (there.2.unreached (subst (Contains (reached (committed_tiles entries))) (ap (λ (u : TileLocation). u.heights.record_page) same) (reaches h refl)))
+      by o Dropped had reaches = cc
+      by o (Fresh l) had reaches = refl
+
+  -- ---- another entry in its place
   module _ (new : TileEntry) (now : FreePages) where
     pub set_is : set entries at new ≡ before ++ new ∷ after
     set_is = set_split entries at new found.below
@@ -127,66 +121,142 @@ module _ (format : Format) (entries : List TileEntry) (free : FreePages) (kept :
         (subst (λ (l : List TileEntry). P c (page_map_of format (before ++ s ∷ after) free) (page_map_of format l now)) (sym set_is)
         (subst (λ (d : Corner). P d (page_map_of format (before ++ s ∷ after) free) (page_map_of format (before ++ new ∷ after) now)) corner here))
 
-    module _ (i : ℕ) (r : Result ℕ Refusal) (staged : IfOk r (λ page. IsPageRestaged i page s new)) (restaged : IsRestaged s new free now) (same_kept : fresh_kept new ≡ fresh_kept s) (unchanged : OnErr r (new ≡ s)) where
-      pub kept_rewritten : IsKept format (set entries at new) now
-      kept_rewritten = kept_as_set (by r staged unchanged)
+  -- ---- other heights
+  module _ (h : PlaneEntry) (now : FreePages) (same : h.committed ≡ s.heights.committed) (balanced : AreBalanced (fresh_in s.heights) (fresh_in h) free now) where
+    abbrev new : TileEntry
+    new = record s { heights = h }
+
+    all_balanced : AreBalanced (used_pages s) (used_pages new) free now
+    all_balanced =
+        balanced-append (used_in s.heights) (used_in h) (used_in s.levels ++ used_in s.labels) free now (used_balanced s.heights h free now same balanced) (used_in s.levels ++ used_in s.labels) now
+        (balanced_same (used_in s.levels ++ used_in s.labels) now)
+
+    module _ (location : PlaneLocation) (made : PlaneLocation → PlaneLocation) (had : staged_plane s.heights ≡ Some location) (has : staged_plane h ≡ Some (made location)) (whole : IsWholePlane format location → IsWholePlane format (made location)) where
+      abbrev make : TileLocation → TileLocation
+      make t = record t { heights = made t.heights }
+
+      pub was_whole : IsWholePlane format location
+      was_whole = let there : IfSome (Some location) (IsWholePlane format) = subst (λ (o : Option PlaneLocation). IfSome o (IsWholePlane format)) had sound.heights.staged in there
+
+      still_together : AreTogether (Some (made location)) (staged_plane s.levels) (staged_plane s.labels)
+      still_together =
+          together_some location (made location) (staged_plane s.levels) (staged_plane s.labels) (subst (λ (o : Option PlaneLocation). AreTogether o (staged_plane s.levels) (staged_plane s.labels)) had sound.staged)
+
+      pub sound_made : IsSound format new
+      sound_made = record {
+        corner = sound.corner;
+        heights = record {
+          committed = subst (λ (o : Option PlaneLocation). IfSome o (IsWholePlane format)) (sym same) sound.heights.committed;
+          staged = subst (λ (o : Option PlaneLocation). IfSome o (IsWholePlane format)) (sym has) (whole was_whole);
+        };
+        levels = sound.levels;
+        labels = sound.labels;
+        committed = subst (λ (o : Option PlaneLocation). AreTogether o s.levels.committed s.labels.committed) (sym same) sound.committed;
+        staged = subst (λ (o : Option PlaneLocation). AreTogether o (staged_plane s.levels) (staged_plane s.labels)) (sym has) still_together;
+        filled = ap (λ (o : Option PlaneLocation). is_some o || is_some h.committed) has;
+      }
+
+      abbrev tile : TileLocation
+      tile = tile_at s.corner (tile_planes location (staged_plane s.levels) (staged_plane s.labels))
+
+      had_tile : staged_tile s ≡ Some tile
+      had_tile = ap (λ (o : Option PlaneLocation). tile_of s.corner o (staged_plane s.levels) (staged_plane s.labels)) had
+
+      has_tile : staged_tile new ≡ Some (make tile)
+      has_tile = ap (λ (o : Option PlaneLocation). tile_of s.corner o (staged_plane s.levels) (staged_plane s.labels)) has
+
+      committed_still : committed_tile new ≡ committed_tile s
+      committed_still = ap (λ (o : Option PlaneLocation). tile_of s.corner o s.levels.committed s.labels.committed) same
+
+      pub heights_kept : IsKept format (before ++ new ∷ after) now
+      heights_kept =
+          made_kept format before s new after free now kept_there all_balanced refl committed_still tile make had_tile has_tile sound_made
+          (omega (arith, kept_there.kept_room, no_more_kept before s new after (omega arith)))
+
+      pub heights_page_map : page_map_of format (before ++ new ∷ after) now ≡ record (page_map_of format (before ++ s ∷ after) free) { staged = map (λ (u : TileLocation). if is_at s.corner u then make u else u) (staged_tiles (before ++ s ∷ after)) }
+      heights_page_map = made_page_map format before s new after free now kept_there all_balanced refl committed_still tile make had_tile has_tile
+
+      pub fresh_now : (p : ℕ) → 1 ≤ times p (fresh_in h) → IsFresh (page_map_of format (before ++ new ∷ after) now) p
+      fresh_now p some = entry_fresh format before new after now heights_kept p (omega (arith, some, times-append p (fresh_in h) (fresh_kept s)))
+
+    unchanged_kept : h ≡ s.heights → IsKept format (before ++ new ∷ after) now
+    unchanged_kept alike = kept_unchanged format before s new after free now kept_there all_balanced (ap (λ (x : PlaneEntry). let e : TileEntry = record s { heights = x } in e) alike)
+
+    -- with a page that may be written
+    module _ (i page : ℕ) (staged : IsPageRestaged i page s.heights h) where
+      abbrev rewrite : PlaneLocation → PlaneLocation
+      rewrite l = moved_plane i page staged.index_page staged.record_page l
+
+      whole_moved : IsWholePlane format (staged.location) → IsWholePlane format (rewrite staged.location)
+      whole_moved whole = record {
+        index_pages = length-set (staged.location).index_pages (i / 1024) staged.index_page ∙ whole.index_pages;
+        pages = length-set (staged.location).pages i page ∙ whole.pages;
+      }
+
+      page_kept : IsKept format (before ++ new ∷ after) now
+      page_kept = heights_kept staged.location rewrite staged.had staged.has whole_moved
+
+      page_rewritten : IsRewritten s.corner i page (page_map_of format (before ++ s ∷ after) free) (page_map_of format (before ++ new ∷ after) now)
+      page_rewritten =
+          let fresh = fresh_now staged.location rewrite staged.had staged.has whole_moved in
+          let was = was_whole staged.location rewrite staged.had staged.has whole_moved in
+          record {
+            record_page = staged.record_page;
+            index_page = staged.index_page;
+            fresh_record = fresh staged.record_page staged.fresh_record;
+            fresh_index = λ below. fresh staged.index_page (staged.fresh_index (omega (arith, below, was.index_pages)));
+            fresh_page = fresh page staged.fresh_page;
+            changed = heights_page_map staged.location rewrite staged.had staged.has whole_moved;
+          }
+
+    module _ (i : ℕ) (r : Result ℕ Refusal) (staged : IfOk r (λ page. IsPageRestaged i page s.heights h)) where
+      pub kept_rewritten : OnErr r (h ≡ s.heights) → IsKept format (set entries at new) now
+      kept_rewritten unchanged = kept_as_set new now (by r staged unchanged)
         where
-          by : (q : Result ℕ Refusal) → IfOk q (λ page. IsPageRestaged i page s new) → OnErr q (new ≡ s) → IsKept format (before ++ new ∷ after) now
-          by (Ok page) staged same = rewritten_kept format before s new after free now kept_there i page staged restaged same_kept
-          by (Err refusal) staged same = kept_unchanged format before s new after free now kept_there restaged same
+          by : (q : Result ℕ Refusal) → IfOk q (λ page. IsPageRestaged i page s.heights h) → OnErr q (h ≡ s.heights) → IsKept format (before ++ new ∷ after) now
+          by (Ok page) staged alike = page_kept i page staged
+          by (Err refusal) staged alike = unchanged_kept alike
 
       pub is_rewritten : IfOk r (λ page. IsRewritten c i page (page_map_of format entries free) (page_map_of format (set entries at new) now))
       is_rewritten = by r staged
         where
-          by : (q : Result ℕ Refusal) → IfOk q (λ page. IsPageRestaged i page s new) → IfOk q (λ page. IsRewritten c i page (page_map_of format entries free) (page_map_of format (set entries at new) now))
-          by (Ok page) staged = at_page_map (λ (d : Corner) (x y : PageMapValue). IsRewritten d i page x y) (rewritten format before s new after free now kept_there i page staged restaged same_kept)
+          by : (q : Result ℕ Refusal) → IfOk q (λ page. IsPageRestaged i page s.heights h) → IfOk q (λ page. IsRewritten c i page (page_map_of format entries free) (page_map_of format (set entries at new) now))
+          by (Ok page) staged = at_page_map new now (λ (d : Corner) (x y : PageMapValue). IsRewritten d i page x y) (page_rewritten i page staged)
           by (Err refusal) staged = tt
 
-  -- ---- a tile taken out
-  module _ (located : IsLocated c (staged_tiles entries)) (settled : ¬ HasFreshHeights c (page_map_of format entries free)) (now : FreePages) (restaged : IsRestaged s (record s { staged = Removed }) free now) where
-    abbrev without : TileEntry
-    without = record s { staged = Removed }
+    -- with a record on a page of its own
+    module _ (staged : IsRecordRestaged s.heights h) where
+      abbrev move : PlaneLocation → PlaneLocation
+      move l = record l { record_page = staged.record_page }
 
-    filled_without : is_filled_as s.committed Removed ≡ true
-    filled_without = by s.staged refl sound.filled
-      where
-        by : (g : Staged) → s.staged ≡ g → is_filled_as s.committed g ≡ true → is_filled_as s.committed Removed ≡ true
-        by (Tile of_heights.AsCommitted k) same filled = filled
-        by (Tile (of_heights.Fresh location) k) same filled =
-            let t : TileLocation = record { corner = s.corner; heights = location; kept = kept_as s.committed k } in
-            let had : staged_tile s ≡ Some t = ap (staged_as s.corner s.committed) same in
-            absurd (settled (
-              t,
-              (
-                subst (λ (l : List TileEntry). Contains (staged_tiles l) t) (sym split) (tile_here before s after rising_there t had),
-                corner,
-                subst (λ (l : List TileEntry). IsFresh (page_map_of format l free) location.record_page) (sym split)
-                    (entry_fresh format before s after free kept_there.counted location.record_page
-                    (let there = ap (λ g. times location.record_page (fresh_as s.committed g)) same in omega (arith, there, one-self location.record_page))),
-              ),
-            ))
-        by Removed same filled = absurd (false≢true (ap (λ g. is_some (staged_as s.corner s.committed g)) (sym same) ∙ present located))
+      has_moved : staged_plane h ≡ Some (move staged.location)
+      has_moved = ap (staged_as h.committed) staged.has
 
-    removed_tiles : staged_tiles (before ++ without ∷ after) ≡ without_location s.corner (staged_tiles (before ++ s ∷ after))
-    removed_tiles = by (staged_tile s) refl (present located)
-      where
-        by : (o : Option TileLocation) → staged_tile s ≡ o → IsSome o → staged_tiles (before ++ without ∷ after) ≡ without_location s.corner (staged_tiles (before ++ s ∷ after))
-        by None had some = absurd (false≢true some)
-        by (Some t) had some = staged_without before s after rising_there t had without refl
+      whole_still : IsWholePlane format (staged.location) → IsWholePlane format (move staged.location)
+      whole_still whole = record { index_pages = whole.index_pages; pages = whole.pages }
 
-    pub kept_removed : IsKept format (set entries at without) now
-    kept_removed =
-        subst (λ (l : List TileEntry). IsKept format l now) (sym (set_is without now))
-        (kept_change format before s without after free now kept_there refl refl
-        (record { corner = sound.corner; committed = sound.committed; staged = tt; filled = filled_without })
-        (rw removed_tiles (fewer (staged_tiles (before ++ s ∷ after)) kept_there.staged_room)) (omega arith) restaged.same_range restaged.each)
-      where
-        fewer : (tiles : List TileLocation) → length tiles ≤ format.capacity → length (without_location s.corner tiles) ≤ format.capacity
-        fewer tiles few = omega (arith, length-filter-le (λ t. not (is_at s.corner t)) tiles)
+      record_kept : IsKept format (before ++ new ∷ after) now
+      record_kept = heights_kept staged.location move staged.had has_moved whole_still
 
-    pub is_removed : page_map_of format (set entries at without) now ≡ record (page_map_of format entries free) { staged = without_location c (staged_tiles entries) }
-    is_removed =
-        ap (λ (l : List TileEntry). page_map_of format l now) (set_is without now)
-        ∙ (page_map_changed format before s without after free now restaged.same_range refl _ removed_tiles
-        ∙ (ap (λ (d : Corner). record (page_map_of format (before ++ s ∷ after) free) { staged = without_location d (staged_tiles (before ++ s ∷ after)) }) corner
-        ∙ ap (λ (l : List TileEntry). record (page_map_of format l free) { staged = without_location c (staged_tiles l) }) (sym split)))
+      record_prepared : IsPrepared s.corner (page_map_of format (before ++ s ∷ after) free) (page_map_of format (before ++ new ∷ after) now)
+      record_prepared = record {
+        record_page = staged.record_page;
+        fresh_record = fresh_now staged.location move staged.had has_moved whole_still staged.record_page
+            (let there = ap (λ (g : Staged). times staged.record_page (fresh_as h.committed g)) staged.has in omega (arith, there, one-self staged.record_page));
+        changed = heights_page_map staged.location move staged.had has_moved whole_still;
+      }
+
+    module _ (r : Result (Unit {0}) Refusal) (staged : OnOk r (IsRecordRestaged s.heights h)) where
+      pub kept_prepared : OnErr r (h ≡ s.heights) → IsKept format (set entries at new) now
+      kept_prepared unchanged = kept_as_set new now (by r staged unchanged)
+        where
+          by : (q : Result (Unit {0}) Refusal) → OnOk q (IsRecordRestaged s.heights h) → OnErr q (h ≡ s.heights) → IsKept format (before ++ new ∷ after) now
+          by (Ok done) staged alike = record_kept staged
+          by (Err refusal) staged alike = unchanged_kept alike
+
+      pub is_prepared : OnOk r (IsPrepared c (page_map_of format entries free) (page_map_of format (set entries at new) now))
+      is_prepared = by r staged
+        where
+          by : (q : Result (Unit {0}) Refusal) → OnOk q (IsRecordRestaged s.heights h) → OnOk q (IsPrepared c (page_map_of format entries free) (page_map_of format (set entries at new) now))
+          by (Ok done) staged = at_page_map new now IsPrepared (record_prepared staged)
+          by (Err refusal) staged = tt

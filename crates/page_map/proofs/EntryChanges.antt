@@ -1,26 +1,20 @@
 -- What a page_map is once one entry has changed.
-use Rattle.std.proofs.Common.{◌≡◌, ℕ, suc, ◌+◌, ◌*◌, ◌/◌, ◌≤◌, true, false, cond, if◌then◌else◌, not, IsTrue, List, [], ◌∷◌, ◌++◌, length, map, refl, sym, ap, subst, ◌∙◌, arith}
-use Rattle.std.specs.Prelude.{Option, Some, None, IfSome, option_map}
+use Rattle.std.proofs.Common.{◌≡◌, ℕ, suc, ◌*◌, ◌≤◌, true, false, cond, if◌then◌else◌, not, List, [], ◌∷◌, ◌++◌, length, map, refl, sym, ap, subst, ◌∙◌, arith}
+use Rattle.std.specs.Prelude.{Option, Some, None, IfSome}
 use Rattle.std.specs.List.{cons_option, flat_map, AllByRecursion}
-use Rattle.std.proofs.lemmas.List.{length-append, length-set}
+use Rattle.std.proofs.lemmas.List.{length-append}
 use Rattle.std.proofs.lemmas.List.Elements.{filter_map-append}
-use Rattle.lattice.specs.Corners.{Corner, same_corner, is_corner}
+use Rattle.lattice.specs.Corners.{Corner, same_corner}
 use Rattle.lattice.proofs.CornerOrder.{before_not_same, after_not_same, same_from}
 use Rattle.lattice.proofs.Rising.{AllAfter, Rising, rising_from, adjacent_from}
-use Rattle.page_map.specs.FreePages.{FreePages, PageRange}
 use Rattle.page_codec.specs.Formats.{Format}
 use Rattle.page_codec.specs.Sizes.{plane_pages_of}
-use Rattle.page_map.specs.declared.locations.TilePlanes.{TilePlanes}
+use Rattle.page_map.specs.FreePages.{FreePages, PageRange, AreBalanced}
+use Rattle.page_map.specs.Locations.{times}
 use Rattle.page_map.specs.declared.tile_entry.TileEntry.{TileEntry}
-use Rattle.page_map.specs.declared.staged.Staged.{Staged}
-use Rattle.page_map.specs.declared.staged.HeightsStaged.TheVariants as of_heights
-use Rattle.page_map.specs.declared.staged.Staged.TheVariants.{Tile, Removed}
-use Rattle.page_map.specs.Locations.{moved_plane, times}
-use Rattle.page_map.specs.FreePages.{free_times}
 use Rattle.page_map.specs.TileLocations.{TileLocation}
-use Rattle.page_map.specs.PageMaps.{PageMapValue, IsFresh, IsWholeTile, IsRewritten, is_at, tile_at, without_location}
-use Rattle.page_map.specs.TileEntries.{committed_tile, staged_as, staged_tile, committed_tiles, staged_tiles, fresh_kept, fresh_pages, pages_of_location, is_filled_as, IsSound, AreCounted, IsKept, page_map_of, IsRestaged, IsPageRestaged}
-use Rattle.page_map.proofs.Times.{times-append}
+use Rattle.page_map.specs.PageMaps.{PageMapValue, IsFresh, is_at, without_location}
+use Rattle.page_map.specs.TileEntries.{committed_tile, committed_tiles, fresh_kept, fresh_pages, page_map_of, staged_tile, staged_tiles, used_pages, IsKept, IsSound}
 use Rattle.page_map.proofs.EntryLists.{times-split, counted_change, corner_of, rising_change, AllBefore, rising_before, rising_after, staged_own}
 use Rattle.page_map.proofs.PageMapRules.{fresh_page}
 
@@ -40,49 +34,27 @@ no_more_kept [] s new after fewer = omega (arith, fewer, length-append (fresh_ke
 no_more_kept (b ∷ before) s new after fewer =
     omega (arith, no_more_kept before s new after fewer, length-append (fresh_kept b) (flat_map fresh_kept (before ++ new ∷ after)), length-append (fresh_kept b) (flat_map fresh_kept (before ++ s ∷ after)))
 
-pub kept_change_within : (format : Format) (before : List TileEntry) (s new : TileEntry) (after : List TileEntry) (free now : FreePages)
-    → IsKept format (before ++ s ∷ after) free → new.corner ≡ s.corner → committed_tile new ≡ committed_tile s → IsSound format new
-    → length (staged_tiles (before ++ new ∷ after)) ≤ format.capacity → length (flat_map fresh_kept (before ++ new ∷ after)) ≤ 2 * plane_pages_of format → now.range ≡ free.range
-    → ((p : ℕ) → times p (fresh_pages new) + free_times now p ≡ times p (fresh_pages s) + free_times free p)
-    → IsKept format (before ++ new ∷ after) now
-kept_change_within format before s new after free now is same_corner same_committed sound room kept_room same_range each = record {
-  fits = rw same_range is.fits;
-  window = rw same_range is.window;
-  few = is.few;
-  in_order = adjacent_from corner_of (before ++ new ∷ after) (rising_change before s new after same_corner (rising_from corner_of (before ++ s ∷ after) is.in_order));
-  sound = all_change (IsSound format) before s new after sound is.sound;
-  committed_room =
-      (let same : committed_tiles (before ++ new ∷ after) ≡ committed_tiles (before ++ s ∷ after) =
-      filter_map-append committed_tile before (new ∷ after)
-      ∙ (ap (λ (o : Option TileLocation). committed_tiles before ++ cons_option o (committed_tiles after)) same_committed
-      ∙ sym (filter_map-append committed_tile before (s ∷ after))) in
-      rw same is.committed_room);
-  staged_room = room;
-  kept_room = kept_room;
-  counted = counted_change before s after free is.counted new now same_range (λ p.
-      (let committed = ap (λ (o : Option TileLocation). times p (pages_of_location o)) same_committed in
-      omega (arith, committed, each p, times-append p (pages_of_location (committed_tile new)) (fresh_pages new), times-append p (pages_of_location (committed_tile s)) (fresh_pages s))));
-}
+same_committed_tiles : (before : List TileEntry) (s new : TileEntry) (after : List TileEntry) → committed_tile new ≡ committed_tile s → committed_tiles (before ++ new ∷ after) ≡ committed_tiles (before ++ s ∷ after)
+same_committed_tiles before s new after same =
+    filter_map-append committed_tile before (new ∷ after)
+    ∙ (ap (λ (o : Option TileLocation). committed_tiles before ++ cons_option o (committed_tiles after)) same
+    ∙ sym (filter_map-append committed_tile before (s ∷ after)))
 
 pub kept_change : (format : Format) (before : List TileEntry) (s new : TileEntry) (after : List TileEntry) (free now : FreePages)
     → IsKept format (before ++ s ∷ after) free → new.corner ≡ s.corner → committed_tile new ≡ committed_tile s → IsSound format new
-    → length (staged_tiles (before ++ new ∷ after)) ≤ format.capacity → length (fresh_kept new) ≤ length (fresh_kept s) → now.range ≡ free.range
-    → ((p : ℕ) → times p (fresh_pages new) + free_times now p ≡ times p (fresh_pages s) + free_times free p)
-    → IsKept format (before ++ new ∷ after) now
-kept_change format before s new after free now is same_corner same_committed sound room fewer same_range each =
-    kept_change_within format before s new after free now is same_corner same_committed sound room (omega (arith, is.kept_room, no_more_kept before s new after fewer)) same_range each
-
-pub same_committed : (s new : TileEntry) → new.corner ≡ s.corner → new.committed ≡ s.committed → committed_tile new ≡ committed_tile s
-same_committed s new corner committed = ap (λ (c : Corner). option_map (tile_at c) new.committed) corner ∙ ap (option_map (tile_at s.corner)) committed
-
-pub filled_from : (s : TileEntry) (t : TileLocation) → staged_tile s ≡ Some t → is_filled_as s.committed s.staged ≡ true
-filled_from s t is = by s.corner s.committed s.staged is
-  where
-    by : (c : Corner) (o : Option TilePlanes) (g : Staged) → staged_as c o g ≡ Some t → is_filled_as o g ≡ true
-    by c None (Tile of_heights.AsCommitted k) is = cc
-    by c (Some planes) (Tile of_heights.AsCommitted k) is = refl
-    by c o (Tile (of_heights.Fresh location) k) is = refl
-    by c o Removed is = cc
+    → length (staged_tiles (before ++ new ∷ after)) ≤ format.capacity → length (flat_map fresh_kept (before ++ new ∷ after)) ≤ 2 * plane_pages_of format
+    → AreBalanced (used_pages s) (used_pages new) free now → IsKept format (before ++ new ∷ after) now
+kept_change format before s new after free now is same_corner same_committed sound room kept_room balanced = record {
+  fits = rw (balanced.same_range) is.fits;
+  window = rw (balanced.same_range) is.window;
+  few = is.few;
+  in_order = adjacent_from corner_of (before ++ new ∷ after) (rising_change before s new after same_corner (rising_from corner_of (before ++ s ∷ after) is.in_order));
+  sound = all_change (IsSound format) before s new after sound is.sound;
+  committed_room = rw (same_committed_tiles before s new after same_committed) is.committed_room;
+  staged_room = room;
+  kept_room = kept_room;
+  counted = counted_change before s after free is.counted new now balanced;
+}
 
 -- ---- the staged tiles
 abbrev pub AllOther : Corner → List TileLocation → Type 0
@@ -162,14 +134,8 @@ length-map f [] = refl
 length-map f (t ∷ rest) = ap (λ n. suc n) (length-map f rest)
 
 -- a entry's fresh page is fresh in the page_map
-pub entry_fresh : (format : Format) (before : List TileEntry) (s : TileEntry) (after : List TileEntry) (free : FreePages) → AreCounted (before ++ s ∷ after) free → (p : ℕ) → 1 ≤ times p (fresh_pages s) → IsFresh (page_map_of format (before ++ s ∷ after) free) p
-entry_fresh format before s after free counted p some = fresh_page format (before ++ s ∷ after) free counted p (omega (arith, times-split fresh_pages p before s after))
-
-same_committed_tiles : (before : List TileEntry) (s new : TileEntry) (after : List TileEntry) → committed_tile new ≡ committed_tile s → committed_tiles (before ++ new ∷ after) ≡ committed_tiles (before ++ s ∷ after)
-same_committed_tiles before s new after same =
-    filter_map-append committed_tile before (new ∷ after)
-    ∙ (ap (λ (o : Option TileLocation). committed_tiles before ++ cons_option o (committed_tiles after)) same
-    ∙ sym (filter_map-append committed_tile before (s ∷ after)))
+pub entry_fresh : (format : Format) (before : List TileEntry) (s : TileEntry) (after : List TileEntry) (free : FreePages) → IsKept format (before ++ s ∷ after) free → (p : ℕ) → 1 ≤ times p (fresh_pages s) → IsFresh (page_map_of format (before ++ s ∷ after) free) p
+entry_fresh format before s after free is p some = fresh_page format (before ++ s ∷ after) free is p (omega (arith, some, times-split fresh_pages p before s after))
 
 -- the page_map with other staged tiles
 pub page_map_changed : (format : Format) (before : List TileEntry) (s new : TileEntry) (after : List TileEntry) (free now : FreePages) → now.range ≡ free.range → committed_tile new ≡ committed_tile s
@@ -181,17 +147,18 @@ page_map_changed format before s new after free now total same tiles staged =
     ∙ (ap (λ (l : List TileLocation). page_map free.range.sectors l (staged_tiles (before ++ new ∷ after))) (same_committed_tiles before s new after same)
     ∙ ap (λ (l : List TileLocation). page_map free.range.sectors (committed_tiles (before ++ s ∷ after)) l) staged)
 
--- ---- a entry that is the same, beside other free pages
-pub kept_unchanged : (format : Format) (before : List TileEntry) (s new : TileEntry) (after : List TileEntry) (free now : FreePages) → IsKept format (before ++ s ∷ after) free → IsRestaged s new free now → new ≡ s → IsKept format (before ++ new ∷ after) now
-kept_unchanged format before s new after free now is restaged same =
-    kept_change format before s new after free now is restaged.corner (same_committed s new restaged.corner restaged.committed)
+-- ---- an entry that is the same, beside other free pages
+pub kept_unchanged : (format : Format) (before : List TileEntry) (s new : TileEntry) (after : List TileEntry) (free now : FreePages) → IsKept format (before ++ s ∷ after) free → AreBalanced (used_pages s) (used_pages new) free now → new ≡ s
+    → IsKept format (before ++ new ∷ after) now
+kept_unchanged format before s new after free now is balanced same =
+    kept_change format before s new after free now is (ap corner_of same) (ap committed_tile same)
     (subst (λ (x : TileEntry). IsSound format x) (sym same) (all_middle (IsSound format) before s after is.sound))
     (subst (λ (x : TileEntry). length (staged_tiles (before ++ x ∷ after)) ≤ format.capacity) (sym same) is.staged_room)
-    (let alike = ap (λ (x : TileEntry). length (fresh_kept x)) same in omega (arith, alike)) restaged.same_range restaged.each
+    (subst (λ (x : TileEntry). length (flat_map fresh_kept (before ++ x ∷ after)) ≤ 2 * plane_pages_of format) (sym same) is.kept_room) balanced
 
--- ---- a entry whose staged tile is another
-module _ (format : Format) (before : List TileEntry) (s new : TileEntry) (after : List TileEntry) (free now : FreePages) (is : IsKept format (before ++ s ∷ after) free) (restaged : IsRestaged s new free now)
-    (tile : TileLocation) (made : TileLocation → TileLocation) (had : staged_tile s ≡ Some tile) (has : staged_tile new ≡ Some (made tile)) where
+-- ---- an entry whose staged tile is another
+module _ (format : Format) (before : List TileEntry) (s new : TileEntry) (after : List TileEntry) (free now : FreePages) (is : IsKept format (before ++ s ∷ after) free) (balanced : AreBalanced (used_pages s) (used_pages new) free now)
+    (same_corner : new.corner ≡ s.corner) (same_committed : committed_tile new ≡ committed_tile s) (tile : TileLocation) (made : TileLocation → TileLocation) (had : staged_tile s ≡ Some tile) (has : staged_tile new ≡ Some (made tile)) where
   abbrev made_in : TileLocation → TileLocation
   made_in u = if is_at s.corner u then made u else u
 
@@ -207,53 +174,9 @@ module _ (format : Format) (before : List TileEntry) (s new : TileEntry) (after 
   made_tiles : staged_tiles (before ++ new ∷ after) ≡ map made_in (staged_tiles (before ++ s ∷ after))
   made_tiles = staged_mapped before s after rising tile had made_in made_other new (has ∙ ap Some made_here)
 
-  was : IsSound format s
-  was = all_middle (IsSound format) before s after is.sound
-
-  pub was_whole : IsWholeTile format tile
-  was_whole = let there : IfSome (Some tile) (IsWholeTile format) = subst (λ (o : Option TileLocation). IfSome o (IsWholeTile format)) had was.staged in there
-
-  pub made_kept : IsWholeTile format (made tile) → length (flat_map fresh_kept (before ++ new ∷ after)) ≤ 2 * plane_pages_of format → IsKept format (before ++ new ∷ after) now
-  made_kept whole room =
-      kept_change_within format before s new after free now is restaged.corner (same_committed s new restaged.corner restaged.committed)
-      (record {
-        corner = subst (λ (d : Corner). IsTrue (is_corner d)) (sym restaged.corner) was.corner;
-        committed = subst (λ (o : Option TileLocation). IfSome o (IsWholeTile format)) (sym (same_committed s new restaged.corner restaged.committed)) was.committed;
-        staged = subst (λ (o : Option TileLocation). IfSome o (IsWholeTile format)) (sym has) whole;
-        filled = filled_from new _ has;
-      })
-      (rw made_tiles (rw (length-map made_in (staged_tiles (before ++ s ∷ after))) is.staged_room)) room restaged.same_range restaged.each
+  pub made_kept : IsSound format new → length (flat_map fresh_kept (before ++ new ∷ after)) ≤ 2 * plane_pages_of format → IsKept format (before ++ new ∷ after) now
+  made_kept sound kept_room =
+      kept_change format before s new after free now is same_corner same_committed sound (rw made_tiles (rw (length-map made_in (staged_tiles (before ++ s ∷ after))) is.staged_room)) kept_room balanced
 
   pub made_page_map : page_map_of format (before ++ new ∷ after) now ≡ record (page_map_of format (before ++ s ∷ after) free) { staged = map made_in (staged_tiles (before ++ s ∷ after)) }
-  made_page_map = page_map_changed format before s new after free now restaged.same_range (same_committed s new restaged.corner restaged.committed) _ made_tiles
-
--- .. with a page that may be written
-module _ (format : Format) (before : List TileEntry) (s new : TileEntry) (after : List TileEntry) (free now : FreePages) (is : IsKept format (before ++ s ∷ after) free)
-    (i page : ℕ) (staged : IsPageRestaged i page s new) (restaged : IsRestaged s new free now) (same_kept : fresh_kept new ≡ fresh_kept s) where
-  abbrev rewrite : TileLocation → TileLocation
-  rewrite t = record t { heights = moved_plane i page staged.index_page staged.record_page t.heights }
-
-  whole : IsWholeTile format staged.tile
-  whole = was_whole format before s new after free now is restaged staged.tile rewrite staged.had staged.has
-
-  pub rewritten_kept : IsKept format (before ++ new ∷ after) now
-  rewritten_kept =
-      made_kept format before s new after free now is restaged staged.tile rewrite staged.had staged.has
-      (record {
-        heights = record {
-          index_pages = length-set staged.tile.heights.index_pages (i / 1024) staged.index_page ∙ whole.heights.index_pages;
-          pages = length-set staged.tile.heights.pages i page ∙ whole.heights.pages;
-        };
-        kept = whole.kept;
-      })
-      (let same = ap length same_kept in omega (arith, is.kept_room, no_more_kept before s new after (omega (arith, same))))
-
-  pub rewritten : IsRewritten s.corner i page (page_map_of format (before ++ s ∷ after) free) (page_map_of format (before ++ new ∷ after) now)
-  rewritten = record {
-    record_page = staged.record_page;
-    index_page = staged.index_page;
-    fresh_record = entry_fresh format before new after now rewritten_kept.counted staged.record_page staged.fresh_record;
-    fresh_index = λ below. entry_fresh format before new after now rewritten_kept.counted staged.index_page (staged.fresh_index (omega (arith, below, whole.heights.index_pages)));
-    fresh_page = entry_fresh format before new after now rewritten_kept.counted page staged.fresh_page;
-    changed = made_page_map format before s new after free now is restaged staged.tile rewrite staged.had staged.has;
-  }
+  made_page_map = page_map_changed format before s new after free now balanced.same_range same_committed _ made_tiles

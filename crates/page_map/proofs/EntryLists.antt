@@ -1,25 +1,63 @@
 -- Lists of entries in which one entry changes.
-use Rattle.std.proofs.Common.{◌≡◌, ◌≢◌, ℕ, zero, suc, ◌+◌, ◌<◌, ◌≤◌, true, false, IsTrue, inl, inr, List, [], ◌∷◌, ◌++◌, length, get_or, refl, sym, ap, subst, ◌∙◌, arith}
-use Rattle.std.specs.Prelude.{Option, Some, None, IfSome, option_map}
+use Rattle.std.proofs.Common.{◌≡◌, ◌≢◌, ℕ, ◌+◌, ◌<◌, ◌≤◌, true, false, IsTrue, inl, inr, List, [], ◌∷◌, ◌++◌, length, get_or, refl, sym, ap, subst, ◌∙◌, arith}
+use Rattle.std.specs.Prelude.{Option, Some, None, IfSome}
 use Rattle.std.specs.List.{filter_map, flat_map, cons_option, AllByRecursion}
 use Rattle.std.proofs.lemmas.Grind.{flat_map-append}
 use Rattle.std.proofs.lemmas.Bool.{cases_eq, false_from_ne_true}
 use Rattle.lattice.specs.Corners.{Corner, is_before}
 use Rattle.lattice.specs.Lattice.{IsBefore}
 use Rattle.lattice.proofs.CornerOrder.{before_trans, same_says, after_from}
-use Rattle.lattice.proofs.Rising.{AllAfter, Rising}
-use Rattle.page_map.specs.FreePages.{FreePages}
+use Rattle.lattice.proofs.Rising.{AllAfter, Rising, rises_at}
+use Rattle.page_codec.specs.Formats.{Format}
+use Rattle.page_map.specs.FreePages.{FreePages, free_times, page_times, AreBalanced, AreInUse}
+use Rattle.page_map.specs.Locations.{PlaneLocation, IsWholePlane, pages_of_plane, times}
 use Rattle.page_map.specs.declared.tile_entry.TileEntry.{TileEntry}
-use Rattle.page_map.specs.declared.locations.TilePlanes.{TilePlanes}
-use Rattle.page_map.specs.declared.staged.Staged.{Staged}
-use Rattle.page_map.specs.declared.staged.HeightsStaged.TheVariants as of_heights
-use Rattle.page_map.specs.declared.staged.Staged.TheVariants.{Tile, Removed}
-use Rattle.page_map.specs.Locations.{times}
-use Rattle.page_map.specs.FreePages.{free_times, page_times, AreInUse}
-use Rattle.page_map.specs.TileLocations.{TileLocation, pages_of_tile, reached}
-use Rattle.page_map.specs.PageMaps.{tile_at}
-use Rattle.page_map.specs.TileEntries.{committed_tile, staged_as, staged_tile, committed_tiles, fresh_pages, used_pages, pages_of_location, AreCounted}
+use Rattle.page_map.specs.PageMaps.{AreWholeKept, IsWholeTile}
+use Rattle.page_map.specs.PlaneEntries.{fresh_in, pages_at, staged_plane, used_in}
+use Rattle.page_map.specs.TileEntries.{committed_tile, committed_tiles, fresh_kept, fresh_pages, kept_of, staged_tile, tile_of, used_pages, AreCounted, AreTogether, IsKept, IsSound}
+use Rattle.page_map.specs.TileLocations.{TileLocation, pages_of_kept, pages_of_tile, reached}
 use Rattle.page_map.proofs.Times.{times-append}
+use Rattle.page_map.proofs.PlaneChanges.{used_split}
+
+-- ---- a tile of its planes
+abbrev pub pages_of_location : Option TileLocation → List ℕ
+pages_of_location None = []
+pages_of_location (Some t) = pages_of_tile t
+
+pub tile_own : (c : Corner) (h l m : Option PlaneLocation) → IfSome (tile_of c h l m) (λ t. t.corner ≡ c)
+tile_own c None l m = tt
+tile_own c (Some h) l m = refl
+
+pub tile_whole : (format : Format) (c : Corner) (h l m : Option PlaneLocation) → IfSome h (IsWholePlane format) → IfSome l (IsWholePlane format) → IfSome m (IsWholePlane format) → IfSome (tile_of c h l m) (IsWholeTile format)
+tile_whole format c None l m heights levels labels = tt
+tile_whole format c (Some h) l m heights levels labels = record { heights = heights; kept = by l m levels labels }
+  where
+    by : (l m : Option PlaneLocation) → IfSome l (IsWholePlane format) → IfSome m (IsWholePlane format) → IfSome (kept_of l m) (AreWholeKept format)
+    by None m levels labels = tt
+    by (Some l) None levels labels = tt
+    by (Some l) (Some m) levels labels = record { levels = levels; labels = labels }
+
+pub tile_times : (p : ℕ) (c : Corner) (h l m : Option PlaneLocation) → AreTogether h l m → times p (pages_of_location (tile_of c h l m)) ≡ times p (pages_at h) + (times p (pages_at l) + times p (pages_at m))
+tile_times p c None None None together = refl
+tile_times p c None None (Some m) together = absurd together
+tile_times p c None (Some l) None together = absurd together
+tile_times p c None (Some l) (Some m) together = absurd together
+tile_times p c (Some h) None None together = omega (arith, times-append p (pages_of_plane h) [])
+tile_times p c (Some h) None (Some m) together = absurd together
+tile_times p c (Some h) (Some l) None together = absurd together
+tile_times p c (Some h) (Some l) (Some m) together =
+    omega (arith, times-append p (pages_of_plane h) (pages_of_kept (kept_of (Some l) (Some m))), times-append p (pages_of_plane l) (pages_of_plane m))
+
+pub used_parts : (p : ℕ) (s : TileEntry) → times p (used_pages s) ≡ times p (used_in s.heights) + (times p (used_in s.levels) + times p (used_in s.labels))
+used_parts p s = omega (arith, times-append p (used_in s.heights) (used_in s.levels ++ used_in s.labels), times-append p (used_in s.levels) (used_in s.labels))
+
+pub fresh_parts : (p : ℕ) (s : TileEntry) → times p (fresh_pages s) ≡ times p (fresh_in s.heights) + (times p (fresh_in s.levels) + times p (fresh_in s.labels))
+fresh_parts p s = omega (arith, times-append p (fresh_in s.heights) (fresh_kept s), times-append p (fresh_in s.levels) (fresh_in s.labels))
+
+-- the pages that it uses are its committed tile's and the fresh ones
+pub used_tile : (format : Format) (p : ℕ) (s : TileEntry) → IsSound format s → times p (used_pages s) ≡ times p (pages_of_location (committed_tile s)) + times p (fresh_pages s)
+used_tile format p s sound =
+    omega (arith, used_parts p s, fresh_parts p s, used_split p s.heights, used_split p s.levels, used_split p s.labels, tile_times p s.corner s.heights.committed s.levels.committed s.labels.committed sound.committed)
 
 -- ---- pages
 -- the pages of tiles are those of the entries that have them
@@ -32,6 +70,19 @@ reached_all tile_of (s ∷ rest) = by (tile_of s) (reached_all tile_of rest)
     by None h = h
     by (Some t) h = ap (λ l. pages_of_tile t ++ l) h
 
+pub used_tiles : (format : Format) (p : ℕ) (entries : List TileEntry) → AllByRecursion (IsSound format) entries → times p (flat_map used_pages entries) ≡ times p (reached (committed_tiles entries)) + times p (flat_map fresh_pages entries)
+used_tiles format p [] sound = refl
+used_tiles format p (s ∷ rest) sound =
+    let tiles = ap (times p) (reached_all committed_tile (s ∷ rest)) in
+    let later = ap (times p) (reached_all committed_tile rest) in
+    let used = times-append p (used_pages s) (flat_map used_pages rest) in
+    let committed = times-append p (pages_of_location (committed_tile s)) (flat_map (λ s. pages_of_location (committed_tile s)) rest) in
+    let fresh = times-append p (fresh_pages s) (flat_map fresh_pages rest) in
+    omega (arith, tiles, later, used, committed, fresh, used_tile format p s sound.0, used_tiles format p rest sound.1)
+
+pub counted_tiles : (format : Format) (entries : List TileEntry) (free : FreePages) → IsKept format entries free → (p : ℕ) → times p (reached (committed_tiles entries)) + times p (flat_map fresh_pages entries) + free_times free p ≡ page_times free.range p
+counted_tiles format entries free is p = omega (arith, is.counted p, used_tiles format p entries is.sound)
+
 -- how often a page stands among the pages of entries, of which one is in the middle
 module _ (pages : TileEntry → List ℕ) (p : ℕ) (before : List TileEntry) (s : TileEntry) (after : List TileEntry) where
   pub times-split : times p (flat_map pages (before ++ s ∷ after)) ≡ times p (flat_map pages before) + (times p (pages s) + times p (flat_map pages after))
@@ -40,27 +91,14 @@ module _ (pages : TileEntry → List ℕ) (p : ℕ) (before : List TileEntry) (s
       ∙ (times-append p (flat_map pages before) (pages s ++ flat_map pages after)
       ∙ ap (λ n. times p (flat_map pages before) + n) (times-append p (pages s) (flat_map pages after)))
 
-pub counted_at : (p : ℕ) (before : List TileEntry) (s : TileEntry) (after : List TileEntry)
-    → times p (reached (committed_tiles (before ++ s ∷ after))) + times p (flat_map fresh_pages (before ++ s ∷ after))
-    ≡ (times p (reached (committed_tiles before)) + times p (flat_map fresh_pages before)) + times p (used_pages s) + (times p (reached (committed_tiles after)) + times p (flat_map fresh_pages after))
-counted_at p before s after =
-    let committed = ap (times p) (reached_all committed_tile (before ++ s ∷ after)) ∙ times-split (λ s. pages_of_location (committed_tile s)) p before s after in
-    let fresh = times-split fresh_pages p before s after in
-    let first = ap (times p) (reached_all committed_tile before) in
-    let last = ap (times p) (reached_all committed_tile after) in
-    let here = times-append p (pages_of_location (committed_tile s)) (fresh_pages s) in
-    omega arith
-
 module _ (before : List TileEntry) (s : TileEntry) (after : List TileEntry) (free : FreePages) (counted : AreCounted (before ++ s ∷ after) free) where
   pub entry_in_use : AreInUse (used_pages s) free
-  entry_in_use p = omega (arith, counted_at p before s after, counted p)
+  entry_in_use p = omega (arith, times-split used_pages p before s after, counted p)
 
-  pub counted_change : (new : TileEntry) (now : FreePages) → now.range ≡ free.range
-      → ((p : ℕ) → times p (used_pages new) + free_times now p ≡ times p (used_pages s) + free_times free p)
-      → AreCounted (before ++ new ∷ after) now
-  counted_change new now same_range each p =
-      let total = ap (λ n. page_times n p) same_range in
-      omega (arith, total, each p, counted_at p before s after, counted_at p before new after, counted p)
+  pub counted_change : (new : TileEntry) (now : FreePages) → AreBalanced (used_pages s) (used_pages new) free now → AreCounted (before ++ new ∷ after) now
+  counted_change new now balanced p =
+      let total = ap (λ n. page_times n p) balanced.same_range in
+      omega (arith, total, balanced.each p, times-split used_pages p before s after, times-split used_pages p before new after, counted p)
 
 -- ---- order
 abbrev pub corner_of : TileEntry → Corner
@@ -121,33 +159,16 @@ module _ (tile_of : TileEntry → Option TileLocation) (own : (s : TileEntry) �
       by (Some t) is later rising = (subst (λ (d : Corner). AllAfter location_of d (filter_map tile_of rest)) (sym is) later, rising)
 
 pub committed_own : (s : TileEntry) → IfSome (committed_tile s) (λ t. t.corner ≡ s.corner)
-committed_own s = elim s.committed as (λ o. IfSome (option_map (tile_at s.corner) o) (λ t. t.corner ≡ s.corner)) [ None ↦ tt | Some planes ↦ refl ]
+committed_own s = tile_own s.corner s.heights.committed s.levels.committed s.labels.committed
 
 pub staged_own : (s : TileEntry) → IfSome (staged_tile s) (λ t. t.corner ≡ s.corner)
-staged_own s = by s.corner s.committed s.staged
-  where
-    by : (c : Corner) (o : Option TilePlanes) (g : Staged) → IfSome (staged_as c o g) (λ t. t.corner ≡ c)
-    by c None (Tile of_heights.AsCommitted k) = tt
-    by c (Some planes) (Tile of_heights.AsCommitted k) = refl
-    by c o (Tile (of_heights.Fresh location) k) = refl
-    by c o Removed = tt
+staged_own s = tile_own s.corner (staged_plane s.heights) (staged_plane s.levels) (staged_plane s.labels)
 
 -- ---- where a corner's entry stands
-at_later : (c : Corner) (entries : List TileEntry) → AllAfter corner_of c entries → (j : ℕ) (d : TileEntry) → j < length entries → is_before c (get_or entries j d).corner ≡ true
-at_later c [] h j d below = absurd (omega arith)
-at_later c (s ∷ rest) h zero d below = h.0
-at_later c (s ∷ rest) h (suc j) d below = at_later c rest h.1 j d (omega arith)
-
-pub rising_pairs : (entries : List TileEntry) → Rising corner_of entries → (i j : ℕ) (d : TileEntry) → i < j → j < length entries → is_before (get_or entries i d).corner (get_or entries j d).corner ≡ true
-rising_pairs [] h i j d less below = absurd (omega arith)
-rising_pairs (s ∷ rest) h i zero d less below = absurd (omega arith)
-rising_pairs (s ∷ rest) h zero (suc j) d less below = at_later s.corner rest h.0 j d (omega arith)
-rising_pairs (s ∷ rest) h (suc i) (suc j) d less below = rising_pairs rest h.1 i j d (omega arith) (omega arith)
-
 pub rising_partition : (c : Corner) (entries : List TileEntry) → Rising corner_of entries → (i j : ℕ) (d : TileEntry) → i ≤ j → j < length entries → is_before (get_or entries j d).corner c ≡ true → is_before (get_or entries i d).corner c ≡ true
 rising_partition c entries h i j d le below earlier = elim (cases_eq i j) [
   | inl same ↦ subst (λ k. is_before (get_or entries k d).corner c ≡ true) (sym same) earlier
-  | inr other ↦ before_trans (get_or entries i d).corner (get_or entries j d).corner c (rising_pairs entries h i j d (omega arith) below) earlier
+  | inr other ↦ before_trans (get_or entries i d).corner (get_or entries j d).corner c (rises_at corner_of entries i j d h (omega arith) below) earlier
 ]
 
 -- no entry from here on is before the corner, and the one here isn't its own: all from here on are after it
@@ -158,5 +179,5 @@ room_after c entries h at late other k d from below =
     after_from (get_or entries at d).corner c (late at d (omega arith) (omega arith)) (false_from_ne_true _ (λ same. other (omega arith) d (same_says (get_or entries at d).corner c same))) in
     elim (cases_eq at k) [
       | inl same ↦ subst (λ n. is_before c (get_or entries n d).corner ≡ true) same here
-      | inr more ↦ before_trans c (get_or entries at d).corner (get_or entries k d).corner here (rising_pairs entries h at k d (omega arith) below)
+      | inr more ↦ before_trans c (get_or entries at d).corner (get_or entries k d).corner here (rises_at corner_of entries at k d h (omega arith) below)
     ]

@@ -10,7 +10,7 @@ use Rattle.std.proofs.lemmas.Bool.{false_from_ne_true, cases_eq, cases_lt, eq-eq
 use Rattle.std.proofs.lemmas.Bool.Decides.{nat_tests}
 use Rattle.std.specs.BTreeSet.{BTreeSet}
 use Rattle.page_alloc.specs.Pages.{PageSet, IsPage, IsFree, with_page, without_page}
-use Rattle.page_map.specs.FreePages.{FreePages, PageRange, free_times, page_times, AreTaken, AreGiven, AreInUse}
+use Rattle.page_map.specs.FreePages.{FreePages, PageRange, free_times, page_times, AreBalanced, AreTaken, AreGiven, AreInUse}
 use Rattle.page_map.proofs.Times.{one, one-other, one-self, times-append}
 
 pub contains-with : (s : FinSet nat_cmp) (k q : ℕ) → contains (insert s k) q ≡ (eqb q k || contains s q)
@@ -221,21 +221,23 @@ module _ (xs ys : List ℕ) (a b c : FreePages) where
 pub in_use-first : (xs ys : List ℕ) (a : FreePages) → AreInUse (xs ++ ys) a → AreInUse xs a
 in_use-first xs ys a in_use p = omega (arith, times-append p xs ys, in_use p)
 
+pub in_use-last : (xs ys : List ℕ) (a : FreePages) → AreInUse (xs ++ ys) a → AreInUse ys a
+in_use-last xs ys a in_use p = omega (arith, times-append p xs ys, in_use p)
+
 -- the first of pages in use can be given back
 pub in_use-head : (x : ℕ) (xs : List ℕ) (a : FreePages) → AreInUse (x ∷ xs) a → AreInUse (x ∷ []) a
 in_use-head x xs a in_use p = omega (arith, in_use p)
 
--- ---- pages given back one after another: one page, then some, then some more
-module _ (x : ℕ) (xs ys : List ℕ) (a b : FreePages) (in_use : AreInUse (x ∷ (xs ++ ys)) a) (first_given : AreGiven (x ∷ []) a b) where
-  pub rest_in_use : AreInUse (xs ++ ys) b
-  rest_in_use = in_use-rest (x ∷ []) (xs ++ ys) a b a in_use first_given
+-- ---- pages used in place of others
+pub balanced_same : (xs : List ℕ) (a : FreePages) → AreBalanced xs xs a a
+balanced_same xs a = record { same_range = refl; each = λ p. refl }
 
-  pub second_in_use : AreInUse xs b
-  second_in_use = in_use-first xs ys b rest_in_use
+module _ (xs new_xs ys : List ℕ) (a b : FreePages) (first : AreBalanced xs new_xs a b) where
+  pub balanced-append : (new_ys : List ℕ) (c : FreePages) → AreBalanced ys new_ys b c → AreBalanced (xs ++ ys) (new_xs ++ new_ys) a c
+  balanced-append new_ys c second = record {
+    same_range = second.same_range ∙ first.same_range;
+    each = λ p. omega (arith, times-append p xs ys, times-append p new_xs new_ys, first.each p, second.each p);
+  }
 
-  module _ (c : FreePages) (second : AreGiven xs b c) where
-    pub third_in_use : AreInUse ys c
-    third_in_use = in_use-rest xs ys b c b rest_in_use second
-
-    pub three_given : (d : FreePages) → AreGiven ys c d → AreGiven (x ∷ (xs ++ ys)) a d
-    three_given d third = given-append (x ∷ []) (xs ++ ys) a b d first_given (given-append xs ys b c d second third)
+  pub rest_in_use_still : AreInUse (xs ++ ys) a → AreInUse ys b
+  rest_in_use_still in_use p = let same = ap (λ r. page_times r p) first.same_range in omega (arith, same, times-append p xs ys, in_use p, first.each p)

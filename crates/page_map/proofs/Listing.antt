@@ -1,6 +1,6 @@
 -- What is listed of the entries, one after another.
-use Rattle.std.proofs.Common.{◌≡◌, ℕ, zero, suc, ◌+◌, ◌<◌, ◌≤◌, true, false, inl, inr, List, [], ◌∷◌, ◌++◌, length, take, drop, get_or, refl, sym, ap, ◌∙◌, arith}
-use Rattle.std.specs.Prelude.{Option, Some, None, IsSome, IfSome, is_some, Contains, ◌==◌}
+use Rattle.std.proofs.Common.{◌≡◌, ℕ, zero, suc, ◌+◌, ◌<◌, ◌≤◌, true, false, inl, inr, List, [], ◌∷◌, ◌++◌, length, take, drop, get_or, refl, sym, ap, ◌∙◌, arith, Bor}
+use Rattle.std.specs.Prelude.{Option, Some, None, IsSome, IfSome, is_some, Contains, ◌==◌, option_copied}
 use Rattle.std.specs.List.{cons_option, list_any}
 use Rattle.std.proofs.lemmas.List.{take_more, length-append, map-append, length-map, append-nil}
 use Rattle.std.proofs.lemmas.List.Elements.{filter_map-append}
@@ -10,7 +10,9 @@ use Rattle.lattice.specs.Limits.{most_tiles}
 use Rattle.page_map.specs.declared.tile_entry.TileEntry.{TileEntry}
 use Rattle.page_map.specs.TileLocations.{TileLocation}
 use Rattle.page_map.specs.PageMaps.{corners_of_locations}
-use Rattle.page_map.specs.TileEntries.{staged_tile, staged_tiles}
+use Rattle.page_map.specs.Locations.{PlaneLocation}
+use Rattle.page_map.specs.PlaneEntries.{staged_plane}
+use Rattle.page_map.specs.TileEntries.{staged_tile, staged_tiles, tile_of}
 use Rattle.page_map.proofs.EntryLists.{staged_own}
 use Rattle.page_map.proofs.Lookup.{split_of}
 
@@ -27,6 +29,18 @@ staged_below entries i s below is some =
     by : (o : Option TileLocation) → IsSome o → length (staged_tiles entries) ≡ length (staged_tiles (take i entries) ++ cons_option o (staged_tiles (drop (suc i) entries))) → length (staged_tiles (take i entries)) < length (staged_tiles entries)
     by None some whole = absurd (false≢true some)
     by (Some t) some whole = omega (arith, whole, length-append (staged_tiles (take i entries)) (t ∷ staged_tiles (drop (suc i) entries)))
+
+-- a tile is staged where heights are
+pub some_alike : (r : Option (Bor PlaneLocation)) (s : TileEntry) → option_copied r ≡ staged_plane s.heights → is_some r ≡ is_some (staged_tile s)
+some_alike r s same = copied r ∙ (ap is_some same ∙ by (staged_plane s.heights))
+  where
+    copied : (q : Option (Bor PlaneLocation)) → is_some q ≡ is_some (option_copied q)
+    copied None = refl
+    copied (Some location) = refl
+
+    by : (o : Option PlaneLocation) → is_some o ≡ is_some (tile_of s.corner o (staged_plane s.levels) (staged_plane s.labels))
+    by None = refl
+    by (Some h) = refl
 
 -- ---- corners
 module _ (entries : List TileEntry) (i : ℕ) (s : TileEntry) (below : i < length entries) (is : s ≡ get_or entries i s) (corners : List Corner) (so_far : corners ≡ corners_of_locations (staged_tiles (take i entries))) where

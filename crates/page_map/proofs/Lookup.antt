@@ -1,22 +1,34 @@
 -- The entry of a corner, and what it says of the page_map's tiles.
 use Rattle.std.proofs.Common.{◌≡◌, ℕ, zero, suc, ◌<◌, false, inl, inr, List, [], ◌∷◌, ◌++◌, length, take, drop, get_or, refl, sym, ap, subst, ◌∙◌, arith, ◌↔◌, Bor}
-use Rattle.std.specs.Prelude.{Option, Some, None, IsSome, IfSome, Contains, is_some, IfNone, option_map, option_copied, option_and_then}
-use Rattle.page_map.specs.declared.locations.KeptLocations.{KeptLocations}
-use Rattle.std.specs.List.{cons_option}
+use Rattle.std.specs.Prelude.{Option, Some, None, IsSome, IfSome, Contains, IfNone, option_map, option_copied, option_and_then}
+use Rattle.std.specs.List.{cons_option, AllByRecursion}
 use Rattle.std.proofs.Math.Seq.{split_at}
 use Rattle.std.proofs.lemmas.List.Elements.{filter_map-append}
 use Rattle.std.proofs.lemmas.Bool.{false≢true, cases_lt}
 use Rattle.lattice.specs.Corners.{Corner, same_corner}
 use Rattle.lattice.proofs.CornerOrder.{before_not_same, after_not_same, same_from}
-use Rattle.lattice.proofs.Rising.{Rising}
+use Rattle.lattice.proofs.Rising.{Rising, rising_from}
+use Rattle.page_codec.specs.Formats.{Format}
+use Rattle.page_map.specs.FreePages.{FreePages}
+use Rattle.page_map.specs.declared.locations.KeptLocations.{KeptLocations}
+use Rattle.page_map.specs.declared.plane.Plane.{Plane}
+use Rattle.page_map.specs.declared.plane.Plane.TheVariants.{Heights, Levels, Labels}
 use Rattle.page_map.specs.declared.tile_entry.TileEntry.{TileEntry}
 use Rattle.page_map.specs.Locations.{PlaneLocation}
+use Rattle.page_map.specs.PlaneEntries.{staged_plane}
+use Rattle.page_map.specs.Planes.{HasPlane, HasPlaneAt, LiesAt, plane_of}
 use Rattle.page_map.specs.TileLocations.{TileLocation}
-use Rattle.page_map.specs.PageMaps.{IsLocated, HasHeights, HasKept}
-use Rattle.page_map.specs.TileEntries.{staged_tile, staged_tiles, IsEntryAt, IsRoomAt}
+use Rattle.page_map.specs.PageMaps.{IsLocated}
+use Rattle.page_map.specs.TileEntries.{named_plane, staged_tile, staged_tiles, tile_of, AreTogether, IsEntryAt, IsKept, IsRoomAt, IsSound}
 use Rattle.page_map.proofs.EntryLists.{corner_of, staged_own, rising_before, rising_after}
-use Rattle.page_map.proofs.EntryChanges.{AllOther, other_before, other_after, staged_corner}
+use Rattle.page_map.proofs.EntryChanges.{AllOther, all_middle, other_before, other_after, staged_corner}
 use Rattle.page_map.proofs.PageMapRules.{contains_at}
+
+-- one of three planes
+abbrev named : Plane → Option PlaneLocation → Option PlaneLocation → Option PlaneLocation → Option PlaneLocation
+named Heights h l m = h
+named Levels h l m = l
+named Labels h l m = m
 
 -- ---- a entry in its list
 pub split_of : (entries : List TileEntry) (at : ℕ) (s : TileEntry) → at < length entries → s ≡ get_or entries at s → entries ≡ take at entries ++ s ∷ drop (suc at) entries
@@ -36,6 +48,11 @@ pub located-from_tile : (c : Corner) (tiles : List TileLocation) (t : TileLocati
 located-from_tile c [] t (k, below, here) same = absurd (omega arith)
 located-from_tile c (x ∷ rest) t (zero, below, here) same = (0, omega arith, ap (λ (u : TileLocation). u.corner) here ∙ same)
 located-from_tile c (x ∷ rest) t (suc k, below, here) same = let later = located-from_tile c rest t (k, omega arith, here) same in (suc later.0, omega arith, later.2)
+
+pub tile_at_corner : (c : Corner) (tiles : List TileLocation) → IsLocated c tiles → HasPlane tiles c Heights
+tile_at_corner c [] (k, below, here) = absurd (omega arith)
+tile_at_corner c (t ∷ rest) (zero, below, here) = (t, ((0, omega arith, refl), (here, (t.heights, refl))))
+tile_at_corner c (t ∷ rest) (suc k, below, here) = let (u, ((j, within, is), found)) = tile_at_corner c rest (k, omega arith, here) in (u, ((suc j, omega arith, is), found))
 
 module _ (before : List TileEntry) (s : TileEntry) (after : List TileEntry) (rising : Rising corner_of (before ++ s ∷ after)) where
   others : AllOther s.corner (staged_tiles before) × AllOther s.corner (staged_tiles after)
@@ -71,21 +88,6 @@ module _ (before : List TileEntry) (s : TileEntry) (after : List TileEntry) (ris
       by None is among = absurd (not_among (staged_tiles before ++ staged_tiles after) (other-append s.corner (staged_tiles before) (staged_tiles after) others.0 others.1) among)
       by (Some u) is among = ap Some (pick (staged_tiles before) u (staged_tiles after) others.0 others.1 among)
 
-pub heights_here : (before : List TileEntry) (s : TileEntry) (after : List TileEntry) → Rising corner_of (before ++ s ∷ after) → (plane : PlaneLocation) → Some plane ≡ option_map (λ (t : TileLocation). t.heights) (staged_tile s)
-    → HasHeights s.corner plane (staged_tiles (before ++ s ∷ after))
-heights_here before s after rising plane is = by (staged_tile s) refl is
-  where
-    by : (o : Option TileLocation) → staged_tile s ≡ o → Some plane ≡ option_map (λ (t : TileLocation). t.heights) o → HasHeights s.corner plane (staged_tiles (before ++ s ∷ after))
-    by None had is = cc
-    by (Some t) had is = (t, (tile_here before s after rising t had, staged_corner before s after rising t had, (let same : plane ≡ t.heights = cc in sym same)))
-
--- heights are there where a tile is
-pub is_some_alike : (q : Option (Bor PlaneLocation)) (o : Option TileLocation) → option_copied q ≡ option_map (λ (t : TileLocation). t.heights) o → is_some q ≡ is_some o
-is_some_alike None None same = refl
-is_some_alike None (Some t) same = cc
-is_some_alike (Some plane) None same = cc
-is_some_alike (Some plane) (Some t) same = refl
-
 -- ---- no entry
 pub room_other : (c : Corner) (at : ℕ) (entries : List TileEntry) → IsRoomAt c at entries → AllOther c (staged_tiles entries)
 room_other c at entries room = all entries (λ k d below. elim (cases_lt k at) [
@@ -101,8 +103,52 @@ room_other c at entries room = all entries (λ k d below. elim (cases_lt k at) [
         by None is later = later
         by (Some t) is later = (subst (λ (d : Corner). same_corner d c ≡ false) (sym is) (each 0 s (omega arith)), later)
 
+-- ---- where a plane lies
+pub lies_there : (plane : Plane) (t : TileLocation) (location : PlaneLocation) → Some location ≡ plane_of plane t → LiesAt plane t location
+lies_there Heights t location is = (let same : location ≡ t.heights = cc in sym same)
+lies_there Levels t location is = by t.kept refl is
+  where
+    by : (o : Option KeptLocations) → t.kept ≡ o → Some location ≡ option_map (λ (k : KeptLocations). k.levels) o → LiesAt Levels t location
+    by None kept is = cc
+    by (Some k) kept is = (k, (kept, (let same : location ≡ k.levels = cc in sym same)))
+lies_there Labels t location is = by t.kept refl is
+  where
+    by : (o : Option KeptLocations) → t.kept ≡ o → Some location ≡ option_map (λ (k : KeptLocations). k.labels) o → LiesAt Labels t location
+    by None kept is = cc
+    by (Some k) kept is = (k, (kept, (let same : location ≡ k.labels = cc in sym same)))
+
+pub lies : (plane : Plane) (t : TileLocation) (location : PlaneLocation) → LiesAt plane t location → plane_of plane t ≡ Some location
+lies Heights t location at = ap Some at
+lies Levels t location (k, (some, at)) = ap (option_map (λ (l : KeptLocations). l.levels)) some ∙ ap Some at
+lies Labels t location (k, (some, at)) = ap (option_map (λ (l : KeptLocations). l.labels)) some ∙ ap Some at
+
+-- a plane of an entry is one of its staged tile
+plane_in : (plane : Plane) (c : Corner) (h l m : Option PlaneLocation) → AreTogether h l m → option_and_then (plane_of plane) (tile_of c h l m) ≡ named plane h l m
+plane_in Heights c None None None together = refl
+plane_in Levels c None None None together = refl
+plane_in Labels c None None None together = refl
+plane_in plane c None None (Some m) together = absurd together
+plane_in plane c None (Some l) None together = absurd together
+plane_in plane c None (Some l) (Some m) together = absurd together
+plane_in Heights c (Some h) None None together = refl
+plane_in Levels c (Some h) None None together = refl
+plane_in Labels c (Some h) None None together = refl
+plane_in plane c (Some h) None (Some m) together = absurd together
+plane_in plane c (Some h) (Some l) None together = absurd together
+plane_in Heights c (Some h) (Some l) (Some m) together = refl
+plane_in Levels c (Some h) (Some l) (Some m) together = refl
+plane_in Labels c (Some h) (Some l) (Some m) together = refl
+
+pub plane_staged : (format : Format) (plane : Plane) (s : TileEntry) → IsSound format s → option_and_then (plane_of plane) (staged_tile s) ≡ staged_plane (named_plane plane s)
+plane_staged format plane s sound = plane_in plane s.corner (staged_plane s.heights) (staged_plane s.levels) (staged_plane s.labels) sound.staged ∙ by plane
+  where
+    by : (q : Plane) → named q (staged_plane s.heights) (staged_plane s.levels) (staged_plane s.labels) ≡ staged_plane (named_plane q s)
+    by Heights = refl
+    by Levels = refl
+    by Labels = refl
+
 -- ---- what the entry found answers
-module _ (entries : List TileEntry) (rising : Rising corner_of entries) (c : Corner) (at : ℕ) (found : IsEntryAt c at entries) (s : TileEntry) (is : s ≡ get_or entries at s) where
+module _ (format : Format) (entries : List TileEntry) (free : FreePages) (kept : IsKept format entries free) (c : Corner) (at : ℕ) (found : IsEntryAt c at entries) (s : TileEntry) (is : s ≡ get_or entries at s) (plane : Plane) where
   abbrev before_at : List TileEntry
   before_at = take at entries
 
@@ -116,49 +162,44 @@ module _ (entries : List TileEntry) (rising : Rising corner_of entries) (c : Cor
   corner_there = ap (λ (x : TileEntry). x.corner) is ∙ found.here s
 
   rising_split : Rising corner_of (before_at ++ s ∷ after_at)
-  rising_split = subst (λ (l : List TileEntry). Rising corner_of l) split_there rising
+  rising_split = subst (λ (l : List TileEntry). Rising corner_of l) split_there (rising_from corner_of entries kept.in_order)
 
-  pub heights_found : (r : Option (Bor PlaneLocation)) → option_copied r ≡ option_map (λ (t : TileLocation). t.heights) (staged_tile s) → IfSome r (λ plane. HasHeights c plane.now (staged_tiles entries))
-  heights_found None same = tt
-  heights_found (Some plane) same =
-      subst (λ (d : Corner). HasHeights d plane.now (staged_tiles entries)) corner_there
-      (subst (λ (l : List TileEntry). HasHeights s.corner plane.now (staged_tiles l)) (sym split_there) (heights_here before_at s after_at rising_split plane.now same))
+  same_plane : option_and_then (plane_of plane) (staged_tile s) ≡ staged_plane (named_plane plane s)
+  same_plane = plane_staged format plane s (all_middle (IsSound format) before_at s after_at (subst (λ (l : List TileEntry). AllByRecursion (IsSound format) l) split_there kept.sound))
 
-  located_some : IsSome (staged_tile s) ↔ IsLocated c (staged_tiles entries)
-  located_some = (
-    λ some. subst (λ (d : Corner). IsLocated d (staged_tiles entries)) corner_there (subst (λ (l : List TileEntry). IsLocated s.corner (staged_tiles l)) (sym split_there) (there (staged_tile s) refl some)),
-    λ located. located_here before_at s after_at rising_split
-        (subst (λ (d : Corner). IsLocated d (staged_tiles (before_at ++ s ∷ after_at))) (sym corner_there) (subst (λ (l : List TileEntry). IsLocated c (staged_tiles l)) split_there located)),
-  )
+  pub plane_found : (r : Option (Bor PlaneLocation)) → option_copied r ≡ staged_plane (named_plane plane s) → IfSome r (λ location. HasPlaneAt (staged_tiles entries) c plane location.now)
+  plane_found None same = tt
+  plane_found (Some location) same = by (staged_tile s) refl (same ∙ sym same_plane)
     where
-      there : (o : Option TileLocation) → staged_tile s ≡ o → IsSome o → IsLocated s.corner (staged_tiles (before_at ++ s ∷ after_at))
-      there None had some = absurd (false≢true some)
-      there (Some t) had some = located_there before_at s after_at rising_split t had
-
-  pub heights_present : (r : Option (Bor PlaneLocation)) → option_copied r ≡ option_map (λ (t : TileLocation). t.heights) (staged_tile s) → IsSome r ↔ IsLocated c (staged_tiles entries)
-  heights_present r same = (λ some. located_some.0 (sym (is_some_alike r (staged_tile s) same) ∙ some), λ located. is_some_alike r (staged_tile s) same ∙ located_some.1 located)
-
-  pub kept_found : (r : Option (Bor KeptLocations)) → option_copied r ≡ option_and_then (λ (t : TileLocation). t.kept) (staged_tile s) → IfSome r (λ kept. HasKept c kept.now (staged_tiles entries))
-  kept_found None same = tt
-  kept_found (Some kept) same = by (staged_tile s) refl same
-    where
-      by : (o : Option TileLocation) → staged_tile s ≡ o → Some kept.now ≡ option_and_then (λ (t : TileLocation). t.kept) o → HasKept c kept.now (staged_tiles entries)
-      by None had same = cc
-      by (Some t) had same = (
+      by : (o : Option TileLocation) → staged_tile s ≡ o → Some location.now ≡ option_and_then (plane_of plane) o → HasPlaneAt (staged_tiles entries) c plane location.now
+      by None had lies_at = cc
+      by (Some t) had lies_at = (
         t,
         (
           subst (λ (l : List TileEntry). Contains (staged_tiles l) t) (sym split_there) (tile_here before_at s after_at rising_split t had),
-          staged_corner before_at s after_at rising_split t had ∙ corner_there,
-          sym same,
+          (staged_corner before_at s after_at rising_split t had ∙ corner_there, lies_there plane t location.now lies_at),
         ),
       )
 
-  pub kept_none : (r : Option (Bor KeptLocations)) → option_copied r ≡ option_and_then (λ (t : TileLocation). t.kept) (staged_tile s)
-      → IfNone r ((t : TileLocation) → Contains (staged_tiles entries) t → t.corner ≡ c → t.kept ≡ None)
-  kept_none (Some kept) same = tt
-  kept_none None same = λ t there at_corner.
-      (let had = tile_is before_at s after_at rising_split t (subst (λ (l : List TileEntry). Contains (staged_tiles l) t) split_there there) (at_corner ∙ sym corner_there) in
-      sym (same ∙ ap (option_and_then (λ (u : TileLocation). u.kept)) had))
+  -- the corner's plane is the entry's
+  pub plane_at : (location : PlaneLocation) → HasPlaneAt (staged_tiles entries) c plane location → staged_plane (named_plane plane s) ≡ Some location
+  plane_at location (t, (there, (at_corner, lies_at))) =
+      let had : staged_tile s ≡ Some t = tile_is before_at s after_at rising_split t (subst (λ (l : List TileEntry). Contains (staged_tiles l) t) split_there there) (at_corner ∙ sym corner_there) in
+      sym same_plane ∙ (ap (option_and_then (plane_of plane)) had ∙ lies plane t location lies_at)
+
+  pub plane_none : (r : Option (Bor PlaneLocation)) → option_copied r ≡ staged_plane (named_plane plane s) → IfNone r (¬ HasPlane (staged_tiles entries) c plane)
+  plane_none (Some location) same = tt
+  plane_none None same = λ (t, (there, (at_corner, (location, lies_at)))). (let no : None ≡ Some location = same ∙ plane_at location (t, (there, (at_corner, lies_at))) in cc)
+
+-- a plane is found where the corner has one, and heights where it has a tile
+pub held_plane : (c : Corner) (plane : Plane) (tiles : List TileLocation) (r : Option (Bor PlaneLocation)) → IfSome r (λ location. HasPlaneAt tiles c plane location.now) → IfNone r (¬ HasPlane tiles c plane) → IsSome r ↔ HasPlane tiles c plane
+held_plane c plane tiles None found none = ((λ some. absurd (false≢true some)), (λ held. absurd (none held)))
+held_plane c plane tiles (Some location) (t, (there, (at_corner, lies_at))) none = ((λ some. (t, (there, (at_corner, (location.now, lies_at))))), (λ held. refl))
+
+pub located_plane : (c : Corner) (tiles : List TileLocation) (r : Option (Bor PlaneLocation)) → IfSome r (λ location. HasPlaneAt tiles c Heights location.now) → IfNone r (¬ HasPlane tiles c Heights) → IsSome r ↔ IsLocated c tiles
+located_plane c tiles r found none =
+    let held = held_plane c Heights tiles r found none in
+    ((λ some. let (t, (there, (at_corner, lies_at))) = held.0 some in located-from_tile c tiles t there at_corner), (λ located. held.1 (tile_at_corner c tiles located)))
 
 pub none_located : (c : Corner) (at : ℕ) (entries : List TileEntry) → IsRoomAt c at entries → IsLocated c (staged_tiles entries) → ⊥
 none_located c at entries room located = not_located c (staged_tiles entries) (room_other c at entries room) located

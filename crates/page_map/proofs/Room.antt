@@ -1,30 +1,32 @@
 -- A free page is always left: the committed tiles and the fresh pages take fewer than the disk has.
 use Rattle.std.proofs.Common.{◌≡◌, ◌≢◌, ℕ, zero, suc, ◌+◌, ◌-◌, ◌*◌, ◌<◌, ◌≤◌, true, cond, inl, inr, List, [], ◌∷◌, ◌++◌, length, refl, sym, ap, subst, ◌∙◌, arith}
 use Rattle.std.proofs.Math.Nat.{mul-add, mul-le-mul_left, mul_comm, mul_assoc, mul_left_comm}
-use Rattle.std.specs.Prelude.{Option, Some, None, IsSome, IfSome, not, ◌&&◌}
+use Rattle.std.specs.Prelude.{Option, Some, None, IsSome, IfSome, is_some, not, ◌&&◌}
 use Rattle.std.specs.List.{filter_map, flat_map, cons_option, AllByRecursion}
 use Rattle.std.specs.Ordering.{nat_cmp}
 use Rattle.std.specs.FinSet.{FinSet, empty, contains, remove, len, empty_of_len, contains-empty}
 use Rattle.std.proofs.lemmas.Bool.{false≢true, cases_eq, cases_Bool, cases_lt, ne_eqb}
 use Rattle.std.proofs.lemmas.List.{length-append}
-use Rattle.lattice.specs.Corners.{Corner}
 use Rattle.page_codec.specs.Sizes.{pages_of, index_pages_by, index_pages_of, plane_pages_of, sectors_asked}
 use Rattle.page_codec.specs.Formats.{Format, upgraded}
 use Rattle.page_codec.specs.declared.version.Version.TheVariants.{One}
 use Rattle.page_map.specs.declared.locations.KeptLocations.{KeptLocations}
-use Rattle.page_map.specs.declared.locations.TilePlanes.{TilePlanes}
+use Rattle.page_map.specs.declared.plane_entry.PlaneEntry.{PlaneEntry}
+use Rattle.page_map.specs.declared.plane_entry.Staged.{Staged}
+use Rattle.page_map.specs.declared.plane_entry.Staged.TheVariants.{AsCommitted, Dropped, Fresh}
 use Rattle.page_map.specs.declared.tile_entry.TileEntry.{TileEntry}
-use Rattle.page_map.specs.declared.staged.Staged.{Staged}
-use Rattle.page_map.specs.declared.staged.HeightsStaged.TheVariants as of_heights
-use Rattle.page_map.specs.declared.staged.Staged.TheVariants.{Tile, Removed}
 use Rattle.page_map.specs.Locations.{PlaneLocation, IsWholePlane, times, pages_behind, pages_of_plane}
-use Rattle.page_map.specs.FreePages.{FreePages, page_times, heights_pages}
+use Rattle.page_map.specs.FreePages.{FreePages, page_times}
+use Rattle.page_map.specs.PlaneEntries.{behind_at, fresh_as, fresh_in, staged_as, staged_plane, HasRoom}
 use Rattle.page_map.specs.TileLocations.{TileLocation, pages_of_tile, pages_of_kept, reached}
 use Rattle.page_map.specs.PageMaps.{IsWholeTile, AreWholeKept}
-use Rattle.page_map.specs.TileEntries.{committed_tile, staged_as, staged_tile, committed_tiles, staged_tiles, fresh_heights_in, fresh_heights, fresh_kept, fresh_pages, pages_of_location, IsSound, IsKept}
+use Rattle.page_map.specs.TileEntries.{committed_tile, committed_tiles, fresh_kept, fresh_pages, staged_tile, staged_tiles, tile_of, IsKept, IsSound, IsSoundPlane}
 use Rattle.page_map.proofs.Times.{one, one-other, times-append, length-differing}
 use Rattle.page_map.proofs.FreeTimes.{contains-without, free_near, len-without, page_one}
-use Rattle.page_map.proofs.EntryLists.{reached_all}
+use Rattle.page_map.proofs.EntryLists.{counted_tiles, pages_of_location, reached_all, tile_whole}
+
+abbrev fresh_heights : TileEntry → List ℕ
+fresh_heights s = fresh_in s.heights
 
 -- ---- numbers that all stand in a list or a set are no more than these have
 -- the list without a number that stands in it
@@ -101,19 +103,27 @@ module _ (format : Format) where
   tile_few t whole = omega (arith, length-append (pages_of_plane t.heights) (pages_of_kept t.kept), plane_few t.heights whole.heights, kept_few t.kept whole.kept)
 
   committed_few : (s : TileEntry) → IsSound format s → length (pages_of_location (committed_tile s)) ≤ 3 * plane_size * count (committed_tile s)
-  committed_few s sound = by (committed_tile s) sound.committed
+  committed_few s sound = by (committed_tile s) (tile_whole format s.corner s.heights.committed s.levels.committed s.labels.committed sound.heights.committed sound.levels.committed sound.labels.committed)
     where
       by : (o : Option TileLocation) → IfSome o (IsWholeTile format) → length (pages_of_location o) ≤ 3 * plane_size * count o
       by None whole = omega arith
       by (Some t) whole = omega (arith, tile_few t whole)
 
-  heights_few : (s : TileEntry) → IsSound format s → length (fresh_heights s) ≤ plane_size * count (staged_tile s)
-  heights_few s sound = by s.corner s.committed s.staged sound.staged
+  pub fresh_few : (e : PlaneEntry) → IsSoundPlane format e → length (fresh_in e) ≤ plane_size
+  fresh_few e sound = by e.committed e.staged sound.staged
     where
-      by : (c : Corner) (o : Option TilePlanes) (g : Staged) → IfSome (staged_as c o g) (IsWholeTile format) → length (fresh_heights_in o g) ≤ plane_size * count (staged_as c o g)
-      by c o (Tile of_heights.AsCommitted k) whole = omega arith
-      by c o (Tile (of_heights.Fresh location) k) whole = omega (arith, length-differing (pages_behind location) (heights_pages o), plane_few location whole.heights)
-      by c o Removed whole = omega arith
+      by : (o : Option PlaneLocation) (g : Staged) → IfSome (staged_as o g) (IsWholePlane format) → length (fresh_as o g) ≤ plane_size
+      by o AsCommitted whole = omega arith
+      by o Dropped whole = omega arith
+      by o (Fresh location) whole = omega (arith, length-differing (pages_behind location) (behind_at o), plane_few location whole)
+
+  heights_few : (s : TileEntry) → IsSound format s → length (fresh_heights s) ≤ plane_size * count (staged_tile s)
+  heights_few s sound = by s.heights.committed s.heights.staged (fresh_few s.heights sound.heights)
+    where
+      by : (o : Option PlaneLocation) (g : Staged) → length (fresh_as o g) ≤ plane_size → length (fresh_as o g) ≤ plane_size * count (tile_of s.corner (staged_as o g) (staged_plane s.levels) (staged_plane s.labels))
+      by o AsCommitted few = omega arith
+      by o Dropped few = omega arith
+      by o (Fresh location) few = omega (arith, few)
 
   all_heights_few : (entries : List TileEntry) → AllByRecursion (IsSound format) entries → length (flat_map fresh_heights entries) ≤ plane_size * length (staged_tiles entries)
   all_heights_few = pages_few fresh_heights staged_tile plane_size (IsSound format) heights_few
@@ -135,10 +145,10 @@ module _ (format : Format) where
       by (Some t) here later = omega (arith, length-append (fresh_heights b) (flat_map fresh_heights (before ++ s ∷ after)), mul-add plane_size 1 (length (staged_tiles (before ++ s ∷ after))))
 
 -- the fresh pages are those of heights and those of kept planes
-pub fresh_parts : (entries : List TileEntry) → length (flat_map fresh_pages entries) ≡ length (flat_map fresh_heights entries) + length (flat_map fresh_kept entries)
-fresh_parts [] = refl
-fresh_parts (s ∷ rest) =
-    let parts = fresh_parts rest in
+pub fresh_lengths : (entries : List TileEntry) → length (flat_map fresh_pages entries) ≡ length (flat_map fresh_heights entries) + length (flat_map fresh_kept entries)
+fresh_lengths [] = refl
+fresh_lengths (s ∷ rest) =
+    let parts = fresh_lengths rest in
     let all = length-append (fresh_pages s) (flat_map fresh_pages rest) in
     let here = length-append (fresh_heights s) (fresh_kept s) in
     let heights = length-append (fresh_heights s) (flat_map fresh_heights rest) in
@@ -161,7 +171,7 @@ module _ (format : Format) (entries : List TileEntry) (free : FreePages) (is : I
       pages_le (free.range.window - 4) used free.free (λ p low high. (
       let near = free_near free p (omega (arith, is.window.enough)) in
       let page : page_times free.range p ≡ 1 = page_one free.range p (low, omega (arith, is.window.enough, is.window.within)) in
-      omega (arith, is.counted p, near, page, times-append p (reached (committed_tiles entries)) (flat_map fresh_pages entries)))) in
+      omega (arith, counted_tiles format entries free is p, near, page, times-append p (reached (committed_tiles entries)) (flat_map fresh_pages entries)))) in
       let committed : length (reached (committed_tiles entries)) ≤ 3 * m * length (committed_tiles entries) =
       rw (reached_all committed_tile entries) (pages_few (λ s. pages_of_location (committed_tile s)) committed_tile (3 * m) (IsSound format) (committed_few format) entries is.sound) in
       let committed_most : m * length (committed_tiles entries) ≤ m * format.capacity = mul-le-mul_left m is.committed_room in
@@ -177,16 +187,24 @@ module _ (format : Format) (entries : List TileEntry) (free : FreePages) (is : I
   room_for_tile room =
       let m = plane_pages_of format in
       let tiles : m * (length (staged_tiles entries) + 1) ≤ m * format.capacity = mul-le-mul_left m (omega arith) in
-      omega (arith, all_left, fresh_parts entries, all_heights_few format entries is.sound, is.kept_room, tiles, mul-add m (length (staged_tiles entries)) 1)
+      omega (arith, all_left, fresh_lengths entries, all_heights_few format entries is.sound, is.kept_room, tiles, mul-add m (length (staged_tiles entries)) 1)
 
--- for a staged tile there is one, with those pages of its heights that are fresh already
-pub room_for_heights : (format : Format) (before : List TileEntry) (s : TileEntry) (after : List TileEntry) (free : FreePages) → IsKept format (before ++ s ∷ after) free → IsSome (staged_tile s)
-    → plane_pages_of format ≤ length (fresh_heights s) + len free.free
-room_for_heights format before s after free is some =
-    let entries = before ++ s ∷ after in
-    let m = plane_pages_of format in
-    let tiles : m * length (staged_tiles entries) ≤ m * format.capacity = mul-le-mul_left m is.staged_room in
-    omega (arith, all_left format entries free is, fresh_parts entries, other_heights_few format before s after is.sound some, is.kept_room, tiles)
+-- for the heights of a staged tile there is one, with those pages of them that are fresh already
+module _ (format : Format) (before : List TileEntry) (s : TileEntry) (after : List TileEntry) (free : FreePages) (is : IsKept format (before ++ s ∷ after) free) (sound : IsSound format s) where
+  heights_left : IsSome (staged_tile s) → plane_pages_of format ≤ length (fresh_heights s) + len free.free
+  heights_left some =
+      let entries = before ++ s ∷ after in
+      let m = plane_pages_of format in
+      let tiles : m * length (staged_tiles entries) ≤ m * format.capacity = mul-le-mul_left m is.staged_room in
+      omega (arith, all_left format entries free is, fresh_lengths entries, other_heights_few format before s after is.sound some, is.kept_room, tiles)
+
+  pub room_for_heights : HasRoom s.heights (len free.free)
+  room_for_heights = by (staged_plane s.heights) refl sound.heights.staged
+    where
+      by : (o : Option PlaneLocation) → staged_plane s.heights ≡ o → IfSome o (IsWholePlane format) → IfSome o (λ l. length (pages_of_plane l) ≤ length (fresh_in s.heights) + len free.free)
+      by None had whole = tt
+      by (Some l) had whole =
+          omega (arith, plane_few format l whole, heights_left (ap (λ (o : Option PlaneLocation). is_some (tile_of s.corner o (staged_plane s.levels) (staged_plane s.labels))) had))
 
 -- what lists the planes of all committed tiles by the second version finds room, where a store of it does
 upgraded_over : (total used left c n i p : ℕ) → 4 + (4 * c + 2) * (1 + i + p) ≤ total → total - 4 ≤ used + left → used ≤ 3 * (1 + p) * n → n ≤ c → 1 ≤ i → 1 ≤ p → 3 * (1 + i) * n ≤ left
@@ -213,7 +231,7 @@ room_to_upgrade format entries free is none first side size =
     let near = free_near free p (omega (arith, is.window.enough)) in
     let page : page_times free.range p ≡ 1 = page_one free.range p (low, omega (arith, is.window.enough, is.window.within)) in
     let nothing = ap (times p) none in
-    omega (arith, is.counted p, near, page, nothing))) in
+    omega (arith, counted_tiles format entries free is p, near, page, nothing))) in
     let committed : length used ≤ 3 * plane_pages_of format * length (committed_tiles entries) =
     rw (reached_all committed_tile entries) (pages_few (λ s. pages_of_location (committed_tile s)) committed_tile (3 * plane_pages_of format) (IsSound format) (committed_few format) entries is.sound) in
     let square : format.side * 3 ≤ format.side * format.side = mul-le-mul_left format.side side in

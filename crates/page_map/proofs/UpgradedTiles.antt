@@ -1,6 +1,6 @@
 -- A page_map of the second version over one of the first: the pages stay, and what lists them is taken from free pages.
 use Rattle.std.proofs.Common.{◌≡◌, ℕ, suc, ◌+◌, ◌*◌, ◌<◌, ◌≤◌, List, [], ◌∷◌, ◌++◌, length, map, take, drop, get_or, refl, sym, ap, ap₂, subst, ◌∙◌, arith}
-use Rattle.std.specs.Prelude.{Option, Some, None, IfSome, All, option_map}
+use Rattle.std.specs.Prelude.{Option, Some, None, IfSome, All}
 use Rattle.std.specs.List.{flat_map, cons_option, AllByRecursion}
 use Rattle.std.proofs.Math.Nat.{mul-add, mul-le-mul_left}
 use Rattle.std.specs.FinSet.{len}
@@ -18,11 +18,11 @@ use Rattle.page_map.specs.Locations.{PlaneLocation, times, listing_of, pages_of_
 use Rattle.page_map.specs.FreePages.{AreTaken}
 use Rattle.page_map.specs.TileLocations.{TileLocation, KeepsPageRule, reached, pages_of_tile, pages_of_kept}
 use Rattle.page_map.specs.PageMaps.{IsFresh, IsWholeTile, AreWholeKept, tile_at}
-use Rattle.page_map.specs.TileEntries.{committed_tile, committed_tiles, staged_tiles, fresh_pages, IsSound, IsKept, page_map_of}
+use Rattle.page_map.specs.TileEntries.{committed_tile, committed_tiles, staged_tiles, fresh_pages, tile_of, tile_planes, IsSound, IsKept, page_map_of}
 use Rattle.page_map.specs.Upgraded.{KeptData, TileData, HaveAllPages, KeptHaveAllPages, data_of, data_of_kept, listing_of_kept, listing_of_tile, listings}
 use Rattle.page_map.proofs.Times.{times-append, all_numbers, times_of_member}
 use Rattle.page_map.proofs.FreeTimes.{page_at, page_le}
-use Rattle.page_map.proofs.EntryLists.{corner_of, rising_before}
+use Rattle.page_map.proofs.EntryLists.{corner_of, counted_tiles, rising_before, tile_whole}
 use Rattle.page_map.proofs.EntryChanges.{all_middle}
 use Rattle.page_map.proofs.PageMapRules.{page_rule, all_tiles}
 use Rattle.page_map.proofs.Clean.{none_fresh}
@@ -99,9 +99,9 @@ data_all : (c : Corner) (tiles : List TileLocation) → All (λ t. IsBefore t.co
 data_all c [] all = All-nil (λ (d : TileData). IsBefore d.corner c)
 data_all c (t ∷ rest) all = All-cons (λ (d : TileData). IsBefore d.corner c) (data_of t) (map data_of rest) (All-head (λ (u : TileLocation). IsBefore u.corner c) t rest all) (data_all c rest (All-tail (λ (u : TileLocation). IsBefore u.corner c) t rest all))
 
-tile_before : (c d : Corner) (o : Option TilePlanes) → IsBefore d c → IfSome (option_map (tile_at d) o) (λ t. IsBefore t.corner c)
-tile_before c d None before = tt
-tile_before c d (Some planes) before = before
+tile_before : (c d : Corner) (h l m : Option PlaneLocation) → IsBefore d c → IfSome (tile_of d h l m) (λ t. IsBefore t.corner c)
+tile_before c d None l m before = tt
+tile_before c d (Some h) l m before = before
 
 all_pages_of_kept : (format : Format) (kept : Option KeptLocations) → IfSome kept (AreWholeKept format) → IfSome kept (KeptHaveAllPages format.side)
 all_pages_of_kept format None whole = tt
@@ -117,11 +117,11 @@ module _ (format : Format) (entries : List TileEntry) (free : FreePages) (kept :
   fresh_listings tiles now taken =
       all_numbers (IsFresh (page_map_of format entries free)) (listings tiles) (λ p some.
       let few = page_le free.range p in
-      let page = page_at free.range p (omega (arith, some, taken.each p, kept.counted p)) in
+      let page = page_at free.range p (omega (arith, some, taken.each p, counted_tiles format entries free kept p)) in
       record {
         low = page.0;
         high = page.1;
-        unreached = λ member. (let there = times_of_member (reached (committed_tiles entries)) p member in absurd (omega (arith, there, some, few, taken.each p, kept.counted p)));
+        unreached = λ member. (let there = times_of_member (reached (committed_tiles entries)) p member in absurd (omega (arith, there, some, few, taken.each p, counted_tiles format entries free kept p)));
       })
 
   module _ (k : ℕ) (s : TileEntry) (below : k < length entries) (is : s ≡ get_or entries k s) where
@@ -135,17 +135,20 @@ module _ (format : Format) (entries : List TileEntry) (free : FreePages) (kept :
     next_tiles = ap committed_tiles (take_more entries k s below ∙ ap (λ (x : TileEntry). take k entries ++ x ∷ []) (sym is)) ∙ filter_map-append committed_tile (take k entries) (s ∷ [])
 
     -- a entry without a committed tile
-    pub no_more : s.committed ≡ None → committed_tiles (take (k + 1) entries) ≡ so_far
-    no_more none = next_tiles ∙ ap (λ (o : Option TilePlanes). so_far ++ cons_option (option_map (tile_at s.corner) o) []) none ∙ append-nil so_far
+    pub no_more : s.heights.committed ≡ None → committed_tiles (take (k + 1) entries) ≡ so_far
+    no_more none = next_tiles ∙ ap (λ (o : Option PlaneLocation). so_far ++ cons_option (tile_of s.corner o s.levels.committed s.labels.committed) []) none ∙ append-nil so_far
 
-    module _ (planes : TilePlanes) (has : s.committed ≡ Some planes) where
+    module _ (heights : PlaneLocation) (has : s.heights.committed ≡ Some heights) where
+      abbrev planes : TilePlanes
+      planes = tile_planes heights s.levels.committed s.labels.committed
+
       pub one_more : committed_tiles (take (k + 1) entries) ≡ so_far ++ tile_at s.corner planes ∷ []
-      one_more = next_tiles ∙ ap (λ (o : Option TilePlanes). so_far ++ cons_option (option_map (tile_at s.corner) o) []) has
+      one_more = next_tiles ∙ ap (λ (o : Option PlaneLocation). so_far ++ cons_option (tile_of s.corner o s.levels.committed s.labels.committed) []) has
 
       all_joined : committed_tiles entries ≡ so_far ++ tile_at s.corner planes ∷ committed_tiles (drop (suc k) entries)
       all_joined =
           ap committed_tiles joined ∙ filter_map-append committed_tile (take k entries) (s ∷ drop (suc k) entries)
-          ∙ ap (λ (o : Option TilePlanes). so_far ++ cons_option (option_map (tile_at s.corner) o) (committed_tiles (drop (suc k) entries))) has
+          ∙ ap (λ (o : Option PlaneLocation). so_far ++ cons_option (tile_of s.corner o s.levels.committed s.labels.committed) (committed_tiles (drop (suc k) entries))) has
 
       pub room_below : length so_far < length (committed_tiles entries)
       room_below = omega (arith, ap length all_joined, length-append so_far (tile_at s.corner planes ∷ committed_tiles (drop (suc k) entries)))
@@ -167,7 +170,11 @@ module _ (format : Format) (entries : List TileEntry) (free : FreePages) (kept :
       sound = all_middle (IsSound format) (take k entries) s (drop (suc k) entries) (subst (λ (l : List TileEntry). AllByRecursion (IsSound format) l) joined kept.sound)
 
       whole : IsWholeTile format (tile_at s.corner planes)
-      whole = subst (λ (o : Option TilePlanes). IfSome (option_map (tile_at s.corner) o) (IsWholeTile format)) has sound.committed
+      whole =
+          let there : IfSome (Some (tile_at s.corner planes)) (IsWholeTile format) =
+          subst (λ (o : Option PlaneLocation). IfSome (tile_of s.corner o s.levels.committed s.labels.committed) (IsWholeTile format)) has
+          (tile_whole format s.corner s.heights.committed s.levels.committed s.labels.committed sound.heights.committed sound.levels.committed sound.labels.committed) in
+          there
 
       pub all_pages : HaveAllPages format.side planes
       all_pages = record { heights = whole.heights.pages; kept = all_pages_of_kept format planes.kept whole.kept }
@@ -180,7 +187,7 @@ module _ (format : Format) (entries : List TileEntry) (free : FreePages) (kept :
         all_before =
             let rising : Rising corner_of (take k entries ++ s ∷ drop (suc k) entries) = subst (Rising corner_of) joined (rising_from corner_of entries kept.in_order) in
             data_before s.corner (map data_of so_far) made same
-            (data_all s.corner so_far (all_tiles (λ t. IsBefore t.corner s.corner) (λ x. IsBefore x.corner s.corner) committed_tile (λ x before. tile_before s.corner x.corner x.committed before) (take k entries)
+            (data_all s.corner so_far (all_tiles (λ t. IsBefore t.corner s.corner) (λ x. IsBefore x.corner s.corner) committed_tile (λ x before. tile_before s.corner x.corner x.heights.committed x.levels.committed x.labels.committed before) (take k entries)
             (rising_before (take k entries) s (drop (suc k) entries) rising)))
 
         module _ (new : TilePlanes) (alike : data_of (tile_at s.corner new) ≡ data_of (tile_at s.corner planes)) where
@@ -208,7 +215,7 @@ module _ (format : Format) (entries : List TileEntry) (free : FreePages) (kept :
                 let old_pages = ap (λ ts. times p (all_data (map data_of ts))) all_joined in
                 let parts = data-append p so_far (tile_at s.corner planes ∷ committed_tiles (drop (suc k) entries)) in
                 let rest = data-append p (tile_at s.corner planes ∷ []) (committed_tiles (drop (suc k) entries)) in
-                omega (arith, split, pages, first, old, old_pages, parts, rest, taken_more.each p, kept.counted p))
+                omega (arith, split, pages, first, old, old_pages, parts, rest, taken_more.each p, counted_tiles format entries free kept p))
 
 -- ---- one plane
 nothing : (xs : List ℕ) → length xs ≡ 0 → xs ≡ []

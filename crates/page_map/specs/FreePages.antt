@@ -1,5 +1,5 @@
 -- Pages taken out of the free ones, and given back.
-use Rattle.std.specs.Prelude.{◌≡◌, ◌⊎◌, ℕ, ◌+◌, ◌/◌, ◌≤◌, ◌<◌, ◌&&◌, ◌==◌, not, Bool, nat_le, nat_lt, List, [], ◌∷◌, ◌++◌, length, Option, Some, None, if◌then◌else◌, refl}
+use Rattle.std.specs.Prelude.{◌≡◌, ◌⊎◌, ℕ, ◌+◌, ◌/◌, ◌≤◌, ◌<◌, ◌&&◌, ◌==◌, not, Bool, nat_le, nat_lt, List, [], ◌∷◌, ◌++◌, length, if◌then◌else◌, refl}
 use Rattle.std.specs.Ordering.{nat_cmp}
 use Rattle.std.specs.FinSet.{FinSet, code, contains}
 use Rattle.std.specs.Coded.{Coded, code_by, coded×, coded_list, coded_ℕ}
@@ -8,7 +8,6 @@ use Rattle.std.specs.BTreeSet.{BTreeSet}
 use Rattle.lattice.specs.declared.refusal.Refusal.{Refusal}
 use Rattle.lattice.specs.declared.refusal.Refusal.TheVariants.{Damaged, NoMemory}
 use Rattle.page_map.specs.declared.locations.TilePlanes.{TilePlanes}
-use Rattle.page_map.specs.declared.locations.KeptLocations.{KeptLocations}
 use Rattle.page_map.specs.Locations.{PlaneLocation, pages_behind, pages_of_plane, moved_plane, times}
 use Rattle.page_map.specs.TileLocations.{pages_of_kept}
 
@@ -54,6 +53,11 @@ pub record AreGiven (listed : List ℕ) (old new : FreePages) : Type 0 where
   pub same_range : new.range ≡ old.range
   pub each : (p : ℕ) → free_times new p ≡ times p listed + free_times old p
 
+-- the free pages make up for it that these pages are used in place of those
+pub record AreBalanced (old_pages new_pages : List ℕ) (old new : FreePages) : Type 0 where
+  pub same_range : new.range ≡ old.range
+  pub each : (p : ℕ) → times p new_pages + free_times new p ≡ times p old_pages + free_times old p
+
 -- the listed numbers are those of pages in use, each once
 abbrev pub AreInUse : List ℕ → FreePages → Type 0
 AreInUse listed pages = (p : ℕ) → times p listed + free_times pages p ≤ page_times pages.range p
@@ -67,19 +71,6 @@ differing (p ∷ rest) (q ∷ others) = if p == q then differing rest others els
 -- all pages of a tile's planes
 abbrev pub pages_of_planes : TilePlanes → List ℕ
 pages_of_planes planes = pages_of_plane planes.heights ++ pages_of_kept planes.kept
-
-abbrev pub all_pages : Option TilePlanes → List ℕ
-all_pages None = []
-all_pages (Some planes) = pages_of_planes planes
-
-abbrev pub kept_of : Option TilePlanes → Option KeptLocations
-kept_of None = None
-kept_of (Some planes) = planes.kept
-
--- the pages behind the record of the heights
-abbrev pub heights_pages : Option TilePlanes → List ℕ
-heights_pages None = []
-heights_pages (Some planes) = pages_behind planes.heights
 
 -- a page of a plane is this page now, which the committed plane doesn't have, and the free pages make up for it
 pub record IsOwned (committed : List ℕ) (page : ℕ) (old new : List ℕ) (was now : FreePages) : Type 0 where

@@ -1,5 +1,5 @@
 -- Which pages hold which planes: as committed, and as the next commit will have it (this product's own profile).
-use Rattle.std.specs.Prelude.{◌≡◌, ◌⊎◌, ℕ, ◌≤◌, ◌<◌, ◌/◌, ◌==◌, Bool, IsTrue, List, [], ◌∷◌, All, Contains, length, map, filter, not, Option, Some, None, IsSome, IfSome, if◌then◌else◌}
+use Rattle.std.specs.Prelude.{◌≡◌, ◌⊎◌, ℕ, ◌≤◌, ◌<◌, ◌/◌, ◌==◌, Bool, IsTrue, List, [], ◌∷◌, All, Contains, length, map, filter, not, Option, Some, None, IfSome, if◌then◌else◌}
 use Rattle.std.specs.List.{AllAdjacentBelow, list_any}
 use Rattle.lattice.specs.Corners.{Corner, same_corner, is_before, is_corner}
 use Rattle.lattice.specs.Lattice.{IsBefore}
@@ -63,17 +63,10 @@ pub record IsFresh (page_map : PageMapValue) (p : ℕ) : Type 0 where
   pub high : p < page_map.sectors
   pub unreached : ¬ Contains (reached page_map.committed) p
 
--- what a staged tile is: a committed one but for its kept planes, or with a fresh record of its heights; and any kept
--- planes are a committed tile's, or on fresh pages alone
-pub record IsStagedIn (page_map : PageMapValue) (t : TileLocation) : Type 0 where
-  pub settled : Contains (map (λ (u : TileLocation). record u { kept = t.kept }) page_map.committed) t ⊎ IsFresh page_map t.heights.record_page
-  pub kept : IsSome t.kept → Contains (map (λ u. u.kept) page_map.committed) t.kept ⊎ All (IsFresh page_map) (pages_of_kept t.kept)
-
 pub record IsPageMap (page_map : PageMapValue) : Type 0 where
   pub size : sectors_asked page_map.format ≤ page_map.sectors
   pub committed : AreMapped page_map.sectors page_map.format page_map.committed
   pub staged : AreMapped page_map.sectors page_map.format page_map.staged
-  pub each : All (IsStagedIn page_map) page_map.staged
 
 -- nothing is staged
 abbrev pub IsClean : PageMapValue → Type 0
@@ -103,19 +96,12 @@ with_tile_location new (t ∷ rest) = if is_before new.corner t.corner then new 
 abbrev pub without_location : Corner → List TileLocation → List TileLocation
 without_location c tiles = filter (λ t. not (is_at c t)) tiles
 
--- the tile without kept planes, if it is the corner's
-abbrev pub without_kept_in : Corner → TileLocation → TileLocation
-without_kept_in c t = if is_at c t then record t { kept = None } else t
+-- the tiles, of which the corner's has these kept planes, or none
+abbrev pub other_kept_in : Corner → Option KeptLocations → TileLocation → TileLocation
+other_kept_in c kept t = if is_at c t then record t { kept = kept } else t
 
-abbrev pub without_kept : Corner → List TileLocation → List TileLocation
-without_kept c tiles = map (without_kept_in c) tiles
-
--- the tile with these kept planes, if it is the corner's
-abbrev pub with_kept_locations_in : Corner → KeptLocations → TileLocation → TileLocation
-with_kept_locations_in c locations t = if is_at c t then record t { kept = Some locations } else t
-
-abbrev pub with_kept_locations : Corner → KeptLocations → List TileLocation → List TileLocation
-with_kept_locations c locations tiles = map (with_kept_locations_in c locations) tiles
+abbrev pub other_kept : Corner → Option KeptLocations → List TileLocation → List TileLocation
+other_kept c kept tiles = map (other_kept_in c kept) tiles
 
 -- the tile with page i of its heights there, and its index page and their record too, if it is the corner's
 abbrev pub with_page_location_in : (c : Corner) (i page index_page record_page : ℕ) → TileLocation → TileLocation
@@ -160,4 +146,4 @@ pub record AreKept (c : Corner) (old new : PageMapValue) : Type 0 where
   pub locations : KeptLocations
   pub whole : AreWholeKept old.format locations
   pub fresh : All (IsFresh new) (pages_of_kept (Some locations))
-  pub changed : new ≡ record old { staged = with_kept_locations c locations old.staged }
+  pub changed : new ≡ record old { staged = other_kept c (Some locations) old.staged }

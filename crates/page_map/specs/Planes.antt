@@ -1,10 +1,10 @@
 -- The planes of a tile by name.
-use Rattle.std.specs.Prelude.{◌≡◌, ℕ, List, Contains, Option, Some, option_map, option_and_then, slice_get}
+use Rattle.std.specs.Prelude.{◌≡◌, List, Contains, Option, Some, option_map}
 use Rattle.lattice.specs.Corners.{Corner}
 use Rattle.page_map.specs.declared.plane.Plane.{Plane}
 use Rattle.page_map.specs.declared.plane.Plane.TheVariants.{Heights, Levels, Labels}
 use Rattle.page_map.specs.declared.locations.KeptLocations.{KeptLocations}
-use Rattle.page_map.specs.Locations.{PlaneLocation, listing_of}
+use Rattle.page_map.specs.Locations.{PlaneLocation}
 use Rattle.page_map.specs.TileLocations.{TileLocation}
 
 -- the tile has its plane there
@@ -18,10 +18,6 @@ abbrev pub plane_of : Plane → TileLocation → Option PlaneLocation
 plane_of Heights t = Some t.heights
 plane_of Levels t = option_map (λ (k : KeptLocations). k.levels) t.kept
 plane_of Labels t = option_map (λ (k : KeptLocations). k.labels) t.kept
-
--- a page of what lists the pages of the tile's plane, by its number among them
-abbrev pub listed_at : Plane → ℕ → Option TileLocation → Option ℕ
-listed_at plane i tile = option_and_then (λ (p : PlaneLocation). slice_get (listing_of p) i) (option_and_then (plane_of plane) tile)
 
 -- these tiles have a plane of this name for the corner
 abbrev pub HasPlane : List TileLocation → Corner → Plane → Type 0

@@ -1,5 +1,5 @@
--- How a page_map is kept: a entry for each corner that has a committed or a staged tile.
-use Rattle.std.specs.Prelude.{◌≡◌, ℕ, ◌+◌, ◌*◌, ◌≤◌, ◌<◌, ◌/◌, ◌^◌, true, false, Bool, ◌||◌, IsTrue, List, [], ◌++◌, length, Option, Some, None, IfSome, is_some, slice_index_or}
+-- How a page_map is kept: an entry for each corner that has a committed or a staged tile.
+use Rattle.std.specs.Prelude.{◌≡◌, ℕ, ◌+◌, ◌*◌, ◌≤◌, ◌<◌, ◌^◌, true, ◌||◌, IsTrue, List, [], ◌++◌, length, Option, Some, None, IfSome, is_some}
 use Rattle.std.specs.Option.{option_map}
 use Rattle.std.specs.List.{HoldsAt, AllWithin, filter_map, flat_map, AllByRecursion, AllAdjacentBelow}
 use Rattle.lattice.specs.Corners.{Corner, is_corner}
@@ -9,27 +9,38 @@ use Rattle.page_codec.specs.Formats.{Format, upgraded}
 use Rattle.page_codec.specs.Sizes.{plane_pages_of, sectors_asked}
 use Rattle.page_map.specs.declared.locations.KeptLocations.{KeptLocations}
 use Rattle.page_map.specs.declared.locations.TilePlanes.{TilePlanes}
+use Rattle.page_map.specs.declared.plane.Plane.{Plane}
+use Rattle.page_map.specs.declared.plane.Plane.TheVariants.{Heights, Levels, Labels}
+use Rattle.page_map.specs.declared.plane_entry.Ending.{Ending}
+use Rattle.page_map.specs.declared.plane_entry.Ending.TheVariants.{Committed, GivenUp}
+use Rattle.page_map.specs.declared.plane_entry.PlaneEntry.{PlaneEntry}
+use Rattle.page_map.specs.declared.plane_entry.Staged.TheVariants.{Fresh}
 use Rattle.page_map.specs.declared.tile_entry.TileEntry.{TileEntry}
-use Rattle.page_map.specs.declared.tile_entry.Ending.{Ending}
-use Rattle.page_map.specs.declared.tile_entry.Ending.TheVariants.{Committed, GivenUp}
-use Rattle.page_map.specs.declared.staged.Staged.{Staged}
-use Rattle.page_map.specs.declared.staged.Staged.TheVariants.{Tile, Removed}
-use Rattle.page_map.specs.Locations.{moved_plane, pages_of_plane, times}
+use Rattle.page_map.specs.Locations.{IsWholePlane, PlaneLocation, pages_of_plane, times}
 use Rattle.page_map.specs.FreePages.{FreePages, PageRange, free_times, page_times}
-use Rattle.page_map.specs.StagedPlanes.{as_committed, heights_as, kept_as, fresh_heights_as, fresh_kept_as, has_fresh_heights}
-use Rattle.page_map.specs.TileLocations.{TileLocation, pages_of_kept, pages_of_tile, reached}
-use Rattle.page_map.specs.PageMaps.{PageMapValue, tile_at, AreWholeKept, IsWholeTile}
+use Rattle.page_map.specs.PlaneEntries.{ended_plane, fresh_in, settled_plane, staged_plane, used_in}
+use Rattle.page_map.specs.TileLocations.{TileLocation}
+use Rattle.page_map.specs.PageMaps.{PageMapValue, tile_at}
+
+-- ---- an entry's tiles
+abbrev pub kept_of : Option PlaneLocation → Option PlaneLocation → Option KeptLocations
+kept_of None labels = None
+kept_of (Some levels) None = None
+kept_of (Some levels) (Some labels) = Some (record { levels = levels; labels = labels })
+
+abbrev pub tile_planes : PlaneLocation → Option PlaneLocation → Option PlaneLocation → TilePlanes
+tile_planes heights levels labels = record { heights = heights; kept = kept_of levels labels }
+
+-- the corner's tile with these planes, if it has heights
+abbrev pub tile_of : Corner → Option PlaneLocation → Option PlaneLocation → Option PlaneLocation → Option TileLocation
+tile_of c heights levels labels = option_map (λ (h : PlaneLocation). tile_at c (tile_planes h levels labels)) heights
 
 -- the entry's tile as committed, and as staged
 abbrev pub committed_tile : TileEntry → Option TileLocation
-committed_tile s = option_map (tile_at s.corner) s.committed
-
-abbrev pub staged_as : Corner → Option TilePlanes → Staged → Option TileLocation
-staged_as c committed (Tile h k) = option_map (λ location. record { corner = c; heights = location; kept = kept_as committed k }) (heights_as committed h)
-staged_as c committed Removed = None
+committed_tile s = tile_of s.corner s.heights.committed s.levels.committed s.labels.committed
 
 abbrev pub staged_tile : TileEntry → Option TileLocation
-staged_tile s = staged_as s.corner s.committed s.staged
+staged_tile s = tile_of s.corner (staged_plane s.heights) (staged_plane s.levels) (staged_plane s.labels)
 
 abbrev pub committed_tiles : List TileEntry → List TileLocation
 committed_tiles entries = filter_map committed_tile entries
@@ -37,124 +48,83 @@ committed_tiles entries = filter_map committed_tile entries
 abbrev pub staged_tiles : List TileEntry → List TileLocation
 staged_tiles entries = filter_map staged_tile entries
 
--- the entry's pages that only its staged tile reaches: those of heights and those of kept planes
-abbrev pub fresh_heights_in : Option TilePlanes → Staged → List ℕ
-fresh_heights_in committed (Tile h k) = fresh_heights_as committed h
-fresh_heights_in committed Removed = []
+abbrev pub named_plane : Plane → TileEntry → PlaneEntry
+named_plane Heights s = s.heights
+named_plane Levels s = s.levels
+named_plane Labels s = s.labels
 
-abbrev pub fresh_kept_in : Staged → List ℕ
-fresh_kept_in (Tile h k) = fresh_kept_as k
-fresh_kept_in Removed = []
-
-abbrev pub fresh_heights : TileEntry → List ℕ
-fresh_heights s = fresh_heights_in s.committed s.staged
-
+-- ---- its pages
+-- those that only its staged tile reaches
 abbrev pub fresh_kept : TileEntry → List ℕ
-fresh_kept s = fresh_kept_in s.staged
-
-abbrev pub fresh_as : Option TilePlanes → Staged → List ℕ
-fresh_as committed g = fresh_heights_in committed g ++ fresh_kept_in g
+fresh_kept s = fresh_in s.levels ++ fresh_in s.labels
 
 abbrev pub fresh_pages : TileEntry → List ℕ
-fresh_pages s = fresh_as s.committed s.staged
+fresh_pages s = fresh_in s.heights ++ fresh_kept s
 
-abbrev pub pages_of_location : Option TileLocation → List ℕ
-pages_of_location None = []
-pages_of_location (Some t) = pages_of_tile t
-
--- the pages of its committed and of its fresh ones
+-- the committed and the fresh ones
 abbrev pub used_pages : TileEntry → List ℕ
-used_pages s = pages_of_location (committed_tile s) ++ fresh_pages s
+used_pages s = used_in s.heights ++ (used_in s.levels ++ used_in s.labels)
 
--- with so many free pages there is room for all of its heights on pages of their own
-abbrev pub HasRoom : TileEntry → ℕ → Type 0
-HasRoom s left = IfSome (staged_tile s) (λ t. length (pages_of_plane t.heights) ≤ length (fresh_heights s) + left)
+-- ---- entries
+-- a committed tile, of which nothing is staged
+abbrev pub levels_of : Option KeptLocations → Option PlaneLocation
+levels_of kept = option_map (λ (k : KeptLocations). k.levels) kept
 
--- its heights are staged
-abbrev pub stages_heights_as : Staged → Bool
-stages_heights_as (Tile h k) = has_fresh_heights h
-stages_heights_as Removed = false
+abbrev pub labels_of : Option KeptLocations → Option PlaneLocation
+labels_of kept = option_map (λ (k : KeptLocations). k.labels) kept
 
-abbrev pub stages_heights : TileEntry → Bool
-stages_heights s = stages_heights_as s.staged
+abbrev pub loaded_entry : Corner → TilePlanes → TileEntry
+loaded_entry c planes = record { corner = c; heights = settled_plane (Some planes.heights); levels = settled_plane (levels_of planes.kept); labels = settled_plane (labels_of planes.kept) }
 
--- the entry has other fresh pages for its staged tile, and the free pages make up for them
-pub record IsRestaged (old new : TileEntry) (was now : FreePages) : Type 0 where
-  pub corner : new.corner ≡ old.corner
-  pub committed : new.committed ≡ old.committed
-  pub same_range : now.range ≡ was.range
-  pub each : (p : ℕ) → times p (fresh_pages new) + free_times now p ≡ times p (fresh_pages old) + free_times was p
+-- a tile that isn't committed, with these heights
+abbrev pub added_entry : Corner → PlaneLocation → TileEntry
+added_entry c heights = record { corner = c; heights = record { committed = None; staged = Fresh heights }; levels = settled_plane None; labels = settled_plane None }
 
--- page i of the entry's heights is this fresh page, and the index page that lists it and their record are on fresh pages too;
--- the tile is the same otherwise
-pub record IsPageRestaged (i page : ℕ) (old new : TileEntry) : Type 0 where
-  pub tile : TileLocation
-  pub record_page : ℕ
-  pub index_page : ℕ
-  pub had : staged_tile old ≡ Some tile
-  pub has : staged_tile new ≡ Some (record tile { heights = moved_plane i page index_page record_page tile.heights })
-  pub fresh_record : 1 ≤ times record_page (fresh_pages new)
-  pub fresh_index : i / 1024 < length tile.heights.index_pages → 1 ≤ times index_page (fresh_pages new)
-  pub fresh_page : 1 ≤ times page (fresh_pages new)
+-- the entry once what is staged has ended so
+abbrev pub ended_entry : Ending → TileEntry → TileEntry
+ended_entry ending s = record {
+  corner = s.corner;
+  heights = settled_plane (ended_plane ending s.heights);
+  levels = settled_plane (ended_plane ending s.levels);
+  labels = settled_plane (ended_plane ending s.labels);
+}
 
--- the record of the entry's heights is on a fresh page; the tile is the same otherwise
-pub record IsRecordRestaged (old new : TileEntry) : Type 0 where
-  pub tile : TileLocation
-  pub record_page : ℕ
-  pub had : staged_tile old ≡ Some tile
-  pub has : staged_tile new ≡ Some (record tile { heights = record (tile.heights) { record_page = record_page } })
-  pub fresh_record : 1 ≤ times record_page (fresh_pages new)
-
--- the entry's tile has no kept planes; it is the same otherwise
-pub record IsKeptDropped (old new : TileEntry) : Type 0 where
-  pub tile : TileLocation
-  pub had : staged_tile old ≡ Some tile
-  pub has : staged_tile new ≡ Some (record tile { kept = None })
-  pub none_fresh : fresh_kept new ≡ []
-
--- the entry's tile has kept planes on fresh pages; it is the same otherwise
+-- the entry's tile has levels and labels on fresh pages; it is the same otherwise
 pub record IsKeptAnew (format : Format) (old new : TileEntry) : Type 0 where
-  pub tile : TileLocation
-  pub locations : KeptLocations
-  pub whole : AreWholeKept format locations
-  pub had : staged_tile old ≡ Some tile
-  pub has : staged_tile new ≡ Some (record tile { kept = Some locations })
-  pub fresh : fresh_kept new ≡ pages_of_kept (Some locations)
+  pub levels : PlaneLocation
+  pub labels : PlaneLocation
+  pub whole_levels : IsWholePlane format levels
+  pub whole_labels : IsWholePlane format labels
+  pub changed : new ≡ record old { levels = record (old.levels) { staged = Fresh levels }; labels = record (old.labels) { staged = Fresh labels } }
+  pub fresh : fresh_kept new ≡ pages_of_plane levels ++ pages_of_plane labels
 
--- what is committed once what is staged has ended so
-abbrev pub ended_tile : Ending → TileEntry → Option TileLocation
-ended_tile Committed s = staged_tile s
-ended_tile GivenUp s = committed_tile s
+-- ---- what is known of entries
+-- levels are kept with labels, and both with heights
+abbrev pub AreTogether : Option PlaneLocation → Option PlaneLocation → Option PlaneLocation → Type 0
+AreTogether heights None None = Unit {0}
+AreTogether heights None (Some labels) = ⊥
+AreTogether heights (Some levels) None = ⊥
+AreTogether None (Some levels) (Some labels) = ⊥
+AreTogether (Some heights) (Some levels) (Some labels) = Unit {0}
 
--- the entry has this tile as committed, and nothing staged
-pub record HasEndedAs (ending : Ending) (old new : TileEntry) : Type 0 where
-  pub corner : new.corner ≡ old.corner
-  pub committed : committed_tile new ≡ ended_tile ending old
-  pub staged : new.staged ≡ as_committed
-
--- the entry has this tile as committed, with nothing staged, and its other pages are free
-pub record IsEndedAs (tile : Option TileLocation) (old new : TileEntry) (was now : FreePages) : Type 0 where
-  pub corner : new.corner ≡ old.corner
-  pub committed : committed_tile new ≡ tile
-  pub staged : new.staged ≡ as_committed
-  pub same_range : now.range ≡ was.range
-  pub each : (p : ℕ) → times p (pages_of_location tile) + free_times now p ≡ times p (used_pages old) + free_times was p
-
--- the entry stands for a tile
-abbrev pub is_filled_as : Option TilePlanes → Staged → Bool
-is_filled_as committed (Tile h k) = has_fresh_heights h || is_some committed
-is_filled_as committed Removed = is_some committed
+-- the plane has all its pages
+pub record IsSoundPlane (format : Format) (e : PlaneEntry) : Type 0 where
+  pub committed : IfSome e.committed (IsWholePlane format)
+  pub staged : IfSome (staged_plane e) (IsWholePlane format)
 
 -- it stands for a tile of a corner, whose planes have all their pages
 pub record IsSound (format : Format) (s : TileEntry) : Type 0 where
   pub corner : IsTrue (is_corner s.corner)
-  pub committed : IfSome (committed_tile s) (IsWholeTile format)
-  pub staged : IfSome (staged_tile s) (IsWholeTile format)
-  pub filled : is_filled_as s.committed s.staged ≡ true
+  pub heights : IsSoundPlane format s.heights
+  pub levels : IsSoundPlane format s.levels
+  pub labels : IsSoundPlane format s.labels
+  pub committed : AreTogether s.heights.committed s.levels.committed s.labels.committed
+  pub staged : AreTogether (staged_plane s.heights) (staged_plane s.levels) (staged_plane s.labels)
+  pub filled : (is_some (staged_plane s.heights) || is_some s.heights.committed) ≡ true
 
 -- every page of the disk is committed, or fresh, or free, and no page is two of them
 abbrev pub AreCounted : List TileEntry → FreePages → Type 0
-AreCounted entries free = (p : ℕ) → times p (reached (committed_tiles entries)) + times p (flat_map fresh_pages entries) + free_times free p ≡ page_times free.range p
+AreCounted entries free = (p : ℕ) → times p (flat_map used_pages entries) + free_times free p ≡ page_times free.range p
 
 -- pages are taken from as many as a store of the format asks and, where the disk has room for it, one of the second version
 pub record HasWindow (format : Format) (range : PageRange) : Type 0 where
@@ -188,13 +158,6 @@ pub record IsRoomAt (c : Corner) (at : ℕ) (entries : List TileEntry) : Type 0 
   pub within : at ≤ length entries
   pub before : AllWithin (λ s. IsBefore s.corner c) entries 0 at
   pub after : AllWithin (λ s. IsBefore c s.corner) entries at (length entries)
-
--- each entry has ended so, and pages that are no longer used are free
-pub record AreEndedAs (ending : Ending) (old new : List TileEntry) (was now : FreePages) : Type 0 where
-  pub same_length : length new ≡ length old
-  pub each : (k : ℕ) (d : TileEntry) → k < length old → HasEndedAs ending (slice_index_or old k d) (slice_index_or new k d)
-  pub same_range : now.range ≡ was.range
-  pub counted : AreCounted new now
 
 -- the page_map once what is staged has ended so
 abbrev pub ended_page_map : Ending → PageMapValue → PageMapValue

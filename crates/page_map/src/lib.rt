@@ -16,7 +16,7 @@ mod locations;
 mod page_map;
 mod pages;
 mod plane;
-mod staged;
+mod plane_entry;
 mod tile_entry;
 mod upgrading;
 

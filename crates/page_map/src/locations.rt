@@ -1,12 +1,8 @@
 //! Where the planes of a tile lie.
-ghost use Rattle.std.specs.Prelude.{◌≡◌, ◌<◌, ◌≤◌, ◌^◌, ◌++◌, length, take, drop, IfOk, IfErr, option_copied, slice_get};
+ghost use Rattle.std.specs.Prelude.{◌≡◌, ◌<◌, ◌≤◌, ◌^◌, ◌++◌, length, take, drop, IfOk, IfErr, slice_get};
 ghost use Rattle.lattice.specs.declared.refusal.Refusal.TheVariants.{NoMemory};
 ghost use Rattle.page_map.specs.Locations.{listing_of, pages_behind, IsMovedBehind};
-ghost use Rattle.page_map.specs.PageMaps.{tile_at};
-ghost use Rattle.page_map.specs.Planes.{plane_of};
-ghost use Rattle.lattice.specs.Corners.{Corner};
 
-use crate::plane::Plane;
 use lattice::Refusal;
 use std::marker::Model;
 
@@ -43,25 +39,6 @@ pub struct KeptLocations {
 pub struct TilePlanes {
     pub heights: PagedPlane,
     pub kept: Option<KeptLocations>,
-}
-
-impl TilePlanes {
-    /// Where a plane lies, if the tile has it.
-    pub(crate) fn plane(&self, plane: Plane) -> Option<&PagedPlane>
-        ensures { (c : Corner) → option_copied result ≡ plane_of plane (tile_at c self.now) }
-    {
-        match plane {
-            Plane::Heights => Some(&self.heights),
-            Plane::Levels => match &self.kept {
-                Some(kept) => Some(&kept.levels),
-                None => None,
-            },
-            Plane::Labels => match &self.kept {
-                Some(kept) => Some(&kept.labels),
-                None => None,
-            },
-        }
-    }
 }
 
 impl PagedPlane {

@@ -1,5 +1,5 @@
 //! Which pages hold which planes, as committed and as the next commit will have it.
-ghost use Rattle.std.specs.Prelude.{◌≡◌, slice_index, ◌⊎◌, ◌≤◌, ◌<◌, [], ◌∷◌, ◌++◌, All, length, Some, None, Contains, IsOk, IfOk, OnOk, OnErr, IfSome, IfNone, IsSome, IsTrue, ◌↔◌, IfErr};
+ghost use Rattle.std.specs.Prelude.{◌≡◌, slice_index, ◌⊎◌, ◌≤◌, ◌<◌, [], ◌∷◌, ◌++◌, All, length, map, Some, None, Contains, IsOk, IfOk, OnOk, OnErr, IfSome, IfNone, IsSome, IsTrue, ◌↔◌, IfErr};
 ghost use Rattle.lattice.specs.declared.refusal.Refusal.TheVariants.{Damaged, NoMemory};
 ghost use Rattle.page_codec.specs.Formats.{upgraded};
 ghost use Rattle.page_codec.specs.Sizes.{pages_of, sectors_asked};
@@ -8,14 +8,14 @@ ghost use Rattle.std.specs.List.{AllAdjacentBelow};
 ghost use Rattle.lattice.specs.Corners.{is_before, is_corner};
 ghost use Rattle.lattice.specs.Lattice.{IsBefore};
 ghost use Rattle.lattice.specs.Limits.{most_tiles};
-ghost use Rattle.page_map.specs.TileEntries.{IsEntryAt, IsRoomAt, AreCounted, AreEndedAs};
+ghost use Rattle.page_map.specs.TileEntries.{ended_entry, IsEntryAt, IsRoomAt, AreCounted};
 
 use crate::free_pages::FreePages;
-use crate::locations::{KeptLocations, PagedPlane, TilePlanes};
+use crate::locations::{PagedPlane, TilePlanes};
 use crate::pages::{fresh_plane, mark_planes};
 use crate::plane::Plane;
-use crate::staged::{HeightsStaged, KeptStaged, Staged};
-use crate::tile_entry::{Ending, TileEntry};
+use crate::plane_entry::{Ending, Staged};
+use crate::tile_entry::TileEntry;
 use crate::upgrading::upgraded_planes;
 use arrayvec::ArrayVec;
 use lattice::{Corner, MOST_TILES, Refusal, is_before};
@@ -53,7 +53,7 @@ impl Model for PageMap {
 impl PageMap {
     ghost use Rattle.page_map.specs.Locations.{PlaneLocation, listing_of};
     ghost use Rattle.page_map.specs.TileLocations.{TileLocation, KeepsPageRule};
-    ghost use Rattle.page_map.specs.PageMaps.{no_tiles_mapped, IsPageMap, IsClean, IsLocated, HasHeights, HasKept, HasFreshHeights, is_unreached, page_if, IsRewritten, IsPrepared, IsAdded, AreKept, IsWholeTile, tile_at, without_location, without_kept, corners_of_locations};
+    ghost use Rattle.page_map.specs.PageMaps.{no_tiles_mapped, IsPageMap, IsClean, IsLocated, HasFreshHeights, is_unreached, page_if, IsRewritten, IsPrepared, IsAdded, AreKept, IsWholeTile, tile_at, other_kept, without_location, corners_of_locations};
     ghost use Rattle.page_map.specs.TileEntries.{ended_page_map};
     ghost use Rattle.page_map.specs.Planes.{HasPlane, HasPlaneAt};
     ghost use Rattle.page_map.specs.Upgraded.{IsUpgraded};
@@ -95,11 +95,7 @@ impl PageMap {
             mut free,
         } = self;
         mark_planes(&mut free, &planes)?;
-        let entry = TileEntry {
-            corner,
-            committed: Some(planes),
-            staged: Staged::none(),
-        };
+        let entry = TileEntry::committed(corner, planes);
         if entries.push(entry).is_err() {
             return Err(Refusal::NoMemory);
         }
@@ -127,8 +123,8 @@ impl PageMap {
         let mut free = self.free.copy(self.alloc)?;
         let mut page_map = PageMap::new(self.alloc, free.sectors(), format)?;
         for entry in &self.entries {
-            if let Some(planes) = &entry.committed {
-                let planes = upgraded_planes(self.alloc, planes, format, &mut free)?;
+            if let Some(heights) = &entry.heights.committed {
+                let planes = upgraded_planes(self.alloc, heights, entry, format, &mut free)?;
                 page_map = page_map.load(entry.corner, planes)?;
             }
         }
@@ -153,29 +149,7 @@ impl PageMap {
     pub fn is_present(&self, c: Corner) -> bool
         ensures { IsTrue result ↔ IsLocated c self.now.staged }
     {
-        self.heights(c).is_some()
-    }
-
-    /// Where the heights of the corner's staged tile lie.
-    pub fn heights(&self, c: Corner) -> Option<&PagedPlane>
-        ensures found { IfSome result (λ plane. HasHeights c plane.now self.now.staged) }
-        ensures present { IsSome result ↔ IsLocated c self.now.staged }
-    {
-        match find(&self.entries, c) {
-            Ok(at) => self.entries[at].heights(),
-            Err(_) => None,
-        }
-    }
-
-    /// Where the kept planes of the corner's staged tile lie.
-    pub fn kept(&self, c: Corner) -> Option<&KeptLocations>
-        ensures found { IfSome result (λ kept. HasKept c kept.now self.now.staged) }
-        ensures none { IfNone result ((t : TileLocation) → Contains self.now.staged t → t.corner ≡ c → t.kept ≡ None) }
-    {
-        match find(&self.entries, c) {
-            Ok(at) => self.entries[at].kept(),
-            Err(_) => None,
-        }
+        self.plane(c, Plane::Heights).is_some()
     }
 
     /// Where a plane of the corner's staged tile lies.
@@ -183,16 +157,9 @@ impl PageMap {
         ensures found { IfSome result (λ location. HasPlaneAt self.now.staged c plane location.now) }
         ensures none { IfNone result (¬ HasPlane self.now.staged c plane) }
     {
-        match plane {
-            Plane::Heights => self.heights(c),
-            Plane::Levels => match self.kept(c) {
-                Some(kept) => Some(&kept.levels),
-                None => None,
-            },
-            Plane::Labels => match self.kept(c) {
-                Some(kept) => Some(&kept.labels),
-                None => None,
-            },
+        match find(&self.entries, c) {
+            Ok(at) => self.entries[at].plane(plane).location(),
+            Err(_) => None,
         }
     }
 
@@ -211,7 +178,9 @@ impl PageMap {
         match find(&self.entries, c) {
             Ok(at) => {
                 let entry = &mut self.entries[at];
-                entry.page_for_writing(self.alloc, i as usize, &mut self.free)
+                entry
+                    .heights
+                    .page_for_writing(self.alloc, i as usize, &mut self.free)
             }
             Err(_) => unreachable!(),
         }
@@ -229,7 +198,7 @@ impl PageMap {
         match find(&self.entries, c) {
             Ok(at) => {
                 let entry = &mut self.entries[at];
-                entry.prepare(self.alloc, &mut self.free)
+                entry.heights.prepare(self.alloc, &mut self.free)
             }
             Err(_) => unreachable!(),
         }
@@ -242,7 +211,7 @@ impl PageMap {
             → result ≡ page_if (is_unreached self.now.committed (slice_index (listing_of location) i)) (slice_index (listing_of location) i) }
     {
         match find(&self.entries, c) {
-            Ok(at) => self.entries[at].page_due(plane, i),
+            Ok(at) => self.entries[at].plane(plane).page_due(i),
             Err(_) => None,
         }
     }
@@ -264,22 +233,14 @@ impl PageMap {
             self.format.index_pages(),
             self.format.data_pages(),
         )?;
-        let staged = Staged::Tile {
-            heights: HeightsStaged::Fresh(location),
-            kept: KeptStaged::Dropped,
-        };
         match find(&self.entries, c) {
             Ok(at) => {
                 let entry = &mut self.entries[at];
-                entry.restage(staged);
+                entry.heights.staged = Staged::Fresh(location);
                 Ok(())
             }
             Err(at) => {
-                let entry = TileEntry {
-                    corner: c,
-                    committed: None,
-                    staged,
-                };
+                let entry = TileEntry::added(c, location);
                 if self.entries.insert(at, entry).is_err() {
                     unreachable!();
                 }
@@ -327,7 +288,7 @@ impl PageMap {
     /// memory.
     pub fn drop_kept(&mut self, c: Corner)
         requires { IsLocated c self.old.staged }
-        ensures dropped { self.new ≡ record (self.old) { staged = without_kept c self.old.staged } }
+        ensures dropped { self.new ≡ record (self.old) { staged = other_kept c None self.old.staged } }
         ensures rules { IsPageMap self.new }
     {
         match find(&self.entries, c) {
@@ -346,7 +307,7 @@ impl PageMap {
     {
         let mut corners = ArrayVec::new();
         for entry in &self.entries {
-            if entry.heights().is_some() {
+            if entry.heights.location().is_some() {
                 corners.push(entry.corner);
             }
         }
@@ -374,7 +335,8 @@ impl PageMap {
         ensures rules { IsPageMap self.new }
     {
         end_all(&mut self.entries, ending, &mut self.free);
-        self.entries.retain(|entry| entry.committed.is_some());
+        self.entries
+            .retain(|entry| entry.heights.committed.is_some());
     }
 }
 
@@ -402,7 +364,9 @@ fn know_degrees(c: Corner)
 /// Commits or gives up what is staged in each entry.
 fn end_all(entries: &mut [TileEntry], ending: Ending, free: &mut FreePages)
     requires { AreCounted entries.old free.old }
-    ensures { AreEndedAs ending entries.old entries.new free.old free.new }
+    ensures ended { entries.new ≡ map (ended_entry ending) entries.old }
+    ensures range { free.new.range ≡ free.old.range }
+    ensures counted { AreCounted entries.new free.new }
 {
     for entry in entries.iter_mut() {
         entry.end(ending, free);

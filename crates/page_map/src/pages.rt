@@ -1,9 +1,9 @@
 //! Pages taken and given back, many at once.
-ghost use Rattle.std.specs.Prelude.{◌≡◌, ◌+◌, ◌*◌, ◌<◌, ◌≤◌, ℕ, [], ◌∷◌, length, slice_index, Some, IsTrue, ◌↔◌, IfOk, IfErr, OnOk, OnErr};
+ghost use Rattle.std.specs.Prelude.{◌≡◌, ◌+◌, ◌<◌, ◌≤◌, ◌∷◌, length, slice_index, Some, IsTrue, ◌↔◌, IfOk, IfErr, OnOk, OnErr};
 ghost use Rattle.std.specs.FinSet as set;
 ghost use Rattle.lattice.specs.declared.refusal.Refusal.TheVariants.{NoMemory};
-ghost use Rattle.page_map.specs.Locations.{times, pages_of_plane};
-ghost use Rattle.page_map.specs.FreePages.{free_times, page_times, differing, pages_of_planes, AreTaken, AreGiven, AreInUse, IsUnmarked};
+ghost use Rattle.page_map.specs.Locations.{pages_behind, pages_of_plane};
+ghost use Rattle.page_map.specs.FreePages.{differing, pages_of_planes, AreTaken, AreGiven, AreInUse, IsUnmarked};
 ghost use Rattle.page_map.specs.TileLocations.{pages_of_kept};
 
 use crate::free_pages::FreePages;
@@ -34,33 +34,8 @@ pub(crate) fn fresh_plane(
     Ok(PagedPlane::new(free.take(), behind, index_count))
 }
 
-/// Levels and labels of so many free index pages and so many free pages each.
-pub(crate) fn fresh_kept(
-    alloc: Global,
-    free: &mut FreePages,
-    index_pages: u32,
-    pages: u32,
-) -> Result<KeptLocations, Refusal>
-    requires room { 2 * (index_pages + pages + 1) ≤ set.len free.old.free }
-    requires in_range { (p : ℕ) → free_times free.old p ≤ page_times free.old.range p }
-    ensures taken { IfOk result (λ kept. AreTaken (pages_of_kept (Some kept)) free.old free.new) }
-    ensures levels { IfOk result (λ kept. (length kept.levels.index_pages ≡ index_pages) × (length kept.levels.pages ≡ pages)) }
-    ensures labels { IfOk result (λ kept. (length kept.labels.index_pages ≡ index_pages) × (length kept.labels.pages ≡ pages)) }
-    ensures refused { IfErr result (λ refusal. refusal ≡ NoMemory) }
-    ensures unchanged { OnErr result (AreTaken [] free.old free.new) }
-{
-    let levels = fresh_plane(alloc, free, index_pages, pages)?;
-    match fresh_plane(alloc, free, index_pages, pages) {
-        Ok(labels) => Ok(KeptLocations { levels, labels }),
-        Err(refusal) => {
-            give_plane(free, &levels);
-            Err(refusal)
-        }
-    }
-}
-
 /// Gives back the pages that don't stand at the same index among the others.
-pub(crate) fn give_differing(free: &mut FreePages, pages: &[u32], others: &[u32])
+fn give_differing(free: &mut FreePages, pages: &[u32], others: &[u32])
     requires { AreInUse (differing pages.now others.now) free.old }
     ensures { AreGiven (differing pages.now others.now) free.old free.new }
 {
@@ -78,22 +53,13 @@ pub(crate) fn stands_at(page: u32, i: usize, pages: &[u32]) -> bool
     i < pages.len() && pages[i] == page
 }
 
-/// Gives back all pages of a plane.
-pub(crate) fn give_plane(free: &mut FreePages, plane: &PagedPlane)
-    requires { AreInUse (pages_of_plane plane.now) free.old }
-    ensures { AreGiven (pages_of_plane plane.now) free.old free.new }
+/// Gives back the record of a plane, and the pages behind it that don't stand at the same index among the others.
+pub(crate) fn give_replaced(free: &mut FreePages, plane: &PagedPlane, others: &[u32])
+    requires { AreInUse (plane.now.record_page ∷ differing (pages_behind plane.now) others.now) free.old }
+    ensures { AreGiven (plane.now.record_page ∷ differing (pages_behind plane.now) others.now) free.old free.new }
 {
     free.give(plane.record_page());
-    give_differing(free, plane.behind(), &[]);
-}
-
-/// Gives back all pages of the kept planes of a tile.
-pub(crate) fn give_kept(free: &mut FreePages, kept: &KeptLocations)
-    requires { AreInUse (pages_of_kept (Some kept.now)) free.old }
-    ensures { AreGiven (pages_of_kept (Some kept.now)) free.old free.new }
-{
-    give_plane(free, &kept.levels);
-    give_plane(free, &kept.labels);
+    give_differing(free, plane.behind(), others);
 }
 
 /// Takes the pages of a tile's planes out of the free ones. Refused with Damaged where they aren't all free, or not all

@@ -5,57 +5,71 @@ use Rattle.page_codec.specs.Formats.{Format}
 use Rattle.page_codec.specs.Roots.{format_of}
 use Rattle.page_codec.specs.Sizes.{index_pages_of, pages_of}
 use Rattle.page_map.specs.PageMaps.{PageMapValue, AreKept, AreWholeKept, corners_of_locations}
+use Rattle.page_map.specs.declared.locations.KeptLocations.{KeptLocations}
 use Rattle.cow_tree.specs.Kept.{planes_of_bytes}
 use Rattle.cow_tree.specs.Layout.{StoresAt, Stands}
 use Rattle.cow_tree.specs.Staged.{pages_due}
 use Rattle.cow_tree.proofs.Due.{kept_more}
 use Rattle.cow_tree.proofs.KeptDrops.{other_corners}
-use Rattle.cow_tree.proofs.KeptStaging.{some_kept, whole_planes, pages_low, pages_high, pages_once, pages_unreached, kept_staged, kept_stays}
+use Rattle.cow_tree.proofs.KeptStaging.{locations_are, no_labels, no_levels, whole_planes, pages_low, pages_high, pages_once, pages_unreached, kept_staged, kept_stays}
 use Rattle.cow_tree.proofs.Steps.{stands, stores_along, ok_where_works, on_ok, on_ok_both}
 use Rattle.cow_tree.proofs.tree.Tree.stage_kept.Goals as goal
-use Rattle.cow_tree.proofs.tree.Tree.stage_kept.Goals.{In-Some}
+use Rattle.cow_tree.proofs.tree.Tree.stage_kept.Goals.{In-Some-plane}
 
 -- the levels and labels that were given fresh pages
-module _ (g : _) (c : In-Some g) where
+module _ (g : _) (c : In-Some-plane g) where
   abbrev old : PageMapValue
   old = c.args.self.now.page_map
 
   abbrev new : PageMapValue
   new = c.keep.new.self
 
-  anew : AreKept c.args.c old new
+  abbrev anew : AreKept c.args.c old new
   anew = c.in_ok-keep.ensures.kept
 
-  whole : AreWholeKept (format_of c.args.self.now.root) c.in-Some.kept.now
-  whole = subst (λ (f : Format). AreWholeKept f c.in-Some.kept.now) c.args.self.now.format (whole_planes old new c.args.c c.in_ok-keep.ensures.rules c.rules.ensures anew c.requires.unstaged c.requires.present c.in-Some.kept.now c.in-Some.ensures.found)
+  abbrev kept : KeptLocations
+  kept = record { levels = c.in-Some.levels_at.now; labels = c.in-Some-plane.labels_at.now }
 
-  few : length (c.in-Some.kept.now.levels.pages ++ c.in-Some.kept.now.labels.pages) ≡ 2 * pages_of c.args.self.now.root.side
-  few = omega (arith, length-append c.in-Some.kept.now.levels.pages c.in-Some.kept.now.labels.pages, whole.levels.pages, whole.labels.pages)
+  kept_is : anew.locations ≡ record { levels = c.in-Some.levels_at.now; labels = c.in-Some-plane.labels_at.now }
+  kept_is = locations_are old new c.args.c c.in_ok-keep.ensures.rules c.rules.ensures anew c.requires.unstaged c.requires.present c.in-Some.levels_at.now c.in-Some-plane.labels_at.now c.in-Some.ensures.found c.in-Some-plane.ensures.found
+
+  whole : AreWholeKept (format_of c.args.self.now.root) (record { levels = c.in-Some.levels_at.now; labels = c.in-Some-plane.labels_at.now })
+  whole = subst (λ (f : Format). AreWholeKept f kept) c.args.self.now.format (whole_planes old new c.args.c c.in_ok-keep.ensures.rules c.rules.ensures anew c.requires.unstaged c.requires.present kept kept_is)
+
+  few : length (c.in-Some.levels_at.now.pages ++ c.in-Some-plane.labels_at.now.pages) ≡ 2 * pages_of c.args.self.now.root.side
+  few = omega (arith, length-append c.in-Some.levels_at.now.pages c.in-Some-plane.labels_at.now.pages, whole.levels.pages, whole.labels.pages)
 
 pub write_kept-requires-clause-low : goal.write_kept-requires-clause-low
 write_kept-requires-clause-low g c =
-    pages_low c.args.self.now.page_map c.keep.new.self c.args.c c.in_ok-keep.ensures.rules c.rules.ensures c.in_ok-keep.ensures.kept c.requires.unstaged c.requires.present c.in-Some.kept.now c.in-Some.ensures.found
+    let here = (goal.at.write_kept-requires-clause-low g c).In-Some-plane in
+    pages_low c.args.self.now.page_map c.keep.new.self c.args.c c.in_ok-keep.ensures.rules c.rules.ensures c.in_ok-keep.ensures.kept c.requires.unstaged c.requires.present (kept g here) (kept_is g here)
 
 pub write_kept-requires-clause-high : goal.write_kept-requires-clause-high
 write_kept-requires-clause-high g c k d lt =
-    let high = pages_high c.args.self.now.page_map c.keep.new.self c.args.c c.in_ok-keep.ensures.rules c.rules.ensures c.in_ok-keep.ensures.kept c.requires.unstaged c.requires.present c.in-Some.kept.now c.in-Some.ensures.found k d lt in
+    let here = (goal.at.write_kept-requires-clause-high g c).In-Some-plane in
+    let high = pages_high c.args.self.now.page_map c.keep.new.self c.args.c c.in_ok-keep.ensures.rules c.rules.ensures c.in_ok-keep.ensures.kept c.requires.unstaged c.requires.present (kept g here) (kept_is g here) k d lt in
     let same = ap (λ (x : PageMapValue). x.sectors) c.in_ok-keep.ensures.kept.changed in
     omega (arith, high, same, c.args.self.now.sectors)
 
 pub write_kept-requires-clause-distinct : goal.write_kept-requires-clause-distinct
 write_kept-requires-clause-distinct g c =
-    pages_once c.args.self.now.page_map c.keep.new.self c.args.c c.in_ok-keep.ensures.rules c.rules.ensures c.in_ok-keep.ensures.kept c.requires.unstaged c.requires.present c.in-Some.kept.now c.in-Some.ensures.found
+    let here = (goal.at.write_kept-requires-clause-distinct g c).In-Some-plane in
+    pages_once c.args.self.now.page_map c.keep.new.self c.args.c c.in_ok-keep.ensures.rules c.rules.ensures c.in_ok-keep.ensures.kept c.requires.unstaged c.requires.present (kept g here) (kept_is g here)
 
 pub unreachable-requires : goal.unreachable-requires
 unreachable-requires g c =
-    some_kept c.args.self.now.page_map c.keep.new.self c.args.c c.in_ok-keep.ensures.rules c.rules.ensures c.in_ok-keep.ensures.kept c.requires.unstaged c.requires.present c.in-None.ensures.none
+    no_levels c.args.self.now.page_map c.keep.new.self c.args.c c.in_ok-keep.ensures.rules c.rules.ensures c.in_ok-keep.ensures.kept c.requires.unstaged c.requires.present c.in_default.ensures.none
+
+pub unreachable-requires-in_default-plane : goal.unreachable-requires-in_default-plane
+unreachable-requires-in_default-plane g c =
+    no_labels c.args.self.now.page_map c.keep.new.self c.args.c c.in_ok-keep.ensures.rules c.rules.ensures c.in_ok-keep.ensures.kept c.requires.unstaged c.requires.present c.in_default-plane.ensures.none
 
 pub returns-clause-writes : goal.returns-clause-writes
-returns-clause-writes g c = omega (arith, c.write_kept.ensures.writes.few, few g (goal.at.returns-clause-writes g c).In-Some)
+returns-clause-writes g c = omega (arith, c.write_kept.ensures.writes.few, few g (goal.at.returns-clause-writes g c).In-Some-plane)
 
 pub returns-clause-begun : goal.returns-clause-begun
 returns-clause-begun g c =
-    let most = few g (goal.at.returns-clause-begun g c).In-Some in
+    let most = few g (goal.at.returns-clause-begun g c).In-Some-plane in
     on_ok c.write_kept.result (λ counted. omega (arith, counted, most)) c.write_kept.ensures.writes.writes
 
 pub returns-clause-corners : goal.returns-clause-corners
@@ -75,23 +89,23 @@ returns-in_err-keep-clause-due g c = let due = ap (λ (x : PageMapValue). length
 
 pub returns-clause-staged : goal.returns-clause-staged
 returns-clause-staged g c honest s is =
-    let here = (goal.at.returns-clause-staged g c).In-Some in
+    let here = (goal.at.returns-clause-staged g c).In-Some-plane in
     let before = c.args.self.now in
     let a = g.D.Disk.seen before.roots.disk in
     let b = g.D.Disk.seen c.write_kept.new.roots.disk in
     on_ok_both c.write_kept.result
-    (λ others wrote. kept_staged (old g here) (new g here) c.args.c c.in_ok-keep.ensures.rules c.rules.ensures (anew g here) c.requires.unstaged c.requires.present c.in-Some.kept.now c.in-Some.ensures.found a b others
+    (λ others wrote. kept_staged (old g here) (new g here) c.args.c c.in_ok-keep.ensures.rules c.rules.ensures (anew g here) c.requires.unstaged c.requires.present (kept g here) (kept_is g here) a b others
     (planes_of_bytes before.root.side c.args.levels.now c.args.labels.now) wrote)
     (c.write_kept.ensures.writes.others honest) (c.write_kept.ensures.written honest before.root.side (whole g here).levels.pages (whole g here).labels.pages)
 
 pub returns-clause-at : goal.returns-clause-at
 returns-clause-at g c honest s is works =
-    let here = (goal.at.returns-clause-at g c).In-Some in
+    let here = (goal.at.returns-clause-at g c).In-Some-plane in
     let d = g.D.Disk in
     let before = c.args.self.now in
     let roots = c.write_kept.new.roots in
     let written = c.write_kept.ensures.writes in
-    let none = pages_unreached (old g here) (new g here) c.args.c c.in_ok-keep.ensures.rules c.rules.ensures (anew g here) c.requires.unstaged c.requires.present c.in-Some.kept.now c.in-Some.ensures.found in
+    let none = pages_unreached (old g here) (new g here) c.args.c c.in_ok-keep.ensures.rules c.rules.ensures (anew g here) c.requires.unstaged c.requires.present (kept g here) (kept_is g here) in
     record {
       ready = ok_where_works c.write_kept.result roots.failed written.failed works (written.ready honest is.ready);
       each = λ image may. stores_along (d.size before.roots.disk) (d.size roots.disk) before.roots.root roots.root before.page_map.committed (new g here).committed s image
@@ -99,18 +113,18 @@ returns-clause-at g c honest s is works =
           ((written.any_moment honest is.ready before.page_map.committed s none is.each).now image may);
       staged = ok_where_works c.write_kept.result roots.failed written.failed works
           (on_ok c.write_kept.result
-          (λ others. kept_stays (old g here) (new g here) c.args.c c.in_ok-keep.ensures.rules c.rules.ensures (anew g here) c.requires.unstaged c.requires.present c.in-Some.kept.now c.in-Some.ensures.found
+          (λ others. kept_stays (old g here) (new g here) c.args.c c.in_ok-keep.ensures.rules c.rules.ensures (anew g here) c.requires.unstaged c.requires.present (kept g here) (kept_is g here)
           (d.seen before.roots.disk) (d.seen roots.disk) others (format_of before.root) is.staged)
           (written.others honest));
     }
 
 pub returns-clause-any_moment : goal.returns-clause-any_moment
 returns-clause-any_moment g c honest s is =
-    let here = (goal.at.returns-clause-any_moment g c).In-Some in
+    let here = (goal.at.returns-clause-any_moment g c).In-Some-plane in
     let d = g.D.Disk in
     let before = c.args.self.now in
     let size = d.size before.roots.disk in
     weaker d before.roots.disk c.write_kept.new.roots.disk (StoresAt size before.roots.root before.page_map.committed s) (λ image. Stands size image s)
     (λ image stores. stands size before.roots.root before.page_map.committed s image stores)
     (c.write_kept.ensures.writes.any_moment honest is.ready before.page_map.committed s
-    (pages_unreached (old g here) (new g here) c.args.c c.in_ok-keep.ensures.rules c.rules.ensures (anew g here) c.requires.unstaged c.requires.present c.in-Some.kept.now c.in-Some.ensures.found) is.each)
+    (pages_unreached (old g here) (new g here) c.args.c c.in_ok-keep.ensures.rules c.rules.ensures (anew g here) c.requires.unstaged c.requires.present (kept g here) (kept_is g here)) is.each)

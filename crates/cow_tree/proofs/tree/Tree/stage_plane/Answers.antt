@@ -10,7 +10,7 @@ use Rattle.page_map.specs.Locations.{times}
 use Rattle.cow_tree.specs.Staged.{pages_due}
 use Rattle.cow_tree.specs.Stored.{pages_of_bytes}
 use Rattle.page_codec.specs.Sizes.{index_pages_of}
-use Rattle.cow_tree.proofs.Adding.{added_located, pages_low, pages_high, pages_unreached, pages_once, plane_staged, plane_stays}
+use Rattle.cow_tree.proofs.Adding.{added_heights, pages_low, pages_high, pages_unreached, pages_once, plane_staged, plane_stays}
 use Rattle.cow_tree.proofs.Due.{added_corners, added_due, added_here}
 use Rattle.cow_tree.proofs.Steps.{stands, stores_along, ok_where_works, on_ok, on_ok_both, ok_where, failed_where}
 use Rattle.cow_tree.proofs.tree.Tree.stage_plane.Goals as goal
@@ -52,8 +52,7 @@ write_plane-requires-clause-distinct g c = once g (goal.at.write_plane-requires-
 
 pub unreachable-requires : goal.unreachable-requires
 unreachable-requires g c =
-    let none = c.in-None.ensures.present.1 (added_located c.args.self.now.page_map c.tile_for_writing.new.self c.args.c c.in_ok-tile_for_writing.ensures.rules c.in_ok-tile_for_writing.ensures.added) in
-    cc
+    c.in-None.ensures.none (added_heights c.args.self.now.page_map c.tile_for_writing.new.self c.args.c c.in_ok-tile_for_writing.ensures.rules c.in_ok-tile_for_writing.ensures.added)
 
 -- what the disk holds once they are written
 abbrev SameElsewhere : List ℕ → Image → Image → Type 0

@@ -1,4 +1,4 @@
-use Rattle.std.proofs.Common.{◌≡◌, [], sym, subst, arith, set}
+use Rattle.std.proofs.Common.{◌≡◌, [], sym, subst, set}
 use Rattle.std.specs.Prelude.{OnOk}
 use Rattle.std.specs.List.{flat_map}
 use Rattle.page_map.specs.PageMaps.{PageMapValue, AreKept, IsClean, IsLocated}
@@ -6,8 +6,8 @@ use Rattle.page_map.specs.TileEntries.{IsEntryAt, page_map_of, fresh_pages}
 use Rattle.page_map.proofs.Room.{room_to_keep}
 use Rattle.page_map.proofs.Clean.{none_fresh}
 use Rattle.page_map.proofs.PageMapRules.{mapped}
-use Rattle.page_map.proofs.AtEntry.{present, no_entry}
-use Rattle.page_map.proofs.KeptChanging.{none_here, kept_anew, are_kept}
+use Rattle.page_map.proofs.AtEntry.{in_use, no_entry}
+use Rattle.page_map.proofs.KeptChanges.{none_here, kept_anew, are_kept}
 use Rattle.page_map.proofs.page_map.PageMap.keep.Goals as goal
 
 pub keep-requires-clause-room : goal.keep-requires-clause-room
@@ -15,27 +15,23 @@ keep-requires-clause-room c =
     let none : flat_map fresh_pages c.self.inside.entries.items ≡ [] = none_fresh c.self.inside.format c.self.inside.entries.items c.self.inside.free c.self.invariant (subst IsClean (sym c.self.view_is) c.requires.clean) in
     room_to_keep c.self.inside.format c.self.inside.entries.items c.self.inside.free c.self.invariant none
 
-pub keep-requires-clause-present : goal.keep-requires-clause-present
-keep-requires-clause-present c =
-    let found : IsEntryAt c.args.c c.in-Ok.at c.self.inside.entries.items = rw c.deref.ensures.value at c.in-Ok.ensures.found in
-    present c.self.inside.format c.self.inside.entries.items c.self.inside.free c.self.invariant c.args.c c.in-Ok.at found c.index_mut-entry.result.now c.index_mut-entry.ensures.value
-    (subst (λ (v : PageMapValue). IsLocated c.args.c v.staged) (sym c.self.view_is) c.requires.present)
-
 pub keep-requires-clause-none : goal.keep-requires-clause-none
 keep-requires-clause-none c =
     let found : IsEntryAt c.args.c c.in-Ok.at c.self.inside.entries.items = rw c.deref.ensures.value at c.in-Ok.ensures.found in
     let none : flat_map fresh_pages c.self.inside.entries.items ≡ [] = none_fresh c.self.inside.format c.self.inside.entries.items c.self.inside.free c.self.invariant (subst IsClean (sym c.self.view_is) c.requires.clean) in
     none_here c.self.inside.format c.self.inside.entries.items c.self.inside.free c.self.invariant c.args.c c.in-Ok.at found c.index_mut-entry.result.now c.index_mut-entry.ensures.value none
 
-pub keep-requires-clause-in_range : goal.keep-requires-clause-in_range
-keep-requires-clause-in_range c = λ p. omega (arith, c.self.invariant.counted p)
+pub keep-requires-clause-in_use : goal.keep-requires-clause-in_use
+keep-requires-clause-in_use c =
+    let found : IsEntryAt c.args.c c.in-Ok.at c.self.inside.entries.items = rw c.deref.ensures.value at c.in-Ok.ensures.found in
+    in_use c.self.inside.format c.self.inside.entries.items c.self.inside.free c.self.invariant c.args.c c.in-Ok.at found c.index_mut-entry.result.now c.index_mut-entry.ensures.value
 
 pub invariant_of-self : goal.invariant_of-self
 invariant_of-self c =
     let found : IsEntryAt c.args.c c.in-Ok.at c.self.inside.entries.items = rw c.deref.ensures.value at c.in-Ok.ensures.found in
     let none : flat_map fresh_pages c.self.inside.entries.items ≡ [] = none_fresh c.self.inside.format c.self.inside.entries.items c.self.inside.free c.self.invariant (subst IsClean (sym c.self.view_is) c.requires.clean) in
     kept_anew c.self.inside.format c.self.inside.entries.items c.self.inside.free c.self.invariant c.args.c c.in-Ok.at found c.index_mut-entry.result.now c.index_mut-entry.ensures.value
-    c.keep.new.self c.keep.new.free c.keep.ensures.restaged none c.keep.result c.keep.ensures.kept c.keep.ensures.unchanged
+    (subst (λ (v : PageMapValue). IsLocated c.args.c v.staged) (sym c.self.view_is) c.requires.present) c.keep.new.free none c.keep.new.self c.keep.ensures.balanced c.keep.result c.keep.ensures.kept c.keep.ensures.unchanged
 
 pub unreachable-requires : goal.unreachable-requires
 unreachable-requires c =
@@ -48,7 +44,7 @@ returns-clause-kept c =
     let none : flat_map fresh_pages c.self.inside.entries.items ≡ [] = none_fresh c.self.inside.format c.self.inside.entries.items c.self.inside.free c.self.invariant (subst IsClean (sym c.self.view_is) c.requires.clean) in
     subst (λ (v : PageMapValue). OnOk c.keep.result (AreKept c.args.c v (page_map_of c.self.inside.format (set c.self.inside.entries.items c.in-Ok.at c.keep.new.self) c.keep.new.free))) c.self.view_is
     (are_kept c.self.inside.format c.self.inside.entries.items c.self.inside.free c.self.invariant c.args.c c.in-Ok.at found c.index_mut-entry.result.now c.index_mut-entry.ensures.value
-    c.keep.new.self c.keep.new.free c.keep.ensures.restaged none c.keep.result c.keep.ensures.kept c.keep.ensures.unchanged)
+    (subst (λ (v : PageMapValue). IsLocated c.args.c v.staged) (sym c.self.view_is) c.requires.present) c.keep.new.free none c.keep.new.self c.keep.ensures.balanced c.keep.result c.keep.ensures.kept)
 
 pub returns-clause-rules : goal.returns-clause-rules
 returns-clause-rules c =
@@ -56,4 +52,4 @@ returns-clause-rules c =
     let none : flat_map fresh_pages c.self.inside.entries.items ≡ [] = none_fresh c.self.inside.format c.self.inside.entries.items c.self.inside.free c.self.invariant (subst IsClean (sym c.self.view_is) c.requires.clean) in
     mapped c.self.inside.format (set c.self.inside.entries.items c.in-Ok.at c.keep.new.self) c.keep.new.free
     (kept_anew c.self.inside.format c.self.inside.entries.items c.self.inside.free c.self.invariant c.args.c c.in-Ok.at found c.index_mut-entry.result.now c.index_mut-entry.ensures.value
-    c.keep.new.self c.keep.new.free c.keep.ensures.restaged none c.keep.result c.keep.ensures.kept c.keep.ensures.unchanged)
+    (subst (λ (v : PageMapValue). IsLocated c.args.c v.staged) (sym c.self.view_is) c.requires.present) c.keep.new.free none c.keep.new.self c.keep.ensures.balanced c.keep.result c.keep.ensures.kept c.keep.ensures.unchanged)

@@ -7,9 +7,9 @@ use Rattle.lattice.specs.Lattice.{IsBefore}
 use Rattle.page_map.specs.declared.tile_entry.TileEntry.{TileEntry}
 use Rattle.page_map.specs.TileLocations.{KeepsPageRule}
 use Rattle.page_map.specs.PageMaps.{PageMapValue, IsWholeTile, tile_at}
-use Rattle.page_map.specs.TileEntries.{page_map_of}
+use Rattle.page_map.specs.TileEntries.{loaded_entry, page_map_of}
 use Rattle.page_map.proofs.PageMapRules.{mapped}
-use Rattle.page_map.proofs.Loading.{loaded_entry, kept_loaded, page_map_loaded, rule_broken}
+use Rattle.page_map.proofs.Loading.{kept_loaded, page_map_loaded, rule_broken}
 use Rattle.page_map.proofs.page_map.PageMap.load.Goals as goal
 use Rattle.page_map.proofs.page_map.PageMap.load.Goals.{Else-is_err}
 
@@ -18,7 +18,7 @@ ok_from (Ok x) none = refl
 ok_from (Err e) none = absurd (false≢true (sym none))
 
 entries_are : (c : Else-is_err) → c.push.new.self.items ≡ c.self.inside.entries.items ++ loaded_entry c.args.corner c.args.planes ∷ []
-entries_are c = rw (ok_from c.push.result (sym c.is_err.ensures.value ∙ c.if-is_err.false), c.none.ensures) at c.push.ensures.items
+entries_are c = rw (ok_from c.push.result (sym c.is_err.ensures.value ∙ c.if-is_err.false), c.committed-entry.ensures) at c.push.ensures.items
 
 pub invariant_of-result : goal.invariant_of-result
 invariant_of-result c =

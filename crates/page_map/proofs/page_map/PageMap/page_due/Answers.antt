@@ -4,15 +4,9 @@ use Rattle.page_map.specs.PageMaps.{PageMapValue, is_unreached, page_if}
 use Rattle.page_map.specs.Locations.{listing_of}
 use Rattle.page_map.specs.Planes.{HasPlaneAt}
 use Rattle.page_map.specs.TileEntries.{IsEntryAt, IsRoomAt, staged_tiles}
-use Rattle.page_map.proofs.AtEntry.{filled}
 use Rattle.page_map.proofs.Lookup.{none_located, located-from_tile}
 use Rattle.page_map.proofs.DueListings.{page_due}
 use Rattle.page_map.proofs.page_map.PageMap.page_due.Goals as goal
-
-pub page_due-requires : goal.page_due-requires
-page_due-requires c =
-    let found : IsEntryAt c.args.c c.in-Ok.at c.self.inside.entries.items = rw c.deref.ensures.value at c.in-Ok.ensures.found in
-    filled c.self.inside.format c.self.inside.entries.items c.self.inside.free c.self.invariant c.args.c c.in-Ok.at found c.index.result.now c.index.ensures
 
 pub returns-in-Ok : goal.returns-in-Ok
 returns-in-Ok c location had below =
@@ -21,7 +15,7 @@ returns-in-Ok c location had below =
     let there : HasPlaneAt (staged_tiles entries) c.args.c c.args.plane location = subst (λ (v : PageMapValue). HasPlaneAt v.staged c.args.c c.args.plane location) (sym c.self.view_is) had in
     subst (λ (v : PageMapValue). c.page_due.result ≡ page_if (is_unreached v.committed (slice_index (listing_of location) c.args.i)) (slice_index (listing_of location) c.args.i)) c.self.view_is
     (page_due c.self.inside.format entries c.self.inside.free c.self.invariant c.args.c c.in-Ok.at found c.index.result.now c.index.ensures c.args.plane c.args.i location there below
-    c.page_due.result c.page_due.ensures.same c.page_due.ensures.other)
+    c.page_due.result (rw c.plane.ensures at c.page_due.ensures.same) (rw c.plane.ensures at c.page_due.ensures.other))
 
 pub returns-in-Err : goal.returns-in-Err
 returns-in-Err c location (t, (there, (here, lies))) below =

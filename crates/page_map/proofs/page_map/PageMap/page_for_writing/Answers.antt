@@ -3,7 +3,7 @@ use Rattle.std.specs.Prelude.{IfOk}
 use Rattle.page_map.specs.PageMaps.{PageMapValue, IsLocated, HasFreshHeights, IsRewritten}
 use Rattle.page_map.specs.TileEntries.{IsEntryAt, IsRoomAt, page_map_of, staged_tiles}
 use Rattle.page_map.proofs.PageMapRules.{mapped}
-use Rattle.page_map.proofs.AtEntry.{present, room, index_within, apart, staged_before, kept_rewritten, is_rewritten, no_entry}
+use Rattle.page_map.proofs.AtEntry.{heights_present, room, index_within, apart, staged_before, kept_rewritten, is_rewritten, no_entry}
 use Rattle.page_map.proofs.page_map.PageMap.page_for_writing.Goals as goal
 
 pub page_for_writing-requires-clause-room : goal.page_for_writing-requires-clause-room
@@ -15,7 +15,7 @@ pub page_for_writing-requires-clause-present : goal.page_for_writing-requires-cl
 page_for_writing-requires-clause-present c =
     let found : IsEntryAt c.args.c c.in-Ok.at c.self.inside.entries.items = rw c.deref.ensures.value at c.in-Ok.ensures.found in
     let located : IsLocated c.args.c (staged_tiles c.self.inside.entries.items) = subst (λ (v : PageMapValue). IsLocated c.args.c v.staged) (sym c.self.view_is) c.requires.present in
-    present c.self.inside.format c.self.inside.entries.items c.self.inside.free c.self.invariant c.args.c c.in-Ok.at found c.index_mut-entry.result.now c.index_mut-entry.ensures.value located
+    heights_present c.self.inside.format c.self.inside.entries.items c.self.inside.free c.self.invariant c.args.c c.in-Ok.at found c.index_mut-entry.result.now c.index_mut-entry.ensures.value located
 
 pub page_for_writing-requires-clause-index : goal.page_for_writing-requires-clause-index
 page_for_writing-requires-clause-index c =
@@ -32,7 +32,7 @@ pub invariant_of-self : goal.invariant_of-self
 invariant_of-self c =
     let found : IsEntryAt c.args.c c.in-Ok.at c.self.inside.entries.items = rw c.deref.ensures.value at c.in-Ok.ensures.found in
     kept_rewritten c.self.inside.format c.self.inside.entries.items c.self.inside.free c.self.invariant c.args.c c.in-Ok.at found c.index_mut-entry.result.now c.index_mut-entry.ensures.value
-    c.page_for_writing.new.self c.page_for_writing.new.free c.args.i c.page_for_writing.result c.page_for_writing.ensures.staged c.page_for_writing.ensures.restaged c.page_for_writing.ensures.same_kept c.page_for_writing.ensures.unchanged
+    c.page_for_writing.new.self c.page_for_writing.new.free c.page_for_writing.ensures.committed c.page_for_writing.ensures.balanced c.args.i c.page_for_writing.result c.page_for_writing.ensures.staged c.page_for_writing.ensures.unchanged
 
 pub unreachable-requires : goal.unreachable-requires
 unreachable-requires c =
@@ -43,9 +43,9 @@ unreachable-requires c =
 pub returns-clause-written : goal.returns-clause-written
 returns-clause-written c =
     let found : IsEntryAt c.args.c c.in-Ok.at c.self.inside.entries.items = rw c.deref.ensures.value at c.in-Ok.ensures.found in
-    subst (λ (v : PageMapValue). IfOk c.page_for_writing.result (λ page. IsRewritten c.args.c c.args.i page v (page_map_of c.self.inside.format (set c.self.inside.entries.items c.in-Ok.at c.page_for_writing.new.self) c.page_for_writing.new.free))) c.self.view_is
+    subst (λ (v : PageMapValue). IfOk c.page_for_writing.result (λ page. IsRewritten c.args.c c.args.i page v (page_map_of c.self.inside.format (set c.self.inside.entries.items c.in-Ok.at (record (c.index_mut-entry.result.now) { heights = c.page_for_writing.new.self })) c.page_for_writing.new.free))) c.self.view_is
     (is_rewritten c.self.inside.format c.self.inside.entries.items c.self.inside.free c.self.invariant c.args.c c.in-Ok.at found c.index_mut-entry.result.now c.index_mut-entry.ensures.value
-    c.page_for_writing.new.self c.page_for_writing.new.free c.args.i c.page_for_writing.result c.page_for_writing.ensures.staged c.page_for_writing.ensures.restaged c.page_for_writing.ensures.same_kept c.page_for_writing.ensures.unchanged)
+    c.page_for_writing.new.self c.page_for_writing.new.free c.page_for_writing.ensures.committed c.page_for_writing.ensures.balanced c.args.i c.page_for_writing.result c.page_for_writing.ensures.staged)
 
 pub returns-clause-sure : goal.returns-clause-sure
 returns-clause-sure c =
@@ -57,6 +57,6 @@ returns-clause-sure c =
 pub returns-clause-rules : goal.returns-clause-rules
 returns-clause-rules c =
     let found : IsEntryAt c.args.c c.in-Ok.at c.self.inside.entries.items = rw c.deref.ensures.value at c.in-Ok.ensures.found in
-    mapped c.self.inside.format (set c.self.inside.entries.items c.in-Ok.at c.page_for_writing.new.self) c.page_for_writing.new.free
+    mapped c.self.inside.format (set c.self.inside.entries.items c.in-Ok.at (record (c.index_mut-entry.result.now) { heights = c.page_for_writing.new.self })) c.page_for_writing.new.free
     (kept_rewritten c.self.inside.format c.self.inside.entries.items c.self.inside.free c.self.invariant c.args.c c.in-Ok.at found c.index_mut-entry.result.now c.index_mut-entry.ensures.value
-    c.page_for_writing.new.self c.page_for_writing.new.free c.args.i c.page_for_writing.result c.page_for_writing.ensures.staged c.page_for_writing.ensures.restaged c.page_for_writing.ensures.same_kept c.page_for_writing.ensures.unchanged)
+    c.page_for_writing.new.self c.page_for_writing.new.free c.page_for_writing.ensures.committed c.page_for_writing.ensures.balanced c.args.i c.page_for_writing.result c.page_for_writing.ensures.staged c.page_for_writing.ensures.unchanged)

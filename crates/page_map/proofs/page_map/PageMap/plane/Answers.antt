@@ -1,11 +1,28 @@
-use Rattle.std.proofs.Common.{sym, subst}
-use Rattle.page_map.specs.declared.plane.Plane.{Plane}
-use Rattle.page_map.specs.Planes.{HasPlane}
-use Rattle.page_map.proofs.PlaneLookup.{no_levels, no_labels}
+use Rattle.std.proofs.Common.{◌≡◌, subst}
+use Rattle.std.specs.Prelude.{IfNone, IfSome}
+use Rattle.page_map.specs.PageMaps.{PageMapValue}
+use Rattle.page_map.specs.Planes.{HasPlane, HasPlaneAt}
+use Rattle.page_map.specs.TileEntries.{IsEntryAt, IsRoomAt}
+use Rattle.page_map.proofs.Lookup.{none_located, located-from_tile, plane_found, plane_none}
 use Rattle.page_map.proofs.page_map.PageMap.plane.Goals as goal
 
-pub returns-in-None-clause-none : goal.returns-in-None-clause-none
-returns-in-None-clause-none c = subst (λ (plane : Plane). ¬ HasPlane c.args.self.now.staged c.args.c plane) (sym c.in-Levels.is) (no_levels c.args.c c.args.self.now.staged c.in-None.ensures.none)
+pub returns-in-Ok-clause-found : goal.returns-in-Ok-clause-found
+returns-in-Ok-clause-found c =
+    let entries = c.self.inside.entries.items in
+    let found : IsEntryAt c.args.c c.in-Ok.at entries = rw c.deref.ensures.value at c.in-Ok.ensures.found in
+    subst (λ (v : PageMapValue). IfSome c.location.result (λ location. HasPlaneAt v.staged c.args.c c.args.plane location.now)) c.self.view_is
+    (plane_found c.self.inside.format entries c.self.inside.free c.self.invariant c.args.c c.in-Ok.at found c.index.result.now c.index.ensures c.args.plane c.location.result (rw c.plane.ensures at c.location.ensures))
 
-pub returns-in-None-kept-clause-none : goal.returns-in-None-kept-clause-none
-returns-in-None-kept-clause-none c = subst (λ (plane : Plane). ¬ HasPlane c.args.self.now.staged c.args.c plane) (sym c.in-Labels.is) (no_labels c.args.c c.args.self.now.staged c.in-None-kept.ensures.none)
+pub returns-in-Ok-clause-none : goal.returns-in-Ok-clause-none
+returns-in-Ok-clause-none c =
+    let entries = c.self.inside.entries.items in
+    let found : IsEntryAt c.args.c c.in-Ok.at entries = rw c.deref.ensures.value at c.in-Ok.ensures.found in
+    subst (λ (v : PageMapValue). IfNone c.location.result (¬ HasPlane v.staged c.args.c c.args.plane)) c.self.view_is
+    (plane_none c.self.inside.format entries c.self.inside.free c.self.invariant c.args.c c.in-Ok.at found c.index.result.now c.index.ensures c.args.plane c.location.result (rw c.plane.ensures at c.location.ensures))
+
+pub returns-in-Err-clause-none : goal.returns-in-Err-clause-none
+returns-in-Err-clause-none c =
+    let entries = c.self.inside.entries.items in
+    let room : IsRoomAt c.args.c c.in-Err.field-0 entries = rw c.deref.ensures.value at c.in-Err.ensures.absent in
+    subst (λ (v : PageMapValue). ¬ HasPlane v.staged c.args.c c.args.plane) c.self.view_is
+    (λ (t, (there, (at_corner, lies))). none_located c.args.c c.in-Err.field-0 entries room (located-from_tile c.args.c _ t there at_corner))

@@ -3,8 +3,7 @@ use Rattle.std.specs.Prelude.{OnOk}
 use Rattle.page_map.specs.PageMaps.{PageMapValue, IsLocated, IsPrepared}
 use Rattle.page_map.specs.TileEntries.{page_map_of}
 use Rattle.page_map.proofs.PageMapRules.{mapped}
-use Rattle.page_map.proofs.AtEntry.{present, room, no_entry}
-use Rattle.page_map.proofs.Preparing.{kept_prepared, is_prepared}
+use Rattle.page_map.proofs.AtEntry.{heights_present, room, kept_prepared, is_prepared, no_entry}
 use Rattle.page_map.proofs.page_map.PageMap.prepare.Goals as goal
 
 pub prepare-requires-clause-room : goal.prepare-requires-clause-room
@@ -13,13 +12,13 @@ prepare-requires-clause-room c =
 
 pub prepare-requires-clause-present : goal.prepare-requires-clause-present
 prepare-requires-clause-present c =
-    present c.self.inside.format c.self.inside.entries.items c.self.inside.free c.self.invariant c.args.c c.in-Ok.at (rw c.deref.ensures.value at c.in-Ok.ensures.found) c.index_mut-entry.result.now c.index_mut-entry.ensures.value
+    heights_present c.self.inside.format c.self.inside.entries.items c.self.inside.free c.self.invariant c.args.c c.in-Ok.at (rw c.deref.ensures.value at c.in-Ok.ensures.found) c.index_mut-entry.result.now c.index_mut-entry.ensures.value
     (subst (λ (v : PageMapValue). IsLocated c.args.c v.staged) (sym c.self.view_is) c.requires)
 
 pub invariant_of-self : goal.invariant_of-self
 invariant_of-self c =
     kept_prepared c.self.inside.format c.self.inside.entries.items c.self.inside.free c.self.invariant c.args.c c.in-Ok.at (rw c.deref.ensures.value at c.in-Ok.ensures.found) c.index_mut-entry.result.now c.index_mut-entry.ensures.value
-    c.prepare.new.self c.prepare.new.free c.prepare.result c.prepare.ensures.staged c.prepare.ensures.restaged c.prepare.ensures.same_kept c.prepare.ensures.unchanged
+    c.prepare.new.self c.prepare.new.free c.prepare.ensures.committed c.prepare.ensures.balanced c.prepare.result c.prepare.ensures.staged c.prepare.ensures.unchanged
 
 pub unreachable-requires : goal.unreachable-requires
 unreachable-requires c =
@@ -28,12 +27,12 @@ unreachable-requires c =
 
 pub returns-clause-prepared : goal.returns-clause-prepared
 returns-clause-prepared c =
-    subst (λ (v : PageMapValue). OnOk c.prepare.result (IsPrepared c.args.c v (page_map_of c.self.inside.format (set c.self.inside.entries.items c.in-Ok.at c.prepare.new.self) c.prepare.new.free))) c.self.view_is
+    subst (λ (v : PageMapValue). OnOk c.prepare.result (IsPrepared c.args.c v (page_map_of c.self.inside.format (set c.self.inside.entries.items c.in-Ok.at (record (c.index_mut-entry.result.now) { heights = c.prepare.new.self })) c.prepare.new.free))) c.self.view_is
     (is_prepared c.self.inside.format c.self.inside.entries.items c.self.inside.free c.self.invariant c.args.c c.in-Ok.at (rw c.deref.ensures.value at c.in-Ok.ensures.found) c.index_mut-entry.result.now c.index_mut-entry.ensures.value
-    c.prepare.new.self c.prepare.new.free c.prepare.result c.prepare.ensures.staged c.prepare.ensures.restaged c.prepare.ensures.same_kept c.prepare.ensures.unchanged)
+    c.prepare.new.self c.prepare.new.free c.prepare.ensures.committed c.prepare.ensures.balanced c.prepare.result c.prepare.ensures.staged)
 
 pub returns-clause-rules : goal.returns-clause-rules
 returns-clause-rules c =
-    mapped c.self.inside.format (set c.self.inside.entries.items c.in-Ok.at c.prepare.new.self) c.prepare.new.free
+    mapped c.self.inside.format (set c.self.inside.entries.items c.in-Ok.at (record (c.index_mut-entry.result.now) { heights = c.prepare.new.self })) c.prepare.new.free
     (kept_prepared c.self.inside.format c.self.inside.entries.items c.self.inside.free c.self.invariant c.args.c c.in-Ok.at (rw c.deref.ensures.value at c.in-Ok.ensures.found) c.index_mut-entry.result.now c.index_mut-entry.ensures.value
-    c.prepare.new.self c.prepare.new.free c.prepare.result c.prepare.ensures.staged c.prepare.ensures.restaged c.prepare.ensures.same_kept c.prepare.ensures.unchanged)
+    c.prepare.new.self c.prepare.new.free c.prepare.ensures.committed c.prepare.ensures.balanced c.prepare.result c.prepare.ensures.staged c.prepare.ensures.unchanged)

@@ -7,7 +7,8 @@ use Rattle.page_map.specs.PageMaps.{PageMapValue, IsLocated, IsAdded}
 use Rattle.page_map.specs.TileEntries.{IsKept, page_map_of}
 use Rattle.page_map.proofs.Room.{room_for_tile}
 use Rattle.page_map.proofs.PageMapRules.{mapped}
-use Rattle.page_map.proofs.EntryInserts.{with_fresh, new_entry}
+use Rattle.page_map.specs.TileEntries.{added_entry}
+use Rattle.page_map.proofs.EntryInserts.{with_fresh}
 use Rattle.page_map.proofs.Loading.{kept_inserted, is_inserted, kept_restaged, is_restaged}
 use Rattle.page_map.proofs.page_map.PageMap.tile_for_writing.Goals as goal
 
@@ -34,8 +35,8 @@ returns-in_err-location-clause-rules c =
 
 pub invariant_of-self-in-Ok : goal.invariant_of-self-in-Ok
 invariant_of-self-in-Ok c =
-    let set_is : set c.reserve.new.self.items c.in-Ok.at c.restage.new.self ≡ set c.self.inside.entries.items c.in-Ok.at (with_fresh c.index_mut-entry.result.now c.in_ok-location.location) =
-    ap (λ (l : List TileEntry). set l c.in-Ok.at c.restage.new.self) c.in_ok-reserve.ensures.items ∙ ap (λ (s : TileEntry). set c.self.inside.entries.items c.in-Ok.at s) c.restage.ensures in
+    let set_is : set c.reserve.new.self.items c.in-Ok.at (with_fresh c.index_mut-entry.result.now c.in_ok-location.location) ≡ set c.self.inside.entries.items c.in-Ok.at (with_fresh c.index_mut-entry.result.now c.in_ok-location.location) =
+    ap (λ (l : List TileEntry). set l c.in-Ok.at (with_fresh c.index_mut-entry.result.now c.in_ok-location.location)) c.in_ok-reserve.ensures.items in
     subst (λ (l : List TileEntry). IsKept c.self.inside.format l c.fresh_plane.new.free) (sym set_is)
     (kept_restaged c.self.inside.format c.self.inside.entries.items c.self.inside.free c.fresh_plane.new.free c.self.invariant c.args.c c.in_ok-location.location
     (record { index_pages = c.in_ok-location.ensures.index_pages ∙ c.index_pages.ensures; pages = c.in_ok-location.ensures.pages ∙ c.data_pages.ensures.value }) c.in_ok-location.ensures.taken (subst (λ (v : PageMapValue). length v.staged < v.format.capacity) (sym c.self.view_is) c.requires.room)
@@ -44,9 +45,9 @@ invariant_of-self-in-Ok c =
 
 pub invariant_of-self-in-Err : goal.invariant_of-self-in-Err
 invariant_of-self-in-Err c =
-    let insert_is : c.insert.new.self.items ≡ insert c.self.inside.entries.items c.in-Err.at (new_entry c.args.c c.in_ok-location.location) =
-    (rw (ok_from c.insert.result (sym c.is_err.ensures.value ∙ c.if-is_err.false)) at c.insert.ensures.items)
-    ∙ ap (λ (l : List TileEntry). insert l c.in-Err.at (new_entry c.args.c c.in_ok-location.location)) c.in_ok-reserve.ensures.items in
+    let insert_is : c.insert.new.self.items ≡ insert c.self.inside.entries.items c.in-Err.at (added_entry c.args.c c.in_ok-location.location) =
+    (rw (ok_from c.insert.result (sym c.is_err.ensures.value ∙ c.if-is_err.false), c.added-entry.ensures) at c.insert.ensures.items)
+    ∙ ap (λ (l : List TileEntry). insert l c.in-Err.at (added_entry c.args.c c.in_ok-location.location)) c.in_ok-reserve.ensures.items in
     subst (λ (l : List TileEntry). IsKept c.self.inside.format l c.fresh_plane.new.free) (sym insert_is)
     (kept_inserted c.self.inside.format c.self.inside.entries.items c.self.inside.free c.fresh_plane.new.free c.self.invariant c.args.c c.in_ok-location.location
     (record { index_pages = c.in_ok-location.ensures.index_pages ∙ c.index_pages.ensures; pages = c.in_ok-location.ensures.pages ∙ c.data_pages.ensures.value }) c.in_ok-location.ensures.taken (subst (λ (v : PageMapValue). length v.staged < v.format.capacity) (sym c.self.view_is) c.requires.room)
@@ -54,9 +55,9 @@ invariant_of-self-in-Err c =
 
 pub returns-in-Ok-clause-added : goal.returns-in-Ok-clause-added
 returns-in-Ok-clause-added c =
-    let set_is : set c.reserve.new.self.items c.in-Ok.at c.restage.new.self ≡ set c.self.inside.entries.items c.in-Ok.at (with_fresh c.index_mut-entry.result.now c.in_ok-location.location) =
-    ap (λ (l : List TileEntry). set l c.in-Ok.at c.restage.new.self) c.in_ok-reserve.ensures.items ∙ ap (λ (s : TileEntry). set c.self.inside.entries.items c.in-Ok.at s) c.restage.ensures in
-    subst (λ (v : PageMapValue). IsAdded c.args.c v (page_map_of c.self.inside.format (set c.reserve.new.self.items c.in-Ok.at c.restage.new.self) c.fresh_plane.new.free)) c.self.view_is
+    let set_is : set c.reserve.new.self.items c.in-Ok.at (with_fresh c.index_mut-entry.result.now c.in_ok-location.location) ≡ set c.self.inside.entries.items c.in-Ok.at (with_fresh c.index_mut-entry.result.now c.in_ok-location.location) =
+    ap (λ (l : List TileEntry). set l c.in-Ok.at (with_fresh c.index_mut-entry.result.now c.in_ok-location.location)) c.in_ok-reserve.ensures.items in
+    subst (λ (v : PageMapValue). IsAdded c.args.c v (page_map_of c.self.inside.format (set c.reserve.new.self.items c.in-Ok.at (with_fresh c.index_mut-entry.result.now c.in_ok-location.location)) c.fresh_plane.new.free)) c.self.view_is
     (subst (λ (l : List TileEntry). IsAdded c.args.c (page_map_of c.self.inside.format c.self.inside.entries.items c.self.inside.free) (page_map_of c.self.inside.format l c.fresh_plane.new.free)) (sym set_is)
     (is_restaged c.self.inside.format c.self.inside.entries.items c.self.inside.free c.fresh_plane.new.free c.self.invariant c.args.c c.in_ok-location.location
     (record { index_pages = c.in_ok-location.ensures.index_pages ∙ c.index_pages.ensures; pages = c.in_ok-location.ensures.pages ∙ c.data_pages.ensures.value }) c.in_ok-location.ensures.taken (subst (λ (v : PageMapValue). length v.staged < v.format.capacity) (sym c.self.view_is) c.requires.room)
@@ -65,9 +66,9 @@ returns-in-Ok-clause-added c =
 
 pub returns-in-Ok-clause-rules : goal.returns-in-Ok-clause-rules
 returns-in-Ok-clause-rules c =
-    let set_is : set c.reserve.new.self.items c.in-Ok.at c.restage.new.self ≡ set c.self.inside.entries.items c.in-Ok.at (with_fresh c.index_mut-entry.result.now c.in_ok-location.location) =
-    ap (λ (l : List TileEntry). set l c.in-Ok.at c.restage.new.self) c.in_ok-reserve.ensures.items ∙ ap (λ (s : TileEntry). set c.self.inside.entries.items c.in-Ok.at s) c.restage.ensures in
-    mapped c.self.inside.format (set c.reserve.new.self.items c.in-Ok.at c.restage.new.self) c.fresh_plane.new.free
+    let set_is : set c.reserve.new.self.items c.in-Ok.at (with_fresh c.index_mut-entry.result.now c.in_ok-location.location) ≡ set c.self.inside.entries.items c.in-Ok.at (with_fresh c.index_mut-entry.result.now c.in_ok-location.location) =
+    ap (λ (l : List TileEntry). set l c.in-Ok.at (with_fresh c.index_mut-entry.result.now c.in_ok-location.location)) c.in_ok-reserve.ensures.items in
+    mapped c.self.inside.format (set c.reserve.new.self.items c.in-Ok.at (with_fresh c.index_mut-entry.result.now c.in_ok-location.location)) c.fresh_plane.new.free
     (subst (λ (l : List TileEntry). IsKept c.self.inside.format l c.fresh_plane.new.free) (sym set_is)
     (kept_restaged c.self.inside.format c.self.inside.entries.items c.self.inside.free c.fresh_plane.new.free c.self.invariant c.args.c c.in_ok-location.location
     (record { index_pages = c.in_ok-location.ensures.index_pages ∙ c.index_pages.ensures; pages = c.in_ok-location.ensures.pages ∙ c.data_pages.ensures.value }) c.in_ok-location.ensures.taken (subst (λ (v : PageMapValue). length v.staged < v.format.capacity) (sym c.self.view_is) c.requires.room)
@@ -76,9 +77,9 @@ returns-in-Ok-clause-rules c =
 
 pub returns-else-is_err-clause-added : goal.returns-else-is_err-clause-added
 returns-else-is_err-clause-added c =
-    let insert_is : c.insert.new.self.items ≡ insert c.self.inside.entries.items c.in-Err.at (new_entry c.args.c c.in_ok-location.location) =
-    (rw (ok_from c.insert.result (sym c.is_err.ensures.value ∙ c.if-is_err.false)) at c.insert.ensures.items)
-    ∙ ap (λ (l : List TileEntry). insert l c.in-Err.at (new_entry c.args.c c.in_ok-location.location)) c.in_ok-reserve.ensures.items in
+    let insert_is : c.insert.new.self.items ≡ insert c.self.inside.entries.items c.in-Err.at (added_entry c.args.c c.in_ok-location.location) =
+    (rw (ok_from c.insert.result (sym c.is_err.ensures.value ∙ c.if-is_err.false), c.added-entry.ensures) at c.insert.ensures.items)
+    ∙ ap (λ (l : List TileEntry). insert l c.in-Err.at (added_entry c.args.c c.in_ok-location.location)) c.in_ok-reserve.ensures.items in
     subst (λ (v : PageMapValue). IsAdded c.args.c v (page_map_of c.self.inside.format c.insert.new.self.items c.fresh_plane.new.free)) c.self.view_is
     (subst (λ (l : List TileEntry). IsAdded c.args.c (page_map_of c.self.inside.format c.self.inside.entries.items c.self.inside.free) (page_map_of c.self.inside.format l c.fresh_plane.new.free)) (sym insert_is)
     (is_inserted c.self.inside.format c.self.inside.entries.items c.self.inside.free c.fresh_plane.new.free c.self.invariant c.args.c c.in_ok-location.location
@@ -87,9 +88,9 @@ returns-else-is_err-clause-added c =
 
 pub returns-else-is_err-clause-rules : goal.returns-else-is_err-clause-rules
 returns-else-is_err-clause-rules c =
-    let insert_is : c.insert.new.self.items ≡ insert c.self.inside.entries.items c.in-Err.at (new_entry c.args.c c.in_ok-location.location) =
-    (rw (ok_from c.insert.result (sym c.is_err.ensures.value ∙ c.if-is_err.false)) at c.insert.ensures.items)
-    ∙ ap (λ (l : List TileEntry). insert l c.in-Err.at (new_entry c.args.c c.in_ok-location.location)) c.in_ok-reserve.ensures.items in
+    let insert_is : c.insert.new.self.items ≡ insert c.self.inside.entries.items c.in-Err.at (added_entry c.args.c c.in_ok-location.location) =
+    (rw (ok_from c.insert.result (sym c.is_err.ensures.value ∙ c.if-is_err.false), c.added-entry.ensures) at c.insert.ensures.items)
+    ∙ ap (λ (l : List TileEntry). insert l c.in-Err.at (added_entry c.args.c c.in_ok-location.location)) c.in_ok-reserve.ensures.items in
     mapped c.self.inside.format c.insert.new.self.items c.fresh_plane.new.free
     (subst (λ (l : List TileEntry). IsKept c.self.inside.format l c.fresh_plane.new.free) (sym insert_is)
     (kept_inserted c.self.inside.format c.self.inside.entries.items c.self.inside.free c.fresh_plane.new.free c.self.invariant c.args.c c.in_ok-location.location

@@ -29,7 +29,7 @@ upgraded_planes-requires-clause-room c =
     let size : sectors_asked (upgraded format) ≤ free.range.sectors = subst (λ (v : PageMapValue). sectors_asked (upgraded v.format) ≤ v.sectors) (sym c.self.view_is) c.requires.room in
     let side : 3 ≤ format.side = subst (λ (f : Format). 3 ≤ f.side) c.upgraded-format.ensures c.side-side.ensures.rules.side_low in
     let all = room_to_upgrade format entries free kept (none_fresh format entries free kept clean) first side size in
-    room_next format entries free kept clean c.loop-entry.entry-index c.entry-item.result c.loop-entry-test.true c.entry-item.is c.in-Some.planes c.in-Some.is (3 * (1 + index_pages_of c.upgraded-format.result)) (len c.loop-entry.free.free)
+    room_next format entries free kept clean c.loop-entry.entry-index c.entry-item.result c.loop-entry-test.true c.entry-item.is c.in-Some.heights c.in-Some.is (3 * (1 + index_pages_of c.upgraded-format.result)) (len c.loop-entry.free.free)
     (subst (λ (f : Format). 3 * (1 + index_pages_of f) * length (committed_tiles entries) ≤ len free.free) (sym c.upgraded-format.ensures) all) c.loop-entry.invariant.left
 
 pub load-requires-clause-after : goal.load-requires-clause-after
@@ -37,15 +37,15 @@ load-requires-clause-after c =
     let entries = c.deref-entry-items.result.now in
     let kept : IsKept c.self.inside.format entries c.self.inside.free = rw c.deref-entry-items.ensures.value c.self.invariant in
     let clean : staged_tiles entries ≡ committed_tiles entries = rw c.deref-entry-items.ensures.value (subst (λ (v : PageMapValue). v.staged ≡ v.committed) (sym c.self.view_is) c.requires.clean) in
-    all_before c.self.inside.format entries c.self.inside.free kept clean c.loop-entry.entry-index c.entry-item.result c.loop-entry-test.true c.entry-item.is c.in-Some.planes c.in-Some.is c.loop-entry.page_map.committed c.loop-entry.invariant.alike
+    all_before c.self.inside.format entries c.self.inside.free kept clean c.loop-entry.entry-index c.entry-item.result c.loop-entry-test.true c.entry-item.is c.in-Some.heights c.in-Some.is c.loop-entry.page_map.committed c.loop-entry.invariant.alike
 
 pub load-requires-clause-room : goal.load-requires-clause-room
 load-requires-clause-room c =
     let entries = c.deref-entry-items.result.now in
     let kept : IsKept c.self.inside.format entries c.self.inside.free = rw c.deref-entry-items.ensures.value c.self.invariant in
     let clean : staged_tiles entries ≡ committed_tiles entries = rw c.deref-entry-items.ensures.value (subst (λ (v : PageMapValue). v.staged ≡ v.committed) (sym c.self.view_is) c.requires.clean) in
-    let long = made_long c.self.inside.format entries c.self.inside.free kept clean c.loop-entry.entry-index c.entry-item.result c.loop-entry-test.true c.entry-item.is c.in-Some.planes c.in-Some.is c.loop-entry.page_map.committed c.loop-entry.invariant.alike in
-    let below = room_below c.self.inside.format entries c.self.inside.free kept clean c.loop-entry.entry-index c.entry-item.result c.loop-entry-test.true c.entry-item.is c.in-Some.planes c.in-Some.is in
+    let long = made_long c.self.inside.format entries c.self.inside.free kept clean c.loop-entry.entry-index c.entry-item.result c.loop-entry-test.true c.entry-item.is c.in-Some.heights c.in-Some.is c.loop-entry.page_map.committed c.loop-entry.invariant.alike in
+    let below = room_below c.self.inside.format entries c.self.inside.free kept clean c.loop-entry.entry-index c.entry-item.result c.loop-entry-test.true c.entry-item.is c.in-Some.heights c.in-Some.is in
     let capacity = ap (λ (f : Format). f.capacity) (c.loop-entry.invariant.format ∙ c.upgraded-format.ensures) in
     omega (arith, long, below, capacity, kept.committed_room)
 
@@ -59,7 +59,7 @@ returns-in_err-page_map-2-clause-refused c =
     let s = c.entry-item.result in
     let kept : IsKept c.self.inside.format entries c.self.inside.free = rw c.deref-entry-items.ensures.value c.self.invariant in
     let clean : staged_tiles entries ≡ committed_tiles entries = rw c.deref-entry-items.ensures.value (subst (λ (v : PageMapValue). v.staged ≡ v.committed) (sym c.self.view_is) c.requires.clean) in
-    let keeps = rule c.self.inside.format entries c.self.inside.free kept clean c.loop-entry.entry-index s c.loop-entry-test.true c.entry-item.is c.in-Some.planes c.in-Some.is c.loop-entry.page_map.committed c.loop-entry.invariant.alike
+    let keeps = rule c.self.inside.format entries c.self.inside.free kept clean c.loop-entry.entry-index s c.loop-entry-test.true c.entry-item.is c.in-Some.heights c.in-Some.is c.loop-entry.page_map.committed c.loop-entry.invariant.alike
     c.in_ok-planes.planes (c.in_ok-planes.ensures.same_pages s.corner) c.loop-entry.free c.upgraded_planes.new.free c.loop-entry.invariant.taken c.in_ok-planes.ensures.taken in
     let p = err_from_is_err_and c.from_residual-in_err-page_map-2.result c.from_residual-in_err-page_map-2.ensures.1 in
     let ended : c.from_residual-in_err-page_map-2.result ≡ Err c.in_err-page_map-2.field-0.0 = p.1 ∙ ap (λ (r : Refusal). Err r) p.2 in
@@ -81,7 +81,7 @@ loop-entry-preserved c =
     let clean : staged_tiles entries ≡ committed_tiles entries = rw c.deref-entry-items.ensures.value (subst (λ (v : PageMapValue). v.staged ≡ v.committed) (sym c.self.view_is) c.requires.clean) in
     elim c.match-entry.branch [
       | in-Some+in_ok-planes+in_ok-page_map-2 w ↦
-          let planes = w.in-Some.planes in
+          let planes = w.in-Some.heights in
           let new = w.in_ok-planes.planes in
           let same = w.in_ok-planes.ensures.same_pages s.corner in
           let after = w.upgraded_planes.new.free in

@@ -1,11 +1,12 @@
-use Rattle.page_map.proofs.Entering.{staged_kept_in_use, dropped_restaged}
+use Rattle.page_map.specs.PlaneEntries.{fresh_in}
+use Rattle.page_map.proofs.FreeTimes.{in_use-first, in_use-rest, given-append}
 use Rattle.page_map.proofs.tile_entry.TileEntry.drop_kept.Goals as goal
 
-pub give_staged_kept-requires : goal.give_staged_kept-requires
-give_staged_kept-requires c =
-    rw c.replace-staged.ensures.value (staged_kept_in_use c.args.self.now c.in-Tile.heights c.in-Tile.kept c.in-Tile.is c.args.free.now c.requires.in_use)
+pub restage-requires : goal.restage-requires
+restage-requires c = in_use-first (fresh_in c.args.self.now.levels) (fresh_in c.args.self.now.labels) c.args.free.now c.requires
 
-pub returns-clause-restaged : goal.returns-clause-restaged
-returns-clause-restaged c =
-    rw c.replace-staged.ensures.after
-    (dropped_restaged c.args.self.now c.in-Tile.heights c.in-Tile.kept c.in-Tile.is c.args.free.now c.give_staged_kept.new.free (rw c.replace-staged.ensures.value at c.give_staged_kept.ensures))
+pub restage-requires-2 : goal.restage-requires-2
+restage-requires-2 c = in_use-rest (fresh_in c.args.self.now.levels) (fresh_in c.args.self.now.labels) c.args.free.now c.restage.new.free c.args.free.now c.requires c.restage.ensures.given
+
+pub returns-clause-given : goal.returns-clause-given
+returns-clause-given c = given-append (fresh_in c.args.self.now.levels) (fresh_in c.args.self.now.labels) c.args.free.now c.restage.new.free _ c.restage.ensures.given c.restage-2.ensures.given

@@ -1,5 +1,17 @@
-use Rattle.page_map.proofs.Entering.{removed_restaged}
+use Rattle.std.proofs.Common.{refl}
+use Rattle.page_map.specs.PlaneEntries.{fresh_in}
+use Rattle.page_map.specs.TileEntries.{fresh_kept}
+use Rattle.page_map.proofs.FreeTimes.{in_use-first, in_use-rest, given-append}
 use Rattle.page_map.proofs.tile_entry.TileEntry.remove.Goals as goal
 
-pub returns-clause-restaged : goal.returns-clause-restaged
-returns-clause-restaged c = removed_restaged c.args.self.now c.give_up.new.self c.args.free.now c.give_up.new.free c.give_up.ensures.ended c.give_up.ensures.committed
+pub restage-requires : goal.restage-requires
+restage-requires c = in_use-first (fresh_in c.args.self.now.heights) (fresh_kept c.args.self.now) c.args.free.now c.requires
+
+pub drop_kept-requires : goal.drop_kept-requires
+drop_kept-requires c = in_use-rest (fresh_in c.args.self.now.heights) (fresh_kept c.args.self.now) c.args.free.now c.restage.new.free c.args.free.now c.requires c.restage.ensures.given
+
+pub returns-clause-removed : goal.returns-clause-removed
+returns-clause-removed c = rw (c.drop_kept.ensures.dropped, c.restage.ensures.staged) refl
+
+pub returns-clause-given : goal.returns-clause-given
+returns-clause-given c = given-append (fresh_in c.args.self.now.heights) (fresh_kept c.args.self.now) c.args.free.now c.restage.new.free _ c.restage.ensures.given c.drop_kept.ensures.given

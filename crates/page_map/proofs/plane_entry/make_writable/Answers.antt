@@ -4,7 +4,7 @@ use Rattle.std.proofs.lemmas.List.{set-get_or}
 use Rattle.page_map.specs.Locations.{pages_behind}
 use Rattle.page_map.proofs.Times.{differing-less}
 use Rattle.page_map.proofs.Owning.{owned_already, owned_now, room_after}
-use Rattle.page_map.proofs.tile_entry.make_writable.Goals as goal
+use Rattle.page_map.proofs.plane_entry.make_writable.Goals as goal
 
 pub returns-then-not-stands_at-clause-moved : goal.returns-then-not-stands_at-clause-moved
 returns-then-not-stands_at-clause-moved c =

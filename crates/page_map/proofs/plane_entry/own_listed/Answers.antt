@@ -1,8 +1,8 @@
 use Rattle.std.proofs.Common.{arith}
 use Rattle.std.proofs.lemmas.List.{length-append}
 use Rattle.page_map.proofs.Owning.{owned_alone, owned_listed}
-use Rattle.page_map.proofs.tile_entry.own_listed.Goals as goal
-use Rattle.page_map.proofs.tile_entry.own_listed.Goals.{then-index_page-count, else-index_page-count}
+use Rattle.page_map.proofs.plane_entry.own_listed.Goals as goal
+use Rattle.page_map.proofs.plane_entry.own_listed.Goals.{then-index_page-count, else-index_page-count}
 
 pub overflow_add-count : goal.overflow_add-count
 overflow_add-count c =

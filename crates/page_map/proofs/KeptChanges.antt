@@ -1,0 +1,261 @@
+-- A tile staged without its kept planes or with others, and one that is taken out.
+use Rattle.std.proofs.Common.{◌≡◌, ℕ, suc, ◌+◌, ◌*◌, ◌≤◌, Bool, true, false, cond, not, if◌then◌else◌, List, [], ◌∷◌, ◌++◌, length, take, drop, get_or, set, refl, sym, ap, subst, ◌∙◌, arith}
+use Rattle.std.specs.Prelude.{Option, Some, None, IsSome, is_some, IfSome, Contains, All, Result, Ok, Err, OnOk, OnErr, filter, ◌||◌}
+use Rattle.std.specs.List.{flat_map}
+use Rattle.std.proofs.lemmas.Bool.{false≢true}
+use Rattle.std.proofs.lemmas.List.{length-append}
+use Rattle.lattice.specs.Corners.{Corner}
+use Rattle.lattice.specs.declared.refusal.Refusal.{Refusal}
+use Rattle.page_codec.specs.Formats.{Format}
+use Rattle.page_codec.specs.Sizes.{plane_pages_of}
+use Rattle.page_map.specs.FreePages.{FreePages, AreBalanced, AreGiven, AreInUse}
+use Rattle.page_map.specs.declared.locations.KeptLocations.{KeptLocations}
+use Rattle.page_map.specs.declared.plane_entry.Staged.{Staged}
+use Rattle.page_map.specs.declared.plane_entry.Staged.TheVariants.{AsCommitted, Dropped, Fresh}
+use Rattle.page_map.specs.declared.tile_entry.TileEntry.{TileEntry}
+use Rattle.page_map.specs.Locations.{PlaneLocation, IsWholePlane, pages_of_plane, times}
+use Rattle.page_map.specs.PlaneEntries.{fresh_as, fresh_in, staged_as, staged_plane}
+use Rattle.page_map.specs.TileLocations.{TileLocation, pages_of_kept}
+use Rattle.page_map.specs.PageMaps.{AreKept, IsFresh, IsLocated, PageMapValue, HasFreshHeights, is_at, other_kept, tile_at, without_location}
+use Rattle.page_map.specs.TileEntries.{fresh_kept, fresh_pages, kept_of, page_map_of, staged_tile, staged_tiles, tile_of, tile_planes, used_pages, AreTogether, IsEntryAt, IsKept, IsKeptAnew, IsSound}
+use Rattle.page_map.proofs.Times.{all_numbers, one-self, times-append}
+use Rattle.page_map.proofs.PlaneChanges.{used_split}
+use Rattle.page_map.proofs.Room.{fresh_lengths, plane_few}
+use Rattle.page_map.proofs.Clean.{none_kept_at}
+use Rattle.page_map.proofs.EntryLists.{fresh_parts, used_parts}
+use Rattle.page_map.proofs.EntryChanges.{entry_fresh, kept_change, kept_unchanged, made_kept, made_page_map, no_more_kept, page_map_changed, staged_without}
+use Rattle.page_map.proofs.Lookup.{tile_here}
+use Rattle.page_map.proofs.AtEntry.{at_page_map, corner, heights_present, kept_as_set, kept_there, present, rising_there, set_is, sound, split}
+
+-- the same tile with other kept planes
+other_kept_planes : (c : Corner) (h l m k n : Option PlaneLocation) (t : TileLocation) → tile_of c h l m ≡ Some t → tile_of c h k n ≡ Some (record t { kept = kept_of k n })
+other_kept_planes c None l m k n t had = cc
+other_kept_planes c (Some h) l m k n t had =
+    let same : tile_at c (tile_planes h l m) ≡ t = cc in
+    ap (λ (u : TileLocation). let e : Option TileLocation = Some (record u { kept = kept_of k n }) in e) same
+
+bare_together : (h : Option PlaneLocation) → AreTogether h None None
+bare_together None = tt
+bare_together (Some h) = tt
+
+kept_together : (h : Option PlaneLocation) (l m : PlaneLocation) → IsSome h → AreTogether h (Some l) (Some m)
+kept_together None l m some = absurd (false≢true some)
+kept_together (Some h) l m some = tt
+
+some_tile : (o : Option TileLocation) → IsSome o → (t : TileLocation) × (o ≡ Some t)
+some_tile None some = absurd (false≢true some)
+some_tile (Some t) some = (t, refl)
+
+-- of entries of which no pages of kept planes were fresh, those of one entry alone are
+only_kept : (before : List TileEntry) (s new : TileEntry) (after : List TileEntry) → length (flat_map fresh_kept (before ++ s ∷ after)) ≡ 0 → length (flat_map fresh_kept (before ++ new ∷ after)) ≡ length (fresh_kept new)
+only_kept [] s new after none = omega (arith, none, length-append (fresh_kept s) (flat_map fresh_kept after), length-append (fresh_kept new) (flat_map fresh_kept after))
+only_kept (b ∷ before) s new after none =
+    let was = length-append (fresh_kept b) (flat_map fresh_kept (before ++ s ∷ after)) in
+    let later = only_kept before s new after (omega arith) in
+    omega (arith, none, later, length-append (fresh_kept b) (flat_map fresh_kept (before ++ new ∷ after)))
+
+length-filter-le : (p : TileLocation → Bool) (tiles : List TileLocation) → length (filter p tiles) ≤ length tiles
+length-filter-le p [] = omega arith
+length-filter-le p (t ∷ rest) = let later = length-filter-le p rest in elim (p t) as (λ b. length (cond b (t ∷ filter p rest) (filter p rest)) ≤ suc (length rest)) [ true ↦ omega arith | false ↦ omega arith ]
+
+pub fresh_in_use : (s : TileEntry) (free : FreePages) → AreInUse (used_pages s) free → AreInUse (fresh_pages s) free
+fresh_in_use s free in_use p = omega (arith, in_use p, used_parts p s, fresh_parts p s, used_split p s.heights, used_split p s.levels, used_split p s.labels)
+
+pub fresh_kept_in_use : (s : TileEntry) (free : FreePages) → AreInUse (used_pages s) free → AreInUse (fresh_kept s) free
+fresh_kept_in_use s free in_use p = omega (arith, fresh_in_use s free in_use p, times-append p (fresh_in s.heights) (fresh_kept s))
+
+pub none_here : (format : Format) (entries : List TileEntry) (free : FreePages) → IsKept format entries free → (c : Corner) (at : ℕ) → IsEntryAt c at entries → (s : TileEntry) → s ≡ get_or entries at s → flat_map fresh_pages entries ≡ [] → fresh_kept s ≡ []
+none_here format entries free kept c at found s is none =
+    none_kept_at (take at entries) s (drop (suc at) entries) (subst (λ (l : List TileEntry). flat_map fresh_pages l ≡ []) (split format entries free kept c at found s is) none)
+
+module _ (format : Format) (entries : List TileEntry) (free : FreePages) (kept : IsKept format entries free) (c : Corner) (at : ℕ) (found : IsEntryAt c at entries) (s : TileEntry) (is : s ≡ get_or entries at s)
+    (located : IsLocated c (staged_tiles entries)) (now : FreePages) where
+  abbrev before : List TileEntry
+  before = take at entries
+
+  abbrev after : List TileEntry
+  after = drop (suc at) entries
+
+  there : IsKept format (before ++ s ∷ after) free
+  there = kept_there format entries free kept c at found s is
+
+  own : IsSound format s
+  own = sound format entries free kept c at found s is
+
+  tile : (t : TileLocation) × (staged_tile s ≡ Some t)
+  tile = some_tile (staged_tile s) (present format entries free kept c at found s is located)
+
+  -- ---- other kept planes
+  module _ (g k : Staged) where
+    abbrev levels_as : Option PlaneLocation
+    levels_as = staged_as s.levels.committed g
+
+    abbrev labels_as : Option PlaneLocation
+    labels_as = staged_as s.labels.committed k
+
+    abbrev new : TileEntry
+    new = record s { levels = record (s.levels) { staged = g }; labels = record (s.labels) { staged = k } }
+
+    abbrev make : TileLocation → TileLocation
+    make t = record t { kept = kept_of levels_as labels_as }
+
+    has : staged_tile new ≡ Some (make tile.0)
+    has = other_kept_planes s.corner (staged_plane s.heights) (staged_plane s.levels) (staged_plane s.labels) levels_as labels_as tile.0 tile.1
+
+    module _ (balanced : AreBalanced (used_pages s) (used_pages new) free now) (levels_whole : IfSome levels_as (IsWholePlane format)) (labels_whole : IfSome labels_as (IsWholePlane format)) (together : AreTogether (staged_plane s.heights) levels_as labels_as) where
+      sound_now : IsSound format new
+      sound_now = record {
+        corner = own.corner;
+        heights = own.heights;
+        levels = record { committed = own.levels.committed; staged = levels_whole };
+        labels = record { committed = own.labels.committed; staged = labels_whole };
+        committed = own.committed;
+        staged = together;
+        filled = own.filled;
+      }
+
+      pub changed_kept : length (flat_map fresh_kept (before ++ new ∷ after)) ≤ 2 * plane_pages_of format → IsKept format (before ++ new ∷ after) now
+      changed_kept few = made_kept format before s new after free now there balanced refl refl tile.0 make tile.1 has sound_now few
+
+      pub changed_page_map : page_map_of format (set entries at new) now ≡ record (page_map_of format entries free) { staged = other_kept c (kept_of levels_as labels_as) (staged_tiles entries) }
+      changed_page_map =
+          at_page_map format entries free kept c at found s is new now (λ (d : Corner) (x y : PageMapValue). y ≡ record x { staged = other_kept d (kept_of levels_as labels_as) x.staged })
+          (made_page_map format before s new after free now there balanced refl refl tile.0 make tile.1 has)
+
+  -- ---- without kept planes
+  abbrev bare : TileEntry
+  bare = record s { levels = record (s.levels) { staged = Dropped }; labels = record (s.labels) { staged = Dropped } }
+
+  module _ (given : AreGiven (fresh_kept s) free now) where
+    bare_balanced : AreBalanced (used_pages s) (used_pages bare) free now
+    bare_balanced = record {
+      same_range = given.same_range;
+      each = λ p. omega (arith, given.each p, times-append p (fresh_in s.levels) (fresh_in s.labels), used_parts p s, used_parts p bare, used_split p s.levels, used_split p s.labels, used_split p bare.levels, used_split p bare.labels);
+    }
+
+    pub kept_bared : IsKept format (set entries at bare) now
+    kept_bared =
+        kept_as_set format entries free kept c at found s is bare now
+        (changed_kept Dropped Dropped bare_balanced tt tt (bare_together (staged_plane s.heights)) (omega (arith, there.kept_room, no_more_kept before s bare after (omega arith))))
+
+    pub is_bared : page_map_of format (set entries at bare) now ≡ record (page_map_of format entries free) { staged = other_kept c None (staged_tiles entries) }
+    is_bared = changed_page_map Dropped Dropped bare_balanced tt tt (bare_together (staged_plane s.heights))
+
+  -- ---- with kept planes on fresh pages
+  module _ (none : flat_map fresh_pages entries ≡ []) where
+    none_kept : length (flat_map fresh_kept (before ++ s ∷ after)) ≡ 0
+    none_kept =
+        let same = ap (λ (l : List TileEntry). length (flat_map fresh_kept l)) (split format entries free kept c at found s is) in
+        let nothing = ap length none in
+        omega (arith, same, nothing, fresh_lengths entries)
+
+    module _ (other : TileEntry) (balanced : AreBalanced (used_pages s) (used_pages other) free now) where
+      module _ (anew : IsKeptAnew format s other) where
+        abbrev locations : KeptLocations
+        locations = record { levels = anew.levels; labels = anew.labels }
+
+        abbrev fresh_entry : TileEntry
+        fresh_entry = record s { levels = record (s.levels) { staged = Fresh anew.levels }; labels = record (s.labels) { staged = Fresh anew.labels } }
+
+        fresh_balanced : AreBalanced (used_pages s) (used_pages fresh_entry) free now
+        fresh_balanced = subst (λ (x : TileEntry). AreBalanced (used_pages s) (used_pages x) free now) anew.changed balanced
+
+        together : AreTogether (staged_plane s.heights) (Some anew.levels) (Some anew.labels)
+        together = kept_together (staged_plane s.heights) anew.levels anew.labels (heights_present format entries free kept c at found s is located)
+
+        fresh_is : fresh_kept fresh_entry ≡ pages_of_kept (Some locations)
+        fresh_is = subst (λ (x : TileEntry). fresh_kept x ≡ pages_of_kept (Some locations)) anew.changed anew.fresh
+
+        fresh_there : IsKept format (before ++ fresh_entry ∷ after) now
+        fresh_there =
+            changed_kept (Fresh anew.levels) (Fresh anew.labels) fresh_balanced anew.whole_levels anew.whole_labels together
+            (let size = ap length fresh_is in
+            omega (arith, size, only_kept before s fresh_entry after none_kept, length-append (pages_of_plane anew.levels) (pages_of_plane anew.labels), plane_few format anew.levels anew.whole_levels, plane_few format anew.labels anew.whole_labels))
+
+        anew_there : IsKept format (before ++ other ∷ after) now
+        anew_there = subst (λ (x : TileEntry). IsKept format (before ++ x ∷ after) now) (sym anew.changed) fresh_there
+
+        kept_now : AreKept c (page_map_of format entries free) (page_map_of format (set entries at other) now)
+        kept_now =
+            subst (λ (x : TileEntry). AreKept c (page_map_of format entries free) (page_map_of format (set entries at x) now)) (sym anew.changed)
+            (record {
+              locations = locations;
+              whole = record { levels = anew.whole_levels; labels = anew.whole_labels };
+              fresh = subst (λ (l : List TileEntry). All (IsFresh (page_map_of format l now)) (pages_of_kept (Some locations))) (sym (set_is format entries free kept c at found s is fresh_entry now))
+                  (all_numbers (IsFresh (page_map_of format (before ++ fresh_entry ∷ after) now)) (pages_of_kept (Some locations)) (λ p some.
+                  entry_fresh format before fresh_entry after now fresh_there p
+                  (let same = ap (times p) fresh_is in omega (arith, some, same, times-append p (fresh_in s.heights) (fresh_kept fresh_entry)))));
+              changed = changed_page_map (Fresh anew.levels) (Fresh anew.labels) fresh_balanced anew.whole_levels anew.whole_labels together;
+            })
+
+      module _ (r : Result (Unit {0}) Refusal) (told : OnOk r (IsKeptAnew format s other)) where
+        pub kept_anew : OnErr r (other ≡ s) → IsKept format (set entries at other) now
+        kept_anew unchanged = kept_as_set format entries free kept c at found s is other now (by r told unchanged)
+          where
+            by : (q : Result (Unit {0}) Refusal) → OnOk q (IsKeptAnew format s other) → OnErr q (other ≡ s) → IsKept format (before ++ other ∷ after) now
+            by (Ok done) anew same = anew_there anew
+            by (Err refusal) anew same = kept_unchanged format before s other after free now there balanced same
+
+        pub are_kept : OnOk r (AreKept c (page_map_of format entries free) (page_map_of format (set entries at other) now))
+        are_kept = by r told
+          where
+            by : (q : Result (Unit {0}) Refusal) → OnOk q (IsKeptAnew format s other) → OnOk q (AreKept c (page_map_of format entries free) (page_map_of format (set entries at other) now))
+            by (Ok done) anew = kept_now anew
+            by (Err refusal) anew = tt
+
+  -- ---- a tile taken out
+  abbrev without : TileEntry
+  without = record s { heights = record (s.heights) { staged = Dropped }; levels = record (s.levels) { staged = Dropped }; labels = record (s.labels) { staged = Dropped } }
+
+  module _ (settled : ¬ HasFreshHeights c (page_map_of format entries free)) (given : AreGiven (fresh_pages s) free now) where
+    without_balanced : AreBalanced (used_pages s) (used_pages without) free now
+    without_balanced = record {
+      same_range = given.same_range;
+      each = λ p. omega (arith, given.each p, fresh_parts p s, used_parts p s, used_parts p without, used_split p s.heights, used_split p s.levels, used_split p s.labels, used_split p without.heights, used_split p without.levels, used_split p without.labels);
+    }
+
+    -- heights that aren't fresh are the committed ones
+    was_committed : is_some s.heights.committed ≡ true
+    was_committed = by s.heights.committed s.heights.staged refl (heights_present format entries free kept c at found s is located)
+      where
+        by : (o : Option PlaneLocation) (g : Staged) → s.heights.staged ≡ g → IsSome (staged_as o g) → is_some o ≡ true
+        by o AsCommitted same some = some
+        by o Dropped same some = absurd (false≢true some)
+        by o (Fresh location) same some =
+            let t : TileLocation = tile_at s.corner (tile_planes location (staged_plane s.levels) (staged_plane s.labels)) in
+            let had : staged_tile s ≡ Some t = ap (λ (x : Staged). tile_of s.corner (staged_as s.heights.committed x) (staged_plane s.levels) (staged_plane s.labels)) same in
+            absurd (settled (
+              t,
+              (
+                subst (λ (l : List TileEntry). Contains (staged_tiles l) t) (sym (split format entries free kept c at found s is)) (tile_here before s after (rising_there format entries free kept c at found s is) t had),
+                corner format entries free kept c at found s is,
+                subst (λ (l : List TileEntry). IsFresh (page_map_of format l free) location.record_page) (sym (split format entries free kept c at found s is))
+                    (entry_fresh format before s after free there location.record_page
+                    (let own = ap (λ (x : Staged). times location.record_page (fresh_as s.heights.committed x)) same in
+                    omega (arith, own, one-self location.record_page, times-append location.record_page (fresh_in s.heights) (fresh_kept s)))),
+              ),
+            ))
+
+    removed_tiles : staged_tiles (before ++ without ∷ after) ≡ without_location s.corner (staged_tiles (before ++ s ∷ after))
+    removed_tiles = staged_without before s after (rising_there format entries free kept c at found s is) tile.0 tile.1 without refl
+
+    pub kept_removed : IsKept format (set entries at without) now
+    kept_removed =
+        kept_as_set format entries free kept c at found s is without now
+        (kept_change format before s without after free now there refl refl
+        (record {
+          corner = own.corner;
+          heights = record { committed = own.heights.committed; staged = tt };
+          levels = record { committed = own.levels.committed; staged = tt };
+          labels = record { committed = own.labels.committed; staged = tt };
+          committed = own.committed;
+          staged = tt;
+          filled = was_committed;
+        })
+        (rw removed_tiles (let fewer = length-filter-le (λ t. not (is_at s.corner t)) (staged_tiles (before ++ s ∷ after)) in omega (arith, fewer, there.staged_room)))
+        (omega (arith, there.kept_room, no_more_kept before s without after (omega arith))) without_balanced)
+
+    pub is_removed : page_map_of format (set entries at without) now ≡ record (page_map_of format entries free) { staged = without_location c (staged_tiles entries) }
+    is_removed =
+        at_page_map format entries free kept c at found s is without now (λ (d : Corner) (x y : PageMapValue). y ≡ record x { staged = without_location d x.staged })
+        (page_map_changed format before s without after free now without_balanced.same_range refl _ removed_tiles)
