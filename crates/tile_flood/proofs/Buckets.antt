@@ -1,11 +1,11 @@
 -- What waits when one bucket of the queue changes.
-use Rattle.std.proofs.Common.{◌≡◌, ◌≢◌, ℕ, zero, suc, ◌+◌, ◌<◌, ◌≤◌, ℤ, pos, ◌+ℤ◌, ◌-ℤ◌, ◌≤ℤ◌, ◌<ℤ◌, nat_abs, sum_by, List, [], ◌∷◌, ◌++◌, length, map, get_or, set, ◌⊎◌, inl, inr, Contains, refl, sym, ap, ◌∙◌, subst, arith, length-set, get_or-set_same, get_or-set_other, length-append}
+use Rattle.std.proofs.Common.{◌≡◌, ◌≢◌, ℕ, zero, suc, ◌+◌, ◌<◌, ◌≤◌, ℤ, pos, ◌+ℤ◌, ◌-ℤ◌, ◌≤ℤ◌, ◌<ℤ◌, nat_abs, sum_by, List, [], ◌∷◌, ◌++◌, length, map, get_or, set, ◌⊎◌, inl, inr, Contains, refl, sym, ap, ap₂, ◌∙◌, ◌-◌, subst, arith, length-set, get_or-set_same, get_or-set_other, length-append}
 use Rattle.std.proofs.lemmas.Bool.{cases_eq, cases_lt}
 use Rattle.std.proofs.lemmas.Int.{ints}
-use Rattle.std.proofs.lemmas.List.{get_or_past}
-use Rattle.std.proofs.lemmas.List.Sums.{sum_by-set, sum_by-cons}
+use Rattle.std.proofs.lemmas.List.{get_or_past, get_or_append_left, get_or-append-add, get_or-append_right, map-append}
+use Rattle.std.proofs.lemmas.List.Sums.{sum_by-set, sum_by-cons, sum_by-append}
 use Rattle.std.proofs.lemmas.List.Elements.{Contains-append_cases, Contains-append_left, Contains-append_right}
-use Rattle.tile_flood.specs.Waiting.{Queue, bucket, Waits, HasBucket, waiting, AreEmptyBelow, IsJoined, IsTaken}
+use Rattle.tile_flood.specs.Waiting.{Queue, bucket, Waits, HasBucket, waiting, AreEmpty, AreEmptyBelow, IsExtended, IsJoined, IsTaken}
 
 -- these buckets, the first for the least level
 abbrev pub from_level : ℤ → List (List ℕ) → Queue
@@ -15,7 +15,7 @@ only_one : (e f : ℕ) → Contains (e ∷ []) f → f ≡ e
 only_one e f (zero, below, is) = sym is
 only_one e f (suc k, below, is) = absurd (omega arith)
 
-none_in : (f : ℕ) (xs : List ℕ) → xs ≡ [] → Contains xs f → ⊥
+pub none_in : (f : ℕ) (xs : List ℕ) → xs ≡ [] → Contains xs f → ⊥
 none_in f xs empty (k, below, is) = let none : length xs ≡ 0 = ap length empty in absurd (omega arith)
 
 -- a list of buckets where one is another
@@ -38,25 +38,14 @@ module _ (least : ℤ) (bs : List (List ℕ)) (k : ℕ) (v : List ℕ) (inside :
     | inr other ↦ inr (b, (is, subst (λ xs. Contains xs f) (elsewhere b other) has))
   ]
 
--- what waits has its bucket
-pub has_bucket : (queue : Queue) (l : ℤ) (f : ℕ) → Waits queue l f → HasBucket queue l
-has_bucket queue l f (b, (is, has)) = elim (cases_lt b (length queue.buckets)) [
-  | inl inside ↦ record { number = b; inside = inside; at = is }
-  | inr out ↦ absurd (none_in f (bucket queue.buckets b) (get_or_past queue.buckets b [] out) has)
-]
-
 -- the level's bucket has this number
 pub number_inside : (queue : Queue) (level : ℤ) (k : ℕ) → HasBucket queue level → level ≡ queue.least +ℤ pos k → k < length queue.buckets
 number_inside queue level k has is = let inside = has.inside in let at = has.at in omega (arith, ints)
-
-kept_buckets : (least : ℤ) (bs : List (List ℕ)) (k : ℕ) (v : List ℕ) (l : ℤ) → HasBucket (from_level least bs) l → HasBucket (from_level least (set bs k v)) l
-kept_buckets least bs k v l has = record { number = has.number; inside = let long = length-set bs k v in let inside = has.inside in omega arith; at = has.at }
 
 -- a point joins bucket k
 module _ (least : ℤ) (bs : List (List ℕ)) (k e : ℕ) (inside : k < length bs) where
   pub joins : IsJoined (from_level least bs) (from_level least (set bs k (bucket bs k ++ e ∷ []))) (least +ℤ pos k) e
   joins = record {
-    buckets = kept_buckets least bs k (bucket bs k ++ e ∷ []);
     waits = (k, (refl, subst (λ xs. Contains xs e) (sym (there least bs k (bucket bs k ++ e ∷ []) inside)) (Contains-append_right (bucket bs k) (e ∷ []) e (0, omega arith, refl))));
     others = λ l f w. into least bs k (bucket bs k ++ e ∷ []) inside l f w (λ has. Contains-append_left (bucket bs k) (e ∷ []) f has);
     only = λ l f w. elim (back least bs k (bucket bs k ++ e ∷ []) inside l f w) [
@@ -78,7 +67,6 @@ module _ (least : ℤ) (bs : List (List ℕ)) (k e : ℕ) (inside : k < length b
 module _ (least : ℤ) (bs : List (List ℕ)) (k e : ℕ) (rest : List ℕ) (inside : k < length bs) (is : bucket bs k ≡ rest ++ e ∷ []) (low : AreEmptyBelow bs k) where
   pub takes : IsTaken (from_level least bs) (from_level least (set bs k rest)) (least +ℤ pos k) e
   takes = record {
-    buckets = kept_buckets least bs k rest;
     waited = (k, (refl, subst (λ xs. Contains xs e) (sym is) (Contains-append_right rest (e ∷ []) e (0, omega arith, refl))));
     lowest = λ l f w. elim (cases_lt w.0 k) [
       | inl below ↦ absurd (none_in f (bucket bs w.0) (low w.0 below) w.1.1)
@@ -103,6 +91,14 @@ module _ (least : ℤ) (bs : List (List ℕ)) (k e : ℕ) (rest : List ℕ) (ins
       let long : length (bucket bs k) ≡ length rest + 1 = ap length is ∙ length-append rest (e ∷ []) in
       omega arith
 
+-- a point joins what was extended
+pub joined_extended : (old between new : Queue) (level : ℤ) (e : ℕ) → IsExtended old between → IsJoined between new level e → IsJoined old new level e
+joined_extended old between new level e extended joined = record {
+  waits = joined.waits;
+  others = λ l f w. joined.others l f (extended.still l f w);
+  only = λ l f w. elim (joined.only l f w) [ inl is ↦ inl is | inr waited ↦ inr (extended.only l f waited) ];
+}
+
 pub nobody : (least : ℤ) (bs : List (List ℕ)) (k : ℕ) → AreEmptyBelow bs k → ((b : ℕ) → k ≤ b → bucket bs b ≡ []) → (l : ℤ) (f : ℕ) → Waits (from_level least bs) l f → ⊥
 nobody least bs k low high l f w = elim (cases_lt w.0 k) [
   | inl below ↦ none_in f (bucket bs w.0) (low w.0 below) w.1.1
@@ -116,6 +112,66 @@ none_left (x ∷ xs) none = absurd (omega arith)
 -- how far the level is above the least
 number_from : (least level : ℤ) → least ≤ℤ level → (k : ℕ) × (level ≡ least +ℤ pos k)
 number_from least level low = (nat_abs (level -ℤ least), omega (arith, ints))
+
+no_count : (bs : List (List ℕ)) → AreEmpty bs → sum_by length bs ≡ 0
+no_count [] none = refl
+no_count (x ∷ bs) none =
+    let here : length x ≡ 0 = ap length (none 0) in
+    let later = no_count bs (λ b. none (suc b)) in
+    let both : length x + sum_by length bs ≡ 0 = omega arith in
+    sum_by-cons length x bs ∙ both
+
+-- empty buckets before the others and after them
+module _ (least : ℤ) (pre bs post : List (List ℕ)) (none_before : AreEmpty pre) (none_after : AreEmpty post) where
+  abbrev all : List (List ℕ)
+  all = (pre ++ bs) ++ post
+
+  abbrev extended : Queue
+  extended = from_level (least -ℤ pos (length pre)) all
+
+  before : (b : ℕ) → b < length pre → bucket all b ≡ []
+  before b below =
+      let long = length-append pre bs in
+      get_or_append_left (pre ++ bs) post [] b (omega arith) ∙ (get_or_append_left pre bs [] b below ∙ none_before b)
+
+  among : (b : ℕ) → bucket all (length pre + b) ≡ bucket bs b
+  among b =
+      let long = length-append pre bs in
+      elim (cases_lt b (length bs)) [
+        | inl inside ↦ get_or_append_left (pre ++ bs) post [] (length pre + b) (omega arith) ∙ get_or-append-add pre bs b []
+        | inr past ↦ get_or-append_right (pre ++ bs) post (length (pre ++ bs)) (length pre + b) [] refl (omega arith)
+            ∙ (none_after (length pre + b - length (pre ++ bs)) ∙ sym (get_or_past bs b [] past))
+      ]
+
+  pub extends : IsExtended (from_level least bs) extended
+  extends = record {
+    still = λ l e w. let at = w.1.0 in (length pre + w.0, (omega (arith, ints), subst (λ xs. Contains xs e) (sym (among w.0)) w.1.1));
+    only = λ l e w. elim (cases_lt w.0 (length pre)) [
+      | inl below ↦ absurd (none_in e (bucket all w.0) (before w.0 below) w.1.1)
+      | inr above ↦
+          let b : ℕ = w.0 - length pre in
+          let same : w.0 ≡ length pre + b = omega arith in
+          let at = w.1.0 in
+          (b, (omega (arith, ints), subst (λ xs. Contains xs e) (ap (bucket all) same ∙ among b) w.1.1))
+    ];
+    count = sum_by-append length (pre ++ bs) post ∙ (ap₂ (λ x y. x + y) (sum_by-append length pre bs ∙ ap (λ x. x + waiting (from_level least bs)) (no_count pre none_before)) (no_count post none_after) ∙ omega arith);
+  }
+
+  pub has_bucket : (level : ℤ) → (least -ℤ pos (length pre)) ≤ℤ level → (least ≤ℤ level → level <ℤ ((least +ℤ pos (length bs)) +ℤ pos (length post))) → HasBucket extended level
+  has_bucket level low high =
+      let inner = length-append pre bs in
+      let long = length-append (pre ++ bs) post in
+      let number = number_from (least -ℤ pos (length pre)) level low in
+      let k = number.0 in
+      let at = number.1 in
+      record {
+        number = k;
+        inside = elim (cases_lt k (length pre)) [
+          | inl below ↦ omega arith
+          | inr above ↦ let reached = high (omega (arith, ints)) in omega (arith, ints)
+        ];
+        at = at;
+      }
 
 -- the same for buckets that hold more than their lists
 module _ {V : Type 0} (items : V → List ℕ) where
@@ -157,27 +213,12 @@ module _ {V : Type 0} (items : V → List ℕ) where
         subst (λ x. bucket (map items xs) x ≡ []) (sym same) (bucket_of xs k v inside ∙ (ap items (sym is) ∙ none))
   ]
 
-  -- all buckets are empty
-  abbrev pub AreEmpty : List V → Type 0
-  AreEmpty [] = Unit {0}
-  AreEmpty (x ∷ xs) = (items x ≡ []) × AreEmpty xs
-
-  pub empty_more : (xs : List V) (v : V) → items v ≡ [] → AreEmpty xs → AreEmpty (xs ++ v ∷ [])
-  empty_more [] v is h = (is, tt)
-  empty_more (x ∷ xs) v is h = (h.0, empty_more xs v is h.1)
-
-  pub no_more : (xs : List V) → AreEmpty xs → (b : ℕ) → bucket (map items xs) b ≡ []
-  no_more [] h b = refl
-  no_more (x ∷ xs) h zero = h.0
-  no_more (x ∷ xs) h (suc b) = no_more xs h.1 b
-
-  pub no_count : (xs : List V) → AreEmpty xs → sum_by length (map items xs) ≡ 0
-  no_count [] h = refl
-  no_count (x ∷ xs) h =
-      let here : length (items x) ≡ 0 = ap length h.0 in
-      let later = no_count xs h.1 in
-      let both : length (items x) + sum_by length (map items xs) ≡ 0 = omega arith in
-      sum_by-cons length (items x) (map items xs) ∙ both
+  -- one empty bucket more
+  pub empty_more : (xs : List V) (v : V) → items v ≡ [] → AreEmpty (map items xs) → AreEmpty (map items (xs ++ v ∷ []))
+  empty_more [] v is none zero = is
+  empty_more [] v is none (suc b) = refl
+  empty_more (x ∷ xs) v is none zero = none 0
+  empty_more (x ∷ xs) v is none (suc b) = empty_more xs v is (λ k. none (suc k)) b
 
   -- the level's bucket is among them
   pub inside_of : (least : ℤ) (xs : List V) (queue : Queue) (level : ℤ) (k : ℕ) → from_level least (map items xs) ≡ queue → HasBucket queue level → level ≡ least +ℤ pos k → k < length xs
@@ -186,13 +227,26 @@ module _ {V : Type 0} (items : V → List ℕ) where
       let as_many = map_length xs in
       omega arith
 
-  -- each level from the least on has its bucket
-  pub buckets_from : (least level greatest : ℤ) (xs : List V) (count : ℕ) → length xs ≡ count → greatest <ℤ (least +ℤ pos count) → least ≤ℤ level → level ≤ℤ greatest →
-      HasBucket (from_level least (map items xs)) level
-  buckets_from least level greatest xs count long enough low high =
+  pub has_bucket_at : (least level : ℤ) (xs : List V) (queue : Queue) → from_level least (map items xs) ≡ queue → least ≤ℤ level → level <ℤ (least +ℤ pos (length xs)) → HasBucket queue level
+  has_bucket_at least level xs queue same low high =
       let number = number_from least level low in
       let as_many = map_length xs in
-      record { number = number.0; inside = let at = number.1 in omega (arith, ints); at = number.1 }
+      let at = number.1 in
+      subst (λ q. HasBucket q level) same (record { number = number.0; inside = omega (arith, ints); at = number.1 })
+
+  -- further buckets leave what waits as it was
+  pub extended_as : (least least' : ℤ) (pre xs post now : List V) (queue : Queue) (level : ℤ) → from_level least (map items xs) ≡ queue → AreEmpty (map items pre) → AreEmpty (map items post) → least' ≡ least -ℤ pos (length pre) → now ≡ (pre ++ xs) ++ post →
+      (least -ℤ pos (length pre)) ≤ℤ level → (least ≤ℤ level → level <ℤ ((least +ℤ pos (length xs)) +ℤ pos (length post))) → IsExtended queue (from_level least' (map items now)) × HasBucket (from_level least' (map items now)) level
+  extended_as least least' pre xs post now queue level same none_before none_after at is low high =
+      let parts : map items now ≡ (map items pre ++ map items xs) ++ map items post = ap (map items) is ∙ (map-append items (pre ++ xs) post ∙ ap (λ bs. bs ++ map items post) (map-append items pre xs)) in
+      let from : least' ≡ least -ℤ pos (length (map items pre)) = at ∙ ap (λ k. least -ℤ pos k) (sym (map_length pre)) in
+      let low : (least -ℤ pos (length (map items pre))) ≤ℤ level = subst (λ k. (least -ℤ pos k) ≤ℤ level) (sym (map_length pre)) low in
+      let high : least ≤ℤ level → level <ℤ ((least +ℤ pos (length (map items xs))) +ℤ pos (length (map items post))) =
+      subst (λ k. least ≤ℤ level → level <ℤ ((least +ℤ pos k) +ℤ pos (length (map items post)))) (sym (map_length xs)) (subst (λ k. least ≤ℤ level → level <ℤ ((least +ℤ pos (length xs)) +ℤ pos k)) (sym (map_length post)) high) in
+      subst (λ q. IsExtended q (from_level least' (map items now)) × HasBucket (from_level least' (map items now)) level) same
+      (subst (λ bs. IsExtended (from_level least (map items xs)) (from_level least' bs) × HasBucket (from_level least' bs) level) (sym parts)
+      (subst (λ l. IsExtended (from_level least (map items xs)) (from_level l ((map items pre ++ map items xs) ++ map items post)) × HasBucket (from_level l ((map items pre ++ map items xs) ++ map items post)) level) (sym from)
+      (extends least (map items pre) (map items xs) (map items post) none_before none_after, has_bucket least (map items pre) (map items xs) (map items post) none_before none_after level low high)))
 
   -- what a push into bucket k does, and what a pop out of it does
   module _ (least : ℤ) (xs : List V) (k e : ℕ) (old v : V) (queue : Queue) (level : ℤ) (inside : k < length xs)

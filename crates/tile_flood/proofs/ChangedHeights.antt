@@ -1,7 +1,7 @@
 -- Where levels begin to be lowered: at points whose heights changed, and at those beside them.
 use Rattle.std.proofs.Common.{◌≡◌, ◌≢◌, ℕ, ◌+◌, ◌*◌, ◌<◌, ℤ, ◌≤ℤ◌, false, IsTrue, List, [], ◌∷◌, ◌++◌, length, Contains, get_or, set, get_or-set_same, length-append, ◌⊎◌, inl, inr, refl, sym, ap, ◌∙◌, subst, arith, true≢false}
 use Rattle.std.specs.Int.{int_max}
-use Rattle.std.proofs.lemmas.Bool.{cases_Bool, cases_eq}
+use Rattle.std.proofs.lemmas.Bool.{cases_eq}
 use Rattle.std.proofs.Math.ListN.{get_or-append}
 use Rattle.std.proofs.Math.Seq.{get_or-append_seam}
 use Rattle.lattice.specs.Mosaic.{void}
@@ -13,13 +13,13 @@ use Rattle.tile_flood.specs.Blocks.{block_of}
 use Rattle.tile_flood.specs.Labelling.{IsLabelling}
 use Rattle.tile_flood.specs.Carried.{AreCarried}
 use Rattle.tile_flood.specs.Mending.{IsLabelledBefore}
-use Rattle.tile_flood.specs.Waiting.{Queue, Waits, IsJoined, HasEvery, WaitStill}
+use Rattle.tile_flood.specs.Waiting.{Queue, Waits, IsJoined, WaitInside, WaitStill}
 use Rattle.tile_flood.specs.Flooding.{is_marked}
 use Rattle.tile_flood.specs.Affected.{IsEntryOf, IsAffected, GrowsInto, IsAmong}
-use Rattle.tile_flood.specs.Lowering.{AreRelaxed, AreRelaxing, AreOutletsLow, IsReady, IsLowering, IsStarting}
+use Rattle.tile_flood.specs.Lowering.{AreRelaxed, AreRelaxing, AreOutletsLow, IsLowering, IsStarting}
 use Rattle.tile_flood.proofs.Squares.{linked_parts, solid_below}
 use Rattle.tile_flood.proofs.Dependence.{same_exit, same_link}
-use Rattle.tile_flood.proofs.Relaxation.{IsLoweredAt, lowered_as, lowering_marked, lowering_solid, ready_still}
+use Rattle.tile_flood.proofs.Relaxation.{IsLoweredAt, lowered_as, lowering_marked, lowering_solid}
 
 -- a carried labelling, where nothing was lowered
 pub lowering_start : (n : ℕ) (heights : List ℤ) (sinks : List ℕ) (levels : List ℤ) (labels : List ℕ) → IsLabelling (block_of n heights sinks) levels labels → AreCarried (block_of n heights sinks) levels labels → IsLowering (block_of n heights sinks) levels labels []
@@ -67,12 +67,12 @@ affected_still affected affected' e grows (j, (below, is)) = (j, ((grows j none 
     none = record { point = 0; level = void; label = 0 }
 
 -- nothing is affected yet
-pub starting : (n : ℕ) (heights : List ℤ) (sinks : List ℕ) (points : List ℕ) (levels : List ℤ) (labels : List ℕ) (queue : Queue) → IsLabelledBefore (block_of n heights sinks) points levels labels → HasEvery queue → ((l : ℤ) (e : ℕ) → Waits queue l e → ⊥) →
+pub starting : (n : ℕ) (heights : List ℤ) (sinks : List ℕ) (points : List ℕ) (levels : List ℤ) (labels : List ℕ) (queue : Queue) → IsLabelledBefore (block_of n heights sinks) points levels labels → ((l : ℤ) (e : ℕ) → Waits queue l e → ⊥) →
     IsStarting (block_of n heights sinks) points levels labels queue [] 0
-starting n heights sinks points levels labels queue before every nobody = record {
+starting n heights sinks points levels labels queue before nobody = record {
   heights₀ = before.heights;
   lowering = lowering_start n before.heights sinks levels labels before.labelling before.carried;
-  ready = record { every = every; inside = λ l e w. absurd (nobody l e w) };
+  inside = λ l e w. absurd (nobody l e w);
   ground = before.ground;
   others = λ e solid. elim (before.others e solid) [ inl same ↦ inl same | inr here ↦ inr (inr (among e here)) ];
   exits = λ e out. elim (before.others e ((block_is_lawful (block_of n heights sinks)).outlet_ground e out)) [
@@ -97,7 +97,7 @@ pub starting_passed : (n : ℕ) (heights : List ℤ) (sinks : List ℕ) (points 
 starting_passed n heights sinks points levels labels queue affected k p s is off = record {
   heights₀ = s.heights₀;
   lowering = s.lowering;
-  ready = s.ready;
+  inside = s.inside;
   ground = s.ground;
   others = λ e solid. elim (s.others e solid) [
     | inl same ↦ inl same
@@ -125,13 +125,13 @@ module _ (n : ℕ) (heights : List ℤ) (sinks : List ℕ) (points : List ℕ) (
   affected_ground = sym (s.ground p) ∙ lowering_solid n s.heights₀ sinks levels labels affected p s.lowering on
 
   pub starting_more : v ≢ void → v ≤ℤ get_or levels p void → (IsTrue (is_exit (block_of n heights sinks) p) → v ≤ℤ get_or heights p void) → (x : Affected) → IsEntryOf levels labels p x → IsJoined queue between v p →
-      levels' ≡ set levels p v → labels' ≡ labels → affected' ≡ affected ++ x ∷ [] → IsReady n queue' → WaitStill between queue' →
+      levels' ≡ set levels p v → labels' ≡ labels → affected' ≡ affected ++ x ∷ [] → WaitInside n queue' → WaitStill between queue' →
       ((y : ℕ) → y < n * n → IsTrue (is_beside n p y) → IsTrue (is_marked levels' y) → Waits queue' (get_or levels' y void) y) →
       IsStarting (block_of n heights sinks) points levels' labels' queue' affected' (k + 1)
-  starting_more full less low x entry joined at_levels at_labels at_affected ready still beside = record {
+  starting_more full less low x entry joined at_levels at_labels at_affected inside still beside = record {
     heights₀ = s.heights₀;
     lowering = after.state;
-    ready = ready;
+    inside = inside;
     ground = s.ground;
     others = λ e solid. elim (s.others e solid) [
       | inl same ↦ inl same
@@ -208,15 +208,3 @@ module _ (n : ℕ) (heights : List ℤ) (sinks : List ℕ) (points : List ℕ) (
 
   pub started_exits : AreOutletsLow (block_of n heights sinks) levels
   started_exits e out = elim (s.exits e out) [ inl low ↦ low | inr among ↦ absurd (among_none points e among) ]
-
--- what is left when a point is let wait, if it is marked
-pub record HasWaited (n : ℕ) (levels : List ℤ) (queue queue' : Queue) (e : ℕ) : Type 0 where
-  pub ready : IsReady n queue'
-  pub still : WaitStill queue queue'
-  pub waits : IsTrue (is_marked levels e) → Waits queue' (get_or levels e void) e
-
-pub has_waited : (n : ℕ) (levels : List ℤ) (queue queue' : Queue) (e : ℕ) → IsReady n queue → e < n * n → (IsTrue (is_marked levels e) → IsJoined queue queue' (get_or levels e void) e) → (is_marked levels e ≡ false → queue' ≡ queue) → HasWaited n levels queue queue' e
-has_waited n levels queue queue' e s small joined passed = elim (cases_Bool (is_marked levels e)) [
-  | inl on ↦ record { ready = ready_still n queue queue' (get_or levels e void) e s small (joined on); still = (joined on).others; waits = λ _. (joined on).waits }
-  | inr off ↦ record { ready = subst (IsReady n) (sym (passed off)) s; still = λ l f w. subst (λ q. Waits q l f) (sym (passed off)) w; waits = λ on. absurd (true≢false (sym on ∙ off)) }
-]

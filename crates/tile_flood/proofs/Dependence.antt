@@ -20,7 +20,7 @@ use Rattle.tile_flood.specs.Flooding.{is_marked, unmarked, lack}
 use Rattle.std.proofs.lemmas.List.Sums.{sum_by-cons}
 use Rattle.tile_flood.specs.Affected.{IsInWindow, IsEntryOf, AreKept, GrowsInto}
 use Rattle.tile_flood.specs.Clearing.{MayDependOn, HaveNoDependents, IsClearing, AreDependentsCleared}
-use Rattle.tile_flood.proofs.Squares.{not_void_if, test_if, linked_parts, solid_height, solid_below, cell_of, row_of_cell, column_of_cell, apart_of}
+use Rattle.tile_flood.proofs.Squares.{not_void_if, test_if, linked_parts, solid_height, solid_below, cell_of, row_of_cell, column_of_cell, apart_of, beside_if}
 
 -- where a carried label leads
 module _ (n : ℕ) (heights : List ℤ) (sinks : List ℕ) (levels : List ℤ) (labels : List ℕ) where
@@ -248,7 +248,14 @@ window_point_of n e y beside =
     let column : (r * 3 + q) % 3 ≡ q = column_of_cell 3 r q q_small in
     (r * 3 + q, (omega arith, (omega arith, omega arith)))
 
--- and of one number there is one
+-- and its points lie beside it
+pub window_beside : (n e d z : ℕ) → d < 9 → IsInWindow n e d z → IsTrue (is_beside n e z)
+window_beside n e d z small spot =
+    let row = spot.0 in
+    let column = spot.1 in
+    beside_if n e z (record { north = omega arith; south = omega arith; west = omega arith; east = omega arith })
+
+-- of one number there is one
 pub one_window_point : (n e d y z : ℕ) → IsInWindow n e d y → IsInWindow n e d z → y ≡ z
 one_window_point n e d y z a b =
     let ar = a.0 in

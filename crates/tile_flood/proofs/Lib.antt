@@ -1,6 +1,7 @@
 pub mod Buckets
 pub mod Squares
 pub mod Spreading
+pub mod Joining
 pub mod InCells
 pub mod Runs
 pub mod PlainRows

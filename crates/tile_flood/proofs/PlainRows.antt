@@ -1,11 +1,11 @@
--- Rows in which only the ends can be outlets.
+-- Runs of points of a row in which none can be an outlet.
 use Rattle.std.proofs.Common.{◌≡◌, ℕ, ◌+◌, ◌-◌, ◌*◌, ◌/◌, ◌%◌, ◌<◌, ◌≤◌, ℤ, Bool, true, false, not, IsTrue, ◌&&◌, ◌||◌, nat_eq, List, [], refl, sym, ap, ◌∙◌, subst, arith, inl, inr, true≢false}
 use Rattle.std.specs.List.{list_all}
 use Rattle.std.proofs.lemmas.Bool.{cases_lt, ne_eqb, and_from}
 use Rattle.lattice.specs.Block.{is_solid, is_exit, is_rim, is_sink_at, around}
 use Rattle.tile_flood.specs.Blocks.{block_of, bare_block}
 use Rattle.tile_flood.specs.Waiting.{Queue}
-use Rattle.tile_flood.specs.Flooding.{IsFullRow, IsPlainRow, IsSeeding}
+use Rattle.tile_flood.specs.Flooding.{IsFullSpan, IsPlainSpan, IsSeeding}
 use Rattle.tile_flood.proofs.Squares.{row_of_cell, column_of_cell}
 
 none_of : (a b d e : Bool) → a ≡ false → b ≡ false → d ≡ false → e ≡ false → (a || b || d || e) ≡ false
@@ -23,36 +23,34 @@ off_rim n i j north south west east =
     none_of (nat_eq (e / n) 0) (nat_eq (e / n + 1) n) (nat_eq (e % n) 0) (nat_eq (e % n + 1) n)
     (ne_eqb (e / n) 0 (λ h. absurd (omega arith))) (ne_eqb (e / n + 1) n (λ h. absurd (omega arith))) (ne_eqb (e % n) 0 (λ h. absurd (omega arith))) (ne_eqb (e % n + 1) n (λ h. absurd (omega arith)))
 
--- with three full rows the points of the middle one have ground around them
-module _ (n : ℕ) (heights : List ℤ) (i : ℕ) (above : IsFullRow n heights i) (here : IsFullRow n heights (i + 1)) (below : IsFullRow n heights (i + 1 + 1)) where
-  solid : ℕ → Bool
-  solid e = is_solid (bare_block n heights) e
+-- with three full runs the points of the middle one have ground around them
+module _ (n : ℕ) (heights : List ℤ) (i from to : ℕ) (high : to < n) (above : IsFullSpan n heights i (from - 1) (to + 1)) (here : IsFullSpan n heights (i + 1) (from - 1) (to + 1)) (below : IsFullSpan n heights (i + 1 + 1) (from - 1) (to + 1)) where
+  at : (e : ℕ) (row column : ℕ) → IsFullSpan n heights row (from - 1) (to + 1) → from - 1 ≤ column → column < to + 1 → e ≡ row * n + column → IsTrue (is_solid (bare_block n heights) e)
+  at e row column full west east is = subst (λ z. IsTrue (is_solid (bare_block n heights) z)) (sym is) (full column west east)
 
-  at : (e : ℕ) (row column : ℕ) → IsFullRow n heights row → column < n → e ≡ row * n + column → IsTrue (is_solid (bare_block n heights) e)
-  at e row column full small is = subst (λ z. IsTrue (is_solid (bare_block n heights) z)) (sym is) (full column small)
-
-  pub enclosed : (j : ℕ) → 0 < j → j + 1 < n → list_all (is_solid (bare_block n heights)) (around n ((i + 1) * n + j)) ≡ true
-  enclosed j west east =
+  pub enclosed : (j : ℕ) → 0 < from → from ≤ j → j < to → list_all (is_solid (bare_block n heights)) (around n ((i + 1) * n + j)) ≡ true
+  enclosed j some west east =
       let e : ℕ = (i + 1) * n + j in
       let s = is_solid (bare_block n heights) in
-      and_from (s (e - n - 1)) _ (at (e - n - 1) i (j - 1) above (omega arith) (omega arith))
-      (and_from (s (e - n)) _ (at (e - n) i j above (omega arith) (omega arith))
-      (and_from (s (e - n + 1)) _ (at (e - n + 1) i (j + 1) above east (omega arith))
-      (and_from (s (e - 1)) _ (at (e - 1) (i + 1) (j - 1) here (omega arith) (omega arith))
-      (and_from (s (e + 1)) _ (at (e + 1) (i + 1) (j + 1) here east (omega arith))
-      (and_from (s (e + n - 1)) _ (at (e + n - 1) (i + 1 + 1) (j - 1) below (omega arith) (omega arith))
-      (and_from (s (e + n)) _ (at (e + n) (i + 1 + 1) j below (omega arith) (omega arith))
-      (and_from (s (e + n + 1)) _ (at (e + n + 1) (i + 1 + 1) (j + 1) below east (omega arith)) refl)))))))
+      and_from (s (e - n - 1)) _ (at (e - n - 1) i (j - 1) above (omega arith) (omega arith) (omega arith))
+      (and_from (s (e - n)) _ (at (e - n) i j above (omega arith) (omega arith) (omega arith))
+      (and_from (s (e - n + 1)) _ (at (e - n + 1) i (j + 1) above (omega arith) (omega arith) (omega arith))
+      (and_from (s (e - 1)) _ (at (e - 1) (i + 1) (j - 1) here (omega arith) (omega arith) (omega arith))
+      (and_from (s (e + 1)) _ (at (e + 1) (i + 1) (j + 1) here (omega arith) (omega arith) (omega arith))
+      (and_from (s (e + n - 1)) _ (at (e + n - 1) (i + 1 + 1) (j - 1) below (omega arith) (omega arith) (omega arith))
+      (and_from (s (e + n)) _ (at (e + n) (i + 1 + 1) j below (omega arith) (omega arith) (omega arith))
+      (and_from (s (e + n + 1)) _ (at (e + n + 1) (i + 1 + 1) (j + 1) below (omega arith) (omega arith) (omega arith)) refl)))))))
 
-pub plain_if : (n : ℕ) (heights : List ℤ) (sinks : List ℕ) (i : ℕ) → sinks ≡ [] → 0 < i → i + 1 < n → IsFullRow n heights (i - 1) → IsFullRow n heights i → IsFullRow n heights (i + 1) → IsPlainRow (block_of n heights sinks) i
-plain_if n heights sinks i none north south above here below j west east =
+pub plain_if : (n : ℕ) (heights : List ℤ) (sinks : List ℕ) (i from to : ℕ) → sinks ≡ [] → 0 < i → i + 1 < n → 0 < from → to < n → IsFullSpan n heights (i - 1) (from - 1) (to + 1) → IsFullSpan n heights i (from - 1) (to + 1) → IsFullSpan n heights (i + 1) (from - 1) (to + 1)
+    → IsPlainSpan (block_of n heights sinks) i from to
+plain_if n heights sinks i from to none north south some high above here below j west east =
     let k : ℕ = i - 1 in
     let up : i ≡ k + 1 = omega arith in
     let e : ℕ = i * n + j in
     let all : list_all (is_solid (bare_block n heights)) (around n e) ≡ true = subst (λ r. list_all (is_solid (bare_block n heights)) (around n (r * n + j)) ≡ true) (sym up)
-    (enclosed n heights k above (subst (IsFullRow n heights) up here) (subst (λ r. IsFullRow n heights (r + 1)) up below) j west east) in
+    (enclosed n heights k from to high above (subst (λ r. IsFullSpan n heights r (from - 1) (to + 1)) up here) (subst (λ r. IsFullSpan n heights (r + 1) (from - 1) (to + 1)) up below) j some west east) in
     no_exit (is_solid (bare_block n heights) e) (is_rim n e) (list_all (is_solid (bare_block n heights)) (around n e)) (is_sink_at (block_of n heights sinks) e)
-    (off_rim n i j north south west east) all (ap (λ ss. is_sink_at (block_of n heights ss) e) none)
+    (off_rim n i j north south (omega arith) (omega arith)) all (ap (λ ss. is_sink_at (block_of n heights ss) e) none)
 
 -- no more of these points are outlets
 pub seeds_passed : (n : ℕ) (heights : List ℤ) (sinks : List ℕ) (levels : List ℤ) (labels : List ℕ) (queue : Queue) (k l : ℕ) → IsSeeding (block_of n heights sinks) levels labels queue k → k ≤ l → ((e : ℕ) → k ≤ e → e < l → is_exit (block_of n heights sinks) e ≡ false) →

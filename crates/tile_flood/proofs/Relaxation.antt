@@ -18,9 +18,9 @@ use Rattle.tile_flood.specs.Labelling.{NO_LABEL}
 use Rattle.tile_flood.specs.Flooding.{is_marked}
 use Rattle.tile_flood.specs.Affected.{IsEntryOf, IsListed, GrowsInto}
 use Rattle.tile_flood.specs.Clearing.{IsClearing}
-use Rattle.tile_flood.specs.Waiting.{Queue, Waits, IsJoined, IsTaken}
+use Rattle.tile_flood.specs.Waiting.{Queue, Waits, IsJoined, IsTaken, WaitInside}
 use Rattle.tile_flood.proofs.Squares.{test_if, linked_parts, solid_below}
-use Rattle.tile_flood.specs.Lowering.{AreRelaxed, AreRelaxing, AreRelaxingBut, AreLowered, IsReady, depth, IsLowering}
+use Rattle.tile_flood.specs.Lowering.{AreRelaxed, AreRelaxing, AreRelaxingBut, AreLowered, depth, IsLowering}
 use Rattle.tile_flood.specs.Affected.{IsAffected}
 use Rattle.tile_flood.specs.Clearing.{AreListedCleared}
 use Rattle.tile_flood.proofs.Dependence.{max_mono, full_at, solid_at, kept_same}
@@ -208,14 +208,11 @@ depth_less levels e v inside low less =
     let one : nat_abs (v -ℤ void) + 1 ≤ nat_abs (get_or levels e void -ℤ void) = omega (arith, ints) in
     omega arith
 
-pub ready_still : (n : ℕ) (queue queue' : Queue) (v : ℤ) (e : ℕ) → IsReady n queue → e < n * n → IsJoined queue queue' v e → IsReady n queue'
-ready_still n queue queue' v e s small joined = record {
-  every = λ l low high. joined.buckets l (s.every l low high);
-  inside = λ l f w. elim (joined.only l f w) [ inl new ↦ subst (λ z. z < n * n) (sym new.1) small | inr old ↦ s.inside l f old ];
-}
+pub inside_still : (n : ℕ) (queue queue' : Queue) (v : ℤ) (e : ℕ) → WaitInside n queue → e < n * n → IsJoined queue queue' v e → WaitInside n queue'
+inside_still n queue queue' v e s small joined l f w = elim (joined.only l f w) [ inl new ↦ subst (λ z. z < n * n) (sym new.1) small | inr old ↦ s l f old ]
 
-pub ready_taken : (n : ℕ) (queue queue' : Queue) (c : ℕ) (low : ℤ) → IsReady n queue → IsTaken queue queue' low c → IsReady n queue'
-ready_taken n queue queue' c low s taken = record { every = λ l below above. taken.buckets l (s.every l below above); inside = λ l e w. s.inside l e (taken.only l e w) }
+pub inside_taken : (n : ℕ) (queue queue' : Queue) (c : ℕ) (low : ℤ) → WaitInside n queue → IsTaken queue queue' low c → WaitInside n queue'
+inside_taken n queue queue' c low s taken l e w = s l e (taken.only l e w)
 
 pub lowered_same : (levels : List ℤ) (queue : Queue) → AreLowered levels levels queue queue
 lowered_same levels queue = record { lower = λ e. ≤ℤ_same (get_or levels e void); waits = λ e. inl refl; still = λ l e w. w }

@@ -1,26 +1,25 @@
 -- The steps by which a flood starts again beside affected points.
-use Rattle.std.proofs.Common.{◌≡◌, ◌≢◌, ℕ, ◌+◌, ◌*◌, ◌<◌, ◌≤◌, ℤ, pos, ◌≤ℤ◌, false, not, IsTrue, List, [], length, get_or, set, get_or-set_other, get_or-set_same, ◌⊎◌, inl, inr, refl, sym, ap, ◌∙◌, subst, arith, true≢false}
+use Rattle.std.proofs.Common.{◌≡◌, ℕ, ◌+◌, ◌*◌, ◌<◌, ◌≤◌, ℤ, false, not, IsTrue, List, [], length, get_or, set, get_or-set_other, get_or-set_same, ◌⊎◌, inl, inr, refl, sym, ap, ◌∙◌, subst, arith}
 use Rattle.std.specs.Ordering.{int_eq}
 use Rattle.std.proofs.lemmas.Bool.{cases_Bool, cases_eq}
 use Rattle.lattice.specs.Mosaic.{void}
 use Rattle.lattice.specs.Block.{block_terrain, is_solid, is_exit, is_beside}
-use Rattle.lattice.proofs.Levels.{level_of_outlet, ≤ℤ_trans}
+use Rattle.lattice.proofs.Levels.{level_of_outlet}
 use Rattle.lattice.proofs.Lawful.{block_is_lawful}
 use Rattle.tile_flood.specs.declared.affected.Affected.{Affected}
 use Rattle.tile_flood.specs.Blocks.{block_of}
 use Rattle.tile_flood.specs.Waiting.{Queue, Waits, IsJoined}
-use Rattle.tile_flood.specs.Flooding.{is_marked, AreMarks, AreMarkedStill, IsFlooding, IsOwnLabel}
+use Rattle.tile_flood.specs.Flooding.{is_marked, AreMarks, AreMarkedStill, HaveJoined, IsFlooding, IsOwnLabel}
 use Rattle.tile_flood.specs.Clearing.{AreDependentsCleared}
-use Rattle.tile_flood.specs.Waiting.{HasEvery, WaitStill}
-use Rattle.tile_flood.specs.Reseeding.{AreWithin, IsLater, IsReseeding}
+use Rattle.tile_flood.specs.Reseeding.{IsLater, IsReseeding}
 use Rattle.tile_flood.proofs.Squares.{linked_parts, solid_height, solid_below}
 use Rattle.tile_flood.proofs.Spreading.{marks, now, still}
 use Rattle.tile_flood.proofs.Dependence.{label_at, filled_if}
 
 -- nobody waits yet
 pub reseeding_begin : (n : ℕ) (heights : List ℤ) (sinks : List ℕ) (levels : List ℤ) (labels : List ℕ) (queue : Queue) (affected : List Affected) → AreDependentsCleared (block_of n heights sinks) levels labels affected →
-    HasEvery queue → ((l : ℤ) (e : ℕ) → Waits queue l e → ⊥) → (least greatest : ℤ) → void ≤ℤ least → greatest ≤ℤ pos 32767 → AreWithin heights affected least greatest (length affected) → IsReseeding (block_of n heights sinks) levels labels queue affected 0
-reseeding_begin n heights sinks levels labels queue affected s every nobody least greatest low high within = record {
+    ((l : ℤ) (e : ℕ) → Waits queue l e → ⊥) → IsReseeding (block_of n heights sinks) levels labels queue affected 0
+reseeding_begin n heights sinks levels labels queue affected s nobody = record {
   marks = record {
     levels_whole = s.levels_whole;
     labels_whole = s.labels_whole;
@@ -28,15 +27,8 @@ reseeding_begin n heights sinks levels labels queue affected s every nobody leas
     labelled = λ e on. label_at n heights sinks levels labels e (s.carried e on);
     carried = s.carried;
     unlabelled = s.unlabelled;
-    buckets = λ e solid off.
-        let d : Affected = record { point = 0; level = void; label = 0 } in
-        let l = s.listed e solid off in
-        let full = solid_height n heights e solid in
-        let bounds = subst (λ z. get_or heights z void ≢ void → (least ≤ℤ get_or heights z void) × (get_or heights z void ≤ℤ greatest)) (l.1.1 d) (within l.0 d l.1.0) full in
-        every (get_or heights e void) (≤ℤ_trans void least (get_or heights e void) low bounds.0) (≤ℤ_trans (get_or heights e void) greatest (pos 32767) bounds.1 high);
     waiting = λ l e w. absurd (nobody l e w);
   };
-  every = every;
   inside = s.inside;
   outlets = λ e out. marked_or_later e ((block_is_lawful (block_of n heights sinks)).outlet_ground e out);
   closed = λ x y on link. inr (marked_or_later y (linked_parts n heights x y link).to);
@@ -48,10 +40,10 @@ reseeding_begin n heights sinks levels labels queue affected s every nobody leas
       | inr off ↦ let l = s.listed e solid off in inr (l.0, (omega arith, (l.1.0, l.1.1)))
     ]
 
--- a marked point waits once more
-pub reseeding_wait : (n : ℕ) (heights : List ℤ) (sinks : List ℕ) (levels : List ℤ) (labels : List ℕ) (queue queue' : Queue) (affected : List Affected) (k e : ℕ) → IsReseeding (block_of n heights sinks) levels labels queue affected k →
-    IsTrue (is_marked levels e) → IsJoined queue queue' (get_or levels e void) e → IsReseeding (block_of n heights sinks) levels labels queue' affected k
-reseeding_wait n heights sinks levels labels queue queue' affected k e s on joined = record {
+-- marked points wait once more
+reseeding_waits : (n : ℕ) (heights : List ℤ) (sinks : List ℕ) (levels : List ℤ) (labels : List ℕ) (queue queue' : Queue) (affected : List Affected) (k : ℕ) → IsReseeding (block_of n heights sinks) levels labels queue affected k →
+    HaveJoined levels queue queue' → IsReseeding (block_of n heights sinks) levels labels queue' affected k
+reseeding_waits n heights sinks levels labels queue queue' affected k s joined = record {
   marks = record {
     levels_whole = s.marks.levels_whole;
     labels_whole = s.marks.labels_whole;
@@ -59,47 +51,12 @@ reseeding_wait n heights sinks levels labels queue queue' affected k e s on join
     labelled = s.marks.labelled;
     carried = s.marks.carried;
     unlabelled = s.marks.unlabelled;
-    buckets = λ f solid off. joined.buckets (get_or heights f void) (s.marks.buckets f solid off);
-    waiting = λ l f w. elim (joined.only l f w) [
-      | inl new ↦ (subst (λ x. IsTrue (is_marked levels x)) (sym new.1) on, ap (λ x. get_or levels x void) new.1 ∙ sym new.0)
-      | inr old ↦ s.marks.waiting l f old
-    ];
+    waiting = λ l f w. elim (joined.only l f w) [ inl old ↦ s.marks.waiting l f old | inr new ↦ new ];
   };
-  every = λ l low high. joined.buckets l (s.every l low high);
   inside = s.inside;
   outlets = s.outlets;
-  closed = λ x y on link. elim (s.closed x y on link) [
-    | inl waits ↦ inl (joined.others (get_or levels x void) x waits)
-    | inr r ↦ inr r
-  ];
+  closed = λ x y on link. elim (s.closed x y on link) [ inl waits ↦ inl (joined.still (get_or levels x void) x waits) | inr r ↦ inr r ];
 }
-
--- what is left when a point is let wait, if it is marked
-pub record IsWaited (n : ℕ) (heights : List ℤ) (sinks : List ℕ) (levels' : List ℤ) (labels' : List ℕ) (queue queue' : Queue) (affected : List Affected) (k e : ℕ) : Type 0 where
-  pub state : IsReseeding (block_of n heights sinks) levels' labels' queue' affected k
-  pub others : WaitStill queue queue'
-  pub waits : IsTrue (is_marked levels' e) → Waits queue' (get_or levels' e void) e
-
-waited_at : (n : ℕ) (heights : List ℤ) (sinks : List ℕ) (levels : List ℤ) (labels : List ℕ) (queue queue' : Queue) (affected : List Affected) (k e : ℕ) → IsReseeding (block_of n heights sinks) levels labels queue affected k →
-    (IsTrue (is_marked levels e) → IsJoined queue queue' (get_or levels e void) e) → (is_marked levels e ≡ false → queue' ≡ queue) → IsWaited n heights sinks levels labels queue queue' affected k e
-waited_at n heights sinks levels labels queue queue' affected k e s joined passed = elim (cases_Bool (is_marked levels e)) [
-  | inl on ↦ record {
-    state = reseeding_wait n heights sinks levels labels queue queue' affected k e s on (joined on);
-    others = (joined on).others;
-    waits = λ _. (joined on).waits;
-  }
-  | inr off ↦ record {
-    state = subst (λ q. IsReseeding (block_of n heights sinks) levels labels q affected k) (sym (passed off)) s;
-    others = λ l f w. subst (λ q. Waits q l f) (sym (passed off)) w;
-    waits = λ on. absurd (true≢false (sym on ∙ off));
-  }
-]
-
-pub waited : (n : ℕ) (heights : List ℤ) (sinks : List ℕ) (levels levels' : List ℤ) (labels labels' : List ℕ) (queue queue' : Queue) (affected : List Affected) (k e : ℕ) → IsReseeding (block_of n heights sinks) levels labels queue affected k →
-    levels' ≡ levels → labels' ≡ labels → (IsTrue (is_marked levels e) → IsJoined queue queue' (get_or levels e void) e) → (is_marked levels e ≡ false → queue' ≡ queue) → IsWaited n heights sinks levels' labels' queue queue' affected k e
-waited n heights sinks levels levels' labels labels' queue queue' affected k e s same_levels same_labels joined passed =
-    subst (λ ls. IsWaited n heights sinks ls labels' queue queue' affected k e) (sym same_levels)
-    (subst (λ bs. IsWaited n heights sinks levels bs queue queue' affected k e) (sym same_labels) (waited_at n heights sinks levels labels queue queue' affected k e s joined passed))
 
 -- what the mark of an outlet leaves
 pub record IsReseeded (n : ℕ) (heights : List ℤ) (sinks : List ℕ) (levels levels' : List ℤ) (labels' : List ℕ) (queue' : Queue) (affected : List Affected) (k e : ℕ) : Type 0 where
@@ -140,7 +97,6 @@ module _ (n : ℕ) (heights : List ℤ) (sinks : List ℕ) (levels : List ℤ) (
   reseeded = record {
     state = record {
       marks = marks_now;
-      every = λ l low high. joined.buckets l (s.every l low high);
       inside = s.inside;
       outlets = λ f out. elim (s.outlets f out) [ inl on ↦ inl (still_now f on) | inr later ↦ inr later ];
       closed = λ x y on link. elim (cases_eq x e) [
@@ -166,12 +122,11 @@ reseeded_as n heights sinks levels levels' labels labels' queue queue' affected 
     (reseeded n heights sinks levels labels queue queue' affected k e label s off exit own (subst (λ l. IsJoined queue queue' l e) is joined)))
 
 -- one more of the affected points is done
-pub reseeding_next : (n : ℕ) (heights : List ℤ) (sinks : List ℕ) (levels : List ℤ) (labels : List ℕ) (queue : Queue) (affected : List Affected) (k point : ℕ) → IsReseeding (block_of n heights sinks) levels labels queue affected k →
+reseeding_next : (n : ℕ) (heights : List ℤ) (sinks : List ℕ) (levels : List ℤ) (labels : List ℕ) (queue : Queue) (affected : List Affected) (k point : ℕ) → IsReseeding (block_of n heights sinks) levels labels queue affected k →
     ((d : Affected) → k < length affected → (get_or affected k d).point ≡ point) → (IsTrue (is_exit (block_of n heights sinks) point) → IsTrue (is_marked levels point)) →
     ((y : ℕ) → y < n * n → IsTrue (is_beside n point y) → IsTrue (is_marked levels y) → Waits queue (get_or levels y void) y) → IsReseeding (block_of n heights sinks) levels labels queue affected (k + 1)
 reseeding_next n heights sinks levels labels queue affected k point s is seeded waits = record {
   marks = s.marks;
-  every = s.every;
   inside = s.inside;
   outlets = λ e out. elim (s.outlets e out) [
     | inl on ↦ inl on
@@ -199,6 +154,16 @@ reseeding_next n heights sinks levels labels queue affected k point s is seeded 
           inl (sym (later.1.1.1 d) ∙ (ap (λ j. (get_or affected j d).point) same ∙ is d inside))
       | inr other ↦ let from = later.1.0 in inr (later.0, (omega arith, later.1.1))
     ]
+
+-- the same, as the code does it
+pub reseeding_next_as : (n : ℕ) (heights : List ℤ) (sinks : List ℕ) (levels levels' : List ℤ) (labels labels' : List ℕ) (queue queue' : Queue) (affected : List Affected) (k point : ℕ) → IsReseeding (block_of n heights sinks) levels labels queue affected k →
+    levels' ≡ levels → labels' ≡ labels → HaveJoined levels queue queue' →
+    ((d : Affected) → k < length affected → (get_or affected k d).point ≡ point) → (IsTrue (is_exit (block_of n heights sinks) point) → IsTrue (is_marked levels point)) →
+    ((y : ℕ) → y < n * n → IsTrue (is_beside n point y) → IsTrue (is_marked levels y) → Waits queue' (get_or levels y void) y) → IsReseeding (block_of n heights sinks) levels' labels' queue' affected (k + 1)
+reseeding_next_as n heights sinks levels levels' labels labels' queue queue' affected k point s same_levels same_labels joined is seeded waits =
+    subst (λ ls. IsReseeding (block_of n heights sinks) ls labels' queue' affected (k + 1)) (sym same_levels)
+    (subst (λ bs. IsReseeding (block_of n heights sinks) levels bs queue' affected (k + 1)) (sym same_labels)
+    (reseeding_next n heights sinks levels labels queue' affected k point (reseeding_waits n heights sinks levels labels queue queue' affected k s joined) is seeded waits))
 
 -- all are
 pub reseeding_end : (n : ℕ) (heights : List ℤ) (sinks : List ℕ) (levels : List ℤ) (labels : List ℕ) (queue : Queue) (affected : List Affected) (k : ℕ) → IsReseeding (block_of n heights sinks) levels labels queue affected k → length affected ≤ k →

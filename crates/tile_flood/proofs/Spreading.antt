@@ -1,6 +1,6 @@
 -- The steps of a flood: each point that gets its level gets its filled level, and a label that is reached at it (after
 -- the correctness argument of Barnes, Lehman and Mulla 2014).
-use Rattle.std.proofs.Common.{◌≡◌, ◌≢◌, ℕ, ◌+◌, ◌*◌, ◌/◌, ◌%◌, ◌<◌, ◌≤◌, ℤ, ◌≤ℤ◌, true, false, not, cond, IsTrue, IsFalse, List, [], ◌∷◌, length, get_or, set, slice_index, ◌⊎◌, inl, inr, refl, sym, ap, ap₂, ◌∙◌, subst, arith, true≢false, get_or-set_other, get_or-set_same, length-set, ◌&&◌, int_lt, SFits, w16, to_z, of_z}
+use Rattle.std.proofs.Common.{◌≡◌, ◌≢◌, ℕ, ◌+◌, ◌*◌, ◌/◌, ◌<◌, ℤ, ◌≤ℤ◌, true, false, not, cond, IsTrue, IsFalse, List, [], ◌∷◌, length, get_or, set, slice_index, ◌⊎◌, inl, inr, refl, sym, ap, ap₂, ◌∙◌, subst, arith, true≢false, get_or-set_other, get_or-set_same, length-set, ◌&&◌, int_lt, SFits, w16, to_z, of_z}
 use Rattle.std.specs.Int.{int_max}
 use Rattle.std.specs.Ordering.{int_eq}
 use Rattle.std.proofs.lemmas.Bool.{cases_Bool, cases_eq, cases_lt, not-true, ne_eqb, or_right}
@@ -12,13 +12,12 @@ use Rattle.lattice.specs.Terrain.{IsFilledLevel, IsPath}
 use Rattle.lattice.specs.Block.{block_terrain, is_solid, is_linked, is_exit, is_inner_outlet, is_rim}
 use Rattle.lattice.proofs.Levels.{level_beside, level_of_outlet, all_marked, le-max_right, ≤ℤ_same}
 use Rattle.lattice.proofs.Lawful.{block_is_lawful}
-use Rattle.tile_flood.specs.Waiting.{Queue, Waits, HasBucket, IsJoined, IsTaken}
+use Rattle.tile_flood.specs.Waiting.{Queue, Waits, IsJoined, IsTaken}
 use Rattle.tile_flood.specs.Labelling.{IsLabelAt, IsLabelling, Names, OUT, NO_LABEL}
-use Rattle.tile_flood.specs.Flooding.{is_marked, unmarked, lack, AreMarks, IsSeeding, IsFlooding, IsSpreading, AreMarkedStill, IsRowMarked, IsOwnLabel, IsNear}
+use Rattle.tile_flood.specs.Flooding.{is_marked, unmarked, lack, AreMarks, IsSeeding, IsFlooding, IsSpreading, AreMarkedStill, IsOwnLabel, IsNear}
 use Rattle.tile_flood.specs.Blocks.{block_of, bare_block}
 use Rattle.tile_flood.specs.Carried.{IsCarried, IsCarriedBy, AreCarried}
-use Rattle.tile_flood.proofs.Buckets.{has_bucket}
-use Rattle.tile_flood.proofs.Squares.{rim_is_exit, not_void_if, test_if, linked_parts, linked_from, solid_height, solid_below, beside_if, row_of_cell, column_of_cell, cell_of, leads}
+use Rattle.tile_flood.proofs.Squares.{rim_is_exit, not_void_if, test_if, linked_parts, linked_from, solid_height, solid_below, leads}
 
 -- a point of a path is ground
 start_solid : (n : ℕ) (heights : List ℤ) (sinks : List ℕ) (e : ℕ) (rest : List ℕ) → IsPath (block_terrain (block_of n heights sinks)) e rest → IsTrue (is_solid (bare_block n heights) e)
@@ -141,9 +140,6 @@ module _ (n : ℕ) (heights : List ℤ) (sinks : List ℕ) (levels : List ℤ) (
     | inr old ↦ (still e (s.waiting l e old).0, same_at e (s.waiting l e old).0 ∙ (s.waiting l e old).1)
   ]
 
-  unmarked_before : (e : ℕ) → is_marked (set levels y v) e ≡ false → is_marked levels e ≡ false
-  unmarked_before e off' = elim (cases_Bool (is_marked levels e)) [ inl on ↦ absurd (true≢false (sym (still e on) ∙ off')) | inr is ↦ is ]
-
   pub marks : AreMarks (block_of n heights sinks) (set levels y v) (set labels y label) queue'
   marks = record {
     levels_whole = length-set levels y v ∙ s.levels_whole;
@@ -153,7 +149,6 @@ module _ (n : ℕ) (heights : List ℤ) (sinks : List ℕ) (levels : List ℤ) (
     carried = carried_now;
     unlabelled = by_point (λ e l b. e < n * n → not (int_eq l void) ≡ false → b ≡ NO_LABEL)
         (λ _ none. absurd (true≢false (sym (test_if v full) ∙ none))) (λ e other. s.unlabelled e);
-    buckets = λ e on off'. joined.buckets (get_or heights e void) (s.buckets e on (unmarked_before e off'));
     waiting = waiting_now;
   }
 
@@ -205,17 +200,12 @@ module _ (n : ℕ) (heights : List ℤ) (sinks : List ℕ) (levels : List ℤ) (
         | inl new ↦ subst (λ m. low ≤ℤ m) (sym new.0) above
         | inr old ↦ spreading.lowest l e old
       ];
-      bucket = joined.buckets low spreading.bucket;
       taken = (still c spreading.taken.0, same_at c spreading.taken.0 ∙ spreading.taken.1);
       named = get_or-set_other labels y c label 0 (λ h. true≢false (sym spreading.taken.0 ∙ (ap (is_marked levels) h ∙ off))) ∙ spreading.named;
     }
 
 max_one_of : (a b : ℤ) → (int_max a b ≡ a) ⊎ (int_max a b ≡ b)
 max_one_of a b = elim (cases_Bool (int_lt b a)) [ inl h ↦ inl (ap (λ v. cond v a b) h) | inr h ↦ inr (ap (λ v. cond v a b) h) ]
-
--- there is a bucket for the greater of two levels that have one
-pub higher_bucket : (queue : Queue) (a b : ℤ) → HasBucket queue a → HasBucket queue b → HasBucket queue (int_max a b)
-higher_bucket queue a b one other = elim (max_one_of a b) [ inl h ↦ subst (HasBucket queue) (sym h) one | inr h ↦ subst (HasBucket queue) (sym h) other ]
 
 -- what the mark of a point beside c leaves
 pub record IsVisited (n : ℕ) (heights : List ℤ) (sinks : List ℕ) (levels levels' : List ℤ) (labels' : List ℕ) (queue' : Queue) (c : ℕ) (low : ℤ) (label e : ℕ) : Type 0 where
@@ -311,8 +301,8 @@ seed_passed n heights sinks levels labels queue k s off = record {
 
 -- nothing is marked at first
 pub seeding_start : (n : ℕ) (heights : List ℤ) (sinks : List ℕ) (levels : List ℤ) (labels : List ℕ) (queue : Queue) → length levels ≡ n * n → length labels ≡ n * n →
-    ((e : ℕ) → get_or levels e void ≡ void) → ((e : ℕ) → e < n * n → slice_index labels e ≡ NO_LABEL) → ((e : ℕ) → e < length heights → get_or heights e void ≢ void → HasBucket queue (get_or heights e void)) → ((l : ℤ) (e : ℕ) → Waits queue l e → ⊥) → length heights ≡ n * n → IsSeeding (block_of n heights sinks) levels labels queue 0
-seeding_start n heights sinks levels labels queue levels_whole labels_whole none no_label buckets nobody whole = record {
+    ((e : ℕ) → get_or levels e void ≡ void) → ((e : ℕ) → e < n * n → slice_index labels e ≡ NO_LABEL) → ((l : ℤ) (e : ℕ) → Waits queue l e → ⊥) → IsSeeding (block_of n heights sinks) levels labels queue 0
+seeding_start n heights sinks levels labels queue levels_whole labels_whole none no_label nobody = record {
   marks = record {
     levels_whole = levels_whole;
     labels_whole = labels_whole;
@@ -320,7 +310,6 @@ seeding_start n heights sinks levels labels queue levels_whole labels_whole none
     labelled = λ e on. absurd (true≢false (sym on ∙ fresh e));
     carried = λ e on. absurd (true≢false (sym on ∙ fresh e));
     unlabelled = λ e below _. no_label e below;
-    buckets = λ e on _. buckets e (subst (λ k. e < k) (sym whole) (solid_below n heights e on)) (solid_height n heights e on);
     waiting = λ l e w. absurd (nobody l e w);
   };
   outlets = λ e low out. absurd (omega arith);
@@ -350,7 +339,6 @@ spread_begin n heights sinks levels labels queue queue' c low s taken = record {
     labelled = s.marks.labelled;
     carried = s.marks.carried;
     unlabelled = s.marks.unlabelled;
-    buckets = λ e on off. taken.buckets (get_or heights e void) (s.marks.buckets e on off);
     waiting = λ l e w. s.marks.waiting l e (taken.only l e w);
   };
   outlets = s.outlets;
@@ -359,7 +347,6 @@ spread_begin n heights sinks levels labels queue queue' c low s taken = record {
     | inr on' ↦ inr (inr on')
   ];
   lowest = λ l e w. taken.lowest l e (taken.only l e w);
-  bucket = taken.buckets low (has_bucket queue low c taken.waited);
   taken = s.marks.waiting low c taken.waited;
   named = refl;
 }
@@ -414,42 +401,6 @@ pub passed_max : (r h low g : ℤ) → SFits w16 r → SFits w16 h → SFits w16
     to_z w16 (of_z w16 r) ≡ int_max g low
 passed_max r h low g fr fh fl is same =
     to_z-of_z w16 r fr ∙ (is ∙ (ap₂ int_max (to_z-of_z w16 h fh ∙ same) (to_z-of_z w16 low fl)))
-
--- a ground point without a level, near c, is beside it
-pub cell_beside : (n : ℕ) (heights : List ℤ) (sinks : List ℕ) (levels : List ℤ) (labels : List ℕ) (queue : Queue) (c : ℕ) (low : ℤ) (label i j : ℕ) → IsSpreading (block_of n heights sinks) levels labels queue c low label →
-    j < n → c / n ≤ i + 1 → i ≤ c / n + 1 → c % n ≤ j + 1 → j ≤ c % n + 1 →
-    IsTrue (is_solid (bare_block n heights) (i * n + j)) → is_marked levels (i * n + j) ≡ false → IsTrue (is_linked (bare_block n heights) c (i * n + j))
-cell_beside n heights sinks levels labels queue c low label i j s below north south west east solid off =
-    let row = row_of_cell n i j below in
-    let column = column_of_cell n i j below in
-    linked_from n heights c (i * n + j) (record {
-      from = marked_solid n heights sinks levels labels queue c s.marks s.taken.0;
-      to = solid;
-      apart = ap not (ne_eqb c (i * n + j) (λ h. true≢false (sym s.taken.0 ∙ (ap (is_marked levels) h ∙ off))));
-      beside = beside_if n c (i * n + j) (record { north = omega arith; south = omega arith; west = omega arith; east = omega arith });
-    })
-
--- one column more
-pub row_more : (n : ℕ) (heights levels levels' : List ℤ) (c i j : ℕ) → AreMarkedStill levels levels' →
-    ((z : ℕ) → z / n ≡ i → z % n < j → IsTrue (is_linked (bare_block n heights) c z) → IsTrue (is_marked levels z)) →
-    (IsTrue (is_solid (bare_block n heights) (i * n + j)) → IsTrue (is_marked levels' (i * n + j))) →
-    (z : ℕ) → z / n ≡ i → z % n < j + 1 → IsTrue (is_linked (bare_block n heights) c z) → IsTrue (is_marked levels' z)
-row_more n heights levels levels' c i j still before here z row below link = elim (cases_lt (z % n) j) [
-  | inl lt ↦ still z (before z row lt link)
-  | inr ge ↦
-      let column : z % n ≡ j = omega arith in
-      let cell : z ≡ i * n + j = cell_of n z ∙ ap₂ (λ a b. a * n + b) row column in
-      subst (λ v. IsTrue (is_solid (bare_block n heights) v) → IsTrue (is_marked levels' v)) (sym cell) here (linked_parts n heights c z link).to
-]
-
--- one row more
-pub rows_more : (n : ℕ) (heights levels levels' : List ℤ) (c i : ℕ) → AreMarkedStill levels levels' →
-    ((z : ℕ) → z / n < i → IsTrue (is_linked (bare_block n heights) c z) → IsTrue (is_marked levels z)) → IsRowMarked n heights levels' c i →
-    (z : ℕ) → z / n < i + 1 → IsTrue (is_linked (bare_block n heights) c z) → IsTrue (is_marked levels' z)
-rows_more n heights levels levels' c i still before here z below link = elim (cases_lt (z / n) i) [
-  | inl lt ↦ still z (before z lt link)
-  | inr ge ↦ here z (omega arith) link
-]
 
 -- the point that is taken has a label
 pub taken_below : (n : ℕ) (heights : List ℤ) (sinks : List ℕ) (levels : List ℤ) (labels : List ℕ) (queue : Queue) (c : ℕ) (low : ℤ) (label : ℕ) → IsSpreading (block_of n heights sinks) levels labels queue c low label → c < length labels

@@ -1,6 +1,6 @@
 -- A flood of a block on its way (after Barnes, Lehman and Mulla 2014): the points that have their levels and labels, and
 -- those of them that still wait to spread.
-use Rattle.std.specs.Prelude.{◌≡◌, ℕ, ◌+◌, ◌*◌, ◌/◌, ◌<◌, ◌≤◌, ℤ, ◌≤ℤ◌, Bool, false, not, cond, IsTrue, List, length, slice_index, slice_index_or, ◌⊎◌, sum_by}
+use Rattle.std.specs.Prelude.{◌≡◌, ℕ, ◌+◌, ◌*◌, ◌<◌, ◌≤◌, ℤ, ◌≤ℤ◌, Bool, false, not, cond, IsTrue, List, length, slice_index, slice_index_or, ◌⊎◌, sum_by}
 use Rattle.std.specs.Ordering.{int_eq}
 use Rattle.lattice.specs.Mosaic.{void}
 use Rattle.lattice.specs.Terrain.{IsFilledLevel}
@@ -8,7 +8,7 @@ use Rattle.lattice.specs.Block.{Block, block_terrain, is_solid, is_linked, is_ex
 use Rattle.tile_flood.specs.Blocks.{bare_block}
 use Rattle.tile_flood.specs.Labelling.{IsLabelAt, Names, OUT, NO_LABEL}
 use Rattle.tile_flood.specs.Carried.{IsCarried}
-use Rattle.tile_flood.specs.Waiting.{Queue, Waits, HasBucket}
+use Rattle.tile_flood.specs.Waiting.{Queue, Waits, WaitStill}
 
 -- the point has its level
 abbrev pub is_marked : List ℤ → ℕ → Bool
@@ -24,21 +24,22 @@ unmarked levels = sum_by lack levels
 abbrev pub AreMarkedStill : List ℤ → List ℤ → Type 0
 AreMarkedStill old new = (e : ℕ) → IsTrue (is_marked old e) → IsTrue (is_marked new e)
 
--- the points of row i that are adjacent to c are marked
-abbrev pub IsRowMarked : ℕ → List ℤ → List ℤ → ℕ → ℕ → Type 0
-IsRowMarked n heights levels c i = (z : ℕ) → z / n ≡ i → IsTrue (is_linked (bare_block n heights) c z) → IsTrue (is_marked levels z)
+-- what waited still waits, and of the others only marked points do, at their levels
+pub record HaveJoined (levels : List ℤ) (old new : Queue) : Type 0 where
+  pub still : WaitStill old new
+  pub only : (l : ℤ) (e : ℕ) → Waits new l e → Waits old l e ⊎ (IsTrue (is_marked levels e) × (slice_index_or levels e void ≡ l))
 
 -- on the rim, or at most one row and one column away
 abbrev pub IsNear : ℕ → ℕ → ℕ → Type 0
 IsNear n c e = IsTrue (is_rim n e) ⊎ IsTrue (is_beside n c e)
 
--- all points of row i are ground
-abbrev pub IsFullRow : ℕ → List ℤ → ℕ → Type 0
-IsFullRow n heights i = (j : ℕ) → j < n → IsTrue (is_solid (bare_block n heights) (i * n + j))
+-- all points of row i in these columns are ground
+abbrev pub IsFullSpan : ℕ → List ℤ → ℕ → ℕ → ℕ → Type 0
+IsFullSpan n heights i from to = (j : ℕ) → from ≤ j → j < to → IsTrue (is_solid (bare_block n heights) (i * n + j))
 
--- no point of row i but its ends is an outlet
-abbrev pub IsPlainRow : Block → ℕ → Type 0
-IsPlainRow b i = (j : ℕ) → 0 < j → j + 1 < b.side → is_exit b (i * b.side + j) ≡ false
+-- no point of row i in these columns is an outlet
+abbrev pub IsPlainSpan : Block → ℕ → ℕ → ℕ → Type 0
+IsPlainSpan b i from to = (j : ℕ) → from ≤ j → j < to → is_exit b (i * b.side + j) ≡ false
 
 -- the label that an outlet starts with
 pub record IsOwnLabel (b : Block) (e label : ℕ) : Type 0 where
@@ -46,8 +47,7 @@ pub record IsOwnLabel (b : Block) (e label : ℕ) : Type 0 where
   pub inner_outlet : IsTrue (is_inner_outlet b e) → label ≡ OUT
 
 module _ (b : Block) (levels : List ℤ) (labels : List ℕ) (queue : Queue) where
-  -- marked points have their filled levels and their labels, which are carried to them, each point that waits is marked,
-  -- and there is a bucket for the height of each ground point that isn't marked
+  -- marked points have their filled levels and their labels, which are carried to them, and each point that waits is marked
   pub record AreMarks : Type 0 where
     pub levels_whole : length levels ≡ b.side * b.side
     pub labels_whole : length labels ≡ b.side * b.side
@@ -55,7 +55,6 @@ module _ (b : Block) (levels : List ℤ) (labels : List ℕ) (queue : Queue) whe
     pub labelled : (e : ℕ) → IsTrue (is_marked levels e) → IsLabelAt b e (slice_index_or levels e void) (slice_index labels e)
     pub carried : (e : ℕ) → IsTrue (is_marked levels e) → IsCarried b levels labels e
     pub unlabelled : (e : ℕ) → e < b.side * b.side → is_marked levels e ≡ false → slice_index labels e ≡ NO_LABEL
-    pub buckets : (e : ℕ) → IsTrue (is_solid b e) → is_marked levels e ≡ false → HasBucket queue (slice_index_or b.heights e void)
     pub waiting : (l : ℤ) (e : ℕ) → Waits queue l e → IsTrue (is_marked levels e) × (slice_index_or levels e void ≡ l)
 
   -- of the points below k the outlets are marked; they wait, and no other point is marked
@@ -78,6 +77,5 @@ module _ (b : Block) (levels : List ℤ) (labels : List ℕ) (queue : Queue) whe
     pub closed : (x y : ℕ) → IsTrue (is_marked levels x) → IsTrue (is_linked b x y) →
         (x ≡ c) ⊎ (Waits queue (slice_index_or levels x void) x ⊎ IsTrue (is_marked levels y))
     pub lowest : (l : ℤ) (e : ℕ) → Waits queue l e → low ≤ℤ l
-    pub bucket : HasBucket queue low
     pub taken : IsTrue (is_marked levels c) × (slice_index_or levels c void ≡ low)
     pub named : slice_index labels c ≡ label

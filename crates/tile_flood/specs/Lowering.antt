@@ -7,7 +7,7 @@ use Rattle.tile_flood.specs.declared.affected.Affected.{Affected}
 use Rattle.tile_flood.specs.Blocks.{block_of}
 use Rattle.tile_flood.specs.Labelling.{IsLabelling}
 use Rattle.tile_flood.specs.Carried.{AreCarried}
-use Rattle.tile_flood.specs.Waiting.{Queue, Waits, HasEvery}
+use Rattle.tile_flood.specs.Waiting.{Queue, Waits, WaitInside}
 use Rattle.tile_flood.specs.Flooding.{is_marked}
 use Rattle.tile_flood.specs.Affected.{IsAffected, IsListed, IsAmong}
 
@@ -50,11 +50,6 @@ pub record AreLowered (levels levels' : List ℤ) (queue queue' : Queue) : Type 
   pub waits : (e : ℕ) → (slice_index_or levels' e void ≡ slice_index_or levels e void) ⊎ Waits queue' (slice_index_or levels' e void) e
   pub still : (l : ℤ) (e : ℕ) → Waits queue l e → Waits queue' l e
 
--- there is a bucket for each number of 16 bits, and only points of the block wait
-pub record IsReady (n : ℕ) (queue : Queue) : Type 0 where
-  pub every : HasEvery queue
-  pub inside : (l : ℤ) (e : ℕ) → Waits queue l e → e < n * n
-
 -- how far all levels are above the least number of 16 bits
 abbrev pub depth : List ℤ → ℕ
 depth levels = sum_by (λ l. nat_abs (l -ℤ void)) levels
@@ -63,7 +58,7 @@ depth levels = sum_by (λ l. nat_abs (l -ℤ void)) levels
 pub record IsStarting (b : Block) (points : List ℕ) (levels : List ℤ) (labels : List ℕ) (queue : Queue) (affected : List Affected) (k : ℕ) : Type 0 where
   pub heights₀ : List ℤ
   pub lowering : IsLowering (block_of b.side heights₀ b.sinks) levels labels affected
-  pub ready : IsReady b.side queue
+  pub inside : WaitInside b.side queue
   pub ground : (e : ℕ) → is_solid (block_of b.side heights₀ b.sinks) e ≡ is_solid b e
   pub others : (e : ℕ) → IsTrue (is_solid b e) → (slice_index_or heights₀ e void ≡ slice_index_or b.heights e void) ⊎ (IsAffected affected e ⊎ IsAmong points k e)
   pub exits : (e : ℕ) → IsTrue (is_exit b e) → (slice_index_or levels e void ≤ℤ slice_index_or b.heights e void) ⊎ IsAmong points k e

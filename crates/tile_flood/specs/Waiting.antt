@@ -1,7 +1,6 @@
 -- What waits in the queue of a flood: a bucket of points for each level from the least on.
-use Rattle.std.specs.Prelude.{◌≡◌, ℕ, ◌<◌, ℤ, pos, ◌+ℤ◌, ◌≤ℤ◌, ◌⊎◌, List, [], length, Contains, sum_by}
+use Rattle.std.specs.Prelude.{◌≡◌, ℕ, ◌*◌, ◌<◌, ℤ, pos, ◌+ℤ◌, ◌≤ℤ◌, ◌⊎◌, List, [], length, Contains, sum_by}
 use Rattle.std.proofs.Common.{get_or}
-use Rattle.lattice.specs.Mosaic.{void}
 
 -- the level of the first bucket, and what each bucket holds
 pub record Queue : Type 0 where
@@ -17,10 +16,6 @@ pub record HasBucket (queue : Queue) (level : ℤ) : Type 0 where
   pub inside : number < length queue.buckets
   pub at : level ≡ queue.least +ℤ pos number
 
--- there is a bucket for each number of 16 bits
-abbrev pub HasEvery : Queue → Type 0
-HasEvery queue = (l : ℤ) → void ≤ℤ l → l ≤ℤ pos 32767 → HasBucket queue l
-
 -- the point waits at this level
 abbrev pub Waits : Queue → ℤ → ℕ → Type 0
 Waits queue level e = (b : ℕ) × ((level ≡ queue.least +ℤ pos b) × Contains (bucket queue.buckets b) e)
@@ -29,6 +24,13 @@ Waits queue level e = (b : ℕ) × ((level ≡ queue.least +ℤ pos b) × Contai
 abbrev pub WaitStill : Queue → Queue → Type 0
 WaitStill old new = (l : ℤ) (e : ℕ) → Waits old l e → Waits new l e
 
+-- only points of the block wait
+abbrev pub WaitInside : ℕ → Queue → Type 0
+WaitInside n queue = (l : ℤ) (e : ℕ) → Waits queue l e → e < n * n
+
+abbrev pub AreEmpty : List (List ℕ) → Type 0
+AreEmpty buckets = (b : ℕ) → bucket buckets b ≡ []
+
 abbrev pub AreEmptyBelow : List (List ℕ) → ℕ → Type 0
 AreEmptyBelow buckets k = (b : ℕ) → b < k → bucket buckets b ≡ []
 
@@ -36,16 +38,20 @@ AreEmptyBelow buckets k = (b : ℕ) → b < k → bucket buckets b ≡ []
 abbrev pub waiting : Queue → ℕ
 waiting queue = sum_by length queue.buckets
 
+-- the same points wait at the same levels
+pub record IsExtended (old new : Queue) : Type 0 where
+  pub still : WaitStill old new
+  pub only : WaitStill new old
+  pub count : waiting new ≡ waiting old
+
 -- the point waits at this level from now on
 pub record IsJoined (old new : Queue) (level : ℤ) (e : ℕ) : Type 0 where
-  pub buckets : (l : ℤ) → HasBucket old l → HasBucket new l
   pub waits : Waits new level e
   pub others : (l : ℤ) (f : ℕ) → Waits old l f → Waits new l f
   pub only : (l : ℤ) (f : ℕ) → Waits new l f → ((l ≡ level) × (f ≡ e)) ⊎ Waits old l f
 
 -- the point waited at this level, the lowest, and is taken
 pub record IsTaken (old new : Queue) (level : ℤ) (e : ℕ) : Type 0 where
-  pub buckets : (l : ℤ) → HasBucket old l → HasBucket new l
   pub waited : Waits old level e
   pub lowest : (l : ℤ) (f : ℕ) → Waits old l f → level ≤ℤ l
   pub others : (l : ℤ) (f : ℕ) → Waits old l f → ((l ≡ level) × (f ≡ e)) ⊎ Waits new l f

@@ -2,11 +2,11 @@
 ghost use Rattle.std.specs.Prelude.{◌≡◌, ◌≢◌, ◌+◌, ◌<◌, ℕ, ℤ, List, IfOk, OnOk, length, slice_set, slice_index, slice_index_or};
 ghost use Rattle.lattice.specs.Mosaic.{void};
 ghost use Rattle.tile_flood.specs.Labelling.{NO_LABEL as no_label};
-ghost use Rattle.tile_flood.specs.Waiting.{HasBucket, waiting, IsJoined};
+ghost use Rattle.tile_flood.specs.Waiting.{waiting, IsJoined};
 ghost use Rattle.tile_flood.specs.Cells.{OPEN as open_label, levels_of, labels_of, AreCells};
 
+use crate::full_queue::FullQueue;
 use crate::labelled::NO_LABEL;
-use crate::queue::Queue;
 use crate::values::{at, has_level};
 use std::alloc::{AllocError, Global};
 
@@ -63,14 +63,13 @@ pub(crate) fn labels_in(alloc: Global, cells: &[Cell]) -> Result<Vec<u16>, Alloc
 #[inline(always)]
 pub(crate) fn mark(
     cells: &mut [Cell],
-    queue: &mut Queue,
+    queue: &mut FullQueue,
     e: usize,
     level: i16,
     label: u16,
 ) -> Result<(), AllocError>
     requires small { e < 4294967296 }
     requires inside { e < length cells.old }
-    requires bucket { HasBucket queue.old level }
     requires labelled { (label ≢ no_label) × (label ≢ open_label) }
     ensures levels { OnOk result (levels_of cells.new ≡ slice_set (levels_of cells.old) e level) }
     ensures labels { OnOk result (labels_of cells.new ≡ slice_set (labels_of cells.old) e label) }

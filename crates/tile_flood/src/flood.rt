@@ -1,25 +1,27 @@
 //! Priority-Flood over one block (Barnes, Lehman and Mulla 2014), with labels.
-ghost use Rattle.std.specs.Prelude.{◌≡◌, ◌<◌, ℕ, ◌*◌, ◌+◌, ◌/◌, ◌≤◌, IfOk, IfErr, OnOk, IsTrue, false, length, slice_set, slice_index, slice_index_or};
+ghost use Rattle.std.specs.Prelude.{◌≡◌, ◌<◌, ℕ, ◌*◌, ◌+◌, IfOk, IfErr, OnOk, IsTrue, length, slice_set, slice_index, slice_index_or};
 ghost use Rattle.std.specs.Ordering.{int_eq};
 ghost use Rattle.lattice.specs.Limits.{IsSide};
 ghost use Rattle.lattice.specs.Mosaic.{void};
-ghost use Rattle.lattice.specs.Block.{is_solid, is_linked};
+ghost use Rattle.lattice.specs.Block.{is_solid};
 ghost use Rattle.lattice.specs.declared.refusal.Refusal.TheVariants.{NoMemory};
 ghost use Rattle.tile_flood.specs.Labelling.{IsLabelling, NO_LABEL as no_label};
 ghost use Rattle.tile_flood.specs.Carried.{AreCarried};
 ghost use Rattle.tile_flood.specs.Blocks.{block_of, bare_block};
-ghost use Rattle.tile_flood.specs.Waiting.{HasBucket, waiting, IsJoined};
+ghost use Rattle.tile_flood.specs.Waiting.{waiting, IsJoined};
 ghost use Rattle.tile_flood.specs.Cells.{levels_of, labels_of, AreCells};
-ghost use Rattle.tile_flood.specs.Flooding.{is_marked, unmarked, AreMarkedStill, IsRowMarked, IsFlooding, IsSpreading};
+ghost use Rattle.tile_flood.specs.Flooding.{is_marked, unmarked, AreMarkedStill, IsNear, IsFlooding, IsSpreading};
 
+use crate::affected::window_point;
 use crate::block::Block;
 use crate::cells::{Cell, labels_in, levels_in, unlabelled};
+use crate::full_queue::FullQueue;
 use crate::labelled::Labelled;
 use crate::outlets::is_ground;
 use crate::queue::Queue;
 use crate::seeding::seed;
 use crate::settling::settle;
-use crate::values::{at, has_level, higher, range_of};
+use crate::values::{at, has_level, higher};
 use lattice::Refusal;
 use std::alloc::{AllocError, Global};
 
@@ -102,41 +104,15 @@ impl Flood {
             level,
             label: self.labels[point],
         };
-        let row = point / n;
-        for i in row.saturating_sub(1)..(row + 2).min(n) {
-            self.visit_row(n, heights, sinks, front, i)?;
+        for d in 0..9 {
+            if let Some(e) = window_point(n, point, d) {
+                self.visit(n, heights, sinks, front, e)?;
+            }
         }
         Ok(())
     }
 
-    // Marks the points of a row beside the front.
-    fn visit_row(
-        &mut self,
-        n: usize,
-        heights: &[i16],
-        sinks: &[u32],
-        front: Front,
-        i: usize,
-    ) -> Result<(), AllocError>
-        requires side { IsSide n }
-        requires small { n * n < 4294967296 }
-        requires whole { length heights.now ≡ n * n }
-        requires state { IsSpreading (block_of n heights.now sinks.now) self.old.levels.items self.old.labels.items self.old.queue front.point front.level front.label }
-        requires i { i < n }
-        requires row { (front.point / n ≤ i + 1) × (i ≤ front.point / n + 1) }
-        ensures state { OnOk result (IsSpreading (block_of n heights.now sinks.now) self.new.levels.items self.new.labels.items self.new.queue front.point front.level front.label) }
-        ensures marked { OnOk result (IsRowMarked n heights.now self.new.levels.items front.point i) }
-        ensures still { OnOk result (AreMarkedStill self.old.levels.items self.new.levels.items) }
-        ensures count { OnOk result (unmarked self.new.levels.items + waiting self.new.queue ≡ unmarked self.old.levels.items + waiting self.old.queue) }
-    {
-        let column = front.point % n;
-        for j in column.saturating_sub(1)..(column + 2).min(n) {
-            self.visit(n, heights, sinks, front, i * n + j)?;
-        }
-        Ok(())
-    }
-
-    // Marks the point e, which may lie beside the front, that was taken at the lowest level.
+    // Marks the point e, near the front, that was taken at the lowest level.
     fn visit(
         &mut self,
         n: usize,
@@ -149,7 +125,7 @@ impl Flood {
         requires whole { length heights.now ≡ n * n }
         requires state { IsSpreading (block_of n heights.now sinks.now) self.old.levels.items self.old.labels.items self.old.queue front.point front.level front.label }
         requires e { e < n * n }
-        requires beside { IsTrue (is_solid (bare_block n heights.now) e) → is_marked self.old.levels.items e ≡ false → IsTrue (is_linked (bare_block n heights.now) front.point e) }
+        requires near { IsNear n front.point e }
         ensures state { OnOk result (IsSpreading (block_of n heights.now sinks.now) self.new.levels.items self.new.labels.items self.new.queue front.point front.level front.label) }
         ensures marked { OnOk result (IsTrue (is_solid (bare_block n heights.now) e) → IsTrue (is_marked self.new.levels.items e)) }
         ensures still { OnOk result (AreMarkedStill self.old.levels.items self.new.levels.items) }
@@ -181,7 +157,6 @@ impl Flood {
         requires small { e < 4294967296 }
         requires levels { e < length self.old.levels.items }
         requires labels { e < length self.old.labels.items }
-        requires bucket { HasBucket self.old.queue level }
         ensures levels { OnOk result (self.new.levels.items ≡ slice_set self.old.levels.items e level) }
         ensures labels { OnOk result (self.new.labels.items ≡ slice_set self.old.labels.items e label) }
         ensures joined { OnOk result (IsJoined self.old.queue self.new.queue level e) }
@@ -211,7 +186,7 @@ fn flood_cells(
     ensures labelling { OnOk result (IsLabelling (block_of n heights.now sinks.now) (levels_of cells.new) (labels_of cells.new)) }
     ensures carried { OnOk result (AreCarried (block_of n heights.now sinks.now) (levels_of cells.new) (labels_of cells.new)) }
 {
-    let mut queue = Queue::new(alloc, range_of(heights))?;
+    let mut queue = FullQueue::new(alloc)?;
     seed(n, heights, sinks, cells, &mut queue)?;
     settle(n, heights, sinks, cells, &mut queue)?;
     Ok(())

@@ -18,6 +18,7 @@ mod block;
 mod cells;
 mod clearing;
 mod flood;
+mod full_queue;
 mod labelled;
 mod lowering;
 mod mending;
@@ -29,6 +30,7 @@ mod reseeding;
 mod seeding;
 mod settling;
 mod values;
+mod waiting;
 
 pub use block::Block;
 pub use flood::Flood;

@@ -6,9 +6,9 @@ ghost use Rattle.lattice.specs.Mosaic.{void};
 ghost use Rattle.lattice.specs.Block.{is_solid, is_beside, is_exit};
 ghost use Rattle.tile_flood.specs.Blocks.{block_of};
 ghost use Rattle.tile_flood.specs.Flooding.{is_marked};
-ghost use Rattle.tile_flood.specs.Waiting.{Waits, waiting, IsJoined, HasEvery, WaitStill};
+ghost use Rattle.tile_flood.specs.Waiting.{Waits, waiting, IsJoined, WaitInside};
 ghost use Rattle.tile_flood.specs.Mending.{IsLabelledBefore};
-ghost use Rattle.tile_flood.specs.Lowering.{IsStarting, IsLowering, IsReady, AreLowered, AreRelaxed, AreRelaxing, AreRelaxingBut, AreOutletsLow, depth};
+ghost use Rattle.tile_flood.specs.Lowering.{IsStarting, IsLowering, AreLowered, AreRelaxed, AreRelaxing, AreRelaxingBut, AreOutletsLow, depth};
 
 use crate::affected::{Affected, window_point};
 use crate::flood::Flood;
@@ -30,11 +30,10 @@ impl Flood {
         requires small { n * n < 4294967296 }
         requires whole { length heights.now ≡ n * n }
         requires before { IsLabelledBefore (block_of n heights.now sinks.now) points.now self.old.levels.items self.old.labels.items }
-        requires every { HasEvery self.old.queue }
         requires nobody { (l : ℤ) (e : ℕ) → Waits self.old.queue l e → ⊥ }
         requires none { affected.old.items ≡ [] }
         ensures state { OnOk result (IsLowering (block_of n heights.now sinks.now) self.new.levels.items self.new.labels.items affected.new.items) }
-        ensures ready { OnOk result (IsReady n self.new.queue) }
+        ensures inside { OnOk result (WaitInside n self.new.queue) }
         ensures relaxing { OnOk result (AreRelaxing (block_of n heights.now sinks.now) self.new.levels.items self.new.queue) }
         ensures exits { OnOk result (AreOutletsLow (block_of n heights.now sinks.now) self.new.levels.items) }
     {
@@ -82,12 +81,11 @@ impl Flood {
         requires small { n * n < 4294967296 }
         requires whole { length heights.now ≡ n * n }
         requires state { IsLowering (block_of n heights.now sinks.now) self.old.levels.items self.old.labels.items affected.old.items }
-        requires ready { IsReady n self.old.queue }
+        requires inside { WaitInside n self.old.queue }
         requires relaxing { AreRelaxing (block_of n heights.now sinks.now) self.old.levels.items self.old.queue }
         requires exits { AreOutletsLow (block_of n heights.now sinks.now) self.old.levels.items }
         ensures state { OnOk result (IsLowering (block_of n heights.now sinks.now) self.new.levels.items self.new.labels.items affected.new.items) }
         ensures relaxed { OnOk result (AreRelaxed (block_of n heights.now sinks.now) self.new.levels.items) }
-        ensures every { OnOk result (HasEvery self.new.queue) }
         ensures nobody { OnOk result ((l : ℤ) (e : ℕ) → Waits self.new.queue l e → ⊥) }
     {
         while let Some(seat) = self.queue.pop() {
@@ -111,10 +109,10 @@ impl Flood {
         requires whole { length heights.now ≡ n * n }
         requires c { c < n * n }
         requires state { IsLowering (block_of n heights.now sinks.now) self.old.levels.items self.old.labels.items affected.old.items }
-        requires ready { IsReady n self.old.queue }
+        requires inside { WaitInside n self.old.queue }
         requires relaxing { AreRelaxingBut (block_of n heights.now sinks.now) self.old.levels.items self.old.queue c level }
         ensures state { OnOk result (IsLowering (block_of n heights.now sinks.now) self.new.levels.items self.new.labels.items affected.new.items) }
-        ensures ready { OnOk result (IsReady n self.new.queue) }
+        ensures inside { OnOk result (WaitInside n self.new.queue) }
         ensures relaxing { OnOk result (AreRelaxing (block_of n heights.now sinks.now) self.new.levels.items self.new.queue) }
         ensures lowered { OnOk result (AreLowered self.old.levels.items self.new.levels.items self.old.queue self.new.queue) }
         ensures count { OnOk result (depth self.new.levels.items + depth self.new.levels.items + waiting self.new.queue ≤ depth self.old.levels.items + depth self.old.levels.items + waiting self.old.queue) }
@@ -141,9 +139,9 @@ impl Flood {
         requires whole { length heights.now ≡ n * n }
         requires e { e < n * n }
         requires state { IsLowering (block_of n heights.now sinks.now) self.old.levels.items self.old.labels.items affected.old.items }
-        requires ready { IsReady n self.old.queue }
+        requires inside { WaitInside n self.old.queue }
         ensures state { OnOk result (IsLowering (block_of n heights.now sinks.now) self.new.levels.items self.new.labels.items affected.new.items) }
-        ensures ready { OnOk result (IsReady n self.new.queue) }
+        ensures inside { OnOk result (WaitInside n self.new.queue) }
         ensures lowered { OnOk result (AreLowered self.old.levels.items self.new.levels.items self.old.queue self.new.queue) }
         ensures low { OnOk result (IsTrue (is_solid (block_of n heights.now sinks.now) e) → slice_index_or self.new.levels.items e void ≤ℤ int_max (slice_index_or heights.now e void) level) }
         ensures count { OnOk result (depth self.new.levels.items + depth self.new.levels.items + waiting self.new.queue ≤ depth self.old.levels.items + depth self.old.levels.items + waiting self.old.queue) }
@@ -168,7 +166,6 @@ impl Flood {
         requires small { e < 4294967296 }
         requires levels { e < length self.old.levels.items }
         requires labels { e < length self.old.labels.items }
-        requires every { HasEvery self.old.queue }
         ensures levels { OnOk result (self.new.levels.items ≡ slice_set self.old.levels.items e level) }
         ensures labels { OnOk result (self.new.labels.items ≡ self.old.labels.items) }
         ensures joined { OnOk result (IsJoined self.old.queue self.new.queue level e) }
@@ -182,27 +179,6 @@ impl Flood {
         })?;
         self.queue.push(level, e as u32)?;
         self.levels[e] = level;
-        Ok(())
-    }
-
-    // Lets all marked points beside the point wait.
-    fn wait_beside(&mut self, n: usize, point: usize) -> Result<(), AllocError>
-        requires side { IsSide n }
-        requires small { n * n < 4294967296 }
-        requires point { point < n * n }
-        requires levels { length self.old.levels.items ≡ n * n }
-        requires ready { IsReady n self.old.queue }
-        ensures levels { OnOk result (self.new.levels.items ≡ self.old.levels.items) }
-        ensures labels { OnOk result (self.new.labels.items ≡ self.old.labels.items) }
-        ensures ready { OnOk result (IsReady n self.new.queue) }
-        ensures still { OnOk result (WaitStill self.old.queue self.new.queue) }
-        ensures waits { OnOk result ((y : ℕ) → y < n * n → IsTrue (is_beside n point y) → IsTrue (is_marked self.old.levels.items y) → Waits self.new.queue (slice_index_or self.old.levels.items y void) y) }
-    {
-        for d in 0..9 {
-            if let Some(e) = window_point(n, point, d) {
-                self.wait(e)?;
-            }
-        }
         Ok(())
     }
 }

@@ -1,18 +1,16 @@
 //! Mending: the labelling of a block after heights of its ground points changed.
-ghost use Rattle.std.specs.Prelude.{◌≡◌, ℕ, ℤ, IfOk, IfErr};
+ghost use Rattle.std.specs.Prelude.{◌≡◌, IfOk, IfErr};
 ghost use Rattle.lattice.specs.declared.refusal.Refusal.TheVariants.{NoMemory};
 ghost use Rattle.tile_flood.specs.Labelling.{IsLabelling};
 ghost use Rattle.tile_flood.specs.Carried.{AreCarried};
 ghost use Rattle.tile_flood.specs.Mending.{IsLabelledBefore};
-ghost use Rattle.tile_flood.specs.Waiting.{Waits, HasEvery};
 
 use crate::block::Block;
 use crate::flood::Flood;
 use crate::labelled::Labelled;
 use crate::queue::Queue;
-use crate::values::Range;
 use lattice::Refusal;
-use std::alloc::{AllocError, Global};
+use std::alloc::Global;
 
 /// The labelling of the block, from one of the block as it was before the heights of these points changed, by index: what
 /// `Flood::run` or `mend` answered for it. Which points are ground, and the sinks, must be the same as before; points of the
@@ -35,7 +33,7 @@ pub fn mend(
     let n = side.samples() as usize;
     let heights = block.heights();
     let sinks = block.sinks();
-    let mut flood = Flood::of_labelled(alloc, labelled)?;
+    let mut flood = labelled.into_flood(Queue::new(alloc));
     let mut affected = Vec::new(alloc);
     flood.lower_changed(n, heights, sinks, points, &mut affected)?;
     flood.lower_levels(n, heights, sinks, &mut affected)?;
@@ -48,21 +46,4 @@ pub fn mend(
     flood.reseed(n, heights, sinks, &affected)?;
     flood.settle(n, heights, sinks)?;
     Ok(Labelled::of_flood(side, flood.levels, flood.labels))
-}
-
-impl Flood {
-    // What has been labelled, and nobody waits.
-    fn of_labelled(alloc: Global, labelled: Labelled) -> Result<Flood, AllocError>
-        ensures levels { IfOk result (λ flood. flood.levels.items ≡ labelled.levels) }
-        ensures labels { IfOk result (λ flood. flood.labels.items ≡ labelled.labels) }
-        ensures every { IfOk result (λ flood. HasEvery flood.queue) }
-        ensures nobody { IfOk result (λ flood. (l : ℤ) (e : ℕ) → Waits flood.queue l e → ⊥) }
-    {
-        let every = Range {
-            least: i16::MIN,
-            greatest: i16::MAX,
-        };
-        let queue = Queue::new(alloc, every)?;
-        Ok(labelled.into_flood(queue))
-    }
 }

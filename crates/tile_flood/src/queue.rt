@@ -1,8 +1,7 @@
 //! The points that wait to spread, the lowest level first.
-ghost use Rattle.std.specs.Prelude.{◌≡◌, ℕ, ℤ, ◌+◌, ◌≤ℤ◌, IfOk, OnOk, IfSome, IfNone, MatchOption};
-ghost use Rattle.tile_flood.specs.Waiting.{Waits, HasBucket, waiting, IsJoined, IsTaken};
+ghost use Rattle.std.specs.Prelude.{◌≡◌, ℕ, ℤ, ◌+◌, OnOk, IfSome, IfNone, MatchOption};
+ghost use Rattle.tile_flood.specs.Waiting.{Waits, HasBucket, waiting, IsJoined, IsTaken, IsExtended};
 
-use crate::values::Range;
 use std::alloc::{AllocError, Global};
 use std::marker::Model;
 
@@ -13,9 +12,11 @@ pub(crate) struct Seat {
     pub(crate) point: u32,
 }
 
-/// The points that wait, in a bucket for each level of a range.
+/// The points that wait, in a bucket for each level of a range, which is extended where a point waits at another level: for
+/// few points, where buckets for all levels would take longer than what they are for.
 #[derive(Drop)]
 pub(crate) struct Queue {
+    alloc: Global,
     // The level of the first bucket.
     least: i16,
     buckets: Vec<Vec<u32>>,
@@ -35,26 +36,59 @@ impl Model for Queue {
 }
 
 impl Queue {
-    /// A queue where no point waits, with a bucket for each level of the range.
-    pub(crate) fn new(alloc: Global, range: Range) -> Result<Queue, AllocError>
-        ensures buckets { IfOk result (λ queue. (level : ℤ) → range.least ≤ℤ level → level ≤ℤ range.greatest → HasBucket queue level) }
-        ensures nobody { IfOk result (λ queue. (level : ℤ) (e : ℕ) → Waits queue level e → ⊥) }
-        ensures count { IfOk result (λ queue. waiting queue ≡ 0) }
+    /// A queue where no point waits.
+    pub(crate) fn new(alloc: Global) -> Queue
+        ensures { (level : ℤ) (e : ℕ) → Waits result level e → ⊥ }
     {
-        let count = levels_in(range);
-        let mut buckets = Vec::with_capacity(alloc, count)?;
-        for _ in 0..count {
-            buckets.push(Vec::new(alloc))?;
-        }
-        Ok(Queue {
-            least: range.least,
-            buckets,
+        Queue {
+            alloc,
+            least: 0,
+            buckets: Vec::new(alloc),
             lowest: 0,
-        })
+        }
     }
 
     /// Lets the point wait at this level.
     pub(crate) fn push(&mut self, level: i16, point: u32) -> Result<(), AllocError>
+        ensures joined { OnOk result (IsJoined self.old self.new level point) }
+        ensures count { OnOk result (waiting self.new ≡ waiting self.old + 1) }
+    {
+        self.reach(level)?;
+        self.put(level, point)?;
+        Ok(())
+    }
+
+    // Makes the level's bucket, where there is none.
+    fn reach(&mut self, level: i16) -> Result<(), AllocError>
+        ensures bucket { OnOk result (HasBucket self.new level) }
+        ensures extended { OnOk result (IsExtended self.old self.new) }
+    {
+        if is_in_range(self.least, self.buckets.len(), level) {
+            return Ok(());
+        }
+        self.extend(level)
+    }
+
+    // Makes buckets for further levels, this one among them, for as many again as there are.
+    fn extend(&mut self, level: i16) -> Result<(), AllocError>
+        ensures bucket { OnOk result (HasBucket self.new level) }
+        ensures extended { OnOk result (IsExtended self.old self.new) }
+    {
+        let count = self.buckets.len();
+        let below = count_below(self.least, level, count);
+        let above = count_above(self.least, level, count);
+        let mut buckets = empty_buckets(self.alloc, below)?;
+        let mut rest = empty_buckets(self.alloc, above)?;
+        buckets.append(&mut self.buckets)?;
+        buckets.append(&mut rest)?;
+        self.least = level_below(self.least, below);
+        self.buckets = buckets;
+        self.lowest = 0;
+        Ok(())
+    }
+
+    // Puts the point into the level's bucket.
+    fn put(&mut self, level: i16, point: u32) -> Result<(), AllocError>
         requires { HasBucket self.old level }
         ensures joined { OnOk result (IsJoined self.old self.new level point) }
         ensures count { OnOk result (waiting self.new ≡ waiting self.old + 1) }
@@ -81,11 +115,12 @@ impl Queue {
     }
 }
 
-ghost use Rattle.std.specs.Prelude.{◌<◌, ◌≤◌, [], map, length, pos, ◌+ℤ◌, ◌<ℤ◌};
-ghost use Rattle.tile_flood.specs.Waiting.{bucket};
+ghost use Rattle.std.specs.Prelude.{◌<◌, ◌≤◌, ◌≤ℤ◌, [], IfOk, IsTrue, map, length, pos, ◌+ℤ◌, ◌-ℤ◌, ◌<ℤ◌};
+ghost use Rattle.lattice.specs.Mosaic.{void};
+ghost use Rattle.tile_flood.specs.Waiting.{bucket, AreEmpty};
 
 // The first bucket that isn't empty, from this one on.
-fn first_in_use(buckets: &[Vec<u32>], from: usize) -> Option<usize>
+pub(crate) fn first_in_use(buckets: &[Vec<u32>], from: usize) -> Option<usize>
     ensures none { IfNone result ((b : ℕ) → from ≤ b → bucket (map (λ v. v.items) buckets.now) b ≡ []) }
     ensures in_range { IfSome result (λ k. k < length buckets.now) }
     ensures in_use { IfSome result (λ k. 0 < length (bucket (map (λ v. v.items) buckets.now) k)) }
@@ -99,15 +134,62 @@ fn first_in_use(buckets: &[Vec<u32>], from: usize) -> Option<usize>
     None
 }
 
-// How many levels a range has.
-fn levels_in(range: Range) -> usize
-    ensures few { (range.least +ℤ pos result) ≤ℤ pos 32768 }
-    ensures all { range.least ≤ℤ range.greatest → range.greatest <ℤ (range.least +ℤ pos result) }
+// So many empty buckets.
+pub(crate) fn empty_buckets(alloc: Global, count: usize) -> Result<Vec<Vec<u32>>, AllocError>
+    ensures count { IfOk result (λ buckets. length buckets.items ≡ count) }
+    ensures empty { IfOk result (λ buckets. AreEmpty (map (λ v. v.items) buckets.items)) }
 {
-    if range.greatest < range.least {
+    let mut buckets = Vec::with_capacity(alloc, count)?;
+    for _ in 0..count {
+        buckets.push(Vec::new(alloc))?;
+    }
+    Ok(buckets)
+}
+
+// The level is one of so many from the least on.
+fn is_in_range(least: i16, count: usize, level: i16) -> bool
+    ensures { IsTrue result → (least ≤ℤ level) × (level <ℤ (least +ℤ pos count)) }
+{
+    let number = i32::from(level) - i32::from(least);
+    number >= 0 && (number as usize) < count
+}
+
+// How many levels to add below the least, where the level is there: down to it, and as many more as there are.
+fn count_below(least: i16, level: i16, count: usize) -> usize
+    requires { (least +ℤ pos count) ≤ℤ pos 32768 }
+    ensures few { void ≤ℤ (least -ℤ pos result) }
+    ensures reached { (least -ℤ pos result) ≤ℤ level }
+{
+    if level >= least {
         return 0;
     }
-    (i32::from(range.greatest) - i32::from(range.least) + 1) as usize
+    let wanted = number_of(level, least) + count;
+    wanted.min(number_of(i16::MIN, least))
+}
+
+// How many to add above the last one, in the same way.
+fn count_above(least: i16, level: i16, count: usize) -> usize
+    requires { (least +ℤ pos count) ≤ℤ pos 32768 }
+    ensures few { ((least +ℤ pos count) +ℤ pos result) ≤ℤ pos 32768 }
+    ensures reached { least ≤ℤ level → level <ℤ ((least +ℤ pos count) +ℤ pos result) }
+{
+    if level < least {
+        return 0;
+    }
+    let number = number_of(least, level);
+    if number < count {
+        return 0;
+    }
+    let most = 65536 - (number_of(i16::MIN, least) + count);
+    most.min(number + 1)
+}
+
+// The level that is so many below the least.
+fn level_below(least: i16, below: usize) -> i16
+    requires { void ≤ℤ (least -ℤ pos below) }
+    ensures { result ≡ least -ℤ pos below }
+{
+    (i32::from(least) - below as i32) as i16
 }
 
 // The number of a level's bucket.

@@ -1,15 +1,18 @@
 //! A flood begins at the outlets of a block.
-ghost use Rattle.std.specs.Prelude.{◌≡◌, ◌<◌, ◌*◌, ◌+◌, OnOk, IsTrue, length};
+ghost use Rattle.std.specs.Prelude.{◌≡◌, ◌<◌, ◌≤◌, ◌*◌, ◌+◌, OnOk, IsTrue, length};
 ghost use Rattle.lattice.specs.Limits.{IsSide};
 ghost use Rattle.tile_flood.specs.Blocks.{block_of};
 ghost use Rattle.tile_flood.specs.Cells.{levels_of, labels_of, AreCells};
-ghost use Rattle.tile_flood.specs.Flooding.{IsFullRow, IsPlainRow, IsSeeding, IsFlooding};
+ghost use Rattle.tile_flood.specs.Flooding.{IsFullSpan, IsPlainSpan, IsSeeding, IsFlooding};
 
 use crate::cells::{Cell, mark};
+use crate::full_queue::FullQueue;
 use crate::outlets::{is_ground, own_label};
-use crate::queue::Queue;
 use crate::values::at;
 use std::alloc::AllocError;
+
+// So many columns of a row are looked at together: most have no outlet.
+const SPAN: usize = 64;
 
 // Marks the outlets, each at its own height and with its own label.
 pub(crate) fn seed(
@@ -17,7 +20,7 @@ pub(crate) fn seed(
     heights: &[i16],
     sinks: &[u32],
     cells: &mut [Cell],
-    queue: &mut Queue,
+    queue: &mut FullQueue,
 ) -> Result<(), AllocError>
     requires side { IsSide n }
     requires small { n * n < 4294967296 }
@@ -28,11 +31,7 @@ pub(crate) fn seed(
     ensures state { OnOk result (IsFlooding (block_of n heights.now sinks.now) (levels_of cells.new) (labels_of cells.new) queue.new) }
 {
     for i in 0..n {
-        if is_plain(n, heights, sinks, i) {
-            seed_ends(n, heights, sinks, cells, queue, i)?;
-        } else {
-            seed_row(n, heights, sinks, cells, queue, i)?;
-        }
+        seed_row(n, heights, sinks, cells, queue, i)?;
     }
     Ok(())
 }
@@ -43,45 +42,80 @@ fn seed_row(
     heights: &[i16],
     sinks: &[u32],
     cells: &mut [Cell],
-    queue: &mut Queue,
+    queue: &mut FullQueue,
     i: usize,
 ) -> Result<(), AllocError>
     requires side { IsSide n }
     requires small { n * n < 4294967296 }
     requires whole { length heights.now ≡ n * n }
     requires i { i < n }
-    requires cells { AreCells heights.now cells.old }
-    requires state { IsSeeding (block_of n heights.now sinks.now) (levels_of cells.old) (labels_of cells.old) queue.old (i * n) }
-    ensures cells { OnOk result (AreCells heights.now cells.new) }
-    ensures state { OnOk result (IsSeeding (block_of n heights.now sinks.now) (levels_of cells.new) (labels_of cells.new) queue.new ((i + 1) * n)) }
-{
-    for j in 0..n {
-        seed_at(n, heights, sinks, cells, queue, i, j)?;
-    }
-    Ok(())
-}
-
-// Marks the outlets of a row, where only its ends can be any.
-fn seed_ends(
-    n: usize,
-    heights: &[i16],
-    sinks: &[u32],
-    cells: &mut [Cell],
-    queue: &mut Queue,
-    i: usize,
-) -> Result<(), AllocError>
-    requires side { IsSide n }
-    requires small { n * n < 4294967296 }
-    requires whole { length heights.now ≡ n * n }
-    requires i { i < n }
-    requires plain { IsPlainRow (block_of n heights.now sinks.now) i }
     requires cells { AreCells heights.now cells.old }
     requires state { IsSeeding (block_of n heights.now sinks.now) (levels_of cells.old) (labels_of cells.old) queue.old (i * n) }
     ensures cells { OnOk result (AreCells heights.now cells.new) }
     ensures state { OnOk result (IsSeeding (block_of n heights.now sinks.now) (levels_of cells.new) (labels_of cells.new) queue.new ((i + 1) * n)) }
 {
     seed_at(n, heights, sinks, cells, queue, i, 0)?;
+    let mut from = 1;
+    while from < n - 1 {
+        let to = (from + SPAN).min(n - 1);
+        seed_span(n, heights, sinks, cells, queue, i, from, to)?;
+        from = to;
+    }
     seed_at(n, heights, sinks, cells, queue, i, n - 1)?;
+    Ok(())
+}
+
+// Marks the outlets of a row in these columns, where there are any.
+fn seed_span(
+    n: usize,
+    heights: &[i16],
+    sinks: &[u32],
+    cells: &mut [Cell],
+    queue: &mut FullQueue,
+    i: usize,
+    from: usize,
+    to: usize,
+) -> Result<(), AllocError>
+    requires side { IsSide n }
+    requires small { n * n < 4294967296 }
+    requires whole { length heights.now ≡ n * n }
+    requires i { i < n }
+    requires columns { (0 < from) × ((from ≤ to) × (to < n)) }
+    requires cells { AreCells heights.now cells.old }
+    requires state { IsSeeding (block_of n heights.now sinks.now) (levels_of cells.old) (labels_of cells.old) queue.old (i * n + from) }
+    ensures cells { OnOk result (AreCells heights.now cells.new) }
+    ensures state { OnOk result (IsSeeding (block_of n heights.now sinks.now) (levels_of cells.new) (labels_of cells.new) queue.new (i * n + to)) }
+{
+    if is_plain(n, heights, sinks, i, from, to) {
+        return Ok(());
+    }
+    seed_columns(n, heights, sinks, cells, queue, i, from, to)
+}
+
+// Marks the outlets of a row in these columns.
+fn seed_columns(
+    n: usize,
+    heights: &[i16],
+    sinks: &[u32],
+    cells: &mut [Cell],
+    queue: &mut FullQueue,
+    i: usize,
+    from: usize,
+    to: usize,
+) -> Result<(), AllocError>
+    requires side { IsSide n }
+    requires small { n * n < 4294967296 }
+    requires whole { length heights.now ≡ n * n }
+    requires i { i < n }
+    requires columns { (from ≤ to) × (to < n) }
+    requires cells { AreCells heights.now cells.old }
+    requires state { IsSeeding (block_of n heights.now sinks.now) (levels_of cells.old) (labels_of cells.old) queue.old (i * n + from) }
+    ensures cells { OnOk result (AreCells heights.now cells.new) }
+    ensures state { OnOk result (IsSeeding (block_of n heights.now sinks.now) (levels_of cells.new) (labels_of cells.new) queue.new (i * n + to)) }
+{
+    for j in from..to {
+        seed_at(n, heights, sinks, cells, queue, i, j)?;
+    }
     Ok(())
 }
 
@@ -91,7 +125,7 @@ fn seed_at(
     heights: &[i16],
     sinks: &[u32],
     cells: &mut [Cell],
-    queue: &mut Queue,
+    queue: &mut FullQueue,
     i: usize,
     j: usize,
 ) -> Result<(), AllocError>
@@ -112,29 +146,35 @@ fn seed_at(
     Ok(())
 }
 
-// Only the ends of the row can be outlets: no void lies in it or in a row beside it, and the block has no sinks.
-fn is_plain(n: usize, heights: &[i16], sinks: &[u32], i: usize) -> bool
+// No point of the row in these columns can be an outlet: no void lies there or beside them, and the block has no sinks.
+fn is_plain(n: usize, heights: &[i16], sinks: &[u32], i: usize, from: usize, to: usize) -> bool
     requires side { IsSide n }
     requires small { n * n < 4294967296 }
     requires whole { length heights.now ≡ n * n }
     requires i { i < n }
-    ensures { IsTrue result → IsPlainRow (block_of n heights.now sinks.now) i }
+    requires columns { (0 < from) × ((from ≤ to) × (to < n)) }
+    ensures { IsTrue result → IsPlainSpan (block_of n heights.now sinks.now) i from to }
 {
     if !sinks.is_empty() || i == 0 || i + 1 == n {
         return false;
     }
-    is_full(n, heights, i - 1) && is_full(n, heights, i) && is_full(n, heights, i + 1)
+    let west = from - 1;
+    let east = to + 1;
+    is_full(n, heights, i - 1, west, east)
+        && is_full(n, heights, i, west, east)
+        && is_full(n, heights, i + 1, west, east)
 }
 
-// All points of the row are ground.
-fn is_full(n: usize, heights: &[i16], i: usize) -> bool
+// All points of the row in these columns are ground.
+fn is_full(n: usize, heights: &[i16], i: usize, from: usize, to: usize) -> bool
     requires small { n * n < 4294967296 }
     requires whole { length heights.now ≡ n * n }
     requires i { i < n }
-    ensures { IsTrue result → IsFullRow n heights.now i }
+    requires columns { to ≤ n }
+    ensures { IsTrue result → IsFullSpan n heights.now i from to }
 {
     let mut full = true;
-    for j in 0..n {
+    for j in from..to {
         full = full & is_ground(n, heights, i * n + j);
     }
     full

@@ -10,7 +10,7 @@ ghost use Rattle.tile_flood.specs.Cells.{levels_of, labels_of, AreCells};
 ghost use Rattle.tile_flood.specs.Flooding.{is_marked, unmarked, AreMarkedStill, IsNear, IsFlooding, IsSpreading};
 
 use crate::cells::{Cell, cell_at, is_open, mark};
-use crate::queue::Queue;
+use crate::full_queue::FullQueue;
 use crate::values::higher;
 use std::alloc::AllocError;
 
@@ -28,7 +28,7 @@ pub(crate) fn settle(
     heights: &[i16],
     sinks: &[u32],
     cells: &mut [Cell],
-    queue: &mut Queue,
+    queue: &mut FullQueue,
 ) -> Result<(), AllocError>
     requires side { IsSide n }
     requires small { n * n < 4294967296 }
@@ -56,7 +56,7 @@ fn spread(
     heights: &[i16],
     sinks: &[u32],
     cells: &mut [Cell],
-    queue: &mut Queue,
+    queue: &mut FullQueue,
     front: Front,
 ) -> Result<(), AllocError>
     requires side { IsSide n }
@@ -83,7 +83,7 @@ fn visit_row(
     heights: &[i16],
     sinks: &[u32],
     cells: &mut [Cell],
-    queue: &mut Queue,
+    queue: &mut FullQueue,
     front: Front,
     i: usize,
 ) -> Result<(), AllocError>
@@ -100,7 +100,7 @@ fn visit_row(
     ensures marked { OnOk result ((z : ℕ) → IsTrue (is_linked (bare_block n heights.now) front.point z) → z / n + 1 ≡ front.point / n + i → IsTrue (is_marked (levels_of cells.new) z)) }
 {
     let from = front.point + i * n;
-    if from <= n || from + 1 >= cells.len() + n {
+    if from <= n || from >= cells.len() + n - 1 {
         return Ok(());
     }
     let west = from - n - 1;
@@ -117,7 +117,7 @@ fn visit(
     heights: &[i16],
     sinks: &[u32],
     cells: &mut [Cell],
-    queue: &mut Queue,
+    queue: &mut FullQueue,
     front: Front,
     e: usize,
 ) -> Result<(), AllocError>

@@ -1,5 +1,5 @@
 //! Values at the points of a block.
-ghost use Rattle.std.specs.Prelude.{◌≡◌, ◌≢◌, ◌<◌, ◌≤ℤ◌, ℕ, length, slice_index, slice_index_or};
+ghost use Rattle.std.specs.Prelude.{◌≡◌, ◌<◌, length, slice_index, slice_index_or};
 ghost use Rattle.std.specs.Int.{int_max};
 ghost use Rattle.lattice.specs.Mosaic.{void};
 ghost use Rattle.tile_flood.specs.Flooding.{is_marked};
@@ -40,40 +40,4 @@ pub(crate) fn higher_of(values: &[i16], e: usize, f: usize) -> i16
     ensures { result ≡ int_max (slice_index_or values.now e void) (slice_index_or values.now f void) }
 {
     values[e].max(values[f])
-}
-
-/// The levels from the least to the greatest, none where the greatest is below the least.
-#[derive(Clone, Copy)]
-pub(crate) struct Range {
-    pub(crate) least: i16,
-    pub(crate) greatest: i16,
-}
-
-// The range of the heights, voids aside.
-pub(crate) fn range_of(heights: &[i16]) -> Range
-    ensures { (e : ℕ) → e < length heights.now → slice_index_or heights.now e void ≢ void
-        → (result.least ≤ℤ slice_index_or heights.now e void) × (slice_index_or heights.now e void ≤ℤ result.greatest) }
-{
-    let mut range = Range {
-        least: i16::MAX,
-        greatest: i16::MIN,
-    };
-    for height in heights {
-        range = widened(range, *height);
-    }
-    range
-}
-
-// The range with one height more.
-fn widened(range: Range, height: i16) -> Range
-    ensures within { height ≢ void → (result.least ≤ℤ height) × (height ≤ℤ result.greatest) }
-    ensures wider { (result.least ≤ℤ range.least) × (range.greatest ≤ℤ result.greatest) }
-{
-    if height == i16::MIN {
-        return range;
-    }
-    Range {
-        least: range.least.min(height),
-        greatest: range.greatest.max(height),
-    }
 }

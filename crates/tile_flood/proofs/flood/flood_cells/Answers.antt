@@ -1,6 +1,5 @@
-use Rattle.std.proofs.Common.{◌≡◌, ◌*◌, ◌∙◌, length, slice_index_or}
+use Rattle.std.proofs.Common.{◌≡◌, ◌*◌, ◌∙◌, length}
 use Rattle.std.proofs.lemmas.List.{length-map}
-use Rattle.lattice.specs.Mosaic.{void}
 use Rattle.tile_flood.specs.Cells.{level_of, label_of, levels_of, labels_of}
 use Rattle.tile_flood.proofs.Spreading.{seeding_start}
 use Rattle.tile_flood.proofs.flood.flood_cells.Goals as goal
@@ -13,5 +12,4 @@ seed-requires-clause-state c =
     let whole : length cells ≡ n * n = c.requires.cells.whole ∙ c.requires.whole in
     seeding_start n heights c.args.sinks.now (levels_of cells) (labels_of cells) c.in_ok-queue.queue (length-map cells level_of ∙ whole) (length-map cells label_of ∙ whole)
     c.requires.no_level c.requires.no_label
-    (λ e below on. let both = c.range_of.ensures e below on in c.in_ok-queue.ensures.buckets (slice_index_or heights e void) both.0 both.1)
-    c.in_ok-queue.ensures.nobody c.requires.whole
+    c.in_ok-queue.ensures

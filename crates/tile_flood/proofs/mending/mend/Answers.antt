@@ -1,8 +1,8 @@
-use Rattle.std.proofs.Common.{◌≡◌, sym, subst, ◌∙◌, length}
+use Rattle.std.proofs.Common.{◌≡◌, subst, ◌∙◌, length}
 use Rattle.tile_flood.specs.Blocks.{block_of}
 use Rattle.tile_flood.specs.Labelling.{IsLabelling}
 use Rattle.tile_flood.specs.Carried.{AreCarried}
-use Rattle.tile_flood.specs.Waiting.{Waits, HasEvery}
+use Rattle.tile_flood.specs.Waiting.{Waits}
 use Rattle.tile_flood.specs.Clearing.{AreListedCleared}
 use Rattle.tile_flood.proofs.Relaxation.{clearing_begins}
 use Rattle.tile_flood.proofs.mending.mend.Goals as goal
@@ -12,9 +12,6 @@ clear_dependents-requires-clause-state c =
     clearing_begins c.samples-n.result c.heights-heights.result.now c.sinks-sinks.result.now c.lower_levels.new.self.levels.items c.clear_listed.new.self.levels.items c.lower_levels.new.self.labels.items c.clear_listed.new.self.labels.items c.lower_levels.new.affected.items
     c.in_ok-lower_levels.ensures.state c.in_ok-lower_levels.ensures.relaxed
     (subst (λ xs. AreListedCleared c.lower_levels.new.self.levels.items c.clear_listed.new.self.levels.items c.lower_levels.new.self.labels.items c.clear_listed.new.self.labels.items xs (length xs)) c.deref.ensures.value c.clear_listed.ensures.cleared)
-
-pub reseed-requires-clause-every : goal.reseed-requires-clause-every
-reseed-requires-clause-every c = subst HasEvery (sym (c.in_ok-clear_dependents.ensures.queue ∙ c.clear_listed.ensures.queue)) c.in_ok-lower_levels.ensures.every
 
 pub reseed-requires-clause-nobody : goal.reseed-requires-clause-nobody
 reseed-requires-clause-nobody c l e w = c.in_ok-lower_levels.ensures.nobody l e (subst (λ q. Waits q l e) (c.in_ok-clear_dependents.ensures.queue ∙ c.clear_listed.ensures.queue) w)
@@ -38,3 +35,6 @@ returns-clause-carried c =
     (subst (λ hs. AreCarried (block_of c.samples-n.result hs b.sinks) c.settle.new.self.levels.items c.settle.new.self.labels.items) c.heights-heights.ensures.value
     (subst (λ ss. AreCarried (block_of c.samples-n.result c.heights-heights.result.now ss) c.settle.new.self.levels.items c.settle.new.self.labels.items) c.sinks-sinks.ensures
     c.in_ok-settle.ensures.carried)))
+
+pub lower_changed-requires-clause-nobody : goal.lower_changed-requires-clause-nobody
+lower_changed-requires-clause-nobody c l e w = c.new.ensures l e (subst (λ q. Waits q l e) c.into_flood-flood.ensures.queue w)

@@ -1,7 +1,7 @@
-use Rattle.std.proofs.Common.{ℕ, ◌<◌, ◌+◌, ◌*◌, IsTrue}
+use Rattle.std.proofs.Common.{ℕ, ◌<◌, ◌≤◌, ◌+◌, ◌*◌, IsTrue}
 use Rattle.lattice.specs.Block.{is_solid}
 use Rattle.tile_flood.specs.Blocks.{bare_block}
 use Rattle.tile_flood.proofs.seeding.is_full.Given as goal
 
 abbrev pub invariant-loop-j : goal.invariant-loop-j
-invariant-loop-j l = IsTrue l.full → (k : ℕ) → k < l.j → IsTrue (is_solid (bare_block l.n l.heights) (l.i * l.n + k))
+invariant-loop-j l = IsTrue l.full → (k : ℕ) → l.from ≤ k → k < l.j → IsTrue (is_solid (bare_block l.n l.heights) (l.i * l.n + k))

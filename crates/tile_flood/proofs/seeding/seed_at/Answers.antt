@@ -1,8 +1,7 @@
-use Rattle.std.proofs.Common.{arith, rules, ◌≡◌, ℕ, ◌+◌, ◌*◌, ◌<◌, ℤ, List, sym, subst, ◌∙◌, SFits, w16, to_z, of_z}
+use Rattle.std.proofs.Common.{arith, rules, ◌≡◌, ℕ, ◌+◌, ◌*◌, ◌<◌, ℤ, List, subst, ◌∙◌, SFits, w16, to_z, of_z}
 use Rattle.std.proofs.lemmas.Int.{to_z-of_z}
 use Rattle.std.proofs.lemmas.Nat.{rows}
-use Rattle.lattice.proofs.Lawful.{block_is_lawful}
-use Rattle.tile_flood.specs.Waiting.{Queue, HasBucket}
+use Rattle.tile_flood.specs.Waiting.{Queue}
 use Rattle.tile_flood.specs.Flooding.{IsSeeding}
 use Rattle.tile_flood.specs.Cells.{levels_of, labels_of}
 use Rattle.tile_flood.proofs.InCells.{own_labelled}
@@ -12,13 +11,6 @@ use Rattle.tile_flood.specs.Blocks.{block_of}
 
 in_square : (n i j : ℕ) → i < n → j < n → i * n + j < n * n
 in_square n i j row column = grind (arith, rows)
-
-pub mark-requires-clause-bucket : goal.mark-requires-clause-bucket
-mark-requires-clause-bucket c =
-    let fits : SFits w16 c.at.result = search rules in
-    let s = c.requires.state in
-    subst (HasBucket c.args.queue.now) (sym (to_z-of_z w16 c.at.result fits ∙ c.at.ensures))
-    (s.marks.buckets (c.args.i * c.args.n + c.args.j) ((block_is_lawful (block_of c.args.n c.args.heights.now c.args.sinks.now)).outlet_ground (c.args.i * c.args.n + c.args.j) c.in-Some.ensures.outlet) (s.fresh (c.args.i * c.args.n + c.args.j) (omega arith)))
 
 pub mark-requires-clause-labelled : goal.mark-requires-clause-labelled
 mark-requires-clause-labelled c = own_labelled c.args.n c.args.heights.now c.args.sinks.now (c.args.i * c.args.n + c.args.j) c.in-Some.label c.requires.side (in_square c.args.n c.args.i c.args.j c.requires.cell.0 c.requires.cell.1) c.in-Some.ensures.label

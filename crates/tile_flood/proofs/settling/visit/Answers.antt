@@ -1,9 +1,8 @@
-use Rattle.std.proofs.Common.{arith, rules, slice_index_or, ap, sym, subst, ◌∙◌, SFits, w16, to_z, of_z}
+use Rattle.std.proofs.Common.{arith, rules, slice_index_or, ap, sym, ◌∙◌, SFits, w16, to_z, of_z}
 use Rattle.lattice.specs.Mosaic.{void}
-use Rattle.tile_flood.specs.Waiting.{HasBucket}
 use Rattle.tile_flood.specs.Cells.{levels_of, labels_of}
 use Rattle.tile_flood.proofs.InCells.{IsOpen, none, open_if, marked_unless_open, front_labelled}
-use Rattle.tile_flood.proofs.Spreading.{IsVisited, visited_as, passed_max, higher_bucket, near_linked}
+use Rattle.tile_flood.proofs.Spreading.{IsVisited, visited_as, passed_max, near_linked}
 use Rattle.tile_flood.proofs.settling.visit.Goals as goal
 
 opened : (c : goal.After-higher) → IsOpen c.args.n c.args.heights.now c.args.cells.now c.args.e
@@ -11,17 +10,6 @@ opened c = open_if c.args.n c.args.heights.now c.args.cells.now c.args.e c.requi
 
 pub mark-requires-clause-labelled : goal.mark-requires-clause-labelled
 mark-requires-clause-labelled c = front_labelled c.args.n c.args.heights.now c.args.sinks.now c.args.cells.now c.args.queue.now c.args.front.point c.args.front.level c.args.front.label c.requires.whole c.requires.cells c.requires.state
-
-pub mark-requires-clause-bucket : goal.mark-requires-clause-bucket
-mark-requires-clause-bucket c =
-    let o = opened c in
-    let fits_height : SFits w16 c.cell_at-cell.result.level = search rules in
-    let fits_low : SFits w16 c.args.front.level = search rules in
-    let fits_new : SFits w16 c.higher.result = search rules in
-    let height = slice_index_or c.args.heights.now c.args.e void in
-    subst (HasBucket c.args.queue.now)
-    (sym (passed_max c.higher.result c.cell_at-cell.result.level c.args.front.level height fits_new fits_height fits_low c.higher.ensures (ap (λ cell. cell.level) (c.cell_at-cell.ensures none) ∙ o.height none)))
-    (higher_bucket c.args.queue.now height c.args.front.level (c.requires.state.marks.buckets c.args.e o.solid o.off) c.requires.state.bucket)
 
 after : (c : goal.In_ok-mark) → IsVisited c.args.n c.args.heights.now c.args.sinks.now (levels_of c.args.cells.now) (levels_of c.mark.new.cells) (labels_of c.mark.new.cells) c.mark.new.queue
     c.args.front.point c.args.front.level c.args.front.label c.args.e

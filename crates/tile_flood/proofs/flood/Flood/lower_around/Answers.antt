@@ -16,7 +16,7 @@ use Rattle.tile_flood.proofs.flood.Flood.lower_around.Goals.{in-Some+in_ok-lower
 pub loop-d-init : goal.loop-d-init
 loop-d-init c = record {
   state = c.requires.state;
-  ready = c.requires.ready;
+  inside = c.requires.inside;
   relaxing = let fits : SFits w16 c.args.level = search rules in subst (λ v. AreRelaxingBut (block_of c.args.n c.args.heights.now c.args.sinks.now) c.args.self.now.levels.items c.args.self.now.queue c.args.c v) (sym (to_z-of_z w16 c.args.level fits)) c.requires.relaxing;
   lowered = lowered_same c.args.self.now.levels.items c.args.self.now.queue;
   low = λ k y less small spot solid. absurd (omega arith);
@@ -38,7 +38,7 @@ loop-d-preserved c =
           let levels' = w.lower_at.new.self.levels.items in
           rw (w.self-is, w.affected-is) (record {
             state = a.state;
-            ready = a.ready;
+            inside = a.inside;
             relaxing = still_relaxing n c.args.heights.now c.args.sinks.now levels levels' c.loop-d.self.queue w.lower_at.new.self.queue c.args.c v i.relaxing a.lowered;
             lowered = lowered_twice c.args.self.now.levels.items levels levels' c.args.self.now.queue c.loop-d.self.queue w.lower_at.new.self.queue i.lowered a.lowered;
             low = λ k y less small spot solid. elim (cases_lt k d) [
@@ -52,7 +52,7 @@ loop-d-preserved c =
           })
       | in_default w ↦ rw (w.self-is, w.affected-is) (record {
         state = i.state;
-        ready = i.ready;
+        inside = i.inside;
         relaxing = i.relaxing;
         lowered = i.lowered;
         low = λ k y less small spot solid. elim (cases_lt k d) [

@@ -5,7 +5,7 @@ use Rattle.lattice.specs.Mosaic.{void}
 use Rattle.tile_flood.specs.Flooding.{is_marked}
 use Rattle.tile_flood.proofs.Squares.{solid_height}
 use Rattle.tile_flood.proofs.Spreading.{passed_max}
-use Rattle.tile_flood.proofs.Relaxation.{int_lt-true, IsLoweredAt, lowered_as, lowering_solid, max_full, depth_less, ready_still}
+use Rattle.tile_flood.proofs.Relaxation.{int_lt-true, IsLoweredAt, lowered_as, lowering_solid, max_full, depth_less, inside_still}
 use Rattle.tile_flood.proofs.flood.Flood.lower_at.Goals as goal
 
 is_max : (c : goal.In_ok-lower_to) → to_z w16 (of_z w16 c.higher-new.result) ≡ int_max (slice_index_or c.args.heights.now c.args.e void) c.args.level
@@ -56,8 +56,8 @@ returns-in_ok-lower_to-clause-state c = (after c).state
 pub returns-in_ok-lower_to-clause-lowered : goal.returns-in_ok-lower_to-clause-lowered
 returns-in_ok-lower_to-clause-lowered c = (after c).lowered
 
-pub returns-in_ok-lower_to-clause-ready : goal.returns-in_ok-lower_to-clause-ready
-returns-in_ok-lower_to-clause-ready c = ready_still c.args.n c.args.self.now.queue c.lower_to.new.self.queue (to_z w16 (of_z w16 c.higher-new.result)) c.args.e c.requires.ready c.requires.e c.in_ok-lower_to.ensures.joined
+pub returns-in_ok-lower_to-clause-inside : goal.returns-in_ok-lower_to-clause-inside
+returns-in_ok-lower_to-clause-inside c = inside_still c.args.n c.args.self.now.queue c.lower_to.new.self.queue (to_z w16 (of_z w16 c.higher-new.result)) c.args.e c.requires.inside c.requires.e c.in_ok-lower_to.ensures.joined
 
 pub returns-in_ok-lower_to-clause-count : goal.returns-in_ok-lower_to-clause-count
 returns-in_ok-lower_to-clause-count c =

@@ -7,7 +7,7 @@ use Rattle.tile_flood.proofs.flood.Flood.lower_changed.Goals.{After-loop-k}
 
 pub loop-k-init : goal.loop-k-init
 loop-k-init c = subst (λ xs. IsStarting (block_of c.args.n c.args.heights.now c.args.sinks.now) c.args.points.now c.args.self.now.levels.items c.args.self.now.labels.items c.args.self.now.queue xs 0) (sym c.requires.none)
-    (starting c.args.n c.args.heights.now c.args.sinks.now c.args.points.now c.args.self.now.levels.items c.args.self.now.labels.items c.args.self.now.queue c.requires.before c.requires.every c.requires.nobody)
+    (starting c.args.n c.args.heights.now c.args.sinks.now c.args.points.now c.args.self.now.levels.items c.args.self.now.labels.items c.args.self.now.queue c.requires.before c.requires.nobody)
 
 all_done : (c : After-loop-k) → IsStarting (block_of c.args.n c.args.heights.now c.args.sinks.now) c.args.points.now c.loop-k.self.levels.items c.loop-k.self.labels.items c.loop-k.self.queue c.loop-k.affected.items (length c.args.points.now)
 all_done c =

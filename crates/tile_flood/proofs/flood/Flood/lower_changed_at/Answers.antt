@@ -1,19 +1,23 @@
-use Rattle.std.proofs.Common.{ℕ, ◌≡◌, ◌≢◌, ◌*◌, ◌<◌, ◌≤ℤ◌, IsTrue, refl, sym, ap, ◌∙◌, subst, inl, inr, rules, slice_index, slice_index_or, SFits, w16, to_z, of_z}
+use Rattle.std.proofs.Common.{ℕ, ℤ, List, set, ◌≡◌, ◌≢◌, ◌*◌, ◌<◌, ◌≤ℤ◌, IsTrue, refl, sym, ap, ◌∙◌, subst, inl, inr, rules, length, length-set, slice_index, slice_index_or, SFits, w16, to_z, of_z}
 use Rattle.std.proofs.lemmas.Int.{to_z-of_z}
 use Rattle.std.proofs.lemmas.List.{get_or_default}
 use Rattle.lattice.specs.Mosaic.{void}
 use Rattle.tile_flood.specs.Flooding.{is_marked}
 use Rattle.tile_flood.specs.Waiting.{Waits}
 use Rattle.tile_flood.proofs.Squares.{not_void_if, solid_height}
-use Rattle.tile_flood.proofs.Relaxation.{ready_still}
+use Rattle.tile_flood.proofs.Relaxation.{inside_still}
+use Rattle.tile_flood.proofs.Joining.{inside_joined}
 use Rattle.tile_flood.proofs.ChangedHeights.{affected_ground, starting_more, starting_passed}
 use Rattle.tile_flood.proofs.flood.Flood.lower_changed_at.Goals as goal
 
-pub wait_beside-requires-clause-ready : goal.wait_beside-requires-clause-ready
-wait_beside-requires-clause-ready c =
-    let e = slice_index c.args.points.now c.args.k in
-    let small : e < c.args.n * c.args.n = subst (λ m. e < m) c.requires.state.lowering.levels_whole (c.is_marked.ensures.inside c.if-is_marked.true) in
-    ready_still c.args.n c.args.self.now.queue c.lower_to.new.self.queue (to_z w16 (of_z w16 c.starting_level-level.result)) e c.requires.state.ready small c.in_ok-lower_to.ensures.joined
+pub wait_beside-requires-clause-point : goal.wait_beside-requires-clause-point
+wait_beside-requires-clause-point c = subst (λ m. slice_index c.args.points.now c.args.k < m) c.requires.state.lowering.levels_whole (c.is_marked.ensures.inside c.if-is_marked.true)
+
+lowered_whole : (levels levels' : List ℤ) (e : ℕ) (v : ℤ) (n : ℕ) → levels' ≡ set levels e v → length levels ≡ n * n → length levels' ≡ n * n
+lowered_whole levels levels' e v n wrote whole = ap length wrote ∙ (length-set levels e v ∙ whole)
+
+pub wait_beside-requires-clause-levels : goal.wait_beside-requires-clause-levels
+wait_beside-requires-clause-levels c = lowered_whole c.args.self.now.levels.items c.lower_to.new.self.levels.items _ _ c.args.n c.in_ok-lower_to.ensures.levels c.requires.state.lowering.levels_whole
 
 pub returns-else-is_marked : goal.returns-else-is_marked
 returns-else-is_marked c =
@@ -52,5 +56,6 @@ returns-in_ok-wait_beside c =
     (subst (λ x. x ≢ void) (sym level) full) (subst (λ x. x ≤ℤ slice_index_or before e void) (sym level) (subst (λ x. c.starting_level-level.result ≤ℤ x) was from.lower))
     (λ out. subst (λ x. x ≤ℤ slice_index_or heights e void) (sym level) (from.outlet out))
     (record { point = e; level = slice_index_or before e void; label = slice_index c.args.self.now.labels.items e }) (record { point = refl; level = refl; label = refl }) a.joined
-    (b.levels ∙ a.levels) (b.labels ∙ a.labels) a.affected b.ready b.still
+    (b.levels ∙ a.levels) (b.labels ∙ a.labels) a.affected
+    (inside_joined n c.lower_to.new.self.levels.items c.lower_to.new.self.queue c.wait_beside.new.self.queue (lowered_whole before c.lower_to.new.self.levels.items _ _ n a.levels s.lowering.levels_whole) (inside_still n c.args.self.now.queue c.lower_to.new.self.queue (to_z w16 (of_z w16 c.starting_level-level.result)) e s.inside small a.joined) b.joined) b.joined.still
     (λ y below beside marked_y. subst (λ ls. Waits c.wait_beside.new.self.queue (slice_index_or ls y void) y) (sym b.levels) (b.waits y below beside (subst (λ ls. IsTrue (is_marked ls y)) b.levels marked_y)))

@@ -4,16 +4,15 @@ use Rattle.lattice.specs.Mosaic.{void}
 use Rattle.lattice.proofs.Levels.{≤ℤ_trans}
 use Rattle.tile_flood.specs.Blocks.{block_of}
 use Rattle.tile_flood.specs.Waiting.{Waits}
-use Rattle.tile_flood.specs.Waiting.{HasEvery}
 use Rattle.tile_flood.specs.Lowering.{AreRelaxingBut}
-use Rattle.tile_flood.proofs.Relaxation.{ready_taken, relaxing_taken, relaxed_end}
+use Rattle.tile_flood.proofs.Relaxation.{inside_taken, relaxing_taken, relaxed_end}
 use Rattle.tile_flood.proofs.flood.Flood.lower_levels.Goals as goal
 
 pub lower_around-requires-clause-c : goal.lower_around-requires-clause-c
-lower_around-requires-clause-c c = c.loop-seat.invariant.ready.inside c.in-Some.seat.level c.in-Some.seat.point c.in-Some.ensures.taken.waited
+lower_around-requires-clause-c c = c.loop-seat.invariant.inside c.in-Some.seat.level c.in-Some.seat.point c.in-Some.ensures.taken.waited
 
-pub lower_around-requires-clause-ready : goal.lower_around-requires-clause-ready
-lower_around-requires-clause-ready c = ready_taken c.args.n c.loop-seat.self.queue c.pop.new.self c.in-Some.seat.point c.in-Some.seat.level c.loop-seat.invariant.ready c.in-Some.ensures.taken
+pub lower_around-requires-clause-inside : goal.lower_around-requires-clause-inside
+lower_around-requires-clause-inside c = inside_taken c.args.n c.loop-seat.self.queue c.pop.new.self c.in-Some.seat.point c.in-Some.seat.level c.loop-seat.invariant.inside c.in-Some.ensures.taken
 
 pub lower_around-requires-clause-relaxing : goal.lower_around-requires-clause-relaxing
 lower_around-requires-clause-relaxing c =
@@ -26,7 +25,7 @@ loop-seat-preserved c =
     let a = c.in_ok-lower_around.ensures in
     record {
       state = a.state;
-      ready = a.ready;
+      inside = a.inside;
       relaxing = a.relaxing;
       exits = λ e out. ≤ℤ_trans (slice_index_or c.lower_around.new.self.levels.items e void) (slice_index_or c.loop-seat.self.levels.items e void) (slice_index_or c.args.heights.now e void) (a.lowered.lower e) (c.loop-seat.invariant.exits e out);
     }
@@ -35,9 +34,6 @@ pub returns-clause-relaxed : goal.returns-clause-relaxed
 returns-clause-relaxed c =
     let i = c.loop-seat.invariant in
     relaxed_end c.args.n c.args.heights.now c.args.sinks.now c.loop-seat.self.levels.items c.loop-seat.self.queue i.relaxing i.exits c.in_default.ensures.taken
-
-pub returns-clause-every : goal.returns-clause-every
-returns-clause-every c = subst HasEvery (sym c.in_default.ensures.same) c.loop-seat.invariant.ready.every
 
 pub returns-clause-nobody : goal.returns-clause-nobody
 returns-clause-nobody c l e w = c.in_default.ensures.taken l e (subst (λ q. Waits q l e) c.in_default.ensures.same w)

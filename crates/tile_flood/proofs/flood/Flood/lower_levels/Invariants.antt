@@ -1,13 +1,13 @@
 use Rattle.std.proofs.Common.{◌+◌}
 use Rattle.tile_flood.specs.Blocks.{block_of}
-use Rattle.tile_flood.specs.Waiting.{waiting}
-use Rattle.tile_flood.specs.Lowering.{IsLowering, IsReady, AreRelaxing, AreOutletsLow, depth}
+use Rattle.tile_flood.specs.Waiting.{waiting, WaitInside}
+use Rattle.tile_flood.specs.Lowering.{IsLowering, AreRelaxing, AreOutletsLow, depth}
 use Rattle.tile_flood.proofs.flood.Flood.lower_levels.Given as goal
 
 abbrev pub invariant-loop-seat : goal.invariant-loop-seat
 invariant-loop-seat l = record {
   state : IsLowering (block_of l.n l.heights l.sinks) l.self.levels.items l.self.labels.items l.affected.items;
-  ready : IsReady l.n l.self.queue;
+  inside : WaitInside l.n l.self.queue;
   relaxing : AreRelaxing (block_of l.n l.heights l.sinks) l.self.levels.items l.self.queue;
   exits : AreOutletsLow (block_of l.n l.heights l.sinks) l.self.levels.items;
 }

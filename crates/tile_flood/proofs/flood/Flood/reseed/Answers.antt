@@ -1,14 +1,30 @@
-use Rattle.std.proofs.Common.{arith, rules, pos, sym, subst, ◌<◌, slice_index_or}
-use Rattle.lattice.specs.Mosaic.{void}
-use Rattle.tile_flood.proofs.Seeds.{reseeding_begin, reseeding_end}
+use Rattle.std.proofs.Common.{arith, pos, ap, slice_index_or}
+use Rattle.std.proofs.lemmas.List.{get_or_default}
+use Rattle.tile_flood.specs.declared.affected.Affected.{Affected}
+use Rattle.tile_flood.proofs.Seeds.{reseeding_begin, reseeding_next_as, reseeding_end}
 use Rattle.tile_flood.proofs.flood.Flood.reseed.Goals as goal
 
-pub read_heights-requires : goal.read_heights-requires
-read_heights-requires c j d inside = subst (λ m. (slice_index_or c.args.affected.now j d).point < m) (sym c.requires.whole) (c.requires.state.inside j d inside)
+abbrev none : Affected
+none = record { point = 0; level = pos 0; label = 0 }
 
 pub loop-k-init : goal.loop-k-init
-loop-k-init c = reseeding_begin c.args.n c.args.heights.now c.args.sinks.now c.args.self.now.levels.items c.args.self.now.labels.items c.args.self.now.queue c.args.affected.now c.requires.state c.requires.every c.requires.nobody
-    void (pos 32767) (search rules) (search rules) c.read_heights.ensures
+loop-k-init c = reseeding_begin c.args.n c.args.heights.now c.args.sinks.now c.args.self.now.levels.items c.args.self.now.labels.items c.args.self.now.queue c.args.affected.now c.requires.state c.requires.nobody
+
+pub wait_beside-requires-clause-point : goal.wait_beside-requires-clause-point
+wait_beside-requires-clause-point c = c.loop-k.invariant.inside c.loop-k.k none (omega arith)
+
+pub wait_beside-requires-clause-levels : goal.wait_beside-requires-clause-levels
+wait_beside-requires-clause-levels c = c.in_ok-reseed_at.ensures.state.marks.levels_whole
+
+pub loop-k-preserved : goal.loop-k-preserved
+loop-k-preserved c =
+    let affected = c.args.affected.now in
+    let k = c.loop-k.k in
+    let point = (slice_index_or affected k none).point in
+    let seeded = c.reseed_at.new.self in
+    let a = c.in_ok-wait_beside.ensures in
+    reseeding_next_as c.args.n c.args.heights.now c.args.sinks.now seeded.levels.items c.wait_beside.new.self.levels.items seeded.labels.items c.wait_beside.new.self.labels.items seeded.queue c.wait_beside.new.self.queue affected k point
+    c.in_ok-reseed_at.ensures.state a.levels a.labels a.joined (λ d inside. ap (λ x. x.point) (get_or_default affected k d none inside)) (c.in_ok-reseed_at.ensures.seeded none) a.waits
 
 pub returns : goal.returns
 returns c =

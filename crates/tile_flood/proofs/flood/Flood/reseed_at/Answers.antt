@@ -12,9 +12,6 @@ use Rattle.tile_flood.proofs.flood.Flood.reseed_at.Goals as goal
 abbrev none : Affected
 none = record { point = 0; level = pos 0; label = 0 }
 
-pub mark-requires-clause-bucket : goal.mark-requires-clause-bucket
-mark-requires-clause-bucket c = let every = c.requires.state.every in search rules
-
 after : (c : goal.In_ok-mark) → IsReseeded c.args.n c.args.heights.now c.args.sinks.now c.args.self.now.levels.items c.mark.new.self.levels.items c.mark.new.self.labels.items c.mark.new.self.queue c.args.affected.now c.args.k
     (slice_index_or c.args.affected.now c.args.k none).point
 after c =

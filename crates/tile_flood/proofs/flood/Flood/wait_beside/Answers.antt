@@ -1,13 +1,21 @@
-use Rattle.std.proofs.Common.{◌≡◌, false, arith, sym, ◌∙◌, subst, IsTrue, inl, inr, slice_index_or}
+use Rattle.std.proofs.Common.{◌≡◌, false, arith, refl, sym, ◌∙◌, subst, IsTrue, inl, inr, slice_index_or}
 use Rattle.std.proofs.lemmas.Bool.{cases_lt}
 use Rattle.lattice.specs.Mosaic.{void}
 use Rattle.tile_flood.specs.Waiting.{Waits, IsJoined}
 use Rattle.tile_flood.specs.Flooding.{is_marked}
 use Rattle.tile_flood.specs.Affected.{IsInWindow}
 use Rattle.tile_flood.proofs.Dependence.{one_window_point, window_point_of}
-use Rattle.tile_flood.proofs.ChangedHeights.{has_waited}
+use Rattle.tile_flood.proofs.Joining.{joined_none, has_waited}
 use Rattle.tile_flood.proofs.flood.Flood.wait_beside.Goals as goal
 use Rattle.tile_flood.proofs.flood.Flood.wait_beside.Goals.{in-Some+in_ok-wait, in_default}
+
+pub loop-d-init : goal.loop-d-init
+loop-d-init c = record {
+  levels = refl;
+  labels = refl;
+  joined = joined_none c.args.self.now.levels.items c.args.self.now.queue;
+  waits = λ j y less small spot on. absurd (omega arith);
+}
 
 pub loop-d-preserved : goal.loop-d-preserved
 loop-d-preserved c =
@@ -21,12 +29,11 @@ loop-d-preserved c =
           let e = w.in-Some.e in
           let q = c.loop-d.self.queue in
           let q' = w.wait.new.self.queue in
-          let s = has_waited n levels q q' e i.ready w.in-Some.ensures.inside (subst (λ ls. IsTrue (is_marked ls e) → IsJoined q q' (slice_index_or ls e void) e) i.levels a.joined) (subst (λ ls. is_marked ls e ≡ false → q' ≡ q) i.levels a.passed) in
+          let s = has_waited levels c.args.self.now.queue q q' e i.joined (subst (λ ls. IsTrue (is_marked ls e) → IsJoined q q' (slice_index_or ls e void) e) i.levels a.joined) (subst (λ ls. is_marked ls e ≡ false → q' ≡ q) i.levels a.passed) in
           rw w.self-is (record {
             levels = a.levels ∙ i.levels;
             labels = a.labels ∙ i.labels;
-            ready = s.ready;
-            still = λ l f w. s.still l f (i.still l f w);
+            joined = s.joined;
             waits = λ j y less small spot on. elim (cases_lt j d) [
               | inl before ↦ s.still (slice_index_or levels y void) y (i.waits j y before small spot on)
               | inr ge ↦
@@ -38,8 +45,7 @@ loop-d-preserved c =
       | in_default w ↦ rw w.self-is (record {
         levels = i.levels;
         labels = i.labels;
-        ready = i.ready;
-        still = i.still;
+        joined = i.joined;
         waits = λ j y less small spot on. elim (cases_lt j d) [
           | inl before ↦ i.waits j y before small spot on
           | inr ge ↦ let same : j ≡ d = omega arith in absurd (w.in_default.ensures.none y small (subst (λ k. IsInWindow n c.args.point k y) same spot))
