@@ -1,5 +1,5 @@
 -- The calls of a session, and two sessions with a cut after each.
-use Rattle.std.proofs.Common.{◌≡◌, ◌⊎◌, inl, ℕ, ◌≤◌, List, [], ◌∷◌, ◌++◌, refl, sym, ap, ap₂, ◌∙◌, subst, arith}
+use Rattle.std.proofs.Common.{◌≡◌, inl, ℕ, ◌≤◌, List, [], ◌∷◌, ◌++◌, refl, sym, ap, ap₂, ◌∙◌, subst, arith}
 use Rattle.std.specs.Prelude.{Result, IfOk, IfErr}
 use Rattle.std.proofs.lemmas.List.{append-nil}
 use Rattle.disk.specs.Disk.{Image}
@@ -14,14 +14,13 @@ use Rattle.engine.specs.Runs.{last_of, Through}
 use Rattle.engine.specs.declared.event.Event.{Event}
 use Rattle.engine.specs.declared.event.Reply.{Reply}
 use Rattle.store.specs.Fates.{Fate}
-use Rattle.store.specs.Sessions.{Made, Asked, AreMade, IsOpening, Session, Unopened, Ended, Stopped, IsSession, first_disk, last_disk, last_store, MayLeave, TakesOver, HasAccepted, fates_of, fates_of_calls, fates_of_session}
+use Rattle.store.specs.Sessions.{Made, Asked, AreMade, IsOpening, IsRefusedWithCause, Session, Unopened, Ended, Stopped, IsSession, first_disk, last_disk, last_store, MayLeave, TakesOver, HasAccepted, fates_of, fates_of_calls, fates_of_session}
 use Rattle.store.specs.Standing.{StandsFor}
 use Rattle.store.specs.StoreState.{members}
 use Rattle.store.specs.Stores.{disk_after}
 use Rattle.store.proofs.SessionsInTurn.{sessions_compose}
 use Rattle.store.specs.declared.store.Store.{Store}
 use Rattle.roots.specs.declared.roots.NotOpened.{NotOpened}
-use Rattle.lattice.specs.declared.refusal.Refusal.TheVariants.{Device, NoMemory}
 use Rattle.engine.specs.State.{Contents}
 use Rattle.memory_store.specs.TwoSessions.{CutDisk, HoldsOnly, AreCallsOf, AsksEvents, fates_told, WasCutOff}
 
@@ -103,7 +102,7 @@ module _ (g : Ghosts CutDisk) (over : IsOverMemory g) where
       (first : WasCutOff g disk passes events torn early between) (second : WasCutOff g between later_passes later_events later_torn late after)
       (side capacity : ℕ) (was : Contents) → HoldsOnly disk side capacity was
       → (next : CutDisk) → inner_of next ≡ after → (opened : Result (Store CutDisk g) (NotOpened CutDisk)) → IsOpening g next opened
-      → IfOk opened (λ store. HasAccepted g side capacity was (fates_told events early ++ fates_told later_events late) store) × IfErr opened (λ e. (e.refusal ≡ Device) ⊎ (e.refusal ≡ NoMemory))
+      → IfOk opened (λ store. HasAccepted g side capacity was (fates_told events early ++ fates_told later_events late) store) × IfErr opened (λ e. IsRefusedWithCause g next e)
   two_in_turn disk between after passes later_passes events later_events torn later_torn early late first second side capacity was holds next is opened opening =
       let start = first_disk g first.session in
       let found = sessions_compose g over.only_now side capacity was start (first.session ∷ second.session ∷ []) next opened
@@ -120,7 +119,7 @@ module _ (g : Ghosts CutDisk) (over : IsOverMemory g) where
         ),
       )
       opening (over.honest (disk_after opened)) in
-      subst (λ (fates : List Fate). IfOk opened (λ store. HasAccepted g side capacity was fates store) × IfErr opened (λ e. (e.refusal ≡ Device) ⊎ (e.refusal ≡ NoMemory))) same found
+      subst (λ (fates : List Fate). IfOk opened (λ store. HasAccepted g side capacity was fates store) × IfErr opened (λ e. IsRefusedWithCause g next e)) same found
     where
       same : fates_of g (first.session ∷ second.session ∷ []) ≡ fates_told events early ++ fates_told later_events late
       same = ap₂ (λ (a b : List Fate). a ++ b) (fates_are g first.session events early first.asks) (append-nil (fates_of_session g second.session) ∙ fates_are g second.session later_events late second.asks)
@@ -129,6 +128,6 @@ pub two_sessions : {g : Ghosts CutDisk} {disk between after : MemDisk} {passes l
     (first : WasCutOff g disk passes events torn early between) (second : WasCutOff g between later_passes later_events later_torn late after) → IsOverMemory g
     → (side capacity : ℕ) (was : Contents) → HoldsOnly disk side capacity was
     → (next : CutDisk) → inner_of next ≡ after → (opened : Result (Store CutDisk g) (NotOpened CutDisk)) → IsOpening g next opened
-    → IfOk opened (λ store. HasAccepted g side capacity was (fates_told events early ++ fates_told later_events late) store) × IfErr opened (λ e. (e.refusal ≡ Device) ⊎ (e.refusal ≡ NoMemory))
+    → IfOk opened (λ store. HasAccepted g side capacity was (fates_told events early ++ fates_told later_events late) store) × IfErr opened (λ e. IsRefusedWithCause g next e)
 two_sessions {g} {disk} {between} {after} {passes} {later_passes} {events} {later_events} {torn} {later_torn} {early} {late} first second over =
     two_in_turn g over disk between after passes later_passes events later_events torn later_torn early late first second

@@ -3,7 +3,7 @@ use Rattle.std.specs.Prelude.{◌≡◌, ◌≢◌, ℕ, List, [], ◌∷◌, �
 use Rattle.engine.specs.State.{Contents}
 use Rattle.engine.specs.declared.event.Event.{Event}
 use Rattle.engine.specs.declared.event.Reply.{Reply}
-use Rattle.disk.specs.Disk.{Image, HasRisen}
+use Rattle.disk.specs.Disk.{Image}
 use Rattle.disk.specs.Faulty.{inner_of, faults_of}
 use Rattle.disk.specs.MemDisk.{state_of, sectors_of}
 use Rattle.disk.specs.Memory.{MayLeave}
@@ -12,7 +12,7 @@ use Rattle.disk.specs.declared.faulty.FaultyDisk.{FaultyDisk}
 use Rattle.disk.specs.declared.fuse.Fuse.{Fuse}
 use Rattle.disk.specs.declared.memory.MemDisk.{MemDisk}
 use Rattle.disk.specs.declared.torn.Torn.{Torn}
-use Rattle.lattice.specs.declared.refusal.Refusal.TheVariants.{Device, NoMemory}
+use Rattle.lattice.specs.declared.refusal.Refusal.TheVariants.{NoMemory}
 use Rattle.roots.specs.declared.roots.NotOpened.{NotOpened}
 use Rattle.store.specs.Fates.{Fate, known_by}
 use Rattle.store.specs.Sessions.{Made, Asked, Session, Unopened, Ended, Stopped, IsSession, HasAccepted, first_disk, last_disk}
@@ -41,14 +41,14 @@ module _ (g : Ghosts CutDisk) where
   AreCallsOf (made ∷ more) (event ∷ events) (answer ∷ answers) = (made.call ≡ Asked event answer) × AreCallsOf more events answers
   AreCallsOf _ events answers = ⊥
 
-  -- the opening was refused, and not for memory: as Device only where a call of the disk failed
-  abbrev pub IsRefusedOpening : CutDisk → Result (Store CutDisk g) (NotOpened CutDisk) → Type 0
-  IsRefusedOpening disk (Ok store) = ⊥
-  IsRefusedOpening disk (Err e) = (e.refusal ≢ NoMemory) × (e.refusal ≡ Device → HasRisen (g.failures disk) (g.failures e.disk))
+  -- the opening was refused, and not for memory
+  abbrev pub IsRefusedOpening : Result (Store CutDisk g) (NotOpened CutDisk) → Type 0
+  IsRefusedOpening (Ok store) = ⊥
+  IsRefusedOpening (Err e) = e.refusal ≢ NoMemory
 
   -- the session asked the events and had these answers, or its opening was refused, and it had none
   abbrev pub AsksEvents : Session g → List Event → List Reply → Type 0
-  AsksEvents (Unopened disk opened) events answers = IsRefusedOpening disk opened × (answers ≡ [])
+  AsksEvents (Unopened disk opened) events answers = IsRefusedOpening opened × (answers ≡ [])
   AsksEvents (Ended disk store calls) events answers = AreCallsOf calls events answers
   AsksEvents (Stopped disk store calls last) events answers = ⊥
 

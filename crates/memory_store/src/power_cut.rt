@@ -8,8 +8,8 @@ ghost use Rattle.disk.specs.Memory.{left_by};
 ghost use Rattle.memory_store.specs.PowerCuts.{IsCut, LeavesEither, SurvivesPowerCut, WasCut};
 ghost use Rattle.store.specs.Stores.{disk_of, side_of, capacity_of, IsAt};
 
-use engine::{Event, Reply};
 use disk::{Disk, FuseDisk, MemDisk, Torn};
+use engine::{Event, Reply};
 use lattice::Refusal;
 use std::alloc::Global;
 use store::Store;

@@ -8,8 +8,8 @@ ghost use Rattle.memory_store.specs.TwoSessions.{AsksEvents, FindsAccepted, Hold
 ghost use Rattle.store.specs.Sessions.{IsSession, Session, first_disk, last_disk};
 
 use crate::power_cut::cut;
-use engine::{Event, Reply};
 use disk::{Disk, FuseDisk, MemDisk, Torn};
+use engine::{Event, Reply};
 use lattice::Refusal;
 use std::alloc::Global;
 use store::Store;

@@ -126,7 +126,7 @@ module _ {D : Type 0} (g : Ghosts D) where
     store = store;
     stores = stores;
     opened = was_read old store opened;
-    opening = record { size = opened.size; nothing = opened.nothing; at = opened.at; sure = λ h side capacity a b holds. tt };
+    opening = record { size = opened.size; nothing = opened.nothing; at = opened.at; sure = λ h side capacity a b holds. tt; device = tt };
     works = opened.works;
     left = refl;
     answers = answers;

@@ -2,7 +2,7 @@
 use Rattle.std.proofs.Common.{◌≡◌, ◌⊎◌, inl, inr, ⊎_elim, ℕ, ◌≤◌, Bool, true, false, List, [], ◌∷◌, ◌++◌, refl, sym, ◌∙◌, subst, arith}
 use Rattle.std.specs.Prelude.{Result, Ok, Err, IfOk, IfErr}
 use Rattle.std.proofs.lemmas.List.Elements.{Contains-push_cases}
-use Rattle.disk.specs.Disk.{Image}
+use Rattle.disk.specs.Disk.{Image, HasRisen}
 use Rattle.disk.specs.Stops.{LeavesOnly}
 use Rattle.disk.specs.declared.disk.Disk.{Ghosts}
 use Rattle.lattice.specs.declared.refusal.Refusal.TheVariants.{Device, NoMemory}
@@ -13,7 +13,7 @@ use Rattle.cow_tree.proofs.LongerDisks.{stands_where_longer}
 use Rattle.roots.specs.declared.roots.NotOpened.{NotOpened}
 use Rattle.store.specs.Ended.{LeavesOr}
 use Rattle.store.specs.Fates.{Fate, IsMadeOf}
-use Rattle.store.specs.Sessions.{Call, Asked, Upgraded, HoldsEither, IsOpening, IsMade, Made, AreMade, last_store, Session, Unopened, Ended, Stopped, IsSession, first_disk, last_disk, MayLeave, fates_of_call, doubts_of_call, fates_of_calls, fates_of_session, fates_of, TakesOver, InTurn, HasAccepted, SessionsCompose}
+use Rattle.store.specs.Sessions.{Call, Asked, Upgraded, HoldsEither, IsOpening, IsRefusedWithCause, IsMade, Made, AreMade, last_store, Session, Unopened, Ended, Stopped, IsSession, first_disk, last_disk, MayLeave, fates_of_call, doubts_of_call, fates_of_calls, fates_of_session, fates_of, TakesOver, InTurn, HasAccepted, SessionsCompose}
 use Rattle.store.specs.Standing.{StandsFor}
 use Rattle.store.specs.States.{StandsForState}
 use Rattle.store.specs.StoreState.{IsStoreAt, StandsForOne}
@@ -311,7 +311,13 @@ module _ {D : Type 0} (g : Ghosts D) (only_now : (disk : D) (image : Image) → 
       )
   accepted_by was fates (Err e) (none, sure) = (tt, sure)
 
+with_cause : {D : Type 0} (g : Ghosts D) (next : D) (opened : Result (Store D g) (NotOpened D)) → IfErr opened (λ e. (e.refusal ≡ Device) ⊎ (e.refusal ≡ NoMemory))
+    → IfErr opened (λ e. e.refusal ≡ Device → HasRisen (g.failures next) (g.failures e.disk)) → IfErr opened (λ e. IsRefusedWithCause g next e)
+with_cause g next (Ok store) sure device = tt
+with_cause g next (Err e) sure device = ⊎_elim (λ fault. inl (fault, device fault)) (λ memory. inr memory) sure
+
 pub sessions_compose : {D : Type 0} (g : Ghosts D) → ((disk : D) (image : Image) → g.honest disk → g.since disk (g.moment disk) image → g.may disk image) → SessionsCompose g
 sessions_compose g only_now side capacity was start sessions next opened holds turns opening honest =
-    accepted_by g only_now side capacity was (fates_of g sessions) opened
-    (all_sessions g only_now side capacity (g.size start) (λ image. g.may start image) sessions next opened turns opening honest was was holds)
+    let (accepted, sure) = accepted_by g only_now side capacity was (fates_of g sessions) opened
+    (all_sessions g only_now side capacity (g.size start) (λ image. g.may start image) sessions next opened turns opening honest was was holds) in
+    (accepted, with_cause g next opened sure opening.device)

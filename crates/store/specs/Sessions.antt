@@ -1,7 +1,7 @@
 -- Sessions of a store, one after another: each is begun by an opening, and each is ended, stopped (a power cut) or upgraded
 -- as it may be (this product's own profile).
 use Rattle.std.specs.Prelude.{◌≡◌, ◌⊎◌, ◌≤◌, ℕ, true, List, [], ◌∷◌, ◌++◌, Result, Ok, IfOk, IfErr}
-use Rattle.disk.specs.Disk.{Image}
+use Rattle.disk.specs.Disk.{Image, HasRisen}
 use Rattle.disk.specs.Stops.{AddsNothing}
 use Rattle.disk.specs.declared.disk.Disk.{Ghosts}
 use Rattle.lattice.specs.declared.refusal.Refusal.{Refusal}
@@ -38,6 +38,11 @@ module _ {D : Type 0} (g : Ghosts D) where
         → IfOk opened (λ store. (side_of store ≡ side) × ((capacity_of store ≡ capacity) × (IsAt g store (working a) ⊎ IsAt g store (working b))))
     pub sure : g.honest (disk_after opened) → (side capacity : ℕ) (a b : Contents) → HoldsEither old side capacity a b
         → IfErr opened (λ e. (e.refusal ≡ Device) ⊎ (e.refusal ≡ NoMemory))
+    pub device : IfErr opened (λ e. e.refusal ≡ Device → HasRisen (g.failures old) (g.failures e.disk))
+
+  -- it was refused as a call of the disk failed, or for memory
+  abbrev pub IsRefusedWithCause : D → NotOpened D → Type 0
+  IsRefusedWithCause old e = ((e.refusal ≡ Device) × HasRisen (g.failures old) (g.failures e.disk)) ⊎ (e.refusal ≡ NoMemory)
 
   -- the call was made of the store, and this is the store then
   abbrev pub IsMade : Store D g → Call → Store D g → Type 0
@@ -136,9 +141,9 @@ module _ {D : Type 0} (g : Ghosts D) where
     pub same_capacity : capacity_of store ≡ capacity
 
   -- After any number of sessions on a disk that held these contents, an opening finds the store at the mosaic after the
-  -- commands that were accepted, or is refused for the disk or for memory.
+  -- commands that were accepted, or is refused as a call of the disk failed, or for memory.
   abbrev pub SessionsCompose : Type 0
   SessionsCompose = (side capacity : ℕ) (was : Contents) (start : D) (sessions : List Session) (next : D) (opened : Result (Store D g) (NotOpened D))
       → HoldsEither start side capacity was was → InTurn (g.size start) (g.may start) sessions next
       → IsOpening next opened → g.honest (disk_after opened)
-      → IfOk opened (HasAccepted side capacity was (fates_of sessions)) × IfErr opened (λ e. (e.refusal ≡ Device) ⊎ (e.refusal ≡ NoMemory))
+      → IfOk opened (HasAccepted side capacity was (fates_of sessions)) × IfErr opened (IsRefusedWithCause next)

@@ -1,4 +1,4 @@
-use Rattle.std.proofs.Common.{◌++◌, List, Ok, Err, refl, ap, ◌∙◌, subst}
+use Rattle.std.proofs.Common.{◌++◌, List, Ok, Err, ⊎_elim, inl, inr, refl, ap, ◌∙◌, subst}
 use Rattle.disk.specs.Faulty.{inner_of}
 use Rattle.disk.specs.MemDisk.{state_of, calls_of}
 use Rattle.disk.specs.Memory.{MayLeave}
@@ -28,7 +28,7 @@ returns-in-Ok-clause-accepted c =
             (two_sessions first.2 second.2
             (record { honest = λ disk. tt; may = λ disk image may. may; may_be = λ disk image may. may; size = λ disk. refl; counts_now = λ disk t image honest le now. now_left (calls_of (inner_of disk)) t image le now; only_now = λ disk image honest left. only_left (calls_of (inner_of disk)) image left })
             side capacity was holds c.new.result c.new.ensures.inner (Ok c.in-Ok.opened)
-            (record { size = c.in-Ok.ensures.size; nothing = c.in-Ok.ensures.nothing; at = c.in-Ok.ensures.at; sure = λ h n m a b each. tt })).0;
+            (record { size = c.in-Ok.ensures.size; nothing = c.in-Ok.ensures.nothing; at = c.in-Ok.ensures.at; sure = λ h n m a b each. tt; device = tt })).0;
       },
     )
 
@@ -39,5 +39,5 @@ returns-in-Err-clause-sure c side capacity was holds =
     let found = two_sessions first.2 second.2
     (record { honest = λ disk. tt; may = λ disk image may. may; may_be = λ disk image may. may; size = λ disk. refl; counts_now = λ disk t image honest le now. now_left (calls_of (inner_of disk)) t image le now; only_now = λ disk image honest left. only_left (calls_of (inner_of disk)) image left })
     side capacity was holds c.new.result c.new.ensures.inner (Err c.in-Err.not_opened)
-    (record { size = c.in-Err.ensures.size; nothing = c.in-Err.ensures.nothing; at = λ h n m a b each. tt; sure = c.in-Err.ensures.sure }) in
-    found.1
+    (record { size = c.in-Err.ensures.size; nothing = c.in-Err.ensures.nothing; at = λ h n m a b each. tt; sure = c.in-Err.ensures.sure; device = c.in-Err.ensures.device }) in
+    ⊎_elim (λ fault. inl fault.0) (λ memory. inr memory) found.1
